@@ -1,19 +1,10 @@
 -- One step of one caller, and all who look on.
 use Rattle.std.proofs.Common.{◌≡◌, ◌≢◌, ℕ, ◌<◌, List, [], ◌++◌, set, slice_index, refl, sym, ◌∙◌, subst, arith, append-nil}
 use Rattle.std.proofs.lemmas.List.Sums.{fold-append}
+use Rattle.ns_counters.specs.Prelude.{AreObjectsBySeats, AreWordsOf, BeginOnce, CanAct, EndOnce, ExchangeToAdd, HasActed, IsFoundAt, IsLawful, IsLegalObjectEvent, IsLegalObjects, IsWordOf, LoadToAdd, LookCounter, LookOnce, MarkWait, ObjectAct, ObjectEvent}
+use Rattle.ns_counters.specs.Prelude.{ObjectStanding, ObjectView, Outcome, Place, PlaceFits, Setup, ViewFits, acted, first_objects, object_next, object_who, objects_after, objects_from, objects_own, outcome, stage, stage_word, word_at, word_of_once}
 use Rattle.ns_model.proofs.Beginnings.{begins_through}
 use Rattle.ns_model.proofs.Tallies.{every-append, every_map}
-use Rattle.ns_counters.specs.declared.act.ObjectAct.{ObjectAct}
-use Rattle.ns_counters.specs.declared.act.ObjectAct.TheVariants.{LookCounter, LoadToAdd, ExchangeToAdd, MarkWait, LookOnce, BeginOnce, EndOnce}
-use Rattle.ns_counters.specs.declared.object.ObjectEvent.{ObjectEvent}
-use Rattle.ns_counters.specs.declared.object.ObjectView.{ObjectView}
-use Rattle.ns_counters.specs.declared.object.Place.{Place}
-use Rattle.ns_counters.specs.declared.object.Setup.{Setup}
-use Rattle.ns_counters.specs.Acted.{IsFoundAt, acted, HasActed}
-use Rattle.ns_counters.specs.Lawful.{IsWordOf, AreWordsOf, PlaceFits, ViewFits, IsLawful}
-use Rattle.ns_counters.specs.Objects.{ObjectStanding, first_objects, IsLegalObjectEvent, object_next, objects_from, objects_after, IsLegalObjects, object_who, objects_own, AreObjectsBySeats}
-use Rattle.ns_counters.specs.Steps.{word_of_once, word_at, Outcome, outcome, CanAct}
-use Rattle.ns_counters.specs.Words.{stage, stage_word}
 use Rattle.ns_model.proofs.Courses.{legal_append}
 use Rattle.ns_counters.proofs.Keeps.{StepKeeps, step_keeps, places_still}
 use Rattle.ns_counters.proofs.Objects.{own-append, own_all, own_none}

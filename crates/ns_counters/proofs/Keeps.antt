@@ -1,32 +1,13 @@
 -- A step keeps the law: what has happened by it is legal, the words are those of the objects as they then stand, and its caller and all others stand where they may.
 use Rattle.std.proofs.Common.{◌≡◌, ◌≢◌, ℕ, ◌+◌, ◌^◌, ◌<◌, ◌≤◌, ℤ, Bool, true, false, eqb, cond, List, [], ◌∷◌, length, get_or, set, Result, Ok, Err, slice_index, bit_or, refl, sym, ap, ◌∙◌, subst, arith, length-set, get_or-set_same, get_or-set_other, eqb-true}
+use Rattle.ns_counters.specs.Prelude.{Add, Adding, AreWordsOf, Began, BeginOnce, Begun, CanAct, CounterFault, CounterState, EndOnce, Every, ExchangeToAdd, Free, HasWords, IsLegalFrom, IsLegalObjectEvent, IsLegalOnceEvent, IsWordOf, LoadToAdd, LookCounter, LookOnce}
+use Rattle.ns_counters.specs.Prelude.{MarkWait, ObjectAct, ObjectEvent, ObjectStanding, OnCounter, OnOnce, OnceEvent, OnceState, Outcome, Place, PlaceFits, Ran, Running, Setup, but_at, counter_of, counter_word, judged, looked, most, object_next, object_who}
+use Rattle.ns_counters.specs.Prelude.{objects_from, once_next, outcome, stage, stage_word, tried, word_at, word_of_once}
 use lib.Seq.{set-get_or}
-use Rattle.ns_model.specs.Environments.{but_at}
-use Rattle.ns_model.specs.Tallies.{Every}
 use Rattle.ns_model.proofs.Environments.{but_cases, but-here}
-use Rattle.ns_counters.specs.declared.act.ObjectAct.{ObjectAct}
-use Rattle.ns_counters.specs.declared.act.ObjectAct.TheVariants.{LookCounter, LoadToAdd, ExchangeToAdd, MarkWait, LookOnce, BeginOnce, EndOnce}
-use Rattle.ns_model.specs.declared.counter.CounterEvent.TheVariants.{Add, Begun}
-use Rattle.ns_model.specs.declared.counter.CounterFault.{CounterFault}
-use Rattle.ns_model.specs.declared.counter.CounterState.{CounterState}
-use Rattle.ns_model.specs.declared.once.OnceEvent.{OnceEvent}
-use Rattle.ns_model.specs.declared.once.OnceEvent.TheVariants.{Began, Ran}
-use Rattle.ns_model.specs.declared.once.OnceState.{OnceState}
-use Rattle.ns_model.specs.declared.once.OnceState.TheVariants as TheOnce
-use Rattle.ns_counters.specs.declared.object.ObjectEvent.{ObjectEvent}
-use Rattle.ns_counters.specs.declared.object.ObjectEvent.TheVariants.{OnCounter, OnOnce}
-use Rattle.ns_counters.specs.declared.object.Place.{Place}
-use Rattle.ns_counters.specs.declared.object.Place.TheVariants.{Free, Adding, Running}
-use Rattle.ns_counters.specs.declared.object.Setup.{Setup}
-use Rattle.ns_model.specs.Courses.{IsLegalFrom}
-use Rattle.ns_model.specs.Counters.{most, judged}
-use Rattle.ns_model.specs.Onces.{once_next, IsLegalOnceEvent}
-use Rattle.ns_counters.specs.Objects.{ObjectStanding, IsLegalObjectEvent, object_next, objects_from, object_who}
-use Rattle.ns_counters.specs.Steps.{word_of_once, word_at, Outcome, looked, tried, outcome, CanAct}
-use Rattle.ns_counters.specs.Lawful.{IsWordOf, AreWordsOf, HasWords, PlaceFits}
-use Rattle.ns_counters.specs.Words.{counter_word, counter_of, stage, stage_word}
 use Rattle.ns_model.proofs.Counters.{accepted}
 use Rattle.ns_counters.proofs.Words.{counter_of-counter_word, marked}
+use Rattle.ns_model.specs.declared.once.OnceState.TheVariants as TheOnce
 
 -- ---- the words
 

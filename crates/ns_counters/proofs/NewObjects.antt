@@ -1,10 +1,7 @@
 -- New objects are lawful.
 use Rattle.std.proofs.Common.{◌≡◌, ℕ, zero, suc, ◌+◌, ◌-◌, ◌<◌, ◌≤◌, List, [], ◌∷◌, ◌++◌, length, length-append, get_or, replicate, refl, ap, subst, arith, ◌∙◌}
 use Rattle.std.proofs.lemmas.List.{length-replicate}
-use Rattle.ns_model.specs.Counters.{most}
-use Rattle.ns_counters.specs.Lawful.{AreWordsOf, IsLawful}
-use Rattle.ns_counters.specs.Made.{padded, setup_of, first_words}
-use Rattle.ns_counters.specs.Objects.{first_objects}
+use Rattle.ns_counters.specs.Prelude.{AreWordsOf, IsLawful, first_objects, first_words, most, padded, setup_of}
 
 get_zero : (m k : ℕ) → ◌≡◌ {A = ℕ} (get_or (replicate m 0) k 0) 0
 get_zero zero k = refl

@@ -1,16 +1,8 @@
 -- Histories of all objects: their parts, and the history of each object in them.
 use Rattle.std.proofs.Common.{◌≡◌, ◌≢◌, ℕ, Bool, true, false, eqb, cond, List, [], ◌∷◌, ◌++◌, fold, slice_index, refl, sym, ap, ◌∙◌, subst, eq-eqb, ne_eqb, eqb-true}
 use Rattle.std.proofs.lemmas.List.Elements.{filter-append}
-use Rattle.ns_model.specs.Tallies.{Every}
-use Rattle.ns_model.specs.declared.counter.CounterState.{CounterState}
-use Rattle.ns_model.specs.declared.once.OnceState.{OnceState}
-use Rattle.ns_counters.specs.declared.object.ObjectEvent.{ObjectEvent}
-use Rattle.ns_counters.specs.declared.object.ObjectEvent.TheVariants.{OnCounter, OnOnce}
-use Rattle.ns_counters.specs.declared.object.Setup.{Setup}
-use Rattle.ns_model.specs.Courses.{IsLegalFrom}
-use Rattle.ns_model.specs.Counters.{IsLegalCounterEvent, counter_next, counter_after, IsLegalCounter}
-use Rattle.ns_model.specs.Onces.{IsLegalOnceEvent, once_next, once_after, IsLegalOnce}
-use Rattle.ns_counters.specs.Objects.{ObjectStanding, first_objects, IsLegalObjectEvent, object_next, objects_from, objects_after, IsLegalObjects, of_counter, of_once, object_who, objects_own}
+use Rattle.ns_counters.specs.Prelude.{CounterState, Every, IsLegalCounter, IsLegalCounterEvent, IsLegalFrom, IsLegalObjectEvent, IsLegalObjects, IsLegalOnce, IsLegalOnceEvent, ObjectEvent, ObjectStanding, OnCounter, OnOnce, OnceState, Setup, counter_after, counter_next}
+use Rattle.ns_counters.specs.Prelude.{first_objects, object_next, object_who, objects_after, objects_from, objects_own, of_counter, of_once, once_after, once_next}
 
 -- ---- each object by itself
 

@@ -1,7 +1,7 @@
 -- Looks behind one another, and rounds of them, when more has happened.
 use Rattle.std.proofs.Common.{ℕ, zero, suc, Bool, true, false, List, [], ◌∷◌, ◌++◌, inl, inr, Option, None, Some}
+use Rattle.ns_counters.specs.Prelude.{AnswersByRounds, HasShownNone, HasShownOne, HaveShownNothing, InTurn, IsLater, Past, RoundShows}
 use Rattle.ns_model.proofs.Beginnings.{begins_itself, begins_through}
-use Rattle.ns_counters.specs.Rounds.{AnswersByRounds, HasShownNone, HasShownOne, HaveShownNothing, InTurn, IsLater, Past, RoundShows}
 
 pub later_itself : (now : Past) → IsLater now now
 later_itself now = record { notes = begins_itself now.notes; objects = begins_itself now.objects }

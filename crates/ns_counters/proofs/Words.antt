@@ -1,11 +1,8 @@
 -- The words of counters and once cells: each tells of what it was made for, and what a mark leaves of a counter's.
 use Rattle.std.proofs.Common.{◌≡◌, ℕ, ◌+◌, ◌*◌, ◌/◌, ◌%◌, ◌^◌, ◌≤◌, Bool, true, false, eqb, refl, ap, ◌∙◌, arith, bit_or, if◌then◌else◌}
 use Rattle.std.proofs.lemmas.Nat.{or_block, or_disjoint, and_le_r}
-use Rattle.ns_model.specs.declared.counter.CounterState.{CounterState}
-use Rattle.ns_counters.specs.declared.word.Stage.{Stage}
-use Rattle.ns_counters.specs.declared.word.Stage.TheVariants.{Unused, Running, Done}
-use Rattle.ns_model.specs.Counters.{most}
-use Rattle.ns_counters.specs.Words.{counter_word, counter_of, stage_word, stage_of}
+use Rattle.ns_counters.specs.Prelude.{CounterState, Done, Stage, Unused, counter_of, counter_word, most, stage_of, stage_word}
+use Rattle.ns_counters.specs.declared.word.Stage.TheVariants.{Running}
 
 by_mark : (value : ℕ) (waited : Bool) → value ≤ most → counter_of (counter_word (record { value = value; waited = waited })) ≡ record { value = value; waited = waited }
 by_mark value true few = let v : (value + 2 ^ 32) % 2 ^ 32 ≡ value = omega arith in let w : ((value + 2 ^ 32) / 2 ^ 32) % 2 ≡ 1 = omega arith in λ i. record { value = v i; waited = ap (λ (n : ℕ). eqb n 1) w i }

@@ -1,10 +1,6 @@
 -- What a caller knows of a step that it has made.
 use Rattle.std.specs.Prelude.{◌≡◌, ℕ, List, ◌++◌}
-use Rattle.ns_model.specs.Beginnings.{BeginsWith}
-use Rattle.ns_counters.specs.declared.act.ObjectAct.{ObjectAct}
-use Rattle.ns_counters.specs.declared.act.ObjectAct.TheVariants.{LookCounter, LoadToAdd, ExchangeToAdd, MarkWait, LookOnce, BeginOnce, EndOnce}
-use Rattle.ns_counters.specs.declared.object.ObjectEvent.{ObjectEvent}
-use Rattle.ns_counters.specs.declared.object.ObjectView.{ObjectView}
+use Rattle.ns_counters.specs.Names.{BeginOnce, BeginsWith, EndOnce, ExchangeToAdd, LoadToAdd, LookCounter, LookOnce, MarkWait, ObjectAct, ObjectEvent, ObjectView}
 use Rattle.ns_counters.specs.Lawful.{IsWordOf}
 use Rattle.ns_counters.specs.Objects.{ObjectStanding, objects_after, IsLegalObjects, objects_own, AreObjectsBySeats}
 use Rattle.ns_counters.specs.Steps.{outcome}

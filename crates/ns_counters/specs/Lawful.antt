@@ -1,17 +1,10 @@
 -- The law of a table of counters and once cells: its words, and where callers stand, are as one history leaves them.
 use Rattle.std.specs.Prelude.{◌≡◌, ℕ, ◌<◌, ◌≤◌, List, length, slice_index}
-use Rattle.ns_model.specs.Beginnings.{BeginsWith}
-use Rattle.ns_model.specs.declared.counter.CounterState.{CounterState}
-use Rattle.ns_model.specs.declared.once.OnceState.TheVariants as TheOnce
-use Rattle.ns_counters.specs.declared.object.ObjectEvent.{ObjectEvent}
-use Rattle.ns_counters.specs.declared.object.ObjectView.{ObjectView}
-use Rattle.ns_counters.specs.declared.object.Place.{Place}
-use Rattle.ns_counters.specs.declared.object.Place.TheVariants.{Free, Adding, Running}
-use Rattle.ns_counters.specs.declared.object.Setup.{Setup}
-use Rattle.ns_model.specs.Counters.{most}
+use Rattle.ns_counters.specs.Names.{Adding, BeginsWith, CounterState, Free, ObjectEvent, ObjectView, Place, Running, Setup, most}
 use Rattle.ns_counters.specs.Objects.{ObjectStanding, objects_after, IsLegalObjects, objects_own, AreObjectsBySeats}
 use Rattle.ns_counters.specs.Steps.{word_of_once}
 use Rattle.ns_counters.specs.Words.{counter_word, stage, stage_word}
+use Rattle.ns_model.specs.declared.once.OnceState.TheVariants as TheOnce
 
 -- a word is that of the counter, whose value has room in it
 abbrev pub IsWordOf : ℕ → CounterState → Type 0

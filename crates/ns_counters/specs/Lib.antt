@@ -1,7 +1,9 @@
 pub mod Acted
 pub mod Lawful
 pub mod Made
+pub mod Names
 pub mod Objects
+pub mod Prelude
 pub mod Rounds
 pub mod Steps
 pub mod Words

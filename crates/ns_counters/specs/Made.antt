@@ -1,6 +1,6 @@
 -- How objects are made.
 use Rattle.std.specs.Prelude.{ℕ, ◌-◌, List, ◌++◌, length, replicate}
-use Rattle.ns_counters.specs.declared.object.Setup.{Setup}
+use Rattle.ns_counters.specs.Names.{Setup}
 
 -- the values by number, and 0 past the last, 16 in all
 abbrev pub padded : List ℕ → List ℕ

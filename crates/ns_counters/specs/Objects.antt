@@ -1,21 +1,8 @@
 -- Counters and once cells side by side: which histories of all of them are legal, and what they leave.
 use Rattle.std.specs.Prelude.{ℕ, ◌<◌, ◌==◌, if◌then◌else◌, List, [], ◌∷◌, slice_index, filter}
 use Rattle.std.specs.List.{fold}
-use Rattle.ns_model.specs.Environments.{but_at}
-use Rattle.ns_model.specs.Tallies.{Every}
-use Rattle.ns_model.specs.declared.counter.CounterEvent.{CounterEvent}
-use Rattle.ns_model.specs.declared.counter.CounterEvent.TheVariants.{Add, Begun}
-use Rattle.ns_model.specs.declared.counter.CounterState.{CounterState}
-use Rattle.ns_model.specs.declared.once.OnceEvent.{OnceEvent}
-use Rattle.ns_model.specs.declared.once.OnceEvent.TheVariants.{Began, Ran}
-use Rattle.ns_model.specs.declared.once.OnceState.{OnceState}
+use Rattle.ns_counters.specs.Names.{Add, Began, Begun, CounterEvent, CounterState, Every, IsLegalCounterEvent, IsLegalFrom, IsLegalOnceEvent, ObjectEvent, OnCounter, OnOnce, OnceEvent, OnceState, Ran, Setup, but_at, counter_next, first_counter, once_next}
 use Rattle.ns_model.specs.declared.once.OnceState.TheVariants.{Unused}
-use Rattle.ns_counters.specs.declared.object.ObjectEvent.{ObjectEvent}
-use Rattle.ns_counters.specs.declared.object.ObjectEvent.TheVariants.{OnCounter, OnOnce}
-use Rattle.ns_counters.specs.declared.object.Setup.{Setup}
-use Rattle.ns_model.specs.Courses.{IsLegalFrom}
-use Rattle.ns_model.specs.Counters.{first_counter, IsLegalCounterEvent, counter_next}
-use Rattle.ns_model.specs.Onces.{IsLegalOnceEvent, once_next}
 
 -- what a history leaves of each object, by its number
 pub record ObjectStanding : Type 0 where

@@ -1,9 +1,6 @@
 -- Rounds of looks at a clock, and then at several things in order, of which a note is one kind and a counter is another: what a wait for any of several goes by.
 use Rattle.std.specs.Prelude.{◌≡◌, ◌⊎◌, ℕ, zero, suc, Bool, true, false, List, [], ◌∷◌, length, take, slice_get, Option, None, Some}
-use Rattle.ns_model.specs.declared.environment.EnvEvent.{EnvEvent}
-use Rattle.ns_model.specs.Beginnings.{BeginsWith}
-use Rattle.ns_model.specs.Environments.{clock_of, is_due}
-use Rattle.ns_counters.specs.declared.object.ObjectEvent.{ObjectEvent}
+use Rattle.ns_counters.specs.Names.{BeginsWith, EnvEvent, ObjectEvent, clock_of, is_due}
 
 -- how far both have come: the clock and the notes, and the counters and once cells
 pub record Past : Type 0 where

@@ -1,16 +1,6 @@
 -- What one step of a call leaves, by the word that it finds.
 use Rattle.std.specs.Prelude.{◌≡◌, ℕ, ◌+◌, ◌^◌, ◌<◌, ◌≤◌, ◌==◌, ℤ, bit_or, if◌then◌else◌, List, [], ◌∷◌, Result, Ok, Err}
-use Rattle.ns_counters.specs.declared.act.ObjectAct.{ObjectAct}
-use Rattle.ns_counters.specs.declared.act.ObjectAct.TheVariants.{LookCounter, LoadToAdd, ExchangeToAdd, MarkWait, LookOnce, BeginOnce, EndOnce}
-use Rattle.ns_model.specs.declared.counter.CounterFault.{CounterFault}
-use Rattle.ns_model.specs.declared.counter.CounterEvent.TheVariants.{Add, Begun}
-use Rattle.ns_model.specs.declared.once.OnceEvent.TheVariants.{Began, Ran}
-use Rattle.ns_counters.specs.declared.object.ObjectEvent.{ObjectEvent}
-use Rattle.ns_counters.specs.declared.object.ObjectEvent.TheVariants.{OnCounter, OnOnce}
-use Rattle.ns_counters.specs.declared.object.Place.{Place}
-use Rattle.ns_counters.specs.declared.object.Place.TheVariants.{Free, Adding, Running}
-use Rattle.ns_counters.specs.declared.object.Setup.{Setup}
-use Rattle.ns_model.specs.Counters.{most, judged}
+use Rattle.ns_counters.specs.Names.{Add, Adding, Began, BeginOnce, Begun, CounterFault, EndOnce, ExchangeToAdd, Free, LoadToAdd, LookCounter, LookOnce, MarkWait, ObjectAct, ObjectEvent, OnCounter, OnOnce, Place, Ran, Running, Setup, judged, most}
 use Rattle.ns_counters.specs.Words.{counter_word, counter_of}
 
 -- The words: first those of 16 counters, by number, and then those of 16 once cells.

@@ -1,10 +1,8 @@
 -- The words that a table keeps of counters and of once cells.
 use Rattle.std.specs.Prelude.{ℕ, ◌+◌, ◌/◌, ◌%◌, ◌^◌, ◌==◌, if◌then◌else◌}
-use Rattle.ns_model.specs.declared.counter.CounterState.{CounterState}
-use Rattle.ns_model.specs.declared.once.OnceState.{OnceState}
+use Rattle.ns_counters.specs.Names.{CounterState, Done, OnceState, Stage, Unused}
+use Rattle.ns_counters.specs.declared.word.Stage.TheVariants.{Running}
 use Rattle.ns_model.specs.declared.once.OnceState.TheVariants as TheOnce
-use Rattle.ns_counters.specs.declared.word.Stage.{Stage}
-use Rattle.ns_counters.specs.declared.word.Stage.TheVariants.{Unused, Running, Done}
 
 -- A counter's word: the value in its low 32 bits, and above them a bit for the beginning of a wait for 0.
 abbrev pub counter_word : CounterState → ℕ

@@ -1,18 +1,9 @@
 -- One step of one caller, and all who look on.
 use Rattle.std.proofs.Common.{◌≡◌, ◌≢◌, ℕ, ◌+◌, ◌<◌, Bool, cond, List, [], ◌∷◌, ◌++◌, Option, None, Some, refl, sym, ap, ◌∙◌, subst, append-nil, eq-eqb, ne_eqb}
-use Rattle.ns_model.specs.declared.environment.EnvEvent.{EnvEvent}
-use Rattle.ns_model.specs.Beginnings.{BeginsWith}
-use Rattle.ns_model.specs.Environments.{ParentFits, IsLegalEnv, env_after, env_who, env_own, IsEnvBySeats}
-use Rattle.ns_model.specs.Tallies.{Every}
+use Rattle.ns_env.specs.Prelude.{BeginsWith, CanAct, EnvAct, EnvEvent, EnvPlain, EnvView, Every, HasActed, IsEnvBySeats, IsLawful, IsLegalEnv, LoadClock, LoadNext, LoadNote, Making, MoveClock, NotifyNote, Outcome, ParentFits, StoreNote, TakeNext, ViewFits, acted, adds}
+use Rattle.ns_env.specs.Prelude.{env_after, env_own, env_who, making_after, outcome}
 use Rattle.ns_model.proofs.Beginnings.{begins_itself, begins_through}
 use Rattle.ns_model.proofs.Environments.{env_own-append, made_begins}
-use Rattle.ns_env.specs.declared.act.EnvAct.{EnvAct}
-use Rattle.ns_env.specs.declared.act.EnvAct.TheVariants.{LoadNext, TakeNext, StoreNote, NotifyNote, MoveClock, LoadClock, LoadNote}
-use Rattle.ns_env.specs.declared.view.EnvView.{EnvView}
-use Rattle.ns_env.specs.declared.view.Making.{Making}
-use Rattle.ns_env.specs.Acted.{acted, HasActed}
-use Rattle.ns_env.specs.Lawful.{adds, IsLawful, ViewFits}
-use Rattle.ns_env.specs.Steps.{EnvPlain, Outcome, outcome, making_after, CanAct}
 use Rattle.ns_env.proofs.Keeps.{StepKeeps, outcome_by, step_keeps, others_make}
 
 -- ---- callers

@@ -3,29 +3,13 @@ use Rattle.std.proofs.Common.{◌≡◌, ◌≢◌, ℕ, zero, suc, ◌+◌, ◌
 use Rattle.std.proofs.lemmas.Bool.{cases_eq}
 use Rattle.std.proofs.lemmas.List.{length-set}
 use Rattle.std.proofs.lemmas.Option.{slice_get_within}
-use Rattle.ns_model.specs.declared.environment.EnvEvent.{EnvEvent}
-use Rattle.ns_model.specs.Beginnings.{BeginsWith}
-use Rattle.ns_model.specs.Environments.{NoteStanding, made_note, notified_note, ParentFits, IsLegalEnv, env_after, is_due, is_over, earlier, expiry_of, IsMade}
+use Rattle.ns_env.specs.Prelude.{Advancing, AskFits, BeginsWith, CanAct, Chain, ClockLoad, EnvAct, EnvEffect, EnvEvent, EnvFound, EnvNext, EnvPlain, EnvState, EnvStep, EnvWalk, Expired, ExpiryLoad, ForIsNotified, ForLook, ForNoteWait, Go, IfMade, Is, IsLawful}
+use Rattle.ns_env.specs.Prelude.{IsLawfulEnv, IsLegalEnv, IsMade, LoadClock, LoadNext, LoadNote, LookOver, MakeNote, Making, MakingFits, Meets, MoveClock, NextLoad, NoteLoad, NoteStanding, NotesFull, Nothing, NotifyNote, Notifying, Over, ParentFits, Repeat, StoreNote}
+use Rattle.ns_env.specs.Prelude.{TakeNext, TakeNumber, adders, adds, chain_note, earlier, env_after, env_got_of, env_walk_after, env_want_of, expiry_of, is_due, is_over, lowered_to, made_note, making_after, making_at, making_of, notified_note, outcome, passed, stopped}
+use Rattle.ns_env.specs.Prelude.{up_to}
 use Rattle.ns_model.proofs.Beginnings.{begins_itself}
 use Rattle.ns_model.proofs.Environments.{but_cases, sound_after, grown_begins, made_begins, expiry_begins}
 use Rattle.ns_model.proofs.Lines.{IsExpiryAt, expiry_goes_on}
-use Rattle.ns_env.specs.declared.limits.Cause.TheVariants.{Expired}
-use Rattle.ns_env.specs.declared.act.EnvAct.{EnvAct}
-use Rattle.ns_env.specs.declared.act.EnvAct.TheVariants.{LoadNext, TakeNext, StoreNote, NotifyNote, MoveClock, LoadClock, LoadNote}
-use Rattle.ns_env.specs.declared.act.EnvFound.{EnvFound}
-use Rattle.ns_env.specs.declared.view.Making.{Making}
-use Rattle.ns_env.specs.declared.view.Making.TheVariants.{Nothing}
-use Rattle.ns_env.specs.declared.walk.Chain.{Chain}
-use Rattle.ns_env.specs.declared.walk.Chain.TheVariants.{ForLook, ForIsNotified, ForNoteWait}
-use Rattle.ns_env.specs.declared.walk.EnvWalk.{EnvWalk}
-use Rattle.ns_env.specs.declared.walk.EnvWalk.TheVariants.{NextLoad, TakeNumber, MakeNote, Notifying, Advancing, ClockLoad, NoteLoad, ExpiryLoad}
-use Rattle.ns_env.specs.declared.walk.EnvNext.{EnvNext}
-use Rattle.ns_env.specs.declared.walk.EnvNext.TheVariants.{Go, Repeat, Over, LookOver}
-use Rattle.ns_env.specs.declared.reply.EnvReply.TheVariants.{NotesFull, Is}
-use Rattle.ns_env.specs.Asks.{EnvState, EnvEffect, EnvStep, making_of, making_at, adders, IfMade, AskFits, IsLawfulEnv}
-use Rattle.ns_env.specs.Lawful.{Meets, adds, MakingFits, IsLawful}
-use Rattle.ns_env.specs.Steps.{EnvPlain, outcome, making_after, CanAct}
-use Rattle.ns_env.specs.Walks.{env_want_of, env_got_of, env_walk_after, chain_note, stopped, passed, up_to, lowered_to}
 use Rattle.ns_env.proofs.Keeps.{StepKeeps, outcome_by, step_keeps, others_make, adds_most}
 
 -- ---- a list of places, one of them set

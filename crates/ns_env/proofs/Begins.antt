@@ -3,14 +3,8 @@ use Rattle.std.proofs.Common.{length, ◌≡◌, ℕ, zero, suc, List, [], repli
 use Rattle.std.proofs.lemmas.Bool.{cases_eq}
 use Rattle.std.proofs.lemmas.List.{length-set}
 use Rattle.std.proofs.lemmas.Option.{slice_get_within}
-use Rattle.ns_model.specs.declared.environment.EnvEvent.{EnvEvent}
-use Rattle.ns_model.specs.Environments.{NoteStanding, env_after, IsEnvBySeats}
-use Rattle.ns_env.specs.declared.view.Making.TheVariants.{Nothing}
-use Rattle.ns_env.specs.declared.walk.EnvWalk.{EnvWalk}
-use Rattle.ns_env.specs.declared.walk.EnvWalk.TheVariants.{NextLoad, TakeNumber, MakeNote, Notifying, Advancing, ClockLoad, NoteLoad, ExpiryLoad}
-use Rattle.ns_env.specs.Asks.{EnvState, EnvBegins, making_of, AskFits, IsFirstAsk, adders, IsLawfulEnv, fresh_asks}
-use Rattle.ns_env.specs.Lawful.{adds, MakingFits, IsLawful}
-use Rattle.ns_env.specs.Steps.{fresh_plain}
+use Rattle.ns_env.specs.Prelude.{Advancing, AskFits, ClockLoad, EnvBegins, EnvEvent, EnvState, EnvWalk, ExpiryLoad, IsEnvBySeats, IsFirstAsk, IsLawful, IsLawfulEnv, MakeNote, MakingFits, NextLoad, NoteLoad, NoteStanding, Nothing, Notifying, TakeNumber, adders, adds}
+use Rattle.ns_env.specs.Prelude.{env_after, fresh_asks, fresh_plain, making_of}
 use Rattle.ns_env.proofs.Asks.{set_here, set_there, adders_set}
 
 -- ---- a new environment

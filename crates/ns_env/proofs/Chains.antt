@@ -1,27 +1,9 @@
 -- A chain answers rightly, whatever others do between its loads.
 use Rattle.std.proofs.Common.{◌≡◌, ℕ, ◌<◌, ◌≤◌, Bool, true, false, cond, List, Option, None, Some, IfSome, IsSomeAnd, slice_get, refl, sym, ◌∙◌, subst, leb-true, leb-false}
-use Rattle.ns_model.specs.declared.environment.EnvEvent.{EnvEvent}
-use Rattle.ns_model.specs.Beginnings.{BeginsWith}
+use Rattle.ns_env.specs.Prelude.{AtSomePoint, BeginsWith, Cause, Chain, ChainFits, Clock, ClockLoad, EnvEvent, EnvNext, EnvState, Expired, ForIsNotified, ForLook, ForNoteWait, Go, HasLooked, IfMade, Is, IsLawfulEnv, IsLeftAt, IsLegalEnv, IsNotified, IsUnnotified}
+use Rattle.ns_env.specs.Prelude.{Limits, LookOver, Note, NoteLoad, NoteStanding, NoteWord, Notified, Over, Repeat, Shows, chain_note, clock_of, env_after, env_got_of, is_due, is_over, passed, standing_of, stopped, up_to}
 use Rattle.ns_model.proofs.Beginnings.{begins_itself, begins_through}
-use Rattle.ns_model.specs.Environments.{NoteStanding, IsLegalEnv, env_after, clock_of, is_due, is_over, IsNotified}
-use Rattle.ns_model.specs.Lines.{IsLeftAt}
 use Rattle.ns_model.proofs.Lines.{line_starts, line_stops, line_goes_on}
-use Rattle.ns_env.specs.declared.limits.Limits.{Limits}
-use Rattle.ns_env.specs.declared.limits.Cause.{Cause}
-use Rattle.ns_env.specs.declared.limits.Cause.TheVariants.{Expired, Notified}
-use Rattle.ns_env.specs.declared.note.NoteWord.{NoteWord}
-use Rattle.ns_env.specs.declared.act.EnvFound.TheVariants.{Clock, Note}
-use Rattle.ns_env.specs.declared.walk.Chain.{Chain}
-use Rattle.ns_env.specs.declared.walk.Chain.TheVariants.{ForLook, ForIsNotified, ForNoteWait}
-use Rattle.ns_env.specs.declared.walk.EnvWalk.TheVariants.{ClockLoad, NoteLoad}
-use Rattle.ns_env.specs.declared.walk.EnvNext.{EnvNext}
-use Rattle.ns_env.specs.declared.walk.EnvNext.TheVariants.{Go, Repeat, Over, LookOver}
-use Rattle.ns_env.specs.declared.reply.EnvReply.TheVariants.{Is}
-use Rattle.ns_env.specs.Asks.{EnvState, IfMade, IsLawfulEnv}
-use Rattle.ns_env.specs.Notes.{standing_of}
-use Rattle.ns_env.specs.Walks.{env_got_of, chain_note, stopped, passed, up_to}
-use Rattle.ns_env.specs.Chains.{IsUnnotified, HasLooked, ChainFits}
-use Rattle.ns_env.specs.Meanings.{AtSomePoint, Shows}
 use Rattle.ns_env.proofs.Looks.{note_is}
 
 -- a deadline that has come, and one that hasn't

@@ -1,31 +1,13 @@
 -- A call on the clock and the notes stays what it was asked, a step takes it on, and what others do leaves it where it is.
 use Rattle.std.proofs.Common.{◌≡◌, ℕ, ◌≤◌, min, nat_lt, Bool, true, false, cond, List, [], ◌∷◌, ◌++◌, Option, None, Some, slice_get, refl, sym, ap, ◌∙◌, subst, arith, append-nil}
 use Rattle.std.proofs.lemmas.Bool.Decides.{nat_tests}
-use Rattle.ns_model.specs.declared.environment.EnvEvent.{EnvEvent}
-use Rattle.ns_model.specs.declared.environment.EnvEvent.TheVariants.{Take, New, Notify, Advance}
-use Rattle.ns_model.specs.Beginnings.{BeginsWith, IsBetween}
-use Rattle.ns_model.specs.Environments.{NoteStanding, takes_in, is_due, is_over, expiry_of, earlier}
+use Rattle.ns_env.specs.Prelude.{Advance, Advancing, BeginsWith, Chain, ChainFits, Clock, ClockLoad, EnvCourse, EnvEvent, EnvFound, EnvGoes, EnvHasDone, EnvNext, EnvPlain, EnvRequest, EnvSoFar, EnvState, EnvStep, EnvWalk, Expired, Expiry, ExpiryLoad, ForIsNotified}
+use Rattle.ns_env.specs.Prelude.{ForLook, ForNoteWait, Go, Is, IsBetween, IsFirstAsk, IsLawfulEnv, LookOver, MakeNote, New, NextLoad, NextNumber, Note, NoteLoad, NoteStanding, NotesFull, Notify, Notifying, Over, Repeat, Stored, Take, TakeNumber, Taken, asked_by}
+use Rattle.ns_env.specs.Prelude.{chain_note, earlier, env_asked_of, env_course_after, env_course_at, env_got_of, env_walk_after, env_want_of, expiry_of, is_due, is_over, lowered_to, outcome, passed, standing_of, state_of, stopped, takes_in, up_to}
 use Rattle.ns_model.proofs.Beginnings.{begins_itself, begins_through}
-use Rattle.ns_env.specs.declared.limits.Cause.TheVariants.{Expired}
-use Rattle.ns_env.specs.declared.act.EnvFound.{EnvFound}
-use Rattle.ns_env.specs.declared.act.EnvFound.TheVariants.{NextNumber, Taken, Stored, Clock, Note}
-use Rattle.ns_env.specs.declared.walk.Chain.{Chain}
-use Rattle.ns_env.specs.declared.walk.Chain.TheVariants.{ForLook, ForIsNotified, ForNoteWait}
-use Rattle.ns_env.specs.declared.walk.EnvWalk.{EnvWalk}
-use Rattle.ns_env.specs.declared.walk.EnvWalk.TheVariants.{NextLoad, TakeNumber, MakeNote, Notifying, Advancing, ClockLoad, NoteLoad, ExpiryLoad}
-use Rattle.ns_env.specs.declared.walk.EnvNext.{EnvNext}
-use Rattle.ns_env.specs.declared.walk.EnvNext.TheVariants.{Go, Repeat, Over, LookOver}
-use Rattle.ns_env.specs.declared.request.EnvRequest.{EnvRequest}
-use Rattle.ns_env.specs.declared.request.EnvRequest.TheVariants as TheRequest
-use Rattle.ns_env.specs.declared.reply.EnvReply.TheVariants.{NotesFull, Is, Expiry}
-use Rattle.ns_env.specs.Notes.{standing_of, state_of}
-use Rattle.ns_env.specs.Walks.{env_want_of, env_got_of, env_walk_after, chain_note, stopped, passed, up_to, lowered_to}
-use Rattle.ns_env.specs.Asks.{EnvState, EnvStep, IsFirstAsk, IsLawfulEnv}
-use Rattle.ns_env.specs.Steps.{EnvPlain, outcome}
-use Rattle.ns_env.specs.Chains.{ChainFits}
-use Rattle.ns_env.specs.Meanings.{asked_by, env_asked_of, EnvCourse, env_course_at, env_course_after, EnvHasDone, EnvSoFar, EnvGoes}
 use Rattle.ns_env.proofs.Chains.{chain_begins, chain_answers}
 use Rattle.ns_env.proofs.Looks.{expiry_is}
+use Rattle.ns_env.specs.declared.request.EnvRequest.TheVariants as TheRequest
 
 -- ---- what a call was asked to do stays
 

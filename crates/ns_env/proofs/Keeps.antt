@@ -1,21 +1,10 @@
 -- A step keeps the law: what has happened by it is legal, the clock and the notes are as it leaves them, and its caller and all others have come as far as they say.
 use Rattle.std.proofs.Common.{◌≡◌, ◌≢◌, ℕ, ◌+◌, ◌<◌, ◌≤◌, min, max, nat_lt, Bool, true, false, cond, List, [], ◌∷◌, ◌++◌, Some, sym, refl, ap, ◌∙◌, subst, arith, append-nil}
 use Rattle.std.proofs.lemmas.Bool.Decides.{nat_tests}
-use Rattle.ns_model.specs.declared.environment.EnvEvent.{EnvEvent}
-use Rattle.ns_model.specs.declared.environment.EnvEvent.TheVariants.{Take, New, Notify, Advance}
-use Rattle.ns_model.specs.Environments.{NoteStanding, EnvStanding, first_env, env_who, IsLegalEnvEvent, but_at, notified_note, made_note, env_next, env_from, IsLegalEnvFrom, IsLegalEnv, env_after, takes_in}
-use Rattle.ns_model.specs.Tallies.{Every}
+use Rattle.ns_env.specs.Prelude.{Adding, Advance, CanAct, Clock, EnvAct, EnvEvent, EnvFound, EnvPlain, EnvStanding, Every, IsLawful, IsLegalEnv, IsLegalEnvEvent, IsLegalEnvFrom, LoadClock, LoadNext, LoadNote, Making, MakingFits, Meets, MoveClock, New, NextNumber, Note}
+use Rattle.ns_env.specs.Prelude.{NoteStanding, Nothing, Notify, NotifyNote, Outcome, StoreNote, Stored, Take, TakeNext, Taken, adds, but_at, env_after, env_from, env_next, env_who, first_env, loaded, made_note, making_after, notified_note, outcome, state_of, takes_in}
 use Rattle.ns_model.proofs.Environments.{env_from-append, legal_env_append, by_seats_append, but_cases, but-here, but-there, IsSound, sound_from, sound_after}
-use Rattle.ns_env.specs.declared.act.EnvAct.{EnvAct}
-use Rattle.ns_env.specs.declared.act.EnvAct.TheVariants.{LoadNext, TakeNext, StoreNote, NotifyNote, MoveClock, LoadClock, LoadNote}
-use Rattle.ns_env.specs.declared.act.EnvFound.{EnvFound}
-use Rattle.ns_env.specs.declared.act.EnvFound.TheVariants.{NextNumber, Taken, Stored, Clock, Note}
-use Rattle.ns_env.specs.declared.view.Making.{Making}
-use Rattle.ns_env.specs.declared.view.Making.TheVariants.{Nothing, Adding}
 use Rattle.ns_env.specs.declared.view.Making.TheVariants as TheMaking
-use Rattle.ns_env.specs.Lawful.{Meets, adds, MakingFits, IsLawful}
-use Rattle.ns_env.specs.Notes.{state_of}
-use Rattle.ns_env.specs.Steps.{EnvPlain, Outcome, loaded, outcome, making_after, CanAct}
 
 pub adds_most : (making : Making) → adds making ≤ 1
 adds_most Nothing = omega arith

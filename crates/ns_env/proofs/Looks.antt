@@ -1,24 +1,10 @@
 -- What a chain of notes finds, and where it goes.
 use Rattle.std.proofs.Common.{◌≡◌, ℕ, zero, suc, ◌<◌, Bool, true, false, ◌||◌, cond, List, Option, None, Some, slice_get, refl, sym, ap, ◌∙◌, subst, arith}
-use Rattle.ns_model.specs.declared.environment.EnvEvent.{EnvEvent}
-use Rattle.ns_model.specs.Environments.{NoteStanding, env_after, is_over, is_due, notified_in, is_notified, expiry_of, earlier, IsMade}
+use Rattle.ns_env.specs.Prelude.{Chain, ClockLoad, EnvEvent, EnvNext, EnvPlain, EnvState, Expired, Expiry, ExpiryLoad, ForIsNotified, ForLook, ForNoteWait, Go, Is, IsLawfulEnv, IsMade, LookOver, Meets, Note, NoteLoad, NoteStanding, NoteWord, Over, Repeat, earlier}
+use Rattle.ns_env.specs.Prelude.{env_after, env_got_of, expiry_of, is_due, is_notified, is_over, looked, lowered_to, notified_in, passed, standing_of, stopped, up_by, up_to}
 use Rattle.ns_model.proofs.Beginnings.{begins_itself}
 use Rattle.ns_model.proofs.Lines.{IsExpiryAt, expiry_goes_on}
 use Rattle.ns_model.proofs.Environments.{sound_after, notified_in-up, notified_in-root}
-use Rattle.ns_env.specs.declared.limits.Cause.TheVariants.{Expired}
-use Rattle.ns_env.specs.declared.note.NoteWord.{NoteWord}
-use Rattle.ns_env.specs.declared.act.EnvFound.TheVariants.{Note}
-use Rattle.ns_env.specs.declared.walk.Chain.{Chain}
-use Rattle.ns_env.specs.declared.walk.Chain.TheVariants.{ForLook, ForIsNotified, ForNoteWait}
-use Rattle.ns_env.specs.declared.walk.EnvWalk.TheVariants.{ClockLoad, NoteLoad, ExpiryLoad}
-use Rattle.ns_env.specs.declared.walk.EnvNext.{EnvNext}
-use Rattle.ns_env.specs.declared.walk.EnvNext.TheVariants.{Go, Repeat, Over, LookOver}
-use Rattle.ns_env.specs.declared.reply.EnvReply.TheVariants.{Is, Expiry}
-use Rattle.ns_env.specs.Asks.{EnvState, IsLawfulEnv, up_by, looked}
-use Rattle.ns_env.specs.Lawful.{Meets}
-use Rattle.ns_env.specs.Notes.{standing_of}
-use Rattle.ns_env.specs.Steps.{EnvPlain}
-use Rattle.ns_env.specs.Walks.{env_got_of, stopped, passed, up_to, lowered_to}
 
 -- ---- in one go
 

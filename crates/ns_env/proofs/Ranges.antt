@@ -1,11 +1,7 @@
 -- The act that a place wants may be made.
 use Rattle.std.proofs.Common.{◌≡◌, ℕ, ◌≤◌, List, length, Some, slice_get, arith}
-use Rattle.ns_model.specs.declared.environment.EnvEvent.{EnvEvent}
+use Rattle.ns_env.specs.Prelude.{Advancing, ClockLoad, EnvActFits, EnvEvent, EnvState, EnvWalk, ExpiryLoad, IsLawfulEnv, MakeNote, NextLoad, NoteLoad, Notifying, TakeNumber, env_want_of}
 use Rattle.ns_model.proofs.Environments.{sound_after, made_below}
-use Rattle.ns_env.specs.declared.walk.EnvWalk.{EnvWalk}
-use Rattle.ns_env.specs.declared.walk.EnvWalk.TheVariants.{NextLoad, TakeNumber, MakeNote, Notifying, Advancing, ClockLoad, NoteLoad, ExpiryLoad}
-use Rattle.ns_env.specs.Asks.{EnvState, EnvActFits, IsLawfulEnv}
-use Rattle.ns_env.specs.Walks.{env_want_of}
 
 pub asks_in_range : (h : List EnvEvent) (state : EnvState) (seat : ℕ) (walk : EnvWalk) → length state.askings ≤ 64 → IsLawfulEnv h state → slice_get state.askings seat ≡ Some (Some walk) → EnvActFits state.plain.next (env_want_of walk)
 asks_in_range h state seat (NextLoad parent deadline) few l at = tt

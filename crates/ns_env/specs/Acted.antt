@@ -1,10 +1,6 @@
 -- What a caller knows of a step that it has made.
 use Rattle.std.specs.Prelude.{◌≡◌, List, ◌++◌}
-use Rattle.ns_model.specs.declared.environment.EnvEvent.{EnvEvent}
-use Rattle.ns_model.specs.Beginnings.{BeginsWith}
-use Rattle.ns_model.specs.Environments.{IsLegalEnv, IsEnvBySeats, env_own}
-use Rattle.ns_env.specs.declared.act.EnvAct.{EnvAct}
-use Rattle.ns_env.specs.declared.view.EnvView.{EnvView}
+use Rattle.ns_env.specs.Names.{BeginsWith, EnvAct, EnvEvent, EnvView, IsEnvBySeats, IsLegalEnv, env_own}
 use Rattle.ns_env.specs.Lawful.{Meets}
 use Rattle.ns_env.specs.Steps.{EnvPlain, outcome, making_after}
 

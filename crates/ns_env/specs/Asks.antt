@@ -1,19 +1,8 @@
 -- A clock and notes as plain data, with a list of the places where seats stand in calls on them: a step of one seat, and what holds between any two.
 use Rattle.std.specs.Prelude.{◌≡◌, ℕ, zero, suc, ◌<◌, ◌≤◌, true, List, length, replicate, Option, None, Some, IfSome, slice_get, slice_set}
-use Rattle.ns_model.specs.declared.environment.EnvEvent.{EnvEvent}
-use Rattle.ns_model.specs.Tallies.{total}
-use Rattle.ns_model.specs.Environments.{NoteStanding, ParentFits, env_after, clock_of, expiry_of, earlier, IsMade}
-use Rattle.ns_env.specs.declared.act.EnvAct.{EnvAct}
-use Rattle.ns_env.specs.declared.act.EnvAct.TheVariants.{LoadNext, TakeNext, StoreNote, NotifyNote, MoveClock, LoadClock, LoadNote}
-use Rattle.ns_env.specs.declared.act.EnvFound.{EnvFound}
-use Rattle.ns_env.specs.declared.act.EnvFound.TheVariants.{Note}
-use Rattle.ns_env.specs.declared.view.Making.{Making}
-use Rattle.ns_env.specs.declared.view.Making.TheVariants.{Nothing, Adding, Taken}
-use Rattle.ns_env.specs.declared.walk.Chain.{Chain}
-use Rattle.ns_env.specs.declared.walk.EnvWalk.{EnvWalk}
-use Rattle.ns_env.specs.declared.walk.EnvWalk.TheVariants.{NextLoad, TakeNumber, MakeNote, Notifying, Advancing, ClockLoad, NoteLoad, ExpiryLoad}
-use Rattle.ns_env.specs.declared.walk.EnvNext.{EnvNext}
-use Rattle.ns_env.specs.declared.walk.EnvNext.TheVariants.{Go}
+use Rattle.ns_env.specs.Names.{Adding, Advancing, Chain, ClockLoad, EnvAct, EnvEvent, EnvFound, EnvNext, EnvWalk, ExpiryLoad, Go, IsMade, LoadClock, LoadNext, LoadNote, MakeNote, Making, MoveClock, NextLoad, Note, NoteLoad, NoteStanding, Nothing, NotifyNote, Notifying}
+use Rattle.ns_env.specs.Names.{ParentFits, StoreNote, TakeNext, TakeNumber, clock_of, earlier, env_after, expiry_of, total}
+use Rattle.ns_env.specs.declared.view.Making.TheVariants.{Taken}
 use Rattle.ns_env.specs.Lawful.{adds, MakingFits, IsLawful}
 use Rattle.ns_env.specs.Notes.{state_of}
 use Rattle.ns_env.specs.Steps.{EnvPlain, fresh_plain, outcome}

@@ -1,18 +1,6 @@
 -- What a chain of notes has come to, whatever others do between its loads.
 use Rattle.std.specs.Prelude.{◌≡◌, ℕ, ◌<◌, ◌≤◌, Bool, true, false, List, Option, None, Some, IfSome, IsSomeAnd}
-use Rattle.ns_model.specs.declared.environment.EnvEvent.{EnvEvent}
-use Rattle.ns_model.specs.Beginnings.{IsBetween}
-use Rattle.ns_model.specs.Environments.{clock_of, is_notified, IsNotified}
-use Rattle.ns_model.specs.Lines.{IsLeftAt}
-use Rattle.ns_env.specs.declared.limits.Limits.{Limits}
-use Rattle.ns_env.specs.declared.limits.Cause.{Cause}
-use Rattle.ns_env.specs.declared.limits.Cause.TheVariants.{Expired, Notified}
-use Rattle.ns_env.specs.declared.walk.Chain.{Chain}
-use Rattle.ns_env.specs.declared.walk.Chain.TheVariants.{ForLook, ForIsNotified, ForNoteWait}
-use Rattle.ns_env.specs.declared.walk.EnvWalk.TheVariants.{ClockLoad, NoteLoad}
-use Rattle.ns_env.specs.declared.walk.EnvNext.{EnvNext}
-use Rattle.ns_env.specs.declared.walk.EnvNext.TheVariants.{Go, Repeat, Over, LookOver}
-use Rattle.ns_env.specs.declared.reply.EnvReply.TheVariants.{Is}
+use Rattle.ns_env.specs.Names.{Cause, Chain, ClockLoad, EnvEvent, EnvNext, Expired, ForIsNotified, ForLook, ForNoteWait, Go, Is, IsBetween, IsLeftAt, IsNotified, Limits, LookOver, NoteLoad, Notified, Over, Repeat, clock_of, is_notified}
 use Rattle.ns_env.specs.Walks.{chain_note}
 
 -- the note, if one is given, wasn't notified

@@ -1,11 +1,7 @@
 -- The law of a clock and notes: they, and how far their callers have come, are as one history leaves them.
 use Rattle.std.specs.Prelude.{◌≡◌, ℕ, ◌+◌, ◌<◌, ◌≤◌, min, false, List, Some}
-use Rattle.ns_model.specs.declared.environment.EnvEvent.{EnvEvent}
-use Rattle.ns_model.specs.Beginnings.{BeginsWith}
-use Rattle.ns_model.specs.Environments.{EnvStanding, IsLegalEnv, env_after, clock_of, takes_in, env_own, IsEnvBySeats}
-use Rattle.ns_env.specs.declared.view.EnvView.{EnvView}
-use Rattle.ns_env.specs.declared.view.Making.{Making}
-use Rattle.ns_env.specs.declared.view.Making.TheVariants.{Nothing, Adding, Taken}
+use Rattle.ns_env.specs.Names.{Adding, BeginsWith, EnvEvent, EnvStanding, EnvView, IsEnvBySeats, IsLegalEnv, Making, Nothing, clock_of, env_after, env_own, takes_in}
+use Rattle.ns_env.specs.declared.view.Making.TheVariants.{Taken}
 use Rattle.ns_env.specs.Steps.{EnvPlain}
 
 -- The clock and the notes are as this history leaves them, which is legal. The next number goes on past the last.

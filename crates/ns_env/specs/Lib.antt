@@ -3,6 +3,8 @@ pub mod Asks
 pub mod Chains
 pub mod Lawful
 pub mod Meanings
+pub mod Names
 pub mod Notes
+pub mod Prelude
 pub mod Steps
 pub mod Walks

@@ -1,22 +1,9 @@
 -- What the answer of a call on the clock and the notes means, and how far such a call has come at each of its places.
 use Rattle.std.specs.Prelude.{◌≡◌, ℕ, List, [], ◌∷◌, ◌++◌, Option}
-use Rattle.ns_model.specs.declared.environment.EnvEvent.{EnvEvent}
-use Rattle.ns_model.specs.declared.environment.EnvEvent.TheVariants.{Take, New, Notify, Advance}
-use Rattle.ns_model.specs.Beginnings.{BeginsWith, IsBetween}
-use Rattle.ns_model.specs.Environments.{takes_in, is_notified, expiry_of}
-use Rattle.ns_env.specs.declared.limits.Limits.{Limits}
-use Rattle.ns_env.specs.declared.limits.Cause.{Cause}
-use Rattle.ns_env.specs.declared.walk.Chain.{Chain}
-use Rattle.ns_env.specs.declared.walk.Chain.TheVariants.{ForLook, ForIsNotified, ForNoteWait}
-use Rattle.ns_env.specs.declared.walk.EnvWalk.{EnvWalk}
-use Rattle.ns_env.specs.declared.walk.EnvWalk.TheVariants.{NextLoad, TakeNumber, MakeNote, Notifying, Advancing, ClockLoad, NoteLoad, ExpiryLoad}
-use Rattle.ns_env.specs.declared.walk.EnvNext.{EnvNext}
-use Rattle.ns_env.specs.declared.walk.EnvNext.TheVariants.{Go, Repeat, Over, LookOver}
-use Rattle.ns_env.specs.declared.request.EnvRequest.{EnvRequest}
-use Rattle.ns_env.specs.declared.request.EnvRequest.TheVariants as TheRequest
-use Rattle.ns_env.specs.declared.reply.EnvReply.{EnvReply}
-use Rattle.ns_env.specs.declared.reply.EnvReply.TheVariants.{Succeeded, Number, NotesFull, Is, Expiry}
+use Rattle.ns_env.specs.Names.{Advance, Advancing, BeginsWith, Cause, Chain, ClockLoad, EnvEvent, EnvNext, EnvReply, EnvRequest, EnvWalk, Expiry, ExpiryLoad, ForIsNotified, ForLook, ForNoteWait, Go, Is, IsBetween, Limits, LookOver, MakeNote, New, NextLoad, NoteLoad}
+use Rattle.ns_env.specs.Names.{NotesFull, Notify, Notifying, Number, Over, Repeat, Succeeded, Take, TakeNumber, expiry_of, is_notified, takes_in}
 use Rattle.ns_env.specs.Chains.{HasFound, HasLooked, HasWaited, ChainFits}
+use Rattle.ns_env.specs.declared.request.EnvRequest.TheVariants as TheRequest
 
 -- ---- what was asked
 

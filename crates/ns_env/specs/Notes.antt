@@ -1,6 +1,5 @@
 -- A note as a value, and as a history leaves it.
-use Rattle.ns_model.specs.Environments.{NoteStanding}
-use Rattle.ns_env.specs.declared.note.NoteWord.{NoteWord}
+use Rattle.ns_env.specs.Names.{NoteStanding, NoteWord}
 
 -- what a note is in a history
 abbrev pub standing_of : NoteWord → NoteStanding

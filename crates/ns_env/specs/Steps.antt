@@ -1,16 +1,9 @@
 -- What one step on the clock and the notes finds and leaves.
 use Rattle.std.specs.Prelude.{◌≡◌, ℕ, ◌+◌, max, nat_lt, true, if◌then◌else◌, List, [], ◌∷◌}
-use Rattle.ns_model.specs.declared.environment.EnvEvent.{EnvEvent}
-use Rattle.ns_model.specs.declared.environment.EnvEvent.TheVariants.{Take, New, Notify, Advance}
-use Rattle.ns_model.specs.Environments.{NoteStanding, EnvStanding, no_note, ParentFits, but_at, notified_note, made_note}
-use Rattle.ns_env.specs.declared.act.EnvAct.{EnvAct}
-use Rattle.ns_env.specs.declared.act.EnvAct.TheVariants.{LoadNext, TakeNext, StoreNote, NotifyNote, MoveClock, LoadClock, LoadNote}
-use Rattle.ns_env.specs.declared.act.EnvFound.{EnvFound}
-use Rattle.ns_env.specs.declared.act.EnvFound.TheVariants.{NextNumber, Taken, Stored, Clock, Note}
-use Rattle.ns_env.specs.declared.view.Making.{Making}
-use Rattle.ns_env.specs.declared.view.Making.TheVariants.{Nothing, Adding}
-use Rattle.ns_env.specs.declared.view.Making.TheVariants as TheMaking
+use Rattle.ns_env.specs.Names.{Adding, Advance, Clock, EnvAct, EnvEvent, EnvFound, EnvStanding, LoadClock, LoadNext, LoadNote, Making, MoveClock, New, NextNumber, Note, NoteStanding, Nothing, Notify, NotifyNote, ParentFits, StoreNote, Stored, Take, TakeNext, Taken}
+use Rattle.ns_env.specs.Names.{but_at, made_note, no_note, notified_note}
 use Rattle.ns_env.specs.Notes.{state_of}
+use Rattle.ns_env.specs.declared.view.Making.TheVariants as TheMaking
 
 -- the clock, the next note's number, which goes on past the last, and the notes
 pub record EnvPlain : Type 0 where

@@ -1,19 +1,7 @@
 -- What each place in a call on the clock and the notes wants next, and where what its step found leads it.
 use Rattle.std.specs.Prelude.{ℕ, nat_lt, Bool, true, false, ◌||◌, if◌then◌else◌, Option, None, Some, is_some}
-use Rattle.ns_model.specs.Environments.{is_due, is_over, earlier}
-use Rattle.ns_env.specs.declared.limits.Limits.{Limits}
-use Rattle.ns_env.specs.declared.limits.Cause.TheVariants.{Expired, Notified}
-use Rattle.ns_env.specs.declared.act.EnvAct.{EnvAct}
-use Rattle.ns_env.specs.declared.act.EnvAct.TheVariants.{LoadNext, TakeNext, StoreNote, NotifyNote, MoveClock, LoadClock, LoadNote}
-use Rattle.ns_env.specs.declared.act.EnvFound.{EnvFound}
-use Rattle.ns_env.specs.declared.act.EnvFound.TheVariants.{NextNumber, Taken, Stored, Clock, Note}
-use Rattle.ns_env.specs.declared.walk.Chain.{Chain}
-use Rattle.ns_env.specs.declared.walk.Chain.TheVariants.{ForLook, ForIsNotified, ForNoteWait}
-use Rattle.ns_env.specs.declared.walk.EnvWalk.{EnvWalk}
-use Rattle.ns_env.specs.declared.walk.EnvWalk.TheVariants.{NextLoad, TakeNumber, MakeNote, Notifying, Advancing, ClockLoad, NoteLoad, ExpiryLoad}
-use Rattle.ns_env.specs.declared.walk.EnvNext.{EnvNext}
-use Rattle.ns_env.specs.declared.walk.EnvNext.TheVariants.{Go, Repeat, Over, LookOver}
-use Rattle.ns_env.specs.declared.reply.EnvReply.TheVariants.{Succeeded, Number, NotesFull, Is, Expiry}
+use Rattle.ns_env.specs.Names.{Advancing, Chain, Clock, ClockLoad, EnvAct, EnvFound, EnvNext, EnvWalk, Expired, Expiry, ExpiryLoad, ForIsNotified, ForLook, ForNoteWait, Go, Is, Limits, LoadClock, LoadNext, LoadNote, LookOver, MakeNote, MoveClock, NextLoad, NextNumber}
+use Rattle.ns_env.specs.Names.{Note, NoteLoad, NotesFull, Notified, NotifyNote, Notifying, Number, Over, Repeat, StoreNote, Stored, Succeeded, TakeNext, TakeNumber, Taken, earlier, is_due, is_over}
 use Rattle.ns_env.specs.Notes.{standing_of}
 
 -- the step that the place wants

@@ -3,21 +3,23 @@ use Rattle.std.specs.Prelude.{IsSome}
 use Rattle.std.proofs.Common.{◌≡◌, ◌≢◌, ◌⊎◌, inl, inr, ℕ, suc, ◌+◌, ◌<◌, Bool, true, false, cond, eqb, if◌then◌else◌, List, [], ◌∷◌, length, Option, None, Some, set, get_or, refl, ap, sym, ◌∙◌, subst, arith, eq-eqb, length-set, take, drop, slice_set}
 use Rattle.std.proofs.lemmas.Bool.{ne_eqb, cases_eq}
 use Rattle.std.proofs.lemmas.List.{get_or-set_same, get_or-set_other, set-get_or}
-use Rattle.ns_gate.specs.Prelude.{Owed}
-use Rattle.ns_word.specs.Owed.{called_of}
-use Rattle.ns_gate.specs.Prelude.{Me, takes, gives, rest, Valid, homes_after, carried_after, Allows, GateView, Views, Homes, Shows, AtHome, Underlying, IsRuled, Holds, the, IsOne, walk_by, act_by, MayBegin, CanStep, HasStepped, PerformedWith, IsLoad, IsStoreOf, IsExchange, MayLoad, MayStore, MayExchange, carried_by, lists_scanned, next_owed, content_by, word_at, standing_after, Truths, QuietKeeps, Event, Read, Write, Mode, Lists, woken_of, view_in, number_of, word_of, found_of, exchanged, scanned, owes_more, row_in, before_in, SectionFits, has_some, bits_of, ActFits, CanLeave, CanWait, HasMode, OwesOne, Part, part_of, Effect, newly_held, section_of, exit_for, changed, moves, owed_after, change_found, change_commits, waited_in, meets_at, flags_with, mode_for, want_of, judge_of, has_queues, word_acquired, word_taken, word_returned, word_released, word_released_returning, releasing_of, LoadWord, Acquire, TakeQueues, ReturnQueues, Release, ReleaseReturning, WaitReturning, LoadCell, JudgeQuiet, JudgeMet, StoreCell, ArmFlag, PayWake, LoadFlag, Act, QueueSelf, LeaveSelf, WakeWaiters, Nothing, Change, Saw, Made, Cell, Quiet, Tested, Flag, Paid, Found, Queue, GetLoad, TryLoad, ScanAndRelease, WakeAndReturn, ReturnShown, Leave, QueueToWait, TestLast, InQueuing, InLeaving, Subject, OnCondition, OnVariables, Held, InTry, InAcquire, InRelease, InCells, InWait, InSignal, InShow, Walk, Arrival, Writer, QuietWriter, Reader, Releasing, ToChange, ToQueue, Taking, Word}
-use Rattle.atomic_table.specs.Table.{Act as TableAct, keeps as keeps_slots}
+use Rattle.ns_gate.specs.Prelude.{Acquire, Act, ActFits, Allows, ArmFlag, Arrival, AtHome, CanLeave, CanStep, CanWait, Cell, Change, Effect, Event, Flag, Found, GateView, GetLoad, HasMode, HasStepped, Held, Holds, Homes, InAcquire, InCells, InLeaving, InQueuing}
+use Rattle.ns_gate.specs.Prelude.{InRelease, InShow, InSignal, InTry, InWait, IsExchange, IsLoad, IsOne, IsRuled, IsStoreOf, JudgeMet, JudgeQuiet, Leave, LeaveSelf, Lists, LoadCell, LoadFlag, LoadWord, Made, MayBegin, MayExchange, MayLoad, MayStore, Me, Mode, Nothing}
+use Rattle.ns_gate.specs.Prelude.{OnCondition, OnVariables, Owed, OwesOne, Paid, Part, PayWake, PerformedWith, Queue, QueueSelf, QueueToWait, Quiet, QuietKeeps, QuietWriter, Read, Reader, Release, ReleaseReturning, Releasing, ReturnQueues, ReturnShown, Saw}
+use Rattle.ns_gate.specs.Prelude.{ScanAndRelease, SectionFits, Shows, StoreCell, Subject, TableAct, TakeQueues, Taking, TestLast, Tested, ToChange, ToQueue, Truths, TryLoad, Underlying, Valid, Views, WaitReturning, WakeAndReturn, WakeWaiters, Walk, Word, Write, Writer}
+use Rattle.ns_gate.specs.Prelude.{act_by, before_in, bits_of, called_of, carried_after, carried_by, change_commits, change_found, changed, content_by, encoded, exchanged, exit_for, flags_with, found_of, gives, has_queues, has_some, homes_after, judge_of, keeps_slots}
+use Rattle.ns_gate.specs.Prelude.{lists_scanned, meets_at, mode_for, moves, newly_held, next_owed, number_of, owed_after, owes_more, part_of, releasing_of, rest, row_in, scanned, section_of, standing_after, takes, the, view_in, waited_in, walk_by, want_of, woken_of}
+use Rattle.ns_gate.specs.Prelude.{word_acquired, word_at, word_of, word_released, word_released_returning, word_returned, word_taken}
 use Rattle.ns_seats.proofs.Views.{one_is}
 use Rattle.ns_gate.proofs.Keeps.{none_takes, hand_of, its_fit, between, lawful_between, stands_between, walk_in, now, later, did, did_from, ruled}
 use Rattle.ns_gate.proofs.Findings.{meant_by, walk_is}
-use Rattle.ns_model.specs.declared.event.Exit.TheVariants as TheExit
 use Rattle.ns_word.proofs.Acts.{act_fits, view_fits}
 use Rattle.ns_word.proofs.Codes.{decoded}
-use Rattle.ns_word.specs.Encoded.{encoded}
 use Rattle.ns_word.proofs.Numbers.{split_at}
 use lib.ListN.{get_elem?}
 use mathlib.Core.Option.{some, none}
 use prog.Atomic.{either}
+use Rattle.ns_model.specs.declared.event.Exit.TheVariants as TheExit
 
 -- a number is a word's alone
 pub same_word : (a b : Word) → number_of a ≡ number_of b → a ≡ b

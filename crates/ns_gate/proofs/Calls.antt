@@ -1,8 +1,9 @@
 -- A step takes its call on, as its caller follows it.
 use Rattle.std.proofs.Common.{◌≡◌, ℕ, ◌≤◌, true, false, arith, List, [], ◌∷◌, ◌++◌, length, Option, None, Some, refl, ap, sym, ◌∙◌, subst}
 use Rattle.std.proofs.lemmas.List.{append_assoc, append-nil}
-use Rattle.ns_gate.specs.Prelude.{Owed}
-use Rattle.ns_gate.specs.Prelude.{Event, SeatOf, IsTrueToHistory, IsWide, IsAtRest, OwesBelow, HasSince, IsAtPlace, HasReached, GateView, the, IsOne, walk_by, course_by, carried_by, CanStep, HasStepped, Performed, Standing, row_after, standing_after, Truths, asked_of, CallGoes, SectionFits, has_some, Course, PlaceFits, ActFits, OwesOne, part_of, PayWake, Pay, PayTheWoken, PayInWait, InTry, InAcquire, InRelease, InCells, InWait, InSignal, InShow, Told, IsTold, want_of, got_of, walk_after, pays, has_queues, Act, Found, Held, SeatView, On, Idle, Done, Next, Walk}
+use Rattle.ns_gate.specs.Prelude.{Act, ActFits, CallGoes, CanStep, Course, Done, Event, Found, GateView, HasReached, HasSince, HasStepped, Held, Idle, InAcquire, InCells, InRelease, InShow, InSignal, InTry, InWait, IsAtPlace, IsAtRest, IsOne, IsTold, IsTrueToHistory}
+use Rattle.ns_gate.specs.Prelude.{IsWide, Next, On, Owed, OwesBelow, OwesOne, Pay, PayInWait, PayTheWoken, PayWake, Performed, PlaceFits, SeatOf, SeatView, SectionFits, Standing, Told, Truths, Walk, asked_of, carried_by, course_by, got_of, has_queues, has_some, part_of}
+use Rattle.ns_gate.specs.Prelude.{pays, row_after, standing_after, the, walk_after, walk_by, want_of}
 use Rattle.ns_gate.proofs.Findings.{fits_now, walk_is}
 use Rattle.ns_model.proofs.Beginnings.{begins_itself, begins_through}
 

@@ -2,7 +2,7 @@
 use Rattle.std.specs.Prelude.{not, nat_lt, ◌||◌}
 use Rattle.std.proofs.Common.{◌≡◌, ℕ, zero, suc, ◌+◌, ◌<◌, ◌≤◌, Bool, true, false, List, [], ◌∷◌, length, get_or, refl, ap, sym, ◌∙◌, subst, arith}
 use Rattle.std.proofs.lemmas.List.{ext_get_or}
-use Rattle.ns_gate.specs.Prelude.{Final, Seen, EndsAs, GateView, Views, Homes, Fits, Underlying, IsRuled, Holds, the, IsOne, Every, Truths, Lists, word_of, IsPackable, IsLawful, IsTold, is_held, Word}
+use Rattle.ns_gate.specs.Prelude.{EndsAs, Every, Final, Fits, GateView, Holds, Homes, IsLawful, IsOne, IsPackable, IsRuled, IsTold, Lists, Seen, Truths, Underlying, Views, Word, is_held, the, word_of}
 use Rattle.ns_seats.proofs.Views.{one_is}
 use Rattle.ns_model.proofs.Tallies.{every_at}
 use Rattle.ns_word.proofs.Codes.{decoded}

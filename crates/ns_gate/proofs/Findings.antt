@@ -2,10 +2,9 @@
 use Rattle.std.specs.Prelude.{slice_index}
 use Rattle.std.proofs.Common.{◌≡◌, ℕ, Bool, cond, inl, inr, ◌<◌, List, [], ◌++◌, ◌∷◌, Option, None, Some, Result, refl, ap, sym, ◌∙◌, subst}
 use Rattle.std.proofs.lemmas.Bool.{ne_eqb, cases_eq}
-use Rattle.ns_gate.specs.Prelude.{Owed}
-use Rattle.ns_gate.specs.Prelude.{Me, rest, GateView, the, walk_by, CanStep, HasStepped, Performed, PerformedWith, IsExchange, IsOwedNext, MayExchange, act_by, act_of, act_returning, found_returned, made_by, next_owed, tried_for, standing_after, Truths, Lists, BeginsIf, view_in, number_of, word_of, IsPackable, found_of, exchanged, row_in, scanned, SectionFits, ActFits, LockState, Part, part_of, Effect, change_found, want_of, got_of, walk_after, LoadWord, LoadCell, JudgeQuiet, JudgeMet, LoadFlag, Acquire, TakeQueues, ReturnQueues, Release, ReleaseReturning, WaitReturning, Act, Saw, Made, Cell, Flag, Found, Held, SeatView, Walk, Word}
-use Rattle.ns_gate.specs.declared.queues.Returning.{Returning}
-use Rattle.ns_gate.specs.declared.queues.Returning.TheVariants.{Changed, Released, Waited}
+use Rattle.ns_gate.specs.Prelude.{Acquire, Act, ActFits, BeginsIf, CanStep, Cell, Changed, Effect, Flag, Found, GateView, HasStepped, Held, IsExchange, IsOwedNext, IsPackable, JudgeMet, JudgeQuiet, Lists, LoadCell, LoadFlag, LoadWord, LockState, Made, MayExchange, Me}
+use Rattle.ns_gate.specs.Prelude.{Owed, Part, Performed, PerformedWith, Release, ReleaseReturning, Released, ReturnQueues, Returning, Saw, SeatView, SectionFits, TakeQueues, Truths, WaitReturning, Waited, Walk, Word, act_by, act_of, act_returning, change_found}
+use Rattle.ns_gate.specs.Prelude.{exchanged, found_of, found_returned, got_of, made_by, next_owed, number_of, part_of, rest, row_in, scanned, standing_after, the, tried_for, view_in, walk_after, walk_by, want_of, word_of}
 use Rattle.ns_word.proofs.Codes.{decoded}
 use Rattle.ns_word.proofs.Seen.{packable, found_fits}
 use Rattle.ns_word.proofs.Acts.{act_fits, view_fits}

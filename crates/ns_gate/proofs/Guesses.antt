@@ -1,7 +1,8 @@
 -- One exchange of the lock word that is a load and the exchange behind it, where the word was guessed.
 use Rattle.std.proofs.Common.{◌≡◌, inl, inr, ℕ, ◌<◌, Bool, cond, eqb, None, Some, Result, Ok, Err, refl, ap, sym, ◌∙◌, subst}
 use Rattle.std.proofs.lemmas.Bool.{ne_eqb, cases_eq, eq-eqb}
-use Rattle.ns_gate.specs.Prelude.{SeatOf, Allows, carried_after, GateView, Holds, the, CanStep, Performed, PerformedWith, PerformedBoth, HasGuessed, WantsNext, IsPlainExchange, MayGuess, HasMadeBoth, CameByGuess, IsExchange, MayExchange, Truths, QuietKeeps, act_by, made_by, tried_for, exchanged, want_of, got_of, walk_after, number_of, word_of, IsPackable, Act, LoadWord, Acquire, Release, Found, Saw, Made, SeatView, Walk, Word}
+use Rattle.ns_gate.specs.Prelude.{Acquire, Act, Allows, CameByGuess, CanStep, Found, GateView, HasGuessed, HasMadeBoth, Holds, IsExchange, IsPackable, IsPlainExchange, LoadWord, Made, MayExchange, MayGuess, Performed, PerformedBoth, PerformedWith, QuietKeeps, Release}
+use Rattle.ns_gate.specs.Prelude.{Saw, SeatOf, SeatView, Truths, Walk, WantsNext, Word, act_by, carried_after, exchanged, got_of, made_by, number_of, the, tried_for, walk_after, want_of, word_of}
 use Rattle.ns_gate.proofs.Allowed.{may_load, may_exchange}
 use Rattle.ns_gate.proofs.Findings.{exchanged_by, stepped, walk_is, word_packs}
 use Rattle.ns_seats.proofs.AtOnce.{at_once, GoesOn}

@@ -2,8 +2,9 @@
 use Rattle.std.specs.Prelude.{nat_lt, slice_get}
 use Rattle.std.proofs.Common.{◌≡◌, ◌≢◌, ◌⊎◌, inl, inr, ℕ, zero, suc, ◌<◌, ◌≤◌, true, false, cond, eqb, List, [], ◌∷◌, ◌++◌, Option, None, Some, IfSome, set, slice_set, take, drop, refl, ap, sym, ◌∙◌, subst, arith, eq-eqb}
 use Rattle.std.proofs.lemmas.Option.{slice_get_within}
-use Rattle.ns_gate.specs.Prelude.{Owed}
-use Rattle.ns_gate.specs.Prelude.{GateView, Views, Homes, is_seat, HasCome, Fits, Shows, AtHome, Underlying, IsRuled, walk_by, course_by, MayBegin, HasStepped, BeginsWith, row_after, standing_after, total, one_if, Every, Truths, QuietKeeps, Event, asked_of, BeginsIf, SeatStep, view_in, CallGoes, SoFar, course_after, IsLawful, ViewFits, Course, course_from, LockState, Part, part_of, Effect, Step, IsTold, told_after, calls_of, takers, want_of, got_of, walk_after, has_queues, Found, Request, Held, SeatView, On, Idle, Done, Next, Walk}
+use Rattle.ns_gate.specs.Prelude.{AtHome, BeginsIf, BeginsWith, CallGoes, Course, Done, Effect, Event, Every, Fits, Found, GateView, HasCome, HasStepped, Held, Homes, Idle, IsLawful, IsRuled, IsTold, LockState, MayBegin, Next, On, Owed, Part, QuietKeeps, Request}
+use Rattle.ns_gate.specs.Prelude.{SeatStep, SeatView, Shows, SoFar, Step, Truths, Underlying, ViewFits, Views, Walk, asked_of, calls_of, course_after, course_by, course_from, got_of, has_queues, is_seat, one_if, part_of, row_after, standing_after, takers, told_after}
+use Rattle.ns_gate.specs.Prelude.{total, view_in, walk_after, walk_by, want_of}
 use Rattle.ns_model.proofs.Tallies.{one_most, total_set, total_none, Others, every_at, others_of, others_both, others_map, others_none, every_both, every_put}
 use Rattle.ns_word.proofs.Acts.{view_fits}
 use Rattle.ns_word.proofs.Courses.{takes_on, begins_unchanged}

@@ -1,8 +1,8 @@
 -- A look changes no word of the table: any load may be told what it has shown.
 use Rattle.std.proofs.Common.{◌≡◌, ◌<◌, ℕ, Bool, inl, List, [], ◌∷◌, set, Option, None, Some, refl, ap, sym, ◌∙◌, subst}
 use Rattle.std.proofs.lemmas.List.{set-get_or}
-use Rattle.ns_gate.specs.Prelude.{Me, carried_after, Allows, GateView, Views, Homes, Underlying, IsRuled, Holds, the, IsOne, CanStep, HasStepped, Performed, HasLooked, Truths, QuietKeeps, Lists, Part, part_of, Effect, MayShow, held_after, want_of, Look, Act, Looked, Cause, Limits, Walk}
-use Rattle.atomic_table.specs.Table.{keeps as keeps_slots}
+use Rattle.ns_gate.specs.Prelude.{Act, Allows, CanStep, Cause, Effect, GateView, HasLooked, HasStepped, Holds, Homes, IsOne, IsRuled, Limits, Lists, Look, Looked, MayShow, Me, Part, Performed, QuietKeeps, Truths, Underlying, Views, Walk, carried_after, held_after}
+use Rattle.ns_gate.specs.Prelude.{keeps_slots, part_of, the, want_of}
 use Rattle.ns_gate.proofs.Keeps.{now, later, did, ruled}
 use Rattle.ns_gate.proofs.Findings.{meant_by, walk_is}
 use lib.ListN.{get_elem?}

@@ -1,12 +1,11 @@
 -- Two seats of a gate that meet.
 use Rattle.std.specs.Prelude.{not, slice_get}
 use Rattle.std.proofs.Common.{◌≡◌, ◌≢◌, ℕ, zero, suc, ◌+◌, ◌≤◌, Bool, true, false, cond, eqb, List, [], ◌∷◌, ◌++◌, Option, None, Some, refl, ap, sym, ◌∙◌, subst, arith, eq-eqb}
-use Rattle.ns_gate.specs.Prelude.{Allows, SeatOf, IsWide, IsAtRest, GateView, Views, Homes, is_seat, number_of_seat, fresh_seat, Fits, Underlying, IsRuled, Holds, first_of, rest_of, ArePair, HasSight, HasLearned, ShareTheLock, HaveMet, HaveLearned, sight_of, the, IsOne, IsBySeats, is_write, total, one_if, Truths, Event, Read, Write, Mode, OneWriter, IsSettled, is_writing, is_reading, readers, writers, Held, SeatView, Word}
+use Rattle.ns_gate.specs.Prelude.{Allows, ArePair, Event, Fits, GateView, HasLearned, HasSight, HaveLearned, HaveMet, Held, Holds, Homes, IsAtRest, IsBySeats, IsBySums, IsOne, IsRuled, IsSettled, IsWide, Mode, OneWriter, Read, SeatOf, SeatView, ShareTheLock, Truths}
+use Rattle.ns_gate.specs.Prelude.{Underlying, Views, Word, Write, first_of, fresh_seat, is_reading, is_seat, is_write, is_writing, number_of_seat, one_if, own_of, readers, rest_of, sight_of, the, total, writers}
 use Rattle.ns_gate.proofs.Keeps.{once}
 use Rattle.ns_model.proofs.Beginnings.{begins_itself}
 use Rattle.ns_model.proofs.Tallies.{total_at}
-use Rattle.ns_model.specs.Histories.{own as own_of}
-use Rattle.ns_seats.specs.Meetings.{IsBySums}
 use Rattle.ns_seats.proofs.Meetings.{learns as joined_learn, meets}
 use Rattle.ns_seats.proofs.Sights.{one_history}
 use Rattle.ns_word.proofs.ToldAfter.{own_append}

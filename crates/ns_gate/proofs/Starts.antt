@@ -2,7 +2,7 @@
 use Rattle.std.specs.Prelude.{nat_lt, slice_get}
 use Rattle.std.proofs.Common.{◌≡◌, ℕ, zero, suc, ◌+◌, ◌<◌, ◌≤◌, List, [], ◌∷◌, length, get_or, replicate, map, Some, sym, refl, ap, ◌∙◌, arith}
 use Rattle.std.proofs.lemmas.List.{length-replicate, get_or-replicate}
-use Rattle.ns_gate.specs.Prelude.{opening, Fits, Holds, no_lists, fresh_seat, fresh, number_of_seat, one_if, Every, Truths, Lists, fresh_state, fresh_views}
+use Rattle.ns_gate.specs.Prelude.{Every, Fits, Holds, Lists, Truths, fresh, fresh_seat, fresh_state, fresh_views, no_lists, number_of_seat, one_if, opening}
 use Rattle.ns_seats.proofs.Numbered.{one_of_each}
 use Rattle.ns_word.proofs.Starts.{lawful_fresh}
 use Rattle.ns_word.proofs.ToldAfter.{told_first}

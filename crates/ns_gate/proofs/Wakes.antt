@@ -8,12 +8,10 @@ use Rattle.std.proofs.lemmas.Bool.{cases_Bool, cases_eq, eq-eqb, ne_eqb}
 use Rattle.std.specs.Option.{option_map}
 use Rattle.std.proofs.lemmas.List.Elements.{filter-append}
 use Rattle.std.proofs.lemmas.List.Sums.{sum_by-cons}
-use Rattle.ns_word.specs.Owed.{wakes_of}
+use Rattle.ns_gate.specs.Prelude.{Act, Broadcasting, Carries, Cv, Found, HaveSeats, IsOrderly, Lists, Lock, Part, Performed, ReturnQueues, SeatOf, SeatView, Signaling, Truths, Turned, Waiter, WakeWaiters, Waking, Walk, Woke, Word, bits_of, change_found, cvs_without}
+use Rattle.ns_gate.specs.Prelude.{has_queues, has_some, is_held, is_of, kept_by, lists_left, lists_woken, moved_to, moves, outside, owed_woken, seats_of, sole_of, taken_by, taken_from, taken_set, the, times, times_in, turned_to, waiters_of, wakes_of, with_waiters}
+use Rattle.ns_gate.specs.Prelude.{without, without_each, without_in, woken_nobody, woken_sole, writes}
 use Rattle.ns_model.proofs.Sets.{in_more, none_in}
-use Rattle.ns_queue.specs.Signals.{sole_of, taken_set}
-use Rattle.ns_queue.specs.declared.waiter.Which.TheVariants.{Cv, Lock}
-use Rattle.ns_queue.specs.Queues.{cvs_without}
-use Rattle.ns_queue.specs.Waiters.{is_of, outside, without_in, writes}
 use Rattle.ns_queue.proofs.Inside.{told_no}
 use Rattle.ns_queue.proofs.Marking.{drop_step}
 use Rattle.ns_queue.proofs.Outside.{gone_those, same_each}
@@ -21,8 +19,6 @@ use Rattle.ns_queue.proofs.Parts.{below_in, once_in}
 use Rattle.ns_queue.proofs.Seats.{none_without, own_times, times_in-cons}
 use Rattle.ns_queue.proofs.Taken.{sole_is, times_signaled}
 use Rattle.ns_word.proofs.Ranges.{lists_orderly}
-use Rattle.ns_gate.specs.Prelude.{SeatOf, the, Carries, Performed, change_found, moves, seats_of, Act, Found, Walk, Truths, Lists, Waiter, HaveSeats, IsOrderly, bits_of, times, times_in, waiters_of, with_waiters, without, Part, SeatView, has_queues, has_some, is_held, kept_by, moved_to, taken_by, lists_left, lists_woken, owed_woken, taken_from, turned_to, without_each, woken_nobody, woken_sole, ReturnQueues, WakeWaiters, Woke, Waking, Broadcasting, Signaling, Word}
-use Rattle.ns_gate.specs.declared.queues.Turned.{Turned}
 use Rattle.ns_gate.proofs.Stays.{HasKeptItsQueues, effect_of, still_carries}
 
 module _ {C : Type 0} where

@@ -1,26 +1,8 @@
 -- How far a call has come, as its caller follows it from step to step.
 use Rattle.std.specs.Prelude.{◌≡◌, ℕ, ◌<◌, false, List, [], ◌∷◌, ◌++◌, length, Option, None, Some}
-use Rattle.atomic_table.specs.Table.{Me}
-use Rattle.ns_model.specs.declared.event.Event.{Event}
-use Rattle.ns_model.specs.Beginnings.{BeginsWith}
-use Rattle.ns_model.specs.Histories.{IsLegal, IsBySeats, own as own_of, row_after}
-use Rattle.ns_model.specs.Truths.{Truths}
-use Rattle.ns_queue.specs.Queues.{Lists}
-use Rattle.ns_word.specs.declared.owed.Owed.{Owed}
-use Rattle.ns_word.specs.declared.view.Held.{Held}
-use Rattle.ns_word.specs.declared.walk.Next.{Next}
-use Rattle.ns_word.specs.declared.walk.Next.TheVariants.{On, Idle, Done}
-use Rattle.ns_word.specs.declared.walk.Reply.{Reply}
-use Rattle.ns_word.specs.declared.walk.Walk.{Walk}
-use Rattle.ns_word.specs.declared.request.Request.{Request}
-use Rattle.ns_word.specs.Courses.{SoFar}
-use Rattle.ns_word.specs.Meanings.{Means}
-use Rattle.ns_word.specs.Places.{IsSettled, PlaceFits}
-use Rattle.ns_word.specs.Told.{calls_of}
-use Rattle.ns_word.specs.Walks.{has_queues}
+use Rattle.ns_gate.specs.Names.{BeginsWith, Done, Event, Held, Idle, IsBySeats, IsLegal, IsOne, IsSettled, Lists, Me, Means, Next, On, Owed, PlaceFits, Reply, Request, SoFar, Truths, Walk, calls_of, has_queues, own_of, row_after}
 use Rattle.ns_gate.specs.Law.{GateView}
 use Rattle.ns_gate.specs.Steps.{the, course_by}
-use Rattle.ns_seats.specs.Views.{IsOne}
 
 -- what the table says of one of its seats: its view, and the slots that it carries
 abbrev pub SeatOf : Type 0 → ℕ → Type 0

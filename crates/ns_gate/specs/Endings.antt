@@ -1,13 +1,7 @@
 -- What is known of a gate that is closed, by a seat of it.
 use Rattle.std.specs.Prelude.{◌≡◌, ℕ, ◌≤◌, Bool, true, not, List, Some, slice_get}
+use Rattle.ns_gate.specs.Names.{Event, IsLawful, IsTold, LockState, Truths, is_held, row_after}
 use Rattle.ns_gate.specs.Law.{GateView}
-use Rattle.ns_model.specs.Histories.{row_after}
-use Rattle.ns_model.specs.Truths.{Truths}
-use Rattle.ns_model.specs.declared.event.Event.{Event}
-use Rattle.ns_word.specs.Lawful.{IsLawful}
-use Rattle.ns_word.specs.Steps.{LockState}
-use Rattle.ns_word.specs.Told.{IsTold}
-use Rattle.ns_word.specs.Words.{is_held}
 
 -- The gate has come to a lawful state, in which the cells are this row, and the lock is free or held as is told; the seat stands there, and was told of the history so far. Where the lock is free, the row is the one after that history.
 pub record EndsAs {C : Type 0} {N : ℕ} (truths : Truths C) (v : GateView C N) (row : List ℕ) (free : Bool) : Type 0 where

@@ -1,25 +1,9 @@
 -- The rule of a gate's table: word 0 is the lock word, the cells follow, and then each seat's flag. The slot has the queues.
 use Rattle.std.specs.Prelude.{◌≡◌, ℕ, ◌+◌, ◌<◌, ◌≤◌, nat_lt, Bool, true, false, List, [], ◌∷◌, length, replicate, None, Some, IfSome, slice_get, slice_index}
+use Rattle.ns_gate.specs.Names.{Course, Event, Every, Fault, HoldsBy, IsLawful, IsTold, Lists, LockState, OutOfMemory, SeatView, SoFar, TableState, Told, TooManySeats, Truths, ViewsOf, Word, course_from, has_queues, is_numbered, nothing_told, number_of, numbered}
+use Rattle.ns_gate.specs.Names.{one_if, tally}
 use mathlib.Core.Option.{some, none}
 use mathlib.Core.Option as TheOption
-use Rattle.atomic_table.specs.Table.{State as TableState}
-use Rattle.ns_gate.specs.declared.fault.Fault.{Fault}
-use Rattle.ns_gate.specs.declared.fault.Fault.TheVariants.{TooManySeats, OutOfMemory}
-use Rattle.ns_model.specs.declared.event.Event.{Event}
-use Rattle.ns_model.specs.Tallies.{one_if, Every}
-use Rattle.ns_model.specs.Truths.{Truths}
-use Rattle.ns_queue.specs.Queues.{Lists}
-use Rattle.ns_seats.specs.Meetings.{Holds as HoldsBy}
-use Rattle.ns_seats.specs.Views.{Views as ViewsOf, tally, is_numbered, numbered}
-use Rattle.ns_word.specs.declared.word.Word.{Word}
-use Rattle.ns_word.specs.declared.view.SeatView.{SeatView}
-use Rattle.ns_word.specs.Codec.{number_of}
-use Rattle.ns_word.specs.Courses.{SoFar}
-use Rattle.ns_word.specs.Lawful.{IsLawful}
-use Rattle.ns_word.specs.Meanings.{Course, course_from}
-use Rattle.ns_word.specs.Steps.{LockState}
-use Rattle.ns_word.specs.Told.{Told, IsTold, nothing_told}
-use Rattle.ns_word.specs.Walks.{has_queues}
 
 -- What one seat of a gate knows: how many seats there are, itself as the machine sees it, what it was told, how far the call in progress has come, and how the lists stood at home when it last made a step.
 pub record GateView (C : Type 0) (N : ℕ) : Type 0 where

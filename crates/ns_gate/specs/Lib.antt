@@ -2,6 +2,7 @@ pub mod Calls
 pub mod Endings
 pub mod Law
 pub mod Meetings
+pub mod Names
 pub mod Performing
 pub mod Prelude
 pub mod Showing

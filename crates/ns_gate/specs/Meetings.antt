@@ -1,15 +1,8 @@
 -- What two seats of a gate know once they have met.
 use Rattle.std.specs.Prelude.{◌≡◌, ◌≢◌, ℕ, Option, None, Some}
-use Rattle.ns_model.specs.declared.event.Event.{Event}
-use Rattle.ns_model.specs.declared.event.Mode.TheVariants.{Read}
-use Rattle.ns_model.specs.Beginnings.{BeginsWith}
-use Rattle.ns_model.specs.Histories.{own as own_of}
-use Rattle.ns_model.specs.Truths.{Truths}
-use Rattle.ns_word.specs.declared.view.Held.{Held}
+use Rattle.ns_gate.specs.Names.{AreOfOneHistory, BeginsWith, Event, HaveLearnedBy, Held, Read, Sight, Truths, own_of}
 use Rattle.ns_gate.specs.Calls.{SeatOf, IsTrueToHistory}
 use Rattle.ns_gate.specs.Law.{GateView, fresh_seat}
-use Rattle.ns_seats.specs.Meetings.{HaveLearned as HaveLearnedBy}
-use Rattle.ns_seats.specs.Sights.{Sight, AreOfOneHistory}
 
 -- Nothing of the seat has changed but what it has seen: a history that begins with what it had seen, is legal, is by the seats that there are, and has just the seat's own events as its own.
 pub record HasLearned {C : Type 0} {N : ℕ} (truths : Truths C) (v w : GateView C N) : Type 0 where

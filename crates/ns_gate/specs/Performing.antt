@@ -1,20 +1,10 @@
 -- What is to be known beside an act.
 use Rattle.std.specs.Prelude.{◌≡◌, ℕ, ◌<◌, List, Option, None, slice_index, slice_set}
-use Rattle.ns_gate.specs.declared.perform.Beside.{Beside}
-use Rattle.ns_gate.specs.declared.queues.Returning.{Returning}
-use Rattle.ns_gate.specs.declared.queues.Returning.TheVariants.{Changed, Released, Waited}
+use Rattle.ns_gate.specs.Names.{Acquire, Act, ArmFlag, Beside, Changed, IsPackable, JudgeMet, JudgeQuiet, LoadCell, LoadFlag, LoadWord, Look, MayShow, PayWake, Release, ReleaseReturning, Released, ReturnQueues, Returning, StoreCell, TakeQueues, Truths, WaitReturning}
+use Rattle.ns_gate.specs.Names.{Waited, Walk, Word, before_in, bits_of, owes_more, row_in}
 use Rattle.ns_gate.specs.Calls.{SeatOf}
 use Rattle.ns_gate.specs.Law.{GateView}
 use Rattle.ns_gate.specs.Steps.{the, Carries, IsOwedNext, found_returned, lists_returned, some_returned}
-use Rattle.ns_model.specs.Truths.{Truths}
-use Rattle.ns_word.specs.declared.act.Act.{Act}
-use Rattle.ns_word.specs.declared.act.Act.TheVariants.{LoadWord, Acquire, TakeQueues, ReturnQueues, Release, ReleaseReturning, WaitReturning, LoadCell, JudgeQuiet, JudgeMet, StoreCell, ArmFlag, PayWake, LoadFlag, Look}
-use Rattle.ns_word.specs.declared.walk.Walk.{Walk}
-use Rattle.ns_word.specs.declared.word.Word.{Word}
-use Rattle.ns_word.specs.Codec.{IsPackable}
-use Rattle.ns_word.specs.Finds.{before_in, owes_more, row_in}
-use Rattle.ns_word.specs.Lists.{bits_of}
-use Rattle.ns_word.specs.Steps.{MayShow}
 
 -- The queues are in hand as they are put back for this, and it is known what the hand has made of them; the word last seen has a number.
 pub record IsTurned {C : Type 0} {N : ℕ} (truths : Truths C) (returning : Returning C) (last : Word) (beside : Beside N) (me : SeatOf C N) : Type 0 where

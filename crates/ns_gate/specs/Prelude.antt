@@ -1,95 +1,59 @@
--- The names that contracts and proofs of calls between threads cite, passed on from one place. Declares nothing.
+-- The names that contracts and proofs cite, passed on from one place. Declares nothing.
 pub use Rattle.atomic_table.specs.Seated.{TableId}
-pub use Rattle.atomic_table.specs.Table.{Allows, Final, Me, Seen, Valid, carried_after, gives, homes_after, opening, rest, step, takes}
+pub use Rattle.atomic_table.specs.Table.{step}
+pub use Rattle.ns_env.specs.Walks.{is_limited}
+pub use Rattle.ns_env.specs.declared.limits.Cause.TheVariants.{Expired, Notified}
 pub use Rattle.ns_gate.specs.Calls.{HasAnswered, HasReached, HasSince, IsAtPlace, IsAtRest, IsTrueToHistory, IsWide, OwesBelow, SeatOf}
 pub use Rattle.ns_gate.specs.Endings.{EndsAs}
 pub use Rattle.ns_gate.specs.Law.{AtHome, Fits, GateView, HasCome, Holds, Homes, IsRuled, RefusesGate, Shows, Underlying, Views, fresh, fresh_seat, is_seat, no_lists, number_of_seat}
 pub use Rattle.ns_gate.specs.Meetings.{HasLearned, HaveLearned, HaveMet, ShareTheLock, sight_of}
 pub use Rattle.ns_gate.specs.Performing.{IsOnWord, IsTurned, Needs}
 pub use Rattle.ns_gate.specs.Showing.{ShowsLists}
-pub use Rattle.ns_gate.specs.Steps.{CameByGuess, CanStep, Carries, HasGuessed, HasLooked, HasMadeBoth, HasStepped, HasUnchangedQueues, HasUseFor, IsExchange, IsLoad, IsOwedNext, IsPlainExchange, IsStoreOf, MayBegin, MayExchange, MayGuess, MayLoad, MayStore, Performed, PerformedBoth, PerformedWith, WantsNext, act_by, act_of, act_returning, carried_by, content_by, course_by, first_said, found_returned, lists_returned, lists_scanned, made_by, next_owed, some_returned, the, tried, tried_for, walk_by, word_at, word_returning}
+pub use Rattle.ns_gate.specs.Steps.{CameByGuess, CanStep, Carries, HasGuessed, HasLooked, HasMadeBoth, HasStepped, HasUnchangedQueues, HasUseFor, IsExchange, IsLoad, IsOwedNext, IsPlainExchange, IsStoreOf, MayBegin, MayExchange, MayGuess, MayLoad, MayStore, Performed}
+pub use Rattle.ns_gate.specs.Steps.{PerformedBoth, PerformedWith, WantsNext, act_by, act_of, act_returning, carried_by, content_by, course_by, first_said, found_returned, lists_returned, lists_scanned, made_by, next_owed, some_returned, the, tried, tried_for, walk_by}
+pub use Rattle.ns_gate.specs.Steps.{word_at, word_returning}
 pub use Rattle.ns_gate.specs.Wakes.{lists_left, lists_woken, owed_woken, scanned_writer, sought_at, taken_from, turned_to, wake_told, without_each, woken_nobody, woken_sole}
-pub use Rattle.ns_model.specs.Beginnings.{BeginsWith}
 pub use Rattle.ns_model.specs.Environments.{IsMade}
-pub use Rattle.ns_model.specs.Histories.{IsBySeats, Standing, row_after, standing_after}
-pub use Rattle.ns_model.specs.Phases.{is_write}
 pub use Rattle.ns_model.specs.Sections.{is_met}
-pub use Rattle.ns_model.specs.Tallies.{Every, one_if, total}
-pub use Rattle.ns_model.specs.Truths.{QuietKeeps, Truths}
 pub use Rattle.ns_model.specs.declared.environment.EnvEvent.{EnvEvent}
 pub use Rattle.ns_model.specs.declared.event.Answer.{Answer}
 pub use Rattle.ns_model.specs.declared.event.Answer.TheVariants.{Canceled, Met, TimedOut}
-pub use Rattle.ns_model.specs.declared.event.Event.{Event}
 pub use Rattle.ns_model.specs.declared.event.Exit.TheVariants.{CondWait}
-pub use Rattle.ns_model.specs.declared.event.Mode.{Mode}
-pub use Rattle.ns_model.specs.declared.event.Mode.TheVariants.{Read, Write}
-pub use Rattle.ns_queue.specs.Queues.{IsOrderly, Lists, times, waiters_of, with_waiters, without}
-pub use Rattle.ns_queue.specs.Scans.{begins_with_reader, foremost_of, is_eligible, is_satisfied, left_of, tests_of, woken_of}
-pub use Rattle.ns_queue.specs.Waiters.{HaveSeats, has_condition, reads, seats_of, times_in, writes}
-pub use Rattle.ns_queue.specs.declared.waiter.Waiter.{Waiter}
-pub use Rattle.ns_word.specs.declared.wait.Home.{Home}
-pub use Rattle.ns_seats.specs.Sights.{HasSight}
-pub use Rattle.ns_seats.specs.Views.{ArePair, IsOne, first_of, rest_of}
-pub use Rattle.ns_word.specs.Asked.{asked_of}
-pub use Rattle.ns_word.specs.Begins.{BeginsIf, IsFirst, SeatStep, fresh_state, fresh_views, view_in}
-pub use Rattle.ns_word.specs.Codec.{IsPackable, number_of, word_of}
-pub use Rattle.ns_word.specs.Courses.{CallGoes, SoFar, course_after}
-pub use Rattle.ns_word.specs.Finds.{before_in, exchanged, found_of, owes_more, row_in, scanned}
-pub use Rattle.ns_word.specs.Lawful.{IsLawful, OneWriter, SectionFits, ViewFits}
-pub use Rattle.ns_word.specs.Lists.{bits_of, has_some, stands_at}
-pub use Rattle.ns_word.specs.Meanings.{ConditionWaitMeans, Course, HasWaited, InHand, Unchanged, WaitMeans, course_from}
-pub use Rattle.ns_word.specs.Places.{ActFits, CanLeave, CanWait, HasMode, IsInRange, IsSettled, OwesOne, PlaceFits, Tests}
-pub use Rattle.ns_word.specs.Steps.{Effect, LockState, MayShow, Part, Step, change_commits, change_found, changed, exit_for, flags_with, held_after, held_by, kept_by, meets_at, moved_to, moves, newly_held, owed_after, part_of, section_of, taken_by, waited_in, waits_at, with_lock}
-pub use Rattle.ns_word.specs.Told.{IsTold, Told, calls_of, told_after}
-pub use Rattle.ns_word.specs.Views.{is_reading, is_writing, readers, takers, writers}
-pub use Rattle.ns_env.specs.Walks.{is_limited}
-pub use Rattle.ns_word.specs.Waits.{answer_of, arrival_of, home_of, mode_for, outcome_taken, woken_by}
-pub use Rattle.ns_word.specs.Walks.{armed_place, back_with, got_of, got_queuing, has_queues, judge_of, look_or_queue, pay_releasing, pay_waiting, pays, release_has_queues, rest_or_look, scan_place, test_place, unmet_by, wait_first, wait_has_queues, walk_after, want_of}
-pub use Rattle.ns_word.specs.Words.{is_held, may_acquire, mode_released, releasing_of, word_acquired, word_released, word_released_returning, word_returned, word_taken}
-pub use Rattle.ns_word.specs.declared.acquire_walk.AcquirePlace.TheVariants.{AcquireLoad, Arm, Queue}
-pub use Rattle.ns_word.specs.declared.act.Act.{Act}
-pub use Rattle.ns_word.specs.declared.act.Act.TheVariants.{Acquire, ArmFlag, JudgeMet, JudgeQuiet, LoadCell, LoadFlag, LoadWord, Look, PayWake, Release, ReleaseReturning, ReturnQueues, StoreCell, TakeQueues, WaitReturning}
-pub use Rattle.ns_word.specs.declared.act.Change.{Change}
-pub use Rattle.ns_word.specs.declared.act.Change.TheVariants.{LeaveSelf, Nothing, QueueSelf, WakeWaiters}
-pub use Rattle.ns_word.specs.declared.act.Found.{Found}
-pub use Rattle.ns_word.specs.declared.act.Found.TheVariants.{Cell, Flag, Looked, Made, Paid, Quiet, Saw, Tested, Woke}
-pub use Rattle.ns_word.specs.declared.act.Waking.{Waking}
-pub use Rattle.ns_word.specs.declared.act.Waking.TheVariants.{Broadcasting, Signaling}
-pub use Rattle.ns_word.specs.declared.cell_walk.CellPlace.TheVariants.{GetLoad, QuietCells, QuietLast, SetStore}
+pub use Rattle.ns_queue.specs.Scans.{is_eligible, is_satisfied}
+pub use Rattle.ns_queue.specs.Waiters.{has_condition, reads}
+unfoldable pub use Rattle.ns_word.specs.Codec.{word_of}
+pub use Rattle.ns_word.specs.Meanings.{ConditionWaitMeans, HasWaited, InHand, Unchanged, WaitMeans}
+pub use Rattle.ns_word.specs.Places.{IsInRange, Tests}
+pub use Rattle.ns_word.specs.Steps.{held_by, waits_at}
+pub use Rattle.ns_word.specs.Waits.{answer_of, arrival_of, home_of, outcome_taken, woken_by}
+pub use Rattle.ns_word.specs.Walks.{armed_place, back_with, got_queuing, look_or_queue, pay_releasing, pay_waiting, release_has_queues, rest_or_look, scan_place, test_place, unmet_by, wait_first, wait_has_queues}
+pub use Rattle.ns_word.specs.Words.{may_acquire, mode_released}
+pub use Rattle.ns_word.specs.declared.acquire_walk.AcquirePlace.TheVariants.{AcquireLoad, Arm}
+pub use Rattle.ns_word.specs.declared.cell_walk.CellPlace.TheVariants.{QuietCells, QuietLast, SetStore}
 pub use Rattle.ns_word.specs.declared.cell_walk.Judging.TheVariants.{ToTell}
-pub use Rattle.ns_env.specs.declared.limits.Cause.{Cause}
-pub use Rattle.ns_env.specs.declared.limits.Cause.TheVariants.{Expired, Notified}
-pub use Rattle.ns_env.specs.declared.limits.Limits.{Limits}
-pub use Rattle.ns_word.specs.declared.release_walk.ReleasePlace.TheVariants.{Pay, ReleaseLoad, ScanAndRelease, ScanCells}
-pub use Rattle.ns_word.specs.declared.request.Request.{Request}
+pub use Rattle.ns_word.specs.declared.release_walk.ReleasePlace.TheVariants.{ReleaseLoad, ScanCells}
 pub use Rattle.ns_word.specs.declared.request.Request.TheVariants.{Await, Get, IsQuiet, Set, TryLock}
-pub use Rattle.ns_word.specs.declared.show_walk.ShowPlace.TheVariants.{ReturnShown}
-pub use Rattle.ns_word.specs.declared.signal_walk.SignalPlace.TheVariants.{PayTheWoken, SignalLoad, WakeAndReturn}
-pub use Rattle.ns_word.specs.declared.try_walk.TryPlace.TheVariants.{TryAcquire, TryLoad}
-pub use Rattle.ns_word.specs.declared.view.Held.{Held}
-pub use Rattle.ns_word.specs.declared.owed.Owed.{Owed}
-pub use Rattle.ns_word.specs.declared.view.SeatView.{SeatView}
+pub use Rattle.ns_word.specs.declared.signal_walk.SignalPlace.TheVariants.{SignalLoad}
+pub use Rattle.ns_word.specs.declared.try_walk.TryPlace.TheVariants.{TryAcquire}
 pub use Rattle.ns_word.specs.declared.wait.Aim.TheVariants.{ForLock, ForWait}
-pub use Rattle.ns_word.specs.declared.wait.LeavePlace.TheVariants.{AwaitWakeToLeave, Leave, LeaveLoad}
+pub use Rattle.ns_word.specs.declared.wait.Home.{Home}
+pub use Rattle.ns_word.specs.declared.wait.LeavePlace.TheVariants.{AwaitWakeToLeave, LeaveLoad}
 pub use Rattle.ns_word.specs.declared.wait.Outcome.{Outcome}
 pub use Rattle.ns_word.specs.declared.wait.Outcome.TheVariants.{Ended}
-pub use Rattle.ns_word.specs.declared.wait.QueuePlace.TheVariants.{ArmToWait, Load, LoadToScan, LookIn, QueueToWait}
-pub use Rattle.ns_word.specs.declared.wait.Subject.{Subject}
-pub use Rattle.ns_word.specs.declared.wait.Subject.TheVariants.{OnCondition, OnVariables}
+pub use Rattle.ns_word.specs.declared.wait.QueuePlace.TheVariants.{ArmToWait, Load, LoadToScan, LookIn}
 pub use Rattle.ns_word.specs.declared.wait.Visit.{Visit}
 pub use Rattle.ns_word.specs.declared.wait.Visit.TheVariants.{OnEntry, OnReturn}
 pub use Rattle.ns_word.specs.declared.wait.Wait.{Wait}
-pub use Rattle.ns_word.specs.declared.wait.WaitPlace.TheVariants.{AwaitWakeInWait, InLeaving, InQueuing, LookOut, PayInWait, TestCells, TestLast}
-pub use Rattle.ns_word.specs.declared.walk.Next.{Next}
-pub use Rattle.ns_word.specs.declared.walk.Next.TheVariants.{Done, Idle, On}
+pub use Rattle.ns_word.specs.declared.wait.WaitPlace.TheVariants.{AwaitWakeInWait, LookOut, TestCells}
 pub use Rattle.ns_word.specs.declared.walk.Reply.TheVariants.{Answered, Busy, Is, Number, Succeeded}
-pub use Rattle.ns_word.specs.declared.walk.Walk.{Walk}
-pub use Rattle.ns_word.specs.declared.walk.Walk.TheVariants.{InAcquire, InCells, InRelease, InShow, InSignal, InTry, InWait}
-pub use Rattle.ns_word.specs.declared.word.Arrival.{Arrival}
 pub use Rattle.ns_word.specs.declared.word.Arrival.TheVariants.{AsFresh}
-pub use Rattle.ns_word.specs.declared.word.Bits.{Bits}
-pub use Rattle.ns_word.specs.declared.word.Releasing.{Releasing}
-pub use Rattle.ns_word.specs.declared.word.Releasing.TheVariants.{QuietWriter, Reader, Writer}
-pub use Rattle.ns_word.specs.declared.word.Taking.{Taking}
-pub use Rattle.ns_word.specs.declared.word.Taking.TheVariants.{ToChange, ToQueue}
-pub use Rattle.ns_word.specs.declared.word.Word.{Word}
+pub use Rattle.ns_gate.specs.Names.{Acquire, Act, ActFits, Allows, ArePair, ArmFlag, Arrival, BeginsIf, BeginsWith, Bits, Broadcasting, CallGoes, CanLeave, CanWait, Cause, Cell, Change, Changed, Course, Cv, Done, Effect, Event, Every, Final, Flag, Foremost, Found}
+pub use Rattle.ns_gate.specs.Names.{GetLoad, Ghosts, HasMode, HasRoom, HasSight, HaveSeats, Held, Idle, InAcquire, InCells, InLeaving, InQueuing, InRelease, InShow, InSignal, InTry, InWait, IsBySeats, IsBySums, IsFirst, IsLawful, IsOne, IsOrderly, IsPackable, IsSettled}
+pub use Rattle.ns_gate.specs.Names.{IsTold, JudgeMet, JudgeQuiet, Leave, LeaveSelf, Limits, Lists, LoadCell, LoadFlag, LoadWord, Lock, LockState, Look, Looked, Made, MayShow, Me, Mode, Next, Nobody, Nothing, On, OnCondition, OnVariables, OneWriter, Owed, OwesOne, Paid}
+pub use Rattle.ns_gate.specs.Names.{Part, Pay, PayInWait, PayTheWoken, PayWake, PlaceFits, Queue, QueueSelf, QueueToWait, Quiet, QuietKeeps, QuietWriter, Read, Reader, Release, ReleaseReturning, Released, Releasing, Request, ReturnQueues, ReturnShown, Returning, Saw}
+pub use Rattle.ns_gate.specs.Names.{ScanAndRelease, SeatStep, SeatView, SectionFits, Seen, Signaling, SoFar, Sought, Standing, Step, StoreCell, Subject, TableAct, TakeQueues, Taking, TestLast, Tested, ToChange, ToQueue, Told, Truths, TryLoad, Turned, Valid, ViewFits}
+pub use Rattle.ns_gate.specs.Names.{WaitReturning, Waited, Waiter, WakeAndReturn, WakeWaiters, Waking, Walk, Woke, Word, Write, Writer, asked_of, awaits, before_in, begins_with_reader, bits_of, called_by, called_of, calls_of, carried_after, change_commits, change_found}
+pub use Rattle.ns_gate.specs.Names.{changed, course_after, course_from, cvs_without, encoded, exchanged, exit_for, first_of, flags_with, foremost_of, found_of, fresh_state, fresh_views, gives, got_of, has_queues, has_some, held_after, homes_after, is_held, is_of}
+pub use Rattle.ns_gate.specs.Names.{is_reading, is_write, is_writing, judge_of, keeps_slots, kept_by, left_by_writer, left_of, meets_at, mode_for, moved_to, moves, newly_held, number_of, one_if, opening, outside, owed_after, owes_more, own_of, part_of, pays, readers}
+pub use Rattle.ns_gate.specs.Names.{releasing_of, rest, rest_of, room_fits, row_after, row_in, scanned, seats_of, section_of, sole_of, standing_after, stands_at, taken_by, taken_set, takers, takes, tests_of, times, times_in, told_after, total, value_of, view_in}
+pub use Rattle.ns_gate.specs.Names.{waited_in, waiters_of, wakes_of, walk_after, want_of, with_lock, with_waiters, without, without_in, woken_of, word_acquired, word_released, word_released_returning, word_returned, word_taken, writers, writes}

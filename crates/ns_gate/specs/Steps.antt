@@ -1,39 +1,10 @@
 -- What one step of a seat is: a step of the machine between two lawful states.
 use Rattle.std.specs.Prelude.{◌≡◌, ◌⊎◌, ℕ, ◌+◌, ◌≤◌, ◌++◌, Bool, true, List, [], ◌∷◌, Option, None, Some, Result, Ok, Err, slice_index}
-use Rattle.atomic_table.specs.Table.{Me, rest}
-use Rattle.ns_model.specs.declared.event.Event.{Event}
-use Rattle.ns_model.specs.Beginnings.{BeginsWith}
-use Rattle.ns_model.specs.Histories.{row_after, standing_after}
-use Rattle.ns_model.specs.Truths.{Truths}
-use Rattle.ns_queue.specs.Queues.{Lists}
-use Rattle.ns_queue.specs.Scans.{woken_of, left_of}
-use Rattle.ns_word.specs.declared.owed.Owed.{Owed}
-use Rattle.ns_word.specs.declared.word.Word.{Word}
-use Rattle.ns_word.specs.declared.view.SeatView.{SeatView}
-use Rattle.ns_env.specs.declared.limits.Cause.{Cause}
-use Rattle.ns_word.specs.declared.walk.Walk.{Walk}
-use Rattle.ns_word.specs.declared.act.Act.{Act}
-use Rattle.ns_word.specs.declared.act.Act.TheVariants.{LoadWord, Acquire, TakeQueues, ReturnQueues, Release, ReleaseReturning, WaitReturning, LoadCell, JudgeQuiet, JudgeMet, StoreCell, ArmFlag, PayWake, LoadFlag}
-use Rattle.ns_word.specs.declared.act.Found.{Found}
-use Rattle.ns_word.specs.declared.act.Found.TheVariants.{Made, Saw, Scanned, Left, Woke, Looked}
-use Rattle.ns_word.specs.Asked.{asked_of}
-use Rattle.ns_word.specs.Begins.{IsFirst, SeatStep}
-use Rattle.ns_word.specs.Courses.{CallGoes, course_after}
-use Rattle.ns_word.specs.Finds.{found_of, content_at, row_in, scanned, IsLook}
-use Rattle.ns_word.specs.Lawful.{IsLawful, ViewFits}
-use Rattle.ns_word.specs.Meanings.{Course, course_from}
-use Rattle.ns_word.specs.Places.{PlaceFits}
-use Rattle.ns_word.specs.Lists.{has_some, bits_of}
-use Rattle.ns_word.specs.Steps.{LockState, change_found, changed, meets_at, moves, waited_in, with_lock}
-use Rattle.ns_word.specs.Waits.{mode_for}
-use Rattle.ns_word.specs.Words.{releasing_of, word_acquired, word_released, word_released_returning, word_returned, word_taken}
-use Rattle.ns_gate.specs.declared.queues.Returning.{Returning}
-use Rattle.ns_gate.specs.declared.queues.Returning.TheVariants.{Changed, Released, Waited}
-use Rattle.ns_word.specs.declared.word.Bits.{Bits}
-use Rattle.ns_word.specs.Told.{IsTold, told_after, calls_of}
-use Rattle.ns_word.specs.Walks.{want_of, got_of, walk_after, has_queues}
+use Rattle.ns_gate.specs.Names.{Acquire, Act, ArmFlag, BeginsWith, Bits, CallGoes, Cause, Changed, Course, Event, Found, IsFirst, IsLawful, IsLook, IsOne, IsTold, JudgeMet, JudgeQuiet, Left, Lists, LoadCell, LoadFlag, LoadWord, LockState, Looked, Made, Me, Owed}
+use Rattle.ns_gate.specs.Names.{PayWake, PlaceFits, Release, ReleaseReturning, Released, ReturnQueues, Returning, Saw, Scanned, SeatStep, SeatView, StoreCell, TakeQueues, Truths, ViewFits, WaitReturning, Waited, Walk, Woke, Word, asked_of, bits_of, calls_of}
+use Rattle.ns_gate.specs.Names.{change_found, changed, content_at, course_after, course_from, found_of, got_of, has_queues, has_some, left_of, meets_at, mode_for, moves, releasing_of, rest, row_after, row_in, scanned, standing_after, the_or, told_after, waited_in}
+use Rattle.ns_gate.specs.Names.{walk_after, want_of, with_lock, woken_of, word_acquired, word_released, word_released_returning, word_returned, word_taken}
 use Rattle.ns_gate.specs.Law.{GateView, fresh_seat}
-use Rattle.ns_seats.specs.Views.{the_or, IsOne}
 
 -- the seat that a view stands for, where it is one
 abbrev pub the : {C : Type 0} {N : ℕ} → List (GateView C N) → GateView C N

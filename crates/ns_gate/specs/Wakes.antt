@@ -1,20 +1,7 @@
 -- What a signal or a broadcast makes of the lists in hand, and a scan that takes nobody, or a writer alone.
 use Rattle.std.specs.Prelude.{ℕ, Bool, false, if◌then◌else◌, List, [], ◌∷◌, Option, None, Some, Result, Ok, Err}
 use Rattle.std.specs.Option.{option_map}
-use Rattle.ns_gate.specs.declared.queues.Turned.{Turned}
-use Rattle.ns_model.specs.Truths.{Truths}
-use Rattle.ns_queue.specs.declared.scan.Sought.{Sought}
-use Rattle.ns_queue.specs.declared.waiter.Waiter.{Waiter}
-use Rattle.ns_queue.specs.declared.waiter.Which.TheVariants.{Cv}
-use Rattle.ns_queue.specs.Queues.{Lists, cvs_without, waiters_of, without}
-use Rattle.ns_queue.specs.Runs.{sought_of}
-use Rattle.ns_queue.specs.Scans.{begins_with_reader, left_of, woken_of}
-use Rattle.ns_queue.specs.Signals.{sole_of, taken_set}
-use Rattle.ns_word.specs.Owed.{value_of, wakes_of}
-use Rattle.ns_word.specs.declared.owed.Owed.{Owed}
-use Rattle.ns_word.specs.Lists.{bits_of, has_some}
-use Rattle.ns_word.specs.declared.act.Waking.{Waking}
-use Rattle.ns_word.specs.Steps.{meets_at, moved_to, taken_by}
+use Rattle.ns_gate.specs.Names.{Cv, Lists, Owed, Sought, Truths, Turned, Waiter, Waking, begins_with_reader, bits_of, cvs_without, has_some, left_of, meets_at, moved_to, sole_of, sought_of, taken_by, taken_set, value_of, waiters_of, wakes_of, without, woken_of}
 
 -- those whom it takes out of the list of its variable, where the lists stand so
 abbrev pub taken_from : {C : Type 0} → Waking → ℕ → Lists C → List (Waiter C)

@@ -2,17 +2,8 @@
 use Rattle.std.specs.Prelude.{IsSome, nat_lt}
 use Rattle.std.proofs.Common.{◌≡◌, ℕ, ◌-◌, ◌<◌, ◌≤◌, Bool, true, false, List, Option, None, Some, if◌then◌else◌, refl, sym, subst, arith, ◌∙◌}
 use Rattle.std.proofs.lemmas.Bool.{ltb-true, ltb-false}
-use Rattle.ns_gate.specs.Prelude.{CanStep, HasMode, Held, InCells, IsAtRest, LoadCell, Mode, PlaceFits, Releasing, SeatOf, Truths, Walk, IsWide, the}
-use Rattle.ns_model.specs.declared.event.Mode.TheVariants.{Write}
-use Rattle.ns_monitor.specs.Prelude.{IsFreshIn, IsQuietFor, StandsAt, getting, locking, releasing_by}
-use Rattle.ns_word.specs.Meanings.{new_section}
-use Rattle.ns_word.specs.Begins.{IsFirst}
-use Rattle.ns_word.specs.Places.{CanLeave, CellFits, IsSettled}
-use Rattle.ns_word.specs.Walks.{quiet_place}
-use Rattle.ns_word.specs.Words.{mode_released}
-use Rattle.ns_word.specs.declared.cell_walk.CellPlace.TheVariants.{QuietCells, QuietLast}
-use Rattle.ns_word.specs.declared.cell_walk.Judging.TheVariants.{ToTell}
-use Rattle.ns_word.specs.declared.word.Releasing.TheVariants.{Writer, QuietWriter, Reader}
+use Rattle.ns_monitor.specs.Prelude.{CanLeave, CanStep, CellFits, HasMode, Held, InCells, IsAtRest, IsFirst, IsFreshIn, IsQuietFor, IsSettled, IsWide, LoadCell, Mode, PlaceFits, QuietCells, QuietLast, QuietWriter, Reader, Releasing, SeatOf, StandsAt, ToTell, Truths}
+use Rattle.ns_monitor.specs.Prelude.{Walk, Write, Writer, getting, locking, mode_released, new_section, quiet_place, releasing_by, the}
 
 module _ {C : Type 0} {N : ℕ} (truths : Truths C) where
   has_some : (mode : Mode) (held : Option (Held C N)) → HasMode mode held → IsSome held

@@ -1,13 +1,13 @@
 -- What a call of the gate's seat tells its caller.
 use Rattle.std.proofs.Common.{◌≡◌, ℕ, Bool, Option, true, false, cond, [], ◌∷◌, ◌++◌, None, Some, Result, Ok, Err, refl, ap, sym, ◌∙◌, subst}
 use Rattle.std.proofs.lemmas.List.{append-nil}
-use Rattle.ns_gate.specs.Prelude.{TableId, InHand, Releasing, asked_of, section_of, SeatOf, HasSince, IsAtPlace, IsAtRest, HasAnswered, HasReached, the, CanStep, Performed, WantsNext, tried, walk_after, LoadWord, Mode, Truths, Unchanged, row_after, got_of, may_acquire, Acquire, LoadCell, StoreCell, Saw, Made, Cell, SetStore, TryLock, Get, Set, TryAcquire, ForLock, On, Done, Busy, Succeeded, Number, Walk, InTry, InCells, AsFresh, Word}
+use Rattle.ns_monitor.specs.Prelude.{Acquire, Acquiring, AsFresh, Busy, CanStep, Cell, Done, ForLock, Get, Grows, HasAnswered, HasBegun, HasGoneBehind, HasLocked, HasReached, HasSeenMore, HasSince, HasUnlocked, InCells, InHand, InTry, IsAtPlace, IsAtRest, IsFreshIn}
+use Rattle.ns_monitor.specs.Prelude.{IsNumberOf, Known, LoadCell, LoadWord, Made, Mode, Number, On, Performed, Releasing, Saw, SeatOf, Set, SetStore, StoreCell, Succeeded, TableId, Truths, TryAcquire, TryLock, Unchanged, Walk, WantsNext, WentAtOnce, Word, asked_of}
+use Rattle.ns_monitor.specs.Prelude.{getting, going_act, gone_to, got_of, known_of, locking, may_acquire, may_go, releasing_by, row_after, section_of, setting, the, tried, trying, walk_after}
 use Rattle.ns_gate.proofs.Calls.{begins, goes, since, since_then}
-use Rattle.ns_model.specs.declared.event.Exit.TheVariants as TheExit
 use Rattle.ns_monitor.proofs.Begins.{locked_fresh}
 use Rattle.ns_monitor.proofs.Standing.{loads_first}
-use Rattle.ns_monitor.specs.declared.going.Going.TheVariants.{Acquiring}
-use Rattle.ns_monitor.specs.Prelude.{Grows, HasBegun, HasGoneBehind, HasLocked, HasSeenMore, HasUnlocked, IsFreshIn, IsNumberOf, Known, WentAtOnce, getting, going_act, gone_to, known_of, locking, may_go, releasing_by, setting, trying}
+use Rattle.ns_model.specs.declared.event.Exit.TheVariants as TheExit
 use Rattle.ns_word.specs.Meanings as TheMeanings
 
 abbrev made_of : {A B : Type 0} → Result A B → Bool

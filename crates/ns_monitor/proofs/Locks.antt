@@ -1,12 +1,9 @@
 -- A seat sets its own flag, before it queues, and finds it cleared.
 use Rattle.std.proofs.Common.{◌≡◌, ◌≢◌, ℕ, Bool, true, false, cond, ne_eqb, None, Some, ap, sym, subst, ◌∙◌}
+use Rattle.ns_monitor.specs.Prelude.{AcquireLoad, Aim, ArmFlag, Arrival, AwaitWake, Flag, GateView, HasReached, HasSince, HasUnchangedQueues, Idle, InAcquire, IsAtPlace, Made, On, Performed, SeatOf, Truths, Walk, arrival_of, awaits, got_of, has_queues, request_for, the}
+use Rattle.ns_monitor.specs.Prelude.{times}
 use Rattle.ns_gate.proofs.Calls.{goes_on, since}
 use Rattle.ns_gate.proofs.Stays.{HasKeptItsQueues, nowhere_now, stays_arming, still_carries}
-use Rattle.ns_gate.specs.Prelude.{SeatOf, GateView, HasReached, HasSince, HasUnchangedQueues, IsAtPlace, the, Performed, Truths, times, arrival_of, got_of, has_queues, AcquireLoad, ArmFlag, Arrival, Flag, Idle, InAcquire, Made, On, Walk}
-use Rattle.ns_word.specs.Asked.{request_for}
-use Rattle.ns_word.specs.declared.acquire_walk.AcquirePlace.TheVariants.{AwaitWake}
-use Rattle.ns_word.specs.declared.wait.Aim.{Aim}
-use Rattle.ns_word.specs.Walks.{awaits}
 
 -- It has done so with the queues in hand, goes on to this place, and stands in no list.
 pub record HasArmed {C : Type 0} {N : ℕ} (truths : Truths C) (place : Walk C) (me now : SeatOf C N) : Type 0 where

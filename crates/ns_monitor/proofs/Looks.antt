@@ -1,13 +1,8 @@
 -- The looks of a wait at its note and its deadline.
 use Rattle.std.proofs.Common.{◌≡◌, ℕ, List, Option, Some, sym, subst}
-use Rattle.ns_model.specs.declared.environment.EnvEvent.{EnvEvent}
-use Rattle.ns_model.specs.declared.event.Answer.{Answer}
-use Rattle.ns_model.specs.declared.event.Answer.TheVariants.{Met, TimedOut, Canceled}
-use Rattle.ns_monitor.specs.Prelude.{EndedBy, HasLookedOn, IfAnswered, LookShows}
-use Rattle.ns_note.specs.Answers.{LookAnswers}
-use Rattle.ns_note.specs.declared.note.Note.{Note}
+use Rattle.ns_monitor.specs.Prelude.{Answer, Canceled, EndedBy, EnvEvent, EnvKnown, HasLookedOn, IfAnswered, LookAnswers, LookShows, Met, Note, TimedOut}
 use Rattle.ns_note.proofs.Rests.{made_grows}
-use Rattle.ns_note.specs.Known.{EnvKnown, Grows}
+use Rattle.ns_note.specs.Known.{Grows}
 
 -- A seat that has looked
 pub has_looked : (old new : EnvKnown) → Grows old new → new.mine ≡ old.mine → HasLookedOn old new

@@ -1,6 +1,6 @@
 -- New seats.
 use Rattle.std.proofs.Common.{◌≡◌, ℕ, [], ◌∷◌, refl, sym, subst, None}
-use Rattle.ns_gate.specs.Prelude.{SeatOf, IsAtRest, fresh_seat, the, Truths}
+use Rattle.ns_monitor.specs.Prelude.{IsAtRest, SeatOf, Truths, fresh_seat, the}
 
 module _ (C : Type 0) (N : ℕ) where
   -- a new seat is at rest, with nothing in hand

@@ -1,8 +1,6 @@
 -- Two callers that meet.
 use Rattle.std.proofs.Common.{◌≡◌, ℕ, ap, subst}
-use Rattle.ns_gate.specs.Prelude.{TableId, Truths, SeatOf, IsAtRest, the, SeatView}
-use Rattle.ns_gate.specs.Meetings.{HasLearned as SeatHasLearned}
-use Rattle.ns_monitor.specs.Prelude.{HasLearned, Known, known_of}
+use Rattle.ns_monitor.specs.Prelude.{HasLearned, IsAtRest, Known, SeatHasLearned, SeatOf, SeatView, TableId, Truths, known_of, the}
 
 module _ {C : Type 0} {N : ℕ} (truths : Truths C) where
   -- what a seat has learned that rests, as its caller sees it

@@ -1,12 +1,12 @@
 -- The rounds of a wait for a condition: where it goes by what it tests and sees.
 use Rattle.std.proofs.Common.{⊎_elim, ◌≡◌, ◌||◌, is_some, ℕ, ◌-◌, Bool, true, false, cond, List, [], ◌∷◌, ◌++◌, append-nil, ◌⊎◌, inl, inr, option_map, Option, None, Some, refl, ap, sym, ◌∙◌, subst}
+use Rattle.ns_monitor.specs.Prelude.{Answer, Answered, Await, Canceled, Cause, CondWait, ConditionWaitMeans, Course, EnvEvent, EnvKnown, Event, Expired, ForWait, HadLooked, HasAcquired, HasAnswered, HasComeBack, HasMode, HasReached, HasRow, HasSince, HasStayed}
+use Rattle.ns_monitor.specs.Prelude.{HasTested, HasWaited, HasWaitedFor, Held, IfAnswered, InHand, InQueuing, InWait, IsAtPlace, IsFresh, IsFreshIn, IsInRange, IsWide, Known, Limits, Load, Look, LookIn, LookShows, Looked, Met, Mode, Note, Notified, On, OnCondition}
+use Rattle.ns_monitor.specs.Prelude.{OnReturn, Outcome, Part, Performed, PlaceFits, QueuesOrEnds, SeatOf, SeatView, Subject, TableId, TestCells, TestLast, Tests, TimedOut, Truths, Unchanged, Visit, Wait, WaitMeans, WaitTells, Walk, answer_of, back_with, got_queuing}
+use Rattle.ns_monitor.specs.Prelude.{held_after, held_by, is_limited, known_of, limits_of, look_or_queue, row_after, section_of, test_place, tested_by, the}
 use Rattle.ns_gate.proofs.Calls.{goes}
 use Rattle.ns_gate.proofs.Findings.{does}
 use Rattle.ns_gate.proofs.Keeps.{hand_of}
-use Rattle.ns_gate.specs.Prelude.{SeatOf, HasAnswered, HasSince, IsAtPlace, IsWide, HasReached, the, Performed, Truths, Answer, Met, TimedOut, Canceled, Mode, TableId, row_after, EnvEvent, Event, CondWait, Course, ConditionWaitMeans, HasWaited, InHand, Unchanged, WaitMeans, Walk, HasMode, PlaceFits, Tests, held_after, held_by, section_of, Part, answer_of, is_limited, back_with, got_queuing, look_or_queue, test_place, Look, Looked, Cause, Expired, Notified, Limits, Await, Held, SeatView, ForWait, Outcome, Load, LookIn, Subject, OnCondition, Visit, OnReturn, Wait, InQueuing, TestCells, TestLast, On, Answered, InWait, IsInRange}
-use Rattle.ns_monitor.specs.Prelude.{HadLooked, HasAcquired, HasComeBack, HasRow, HasStayed, HasTested, HasWaitedFor, IfAnswered, IsFresh, IsFreshIn, Known, LookShows, QueuesOrEnds, WaitTells, known_of, limits_of, tested_by}
-use Rattle.ns_note.specs.Known.{EnvKnown}
-use Rattle.ns_note.specs.declared.note.Note.{Note}
 
 -- a wait for a condition is for something that there is
 pub in_range : {C : Type 0} (on : Subject C) (c : C) → on ≡ OnCondition c → IsInRange on

@@ -2,11 +2,7 @@
 use Rattle.std.proofs.Common.{◌≡◌, ◌≢◌, ℕ, ◌<◌, ◌≤◌, Bool, true, false, List, Option, None, Some, inl, inr, length, get_or, slice_index, slice_index_or, slice_set, is_none, if◌then◌else◌, refl, ap, sym, ◌∙◌, subst, arith}
 use Rattle.std.proofs.lemmas.Bool.{cases_eq}
 use Rattle.std.proofs.lemmas.List.{get_or-set_same, get_or-set_other, length-set}
-use Rattle.ns_model.specs.declared.event.Mode.TheVariants.{Write}
-use Rattle.ns_word.specs.Meanings.{InHand}
-use Rattle.ns_word.specs.Places.{HasMode}
-use Rattle.ns_word.specs.declared.view.Held.{Held}
-use Rattle.ns_monitor.specs.Saved.{AreSaved, HasSaved, saved_after, value_before}
+use Rattle.ns_monitor.specs.Prelude.{AreSaved, HasMode, HasSaved, Held, InHand, Write, saved_after, value_before}
 
 module _ (N i old value : ℕ) (saved : List (Option ℕ)) (before row : List ℕ) (low : i < N) (wide : length row ≡ N) (found : old ≡ slice_index row i) (p : AreSaved N saved before row) where
   -- the cell that is set: what it held is saved now, or what it held first was saved before

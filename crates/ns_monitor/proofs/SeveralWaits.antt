@@ -1,22 +1,11 @@
 -- Waits for any of several condition variables: where they stand, and what they tell once they are over.
 use Rattle.std.proofs.Common.{◌≡◌, ℕ, true, false, List, [], ◌∷◌, ◌++◌, Option, None, Some, append-nil, refl, ap, sym, ◌∙◌, subst}
-use Rattle.ns_env.specs.declared.limits.Cause.{Cause}
-use Rattle.ns_gate.specs.Prelude.{BeginsWith, LockState, SeatOf, HasAnswered, HasMode, HasSince, IsSettled, IsTold, IsWide, Performed, PlaceFits, the, AwaitWakeInWait, InQueuing, InWait, Load, LoadFlag, Flag, Look, Looked, Told, Truths, Mode, TableId, row_after, Course, InHand, section_of, Await, Held}
+use Rattle.ns_monitor.specs.Prelude.{Act, AnyWait, AnyWaitMeans, AreSome, Await, AwaitWakeInWait, BeginsWith, Cause, Course, Cvs, Flag, Found, HasAnswered, HasBegunToWait, HasComeBackFromAny, HasLeft, HasMode, HasSeenTrue, HasSince, HasStoodUnwoken, Held, InHand}
+use Rattle.ns_monitor.specs.Prelude.{InQueuing, InWait, IsByOneOf, IsFreshIn, IsSettled, IsTold, IsWaitingForAny, IsWide, Known, Load, LoadFlag, LockState, Look, Looked, MayEnd, Mode, Owed, Performed, PlaceFits, SaysWoken, SeatOf, TableId, Told, Truths, WaitKnown}
+use Rattle.ns_monitor.specs.Prelude.{WaitsOn, WaitsStill, Walk, WokenBy, any_waiting, at_will, has_some, known_of, leave_any_told, pays, row_after, section_of, the, waits_for_any}
 use Rattle.ns_gate.proofs.Calls.{since, since_then}
 use Rattle.ns_gate.proofs.Stays.{effect_of}
-use Rattle.ns_model.specs.declared.cvs.Cvs.{Cvs}
-use Rattle.ns_model.specs.declared.event.Exit.TheVariants.{AnyWait}
 use Rattle.ns_monitor.proofs.Waits.{looks_out, waits_on}
-use Rattle.ns_monitor.specs.Prelude.{AreSome, HasBegunToWait, HasComeBackFromAny, HasSeenTrue, HasStoodUnwoken, IsByOneOf, IsFreshIn, IsWaitingForAny, Known, SaysWoken, WaitKnown, WaitsOn, WaitsStill, any_waiting, at_will, known_of, waits_for_any}
-use Rattle.ns_word.specs.Courses.{HasLeft}
-use Rattle.ns_word.specs.Meanings.{AnyWaitMeans, MayEnd, leave_any_told}
-use Rattle.ns_word.specs.Walks.{pays}
-use Rattle.ns_word.specs.declared.act.Act.{Act}
-use Rattle.ns_word.specs.declared.act.Found.{Found}
-use Rattle.ns_word.specs.declared.owed.Owed.{Owed}
-use Rattle.ns_word.specs.declared.walk.Reply.TheVariants.{WokenBy}
-use Rattle.ns_word.specs.declared.walk.Walk.{Walk}
-use Rattle.ns_word.specs.Lists.{has_some}
 
 abbrev behind : {A : Type 0} → List A → List A
 behind [] = []

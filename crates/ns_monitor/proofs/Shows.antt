@@ -1,14 +1,11 @@
 -- A call that shows, step by step, and the state that it shows.
 use Rattle.std.proofs.Common.{◌≡◌, ℕ, Bool, true, false, cond, ◌∷◌, ◌++◌, append-nil, None, Some, refl, ap, sym, ◌∙◌, subst}
+use Rattle.ns_monitor.specs.Prelude.{BeginsWith, HasReached, HasSince, HasStood, HasUnchangedQueues, Idle, InShow, IsAtPlace, IsLawful, Known, Lists, LoadWord, LockState, Made, On, Part, Performed, ReturnShown, Saw, SeatOf, ShowLoad, TableId, TakeQueues, TakeToShow}
+use Rattle.ns_monitor.specs.Prelude.{ToChange, Told, Truths, Word, known_of, own_of, show_by, showing, the, word_taken}
 use Rattle.ns_gate.proofs.Calls.{goes, goes_on}
 use Rattle.ns_gate.proofs.Stays.{effect_of}
-use Rattle.ns_gate.specs.Prelude.{BeginsWith, SeatOf, HasSince, HasUnchangedQueues, IsAtPlace, HasReached, TableId, the, Performed, Truths, IsLawful, Lists, LockState, Part, Told, LoadWord, TakeQueues, Saw, Made, ReturnShown, InShow, On, Idle, ToChange, Word, word_taken}
-use Rattle.ns_model.specs.Histories.{own as own_of}
 use Rattle.ns_model.proofs.Beginnings.{begins_itself, begins_through}
-use Rattle.ns_monitor.specs.Prelude.{HasStood, Known, known_of, showing}
-use Rattle.ns_word.specs.Walks.{show_by}
 use Rattle.ns_word.specs.declared.request.Request.TheVariants as TheRequest
-use Rattle.ns_word.specs.declared.show_walk.ShowPlace.TheVariants.{ShowLoad, TakeToShow}
 
 module _ {C : Type 0} {N : ℕ} (truths : Truths C) where
   -- ---- it takes the queues

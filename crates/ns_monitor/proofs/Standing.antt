@@ -1,20 +1,17 @@
 -- The loops of a call, step by step, by the place at which it stands.
 use Rattle.std.specs.Prelude.{IfErr}
 use Rattle.std.proofs.Common.{◌≡◌, ℕ, ◌<◌, Bool, true, false, cond, List, [], ◌++◌, append-nil, ◌∷◌, Option, None, Some, Result, Ok, Err, refl, ap, sym, ◌∙◌, subst}
+use Rattle.ns_monitor.specs.Prelude.{Acquire, AcquireLoad, Acquiring, Act, Bits, CameByGuess, CanStep, Carries, Change, Changed, Changing, Decides, Effect, Event, Flag, ForLock, ForWait, Found, GateView, Going, HasBegunBy, HasGoneBehind, HasInHand, HasReached, HasSince}
+use Rattle.ns_monitor.specs.Prelude.{HasStepped, HasTakenAt, Held, Idle, InAcquire, InCells, InLeaving, InQueuing, InRelease, InShow, InSignal, InTry, InWait, IsAtPlace, IsAtRest, IsFirst, IsNumberOf, IsOwedNext, IsPackable, Leave, LeaveLoad, Leaving, Lists, Load}
+use Rattle.ns_monitor.specs.Prelude.{LoadFlag, LoadWord, LockState, Made, MayGoAlone, On, Owed, OwesBelow, OwesTheWoken, Paid, Part, PayWake, Pays, Performed, PlaceFits, PutsBack, Queue, QueueToWait, Release, ReleaseLoad, ReleaseReturning, Released, Request}
+use Rattle.ns_monitor.specs.Prelude.{ReturnQueues, ReturnShown, Returning, Saw, ScanAndRelease, ScanCells, SeatOf, SeatView, SectionFits, SignalLoad, Sleeps, TakeQueues, Taking, ToChange, ToQueue, Told, Truths, Turned, WaitReturning, Waited, Walk, WantsNext, Word}
+use Rattle.ns_monitor.specs.Prelude.{act_returning, asked_of, bits_of, called_of, carried_by, changed, found_back, found_returned, going_act, going_at, going_of, gone_to, got_of, has_queues, has_some, lists_returned, may_go, meets_at, moves, owes_more, part_of}
+use Rattle.ns_monitor.specs.Prelude.{release_has_queues, rest, rest_of, returning_at, returning_of, row_in, scan_place, scanning_at, some_returned, standing_after, taken_at, taking_at, taking_for, the, view_in, walk_after, want_of, woken_of, word_taken}
 use Rattle.ns_gate.proofs.Calls.{begins, can_go, goes, goes_on, since, since_then}
 use Rattle.ns_gate.proofs.Findings.{does}
-use Rattle.ns_word.specs.declared.owed.Owed.{Owed}
-use Rattle.ns_word.specs.Owed.{called_of}
-use Rattle.ns_gate.specs.Prelude.{SeatOf, HasSince, IsAtPlace, IsAtRest, HasReached, OwesBelow, GateView, rest_of, rest, the, CameByGuess, act_returning, carried_by, Carries, found_returned, lists_returned, some_returned, CanStep, HasStepped, IsFirst, IsOwedNext, Performed, PlaceFits, WantsNext, walk_after, standing_after, view_in, woken_of, row_in, SectionFits, changed, meets_at, moves, Change, Bits, Request, Held, Queue, Leave, QueueToWait, Truths, Event, Lists, asked_of, IsPackable, owes_more, bits_of, has_some, Effect, LockState, Part, part_of, Told, got_of, has_queues, want_of, release_has_queues, scan_place, word_taken, Act, LoadWord, LoadFlag, PayWake, TakeQueues, Acquire, Release, ReturnQueues, ReleaseReturning, WaitReturning, Found, Saw, Made, Flag, Paid, AcquireLoad, ReleaseLoad, ScanCells, ScanAndRelease, SignalLoad, SeatView, ForLock, ForWait, LeaveLoad, Load, InQueuing, InLeaving, On, Idle, Walk, InTry, InAcquire, InRelease, InCells, InWait, InSignal, InShow, ReturnShown, Taking, ToChange, ToQueue, Word}
-use Rattle.ns_gate.specs.declared.queues.Returning.{Returning}
-use Rattle.ns_gate.specs.declared.queues.Returning.TheVariants.{Changed, Released, Waited}
-use Rattle.ns_gate.specs.declared.queues.Turned.{Turned}
 use Rattle.ns_gate.proofs.Stays.{HasKeptItsQueues, stays_by}
 use Rattle.ns_gate.proofs.Wakes.{orderly_now}
 use Rattle.ns_word.proofs.Acts.{view_fits}
-use Rattle.ns_monitor.specs.declared.going.Going.{Going}
-use Rattle.ns_monitor.specs.declared.going.Going.TheVariants.{Acquiring, Leaving, Changing}
-use Rattle.ns_monitor.specs.Prelude.{Decides, HasBegunBy, HasGoneBehind, HasInHand, HasTakenAt, IsNumberOf, MayGoAlone, OwesTheWoken, Pays, PutsBack, Sleeps, found_back, going_act, going_at, going_of, gone_to, may_go, returning_at, returning_of, scanning_at, taken_at, taking_at, taking_for}
 
 -- a word that was taken has a number, if the word before has
 pub taken_packs : (taking : Taking) (word : Word) → IsPackable word → IsPackable (word_taken taking word)

@@ -1,13 +1,8 @@
 -- A wait for a condition variable that is over: what its caller sees.
 use Rattle.std.proofs.Common.{◌≡◌, ℕ, ◌<◌, true, false, List, ◌∷◌, ◌++◌, Option, None, Some, refl, ap, sym, ◌∙◌, subst}
+use Rattle.ns_monitor.specs.Prelude.{Answer, Answered, Await, Cause, Course, CvWait, Ended, Event, Expired, HasAnswered, HasComeBackFrom, HasMode, HasSince, HasTakenAt, HasWaitedForVariable, Held, IfAnswered, IfEnded, InHand, InQueuing, InWait, IsFreshIn, IsSettled}
+use Rattle.ns_monitor.specs.Prelude.{IsWide, Known, Limits, Load, Mode, Notified, Outcome, PlaceFits, SeatOf, TableId, Truths, VariableWaitMeans, Walk, Woken, Word, answer_of_wait, is_met, known_of, leave_told, row_after, section_of, the, waits_for_variable}
 use Rattle.ns_gate.proofs.Keeps.{hand_of}
-use Rattle.ns_gate.specs.Prelude.{SeatOf, HasAnswered, HasMode, HasSince, IsSettled, IsWide, PlaceFits, the, InQueuing, InWait, Load, Truths, Answer, Mode, TableId, row_after, Event, Course, InHand, section_of, Cause, Expired, Notified, Limits, Outcome, Ended, Await, Held, Answered, Walk, Word}
-use Rattle.ns_model.specs.Sections.{is_met}
-use Rattle.ns_model.specs.declared.event.Exit.TheVariants.{CvWait}
-use Rattle.ns_monitor.specs.Prelude.{HasComeBackFrom, HasTakenAt, HasWaitedForVariable, IfAnswered, IfEnded, IsFreshIn, Known, known_of, waits_for_variable}
-use Rattle.ns_word.specs.Meanings.{VariableWaitMeans, leave_told}
-use Rattle.ns_word.specs.Waits.{answer_of_wait}
-use Rattle.ns_word.specs.declared.wait.Outcome.TheVariants.{Woken}
 
 -- who has taken the queues has its section as it is
 pub taken_now : {C : Type 0} {N : ℕ} (truths : Truths C) (walk : Walk C) (word : Word) (me now : SeatOf C N) → HasTakenAt truths walk word me now → HasTakenAt truths walk word now now

@@ -1,14 +1,12 @@
 -- A wait outside, step by step: it queues, waits to be woken or ended, and may leave its list.
 use Rattle.std.proofs.Common.{◌≡◌, ◌≢◌, ℕ, Bool, true, false, cond, ne_eqb, Option, None, Some, refl, ap, sym, ◌∙◌, subst}
 use Rattle.std.proofs.lemmas.Bool.{cond_both}
+use Rattle.ns_monitor.specs.Prelude.{AcquireLoad, ArmFlag, ArmToWait, Arrival, AsFresh, Await, AwaitWakeInWait, AwaitWakeToLeave, Cause, Changed, Ended, Flag, ForWait, HasReached, HasTakenAt, Home, Idle, IfEnded, InAcquire, InLeaving, InQueuing, InWait, IsAtPlace}
+use Rattle.ns_monitor.specs.Prelude.{Leave, LeaveLoad, LeaveSelf, Load, LoadFlag, LoadToScan, Look, LookOut, Looked, Made, On, OnCondition, OnVariables, Outcome, Performed, QueueToWait, SeatOf, Subject, Truths, Wait, Word, armed_place, arrival_of, found_back, got_of}
+use Rattle.ns_monitor.specs.Prelude.{home_of, is_limited, lacks_row, load_place, outcome_taken, rest_or_look, stands_at, the, wait_has_queues, woken_by}
 use Rattle.ns_gate.proofs.Calls.{goes}
-use Rattle.ns_gate.specs.Prelude.{SeatOf, IsAtPlace, HasReached, the, Performed, Truths, Home, stands_at, arrival_of, home_of, is_limited, outcome_taken, armed_place, got_of, AcquireLoad, ArmFlag, LoadFlag, Look, LeaveSelf, Flag, Looked, Made, Cause, Await, ForWait, AwaitWakeToLeave, Leave, LeaveLoad, Outcome, Ended, ArmToWait, Load, QueueToWait, Subject, OnCondition, OnVariables, Wait, AwaitWakeInWait, InLeaving, InQueuing, LookOut, Idle, On, InAcquire, InWait, Arrival, AsFresh, Word, LoadToScan, wait_has_queues}
-use Rattle.ns_gate.specs.declared.queues.Returning.TheVariants.{Changed}
-use Rattle.ns_word.specs.Waits.{woken_by}
-use Rattle.ns_word.specs.Walks.{load_place, rest_or_look}
 use Rattle.ns_monitor.proofs.Locks.{HasArmed, arms}
 use Rattle.ns_monitor.proofs.Tests.{moves_in}
-use Rattle.ns_monitor.specs.Prelude.{HasTakenAt, IfEnded, found_back, lacks_row}
 
 module _ {C : Type 0} where
   -- where a wait goes that has set its flag: to load the row, where it lacks it

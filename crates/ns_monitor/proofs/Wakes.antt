@@ -1,19 +1,13 @@
 -- A call that wakes, step by step: what it has in hand, and what it owes once the queues are back.
 use Rattle.std.proofs.Common.{◌≡◌, ℕ, Bool, true, false, cond, if◌then◌else◌, not, ◌&&◌, [], ◌∷◌, ◌++◌, List, None, Some, refl, ap, sym, ◌∙◌, subst}
+use Rattle.ns_monitor.specs.Prelude.{Broadcasting, CanStep, Carries, Event, HasAnswered, HasReached, HasReturnedWoken, HasSince, HasTakenAt, HasUnchangedQueues, HasWoken, HasWokenInHand, InSignal, IsAtPlace, IsOrderly, Known, Lists, LockState, On, Owed, Part, Performed}
+use Rattle.ns_monitor.specs.Prelude.{ReturnQueues, Saw, SeatOf, SignalLoad, Signaling, Succeeded, TableId, Truths, Turned, Waiter, WakeAndReturn, WakeWaiters, Waking, Walk, Woke, Word, bits_of, change_found, has_queues, has_some, is_held, is_held_by_one, known_of}
+use Rattle.ns_monitor.specs.Prelude.{lists_woken, owed_woken, part_of, pay_woken, rest, taken_by, taken_from, taken_set, the, wake_by, wake_event, wake_of, wakes_of, woken_nobody}
 use Rattle.ns_gate.proofs.Calls.{can_go, goes_on, works}
 use Rattle.ns_gate.proofs.Findings.{does}
 use Rattle.ns_gate.proofs.Stays.{HasKeptItsQueues, stays_by}
 use Rattle.ns_gate.proofs.Wakes.{found_nobody, moves_nobody, owes_the_woken, still_woken, takes_nobody, woken_found}
-use Rattle.ns_word.specs.declared.owed.Owed.{Owed}
-use Rattle.ns_word.specs.Owed.{wake_by, wakes_of}
-use Rattle.ns_gate.specs.Prelude.{SeatOf, HasAnswered, HasReached, HasSince, HasUnchangedQueues, IsAtPlace, IsOrderly, SignalLoad, TableId, woken_nobody, rest, the, Carries, CanStep, Performed, Truths, Lists, lists_woken, taken_from, bits_of, has_some, change_found, Event, LockState, Part, part_of, has_queues, owed_woken, is_held, ReturnQueues, WakeWaiters, Waking, Signaling, Broadcasting, Saw, Woke, WakeAndReturn, Succeeded, On, Walk, InSignal, Word}
-use Rattle.ns_gate.specs.declared.queues.Turned.{Turned}
 use Rattle.ns_monitor.proofs.Standing.{saw_keeps}
-use Rattle.ns_monitor.specs.Prelude.{HasReturnedWoken, HasTakenAt, HasWoken, HasWokenInHand, Known, is_held_by_one, known_of, wake_event}
-use Rattle.ns_queue.specs.Signals.{taken_set}
-use Rattle.ns_queue.specs.declared.waiter.Waiter.{Waiter}
-use Rattle.ns_word.specs.Steps.{taken_by, wake_of}
-use Rattle.ns_word.specs.Walks.{pay_woken}
 use Rattle.ns_word.specs.declared.request.Request.TheVariants as TheRequest
 
 -- two words of which one is held, or of which both are or neither

@@ -1,9 +1,6 @@
 -- A call that has begun, and has tried to go at once.
 use Rattle.std.specs.Prelude.{◌≡◌, ℕ, Some}
-use Rattle.atomic_table.specs.Seated.{TableId}
-use Rattle.ns_gate.specs.Calls.{HasSince, SeatOf}
-use Rattle.ns_gate.specs.Steps.{the}
-use Rattle.ns_word.specs.declared.walk.Walk.{Walk}
+use Rattle.ns_monitor.specs.Names.{HasSince, SeatOf, TableId, Walk, the}
 use Rattle.ns_monitor.specs.Known.{Known, known_of}
 use Rattle.ns_monitor.specs.Standing.{IsNumberOf}
 

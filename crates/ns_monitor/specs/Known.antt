@@ -1,26 +1,8 @@
 -- What contracts see of a caller, and how it grows.
 use Rattle.std.specs.Prelude.{◌≡◌, ℕ, Bool, true, not, List, [], ◌∷◌, ◌++◌, Option, None, Some}
-use Rattle.atomic_table.specs.Seated.{TableId}
-use Rattle.ns_model.specs.declared.event.Event.{Event}
-use Rattle.ns_model.specs.declared.event.Exit.TheVariants as TheExit
-use Rattle.ns_model.specs.declared.event.Mode.{Mode}
-use Rattle.ns_model.specs.Beginnings.{BeginsWith}
-use Rattle.ns_model.specs.Histories.{own as own_of, row_after}
-use Rattle.ns_model.specs.Truths.{Truths}
-use Rattle.ns_word.specs.declared.owed.Owed.{Owed}
-use Rattle.ns_word.specs.declared.view.Held.{Held}
-use Rattle.ns_word.specs.declared.walk.Walk.{Walk}
-use Rattle.ns_word.specs.Lawful.{IsLawful}
-use Rattle.ns_word.specs.declared.word.Releasing.{Releasing}
-use Rattle.ns_word.specs.Steps.{LockState, section_of}
-use Rattle.ns_word.specs.Words.{is_held}
-use Rattle.ns_word.specs.Meanings.{InHand, new_section}
+use Rattle.ns_monitor.specs.Names.{AreNewBy, AreOfOneHistoryBy, BeginsWith, Event, Held, InHand, IsLawful, IsTrueToHistory, Lists, LockState, Mode, Owed, Releasing, SeatOf, Sight, TableId, Truths, Walk, is_held, new_section, own_of, row_after, section_of, the}
 use Rattle.ns_monitor.specs.Walks.{releasing_by}
-use Rattle.ns_gate.specs.Calls.{SeatOf, IsTrueToHistory}
-use Rattle.ns_gate.specs.Steps.{the}
-use Rattle.ns_queue.specs.Queues.{Lists}
-use Rattle.ns_seats.specs.Sights.{Sight, AreOfOneHistory as AreOfOneHistoryBy}
-use Rattle.ns_seats.specs.Views.{AreNew as AreNewBy}
+use Rattle.ns_model.specs.declared.event.Exit.TheVariants as TheExit
 
 -- what contracts see of a seat or a section: its monitor, how many seats that has, its own number, the history that it has seen, its own events, the calls that it has begun, by their first places, the section in hand, the place in the call that is in progress, what it carries of the monitor, by number: the waiter queues, while it has them in hand, and the seats to which it owes wakes
 pub record Known (C : Type 0) (N : ℕ) : Type 0 where

@@ -2,6 +2,7 @@ pub mod Begun
 pub mod Known
 pub mod Limits
 pub mod Looks
+pub mod Names
 pub mod Polls
 pub mod Prelude
 pub mod Room

@@ -1,14 +1,6 @@
 -- What may end a wait early, and what a look has shown of it.
 use Rattle.std.specs.Prelude.{◌≡◌, ℕ, Option, IfSome, option_map}
-use Rattle.atomic_table.specs.Seated.{TableId}
-use Rattle.ns_model.specs.Beginnings.{BeginsWith}
-use Rattle.ns_model.specs.Environments.{IsMade}
-use Rattle.ns_note.specs.Answers.{LookAnswers}
-use Rattle.ns_note.specs.Known.{EnvKnown}
-use Rattle.ns_note.specs.declared.note.Note.{Note}
-use Rattle.ns_word.specs.Waits.{answer_of}
-use Rattle.ns_env.specs.declared.limits.Cause.{Cause}
-use Rattle.ns_env.specs.declared.limits.Limits.{Limits}
+use Rattle.ns_monitor.specs.Names.{BeginsWith, Cause, EnvKnown, IsMade, Limits, LookAnswers, Note, TableId, answer_of}
 
 -- the seat is of the environment, and has seen the note made that the limits name, if they name one
 pub record IsLooking (env : TableId) (seat : EnvKnown) (note : Option Note) (limits : Limits) : Type 0 where

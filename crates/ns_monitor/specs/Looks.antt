@@ -1,22 +1,9 @@
 -- What a look at a note and a deadline shows stays so: the laws of what watches for the end of a wait.
 use Rattle.std.proofs.Common.{◌≡◌, ℕ, List, Option, None, Some, IfSome, IsSome, option_map, refl, sym, ◌∙◌, subst}
-use Rattle.atomic_table.specs.Seated.{TableId}
+use Rattle.ns_monitor.specs.Names.{BeginsWith, Cause, EnvEvent, EnvKnown, Expired, HasLooked, IsMade, Limits, LookAnswers, MayShow, Note, Notified, TableId, TimedOut, answer_of, limits_by}
 use Rattle.ns_model.proofs.Beginnings.{begins_itself, begins_through}
-use Rattle.ns_model.specs.Beginnings.{BeginsWith}
-use Rattle.ns_model.specs.Environments.{IsMade}
-use Rattle.ns_model.specs.declared.environment.EnvEvent.{EnvEvent}
-use Rattle.ns_env.specs.Chains.{HasLooked}
 use Rattle.ns_monitor.specs.Limits.{HasLookedOn, IsLooking, LookShows}
 use Rattle.ns_monitor.specs.Several.{at_will}
-use Rattle.ns_note.specs.Answers.{limits_by, LookAnswers}
-use Rattle.ns_note.specs.Known.{EnvKnown}
-use Rattle.ns_note.specs.declared.note.Note.{Note}
-use Rattle.ns_model.specs.declared.event.Answer.TheVariants.{TimedOut}
-use Rattle.ns_word.specs.Steps.{MayShow}
-use Rattle.ns_word.specs.Waits.{answer_of}
-use Rattle.ns_env.specs.declared.limits.Cause.{Cause}
-use Rattle.ns_env.specs.declared.limits.Cause.TheVariants.{Expired, Notified}
-use Rattle.ns_env.specs.declared.limits.Limits.{Limits}
 
 -- ---- a seat that looks on
 

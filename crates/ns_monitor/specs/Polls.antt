@@ -1,7 +1,7 @@
 -- What came of asking whether a wait was woken.
 use Rattle.std.specs.Prelude.{ℕ}
-use Rattle.ns_monitor.specs.declared.several.AnyPoll.{AnyPoll}
-use Rattle.ns_monitor.specs.declared.several.AnyPoll.TheVariants.{Woken, Still}
+use Rattle.ns_monitor.specs.Names.{AnyPoll, Still}
+use Rattle.ns_monitor.specs.declared.several.AnyPoll.TheVariants.{Woken}
 
 -- where it was woken, this holds of the section and of the variable
 abbrev pub IfWoken : {S W : Type 0} → AnyPoll S W → (S → ℕ → Type 0) → Type 0

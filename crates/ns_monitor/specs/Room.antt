@@ -2,7 +2,7 @@
 use Rattle.std.specs.Prelude.{◌<◌, ◌^◌}
 use Rattle.std.proofs.Common.{arith}
 use Rattle.std.specs.contracts.option.Option.{the_row as option_row}
-use Rattle.ns_model.specs.Room.{room}
+use Rattle.ns_monitor.specs.Names.{room}
 use denote.Builtin.{u64}
 use denote.Param.{layout}
 use denote.RattleType.{RattleType}

@@ -1,11 +1,6 @@
 -- What a write section keeps of the row that it began at.
 use Rattle.std.specs.Prelude.{◌≡◌, ℕ, ◌<◌, List, true, Option, None, Some, length, slice_index, slice_index_or, slice_set, is_none, if◌then◌else◌}
-use Rattle.ns_model.specs.declared.event.Mode.{Mode}
-use Rattle.ns_model.specs.Truths.{Truths}
-use Rattle.ns_word.specs.Meanings.{InHand}
-use Rattle.ns_word.specs.declared.view.Held.{Held}
-use Rattle.ns_word.specs.declared.word.Releasing.{Releasing}
-use Rattle.ns_word.specs.declared.word.Releasing.TheVariants.{QuietWriter}
+use Rattle.ns_monitor.specs.Names.{Held, InHand, Mode, QuietWriter, Releasing, Truths}
 
 -- a cell's value as the section began: the one saved, or the one there is where none was
 abbrev pub value_before : Option ℕ → ℕ → ℕ

@@ -1,30 +1,8 @@
 -- Waits for any of several condition variables, as their caller sees them: begun, still waiting, and come back.
 use Rattle.std.specs.Prelude.{◌≡◌, ℕ, ◌<◌, ◌≤◌, List, [], ◌∷◌, ◌++◌, Option, None, Some, true}
-use Rattle.ns_env.specs.declared.limits.Limits.{Limits}
-use Rattle.ns_gate.specs.Calls.{SeatOf, IsAtPlace, IsTrueToHistory}
-use Rattle.ns_gate.specs.Steps.{the}
-use Rattle.ns_model.specs.Beginnings.{BeginsWith}
-use Rattle.ns_model.specs.Cvs.{is_in}
-use Rattle.ns_model.specs.Histories.{own as own_of, row_after}
-use Rattle.ns_model.specs.Truths.{Truths}
-use Rattle.ns_model.specs.declared.cvs.Cvs.{Cvs}
-use Rattle.ns_model.specs.declared.cvs.Variables.TheVariants.{Any}
-use Rattle.ns_model.specs.declared.event.Entry.TheVariants.{AfterAny}
-use Rattle.ns_model.specs.declared.event.Event.{Event}
-use Rattle.ns_model.specs.declared.event.Exit.TheVariants.{AnyWait}
-use Rattle.ns_model.specs.declared.event.Mode.{Mode}
+use Rattle.ns_monitor.specs.Names.{AfterAny, Any, AnyWait, AwaitWakeInWait, BeginsWith, Cvs, Event, Held, InHand, InWait, IsAtPlace, IsBack, IsLawful, IsTrueToHistory, Limits, LockState, Mode, OnVariables, SeatOf, SeatView, Truths, Wait, Walk, entry_of, is_in}
+use Rattle.ns_monitor.specs.Names.{leave_any_told, own_of, row_after, section_of, the, wait_first}
 use Rattle.ns_monitor.specs.Known.{Known}
-use Rattle.ns_word.specs.Lawful.{IsLawful}
-use Rattle.ns_word.specs.Meanings.{InHand, IsBack, leave_any_told}
-use Rattle.ns_word.specs.Steps.{LockState, entry_of, section_of}
-use Rattle.ns_word.specs.Walks.{wait_first}
-use Rattle.ns_word.specs.declared.view.Held.{Held}
-use Rattle.ns_word.specs.declared.view.SeatView.{SeatView}
-use Rattle.ns_word.specs.declared.wait.Subject.TheVariants.{OnVariables}
-use Rattle.ns_word.specs.declared.wait.Wait.{Wait}
-use Rattle.ns_word.specs.declared.wait.WaitPlace.TheVariants.{AwaitWakeInWait}
-use Rattle.ns_word.specs.declared.walk.Walk.{Walk}
-use Rattle.ns_word.specs.declared.walk.Walk.TheVariants.{InWait}
 
 -- What may end such a wait early: its caller, at any time. A deadline of 0 has always come.
 abbrev pub at_will : Limits

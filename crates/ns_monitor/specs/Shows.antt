@@ -1,17 +1,7 @@
 -- What a call shows of how the monitor stands.
 use Rattle.std.specs.Prelude.{◌≡◌, ℕ, false, List, ◌∷◌, ◌++◌}
-use Rattle.ns_gate.specs.Showing.{ShowsLists}
-use Rattle.ns_model.specs.declared.event.Event.{Event}
-use Rattle.ns_model.specs.Beginnings.{BeginsWith}
-use Rattle.ns_model.specs.Histories.{own as own_of}
-use Rattle.ns_model.specs.Truths.{Truths}
+use Rattle.ns_monitor.specs.Names.{BeginsWith, DebugState, Event, IsLawful, Lists, LockState, SeatView, ShowsLists, Truths, Word, own_of}
 use Rattle.ns_monitor.specs.Known.{Known}
-use Rattle.ns_monitor.specs.declared.showing.DebugState.{DebugState}
-use Rattle.ns_queue.specs.Queues.{Lists}
-use Rattle.ns_word.specs.declared.view.SeatView.{SeatView}
-use Rattle.ns_word.specs.declared.word.Word.{Word}
-use Rattle.ns_word.specs.Lawful.{IsLawful}
-use Rattle.ns_word.specs.Steps.{LockState}
 
 -- At one moment between what the caller had seen and what it has seen now, the lock was in a lawful state, with this word and these lists, which nobody had in hand; in it the caller had the section in hand that it has, and its own events were just those that it had done.
 pub record HasStood {C : Type 0} {N : ℕ} (truths : Truths C) (word : Word) (lists : Lists C) (old new : Known C N) : Type 0 where

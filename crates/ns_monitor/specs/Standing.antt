@@ -1,51 +1,11 @@
 -- What the loops of a call are told of the place at which it stands, and where they lead it.
 use Rattle.std.specs.Prelude.{◌≡◌, ℕ, ◌<◌, List, true, Bool, false, not, if◌then◌else◌, Option, None, Some, Result, Ok, Err}
-use Rattle.ns_gate.specs.Calls.{SeatOf, IsAtPlace, HasReached}
-use Rattle.ns_gate.specs.Steps.{the, Carries, HasMadeBoth, HasUnchangedQueues, Performed, found_returned, lists_returned, some_returned}
-use Rattle.ns_gate.specs.declared.queues.Returning.{Returning}
-use Rattle.ns_gate.specs.declared.queues.Returning.TheVariants.{Changed, Released, Waited}
-use Rattle.ns_gate.specs.declared.queues.Turned.{Turned}
-use Rattle.ns_model.specs.Truths.{Truths}
-use Rattle.ns_queue.specs.Queues.{IsOrderly}
-use Rattle.ns_queue.specs.Scans.{woken_of}
-use Rattle.ns_word.specs.Owed.{called_of}
-use Rattle.ns_word.specs.declared.owed.Owed.{Owed}
-use Rattle.ns_word.specs.declared.wait.Home.TheVariants.{AtLock}
-use Rattle.ns_word.specs.Finds.{row_in}
-use Rattle.ns_word.specs.Steps.{meets_at}
-use Rattle.ns_word.specs.declared.act.Change.TheVariants.{QueueSelf, LeaveSelf, Nothing}
-use Rattle.ns_word.specs.declared.act.Found.{Found}
-use Rattle.ns_monitor.specs.declared.going.Going.{Going}
-use Rattle.ns_monitor.specs.declared.going.Going.TheVariants.{Acquiring, Leaving, Changing}
-use Rattle.ns_word.specs.Asked.{asked_of, request_for}
-use Rattle.ns_word.specs.Codec.{IsPackable}
-use Rattle.ns_word.specs.Lists.{bits_of}
-use Rattle.ns_word.specs.Waits.{home_of, mode_for}
-use Rattle.ns_word.specs.Walks.{want_of, got_of, has_queues, acquire_by, acquired_for, release_by, scan_place}
-use Rattle.ns_word.specs.Words.{may_acquire, needs_scan}
-use Rattle.ns_word.specs.declared.act.Act.{Act}
-use Rattle.ns_word.specs.declared.act.Act.TheVariants.{LoadWord, LoadFlag, PayWake, Acquire, Release}
-use Rattle.ns_word.specs.declared.act.Found.TheVariants.{Flag, Paid, Saw}
-use Rattle.ns_word.specs.declared.acquire_walk.AcquirePlace.TheVariants.{AcquireLoad, AcquireExchange, TakeToQueue, Arm, Queue}
-use Rattle.ns_word.specs.declared.release_walk.ReleasePlace.{ReleasePlace}
-use Rattle.ns_word.specs.declared.release_walk.ReleasePlace.TheVariants.{ReleaseLoad, ReleaseExchange, TakeToScan, ScanAndRelease}
+use Rattle.ns_monitor.specs.Names.{Acquire, AcquireExchange, AcquireLoad, Acquiring, Act, Aim, Arm, ArmToWait, Arrival, AtLock, Carries, Changed, Changing, Done, Flag, Found, Going, HasMadeBoth, HasReached, HasUnchangedQueues, Idle, InAcquire, InLeaving, InQueuing}
+use Rattle.ns_monitor.specs.Names.{InRelease, InShow, InSignal, InWait, IsAtPlace, IsOrderly, IsPackable, Leave, LeaveLoad, LeaveSelf, Leaving, Load, LoadFlag, LoadWord, Next, Nothing, On, Owed, Paid, PayWake, Performed, Queue, QueueSelf, QueueToWait, Release}
+use Rattle.ns_monitor.specs.Names.{ReleaseExchange, ReleaseLoad, ReleasePlace, Released, Releasing, ReturnShown, Returning, Saw, ScanAndRelease, SeatOf, SignalLoad, Succeeded, Take, TakeToLeave, TakeToQueue, TakeToScan, TakeToWake, Taking, ToChange, ToQueue, Truths}
+use Rattle.ns_monitor.specs.Names.{Turned, Waited, WakeAndReturn, Walk, Word, acquire_by, acquired_for, asked_of, bits_of, called_of, found_returned, got_of, has_queues, home_of, lists_returned, may_acquire, meets_at, mode_for, needs_scan, release_by, request_for}
+use Rattle.ns_monitor.specs.Names.{row_in, scan_place, some_returned, the, want_of, woken_of}
 use Rattle.ns_word.specs.declared.request.Request.TheVariants as TheRequest
-use Rattle.ns_word.specs.declared.wait.Aim.{Aim}
-use Rattle.ns_word.specs.declared.word.Arrival.{Arrival}
-use Rattle.ns_word.specs.declared.word.Releasing.{Releasing}
-use Rattle.ns_word.specs.declared.show_walk.ShowPlace.TheVariants.{ReturnShown}
-use Rattle.ns_word.specs.declared.signal_walk.SignalPlace.TheVariants.{SignalLoad, TakeToWake, WakeAndReturn}
-use Rattle.ns_word.specs.declared.wait.LeavePlace.TheVariants.{LeaveLoad, TakeToLeave, Leave}
-use Rattle.ns_word.specs.declared.wait.QueuePlace.TheVariants.{Load, Take, ArmToWait, QueueToWait}
-use Rattle.ns_word.specs.declared.wait.WaitPlace.TheVariants.{InQueuing, InLeaving}
-use Rattle.ns_word.specs.declared.walk.Next.{Next}
-use Rattle.ns_word.specs.declared.walk.Next.TheVariants.{On, Idle, Done}
-use Rattle.ns_word.specs.declared.walk.Reply.TheVariants.{Succeeded}
-use Rattle.ns_word.specs.declared.walk.Walk.{Walk}
-use Rattle.ns_word.specs.declared.walk.Walk.TheVariants.{InAcquire, InRelease, InWait, InSignal, InShow}
-use Rattle.ns_word.specs.declared.word.Taking.{Taking}
-use Rattle.ns_word.specs.declared.word.Taking.TheVariants.{ToChange, ToQueue}
-use Rattle.ns_word.specs.declared.word.Word.{Word}
 
 -- the seat's number, as its caller has it at hand
 abbrev pub IsNumberOf : {C : Type 0} {N : ℕ} → ℕ → SeatOf C N → Type 0

@@ -1,33 +1,8 @@
 -- How a call loads the cells of the row one after another, and what the test of a wait tells.
 use Rattle.std.specs.Prelude.{◌≡◌, ℕ, ◌-◌, ◌<◌, if◌then◌else◌, List, length, slice_index, Bool, false, Option, None, Some}
-use Rattle.ns_gate.specs.Calls.{SeatOf, HasSince, IsAtPlace, IsAtRest, HasReached}
-use Rattle.ns_gate.specs.Law.{GateView}
-use Rattle.ns_gate.specs.Steps.{the, HasUnchangedQueues}
-use Rattle.ns_model.specs.Truths.{Truths}
-use Rattle.ns_model.specs.declared.event.Answer.TheVariants.{Met}
-use Rattle.ns_queue.specs.Scans.{left_of, woken_of}
-use Rattle.ns_queue.specs.declared.waiter.Waiter.{Waiter}
-use Rattle.ns_word.specs.Begins.{IsFirst}
-use Rattle.ns_word.specs.Steps.{meets_at}
-use Rattle.ns_word.specs.declared.wait.Subject.{Subject}
-use Rattle.ns_word.specs.declared.wait.Subject.TheVariants.{OnCondition, OnVariables}
-use Rattle.ns_word.specs.declared.word.Word.{Word}
-use Rattle.ns_word.specs.Finds.{row_in}
-use Rattle.ns_word.specs.Places.{HasMode, PlaceFits}
-use Rattle.ns_word.specs.Walks.{load_place, quiet_place, scan_place, test_place, unmet_by, wait_first}
-use Rattle.ns_word.specs.declared.cell_walk.CellPlace.TheVariants.{QuietCells, QuietLast}
-use Rattle.ns_word.specs.declared.release_walk.ReleasePlace.TheVariants.{ScanCells, ScanAndRelease}
-use Rattle.ns_word.specs.declared.request.Request.TheVariants.{Await}
-use Rattle.ns_word.specs.declared.wait.QueuePlace.TheVariants.{LoadToScan, QueueToWait}
-use Rattle.ns_word.specs.declared.wait.Visit.{Visit}
-use Rattle.ns_word.specs.declared.wait.Visit.TheVariants.{OnEntry}
-use Rattle.ns_word.specs.declared.wait.Wait.{Wait}
-use Rattle.ns_word.specs.declared.wait.WaitPlace.TheVariants.{TestCells, TestLast, InQueuing}
-use Rattle.ns_word.specs.declared.walk.Next.{Next}
-use Rattle.ns_word.specs.declared.walk.Next.TheVariants.{Done}
-use Rattle.ns_word.specs.declared.walk.Reply.TheVariants.{Answered}
-use Rattle.ns_word.specs.declared.walk.Walk.{Walk}
-use Rattle.ns_word.specs.declared.walk.Walk.TheVariants.{InRelease, InCells, InWait}
+use Rattle.ns_monitor.specs.Names.{Answered, Await, Done, GateView, HasMode, HasReached, HasSince, HasUnchangedQueues, InCells, InQueuing, InRelease, InWait, IsAtPlace, IsAtRest, IsFirst, LoadToScan, Met, Next, OnCondition, OnEntry, OnVariables, PlaceFits, QueueToWait}
+use Rattle.ns_monitor.specs.Names.{QuietCells, QuietLast, ScanAndRelease, ScanCells, SeatOf, Subject, TestCells, TestLast, Truths, Visit, Wait, Waiter, Walk, Word, left_of, load_place, meets_at, quiet_place, row_in, scan_place, test_place, the, unmet_by, wait_first}
+use Rattle.ns_monitor.specs.Names.{woken_of}
 
 -- ---- cells one after another
 

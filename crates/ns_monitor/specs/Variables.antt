@@ -1,20 +1,7 @@
 -- What a wait for a condition variable tells once it is over, and what a signal or a broadcast does, as its caller sees it.
 use Rattle.std.specs.Prelude.{◌≡◌, ℕ, [], ◌∷◌, ◌++◌}
-use Rattle.ns_model.specs.Histories.{row_after}
-use Rattle.ns_model.specs.Sections.{is_met}
-use Rattle.ns_model.specs.Truths.{Truths}
-use Rattle.ns_model.specs.declared.event.Answer.{Answer}
-use Rattle.ns_model.specs.declared.event.Entry.TheVariants.{AfterCv}
-use Rattle.ns_model.specs.declared.event.Event.{Event}
-use Rattle.ns_model.specs.declared.event.Event.TheVariants.{Signal, Broadcast}
-use Rattle.ns_model.specs.declared.event.Exit.TheVariants.{CvWait}
-use Rattle.ns_model.specs.declared.seats.Seats.{Seats}
+use Rattle.ns_monitor.specs.Names.{AfterCv, Answer, Broadcast, Broadcasting, CvWait, Event, Held, InHand, IsBack, Seats, Signal, Signaling, Truths, Waking, entry_of, is_met, leave_told, row_after, section_of}
 use Rattle.ns_monitor.specs.Known.{Known}
-use Rattle.ns_word.specs.Meanings.{InHand, IsBack, leave_told}
-use Rattle.ns_word.specs.Steps.{entry_of, section_of}
-use Rattle.ns_word.specs.declared.act.Waking.{Waking}
-use Rattle.ns_word.specs.declared.act.Waking.TheVariants.{Signaling, Broadcasting}
-use Rattle.ns_word.specs.declared.view.Held.{Held}
 
 -- The section that was in hand was committed, with the wait for the variable as its exit, and behind it, unless the answer says that the caller was woken, that it left the variable; nothing else. A section in the same mode is in hand, at the row after all that the caller has seen, with nothing changed in it, which says just this answer of the wait.
 pub record HasComeBackFrom {C : Type 0} {N : ℕ} (truths : Truths C) (k : ℕ) (answer : Answer) (was back : Held C N) (old new : Known C N) : Type 0 where

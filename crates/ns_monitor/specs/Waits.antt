@@ -1,35 +1,9 @@
 -- How far the parts of a wait have come, and what it tells once it is over.
 use Rattle.std.specs.Prelude.{◌≡◌, ◌≢◌, ℕ, ◌⊎◌, Bool, false, List, [], ◌∷◌, ◌++◌, Option, None, Some, Result, Ok, Err}
-use Rattle.ns_gate.specs.Calls.{SeatOf, HasAnswered, IsAtPlace, HasReached}
-use Rattle.ns_gate.specs.Steps.{the}
-use Rattle.ns_model.specs.Histories.{row_after}
-use Rattle.ns_model.specs.Sections.{is_met}
-use Rattle.ns_model.specs.Truths.{Truths}
-use Rattle.ns_model.specs.declared.environment.EnvEvent.{EnvEvent}
-use Rattle.ns_model.specs.declared.event.Answer.{Answer}
-use Rattle.ns_model.specs.declared.event.Answer.TheVariants.{Met, TimedOut, Canceled}
+use Rattle.ns_monitor.specs.Names.{Answer, Answered, Await, AwaitWakeInWait, Canceled, Cause, CondWait, Ended, EnvEvent, Expired, Flag, HasAnswered, HasReached, Held, InHand, InLeaving, InQueuing, InWait, IsAtPlace, IsBack, LeaveLoad, Load, LookAnswers, Met, Note}
+use Rattle.ns_monitor.specs.Names.{Notified, Outcome, SeatOf, TimedOut, Truths, Wait, Woken, answer_of, entry_of, got_of, is_met, row_after, section_of, the}
 use Rattle.ns_model.specs.declared.event.Entry.TheVariants.{Waited}
-use Rattle.ns_model.specs.declared.event.Exit.TheVariants.{CondWait}
 use Rattle.ns_monitor.specs.Known.{Known}
-use Rattle.ns_note.specs.Answers.{LookAnswers}
-use Rattle.ns_note.specs.declared.note.Note.{Note}
-use Rattle.ns_word.specs.Meanings.{InHand, IsBack}
-use Rattle.ns_word.specs.Steps.{entry_of, section_of}
-use Rattle.ns_word.specs.Waits.{answer_of}
-use Rattle.ns_env.specs.declared.limits.Cause.TheVariants.{Expired, Notified}
-use Rattle.ns_word.specs.declared.view.Held.{Held}
-use Rattle.ns_word.specs.declared.wait.QueuePlace.TheVariants.{Load}
-use Rattle.ns_word.specs.declared.walk.Reply.TheVariants.{Answered}
-use Rattle.ns_word.specs.Walks.{got_of}
-use Rattle.ns_word.specs.declared.act.Found.TheVariants.{Flag}
-use Rattle.ns_env.specs.declared.limits.Cause.{Cause}
-use Rattle.ns_word.specs.declared.request.Request.TheVariants.{Await}
-use Rattle.ns_word.specs.declared.wait.LeavePlace.TheVariants.{LeaveLoad}
-use Rattle.ns_word.specs.declared.wait.Outcome.{Outcome}
-use Rattle.ns_word.specs.declared.wait.Outcome.TheVariants.{Woken, Ended}
-use Rattle.ns_word.specs.declared.wait.Wait.{Wait}
-use Rattle.ns_word.specs.declared.wait.WaitPlace.TheVariants.{AwaitWakeInWait, InLeaving, InQueuing}
-use Rattle.ns_word.specs.declared.walk.Walk.TheVariants.{InWait}
 
 -- this is so of what has ended a wait early, if anything has
 abbrev pub IfEnded : Outcome → (Cause → Type 0) → Type 0

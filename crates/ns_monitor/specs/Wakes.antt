@@ -1,17 +1,7 @@
 -- What a call that wakes has in hand, and what it owes once the queues are back.
 use Rattle.std.specs.Prelude.{◌≡◌, ℕ, Bool, not, ◌&&◌, if◌then◌else◌}
-use Rattle.ns_gate.specs.Calls.{SeatOf, HasReached}
-use Rattle.ns_gate.specs.Steps.{the, Carries}
-use Rattle.ns_gate.specs.Wakes.{lists_woken, owed_woken, taken_from}
-use Rattle.ns_gate.specs.declared.queues.Turned.{Turned}
-use Rattle.ns_model.specs.Truths.{Truths}
-use Rattle.ns_queue.specs.Queues.{Lists}
-use Rattle.ns_word.specs.Lists.{bits_of, has_some}
-use Rattle.ns_word.specs.Walks.{pay_woken}
-use Rattle.ns_word.specs.Words.{is_held}
-use Rattle.ns_word.specs.declared.act.Waking.{Waking}
+use Rattle.ns_monitor.specs.Names.{Carries, HasReached, Lists, SeatOf, Truths, Turned, Waking, Word, bits_of, has_some, is_held, lists_woken, owed_woken, pay_woken, taken_from, the}
 use Rattle.ns_word.specs.declared.request.Request.TheVariants as TheRequest
-use Rattle.ns_word.specs.declared.word.Word.{Word}
 
 -- the lock is held by one of two words and free by the other
 abbrev pub is_held_by_one : Word → Word → Bool

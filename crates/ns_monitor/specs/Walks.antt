@@ -1,25 +1,7 @@
 -- The first place of each call of a monitor, by which a caller's calls are told.
 use Rattle.std.specs.Prelude.{ℕ, Option, option_map}
-use Rattle.ns_model.specs.declared.event.Mode.{Mode}
-use Rattle.ns_word.specs.declared.cell_walk.CellPlace.TheVariants.{GetLoad, SetLoad}
-use Rattle.ns_note.specs.declared.note.Note.{Note}
-use Rattle.ns_word.specs.Walks.{quiet_first, wait_first}
-use Rattle.ns_env.specs.declared.limits.Limits.{Limits}
-use Rattle.ns_model.specs.declared.cvs.Variables.TheVariants.{Only}
-use Rattle.ns_word.specs.declared.wait.Subject.TheVariants.{OnCondition, OnVariables}
-use Rattle.ns_word.specs.declared.wait.Wait.{Wait}
-use Rattle.ns_word.specs.declared.cell_walk.Judging.TheVariants.{ToTell}
-use Rattle.ns_word.specs.declared.release_walk.ReleasePlace.TheVariants.{ReleaseLoad}
-use Rattle.ns_word.specs.declared.acquire_walk.AcquirePlace.TheVariants.{AcquireLoad}
-use Rattle.ns_word.specs.declared.wait.Aim.TheVariants.{ForLock}
-use Rattle.ns_word.specs.declared.word.Arrival.TheVariants.{AsFresh}
-use Rattle.ns_word.specs.declared.try_walk.TryPlace.TheVariants.{TryLoad}
-use Rattle.ns_word.specs.declared.walk.Walk.{Walk}
-use Rattle.ns_word.specs.declared.act.Waking.{Waking}
-use Rattle.ns_word.specs.declared.show_walk.ShowPlace.TheVariants.{ShowLoad}
-use Rattle.ns_word.specs.declared.signal_walk.SignalPlace.TheVariants.{SignalLoad}
-use Rattle.ns_word.specs.declared.walk.Walk.TheVariants.{InTry, InAcquire, InRelease, InCells, InSignal, InShow}
-use Rattle.ns_word.specs.declared.word.Releasing.{Releasing}
+use Rattle.ns_monitor.specs.Names.{AcquireLoad, AsFresh, ForLock, GetLoad, InAcquire, InCells, InRelease, InShow, InSignal, InTry, Limits, Mode, Note, OnCondition, OnVariables, Only, ReleaseLoad, Releasing, SetLoad, ShowLoad, SignalLoad, ToTell, TryLoad, Wait, Waking}
+use Rattle.ns_monitor.specs.Names.{Walk, quiet_first, wait_first}
 
 -- a try for this mode
 abbrev pub trying : {C : Type 0} → Mode → Walk C

@@ -1,31 +1,17 @@
 -- The steps, as the table asks for them.
 use Rattle.std.proofs.Common.{◌≡◌, ◌≢◌, ℕ, ◌+◌, ◌-◌, ◌%◌, ◌^◌, ◌<◌, ◌≤◌, max, List, [], ◌∷◌, ◌++◌, set, slice_index, Option, sym, refl, ap, ◌∙◌, subst, arith, eq-eqb, bit_or}
+use Rattle.ns_note.specs.Prelude.{Adding, Allows, CanAct, EnvAct, EnvEvent, EnvPlain, EnvView, Every, FoundWord, Holds, IsLawful, IsMade, IsNoteWord, IsOne, IsRuled, IsWordAt, LoadClock, LoadNext, LoadNote, Me, MoveClock, NoteStanding, Nothing, NotifyNote, OneActs}
+use Rattle.ns_note.specs.Prelude.{OneMakes, ParentFits, StoreNote, TakeNext, Taken, ViewFits, Views, WordFits, acted, adds, env_after, events_of, is_adding, is_seat, keeps, made_note, note_of, note_stored, notified_note, one_if, outcome, state_of, tally, the, total}
+use Rattle.ns_note.specs.Prelude.{word_at, word_of}
 use mathlib.Core.Option.{some}
 use lib.ListN.{get_elem?}
-use Rattle.atomic_table.specs.Table.{Me, keeps, Allows}
 use Rattle.atomic_table.proofs.Lists.{set_again}
-use Rattle.ns_model.specs.declared.environment.EnvEvent.{EnvEvent}
-use Rattle.ns_model.specs.Environments.{NoteStanding, ParentFits, made_note, notified_note, env_after, IsMade}
-use Rattle.ns_model.specs.Tallies.{total, Every, one_if}
 use Rattle.ns_model.proofs.Environments.{but-here}
 use Rattle.ns_model.proofs.Tallies.{total_set, total_most, total_none, Others, every_at, others_of, others_both, others_map, others_none, every_put}
-use Rattle.ns_env.specs.declared.act.EnvAct.{EnvAct}
-use Rattle.ns_env.specs.declared.act.EnvAct.TheVariants.{LoadNext, TakeNext, StoreNote, NotifyNote, MoveClock, LoadClock, LoadNote}
-use Rattle.ns_env.specs.declared.view.EnvView.{EnvView}
-use Rattle.ns_env.specs.declared.view.Making.TheVariants.{Nothing, Adding, Taken}
-use Rattle.ns_env.specs.Acted.{events_of, acted}
-use Rattle.ns_env.specs.Lawful.{adds, IsLawful, ViewFits}
-use Rattle.ns_env.specs.Notes.{state_of}
-use Rattle.ns_env.specs.Steps.{EnvPlain, outcome, CanAct}
 use Rattle.ns_env.proofs.Acts.{acted_lawful, acted_fits, others_fit, has_acted}
 use Rattle.ns_env.proofs.Keeps.{adds_most}
-use Rattle.ns_note.specs.Known.{the}
-use Rattle.ns_note.specs.Law.{Views, is_adding, is_seat, IsNoteWord, word_at, IsWordAt, IsRuled, Holds}
-use Rattle.ns_note.specs.Told.{FoundWord, OneActs, OneMakes, note_stored}
-use Rattle.ns_note.specs.Words.{WordFits, word_of, note_of}
 use Rattle.ns_note.proofs.Codec.{note_of-word_of, marked}
 use Rattle.ns_note.proofs.Words.{bell_set, word_found, word_set}
-use Rattle.ns_seats.specs.Views.{IsOne, tally}
 
 seat_one : (seat : ℕ) (v : EnvView) → v.seat ≡ seat → is_seat seat v ≡ 1
 seat_one seat v is = ap one_if (eq-eqb v.seat seat is)

@@ -2,8 +2,7 @@
 use Rattle.std.proofs.Common.{◌≡◌, ℕ, suc, ◌+◌, ◌-◌, ◌*◌, ◌/◌, ◌%◌, ◌^◌, ◌<◌, ◌≤◌, Bool, true, false, eqb, Option, None, Some, IfSome, refl, ap, ◌∙◌, arith, ne_eqb, le-ltb, bit_and, bit_or, if◌then◌else◌}
 use Rattle.std.specs.Int.Bits.{or_add_and}
 use Rattle.std.proofs.lemmas.Nat.{and_mask}
-use Rattle.ns_env.specs.declared.note.NoteWord.{NoteWord}
-use Rattle.ns_note.specs.Words.{flag, parent_code, deadline_code, WordFits, word_of, parent_at, deadline_at, note_of}
+use Rattle.ns_note.specs.Prelude.{NoteWord, WordFits, deadline_at, deadline_code, flag, note_of, parent_at, parent_code, word_of}
 
 flag_most : (b : Bool) → flag b ≤ 1
 flag_most true = omega arith

@@ -1,15 +1,8 @@
 -- What calls that look may answer.
 use Rattle.std.proofs.Common.{◌≡◌, ℕ, ◌<◌, ◌≤◌, Bool, true, false, List, Option, None, Some, IfSome, IsSomeAnd, option_map, refl, sym, subst}
-use Rattle.ns_model.specs.declared.environment.EnvEvent.{EnvEvent}
-use Rattle.ns_model.specs.declared.event.Answer.{Answer}
-use Rattle.ns_model.specs.declared.event.Answer.TheVariants.{Met, TimedOut, Canceled}
-use Rattle.ns_model.specs.Beginnings.{BeginsWith, IsBetween}
-use Rattle.ns_model.specs.Environments.{is_due, is_notified, IsNotified, clock_of}
+use Rattle.ns_note.specs.Prelude.{Answer, BeginsWith, Canceled, EnvEvent, IsBetween, IsNotified, IsUnnotified, LookAnswers, Met, Note, TimedOut, clock_of, is_due, is_notified}
 use Rattle.ns_model.proofs.Beginnings.{begins_itself, begins_through}
-use Rattle.ns_env.specs.Chains.{IsUnnotified}
 use Rattle.ns_env.proofs.Chains.{due_is, not_due_is}
-use Rattle.ns_note.specs.declared.note.Note.{Note}
-use Rattle.ns_note.specs.Answers.{LookAnswers}
 
 -- a true answer is of the last point, a false one of the point at which the clock was loaded
 pub notified_at : (answer : Bool) (old middle new : List EnvEvent) (note : ℕ) → BeginsWith middle old → BeginsWith new middle → (answer ≡ true → IsNotified new note) → (answer ≡ false → is_notified middle note ≡ false)

@@ -1,26 +1,11 @@
 -- A seat after a step.
 use Rattle.std.proofs.Common.{◌≡◌, ℕ, ◌<◌, ◌≤◌, nat_lt, true, false, cond, arith, Option, None, Some, IfSome, option_map, List, [], ◌∷◌, ◌++◌, sym, refl, ap, ◌∙◌, subst, append_assoc, append-nil}
 use Rattle.std.proofs.lemmas.Bool.Decides.{nat_tests}
-use Rattle.atomic_table.specs.Seated.{TableId}
-use Rattle.atomic_table.specs.Table.{Me}
-use Rattle.ns_model.specs.declared.environment.EnvEvent.{EnvEvent}
-use Rattle.ns_model.specs.declared.environment.EnvEvent.TheVariants.{Take, New}
+use Rattle.ns_note.specs.Prelude.{Adding, Adds, EnvAct, EnvEvent, EnvKnown, EnvStanding, EnvView, FoundFull, FoundWord, Grows, HasTakenNumber, IsAtRest, IsClockWord, IsEnvBySeats, IsLegalEnv, IsMade, IsNumberOf, IsOne, LoadClock, LoadNext, Me, New, Note, NoteStanding}
+use Rattle.ns_note.specs.Prelude.{NoteWord, Nothing, ParentFits, StoreNote, TableId, Take, TakeNext, Taken, clock_of, env_after, events_of, known_of, made_note, note_of, takes_in, the}
 use Rattle.ns_model.proofs.Beginnings.{begins_through}
-use Rattle.ns_model.specs.Environments.{NoteStanding, EnvStanding, ParentFits, made_note, IsLegalEnv, IsEnvBySeats, env_after, clock_of, takes_in, IsMade}
 use Rattle.ns_model.proofs.Environments.{sound_after, grown_begins, made_begins, but-here}
-use Rattle.ns_env.specs.declared.act.EnvAct.{EnvAct}
-use Rattle.ns_env.specs.declared.act.EnvAct.TheVariants.{LoadNext, TakeNext, StoreNote, LoadClock}
-use Rattle.ns_env.specs.declared.note.NoteWord.{NoteWord}
-use Rattle.ns_env.specs.declared.view.EnvView.{EnvView}
-use Rattle.ns_env.specs.declared.view.Making.TheVariants.{Nothing, Adding, Taken}
-use Rattle.ns_env.specs.Acted.{events_of}
 use Rattle.ns_env.proofs.Keeps.{after_one}
-use Rattle.ns_note.specs.declared.note.Note.{Note}
-use Rattle.ns_note.specs.Known.{EnvKnown, known_of, the, IsAtRest, IsNumberOf, Grows}
-use Rattle.ns_note.specs.Law.{IsClockWord}
-use Rattle.ns_note.specs.Told.{FoundWord, Adds, HasTakenNumber, FoundFull}
-use Rattle.ns_note.specs.Words.{note_of}
-use Rattle.ns_seats.specs.Views.{IsOne}
 
 -- ---- what a step tells
 

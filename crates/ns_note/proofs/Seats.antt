@@ -1,24 +1,11 @@
 -- Seats of a new environment, and seats that meet.
 use Rattle.std.proofs.Common.{◌≡◌, ℕ, zero, suc, ◌+◌, ◌≤◌, eqb, List, [], ◌∷◌, replicate, sym, refl, ◌∙◌, subst, arith, append-nil}
-use Rattle.atomic_table.specs.Seated.{TableId}
-use Rattle.atomic_table.specs.Table.{Me, Allows}
-use Rattle.ns_model.specs.declared.environment.EnvEvent.{EnvEvent}
-use Rattle.ns_model.specs.Environments.{IsLegalEnv, IsEnvBySeats, env_own}
-use Rattle.ns_model.specs.Tallies.{total, Every, one_if}
+use Rattle.ns_note.specs.Prelude.{Adds, Allows, ArePair, EnvEvent, EnvView, Every, HasSight, HaveLearned, Holds, IsBySums, IsEnvBySeats, IsLawful, IsLegalEnv, IsRuled, Learned, Making, Me, TableId, ViewFits, adds, env_own, fresh, fresh_plain, fresh_seat, is_adding}
+use Rattle.ns_note.specs.Prelude.{known_of, one_if, sight_of, tally, total}
 use Rattle.ns_model.proofs.Beginnings.{begins_itself}
 use Rattle.ns_model.proofs.Environments.{env_own-append}
-use Rattle.ns_env.specs.declared.view.EnvView.{EnvView}
-use Rattle.ns_env.specs.declared.view.Making.{Making}
-use Rattle.ns_env.specs.Lawful.{adds, IsLawful, ViewFits}
-use Rattle.ns_env.specs.Steps.{fresh_plain}
 use Rattle.ns_env.proofs.Begins.{new_lawful}
-use Rattle.ns_note.specs.Known.{known_of, sight_of}
-use Rattle.ns_note.specs.Law.{is_adding, IsRuled, fresh_seat, fresh, Holds}
-use Rattle.ns_note.specs.Told.{Adds, HaveLearned, Learned}
 use Rattle.ns_note.proofs.Words.{zeros_are}
-use Rattle.ns_seats.specs.Meetings.{IsBySums}
-use Rattle.ns_seats.specs.Sights.{HasSight}
-use Rattle.ns_seats.specs.Views.{ArePair, tally}
 use Rattle.ns_seats.proofs.Meetings.{learns as joined_learn}
 use Rattle.ns_seats.proofs.Numbered.{none_twice, numbered_count}
 use Rattle.ns_seats.proofs.Sights.{one_history}

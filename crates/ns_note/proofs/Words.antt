@@ -2,13 +2,8 @@
 use Rattle.std.proofs.Common.{◌≡◌, ◌≢◌, ℕ, ◌+◌, ◌<◌, ◌≤◌, List, length, get_or, set, replicate, zero, suc, inl, inr, refl, sym, ◌∙◌, subst, arith, length-set, get_or-set_same, get_or-set_other}
 use Rattle.std.proofs.lemmas.Bool.{cases_eq}
 use Rattle.std.proofs.lemmas.List.{length-replicate}
-use Rattle.ns_model.specs.Environments.{NoteStanding, but_at, notified_note, made_note}
+use Rattle.ns_note.specs.Prelude.{AreWordsOf, EnvAct, EnvPlain, IsClockWord, IsNoteWord, IsWordAt, LoadClock, LoadNext, LoadNote, MoveClock, NoteStanding, NotifyNote, StoreNote, TakeNext, but_at, fresh_plain, made_note, notified_note, outcome, state_of, word_at}
 use Rattle.ns_model.proofs.Environments.{but-there}
-use Rattle.ns_env.specs.declared.act.EnvAct.{EnvAct}
-use Rattle.ns_env.specs.declared.act.EnvAct.TheVariants.{LoadNext, TakeNext, StoreNote, NotifyNote, MoveClock, LoadClock, LoadNote}
-use Rattle.ns_env.specs.Notes.{state_of}
-use Rattle.ns_env.specs.Steps.{EnvPlain, fresh_plain, outcome}
-use Rattle.ns_note.specs.Law.{IsClockWord, IsNoteWord, AreWordsOf, word_at, IsWordAt}
 
 module _ (plain : EnvPlain) (words : List ℕ) (are : AreWordsOf plain words) where
   clock_set : (clock word : ℕ) → IsClockWord word clock → AreWordsOf (record plain { clock = clock }) (set words 0 word)

@@ -1,12 +1,6 @@
 -- What the calls that look at a note or a deadline answer, of the history that the seat had seen and the one that it has.
 use Rattle.std.specs.Prelude.{ℕ, Bool, List, Option, None, Some, option_map}
-use Rattle.ns_model.specs.declared.environment.EnvEvent.{EnvEvent}
-use Rattle.ns_model.specs.declared.event.Answer.{Answer}
-use Rattle.ns_model.specs.declared.event.Answer.TheVariants.{Met, TimedOut, Canceled}
-use Rattle.ns_env.specs.declared.limits.Cause.TheVariants.{Expired, Notified}
-use Rattle.ns_env.specs.declared.limits.Limits.{Limits}
-use Rattle.ns_env.specs.Chains.{HasLooked, HasWaited}
-use Rattle.ns_env.specs.Meanings.{AtSomePoint}
+use Rattle.ns_note.specs.Names.{Answer, AtSomePoint, Canceled, EnvEvent, Expired, HasLooked, HasWaited, Limits, Met, Notified, TimedOut}
 use Rattle.ns_note.specs.declared.note.Note.{Note}
 
 -- what a look goes by that is given this note and this deadline

@@ -1,15 +1,7 @@
 -- What a seat knows, and how it grows.
 use Rattle.std.specs.Prelude.{◌≡◌, ◌<◌, ℕ, List, []}
-use Rattle.atomic_table.specs.Seated.{TableId}
-use Rattle.atomic_table.specs.Table.{Me}
-use Rattle.ns_model.specs.declared.environment.EnvEvent.{EnvEvent}
-use Rattle.ns_model.specs.Beginnings.{BeginsWith}
-use Rattle.ns_model.specs.Environments.{IsLegalEnv, IsEnvBySeats, env_own}
-use Rattle.ns_env.specs.declared.view.Making.TheVariants.{Nothing}
-use Rattle.ns_env.specs.declared.view.EnvView.{EnvView}
+use Rattle.ns_note.specs.Names.{AreNewBy, AreOfOneHistoryBy, BeginsWith, EnvEvent, EnvView, IsEnvBySeats, IsLegalEnv, IsOne, Me, Nothing, Sight, TableId, env_own, the_or}
 use Rattle.ns_note.specs.Law.{fresh_seat}
-use Rattle.ns_seats.specs.Sights.{Sight, AreOfOneHistory as AreOfOneHistoryBy}
-use Rattle.ns_seats.specs.Views.{the_or, IsOne, AreNew as AreNewBy}
 
 -- what contracts see of a seat: its environment, how many seats that has, its own number, the history that it has seen, and its own events
 pub record EnvKnown : Type 0 where

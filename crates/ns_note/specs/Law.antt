@@ -1,19 +1,7 @@
 -- The rule of an environment's table, whose words stand as `table_words.rt` names them: the clock at CLOCK, the next note's number at NEXT, the notes from NOTES on, and the seats' bells from BELLS on.
 use Rattle.std.specs.Prelude.{◌≡◌, ℕ, ◌+◌, ◌^◌, ◌<◌, ◌≤◌, List, [], length, slice_index}
-use Rattle.atomic_table.specs.Table.{State as TableState}
-use Rattle.ns_model.specs.declared.environment.EnvEvent.{EnvEvent}
-use Rattle.ns_model.specs.Tallies.{Every}
-use Rattle.ns_env.specs.declared.act.EnvAct.{EnvAct}
-use Rattle.ns_env.specs.declared.act.EnvAct.TheVariants.{LoadNext, TakeNext, StoreNote, NotifyNote, MoveClock, LoadClock, LoadNote}
-use Rattle.ns_env.specs.declared.note.NoteWord.{NoteWord}
-use Rattle.ns_env.specs.declared.view.EnvView.{EnvView}
-use Rattle.ns_env.specs.declared.view.Making.TheVariants.{Nothing}
-use Rattle.ns_env.specs.Lawful.{adds, IsLawful, ViewFits}
-use Rattle.ns_env.specs.Notes.{state_of}
-use Rattle.ns_env.specs.Steps.{EnvPlain}
+use Rattle.ns_note.specs.Names.{EnvAct, EnvEvent, EnvPlain, EnvView, Every, HoldsBy, IsLawful, LoadClock, LoadNext, LoadNote, MoveClock, NoteWord, Nothing, NotifyNote, StoreNote, TableState, TakeNext, ViewFits, ViewsOf, adds, is_numbered, numbered, state_of, tally}
 use Rattle.ns_note.specs.Words.{WordFits, word_of}
-use Rattle.ns_seats.specs.Meetings.{Holds as HoldsBy}
-use Rattle.ns_seats.specs.Views.{Views as ViewsOf, tally, is_numbered, numbered}
 
 -- ---- the words
 

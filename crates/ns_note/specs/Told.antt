@@ -1,21 +1,9 @@
 -- What each step of a seat tells its caller.
 use Rattle.std.specs.Prelude.{◌≡◌, ℕ, ◌<◌, ◌≤◌, List, [], ◌∷◌, ◌++◌}
-use Rattle.atomic_table.specs.Seated.{TableId}
-use Rattle.atomic_table.specs.Table.{Me}
-use Rattle.ns_model.specs.declared.environment.EnvEvent.{EnvEvent}
-use Rattle.ns_model.specs.declared.environment.EnvEvent.TheVariants.{Take}
-use Rattle.ns_model.specs.Environments.{takes_in}
-use Rattle.ns_env.specs.declared.act.EnvAct.{EnvAct}
-use Rattle.ns_env.specs.declared.act.EnvAct.TheVariants.{StoreNote}
-use Rattle.ns_env.specs.declared.view.EnvView.{EnvView}
-use Rattle.ns_env.specs.declared.view.Making.TheVariants.{Nothing, Taken}
-use Rattle.ns_env.specs.Acted.{HasActed}
-use Rattle.ns_env.specs.Steps.{EnvPlain}
+use Rattle.ns_note.specs.Names.{EnvAct, EnvEvent, EnvPlain, EnvView, HasActed, HaveLearnedBy, IsOne, Me, Nothing, StoreNote, TableId, Take, Taken, takes_in}
 use Rattle.ns_note.specs.Known.{known_of, the, Grows, AreOfOneHistory}
 use Rattle.ns_note.specs.Law.{IsWordAt, fresh_seat}
 use Rattle.ns_note.specs.Words.{note_of}
-use Rattle.ns_seats.specs.Meetings.{HaveLearned as HaveLearnedBy}
-use Rattle.ns_seats.specs.Views.{IsOne}
 
 -- the step by which the note of this word is made
 abbrev pub note_stored : ℕ → ℕ → EnvAct

@@ -1,6 +1,6 @@
 -- The word of a note.
 use Rattle.std.specs.Prelude.{ℕ, ◌+◌, ◌-◌, ◌*◌, ◌/◌, ◌%◌, ◌^◌, ◌<◌, ◌==◌, nat_lt, if◌then◌else◌, Bool, true, false, Option, None, Some, IfSome}
-use Rattle.ns_env.specs.declared.note.NoteWord.{NoteWord}
+use Rattle.ns_note.specs.Names.{NoteWord}
 
 -- a mark as a bit
 abbrev pub flag : Bool → ℕ

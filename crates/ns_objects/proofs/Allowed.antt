@@ -1,35 +1,15 @@
 -- The steps, as the table asks for them.
 use Rattle.std.proofs.Common.{◌≡◌, ◌≢◌, ℕ, ◌+◌, ◌-◌, ◌<◌, ◌≤◌, Bool, true, false, cond, ℤ, Result, Ok, Err, List, [], ◌∷◌, ◌++◌, set, slice_index, sym, refl, ap, ◌∙◌, subst, arith, eq-eqb}
 use Rattle.std.specs.Prelude.{◌==◌, ◌^◌, bit_or}
+use Rattle.ns_objects.specs.Prelude.{Add, Adding, Allows, Began, BeginOnce, CanAct, CounterFault, CounterState, EndOnce, Every, ExchangeToAdd, Free, HasActed, Holds, IsCounterWord, IsOne, IsRuled, LoadToAdd, LookOnce, MarkWait, Me, ObjectAct, ObjectEvent, ObjectView}
+use Rattle.ns_objects.specs.Prelude.{OnCounter, OnOnce, OneActs, OneEnds, Running, Setup, ViewFits, Views, acted, counter_of, counter_word, events_of, is_seat, judged, keeps, looked, most, one_if, outcome, the, total, tried, value_of, word_at}
 use mathlib.Core.Option.{some}
 use prog.Atomic.{either}
 use lib.ListN.{get_elem?}
-use Rattle.atomic_table.specs.Table.{Me, keeps, Allows}
-use Rattle.ns_model.specs.Tallies.{total, Every, one_if}
 use Rattle.ns_model.proofs.Tallies.{total_set, total_none, Others, every_at, others_of, others_both, others_map, others_none, every_put}
-use Rattle.ns_counters.specs.declared.act.ObjectAct.{ObjectAct}
-use Rattle.ns_counters.specs.declared.act.ObjectAct.TheVariants.{LoadToAdd, ExchangeToAdd, MarkWait, LookOnce, BeginOnce, EndOnce}
-use Rattle.ns_model.specs.declared.counter.CounterEvent.TheVariants.{Add}
-use Rattle.ns_model.specs.declared.counter.CounterFault.{CounterFault}
-use Rattle.ns_model.specs.declared.counter.CounterState.{CounterState}
-use Rattle.ns_counters.specs.declared.object.ObjectEvent.{ObjectEvent}
-use Rattle.ns_counters.specs.declared.object.ObjectEvent.TheVariants.{OnCounter, OnOnce}
-use Rattle.ns_model.specs.declared.once.OnceEvent.TheVariants.{Began}
-use Rattle.ns_counters.specs.declared.object.ObjectView.{ObjectView}
-use Rattle.ns_counters.specs.declared.object.Place.TheVariants.{Free, Adding, Running}
-use Rattle.ns_counters.specs.declared.object.Setup.{Setup}
-use Rattle.ns_counters.specs.Acted.{acted, events_of, HasActed}
-use Rattle.ns_model.specs.Counters.{most, judged}
-use Rattle.ns_counters.specs.Lawful.{ViewFits}
-use Rattle.ns_counters.specs.Steps.{word_at, looked, tried, outcome, CanAct}
-use Rattle.ns_counters.specs.Words.{counter_word, counter_of}
 use Rattle.ns_counters.proofs.Acts.{acted_lawful, acted_fits, others_fit, has_acted}
 use Rattle.ns_model.proofs.Counters.{accepted}
 use Rattle.ns_counters.proofs.Words.{counter_of-counter_word}
-use Rattle.ns_objects.specs.Known.{the}
-use Rattle.ns_objects.specs.Law.{Views, is_seat, IsRuled, Holds}
-use Rattle.ns_objects.specs.Told.{OneActs, OneEnds, IsCounterWord, value_of}
-use Rattle.ns_seats.specs.Views.{IsOne}
 
 seat_one : (seat : ℕ) (v : ObjectView) → v.seat ≡ seat → is_seat seat v ≡ 1
 seat_one seat v is = ap one_if (eq-eqb v.seat seat is)

@@ -1,19 +1,8 @@
 -- How a change of a counter comes to its end.
 use Rattle.std.proofs.Common.{◌≡◌, ◌≢◌, ℕ, ℤ, ◌≤◌, List, [], ◌∷◌, Bool, eqb, cond, Result, Ok, Err, sym, ap, ◌∙◌, subst, eq-eqb, ne_eqb}
-use Rattle.atomic_table.specs.Table.{Me}
-use Rattle.ns_counters.specs.declared.act.ObjectAct.TheVariants.{ExchangeToAdd}
-use Rattle.ns_model.specs.declared.counter.CounterEvent.TheVariants.{Add}
-use Rattle.ns_model.specs.declared.counter.CounterFault.{CounterFault}
-use Rattle.ns_model.specs.declared.counter.CounterState.{CounterState}
-use Rattle.ns_counters.specs.declared.object.ObjectEvent.TheVariants.{OnCounter}
-use Rattle.ns_counters.specs.declared.object.ObjectView.{ObjectView}
-use Rattle.ns_counters.specs.declared.object.Place.TheVariants.{Free, Adding}
-use Rattle.ns_model.specs.Counters.{most, judged}
-use Rattle.ns_counters.specs.Steps.{Outcome, tried, outcome}
-use Rattle.ns_counters.specs.Words.{counter_word, counter_of}
+use Rattle.ns_objects.specs.Prelude.{Add, Adding, CounterFault, CounterState, ExchangeToAdd, Free, HasCome, HasJudged, IsCounterWord, Me, ObjectView, OnCounter, OneActs, OneComes, Outcome, change_in_hand, counter_of, counter_word, judged, judging, most, outcome, the}
+use Rattle.ns_objects.specs.Prelude.{tried}
 use Rattle.ns_counters.proofs.Words.{counter_of-counter_word}
-use Rattle.ns_objects.specs.Known.{the}
-use Rattle.ns_objects.specs.Told.{OneActs, OneComes, HasCome, IsCounterWord, HasJudged, judging, change_in_hand}
 use Rattle.ns_objects.proofs.Rests.{came, came_through}
 
 module _ {S : Type 0} (counter : ℕ) (delta : ℤ) (me now : Me S (List ObjectView)) where

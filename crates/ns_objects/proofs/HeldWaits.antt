@@ -1,28 +1,13 @@
 -- Waits for condition variables among notes and counters: which variables those are, and what the parts of such a wait tell together.
 use Rattle.std.proofs.Common.{Bool, false, cond, ◌||◌, zero, suc, slice_get, ap, refl, eq-eqb, ◌≡◌, inl, inr, ℕ, ◌+◌, ◌-◌, ◌%◌, ◌^◌, ◌<◌, ◌≤◌, max, true, List, [], ◌∷◌, ◌++◌, append_assoc, Option, None, Some, sym, ◌∙◌, subst, arith}
 use Rattle.std.proofs.lemmas.Bool.{eqb-true, false≢true, or_cases}
+use Rattle.ns_objects.specs.Prelude.{AnyItem, AnyWait, AreAmong, AreSome, BothKnown, Counter, Cv, Cvs, Every, HasBegunToWait, HasComeBackFromAny, HasWaitedForAny, Held, InHand, IsByOneOf, IsLow, IsNamed, Known, KnowsTruly, Mode, Note, Past, PlaceBy, Setup, Truths}
+use Rattle.ns_objects.specs.Prelude.{WaitKnown, WaitsOn, is_among, is_variable, leave_any_told, place_in, room, room_enough, section_of}
 use prog.Memory.{align, size, up}
 use mir.Syntax.{Ty}
-use Rattle.ns_model.specs.Room.{room, room_enough}
-use Rattle.ns_model.specs.Tallies.{Every}
-use Rattle.ns_model.specs.Truths.{Truths}
 use Rattle.ns_model.proofs.Beginnings.{begins_itself, begins_through}
 use Rattle.ns_model.proofs.Tallies.{every_map}
-use Rattle.ns_model.specs.declared.cvs.Cvs.{Cvs}
-use Rattle.ns_model.specs.declared.event.Exit.TheVariants.{AnyWait}
-use Rattle.ns_model.specs.declared.event.Mode.{Mode}
-use Rattle.ns_monitor.specs.Known.{Known}
-use Rattle.ns_monitor.specs.Several.{AreSome, HasBegunToWait, HasComeBackFromAny, IsByOneOf, KnowsTruly, WaitKnown, WaitsOn}
-use Rattle.ns_word.specs.Meanings.{InHand, leave_any_told}
-use Rattle.ns_word.specs.Steps.{section_of}
-use Rattle.ns_word.specs.declared.view.Held.{Held}
 use Rattle.ns_word.proofs.Enters.{are_some}
-use Rattle.ns_objects.specs.Any.{BothKnown, IsNamed}
-use Rattle.ns_objects.specs.Held.{AreAmong, HasWaitedForAny, IsLow, PlaceBy, is_among, is_variable, place_in}
-use Rattle.ns_counters.specs.Rounds.{Past}
-use Rattle.ns_counters.specs.declared.object.Setup.{Setup}
-use Rattle.ns_objects.specs.declared.any.AnyItem.{AnyItem}
-use Rattle.ns_objects.specs.declared.any.AnyItem.TheVariants.{Note, Counter, Cv}
 
 -- an item that is named is no variable above 3
 low_too : (now : BothKnown) (item : AnyItem) → IsNamed now.0 now.1 item → IsLow item

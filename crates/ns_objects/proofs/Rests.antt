@@ -1,22 +1,8 @@
 -- A seat after a step.
 use Rattle.std.proofs.Common.{◌≡◌, ℕ, ℤ, List, [], ◌∷◌, ◌++◌, sym, refl, ap, ◌∙◌, subst, append_assoc}
-use Rattle.atomic_table.specs.Seated.{TableId}
-use Rattle.atomic_table.specs.Table.{Me}
+use Rattle.ns_objects.specs.Prelude.{AreObjectsBySeats, CounterState, EnvGrows, EnvKnown, EnvTrue, ExchangeToAdd, Grows, HasActed, HasCome, HasJudged, HasWords, IsLegalObjects, IsTrueToHistory, LoadToAdd, Me, ObjectAct, ObjectEvent, ObjectView, ObjectsKnown, OneActs}
+use Rattle.ns_objects.specs.Prelude.{OneComes, Place, Setup, TableId, events_of, known_of, outcome, the}
 use Rattle.ns_model.proofs.Beginnings.{begins_itself, begins_through}
-use Rattle.ns_counters.specs.declared.act.ObjectAct.{ObjectAct}
-use Rattle.ns_counters.specs.declared.act.ObjectAct.TheVariants.{LoadToAdd, ExchangeToAdd}
-use Rattle.ns_model.specs.declared.counter.CounterState.{CounterState}
-use Rattle.ns_counters.specs.declared.object.ObjectEvent.{ObjectEvent}
-use Rattle.ns_counters.specs.declared.object.ObjectView.{ObjectView}
-use Rattle.ns_counters.specs.declared.object.Place.{Place}
-use Rattle.ns_counters.specs.declared.object.Setup.{Setup}
-use Rattle.ns_counters.specs.Acted.{events_of, HasActed}
-use Rattle.ns_counters.specs.Lawful.{HasWords}
-use Rattle.ns_counters.specs.Objects.{IsLegalObjects, AreObjectsBySeats}
-use Rattle.ns_counters.specs.Steps.{outcome}
-use Rattle.ns_note.specs.Known.{EnvKnown, IsTrueToHistory as EnvTrue, Grows as EnvGrows}
-use Rattle.ns_objects.specs.Known.{ObjectsKnown, known_of, the, IsTrueToHistory, Grows}
-use Rattle.ns_objects.specs.Told.{OneActs, HasCome, OneComes, HasJudged}
 
 -- a step brings its caller further
 pub came : (act : ObjectAct) (found : ℕ) (v w : ObjectView) → HasActed act found v w → HasCome (events_of act found v) (outcome v.seat act v.place found).place v w

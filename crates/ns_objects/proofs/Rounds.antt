@@ -1,22 +1,11 @@
 -- What a caller has seen, look by look.
 use Rattle.std.proofs.Common.{◌≡◌, ℕ, zero, suc, ◌<◌, ◌≤◌, Bool, false, eqb, List, [], ◌∷◌, length, take, Option, get_or, sym, ap, ◌∙◌, subst, arith}
-use Rattle.ns_model.specs.declared.environment.EnvEvent.{EnvEvent}
-use Rattle.ns_model.specs.Beginnings.{IsBetween}
 use Rattle.std.proofs.lemmas.List.{take_all}
-use Rattle.ns_model.specs.Environments.{clock_of, is_due, is_notified}
-use Rattle.ns_model.specs.Tallies.{Every}
+use Rattle.ns_objects.specs.Prelude.{AnyItem, BothKnown, Counter, Cv, EnvEvent, EnvGrows, EnvKnown, Every, Grows, HasShownNone, InTurn, IsBetween, IsLater, IsNamed, Note, NoteOf, ObjectsKnown, Setup, WasReady, WasReadyIn, clock_of, is_due, is_notified, objects_after}
+use Rattle.ns_objects.specs.Prelude.{past_of, standing_of}
 use Rattle.ns_model.proofs.Beginnings.{begins_itself}
 use Rattle.ns_model.proofs.Tallies.{every_map}
-use Rattle.ns_counters.specs.declared.object.Setup.{Setup}
-use Rattle.ns_counters.specs.Objects.{objects_after}
-use Rattle.ns_counters.specs.Rounds.{HasShownNone, InTurn, IsLater}
-use Rattle.ns_note.specs.Known.{EnvKnown, Grows as EnvGrows}
 use Rattle.ns_note.proofs.Rests.{made_grows}
-use Rattle.ns_note.specs.declared.note.Note.{Note as NoteOf}
-use Rattle.ns_objects.specs.declared.any.AnyItem.{AnyItem}
-use Rattle.ns_objects.specs.declared.any.AnyItem.TheVariants.{Note, Counter, Cv}
-use Rattle.ns_objects.specs.Any.{BothKnown, IsNamed, WasReady, WasReadyIn, past_of}
-use Rattle.ns_objects.specs.Known.{Grows, ObjectsKnown, standing_of}
 
 -- a caller that knows more of both
 abbrev pub BothGrow : BothKnown → BothKnown → Type 0

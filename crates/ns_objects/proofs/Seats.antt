@@ -1,21 +1,9 @@
 -- Seats of new objects, and seats that meet.
 use Rattle.std.proofs.Common.{ℕ, zero, suc, ◌+◌, ◌≤◌, eqb, List, [], ◌∷◌, sym, refl, subst, arith, ◌∙◌}
-use Rattle.atomic_table.specs.Seated.{TableId}
-use Rattle.atomic_table.specs.Table.{Me, Allows}
-use Rattle.ns_model.specs.Tallies.{Every, one_if}
+use Rattle.ns_objects.specs.Prelude.{Allows, AreObjectsBySeats, ArePair, Every, HasSight, HasWords, HaveMet, Holds, IsBySums, IsLawful, IsLegalObjects, IsRuled, Learned, Me, ObjectEvent, ObjectView, Setup, TableId, ViewFits, fresh, fresh_seat, known_of, no_setup}
+use Rattle.ns_objects.specs.Prelude.{objects_own, one_if, sight_of}
 use Rattle.ns_model.proofs.Beginnings.{begins_itself}
-use Rattle.ns_counters.specs.declared.object.ObjectEvent.{ObjectEvent}
-use Rattle.ns_counters.specs.declared.object.ObjectView.{ObjectView}
-use Rattle.ns_counters.specs.declared.object.Setup.{Setup}
-use Rattle.ns_counters.specs.Lawful.{HasWords, ViewFits, IsLawful}
-use Rattle.ns_counters.specs.Objects.{IsLegalObjects, objects_own, AreObjectsBySeats}
 use Rattle.ns_counters.proofs.Objects.{own-append}
-use Rattle.ns_objects.specs.Known.{known_of, sight_of, no_setup}
-use Rattle.ns_objects.specs.Law.{IsRuled, fresh_seat, fresh, Holds}
-use Rattle.ns_objects.specs.Told.{HaveMet, Learned}
-use Rattle.ns_seats.specs.Meetings.{IsBySums}
-use Rattle.ns_seats.specs.Sights.{HasSight}
-use Rattle.ns_seats.specs.Views.{ArePair}
 use Rattle.ns_seats.proofs.Meetings.{learns as joined_learn}
 use Rattle.ns_seats.proofs.Numbered.{none_twice, numbered_count}
 use Rattle.ns_seats.proofs.Sights.{one_history}

@@ -1,16 +1,8 @@
 -- What a wait for any of several notes and counters answers, by what the caller had seen of the objects and of the environment, and has seen then.
 use Rattle.std.specs.Prelude.{◌≡◌, ℕ, ◌<◌, Bool, true, false, List, Option}
-use Rattle.ns_model.specs.Environments.{IsMade, is_notified}
-use Rattle.ns_model.specs.Counters.{is_ready}
-use Rattle.ns_counters.specs.declared.object.Setup.{Setup}
-use Rattle.ns_counters.specs.Objects.{objects_after}
-use Rattle.ns_counters.specs.Rounds.{AnswersByRounds, IsLater, Past, RoundShows}
-use Rattle.ns_note.specs.Known.{EnvKnown}
-use Rattle.ns_objects.specs.declared.any.AnyItem.{AnyItem}
-use Rattle.ns_objects.specs.declared.any.AnyItem.TheVariants.{Note, Counter, Cv}
-use Rattle.ns_objects.specs.declared.any.Item.{Item}
-use Rattle.ns_objects.specs.declared.any.Item.TheVariants as TheItem
+use Rattle.ns_objects.specs.Names.{AnswersByRounds, AnyItem, Counter, Cv, EnvKnown, IsLater, IsMade, Item, Note, Past, RoundShows, Setup, is_notified, is_ready, objects_after}
 use Rattle.ns_objects.specs.Known.{ObjectsKnown}
+use Rattle.ns_objects.specs.declared.any.Item.TheVariants as TheItem
 
 -- what a caller knows of both
 abbrev pub BothKnown : Type 0

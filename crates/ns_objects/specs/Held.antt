@@ -1,20 +1,8 @@
 -- What a wait for condition variables among notes and counters answers, which is called with a section in hand.
 use Rattle.std.specs.Prelude.{◌≡◌, ◌⊎◌, ℕ, suc, ◌<◌, ◌==◌, Bool, false, if◌then◌else◌, List, [], ◌∷◌, ◌++◌, Option, None, Some, slice_get}
 use Rattle.std.specs.List.{list_any}
-use Rattle.ns_model.specs.Cvs.{is_in}
-use Rattle.ns_model.specs.Histories.{row_after}
-use Rattle.ns_model.specs.Truths.{Truths}
-use Rattle.ns_model.specs.declared.cvs.Cvs.{Cvs}
-use Rattle.ns_model.specs.declared.event.Exit.TheVariants.{AnyWait}
-use Rattle.ns_model.specs.declared.event.Mode.{Mode}
-use Rattle.ns_monitor.specs.Known.{Grows, Known}
-use Rattle.ns_monitor.specs.Several.{HasComeBackFromAny, IsByOneOf, SaysWoken, WaitKnown, any_waiting}
-use Rattle.ns_word.specs.Meanings.{InHand, leave_any_told}
-use Rattle.ns_word.specs.Steps.{section_of}
-use Rattle.ns_counters.specs.Rounds.{IsLater, Past}
-use Rattle.ns_counters.specs.declared.object.Setup.{Setup}
-use Rattle.ns_objects.specs.declared.any.AnyItem.{AnyItem}
-use Rattle.ns_objects.specs.declared.any.AnyItem.TheVariants.{Cv}
+use Rattle.ns_objects.specs.Names.{AnyItem, AnyWait, Cv, Cvs, HasComeBackFromAny, InHand, IsByOneOf, IsLater, Known, Mode, Past, SaysWoken, Setup, Truths, WaitKnown, any_waiting, is_in, leave_any_told, row_after, section_of}
+use Rattle.ns_monitor.specs.Known.{Grows}
 use Rattle.ns_objects.specs.Any.{BothKnown, RoundAnswers, RoundsAnswer, past_of}
 
 -- whether an item is this variable

@@ -1,17 +1,7 @@
 -- What a seat knows, and how it grows.
 use Rattle.std.specs.Prelude.{◌≡◌, ℕ, List, []}
-use Rattle.atomic_table.specs.Seated.{TableId}
-use Rattle.atomic_table.specs.Table.{Me}
-use Rattle.ns_counters.specs.declared.object.ObjectEvent.{ObjectEvent}
-use Rattle.ns_counters.specs.declared.object.ObjectView.{ObjectView}
-use Rattle.ns_counters.specs.declared.object.Place.TheVariants.{Free}
-use Rattle.ns_counters.specs.declared.object.Setup.{Setup}
-use Rattle.ns_counters.specs.Objects.{ObjectStanding, objects_after, IsLegalObjects, objects_own, AreObjectsBySeats}
-use Rattle.ns_counters.specs.Lawful.{HasWords}
-use Rattle.ns_model.specs.Beginnings.{BeginsWith}
+use Rattle.ns_objects.specs.Names.{AreNewBy, AreObjectsBySeats, AreOfOneHistoryBy, BeginsWith, Free, HasWords, IsLegalObjects, IsOne, Me, ObjectEvent, ObjectStanding, ObjectView, Setup, Sight, TableId, objects_after, objects_own, the_or}
 use Rattle.ns_objects.specs.Law.{fresh_seat}
-use Rattle.ns_seats.specs.Sights.{Sight, AreOfOneHistory as AreOfOneHistoryBy}
-use Rattle.ns_seats.specs.Views.{the_or, IsOne, AreNew as AreNewBy}
 
 -- what contracts see of a seat: its objects and how they were made, its own number, the history that it has seen, and its own events
 pub record ObjectsKnown : Type 0 where

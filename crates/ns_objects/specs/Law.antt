@@ -1,14 +1,6 @@
 -- The rule of a table of counters and once cells.
 use Rattle.std.specs.Prelude.{◌≡◌, ℕ, ◌≤◌, List, []}
-use Rattle.atomic_table.specs.Table.{State as TableState}
-use Rattle.ns_counters.specs.declared.object.ObjectEvent.{ObjectEvent}
-use Rattle.ns_counters.specs.declared.object.ObjectView.{ObjectView}
-use Rattle.ns_counters.specs.declared.object.Place.TheVariants.{Free}
-use Rattle.ns_counters.specs.declared.object.Setup.{Setup}
-use Rattle.ns_counters.specs.Lawful.{ViewFits, IsLawful}
-use Rattle.ns_model.specs.Tallies.{Every}
-use Rattle.ns_seats.specs.Meetings.{Holds as HoldsBy}
-use Rattle.ns_seats.specs.Views.{Views as ViewsOf, tally, is_numbered, numbered}
+use Rattle.ns_objects.specs.Names.{Every, Free, HoldsBy, IsLawful, ObjectEvent, ObjectView, Setup, TableState, ViewFits, ViewsOf, is_numbered, numbered, tally}
 
 -- what all seats know, a list for each seat of the table
 abbrev pub Views : Type 0

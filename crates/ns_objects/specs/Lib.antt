@@ -2,6 +2,8 @@ pub mod Any
 pub mod Held
 pub mod Known
 pub mod Law
+pub mod Names
+pub mod Prelude
 pub mod Running
 pub mod Told
 pub mod Waiting

@@ -1,10 +1,7 @@
 -- What a call answers that would have a function run once.
 use Rattle.std.specs.Prelude.{◌≡◌, ℕ, true, [], ◌∷◌, ◌++◌}
-use Rattle.ns_counters.specs.declared.object.ObjectEvent.TheVariants.{OnOnce}
-use Rattle.ns_model.specs.declared.once.OnceEvent.TheVariants.{Began, Ran as HasRun}
-use Rattle.ns_model.specs.Onces.{is_done}
-use Rattle.ns_objects.specs.declared.running.Once.{Once}
-use Rattle.ns_objects.specs.declared.running.Once.TheVariants.{Ran, Already}
+use Rattle.ns_objects.specs.Names.{Already, Began, HasRun, OnOnce, Once, is_done}
+use Rattle.ns_objects.specs.declared.running.Once.TheVariants.{Ran}
 use Rattle.ns_objects.specs.Known.{ObjectsKnown, Grows, standing_of}
 
 -- The function may be called only by a caller that has begun to run it: some history goes on from what it had seen, in which that is the next of its own events.

@@ -1,25 +1,9 @@
 -- What each step of a seat tells its caller.
 use Rattle.std.specs.Prelude.{◌≡◌, ℕ, ◌-◌, ℤ, pos, List, [], ◌∷◌, ◌++◌}
-use Rattle.atomic_table.specs.Seated.{TableId}
-use Rattle.atomic_table.specs.Table.{Me}
-use Rattle.ns_counters.specs.declared.act.ObjectAct.{ObjectAct}
-use Rattle.ns_counters.specs.declared.act.ObjectAct.TheVariants.{EndOnce}
-use Rattle.ns_model.specs.declared.counter.CounterState.{CounterState}
-use Rattle.ns_counters.specs.declared.object.ObjectEvent.{ObjectEvent}
-use Rattle.ns_counters.specs.declared.object.ObjectView.{ObjectView}
-use Rattle.ns_counters.specs.declared.object.Place.{Place}
-use Rattle.ns_counters.specs.declared.object.Place.TheVariants.{Free, Adding, Running}
-use Rattle.ns_counters.specs.Acted.{HasActed}
-use Rattle.ns_model.specs.Counters.{judged}
-use Rattle.ns_counters.specs.Lawful.{IsWordOf}
-use Rattle.ns_counters.specs.Objects.{IsLegalObjects, objects_own, AreObjectsBySeats}
-use Rattle.ns_counters.specs.Steps.{Outcome, tried}
-use Rattle.ns_counters.specs.Words.{counter_of}
-use Rattle.ns_model.specs.Beginnings.{BeginsWith}
+use Rattle.ns_objects.specs.Names.{Adding, AreObjectsBySeats, BeginsWith, CounterState, EndOnce, Free, HasActed, HaveLearnedBy, IsLegalObjects, IsOne, IsWordOf, Me, ObjectAct, ObjectEvent, ObjectView, Outcome, Place, Running, TableId, counter_of, judged, objects_own}
+use Rattle.ns_objects.specs.Names.{tried}
 use Rattle.ns_objects.specs.Known.{known_of, the, no_setup, Grows, AreOfOneHistory}
 use Rattle.ns_objects.specs.Law.{fresh_seat}
-use Rattle.ns_seats.specs.Meetings.{HaveLearned as HaveLearnedBy}
-use Rattle.ns_seats.specs.Views.{IsOne}
 
 -- the once cell whose word this is
 abbrev pub once_at : ℕ → ℕ

@@ -1,7 +1,6 @@
 -- What a caller that waits for a counter knows.
 use Rattle.std.specs.Prelude.{◌≡◌, ℕ, [], ◌∷◌, ◌++◌}
-use Rattle.ns_model.specs.declared.counter.CounterEvent.TheVariants.{Begun}
-use Rattle.ns_counters.specs.declared.object.ObjectEvent.TheVariants.{OnCounter}
+use Rattle.ns_objects.specs.Names.{Begun, OnCounter}
 use Rattle.ns_objects.specs.Known.{ObjectsKnown, Grows, standing_of}
 
 -- the wait has begun, and this is the value in what the caller has seen since

@@ -2,12 +2,7 @@
 use Rattle.std.proofs.Common.{◌≡◌, ℕ, ◌+◌, ◌≤◌, ◌<◌, eqb, List, ◌++◌, length, get_or, take, ap, sym, arith}
 use Rattle.std.proofs.lemmas.List.Sums.{sum_by_more_le}
 use Rattle.std.proofs.lemmas.Bool.{eq-eqb}
-use Rattle.arrayvec.specs.ArrayVec.{ArrayVec}
-use Rattle.ns_model.specs.Tallies.{one_if}
-use Rattle.ns_queue.specs.declared.waiter.Waiter.{Waiter}
-use Rattle.ns_queue.specs.declared.waiter.Which.TheVariants.{Lock, Cv}
-use Rattle.ns_queue.specs.Waiters.{HaveSeats, times_in}
-use Rattle.ns_queue.specs.Queues.{Lists, IsOrderly, times, with_waiters}
+use Rattle.ns_queue.specs.Prelude.{ArrayVec, Cv, HaveSeats, IsOrderly, Lists, Lock, Waiter, one_if, times, times_in, with_waiters}
 use Rattle.ns_queue.proofs.Seats.{times_in-append}
 use Rattle.ns_queue.proofs.Inside.{shape, list_at}
 use Rattle.ns_queue.proofs.Parts.{below_in}

@@ -1,8 +1,7 @@
 -- What is known of a run's first condition, and what it takes to learn that.
 use Rattle.std.proofs.Common.{◌≡◌, ◌≤◌, ◌⊎◌, inl, inr, Bool, true, false, cond, ◌&&◌, Option, None, Some, is_some, is_none, IfSome, refl, ap, sym, ◌∙◌, arith}
 use Rattle.std.specs.Prelude.{unwrap_or}
-use Rattle.ns_queue.specs.Scans.{is_satisfied, is_alike}
-use Rattle.ns_queue.specs.Stages.{asked_for, asking}
+use Rattle.ns_queue.specs.Prelude.{asked_for, asking, is_alike, is_satisfied}
 
 module _ {C : Type 0} (same : C → C → Bool) (meets : C → Bool) where
   -- the run that a waiter stands in

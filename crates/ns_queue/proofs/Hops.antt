@@ -2,10 +2,7 @@
 use Rattle.std.proofs.Common.{◌≡◌, ◌≢◌, ℕ, ◌≤◌, ◌<◌, inl, inr, List, [], ◌∷◌, ◌++◌, length, get_or, set, Option, None, Some, refl, ap, sym, ◌∙◌, arith, length-set}
 use Rattle.std.proofs.lemmas.Bool.{ne_eqb, eq-eqb, cases_eq}
 use Rattle.std.proofs.lemmas.List.{get_or-set_same, get_or-set_other}
-use Rattle.ns_model.specs.Tallies.{one_if}
-use Rattle.ns_queue.specs.declared.waiter.Waiter.{Waiter}
-use Rattle.ns_queue.specs.Waiters.{times_in}
-use Rattle.ns_queue.specs.Rings.{Hops, first_seat, last_seat, seated, gather, ahead, behind}
+use Rattle.ns_queue.specs.Prelude.{Hops, Waiter, ahead, behind, first_seat, gather, last_seat, one_if, seated, times_in}
 use Rattle.ns_queue.proofs.Seats.{times_in-cons, times_in-append}
 
 module _ {A : Type 0} where

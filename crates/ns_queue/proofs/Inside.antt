@@ -3,15 +3,10 @@ use Rattle.std.proofs.Common.{◌≡◌, ℕ, zero, suc, ◌+◌, ◌≤◌, ◌
 use Rattle.std.specs.Bool.{OnFalse}
 use Rattle.std.specs.List.{filter, sum_by}
 use Rattle.std.proofs.lemmas.Bool.{cases_eq, eq-eqb, ne_eqb}
-use Rattle.ns_model.specs.Tallies.{one_if}
 use Rattle.std.proofs.lemmas.List.{length-set, length-map, map-set, get_or-map}
 use Rattle.std.proofs.lemmas.List.Sums.{get_or-le-sum_by, sum_by_more}
 use Rattle.std.proofs.lemmas.List.Edits.{map_over_more}
-use Rattle.arrayvec.specs.ArrayVec.{ArrayVec}
-use Rattle.ns_queue.specs.declared.waiter.Waiter.{Waiter}
-use Rattle.ns_queue.specs.declared.waiter.Which.TheVariants.{Cv}
-use Rattle.ns_queue.specs.Waiters.{times_in, without_in}
-use Rattle.ns_queue.specs.Queues.{Lists, IsOrderly, beside, times, with_waiters, waiters_of}
+use Rattle.ns_queue.specs.Prelude.{ArrayVec, Cv, IsOrderly, Lists, Waiter, beside, one_if, times, times_in, waiters_of, with_waiters, without_in}
 use Rattle.ns_queue.proofs.Seats.{times_in-cons, times_in_push}
 use Rattle.ns_queue.proofs.Orders.{orderly_more, orderly_less, times_set, cv_times, part_has_room}
 use Rattle.ns_queue.proofs.Parts.{once_in, read_apart, read_back}

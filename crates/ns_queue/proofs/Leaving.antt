@@ -1,14 +1,11 @@
 -- What is left of a list whose taken waiters are taken out one by one.
 use Rattle.std.proofs.Common.{◌≡◌, ◌≢◌, ℕ, ◌+◌, ◌-◌, ◌≤◌, ◌<◌, inl, inr, Bool, true, false, cond, not, List, [], ◌∷◌, length, drop, filter, get_or, refl, ap, sym, ◌∙◌, arith}
 use Rattle.std.proofs.lemmas.Bool.{cases_Bool, eq-eqb, ne_eqb}
-use Rattle.ns_queue.specs.declared.waiter.Waiter.{Waiter}
-use Rattle.ns_queue.specs.Scans.{begins_with_reader, is_eligible, left_by_writer, left_of, woken_of}
-use Rattle.ns_queue.specs.Waiters.{seats_of, times_in, without_in, writes}
+use Rattle.ns_queue.specs.Prelude.{IsRow, Waiter, begins_with_reader, is_eligible, left_by_writer, left_of, seats_of, times_in, without_all, without_in, woken_of, writes}
 use Rattle.ns_queue.proofs.Inside.{times_in-filter}
 use Rattle.ns_queue.proofs.Marking.{drop_step}
 use Rattle.ns_queue.proofs.Seats.{none_without, times_in-cons}
 use Rattle.ns_queue.proofs.Seeking.{goes_along}
-use Rattle.ns_queue.specs.Rings.{IsRow, without_all}
 use Rattle.ns_queue.proofs.Hops.{stands_not}
 use Rattle.ns_queue.proofs.Places.{row_own, row_rest}
 

@@ -2,11 +2,8 @@
 use Rattle.std.proofs.Common.{◌≡◌, ◌≢◌, ℕ, ◌<◌, ◌⊎◌, inl, inr, Bool, true, false, true≢false, List, [], ◌∷◌, ◌++◌, get_or, set, Option, None, Some, refl, ap, sym, ◌∙◌, subst, arith, append_assoc}
 use Rattle.std.proofs.lemmas.Bool.{cases_Bool, cases_lt}
 use Rattle.std.proofs.lemmas.List.{get_or-set_other}
-use Rattle.ns_queue.specs.declared.waiter.Waiter.{Waiter}
-use Rattle.ns_queue.specs.Waiters.{times_in}
+use Rattle.ns_queue.specs.Prelude.{IsRow, RunLinks, RunsOn, StandRuns, Waiter, head_of, joins, last_run, last_seat, place_of, seated, times_in}
 use Rattle.ns_queue.proofs.Seats.{times_in-append}
-use Rattle.ns_queue.specs.Rings.{last_seat, seated, IsRow}
-use Rattle.ns_queue.specs.Runs.{place_of, joins, head_of, last_run, RunLinks, RunsOn, StandRuns}
 use Rattle.ns_queue.proofs.Hops.{stands_not, seated_none, seated_here}
 use Rattle.ns_queue.proofs.Places.{row_rest, row_own, row_parts, row_at, row_front, row_low}
 

@@ -1,9 +1,7 @@
 -- One place further along a list.
 use Rattle.std.proofs.Common.{◌≡◌, ℕ, suc, ◌+◌, ◌<◌, Bool, true, false, List, [], ◌∷◌, ◌++◌, length, get_or, drop, refl, ap, sym, ◌∙◌, arith, append_assoc, add-one}
 use Rattle.std.proofs.Math.Seq.{drop-cons}
-use Rattle.ns_queue.specs.declared.waiter.Waiter.{Waiter}
-use Rattle.ns_queue.specs.declared.signal.Wanted.{Wanted}
-use Rattle.ns_queue.specs.Marks.{marked, is_wanted, wanted_after, signal_marks}
+use Rattle.ns_queue.specs.Prelude.{Waiter, Wanted, is_wanted, marked, signal_marks, wanted_after}
 
 pub drop_step : {A : Type 0} (xs : List A) (i : ℕ) (d x : A) → i < length xs → get_or xs i d ≡ x → drop i xs ≡ x ∷ drop (i + 1) xs
 drop_step {A} xs i d x within is = rw add-one (drop-cons xs i d within ∙ ap (λ (y : A). y ∷ drop (suc i) xs) is)

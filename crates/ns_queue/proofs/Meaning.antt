@@ -1,12 +1,7 @@
 -- What the marks of a signal come to.
 use Rattle.std.proofs.Common.{◌≡◌, suc, Bool, true, false, not, cond, List, [], ◌∷◌, length, drop, refl, ap}
 use Rattle.std.specs.List.{filter}
-use Rattle.ns_queue.specs.declared.waiter.Waiter.{Waiter}
-use Rattle.ns_queue.specs.declared.signal.Wanted.{Wanted}
-use Rattle.ns_queue.specs.declared.signal.Wanted.TheVariants.{Anybody, ReadersAndWriter, Readers, Nobody}
-use Rattle.ns_queue.specs.Waiters.{reads, writes}
-use Rattle.ns_queue.specs.Signals.{readers_and_a_writer, signaled_of, unsignaled_of}
-use Rattle.ns_queue.specs.Marks.{marked, signal_marks, unmarked, wanted_after}
+use Rattle.ns_queue.specs.Prelude.{Anybody, Nobody, Readers, ReadersAndWriter, Waiter, Wanted, marked, readers_and_a_writer, reads, signal_marks, signaled_of, unmarked, unsignaled_of, wanted_after, writes}
 
 module _ {C : Type 0} where
   pub length-signal_marks : (wanted : Wanted) (ws : List (Waiter C)) → length (signal_marks wanted ws) ≡ length ws

@@ -1,14 +1,10 @@
 -- What changes one list keeps the lists orderly.
-use Rattle.std.proofs.Common.{◌≡◌, ℕ, zero, suc, ◌+◌, ◌*◌, ◌^◌, ◌≤◌, ◌<◌, inl, inr, eqb, List, [], ◌∷◌, length, get_or, set, refl, ap, subst, arith}
-use Rattle.std.proofs.Common.{Fits, w64}
+use Rattle.std.proofs.Common.{◌≡◌, ℕ, zero, suc, ◌+◌, ◌*◌, ◌^◌, ◌≤◌, ◌<◌, inl, inr, eqb, List, [], ◌∷◌, length, get_or, set, refl, ap, subst, arith, Fits, w64}
 use Rattle.std.proofs.Math.Nat.{mul-le-mul_right}
 use Rattle.std.proofs.lemmas.List.Sums.{sum_by-set, get_or-le-sum_by}
 use Rattle.std.proofs.lemmas.Bool.{ne_eqb, eq-eqb, cases_eq, cases_lt}
 use Rattle.std.proofs.lemmas.List.{get_or_past}
-use Rattle.ns_model.specs.Tallies.{one_if}
-use Rattle.ns_queue.specs.declared.waiter.Waiter.{Waiter}
-use Rattle.ns_queue.specs.Waiters.{times_in}
-use Rattle.ns_queue.specs.Queues.{Lists, IsOrderly, beside, times}
+use Rattle.ns_queue.specs.Prelude.{IsOrderly, Lists, Waiter, beside, one_if, times, times_in}
 use Rattle.ns_queue.proofs.Seats.{room_for}
 
 module _ {C : Type 0} where

@@ -4,17 +4,7 @@ use Rattle.std.specs.List.{sum_by}
 use Rattle.std.proofs.lemmas.Bool.{cases_eq, cases_lt, lt-ltb, ne_eqb}
 use Rattle.std.proofs.lemmas.List.{get_or-map, length-map}
 use Rattle.std.proofs.lemmas.List.Sums.{get_or-le-sum_by, sum_by-append, sum_by-cons, sum_by-take-drop}
-use Rattle.arrayvec.specs.ArrayVec.{ArrayVec}
-use Rattle.ns_model.specs.Tallies.{one_if}
-use Rattle.ns_model.specs.declared.seats.Seats.{Seats}
-use Rattle.ns_model.specs.Seats.{is_in}
-use Rattle.ns_queue.specs.declared.waiter.Waiter.{Waiter}
-use Rattle.ns_queue.specs.declared.signal.Wanted.TheVariants.{Anybody}
-use Rattle.ns_queue.specs.declared.waiter.Which.TheVariants.{Cv}
-use Rattle.ns_queue.specs.Queues.{IsOrderly, Lists, times, waiters_of, with_waiters, cvs_without}
-use Rattle.ns_queue.specs.Waiters.{HaveSeats, outside, times_in, without_in}
-use Rattle.ns_queue.specs.Signals.{signaled_of, taken_set, unsignaled_of}
-use Rattle.ns_queue.specs.Marks.{marked, signal_marks, unmarked}
+use Rattle.ns_queue.specs.Prelude.{Anybody, ArrayVec, Cv, HaveSeats, IsOrderly, Lists, Seats, Waiter, cvs_without, is_in, marked, one_if, outside, signal_marks, signaled_of, taken_set, times, times_in, unmarked, unsignaled_of, waiters_of, with_waiters, without_in}
 use Rattle.ns_queue.proofs.Inside.{shape, times_in-filter}
 use Rattle.ns_queue.proofs.Marking.{drop_step}
 use Rattle.ns_queue.proofs.Meaning.{signal_leaves, signal_takes}

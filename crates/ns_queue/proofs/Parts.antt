@@ -3,13 +3,8 @@ use Rattle.std.proofs.Common.{◌≡◌, ◌≢◌, ℕ, zero, suc, ◌+◌, ◌
 use Rattle.std.specs.List.{sum_by}
 use Rattle.std.proofs.lemmas.List.{length-set, get_or-set_same, get_or-set_other}
 use Rattle.std.proofs.lemmas.List.Sums.{sum_by-cons, get_or-le-sum_by}
-use Rattle.ns_queue.specs.declared.waiter.Waiter.{Waiter}
-use Rattle.ns_queue.specs.declared.waiter.Which.{Which}
-use Rattle.ns_queue.specs.declared.waiter.Which.TheVariants.{Lock, Cv}
-use Rattle.ns_queue.specs.Waiters.{times_in, without_in, HaveSeats}
+use Rattle.ns_queue.specs.Prelude.{Cv, Cvs, HaveSeats, IsList, IsOrderly, Lists, Lock, Waiter, Which, beside, named_for, times, times_in, waiters_of, with_each, with_waiters, without, without_in}
 use Rattle.ns_model.specs.Cvs.{is_in}
-use Rattle.ns_model.specs.declared.cvs.Cvs.{Cvs}
-use Rattle.ns_queue.specs.Queues.{Lists, IsList, IsOrderly, beside, named_for, times, waiters_of, with_each, with_waiters, without}
 use Rattle.ns_queue.proofs.Seats.{none_without}
 use Rattle.ns_queue.proofs.Orders.{times_set, lock_times, cv_times}
 

@@ -2,12 +2,9 @@
 use Rattle.std.proofs.Common.{◌≡◌, ℕ, ◌+◌, ◌<◌, inl, inr, not, List, [], ◌∷◌, ◌++◌, None, Some, refl, ap, sym, ◌∙◌, length, subst, arith, append_assoc, length-append}
 use Rattle.std.proofs.lemmas.Bool.{ne_eqb, eq-eqb, cases_eq}
 use Rattle.std.proofs.lemmas.List.{append-nil}
-use Rattle.ns_model.specs.Tallies.{one_if}
-use Rattle.ns_queue.specs.declared.waiter.Waiter.{Waiter}
-use Rattle.ns_queue.specs.Waiters.{is_of, times_in, without_in}
+use Rattle.ns_queue.specs.Prelude.{IsRow, Waiter, ahead, behind, first_seat, from, is_of, one_if, seated, times_in, without_in}
 use Rattle.ns_queue.proofs.Seats.{few, own_times, times_in-cons, times_in-append}
 use Rattle.ns_queue.proofs.Inside.{times_in-filter}
-use Rattle.ns_queue.specs.Rings.{ahead, behind, from, first_seat, seated, IsRow}
 use Rattle.ns_queue.proofs.Hops.{seated_rest, stands_not}
 use Rattle.ns_queue.proofs.Ringed.{stands_low, without_among}
 

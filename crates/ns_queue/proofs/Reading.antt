@@ -3,18 +3,13 @@ use Rattle.std.proofs.Common.{◌≡◌, ℕ, zero, suc, ◌+◌, ◌≤◌, ◌
 use Rattle.std.specs.Prelude.{unwrap_or}
 use Rattle.std.proofs.lemmas.Bool.{cases_Bool}
 use Rattle.std.proofs.lemmas.List.{append-nil, length-append, length-drop, take-append-drop}
-use Rattle.ns_queue.specs.declared.waiter.Waiter.{Waiter}
-use Rattle.ns_queue.specs.Scans.{begins_with_reader, foremost_of, is_eligible, is_alike, left_by_writer, left_of, tests_of, woken_of}
-use Rattle.ns_queue.specs.declared.scan.Foremost.TheVariants.{Nobody, Reader, Writer}
-use Rattle.ns_queue.specs.declared.scan.Sought.{Sought}
-use Rattle.ns_queue.specs.Stages.{asked_for, asking, in_front, needs, stage_next, tests_from, tests_seeking}
-use Rattle.ns_queue.specs.Waiters.{reads, seats_of, without_in, writes}
+use Rattle.ns_queue.specs.Prelude.{IsRow, Reader, Sought, Waiter, Writer, asked_for, asking, begins_with_reader, behind, first_seat, foremost_of, from, in_front, is_alike, is_eligible, left_by_writer, left_of, needs, reads, seated, seats_of, sought_of, sought_seat}
+use Rattle.ns_queue.specs.Prelude.{stage_next, tests_from, tests_of, tests_seeking, without_all, without_in, woken_of, writes}
+use Rattle.ns_queue.specs.declared.scan.Foremost.TheVariants.{Nobody}
 use Rattle.ns_queue.proofs.Asking.{Enters, Knows, asking_most, knows_asked, knows_entered, met_entered, taken_asked}
 use Rattle.ns_queue.proofs.RunCounts.{tests_is}
 use Rattle.ns_queue.proofs.Seats.{few}
 use Rattle.ns_queue.proofs.Seeking.{all_sought, few_sought, front_most, goes_along, nobody_taken, tests_found}
-use Rattle.ns_queue.specs.Rings.{behind, from, first_seat, seated, without_all, IsRow}
-use Rattle.ns_queue.specs.Runs.{sought_of, sought_seat}
 use Rattle.ns_queue.proofs.Leaving.{woken_leave}
 use Rattle.ns_queue.proofs.Places.{cut_at, found, from_none, row_at, stepped}
 

@@ -1,16 +1,13 @@
 -- What a waiter more or less makes of the entries, the links and the counts.
-use Rattle.std.proofs.Common.{◌≡◌, ℕ, zero, suc, ◌+◌, ◌*◌, ◌^◌, ◌≤◌, ◌<◌, inl, inr, Bool, true, false, cond, eqb, nat_lt, ◌||◌, List, [], ◌∷◌, ◌++◌, length, get_or, set, Option, None, Some, refl, ap, sym, ◌∙◌, subst, arith, length-set, length-append, Fits, w64, IsTrue, ◌↔◌, is_some, replicate}
+use Rattle.std.proofs.Common.{◌≡◌, ℕ, zero, suc, ◌+◌, ◌*◌, ◌^◌, ◌≤◌, ◌<◌, inl, inr, Bool, true, false, cond, eqb, nat_lt, ◌||◌, List, [], ◌∷◌, ◌++◌, length, get_or, set, Option, None, Some, refl, ap, sym, ◌∙◌, subst, arith, length-set, length-append, Fits, w64, IsTrue}
+use Rattle.std.proofs.Common.{◌↔◌, is_some, replicate}
 use Rattle.std.proofs.Math.Nat.{mul-le-mul_right}
 use Rattle.std.specs.List.{count_by, list_any}
 use Rattle.std.specs.Option.{option_map}
 use Rattle.std.proofs.lemmas.Bool.{ne_eqb, eq-eqb, cases_eq, cases_lt}
 use Rattle.std.proofs.lemmas.List.{append-nil, get_or-set_same, get_or-set_other, get_or_default}
 use Rattle.std.proofs.lemmas.List.Sums.{sum_by-cons, sum_by-append}
-use Rattle.ns_model.specs.Tallies.{one_if}
-use Rattle.ns_queue.specs.declared.waiter.Waiter.{Waiter}
-use Rattle.ns_queue.specs.declared.counts.Counts.{Counts}
-use Rattle.ns_queue.specs.Waiters.{times_in, without_in, HaveSeats, has_condition, is_long}
-use Rattle.ns_queue.specs.Rings.{Hops, first_seat, last_seat, seated, gather, ahead, behind, IsRow, Holds, DoCount, counts_of, counts_more, counts_less, writes_plainly}
+use Rattle.ns_queue.specs.Prelude.{Counts, DoCount, HaveSeats, Holds, Hops, IsRow, Waiter, ahead, behind, counts_less, counts_more, counts_of, first_seat, gather, has_condition, is_long, last_seat, one_if, seated, times_in, without_in, writes_plainly}
 use Rattle.ns_queue.proofs.Seats.{none_without, room_for, some_more, times_in-cons, times_in-append}
 use Rattle.ns_queue.proofs.Hops.{Spread, stands_not, linked, joined, seated_none, seated_other, seated_here, gather_is, first_hop, last_hop, rest_hops, hop_back, Parted, part}
 

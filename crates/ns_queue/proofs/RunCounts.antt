@@ -2,11 +2,7 @@
 use Rattle.std.proofs.Common.{◌≡◌, ℕ, ◌+◌, ◌≤◌, Bool, true, false, not, cond, ◌&&◌, ◌||◌, List, [], ◌∷◌, ◌++◌, length, map, Option, None, Some, is_some, refl, ap, sym, ◌∙◌, arith, length-append}
 use Rattle.std.specs.List.{count_by, list_any}
 use Rattle.std.proofs.lemmas.List.Sums.{sum_by-append, sum_by-cons, count_by-le-length}
-use Rattle.ns_queue.specs.declared.waiter.Waiter.{Waiter}
-use Rattle.ns_queue.specs.Waiters.{reads, writes}
-use Rattle.ns_queue.specs.Scans.{is_eligible, is_alike, Asked, asked_of, goes_on, started, ended, runs_after, runs_of, tests_of}
-use Rattle.ns_queue.specs.Stages.{Ended, Reading, Seeking, Stage, needs, stage_after, tests_from}
-use Rattle.ns_model.specs.Tallies.{one_if}
+use Rattle.ns_queue.specs.Prelude.{Asked, Ended, Reading, Seeking, Stage, Waiter, asked_of, ended, goes_on, is_alike, is_eligible, needs, one_if, reads, runs_after, runs_of, stage_after, started, tests_from, tests_of, writes}
 
 module _ {C : Type 0} where
   abbrev asks : List (Asked C) → Bool

@@ -1,15 +1,9 @@
 -- From run to run where nobody is taken: one test a run, and the link from the run's last.
 use Rattle.std.proofs.Common.{◌≡◌, ℕ, ◌+◌, ◌≤◌, ◌<◌, inl, inr, Bool, true, false, cond, List, [], ◌∷◌, ◌++◌, length, ap, get_or, drop, Option, None, Some, is_some, refl, sym, ◌∙◌, subst, arith, append_assoc, Fits, w32}
 use Rattle.std.proofs.lemmas.Bool.{cases_Bool}
-use Rattle.ns_model.specs.Tallies.{one_if}
-use Rattle.ns_queue.specs.declared.waiter.Waiter.{Waiter}
-use Rattle.ns_queue.specs.Waiters.{times_in}
-use Rattle.ns_queue.specs.Scans.{is_eligible, is_satisfied, is_alike}
-use Rattle.ns_queue.specs.Stages.{in_front, tests_seeking}
+use Rattle.ns_queue.specs.Prelude.{IsRow, RunsOn, Waiter, ahead, behind, first_seat, from, head_of, in_front, is_alike, is_eligible, is_satisfied, joins, one_if, place_of, seated, sought_of, sought_seat, tests_seeking, times_in}
 use Rattle.ns_queue.proofs.Seats.{few, own_times, times_in-append}
 use Rattle.ns_queue.proofs.Seeking.{Unmet, alike_unmet, at_most_one, front_no, front_yes, seeking_alike, seeking_found, seeking_other, unmet_of}
-use Rattle.ns_queue.specs.Rings.{ahead, behind, from, first_seat, seated, IsRow}
-use Rattle.ns_queue.specs.Runs.{place_of, joins, head_of, RunsOn, sought_of, sought_seat}
 use Rattle.ns_queue.proofs.Hops.{stands_not}
 use Rattle.ns_queue.proofs.Places.{found, from_none, cut_at, own, parted, row_at, row_front, row_own, row_parts}
 use Rattle.ns_queue.proofs.Links.{head_yes, head_no, on_at, on_rest}

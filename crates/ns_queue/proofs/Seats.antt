@@ -4,9 +4,7 @@ use Rattle.std.specs.List.{count_by}
 use Rattle.std.proofs.lemmas.List.{take_all}
 use Rattle.std.proofs.lemmas.List.Sums.{sum_by-cons, sum_by-append, sum_by_more_le, count_by_more_no}
 use Rattle.std.proofs.lemmas.Bool.{ne_eqb, eq-eqb, cases_eq, cases_lt, lt-ltb, le-ltb}
-use Rattle.ns_model.specs.Tallies.{one_if}
-use Rattle.ns_queue.specs.declared.waiter.Waiter.{Waiter}
-use Rattle.ns_queue.specs.Waiters.{is_of, times_in, without_in}
+use Rattle.ns_queue.specs.Prelude.{Waiter, is_of, one_if, times_in, without_in}
 
 low_none_at : (s : ℕ) → one_if (ltb s 0) ≡ 0
 low_none_at s = rw (le-ltb s 0 (omega arith)) refl

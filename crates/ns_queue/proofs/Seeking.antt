@@ -1,11 +1,7 @@
 -- Whom a scan takes first, and how many conditions it tests to find that one, or nobody.
 use Rattle.std.proofs.Common.{◌≡◌, ℕ, zero, suc, ◌+◌, ◌≤◌, ◌<◌, inl, inr, Bool, true, false, cond, List, [], ◌∷◌, length, get_or, take, drop, Option, None, Some, is_some, IfSome, refl, ap, sym, ◌∙◌, arith, not, ◌&&◌, ◌||◌}
 use Rattle.std.proofs.lemmas.Bool.{cases_Bool}
-use Rattle.ns_queue.specs.declared.waiter.Waiter.{Waiter}
-use Rattle.ns_model.specs.Tallies.{one_if}
-use Rattle.ns_queue.specs.Waiters.{reads}
-use Rattle.ns_queue.specs.Scans.{is_eligible, is_satisfied, is_alike, woken_of}
-use Rattle.ns_queue.specs.Stages.{Seeking, Stage, in_front, needs, stage_after, stage_next, tests_from, tests_seeking}
+use Rattle.ns_queue.specs.Prelude.{Seeking, Stage, Waiter, in_front, is_alike, is_eligible, is_satisfied, needs, one_if, reads, stage_after, stage_next, tests_from, tests_seeking, woken_of}
 
 pub at_most_one : (b : Bool) → cond b 1 0 ≤ 1
 at_most_one true = omega arith

@@ -1,9 +1,7 @@
 -- The lists of the four variables, as they are shown.
 use Rattle.std.proofs.Common.{◌≡◌, List, [], ◌∷◌, length, map, refl, arith}
 use Rattle.std.specs.Prelude.{slice_index_or}
-use Rattle.ns_queue.specs.declared.waiter.Shown.{Shown}
-use Rattle.ns_queue.specs.declared.waiter.Waiter.{Waiter}
-use Rattle.ns_queue.specs.Waiters.{shown_of}
+use Rattle.ns_queue.specs.Prelude.{Shown, Waiter, shown_of}
 
 -- each of four
 pub each_shown : {C : Type 0} (cvs : List (List (Waiter C))) (a b c d : List Shown) → length cvs ≡ 4 →

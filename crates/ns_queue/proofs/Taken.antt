@@ -3,15 +3,8 @@ use Rattle.std.proofs.Common.{◌≡◌, ℕ, zero, suc, ◌+◌, ◌<◌, Bool,
 use Rattle.std.proofs.Math.Bool.{or_comm}
 use Rattle.std.proofs.lemmas.Bool.{ltb-true, lt-ltb, ne_eqb, eq-eqb, cases_eq, cases_lt, le-ltb}
 use Rattle.std.proofs.lemmas.List.{take_more}
-use Rattle.ns_model.specs.declared.seats.Seats.{Seats}
-use Rattle.ns_model.specs.Seats.{is_in}
+use Rattle.ns_queue.specs.Prelude.{Anybody, Every, HaveSeats, Seats, Waiter, is_in, marked, one_if, seats_of, signal_marks, signaled_of, sole_of, taken_set, times_in, unmarked, unsignaled_of}
 use Rattle.ns_model.proofs.Sets.{same_seats, none_in, in_more}
-use Rattle.ns_model.specs.Tallies.{Every, one_if}
-use Rattle.ns_queue.specs.declared.waiter.Waiter.{Waiter}
-use Rattle.ns_queue.specs.declared.signal.Wanted.TheVariants.{Anybody}
-use Rattle.ns_queue.specs.Waiters.{times_in, seats_of, HaveSeats}
-use Rattle.ns_queue.specs.Signals.{signaled_of, sole_of, unsignaled_of, taken_set}
-use Rattle.ns_queue.specs.Marks.{marked, unmarked, signal_marks}
 use Rattle.ns_queue.proofs.Seats.{some_more, times_in-cons, times_in_push}
 use Rattle.ns_queue.proofs.Meaning.{signal_takes, signal_leaves}
 

@@ -1,11 +1,7 @@
 -- Which variables those name whom a scan takes.
 use Rattle.std.proofs.Common.{◌≡◌, inl, inr, Bool, List, [], ◌∷◌, map, Some, filter, refl, ◌∙◌}
 use Rattle.std.proofs.lemmas.Bool.{cases_Bool}
-use Rattle.ns_model.specs.Tallies.{Every}
-use Rattle.ns_queue.specs.declared.waiter.Waiter.{Waiter}
-use Rattle.ns_queue.specs.Scans.{is_eligible, woken_of}
-use Rattle.ns_queue.specs.Rings.{IsRow, seated, via_in}
-use Rattle.ns_queue.specs.Waiters.{seats_of, times_in, writes}
+use Rattle.ns_queue.specs.Prelude.{Every, IsRow, Waiter, is_eligible, seated, seats_of, times_in, via_in, woken_of, writes}
 use Rattle.ns_queue.proofs.Hops.{seated_first, seated_rest, stands_not}
 use Rattle.ns_queue.proofs.Places.{row_own, row_rest}
 use Rattle.ns_queue.proofs.Seeking.{goes_along}

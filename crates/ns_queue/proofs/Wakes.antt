@@ -3,20 +3,10 @@ use Rattle.std.proofs.Common.{◌≡◌, ℕ, ◌+◌, ◌≤◌, ◌<◌, min, 
 use Rattle.std.specs.Bool.{beq}
 use Rattle.std.specs.List.{filter}
 use Rattle.std.proofs.lemmas.Bool.{cases_eq, cases_lt, eqb-true, ne_eqb}
-use Rattle.ns_model.specs.Cvs.{has}
-use Rattle.ns_model.specs.declared.event.Mode.{Mode}
-use Rattle.ns_model.specs.declared.phase.Phase.{Phase}
-use Rattle.ns_model.specs.declared.phase.Phase.TheVariants.{Idle, Cond, Waiting, Woken, Left}
-use Rattle.ns_model.specs.Phases.{is_waiting, is_waiting_as}
-use Rattle.ns_model.specs.Seats.{is_in}
-use Rattle.ns_model.specs.Tallies.{total, one_if}
-use Rattle.ns_model.specs.Wakes.{woken_strangers, waiting_as, woken_as, IsLegalSignal, IsLegalBroadcast}
+use Rattle.ns_queue.specs.Prelude.{AreWaiting, Cond, HaveSeats, Idle, IsLegalBroadcast, IsLegalSignal, Left, Mode, Phase, WaitFor, Waiter, Waiting, WaitsAmong, Woken, has, is_in, is_waiting, is_waiting_as, one_if, readers_and_a_writer, reads, seats_of, signaled_of}
+use Rattle.ns_queue.specs.Prelude.{taken_set, times_in, total, waiting_as, woken_as, woken_strangers, writes}
 use Rattle.ns_model.proofs.Counts.{count_same, count_never, count_split, count_only}
 use Rattle.ns_model.proofs.Sets.{none_in, in_more}
-use Rattle.ns_queue.specs.declared.waiter.Waiter.{Waiter}
-use Rattle.ns_queue.specs.Waiters.{times_in, seats_of, reads, writes, HaveSeats}
-use Rattle.ns_queue.specs.Signals.{readers_and_a_writer, signaled_of, taken_set}
-use Rattle.ns_queue.specs.Wakes.{WaitsAmong, WaitFor, AreWaiting}
 use Rattle.ns_queue.proofs.Seats.{own_times, times_in-cons}
 use Rattle.ns_queue.proofs.Taken.{in_list, not_in_list, in_stands, once_signaled, below_signaled, every_signaled}
 

@@ -1,4 +1,6 @@
 pub mod Marks
+pub mod Names
+pub mod Prelude
 pub mod Queues
 pub mod Rings
 pub mod Room

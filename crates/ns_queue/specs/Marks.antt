@@ -1,8 +1,6 @@
 -- Lists that are taken apart by marks, one for each waiter, as a signal does.
 use Rattle.std.specs.Prelude.{Bool, true, false, List, [], ◌∷◌, if◌then◌else◌}
-use Rattle.ns_queue.specs.declared.waiter.Waiter.{Waiter}
-use Rattle.ns_queue.specs.declared.signal.Wanted.{Wanted}
-use Rattle.ns_queue.specs.declared.signal.Wanted.TheVariants.{Anybody, ReadersAndWriter, Readers, Nobody}
+use Rattle.ns_queue.specs.Names.{Anybody, Nobody, Readers, ReadersAndWriter, Waiter, Wanted}
 use Rattle.ns_queue.specs.Waiters.{reads, writes}
 
 -- those with a mark, and those without

@@ -1,11 +1,7 @@
 -- The five lists.
 use Rattle.std.specs.Prelude.{Some, ◌≡◌, ℕ, zero, suc, ◌+◌, ◌<◌, ◌≤◌, if◌then◌else◌, List, [], ◌∷◌, ◌++◌, map, length, sum_by, slice_index_or, slice_set}
-use Rattle.ns_queue.specs.declared.waiter.Waiter.{Waiter}
-use Rattle.ns_queue.specs.declared.waiter.Which.{Which}
-use Rattle.ns_queue.specs.declared.waiter.Which.TheVariants.{Lock, Cv}
+use Rattle.ns_queue.specs.Names.{Cv, Cvs, Lock, Seats, Waiter, Which}
 use Rattle.ns_model.specs.Cvs.{is_in}
-use Rattle.ns_model.specs.declared.cvs.Cvs.{Cvs}
-use Rattle.ns_model.specs.declared.seats.Seats.{Seats}
 use Rattle.ns_queue.specs.Waiters.{outside, times_in, without_in}
 
 -- the list of the lock, front first, and those of the condition variables, by their numbers

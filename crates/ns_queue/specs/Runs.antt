@@ -1,7 +1,6 @@
 -- The links of the runs: from each waiter to its run's first, and from that one to the run's last.
 use Rattle.std.specs.Prelude.{◌≡◌, ◌<◌, ℕ, Bool, false, List, [], ◌∷◌, Option, None, Some, if◌then◌else◌, drop, length, slice_index}
-use Rattle.ns_queue.specs.declared.scan.Sought.{Sought}
-use Rattle.ns_queue.specs.declared.waiter.Waiter.{Waiter}
+use Rattle.ns_queue.specs.Names.{Sought, Waiter}
 use Rattle.ns_queue.specs.Waiters.{times_in, without_in}
 use Rattle.ns_queue.specs.Scans.{is_alike}
 use Rattle.ns_queue.specs.Stages.{in_front, tests_seeking}

@@ -1,10 +1,8 @@
 -- The scan of the lock list: whom a release wakes, who stays, and how many conditions it has to test.
 use Rattle.std.specs.Prelude.{ℕ, Bool, true, false, not, ◌&&◌, List, [], ◌∷◌, ◌++◌, map, filter, count_by, if◌then◌else◌, Option, None, Some, is_some}
 use Rattle.std.specs.List.{list_any}
-use Rattle.ns_queue.specs.declared.scan.Foremost.{Foremost}
-use Rattle.ns_queue.specs.declared.scan.Foremost.TheVariants.{Nobody, Reader, Writer}
-use Rattle.ns_queue.specs.declared.scan.Sought.{Sought}
-use Rattle.ns_queue.specs.declared.waiter.Waiter.{Waiter}
+use Rattle.ns_queue.specs.Names.{Foremost, Reader, Sought, Waiter, Writer}
+use Rattle.ns_queue.specs.declared.scan.Foremost.TheVariants.{Nobody}
 use Rattle.ns_queue.specs.Waiters.{reads, writes}
 
 -- no condition, or one that is true

@@ -2,18 +2,17 @@
 use Rattle.std.specs.Prelude.{ℕ, ◌+◌, ◌*◌, ◌<◌, ◌^◌}
 use Rattle.std.proofs.Common.{arith}
 use Rattle.std.specs.Mem.{FitsInMemory}
+use Rattle.std.specs.contracts.option.Option.{the_row as option_row}
+use Rattle.ns_queue.specs.Names.{Ghosts, HasRoom, room, room_enough}
 use prog.Memory.{size}
 use mir.Syntax.{Ty, ty_array}
 use denote.RattleType.{RattleType}
 use denote.Param.{layout, copied, param, number, value_of}
 use denote.Builtin.{unit}
-use Rattle.std.specs.contracts.option.Option.{the_row as option_row}
 use Rattle.arrayvec.specs.contracts.array_vec.ArrayVec.{the_row as list_row}
 use Rattle.ns_queue.specs.contracts.waiter.Waiter.{the_row as waiter_row}
 use Rattle.ns_queue.specs.contracts.lock_list.LockList.{the_row as lock_row}
 use Rattle.ns_queue.specs.contracts.queues.Queues.{the_row as queues_row}
-use Rattle.ns_model.specs.declared.condition.Condition.{Ghosts}
-use Rattle.ns_model.specs.Room.{HasRoom, room, room_enough}
 
 -- what takes little by the bound is small; of any type, so that no size is worked out
 small_by : (τ : Ty) → room τ < 2 ^ 63 → size τ < 2 ^ 63

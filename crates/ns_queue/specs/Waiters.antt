@@ -1,10 +1,6 @@
 -- Waiters, one by one and in a list.
 use Rattle.std.specs.Prelude.{◌≡◌, ◌≤◌, ℕ, ◌==◌, Bool, not, List, map, count_by, filter, is_some}
-use Rattle.ns_model.specs.Phases.{is_write}
-use Rattle.ns_model.specs.Seats.{is_in}
-use Rattle.ns_model.specs.declared.seats.Seats.{Seats}
-use Rattle.ns_queue.specs.declared.waiter.Waiter.{Waiter}
-use Rattle.ns_queue.specs.declared.waiter.Shown.{Shown}
+use Rattle.ns_queue.specs.Names.{Seats, Shown, Waiter, is_in, is_write}
 
 -- the form in which a waiter is shown
 abbrev pub shown_of : {C : Type 0} → Waiter C → Shown

@@ -1,15 +1,6 @@
 -- The list of a variable beside the phases of the seats.
 use Rattle.std.specs.Prelude.{◌≡◌, ◌≤◌, ℕ, true, List, if◌then◌else◌}
-use Rattle.ns_model.specs.declared.event.Mode.{Mode}
-use Rattle.ns_model.specs.declared.cvs.Variables.{Variables}
-use Rattle.ns_model.specs.Cvs.{has}
-use Rattle.ns_model.specs.declared.phase.Phase.{Phase}
-use Rattle.ns_model.specs.declared.phase.Phase.TheVariants.{Waiting}
-use Rattle.ns_model.specs.declared.seats.Seats.{Seats}
-use Rattle.ns_model.specs.Phases.{is_waiting, woken_phase}
-use Rattle.ns_model.specs.Seats.{is_in}
-use Rattle.ns_model.specs.Tallies.{Every}
-use Rattle.ns_queue.specs.declared.waiter.Waiter.{Waiter}
+use Rattle.ns_queue.specs.Names.{Every, Mode, Phase, Seats, Variables, Waiter, Waiting, has, is_in, is_waiting, woken_phase}
 use Rattle.ns_queue.specs.Waiters.{times_in, HaveSeats}
 
 -- the phase is that of a wait in this mode, for variables among which is k

@@ -6,14 +6,8 @@ use Rattle.std.specs.List.{list_all}
 use Rattle.std.specs.Str.{is_utf8}
 use Rattle.std.proofs.lemmas.Str.{is_utf8-from_IsUtf8, IsUtf8-from_is_utf8}
 use Rattle.std.proofs.lemmas.Bool.Decides.{nat_tests}
-use Rattle.serde_json.specs.Data.{Data}
+use Rattle.ns_replay.specs.Prelude.{Data, NotJson, ScriptPath, TooMany, are_known, as_array, is_known, items_of, json_of, json_read, list_in, list_of, members_view, read}
 use Rattle.serde_json.specs.declared.value.Value.{Value}
-use Rattle.serde_json.specs.Find.{as_array}
-use Rattle.serde_json.specs.Read.{read}
-use Rattle.serde_json.specs.View.{items_of, members_view}
-use Rattle.ns_replay.specs.declared.path.ScriptPath.{ScriptPath}
-use Rattle.ns_replay.specs.declared.fault.Fault.TheVariants.{NotJson, TooMany}
-use Rattle.ns_replay.specs.Script.{json_of, json_read, list_of, list_in, is_known, are_known}
 
 pub json_ok : (bytes : List ℕ) (d : Data) → IsUtf8 bytes → read bytes ≡ Some d → json_of bytes ≡ Ok d
 unfolding json_of

@@ -1,7 +1,6 @@
 -- What a loop has read, and what it still reads.
 use Rattle.std.proofs.Common.{List, ◌++◌, Result, Ok}
-use Rattle.ns_replay.specs.declared.fault.Fault.{Fault}
-use Rattle.ns_replay.specs.Faults.{◌>>=◌}
+use Rattle.ns_replay.specs.Prelude.{Fault, ◌>>=◌}
 
 -- what was read before, and what is still read
 abbrev pub with_front : {B : Type 0} → List B → Result (List B) Fault → Result (List B) Fault

@@ -3,14 +3,8 @@ use Rattle.std.proofs.Common.{◌≡◌, ℕ, ◌<◌, ◌≤◌, true, false, L
 use Rattle.std.specs.Prelude.{nat_lt}
 use Rattle.std.proofs.KnownBytes.{Keeps-refl}
 use Rattle.std.proofs.lemmas.Bool.Decides.{nat_tests}
+use Rattle.ns_replay.specs.Prelude.{Answers, BadScript, Collects, Counts, Ended, Fails, Fault, Gave, IsEnough, IsRefused, IsRunFault, NotJson, OutOfMemory, Plan, Read, StepLimit, TooMany, WasRead, Write, max_bytes, plan_from, script_of}
 use Rattle.ns_replay.specs.declared.path.ScriptPath.TheVariants as at
-use Rattle.ns_replay.specs.declared.fault.Fault.{Fault}
-use Rattle.ns_replay.specs.declared.fault.Fault.TheVariants.{OutOfMemory, NotJson, BadScript, TooMany, StepLimit, Read, Write}
-use Rattle.ns_replay.specs.Faults.{Fails}
-use Rattle.ns_replay.specs.Script.{Plan, script_of}
-use Rattle.ns_replay.specs.Streams.{Counts}
-use Rattle.ns_replay.specs.Transfer.{Gave, Collects, IsEnough, max_bytes}
-use Rattle.ns_replay.specs.Replaying.{IsRunFault, plan_from, IsRefused, WasRead, Ended, Answers}
 
 -- ---- bytes that are not too many
 

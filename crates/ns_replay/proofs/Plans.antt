@@ -5,28 +5,12 @@ use Rattle.std.proofs.lemmas.Bool.Decides.{nat_tests}
 use Rattle.std.specs.Global.{Vec}
 use Rattle.std.proofs.lemmas.List.{length-map}
 use Rattle.std.proofs.lemmas.List.Elements.{All-nil, All-cons}
-use Rattle.serde_json.specs.Data.{Data}
-use Rattle.serde_json.specs.Find.{get, as_str, as_number, as_u64, as_array}
-use Rattle.ns_world.specs.declared.call.Call.{Call}
-use Rattle.ns_world.specs.declared.call.Call.TheVariants.{Lock, RLock, TryLock, TryRLock, Unlock, RUnlock, UnlockQuiet, Get, Set, Wait, CvWait, Signal, Broadcast, NewNote, Notify, Advance, IsNotified, Expiry, NoteWait, Add, Value, CounterWait, Once, Done, WaitAny}
-use Rattle.ns_world.specs.declared.schedule.Turn.{Turn}
-use Rattle.ns_world.specs.Calls.{CallInRange, IsNoteNumber, IsVariable, IsMoment}
-use Rattle.ns_replay.specs.declared.path.ScriptPath.{ScriptPath}
+use Rattle.ns_replay.specs.Prelude.{Add, Advance, Broadcast, Call, CallInRange, CounterWait, CvWait, Data, Declared, Done, Expiry, Fault, Get, IsMoment, IsNoteNumber, IsNotified, IsRunnable, IsShort, IsVariable, Item, Items, Limits, Lock, NewNote, NoteWait, Notify}
+use Rattle.ns_replay.specs.Prelude.{Once, Plan, RLock, RUnlock, ScriptCondition, ScriptPath, Set, Signal, TryLock, TryRLock, Turn, Unlock, UnlockQuiet, Value, Wait, WaitAny, actor_of, add_of, any_variables, any_wait_of, as_array, as_number, as_str, as_u64, at_most}
+use Rattle.ns_replay.specs.Prelude.{below, brief_call_of, call_at, call_of, calls_at, change_of, condition_of, counter_at, counters_of, each_from, get, item_of, items_behind, items_in, json_of, limits_of, list_in, list_of, long_call_of, members_of, moment_of}
+use Rattle.ns_replay.specs.Prelude.{moment_or_none_of, need, no_items, note_limit_of, note_or_none_of, number_of, onces_of, one_more, parts, plain_call_of, plan_in, schedule_of, script_of, short_call_of, threads_of, turn_at, turn_of, variable_wait_of, variables_of}
+use Rattle.ns_replay.specs.Prelude.{version_of, wait_of, with_item, words_of, ◌>>=◌}
 use Rattle.ns_replay.specs.declared.path.ScriptPath.TheVariants as at
-use Rattle.ns_replay.specs.declared.fault.Fault.{Fault}
-use Rattle.ns_replay.specs.Faults.{◌>>=◌, need, each_from}
-use Rattle.ns_replay.specs.declared.condition.ScriptCondition.{ScriptCondition}
-use Rattle.ns_env.specs.declared.limits.Limits.{Limits}
-use Rattle.ns_world.specs.declared.items.Item.{Item}
-use Rattle.ns_world.specs.declared.items.Items.{Items}
-use Rattle.ns_world.specs.Items.{no_items, with_item}
-use Rattle.ns_replay.specs.declared.objects.Declared.{Declared}
-use Rattle.ns_replay.specs.Objects.{any_wait_of, item_of, items_behind, items_in, one_more}
-use Rattle.ns_replay.specs.Words.{parts, number_of, below, change_of, moment_of, moment_or_none_of, note_or_none_of}
-use Rattle.ns_replay.specs.Waits.{condition_of, note_limit_of, limits_of, wait_of, variable_wait_of}
-use Rattle.ns_replay.specs.Calls.{add_of, call_of, brief_call_of, plain_call_of, short_call_of, long_call_of, actor_of, turn_of}
-use Rattle.ns_replay.specs.Script.{Plan, list_of, at_most, list_in, call_at, calls_at, threads_of, words_of, turn_at, schedule_of, members_of, version_of, counter_at, counters_of, onces_of, variables_of, any_variables, plan_in, json_of, script_of}
-use Rattle.ns_replay.specs.Runnable.{IsShort, IsRunnable}
 
 -- ---- what a reading that succeeded went through
 

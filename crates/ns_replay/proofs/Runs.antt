@@ -5,32 +5,14 @@ use Rattle.std.specs.List.{AllByRecursion}
 use Rattle.std.specs.Global.{Vec}
 use Rattle.std.proofs.lemmas.List.{length-set, length-map}
 use Rattle.std.proofs.lemmas.List.Elements.{All-nil, All-append, All-replicate, All-from_recursion, recursion_from_All}
-use Rattle.ns_world.specs.declared.call.Call.{Call}
-use Rattle.ns_world.specs.declared.schedule.Line.{Line}
-use Rattle.ns_world.specs.declared.schedule.Turn.{Turn}
-use Rattle.ns_world.specs.declared.step.Step.{Step}
-use Rattle.ns_world.specs.declared.step.Step.TheVariants.{Went, Idle, Finished, Nothing}
-use Rattle.ns_world.specs.declared.fault.Fault.{Fault as WorldFault}
-use Rattle.ns_world.specs.declared.fault.Fault.TheVariants as world
-use Rattle.ns_word.specs.Begins.{fresh_views}
-use Rattle.ns_word.specs.declared.view.SeatView.{SeatView}
-use Rattle.ns_world.specs.declared.call.Start.{Start}
-use Rattle.ns_world.specs.declared.call.Start.TheVariants.{OnLock, Ask, OnObjects}
-use Rattle.ns_world.specs.Begins.{begun_at}
-use Rattle.ns_world.specs.Calls.{start_of, mode_of}
-use Rattle.ns_world.specs.Whole.{Whole, fresh_whole, whole_busy}
-use Rattle.ns_world.specs.World.{Now, is_walking, is_asking, is_busy}
+use Rattle.ns_replay.specs.Prelude.{Ask, Call, Finished, GoesOnOrBegins, Idle, IsRunFault, IsRunnable, IsShort, Line, ListFits, Nothing, Now, OnLock, OnObjects, Plan, Progress, RunFault, Runs, RunsTo, Script, ScriptCondition, SeatView, Start, Step, StopsFor, Turn}
+use Rattle.ns_replay.specs.Prelude.{TurnOf, Turned, TurnsOf, Went, Whole, WorldFault, begun_at, fault_of_world, fresh_views, fresh_whole, is_asking, is_busy, is_end, is_walking, mode_of, plan_of, progressed, rest_of, script_truths, start, start_of, whole_busy}
+use Rattle.ns_replay.specs.Prelude.{world_for}
 use Rattle.ns_world.proofs.Turns.{step_stays}
 use Rattle.ns_world.proofs.Walks.{none_stand}
-use Rattle.ns_world.specs.Runs.{Runs, Progress, GoesOnOrBegins, TurnOf, TurnsOf, Turned, Item, items_of, rest_of, is_end, progressed, start, StopsFor, RunFault, ListFits}
+use Rattle.ns_world.specs.Runs.{Item, items_of}
 use Rattle.ns_world.proofs.Fresh.{length_views}
-use Rattle.ns_replay.specs.Condition.{script_truths}
-use Rattle.ns_replay.specs.declared.condition.ScriptCondition.{ScriptCondition}
-use Rattle.ns_replay.specs.Faults.{fault_of_world}
-use Rattle.ns_replay.specs.declared.script.Script.{Script}
-use Rattle.ns_replay.specs.Script.{Plan, plan_of}
-use Rattle.ns_replay.specs.Runnable.{IsShort, IsRunnable}
-use Rattle.ns_replay.specs.Replaying.{world_for, RunsTo, IsRunFault}
+use Rattle.ns_world.specs.declared.fault.Fault.TheVariants as world
 
 -- ---- a run keeps the number of seats
 

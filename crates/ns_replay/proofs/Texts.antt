@@ -5,10 +5,7 @@ use Rattle.std.specs.List.{range_with_len}
 use Rattle.std.proofs.lemmas.Grind.{flat_map-append}
 use Rattle.std.proofs.lemmas.List.Elements.{filter-append}
 use Rattle.std.proofs.lemmas.List.{append-nil}
-use Rattle.ns_model.specs.declared.seats.Seats.{Seats}
-use Rattle.ns_model.specs.Seats.{is_in}
-use Rattle.ns_world.specs.declared.schedule.Line.{Line}
-use Rattle.ns_replay.specs.Text.{left_text, lefts_text, after_comma, numbers_text, seat_text, seats_below}
+use Rattle.ns_replay.specs.Prelude.{Line, Seats, after_comma, is_in, left_text, lefts_text, numbers_text, seat_text, seats_below}
 
 -- what grew twice grew by both
 pub grows : (old mid new xs ys : List ℕ) → mid ≡ old ++ xs → new ≡ mid ++ ys → new ≡ old ++ (xs ++ ys)

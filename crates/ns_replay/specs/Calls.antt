@@ -1,10 +1,7 @@
 -- What the words of a call and of a schedule write.
 use Rattle.std.specs.Prelude.{ℕ, ◌&&◌, List, [], ◌∷◌, Bool, true, false, codes, bytes_eq, nat_lt, nat_le, if◌then◌else◌, Option, Some, None, option_map, option_and_then}
-use Rattle.ns_world.specs.declared.call.Call.{Call}
-use Rattle.ns_world.specs.declared.call.Call.TheVariants.{Lock, RLock, TryLock, TryRLock, Unlock, RUnlock, UnlockQuiet, Get, Set, Wait, CvWait, Signal, Broadcast, NewNote, Notify, Advance, IsNotified, Expiry, NoteWait, Add, Value, CounterWait, Once, Done, WaitAny}
-use Rattle.ns_world.specs.declared.schedule.Turn.{Turn}
-use Rattle.ns_replay.specs.declared.condition.ScriptCondition.{ScriptCondition}
-use Rattle.ns_replay.specs.declared.objects.Declared.{Declared}
+use Rattle.ns_replay.specs.Names.{Add, Advance, Broadcast, Call, CounterWait, CvWait, Declared, Done, Expiry, Get, IsNotified, Lock, NewNote, NoteWait, Notify, Once, RLock, RUnlock, ScriptCondition, Set, Signal, TryLock, TryRLock, Turn, Unlock, UnlockQuiet, Value, Wait}
+use Rattle.ns_replay.specs.Names.{WaitAny}
 use Rattle.ns_replay.specs.Objects.{any_wait_of}
 use Rattle.ns_replay.specs.Words.{parts, number_of, below, change_of, moment_of, moment_or_none_of, note_or_none_of}
 use Rattle.ns_replay.specs.Waits.{wait_of, variable_wait_of}

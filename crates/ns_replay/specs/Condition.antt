@@ -1,9 +1,7 @@
 -- The conditions of scripts.
 use Rattle.std.specs.Prelude.{ℕ, List, [], ◌++◌, length, zip, slice_index, Bool, true, false, ◌&&◌, ◌==◌, nat_le, nat_lt, Option, Some, None, codes, decimal}
 use Rattle.std.specs.List.{list_all}
-use Rattle.ns_model.specs.Truths.{Truths, truths}
-use Rattle.ns_replay.specs.declared.condition.AtLeast.{AtLeast}
-use Rattle.ns_replay.specs.declared.condition.ScriptCondition.{ScriptCondition}
+use Rattle.ns_replay.specs.Names.{AtLeast, ScriptCondition, Truths, truths}
 
 -- `I>=V`
 abbrev pub at_least_text : AtLeast → List ℕ

@@ -1,11 +1,8 @@
 -- Faults, their texts, and readings that may fail.
 use Rattle.std.specs.Prelude.{◌≡◌, ℕ, ◌+◌, List, [], ◌∷◌, ◌++◌, codes, decimal, Option, Some, None, Result, Ok, Err}
-use Rattle.ns_world.specs.declared.fault.Fault.{Fault as WorldFault}
+use Rattle.ns_replay.specs.Names.{BadScript, Fault, NotJson, OutOfMemory, Read, ScriptPath, StepLimit, TooMany, WorldFault, Write}
 use Rattle.ns_world.specs.declared.fault.Fault.TheVariants as world
-use Rattle.ns_replay.specs.declared.path.ScriptPath.{ScriptPath}
 use Rattle.ns_replay.specs.declared.path.ScriptPath.TheVariants as at
-use Rattle.ns_replay.specs.declared.fault.Fault.{Fault}
-use Rattle.ns_replay.specs.declared.fault.Fault.TheVariants.{OutOfMemory, NotJson, BadScript, TooMany, StepLimit, Read, Write}
 
 -- a path, as it is printed
 abbrev pub path_text : ScriptPath → List ℕ

@@ -2,7 +2,9 @@ pub mod Calls
 pub mod Condition
 pub mod ConditionLaws
 pub mod Faults
+pub mod Names
 pub mod Objects
+pub mod Prelude
 pub mod Replaying
 pub mod Runnable
 pub mod Script

@@ -1,21 +1,15 @@
 -- What a replay answers and writes.
 use Rattle.std.specs.Prelude.{◌≡◌, ℕ, ◌<◌, ◌≤◌, ◌⊎◌, ⊤, List, ◌++◌, length, nat_lt, if◌then◌else◌, Option, Result, Ok, Err}
 use Rattle.std.specs.Io.KnownBytes.{Appends, IsAtEnd, Keeps}
-use Rattle.ns_world.specs.declared.fault.Fault.TheVariants as TheFault
-use Rattle.ns_world.specs.declared.schedule.Line.{Line}
-use Rattle.ns_world.specs.Whole.{Whole, fresh_whole}
-use Rattle.ns_world.specs.Runs.{Runs, RunFault}
-use Rattle.ns_replay.specs.declared.condition.ScriptCondition.{ScriptCondition}
+use Rattle.ns_replay.specs.Names.{Fault, Line, Options, OutOfMemory, Read, RunFault, Runs, ScriptCondition, StepLimit, TooMany, Whole, Write, fresh_whole}
 use Rattle.ns_replay.specs.Condition.{script_truths}
-use Rattle.ns_replay.specs.declared.options.Options.{Options}
-use Rattle.ns_replay.specs.declared.path.ScriptPath.TheVariants as at
-use Rattle.ns_replay.specs.declared.fault.Fault.{Fault}
-use Rattle.ns_replay.specs.declared.fault.Fault.TheVariants.{OutOfMemory, TooMany, StepLimit, Read, Write}
 use Rattle.ns_replay.specs.Runnable.{IsRunnable}
 use Rattle.ns_replay.specs.Script.{Plan, script_of}
 use Rattle.ns_replay.specs.Streams.{Counts}
 use Rattle.ns_replay.specs.Text.{text_of}
 use Rattle.ns_replay.specs.Transfer.{max_bytes}
+use Rattle.ns_world.specs.declared.fault.Fault.TheVariants as TheFault
+use Rattle.ns_replay.specs.declared.path.ScriptPath.TheVariants as at
 
 -- ---- a run
 

@@ -1,21 +1,12 @@
 -- The script that bytes give, or their first refusal.
 use Rattle.std.specs.Prelude.{ℕ, ◌==◌, ◌&&◌, ◌||◌, List, [], ◌∷◌, length, map, Bool, true, codes, bytes_eq, nat_le, if◌then◌else◌, Option, Some, None, option_map, option_and_then, Result, Ok, Err}
 use Rattle.std.specs.Str.{is_utf8}
-use Rattle.serde_json.specs.Data.{Data, Items, no_items, item, Members, no_members, member}
-use Rattle.serde_json.specs.Find.{get, as_number, as_u64, as_str, as_array, as_object}
-use Rattle.serde_json.specs.Read.{read}
-use Rattle.ns_world.specs.declared.call.Call.{Call}
-use Rattle.ns_world.specs.declared.schedule.Turn.{Turn}
-use Rattle.ns_replay.specs.declared.script.Script.{Script}
-use Rattle.ns_replay.specs.declared.objects.Declared.{Declared}
-use Rattle.ns_replay.specs.declared.path.ScriptPath.{ScriptPath}
-use Rattle.ns_replay.specs.declared.path.ScriptPath.TheVariants as at
-use Rattle.ns_replay.specs.declared.fault.Fault.{Fault}
-use Rattle.ns_replay.specs.declared.fault.Fault.TheVariants.{NotJson, BadScript, TooMany}
+use Rattle.ns_replay.specs.Names.{BadScript, Call, Data, Declared, Fault, Members, NotJson, Script, ScriptCondition, ScriptPath, TooMany, Turn, as_array, as_number, as_object, as_str, as_u64, get, item, member, no_members, read}
+use Rattle.serde_json.specs.Data.{Items, no_items}
 use Rattle.ns_replay.specs.Faults.{◌>>=◌, need, each_from}
-use Rattle.ns_replay.specs.declared.condition.ScriptCondition.{ScriptCondition}
 use Rattle.ns_replay.specs.Words.{parts}
 use Rattle.ns_replay.specs.Calls.{call_of, turn_of}
+use Rattle.ns_replay.specs.declared.path.ScriptPath.TheVariants as at
 
 -- what to run: what each counter begins with, how many once cells and condition variables there are, the calls of each thread, and whose turn it is
 pub record Plan : Type 0 where

@@ -1,8 +1,7 @@
 -- What a read and a write do to the bytes, and what is counted of them.
 use Rattle.std.specs.Prelude.{◌≡◌, ℕ, zero, suc, ◌+◌, ◌%◌, ◌^◌, ◌≤◌, List, length, take, Bool, true, false, Option, Some, None}
 use Rattle.std.specs.Io.KnownBytes.{Consumes, Appends, Keeps, IsAtEnd}
-use Rattle.ns_replay.specs.declared.streams.Got.{Got}
-use Rattle.ns_replay.specs.declared.streams.Got.TheVariants.{Bytes, Interrupted, Failed}
+use Rattle.ns_replay.specs.Names.{Bytes, Failed, Got, Interrupted}
 
 -- a count went up so many times, modulo 2^64
 abbrev pub Counts : ℕ → ℕ → ℕ → Type 0

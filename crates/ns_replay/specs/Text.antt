@@ -1,35 +1,14 @@
 -- The text of a run, by its parts.
 use Rattle.std.specs.Prelude.{ℕ, List, [], ◌∷◌, ◌++◌, Bool, true, false, ◌&&◌, ◌==◌, if◌then◌else◌, Option, Some, None, option_and_then, codes, decimal, flat_map, map, filter, count_by, slice_get, length, nat_lt, ◌+◌}
 use Rattle.std.specs.List.{range_with_len}
-use Rattle.ns_model.specs.declared.event.Mode.{Mode}
-use Rattle.ns_model.specs.declared.event.Mode.TheVariants as mode
-use Rattle.ns_model.specs.declared.event.Answer.{Answer}
-use Rattle.ns_model.specs.declared.event.Answer.TheVariants.{Met, TimedOut, Canceled}
-use Rattle.ns_model.specs.declared.event.Entry.{Entry}
-use Rattle.ns_model.specs.declared.cvs.Cvs.{Cvs}
-use Rattle.ns_model.specs.declared.event.Entry.TheVariants.{Plain, Waited, AfterCv, AfterAny}
-use Rattle.ns_model.specs.declared.event.Exit.{Exit}
-use Rattle.ns_model.specs.declared.event.Exit.TheVariants.{CondWait, CvWait, AnyWait}
-use Rattle.ns_model.specs.declared.event.Exit.TheVariants as TheExit
-use Rattle.ns_model.specs.declared.event.Event.{Event}
-use Rattle.ns_model.specs.declared.event.Event.TheVariants.{Section, Signal, Broadcast, Leave, LeaveAny}
-use Rattle.ns_model.specs.declared.seats.Seats.{Seats}
-use Rattle.ns_model.specs.Seats.{is_in}
-use Rattle.ns_queue.specs.declared.waiter.Shown.{Shown}
-use Rattle.ns_word.specs.declared.word.Word.{Word}
-use Rattle.ns_model.specs.declared.counter.CounterFault.{CounterFault}
-use Rattle.ns_model.specs.declared.counter.CounterFault.TheVariants.{Under, Over, AfterWait}
-use Rattle.ns_world.specs.declared.reply.Reply.{Reply}
-use Rattle.ns_world.specs.declared.reply.Reply.TheVariants.{Succeeded, Busy, Noisy, Number, NotesFull, Is, Expiry, Answered, Misuse, Refused, Ran, Already}
-use Rattle.ns_world.specs.declared.call.Call.{Call}
-use Rattle.ns_world.specs.declared.call.Call.TheVariants.{Unlock, RUnlock, UnlockQuiet}
-use Rattle.ns_world.specs.declared.schedule.Line.{Line}
-use Rattle.ns_replay.specs.declared.condition.ScriptCondition.{ScriptCondition}
-use Rattle.ns_queue.specs.Waiters.{shown_of}
-use Rattle.ns_world.specs.Whole.{Whole, whole_busy}
-use Rattle.ns_world.specs.Shows.{lists_shown, wakes_owed}
+use Rattle.ns_replay.specs.Names.{AfterAny, AfterCv, AfterWait, Already, Answer, Answered, AnyWait, Busy, Call, Canceled, CondWait, CounterFault, Cvs, Entry, Event, Exit, Is, Leave, LeaveAny, Line, Met, Misuse, Mode, Noisy, NotesFull, Number, Options, Over, Plain}
+use Rattle.ns_replay.specs.Names.{RUnlock, Ran, Refused, Reply, ScriptCondition, Seats, Section, Shown, Succeeded, TimedOut, Under, Unlock, UnlockQuiet, Waited, Whole, Word, is_in, lists_shown, shown_of, wakes_owed, whole_busy}
+use Rattle.ns_model.specs.declared.event.Exit.TheVariants.{CvWait}
+use Rattle.ns_model.specs.declared.event.Event.TheVariants.{Signal, Broadcast}
+use Rattle.ns_world.specs.declared.reply.Reply.TheVariants.{Expiry}
 use Rattle.ns_replay.specs.Condition.{condition_text}
-use Rattle.ns_replay.specs.declared.options.Options.{Options}
+use Rattle.ns_model.specs.declared.event.Mode.TheVariants as mode
+use Rattle.ns_model.specs.declared.event.Exit.TheVariants as TheExit
 
 -- ---- finished calls
 

@@ -2,10 +2,9 @@
 use Rattle.std.specs.Prelude.{◌≡◌, ℕ, ◌+◌, ◌<◌, ◌≤◌, ◌⊎◌, List, ◌++◌, length, Bool, true, false, Option, Result, Ok, Err}
 use Rattle.std.specs.Global.{Vec}
 use Rattle.std.specs.Io.KnownBytes.{Consumes, Appends, IsAtEnd}
-use Rattle.ns_replay.specs.declared.path.ScriptPath.TheVariants as at
-use Rattle.ns_replay.specs.declared.fault.Fault.{Fault}
-use Rattle.ns_replay.specs.declared.fault.Fault.TheVariants.{OutOfMemory, TooMany, Read}
+use Rattle.ns_replay.specs.Names.{Fault, OutOfMemory, Read, TooMany}
 use Rattle.ns_replay.specs.Streams.{Counts}
+use Rattle.ns_replay.specs.declared.path.ScriptPath.TheVariants as at
 
 -- a script has at most 1 MiB
 abbrev pub max_bytes : ℕ

@@ -1,36 +1,10 @@
 -- The act that a lawful place wants may be made.
 use Rattle.std.proofs.Common.{◌≡◌, ℕ, ◌+◌, ◌<◌, ◌≤◌, Bool, true, false, List, [], ◌∷◌, ◌++◌, sum_by, Option, None, Some, IsSome, refl, ap, ◌∙◌, subst, arith, eq-eqb}
-use Rattle.ns_model.specs.declared.event.Event.{Event}
-use Rattle.ns_model.specs.Histories.{standing_after}
-use Rattle.ns_queue.specs.Queues.{times}
-use Rattle.ns_queue.specs.Waiters.{times_in}
-use Rattle.ns_queue.specs.Scans.{left_of}
-use Rattle.ns_word.specs.Owed.{times_among}
-use Rattle.ns_word.specs.declared.owed.Owed.{Owed}
-use Rattle.ns_word.specs.declared.view.Held.{Held}
-use Rattle.ns_word.specs.declared.view.SeatView.{SeatView}
-use Rattle.ns_word.specs.declared.wait.Subject.{Subject}
-use Rattle.ns_word.specs.declared.wait.Subject.TheVariants.{OnCondition, OnVariables}
-use Rattle.ns_word.specs.declared.wait.Wait.{Wait}
-use Rattle.ns_word.specs.declared.wait.WaitPlace.{WaitPlace}
-use Rattle.ns_word.specs.declared.wait.WaitPlace.TheVariants.{TestCells, TestLast, InQueuing, PayInWait, AwaitWakeInWait, LookOut, InLeaving}
-use Rattle.ns_word.specs.declared.wait.QueuePlace.TheVariants.{LookIn, Load, Take, ArmToWait, LoadToScan, QueueToWait}
-use Rattle.ns_word.specs.declared.wait.LeavePlace.TheVariants.{LeaveLoad, TakeToLeave, Leave, AwaitWakeToLeave}
-use Rattle.ns_word.specs.declared.try_walk.TryPlace.TheVariants.{TryLoad, TryAcquire}
-use Rattle.ns_word.specs.declared.acquire_walk.AcquirePlace.TheVariants.{AcquireLoad, AcquireExchange, TakeToQueue, Arm, Queue, AwaitWake}
-use Rattle.ns_word.specs.declared.release_walk.ReleasePlace.TheVariants.{ReleaseLoad, ReleaseExchange, TakeToScan, ScanCells, ScanAndRelease, Pay}
-use Rattle.ns_word.specs.declared.cell_walk.CellPlace.TheVariants.{GetLoad, SetLoad, SetStore, QuietCells, QuietLast}
-use Rattle.ns_word.specs.declared.show_walk.ShowPlace.TheVariants.{ShowLoad, TakeToShow, ReturnShown}
-use Rattle.ns_word.specs.declared.signal_walk.SignalPlace.TheVariants.{SignalLoad, TakeToWake, WakeAndReturn, PayTheWoken}
-use Rattle.ns_word.specs.declared.walk.Walk.{Walk}
-use Rattle.ns_word.specs.declared.walk.Walk.TheVariants.{InTry, InAcquire, InRelease, InCells, InWait, InSignal, InShow}
-use Rattle.ns_word.specs.Lists.{has_some}
-use Rattle.ns_word.specs.Walks.{judge_of, want_waiting, want_of, awaits, pays}
-use Rattle.ns_word.specs.Views.{walk_at, AreApart}
-use Rattle.ns_model.specs.Truths.{Truths}
-use Rattle.ns_word.specs.Steps.{LockState, part_of, with_lock}
-use Rattle.ns_word.specs.Places.{IsForCondition, IsUnmet, IsInRange, CanWait, WaitFits, PlaceFits, HasList, ActFits, OwesOne}
-use Rattle.ns_word.specs.Lawful.{EachFits, ViewFits, IsLawful}
+use Rattle.ns_word.specs.Prelude.{AcquireExchange, AcquireLoad, ActFits, AreApart, Arm, ArmToWait, AwaitWake, AwaitWakeInWait, AwaitWakeToLeave, CanWait, EachFits, Event, GetLoad, HasList, Held, InAcquire, InCells, InLeaving, InQueuing, InRelease, InShow, InSignal}
+use Rattle.ns_word.specs.Prelude.{InTry, InWait, IsForCondition, IsInRange, IsLawful, IsUnmet, Leave, LeaveLoad, Load, LoadToScan, LockState, LookIn, LookOut, OnCondition, OnVariables, Owed, OwesOne, Pay, PayInWait, PayTheWoken, PlaceFits, Queue, QueueToWait}
+use Rattle.ns_word.specs.Prelude.{QuietCells, QuietLast, ReleaseExchange, ReleaseLoad, ReturnShown, ScanAndRelease, ScanCells, SeatView, SetLoad, SetStore, ShowLoad, SignalLoad, Subject, Take, TakeToLeave, TakeToQueue, TakeToScan, TakeToShow, TakeToWake, TestCells}
+use Rattle.ns_word.specs.Prelude.{TestLast, Truths, TryAcquire, TryLoad, ViewFits, Wait, WaitFits, WaitPlace, WakeAndReturn, Walk, awaits, has_some, judge_of, left_of, part_of, pays, standing_after, times, times_among, times_in, walk_at, want_of, want_waiting}
+use Rattle.ns_word.specs.Prelude.{with_lock}
 use Rattle.ns_word.proofs.Views.{walk_here, apart_parts, each_parts}
 use Rattle.ns_word.proofs.Scans.{times_scan}
 use Rattle.ns_word.proofs.Keeps.{none_of}

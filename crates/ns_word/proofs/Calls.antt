@@ -1,85 +1,23 @@
 -- What a call owes once it is over, whom it wakes, and when it looks and acquires as woken.
 use Rattle.std.specs.Prelude.{slice_get}
 use Rattle.std.proofs.Common.{◌≡◌, ◌⊎◌, inl, inr, ℕ, ◌-◌, ◌≤◌, ◌<◌, arith, Bool, true, false, not, ◌||◌, cond, eqb, ltb, ◌+◌, suc, take, drop, List, [], ◌∷◌, length, None, Some, refl, ap, sym, ◌∙◌, subst}
-use Rattle.ns_model.specs.Histories.{standing_after}
-use Rattle.ns_model.specs.Sections.{is_met}
-use Rattle.ns_model.specs.Truths.{Truths}
-use Rattle.ns_model.specs.declared.event.Answer.TheVariants.{Met}
-use Rattle.ns_model.specs.declared.event.Event.{Event}
-use Rattle.ns_model.specs.declared.event.Mode.{Mode}
-use Rattle.ns_queue.proofs.Outside.{broadcast_outside, signal_outside}
-use Rattle.ns_queue.specs.Signals.{taken_set}
-use Rattle.ns_queue.specs.Waiters.{outside, times_in}
 use Rattle.std.proofs.lemmas.Bool.{cases_eq, ltb-true, ne_eqb}
 use Rattle.std.proofs.lemmas.List.{get_or-map}
+use Rattle.ns_word.specs.Prelude.{AcquireExchange, AcquireLoad, AcquirePlace, Act, Aim, Answered, Arm, ArmToWait, Arrival, AsFresh, AsWoken, Await, AwaitWake, AwaitWakeInWait, AwaitWakeToLeave, Broadcasting, Busy, Cause, Cell, CellPlace, Cv, Done, EachFits, Effect}
+use Rattle.ns_word.specs.Prelude.{Ended, Event, Every, Flag, ForLock, ForWait, Found, GetLoad, Idle, InAcquire, InCells, InLeaving, InQueuing, InRelease, InShow, InSignal, InTry, InWait, IsLawful, Judging, Leave, LeaveLoad, LeavePlace, Left, Limits, Lists, Load}
+use Rattle.ns_word.specs.Prelude.{LoadFlag, LoadToScan, LockState, Look, LookIn, LookOut, Looked, Made, Met, Mode, Next, Noisy, On, OnCondition, OnEntry, OnReturn, OnVariables, Paid, Part, Pay, PayInWait, PayTheWoken, PlaceFits, Queue, QueuePlace, QueueToWait, Quiet}
+use Rattle.ns_word.specs.Prelude.{QuietCells, QuietLast, QuietWriter, ReleaseExchange, ReleaseLoad, ReleasePlace, Releasing, ReturnShown, Saw, ScanAndRelease, ScanCells, Scanned, SeatView, SetLoad, SetStore, ShowLoad, ShowPlace, SignalLoad, SignalPlace, Signaling, Step}
+use Rattle.ns_word.specs.Prelude.{Subject, Succeeded, Take, TakeToLeave, TakeToQueue, TakeToScan, TakeToShow, TakeToWake, Tells, TestCells, TestLast, Tested, ToRelease, ToTell, Truths, TryAcquire, TryLoad, TryPlace, Visit, Wait, WaitPlace, Waiter, Wake, WakeAndReturn}
+use Rattle.ns_word.specs.Prelude.{WakeWaiters, Waking, Walk, Woke, Woken, Word, acquire_by, acquired_for, arrival_of, asked_in_cells, asked_of, asked_to_judge, back_with, calls_from_lock, changed, cvs_without, got_acquiring, got_in_cells, got_leaving, got_of}
+use Rattle.ns_word.specs.Prelude.{got_queuing, got_releasing, got_showing, got_signaling, got_trying, got_waiting, has_come_back, is_arrival_woken, is_from_lock, is_held, is_limited, is_met, is_woken, judge_of, kept_by, look_or_queue, may_acquire, mode_for, moved_to}
+use Rattle.ns_word.specs.Prelude.{needs_scan, outcome_taken, outside, part_of, pays, release_by, rest_or_look, standing_after, taken_by, taken_set, test_place, times_in, unmet_by, waiters_of, wake_of, walk_after, want_acquiring, want_in_cells, want_leaving, want_of}
+use Rattle.ns_word.specs.Prelude.{want_releasing, want_showing, want_signaling, want_trying, want_waiting, was_woken, woken_by}
+use Rattle.ns_queue.proofs.Outside.{broadcast_outside, signal_outside}
 use Rattle.ns_word.proofs.CountsIn.{OnceInEach}
-use Rattle.ns_word.specs.declared.act.Waking.TheVariants.{Broadcasting, Signaling}
-use Rattle.ns_queue.specs.Queues.{Lists, cvs_without, waiters_of}
-use Rattle.ns_queue.specs.declared.waiter.Waiter.{Waiter}
-use Rattle.ns_queue.specs.declared.waiter.Which.TheVariants.{Cv}
 use Rattle.ns_word.proofs.Answers.{acquire_looks_not, cells_look_not, judge_looks_not, leaver_looks_not, look_of_act, release_looks_not, signal_looks_not, show_looks_not, try_looks_not}
 use Rattle.ns_word.proofs.Keeps.{none_of}
 use Rattle.ns_word.proofs.Numbers.{split_at}
 use Rattle.ns_word.proofs.Views.{each_parts}
-use Rattle.ns_word.specs.Answers.{has_come_back}
-use Rattle.ns_word.specs.Asked.{asked_in_cells, asked_of, asked_to_judge}
-use Rattle.ns_word.specs.Places.{PlaceFits}
-use Rattle.ns_word.specs.Lawful.{EachFits, IsLawful}
-use Rattle.ns_model.specs.Tallies.{Every}
-use Rattle.ns_word.specs.Owed.{Tells, is_from_lock}
-use Rattle.ns_word.specs.Steps.{Effect, Part, LockState, Step, changed, kept_by, moved_to, part_of, taken_by, wake_of}
-use Rattle.ns_env.specs.Walks.{is_limited}
-use Rattle.ns_word.specs.Waits.{arrival_of, mode_for, outcome_taken, woken_by}
-use Rattle.ns_word.specs.Walks.{acquire_by, acquired_for, back_with, calls_from_lock, got_acquiring, got_in_cells, got_leaving, got_of, got_queuing, got_releasing, got_signaling, got_showing, got_trying, got_waiting, is_arrival_woken, judge_of, look_or_queue, pays, release_by, rest_or_look, test_place, unmet_by, walk_after, want_acquiring, want_in_cells, want_leaving, want_of, want_releasing, want_signaling, want_showing, want_trying, want_waiting, was_woken}
-use Rattle.ns_word.specs.Words.{is_held, is_woken, may_acquire, needs_scan}
-use Rattle.ns_word.specs.declared.acquire_walk.AcquirePlace.{AcquirePlace}
-use Rattle.ns_word.specs.declared.acquire_walk.AcquirePlace.TheVariants.{AcquireExchange, AcquireLoad, Arm, AwaitWake, Queue, TakeToQueue}
-use Rattle.ns_word.specs.declared.act.Act.{Act}
-use Rattle.ns_word.specs.declared.act.Act.TheVariants.{LoadFlag, Look}
-use Rattle.ns_word.specs.declared.act.Change.TheVariants.{WakeWaiters}
-use Rattle.ns_word.specs.declared.act.Found.{Found}
-use Rattle.ns_word.specs.declared.act.Found.TheVariants.{Cell, Flag, Left, Looked, Made, Paid, Quiet, Saw, Scanned, Tested, Woke}
-use Rattle.ns_word.specs.declared.act.Waking.{Waking}
-use Rattle.ns_word.specs.declared.cell_walk.CellPlace.{CellPlace}
-use Rattle.ns_word.specs.declared.cell_walk.CellPlace.TheVariants.{GetLoad, QuietCells, QuietLast, SetLoad, SetStore}
-use Rattle.ns_word.specs.declared.cell_walk.Judging.{Judging}
-use Rattle.ns_word.specs.declared.cell_walk.Judging.TheVariants.{ToRelease, ToTell}
-use Rattle.ns_env.specs.declared.limits.Cause.{Cause}
-use Rattle.ns_env.specs.declared.limits.Limits.{Limits}
-use Rattle.ns_word.specs.declared.release_walk.ReleasePlace.{ReleasePlace}
-use Rattle.ns_word.specs.declared.release_walk.ReleasePlace.TheVariants.{Pay, ReleaseExchange, ReleaseLoad, ScanAndRelease, ScanCells, TakeToScan}
-use Rattle.ns_word.specs.declared.request.Request.TheVariants.{Await, Wake}
-use Rattle.ns_word.specs.declared.show_walk.ShowPlace.{ShowPlace}
-use Rattle.ns_word.specs.declared.show_walk.ShowPlace.TheVariants.{ShowLoad, TakeToShow, ReturnShown}
-use Rattle.ns_word.specs.declared.signal_walk.SignalPlace.{SignalPlace}
-use Rattle.ns_word.specs.declared.signal_walk.SignalPlace.TheVariants.{PayTheWoken, SignalLoad, TakeToWake, WakeAndReturn}
-use Rattle.ns_word.specs.declared.try_walk.TryPlace.{TryPlace}
-use Rattle.ns_word.specs.declared.try_walk.TryPlace.TheVariants.{TryAcquire, TryLoad}
-use Rattle.ns_word.specs.declared.view.SeatView.{SeatView}
-use Rattle.ns_word.specs.declared.wait.Aim.{Aim}
-use Rattle.ns_word.specs.declared.wait.Aim.TheVariants.{ForLock, ForWait}
-use Rattle.ns_word.specs.declared.wait.LeavePlace.{LeavePlace}
-use Rattle.ns_word.specs.declared.wait.LeavePlace.TheVariants.{AwaitWakeToLeave, Leave, LeaveLoad, TakeToLeave}
-use Rattle.ns_word.specs.declared.wait.QueuePlace.{QueuePlace}
-use Rattle.ns_word.specs.declared.wait.QueuePlace.TheVariants.{ArmToWait, Load, LoadToScan, LookIn, QueueToWait, Take}
-use Rattle.ns_word.specs.declared.wait.Subject.{Subject}
-use Rattle.ns_word.specs.declared.wait.Subject.TheVariants.{OnCondition, OnVariables}
-use Rattle.ns_word.specs.declared.wait.Outcome.TheVariants.{Woken, Ended}
-use Rattle.ns_word.specs.declared.wait.Visit.{Visit}
-use Rattle.ns_word.specs.declared.wait.Visit.TheVariants.{OnEntry, OnReturn}
-use Rattle.ns_word.specs.declared.wait.Wait.{Wait}
-use Rattle.ns_word.specs.declared.wait.WaitPlace.{WaitPlace}
-use Rattle.ns_word.specs.declared.wait.WaitPlace.TheVariants.{AwaitWakeInWait, InLeaving, InQueuing, LookOut, PayInWait, TestCells, TestLast}
-use Rattle.ns_word.specs.declared.walk.Next.{Next}
-use Rattle.ns_word.specs.declared.walk.Next.TheVariants.{Done, Idle, On}
-use Rattle.ns_word.specs.declared.walk.Reply.TheVariants.{Answered, Busy, Noisy, Succeeded}
-use Rattle.ns_word.specs.declared.walk.Walk.{Walk}
-use Rattle.ns_word.specs.declared.walk.Walk.TheVariants.{InAcquire, InCells, InRelease, InShow, InSignal, InTry, InWait}
-use Rattle.ns_word.specs.declared.word.Arrival.{Arrival}
-use Rattle.ns_word.specs.declared.word.Arrival.TheVariants.{AsFresh, AsWoken}
-use Rattle.ns_word.specs.declared.word.Releasing.{Releasing}
-use Rattle.ns_word.specs.declared.word.Releasing.TheVariants.{QuietWriter}
-use Rattle.ns_word.specs.declared.word.Word.{Word}
 
 -- A seat whose call is over owes nobody a wake.
 pub over_owes_nothing : {C : Type 0} {N : ℕ} (truths : Truths C) (seats : ℕ) (h : List (Event C N)) (s : LockState C N) (at : ℕ) (view : SeatView C N) → IsLawful truths seats h s → slice_get s.views at ≡ Some view → view.walk ≡ None → view.owed ≡ []

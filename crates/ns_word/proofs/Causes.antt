@@ -1,37 +1,9 @@
 -- What ends a wait for a condition early is kept until the wait is over, and then answered, but where the condition is met.
 use Rattle.std.proofs.Common.{◌≡◌, ◌⊎◌, inl, inr, ℕ, ◌+◌, ◌-◌, Bool, true, false, cond, eqb, ltb, Some, refl, sym, ap, ◌∙◌, subst}
-use Rattle.ns_model.specs.declared.event.Answer.TheVariants.{Met}
-use Rattle.ns_env.specs.declared.limits.Cause.{Cause}
-use Rattle.ns_word.specs.declared.acquire_walk.AcquirePlace.{AcquirePlace}
-use Rattle.ns_word.specs.declared.acquire_walk.AcquirePlace.TheVariants.{AcquireExchange, AcquireLoad, Arm, AwaitWake, Queue, TakeToQueue}
-use Rattle.ns_word.specs.declared.act.Found.{Found}
-use Rattle.ns_word.specs.declared.act.Found.TheVariants.{Saw, Made, Cell, Tested, Left, Flag}
-use Rattle.ns_word.specs.declared.request.Request.TheVariants.{Await}
-use Rattle.ns_word.specs.declared.wait.Aim.{Aim}
-use Rattle.ns_word.specs.declared.wait.Aim.TheVariants.{ForLock, ForWait}
-use Rattle.ns_word.specs.declared.wait.LeavePlace.{LeavePlace}
-use Rattle.ns_word.specs.declared.wait.LeavePlace.TheVariants.{AwaitWakeToLeave, Leave, LeaveLoad, TakeToLeave}
-use Rattle.ns_word.specs.declared.wait.Outcome.{Outcome}
-use Rattle.ns_word.specs.declared.wait.Outcome.TheVariants.{Woken, Ended}
-use Rattle.ns_word.specs.declared.wait.Subject.{Subject}
-use Rattle.ns_word.specs.declared.wait.Subject.TheVariants.{OnCondition}
-use Rattle.ns_word.specs.declared.wait.Visit.{Visit}
-use Rattle.ns_word.specs.declared.wait.Visit.TheVariants.{OnEntry, OnReturn}
-use Rattle.ns_word.specs.declared.wait.Wait.{Wait}
-use Rattle.ns_word.specs.declared.wait.WaitPlace.{WaitPlace}
-use Rattle.ns_word.specs.declared.wait.WaitPlace.TheVariants.{AwaitWakeInWait, InLeaving, InQueuing, LookOut, PayInWait, TestCells, TestLast}
-use Rattle.ns_word.specs.declared.walk.Next.{Next}
-use Rattle.ns_word.specs.declared.walk.Next.TheVariants.{Done, Idle, On}
-use Rattle.ns_word.specs.declared.walk.Reply.TheVariants.{Answered}
-use Rattle.ns_word.specs.declared.walk.Walk.{Walk}
-use Rattle.ns_word.specs.declared.walk.Walk.TheVariants.{InAcquire, InCells, InRelease, InShow, InSignal, InTry, InWait}
-use Rattle.ns_word.specs.declared.word.Arrival.{Arrival}
-use Rattle.ns_word.specs.declared.word.Word.{Word}
-use Rattle.ns_word.specs.Answers.{cause_by, cause_kept}
-use Rattle.ns_word.specs.Asked.{asked_of}
-use Rattle.ns_word.specs.Waits.{answer_of, arrival_of, cause_in, mode_for, outcome_taken}
-use Rattle.ns_word.specs.Walks.{acquire_by, acquired_for, back_with, got_acquiring, got_leaving, got_of, got_waiting, test_place, unmet_by, walk_after}
-use Rattle.ns_word.specs.Words.{may_acquire}
+use Rattle.ns_word.specs.Prelude.{AcquireExchange, AcquireLoad, AcquirePlace, Aim, Answered, Arm, Arrival, Await, AwaitWake, AwaitWakeInWait, AwaitWakeToLeave, Cause, Cell, Done, Ended, Flag, ForLock, ForWait, Found, Idle, InAcquire, InCells, InLeaving, InQueuing}
+use Rattle.ns_word.specs.Prelude.{InRelease, InShow, InSignal, InTry, InWait, Leave, LeaveLoad, LeavePlace, Left, LookOut, Made, Met, Next, On, OnCondition, OnEntry, OnReturn, Outcome, PayInWait, Queue, Saw, Subject, TakeToLeave, TakeToQueue, TestCells, TestLast}
+use Rattle.ns_word.specs.Prelude.{Tested, Visit, Wait, WaitPlace, Walk, Woken, Word, acquire_by, acquired_for, answer_of, arrival_of, asked_of, back_with, cause_by, cause_in, cause_kept, got_acquiring, got_leaving, got_of, got_waiting, may_acquire, mode_for}
+use Rattle.ns_word.specs.Prelude.{outcome_taken, test_place, unmet_by, walk_after}
 
 -- over with this or with 'met', or on with this kept
 abbrev IsKept : {C : Type 0} → Cause → Next C → Type 0

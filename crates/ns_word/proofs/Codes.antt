@@ -1,8 +1,6 @@
 -- A word and its number: each gives the other back.
 use Rattle.std.proofs.Common.{◌≡◌, ℕ, ◌/◌, ◌%◌, ◌≤◌, Bool, true, false, ◌==◌, ◌⊎◌, inl, inr, refl, ap, arith}
-use Rattle.ns_word.specs.declared.word.Word.{Word}
-use Rattle.ns_word.specs.Codec.{bit, number_of, word_of, IsPackable}
-use Rattle.ns_word.specs.Encoded.{encoded}
+use Rattle.ns_word.specs.Prelude.{IsPackable, Word, bit, encoded, number_of, word_of}
 
 pub bit_few : (b : Bool) → bit b ≤ 1
 bit_few true = omega arith

@@ -4,20 +4,11 @@ use Rattle.std.specs.List.{sum_by}
 use Rattle.std.proofs.lemmas.Bool.{cases_eq, lt-ltb, ne_eqb}
 use Rattle.std.proofs.lemmas.List.{get_or-map}
 use Rattle.std.proofs.lemmas.List.Sums.{get_or-le-sum_by, sum_by-cons}
-use Rattle.ns_model.specs.Seats.{is_in}
-use Rattle.ns_model.specs.declared.seats.Seats.{Seats}
-use Rattle.ns_model.specs.Tallies.{one_if}
-use Rattle.ns_queue.specs.declared.waiter.Waiter.{Waiter}
-use Rattle.ns_queue.specs.declared.waiter.Which.TheVariants.{Cv}
-use Rattle.ns_queue.specs.Queues.{Lists, cvs_without, times, waiters_of, without}
-use Rattle.ns_queue.specs.Signals.{taken_set}
-use Rattle.ns_queue.specs.Waiters.{outside, times_in, without_in}
+use Rattle.ns_word.specs.Prelude.{Cv, Lists, Seats, Waiter, counts_in, cvs_without, is_in, one_if, outside, taken_set, times, times_in, waiters_of, with_lock, without, without_in}
 use Rattle.ns_queue.proofs.Outside.{gone_each, times_outside}
 use Rattle.ns_queue.proofs.Parts.{lists_without}
 use Rattle.ns_queue.proofs.Seats.{none_without, times_in-cons}
 use Rattle.ns_queue.proofs.Taken.{in_list, not_in_list}
-use Rattle.ns_word.specs.Lists.{counts_in}
-use Rattle.ns_word.specs.Steps.{with_lock}
 use Rattle.ns_word.proofs.Scans.{times_others, times_without}
 
 -- ---- whether there is one

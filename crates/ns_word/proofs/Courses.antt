@@ -1,94 +1,24 @@
 -- Each step takes its call on: it goes on as it was asked, or its answer means what it says.
 use Rattle.std.proofs.Common.{◌≡◌, ◌&&◌, ◌||◌, inl, inr, ℕ, ◌+◌, ◌-◌, Bool, true, false, not, cond, eqb, ltb, List, [], ◌∷◌, ◌++◌, Option, None, Some, IsSome, slice_index, refl, ap, sym, ◌∙◌, subst}
 use Rattle.std.proofs.lemmas.List.{append-nil}
-use Rattle.ns_word.specs.declared.act.Act.TheVariants.{Acquire, Look, WaitReturning, ReturnQueues}
-use Rattle.ns_word.specs.declared.act.Change.TheVariants.{LeaveSelf}
-use Rattle.ns_model.specs.Sections.{is_met}
-use Rattle.ns_model.specs.Truths.{Truths}
-use Rattle.ns_model.specs.declared.event.Answer.{Answer}
-use Rattle.ns_model.specs.declared.event.Answer.TheVariants.{Met}
-use Rattle.ns_model.specs.declared.event.Entry.TheVariants.{Waited}
-use Rattle.ns_model.specs.declared.event.Event.{Event}
-use Rattle.ns_model.specs.declared.event.Exit.TheVariants.{AnyWait, CvWait, Plain}
-use Rattle.ns_model.specs.declared.cvs.Cvs.{Cvs}
-use Rattle.ns_model.specs.declared.cvs.Variables.{Variables}
-use Rattle.ns_model.specs.declared.cvs.Variables.TheVariants.{Only, Any}
-use Rattle.ns_word.specs.declared.wait.Home.TheVariants.{AtVariables}
-use Rattle.ns_model.specs.declared.event.Mode.{Mode}
-use Rattle.ns_model.specs.declared.event.Mode.TheVariants.{Read, Write}
-use Rattle.ns_queue.specs.Queues.{waiters_of}
-use Rattle.ns_queue.specs.declared.waiter.Which.TheVariants.{Cv}
+use Rattle.ns_word.specs.Prelude.{Acquire, AcquireExchange, AcquireLoad, AcquirePlace, AcquireSoFar, Aim, AimFits, Answer, Answered, Any, AnyWait, AnyWaitMeans, Arm, ArmToWait, Arrival, AsFresh, AtVariables, Await, AwaitWake, AwaitWakeInWait, AwaitWakeToLeave, Busy}
+use Rattle.ns_word.specs.Prelude.{CallGoes, CameBack, CanLeave, CanWait, Cause, Cell, CellFits, CellPlace, ComesBack, ConditionWaitMeans, Course, Cv, CvWait, Cvs, Done, EachFits, Effect, Ended, Event, Expired, Flag, ForLock, ForWait, Found, Get, GetLoad, HasLeft}
+use Rattle.ns_word.specs.Prelude.{HasLocked, HasLookedFor, HasReleased, HasWoken, Held, HeldFits, Idle, InAcquire, InCells, InHand, InLeaving, InQueuing, InRelease, InShow, InSignal, InTry, InWait, Is, IsComing, IsFirst, IsForCondition, IsForVariables, IsLawful, IsLeft}
+use Rattle.ns_word.specs.Prelude.{IsQuiet, IsQuietSection, KeptFits, Leave, LeaveLoad, LeavePlace, LeaveSelf, Left, Limits, Load, LoadToScan, LockState, Look, LookIn, LookOut, Looked, Made, MayAnswer, MayEnd, MayShow, MayWait, Means, Met, Mode, Next, Noisy, Notified}
+use Rattle.ns_word.specs.Prelude.{Number, On, OnCondition, OnEntry, OnReturn, OnVariables, Only, Outcome, OutcomeFits, Paid, Part, Pay, PayInWait, PayTheWoken, PlaceFits, Plain, Queue, QueueFits, QueuePlace, QueueToWait, QueuesAfter, QueuesSoFar, Quiet, QuietCells}
+use Rattle.ns_word.specs.Prelude.{QuietLast, QuietWriter, Read, Release, ReleaseExchange, ReleaseFits, ReleaseLoad, ReleasePlace, ReleaseSoFar, Releasing, Request, ReturnQueues, ReturnShown, Saw, ScanAndRelease, ScanCells, Scanned, SeatView, SectionFits, Set, SetLoad}
+use Rattle.ns_word.specs.Prelude.{SetStore, Show, ShowLoad, ShowPlace, SignalLoad, SignalPlace, SignalSoFar, SoFar, Step, Subject, Succeeded, Take, TakeToLeave, TakeToQueue, TakeToScan, TakeToShow, TakeToWake, TestCells, TestLast, Tested, Tests, TestsSoFar, ToChange}
+use Rattle.ns_word.specs.Prelude.{ToQueue, ToRelease, ToTell, Truths, TryAcquire, TryLoad, TryLock, TryPlace, Unchanged, VariableWaitMeans, Variables, ViewFits, Visit, Wait, WaitFits, WaitPlace, WaitReturning, WaitSoFar, Waited, Wake, WakeAndReturn, Waking, Walk, Woke}
+use Rattle.ns_word.specs.Prelude.{Woken, WokenBy, Word, Write, acquire_by, acquired_for, answer_of, answer_of_wait, armed_place, arrival_of, asked_in_cells, asked_of, asked_to_judge, back_with, cause_by, cause_in, course_after, course_from, entry_of, exit_for}
+use Rattle.ns_word.specs.Prelude.{got_acquiring, got_in_cells, got_leaving, got_of, got_queuing, got_releasing, got_showing, got_signaling, got_trying, got_waiting, has_some, held_after, held_by, home_of, is_held, is_limited, is_met, is_woken, judge_of, leave_any_told}
+use Rattle.ns_word.specs.Prelude.{leave_by, leave_of, leave_told, left_by, load_place, look_or_queue, looked_after, may_acquire, mode_for, mode_released, needs_scan, new_section, newly_held, opening_by, outcome_taken, part_of, pay_releasing, pay_waiting, pay_woken}
+use Rattle.ns_word.specs.Prelude.{place_cause_kept, queue_by, quiet_place, release_by, rest_or_look, row_after, scan_place, section_of, show_by, signal_by, standing_after, stands_at, taken_by, test_place, tries_of, unmet_by, variable_in, waiters_of, wake_of}
+use Rattle.ns_word.specs.Prelude.{want_acquiring, want_in_cells, want_leaving, want_of, want_queuing, want_releasing, want_showing, want_signaling, want_trying, want_waiting, woken_by, word_taken}
 use Rattle.ns_word.proofs.Leaving.{not_left}
-use Rattle.ns_word.proofs.Asked.{Asks}
-use Rattle.ns_word.specs.Answers.{cause_by, place_cause_kept}
-use Rattle.ns_word.specs.Asked.{asked_in_cells, asked_of, asked_to_judge}
-use Rattle.ns_word.specs.Courses.{AcquireSoFar, CallGoes, HasLeft, HasLookedFor, IsComing, KeptFits, QueuesAfter, QueuesSoFar, ReleaseSoFar, SignalSoFar, SoFar, TestsSoFar, WaitSoFar, course_after, left_by, looked_after}
-use Rattle.ns_word.specs.Lists.{has_some, stands_at}
-use Rattle.ns_word.specs.Meanings.{AnyWaitMeans, ConditionWaitMeans, Course, HasLocked, HasReleased, HasWoken, InHand, IsQuietSection, MayAnswer, MayEnd, Means, Unchanged, VariableWaitMeans, leave_any_told, leave_told, new_section}
-use Rattle.ns_word.specs.Places.{AimFits, CanLeave, CanWait, CellFits, ComesBack, IsForCondition, IsLeft, MayWait, PlaceFits, QueueFits, ReleaseFits, Tests, WaitFits}
-use Rattle.ns_word.specs.Steps.{LockState, Step, part_of, Effect, MayShow, Part, entry_of, exit_for, held_after, held_by, leave_of, newly_held, opening_by, section_of, taken_by, wake_of}
-use Rattle.ns_env.specs.Walks.{is_limited}
-use Rattle.ns_word.specs.Waits.{OutcomeFits, answer_of, answer_of_wait, arrival_of, cause_in, home_of, mode_for, outcome_taken, variable_in, woken_by}
-use Rattle.ns_word.specs.Walks.{acquire_by, acquired_for, armed_place, back_with, got_acquiring, got_in_cells, got_leaving, got_of, got_queuing, got_releasing, got_signaling, got_showing, got_trying, got_waiting, judge_of, leave_by, load_place, look_or_queue, pay_releasing, pay_waiting, pay_woken, queue_by, quiet_place, release_by, rest_or_look, scan_place, signal_by, show_by, test_place, unmet_by, want_acquiring, want_in_cells, want_leaving, want_of, want_queuing, want_releasing, want_signaling, want_showing, want_trying, want_waiting}
-use Rattle.ns_word.specs.Words.{is_held, is_woken, may_acquire, mode_released, needs_scan, tries_of, word_taken}
-use Rattle.ns_word.specs.declared.acquire_walk.AcquirePlace.{AcquirePlace}
-use Rattle.ns_word.specs.declared.acquire_walk.AcquirePlace.TheVariants.{AcquireExchange, AcquireLoad, Arm, AwaitWake, Queue, TakeToQueue}
-use Rattle.ns_word.specs.declared.act.Act.TheVariants.{Release, ReturnQueues, WaitReturning}
-use Rattle.ns_word.specs.declared.act.Found.{Found}
-use Rattle.ns_word.specs.declared.act.Found.TheVariants.{Cell, Flag, Left, Looked, Made, Paid, Quiet, Saw, Scanned, Tested, Woke}
-use Rattle.ns_word.specs.declared.act.Waking.{Waking}
-use Rattle.ns_word.specs.declared.cell_walk.CellPlace.{CellPlace}
-use Rattle.ns_word.specs.declared.cell_walk.CellPlace.TheVariants.{GetLoad, QuietCells, QuietLast, SetLoad, SetStore}
-use Rattle.ns_word.specs.declared.cell_walk.Judging.TheVariants.{ToRelease, ToTell}
-use Rattle.ns_env.specs.declared.limits.Cause.{Cause}
-use Rattle.ns_env.specs.declared.limits.Cause.TheVariants.{Expired, Notified}
-use Rattle.ns_env.specs.declared.limits.Limits.{Limits}
-use Rattle.ns_word.specs.declared.release_walk.ReleasePlace.{ReleasePlace}
-use Rattle.ns_word.specs.declared.release_walk.ReleasePlace.TheVariants.{Pay, ReleaseExchange, ReleaseLoad, ScanAndRelease, ScanCells, TakeToScan}
-use Rattle.ns_word.specs.declared.request.Request.{Request}
-use Rattle.ns_word.specs.declared.request.Request.TheVariants.{Await, Get, IsQuiet, Release, Set, TryLock, Wake, Show}
-use Rattle.ns_word.specs.declared.show_walk.ShowPlace.{ShowPlace}
-use Rattle.ns_word.specs.declared.show_walk.ShowPlace.TheVariants.{ShowLoad, TakeToShow, ReturnShown}
-use Rattle.ns_word.specs.declared.signal_walk.SignalPlace.{SignalPlace}
-use Rattle.ns_word.specs.declared.signal_walk.SignalPlace.TheVariants.{PayTheWoken, SignalLoad, TakeToWake, WakeAndReturn}
-use Rattle.ns_word.specs.declared.try_walk.TryPlace.{TryPlace}
-use Rattle.ns_word.specs.declared.try_walk.TryPlace.TheVariants.{TryAcquire, TryLoad}
-use Rattle.ns_word.specs.declared.view.Held.{Held}
-use Rattle.ns_word.specs.declared.view.Opening.TheVariants.{CameBack}
-use Rattle.ns_word.specs.declared.wait.Aim.{Aim}
-use Rattle.ns_word.specs.declared.wait.Aim.TheVariants.{ForLock, ForWait}
-use Rattle.ns_word.specs.declared.wait.LeavePlace.{LeavePlace}
-use Rattle.ns_word.specs.declared.wait.LeavePlace.TheVariants.{AwaitWakeToLeave, Leave, LeaveLoad, TakeToLeave}
-use Rattle.ns_word.specs.declared.wait.QueuePlace.{QueuePlace}
-use Rattle.ns_word.specs.declared.wait.QueuePlace.TheVariants.{ArmToWait, Load, LoadToScan, LookIn, QueueToWait, Take}
-use Rattle.ns_word.specs.declared.wait.Subject.{Subject}
-use Rattle.ns_word.specs.declared.wait.Subject.TheVariants.{OnCondition, OnVariables}
-use Rattle.ns_word.specs.declared.wait.Outcome.{Outcome}
-use Rattle.ns_word.specs.declared.wait.Outcome.TheVariants.{Woken, Ended}
-use Rattle.ns_word.specs.declared.wait.Visit.{Visit}
-use Rattle.ns_word.specs.declared.wait.Visit.TheVariants.{OnEntry, OnReturn}
-use Rattle.ns_word.specs.declared.wait.Wait.{Wait}
-use Rattle.ns_word.specs.declared.wait.WaitPlace.{WaitPlace}
-use Rattle.ns_word.specs.declared.wait.WaitPlace.TheVariants.{AwaitWakeInWait, InLeaving, InQueuing, LookOut, PayInWait, TestCells, TestLast}
-use Rattle.ns_word.specs.declared.walk.Next.{Next}
-use Rattle.ns_word.specs.declared.walk.Next.TheVariants.{Done, Idle, On}
-use Rattle.ns_word.specs.declared.walk.Reply.TheVariants.{Answered, Busy, Is, Noisy, Number, Succeeded, WokenBy}
-use Rattle.ns_word.specs.declared.walk.Walk.{Walk}
-use Rattle.ns_word.specs.declared.walk.Walk.TheVariants.{InAcquire, InCells, InRelease, InShow, InSignal, InTry, InWait}
-use Rattle.ns_word.specs.declared.word.Arrival.{Arrival}
-use Rattle.ns_word.specs.declared.word.Arrival.TheVariants.{AsFresh}
-use Rattle.ns_word.specs.declared.word.Releasing.{Releasing}
-use Rattle.ns_word.specs.declared.word.Releasing.TheVariants.{QuietWriter}
-use Rattle.ns_word.specs.declared.word.Taking.TheVariants.{ToChange, ToQueue}
-use Rattle.ns_word.specs.declared.word.Word.{Word}
-use Rattle.ns_model.specs.declared.event.Exit.TheVariants as TheExit
-use Rattle.ns_model.specs.Histories.{standing_after, row_after}
-use Rattle.ns_word.specs.Begins.{IsFirst, IsForVariables}
-use Rattle.ns_word.specs.Lawful.{HeldFits, SectionFits, ViewFits, EachFits, IsLawful}
-use Rattle.ns_word.specs.declared.view.SeatView.{SeatView}
+use Rattle.ns_word.proofs.Asked.{Asks, asks_on}
+use Rattle.ns_word.specs.declared.request.Request.TheVariants.{Release}
 use Rattle.ns_word.proofs.Views.{each_parts}
-use Rattle.ns_word.proofs.Asked.{asks_on}
-use Rattle.ns_word.specs.Meanings.{course_from}
+use Rattle.ns_model.specs.declared.event.Exit.TheVariants as TheExit
 
 module _ (C : Type 0) (N : ℕ) (truths : Truths C) (seat : ℕ) (row : List ℕ) where
   -- where a step leads, but for what was asked

@@ -3,81 +3,21 @@ use Rattle.std.proofs.Common.{◌≡◌, ◌≢◌, ◌⊎◌, inl, inr, ℕ, ze
 use Rattle.std.proofs.lemmas.Bool.{ltb-true, both_ways}
 use Rattle.std.specs.List.{sum_by}
 use Rattle.std.proofs.lemmas.List.{append-nil}
-use Rattle.ns_model.specs.declared.event.Mode.{Mode}
-use Rattle.ns_model.specs.declared.event.Mode.TheVariants.{Write, Read}
-use Rattle.ns_model.specs.declared.event.Exit.{Exit}
-use Rattle.ns_model.specs.declared.event.Exit.TheVariants.{Plain, CondWait}
-use Rattle.ns_model.specs.declared.event.Event.{Event}
-use Rattle.ns_model.specs.declared.phase.Phase.{Phase}
-use Rattle.ns_model.specs.Cvs.{has}
-use Rattle.ns_model.specs.declared.phase.Phase.TheVariants.{Cond, Waiting, Woken}
-use Rattle.ns_model.specs.Histories.{standing_after, standing_next, IsLegalEvent, who_of}
-use Rattle.ns_model.specs.Tallies.{Every}
+use Rattle.ns_word.specs.Prelude.{AcquireExchange, AcquireLoad, Aim, AimFits, AreWaiting, Arm, ArmToWait, Arrival, AsFresh, AsWoken, AtVariables, AwaitWake, AwaitWakeInWait, AwaitWakeToLeave, Broadcasting, CanLeave, CanWait, Cause, Cell, Cond, CondWait, Cv, Effect}
+use Rattle.ns_word.specs.Prelude.{Ended, Event, Every, Exit, Flag, ForLock, ForWait, Found, GetLoad, HasMode, HasNumber, Held, Idle, InAcquire, InCells, InLeaving, InQueuing, InRelease, InShow, InSignal, InTry, InWait, IsExpected, IsInRange, IsLawful, IsLeft}
+use Rattle.ns_word.specs.Prelude.{IsLegalEvent, IsSettled, IsSettledBy, IsToldSo, Leave, LeaveLoad, Left, Limits, Load, LoadToScan, LockState, LookIn, LookOut, Looked, Made, MayShow, MayWait, Mode, Next, NoneIs, On, OnCondition, OnVariables, Outcome, OutcomeFits, Owed}
+use Rattle.ns_word.specs.Prelude.{Paid, Part, Pay, PayInWait, PayTheWoken, Phase, PlaceFits, Plain, Queue, QueueToWait, Quiet, QuietCells, QuietKeeps, QuietLast, QuietWriter, Read, ReleaseExchange, ReleaseLoad, Releasing, ReturnQueues, ReturnShown, Saw, ScanAndRelease}
+use Rattle.ns_word.specs.Prelude.{ScanCells, Scanned, SeatView, SetLoad, SetStore, ShowLoad, ShowPlace, SignalLoad, SignalPlace, Signaling, Step, Subject, Take, TakeToLeave, TakeToQueue, TakeToScan, TakeToShow, TakeToWake, Taking, Tells, TestCells, TestLast, Tested}
+use Rattle.ns_word.specs.Prelude.{ToChange, ToQueue, ToldOn, Truths, TryAcquire, TryLoad, VariableWaiterFits, Visit, Wait, WaitPlace, WaitReturning, Waiter, Waiting, WakeAndReturn, WakeWaiters, Waking, Walk, Woke, Word, Write, acquired_for, armed_place, arrival_of}
+use Rattle.ns_word.specs.Prelude.{awaits, bits_of, called_of, calls_from_lock, cause_in, change_found, changed, counts_in, cvs_without, exit_for, expected_for, flags_with, got_leaving, got_of, got_showing, got_signaling, got_waiting, has, has_armed, has_queues}
+use Rattle.ns_word.specs.Prelude.{has_some, held_after, home_of, is_from_lock, is_held, is_on_way, is_queuing, is_woken, judge_of, kept_by, leave_of, left_of, may_acquire, meets_at, mode_for, mode_released, moved_to, moves, needs_scan, newly_held, opening_for}
+use Rattle.ns_word.specs.Prelude.{outcome_taken, owed_after, pay_releasing, pay_waiting, pay_woken, pays, phase_before, phase_by, phase_for, phase_kept, place_awaits, queued, releasing_of, rest_or_look, row_in, section_of, standing_after, standing_next, stands_at}
+use Rattle.ns_word.specs.Prelude.{taken_by, taken_set, times_among, times_in, tries_of, variable_told, wait_has_queues, waited_in, waiters_of, waits_in, wake_of, wakes_of, walk_after, want_of, want_showing, want_signaling, want_waiting, was_woken, who_of, with_lock}
+use Rattle.ns_word.specs.Prelude.{without, without_in, woken_by, woken_of, woken_phases, word_acquired, word_released, word_released_returning, word_returned, word_seen, word_taken}
+use Rattle.ns_model.specs.declared.phase.Phase.TheVariants.{Woken}
 use Rattle.ns_model.proofs.Tallies.{every_parts, every_join}
-use Rattle.ns_queue.specs.declared.waiter.Waiter.{Waiter}
-use Rattle.ns_word.specs.declared.wait.Home.TheVariants.{AtVariables}
-use Rattle.ns_queue.specs.declared.waiter.Which.TheVariants.{Cv}
-use Rattle.ns_queue.specs.Queues.{cvs_without, waiters_of, without}
-use Rattle.ns_queue.specs.Waiters.{times_in, without_in}
-use Rattle.ns_queue.specs.Scans.{woken_of, left_of}
-use Rattle.ns_queue.specs.Signals.{taken_set}
-use Rattle.ns_queue.specs.Wakes.{AreWaiting, woken_phases}
 use Rattle.ns_queue.proofs.Taken.{times_signaled, every_signaled}
 use Rattle.ns_queue.proofs.Wakes.{signal_legal, broadcast_legal}
-use Rattle.ns_word.specs.Owed.{Tells, called_of, is_from_lock, times_among, variable_told, wakes_of}
-use Rattle.ns_word.specs.declared.owed.Owed.{Owed}
-use Rattle.ns_word.specs.declared.word.Word.{Word}
-use Rattle.ns_word.specs.declared.word.Releasing.{Releasing}
-use Rattle.ns_word.specs.declared.word.Arrival.{Arrival}
-use Rattle.ns_word.specs.declared.word.Arrival.TheVariants.{AsFresh, AsWoken}
-use Rattle.ns_word.specs.declared.word.Releasing.TheVariants.{QuietWriter}
-use Rattle.ns_word.specs.declared.word.Taking.{Taking}
-use Rattle.ns_word.specs.declared.word.Taking.TheVariants.{ToChange, ToQueue}
-use Rattle.ns_env.specs.declared.limits.Limits.{Limits}
-use Rattle.ns_env.specs.declared.limits.Cause.{Cause}
-use Rattle.ns_word.specs.declared.wait.Subject.{Subject}
-use Rattle.ns_word.specs.declared.wait.Outcome.{Outcome}
-use Rattle.ns_word.specs.declared.wait.Subject.TheVariants.{OnCondition, OnVariables}
-use Rattle.ns_word.specs.declared.wait.Outcome.TheVariants.{Ended}
-use Rattle.ns_word.specs.declared.wait.Visit.{Visit}
-use Rattle.ns_word.specs.declared.wait.Wait.{Wait}
-use Rattle.ns_word.specs.declared.wait.Aim.{Aim}
-use Rattle.ns_word.specs.declared.wait.Aim.TheVariants.{ForLock, ForWait}
-use Rattle.ns_word.specs.declared.view.Held.{Held}
-use Rattle.ns_word.specs.declared.view.SeatView.{SeatView}
-use Rattle.ns_word.specs.declared.wait.WaitPlace.{WaitPlace}
-use Rattle.ns_word.specs.declared.wait.WaitPlace.TheVariants.{TestCells, TestLast, InQueuing, PayInWait, AwaitWakeInWait, LookOut, InLeaving}
-use Rattle.ns_word.specs.declared.wait.QueuePlace.TheVariants.{LookIn, Load, Take, ArmToWait, LoadToScan, QueueToWait}
-use Rattle.ns_word.specs.declared.wait.LeavePlace.TheVariants.{LeaveLoad, TakeToLeave, Leave, AwaitWakeToLeave}
-use Rattle.ns_word.specs.declared.try_walk.TryPlace.TheVariants.{TryLoad, TryAcquire}
-use Rattle.ns_word.specs.declared.acquire_walk.AcquirePlace.TheVariants.{AcquireLoad, AcquireExchange, TakeToQueue, Arm, Queue, AwaitWake}
-use Rattle.ns_word.specs.declared.release_walk.ReleasePlace.TheVariants.{ReleaseLoad, ReleaseExchange, TakeToScan, ScanCells, ScanAndRelease, Pay}
-use Rattle.ns_word.specs.declared.cell_walk.CellPlace.TheVariants.{GetLoad, SetLoad, SetStore, QuietCells, QuietLast}
-use Rattle.ns_word.specs.declared.show_walk.ShowPlace.{ShowPlace}
-use Rattle.ns_word.specs.declared.show_walk.ShowPlace.TheVariants.{ShowLoad, TakeToShow, ReturnShown}
-use Rattle.ns_word.specs.declared.signal_walk.SignalPlace.{SignalPlace}
-use Rattle.ns_word.specs.declared.signal_walk.SignalPlace.TheVariants.{SignalLoad, TakeToWake, WakeAndReturn, PayTheWoken}
-use Rattle.ns_word.specs.declared.walk.Walk.{Walk}
-use Rattle.ns_word.specs.declared.walk.Walk.TheVariants.{InTry, InAcquire, InRelease, InCells, InWait, InSignal, InShow}
-use Rattle.ns_word.specs.declared.act.Act.TheVariants.{ReturnQueues, WaitReturning}
-use Rattle.ns_word.specs.declared.act.Change.TheVariants.{WakeWaiters}
-use Rattle.ns_word.specs.declared.act.Waking.{Waking}
-use Rattle.ns_word.specs.declared.act.Waking.TheVariants.{Signaling, Broadcasting}
-use Rattle.ns_word.specs.declared.act.Found.{Found}
-use Rattle.ns_word.specs.declared.act.Found.TheVariants.{Saw, Made, Cell, Quiet, Tested, Scanned, Paid, Left, Woke, Flag, Looked}
-use Rattle.ns_word.specs.declared.walk.Next.{Next}
-use Rattle.ns_word.specs.declared.walk.Next.TheVariants.{On, Idle}
-use Rattle.ns_word.specs.Words.{is_held, is_woken, tries_of, mode_released, releasing_of, may_acquire, needs_scan, word_acquired, word_released, word_taken, word_returned, word_released_returning}
-use Rattle.ns_word.specs.Lists.{counts_in, has_some, bits_of, queued, stands_at}
-use Rattle.ns_word.specs.Waits.{OutcomeFits, arrival_of, cause_in, home_of, mode_for, outcome_taken, phase_for, phase_kept, woken_by}
-use Rattle.ns_word.specs.Walks.{want_waiting, want_signaling, want_showing, judge_of, want_of, got_waiting, got_leaving, got_signaling, got_showing, got_of, walk_after, acquired_for, armed_place, pay_waiting, pay_woken, rest_or_look, pay_releasing, wait_has_queues, place_awaits, has_queues, is_queuing, has_armed, waits_in, awaits, was_woken, calls_from_lock, pays, is_on_way, phase_by, expected_for}
-use Rattle.ns_word.specs.Views.{NoneIs}
-use Rattle.ns_model.specs.Truths.{Truths, QuietKeeps}
-use Rattle.ns_word.specs.Steps.{LockState, Part, Effect, Step, MayShow, exit_for, section_of, opening_for, newly_held, held_after, flags_with, meets_at, with_lock, waited_in, taken_by, kept_by, moved_to, changed, moves, owed_after, change_found, wake_of, leave_of}
-use Rattle.ns_word.specs.Seen.{HasNumber, word_seen}
-use Rattle.ns_word.specs.Places.{PlaceFits, IsInRange, HasMode, IsSettledBy, IsSettled, CanLeave, IsLeft, MayWait, CanWait, AimFits}
-use Rattle.ns_word.specs.Finds.{row_in}
-use Rattle.ns_word.specs.Lawful.{IsExpected, IsToldSo, ToldOn, VariableWaiterFits, IsLawful, phase_before}
 use Rattle.ns_word.proofs.Groups.{Homed, Known, Groups, groups_of, lawful_by}
 use Rattle.ns_word.proofs.Knows.{nothing_called, rests as known_rests, takes as known_takes}
 use Rattle.ns_word.proofs.Views.{apart_parts, view_of, each_parts, walk_here}
@@ -90,7 +30,8 @@ use Rattle.ns_word.proofs.Safes.{section, same_section}
 use Rattle.ns_word.proofs.Seen.{packable, found_fits, seen_next}
 use Rattle.ns_word.proofs.Scans.{some_wakes}
 use Rattle.ns_word.proofs.Keeps.{Same, Stays, none_of, rests, acquires, stores, releases, takes, arms, enqueues, withdraws, returns, leaves as leaves_variable, scans, waits, waits_on, waits_for, wakes, sees, wakes_waiters}
-use Rattle.ns_word.proofs.Leads.{Leads, none_settled, shown_settled, try_leads, acquire_leads, acquired_leads, test_leads, met_leads, shown_section, queue_leads, leave_leads, rest_leads, pay_waiting_leads, release_leads, scan_leads, taken_leads, quiet_leads, judged_leads, pay_leads, calm_release, load_leads, armed_leads, signal_leads, pay_woken_leads, show_leads}
+use Rattle.ns_word.proofs.Leads.{Leads, none_settled, shown_settled, try_leads, acquire_leads, acquired_leads, test_leads, met_leads, shown_section, queue_leads, leave_leads, rest_leads, pay_waiting_leads, release_leads, scan_leads, taken_leads, quiet_leads}
+use Rattle.ns_word.proofs.Leads.{judged_leads, pay_leads, calm_release, load_leads, armed_leads, signal_leads, pay_woken_leads, show_leads}
 
 -- whether one that leaves found itself in the list
 abbrev stood_in : Found → Bool

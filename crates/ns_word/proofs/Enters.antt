@@ -5,23 +5,11 @@ use Rattle.std.specs.List.{sum_by}
 use Rattle.std.proofs.lemmas.Bool.{cases_Bool, cases_eq, cases_lt, eq-eqb, eqb-true, lt-ltb, ne_eqb}
 use Rattle.std.proofs.lemmas.List.Sums.{get_or-le-sum_by, sum_by-cons}
 use Rattle.std.proofs.lemmas.Nat.Bits.{bit_at-lt, bit_at-zero, bit_at_above, bit_at_cat_low, same_from_bits_below}
-use Rattle.ns_model.specs.Cvs.{has, is_in}
-use Rattle.ns_model.specs.declared.cvs.Cvs.{Cvs}
-use Rattle.ns_model.specs.declared.cvs.Variables.{Variables}
-use Rattle.ns_model.specs.declared.cvs.Variables.TheVariants.{Only, Any}
-use Rattle.ns_model.specs.declared.event.Mode.{Mode}
-use Rattle.ns_model.specs.Tallies.{one_if}
+use Rattle.ns_word.specs.Prelude.{Any, AreVariables, Cv, Cvs, Lists, Mode, OnVariables, Only, Variables, Waiter, counts_in, has, named_for, one_if, times, times_in, waiters_of, waits_at, with_each, with_waiters}
+use Rattle.ns_model.specs.Cvs.{is_in}
 use Rattle.ns_model.proofs.Tallies.{one_most}
-use Rattle.ns_queue.specs.declared.waiter.Waiter.{Waiter}
-use Rattle.ns_queue.specs.declared.waiter.Which.TheVariants.{Cv}
-use Rattle.ns_queue.specs.Queues.{Lists, named_for, times, waiters_of, with_each, with_waiters}
-use Rattle.ns_queue.specs.Waiters.{times_in}
 use Rattle.ns_queue.proofs.Parts.{four_kept, read_apart, read_back, times_at_most}
 use Rattle.ns_queue.proofs.Seats.{times_in-append, times_in-cons}
-use Rattle.ns_word.specs.declared.wait.Subject.TheVariants.{OnVariables}
-use Rattle.ns_word.specs.Lists.{counts_in}
-use Rattle.ns_word.specs.Places.{AreVariables}
-use Rattle.ns_word.specs.Steps.{waits_at}
 use Rattle.ns_word.proofs.CountsIn.{OnceInEach, none_one, some_one}
 
 -- ---- variables that there are

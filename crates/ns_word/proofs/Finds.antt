@@ -1,22 +1,8 @@
 -- What a step finds is what the one word says that it loads or compares.
 use Rattle.std.proofs.Common.{◌≡◌, ◌≢◌, ◌≤◌, ℕ, Bool, false, cond, eqb, List, Option, None, Some, refl, ap, sym, ◌∙◌, eq-eqb}
 use Rattle.std.proofs.lemmas.Bool.{ne_eqb}
-use Rattle.ns_model.specs.declared.event.Event.{Event}
-use Rattle.ns_model.specs.Truths.{Truths}
-use Rattle.ns_model.specs.Histories.{standing_after}
-use Rattle.ns_word.specs.declared.word.Word.{Word}
-use Rattle.ns_word.specs.declared.view.Held.{Held}
-use Rattle.ns_word.specs.declared.view.SeatView.{SeatView}
-use Rattle.ns_word.specs.declared.walk.Walk.{Walk}
-use Rattle.ns_word.specs.declared.act.Act.{Act}
-use Rattle.ns_word.specs.declared.act.Act.TheVariants.{LoadWord, Acquire, TakeQueues, ReturnQueues, Release, ReleaseReturning, WaitReturning, LoadCell, JudgeQuiet, JudgeMet, StoreCell, ArmFlag, PayWake, LoadFlag, Look}
-use Rattle.ns_word.specs.declared.act.Found.{Found}
-use Rattle.ns_word.specs.declared.act.Found.TheVariants.{Saw, Made, Cell, Quiet, Tested, Scanned, Paid, Left, Woke, Flag}
-use Rattle.ns_word.specs.Codec.{number_of, word_of}
-use Rattle.ns_word.specs.Walks.{want_of}
-use Rattle.ns_word.specs.Steps.{LockState, Part, Effect, Step, part_of}
-use Rattle.ns_word.specs.Finds.{row_in, before_in, content_at, exchanged, scanned, owes_more, found_of, IsLook}
-use Rattle.ns_word.specs.Lawful.{SectionFits, IsLawful}
+use Rattle.ns_word.specs.Prelude.{Acquire, Act, ArmFlag, Cell, Effect, Event, Flag, Found, Held, IsLawful, IsLook, JudgeMet, JudgeQuiet, Left, LoadCell, LoadFlag, LoadWord, LockState, Look, Made, Paid, Part, PayWake, Quiet, Release, ReleaseReturning, ReturnQueues, Saw}
+use Rattle.ns_word.specs.Prelude.{Scanned, SeatView, SectionFits, Step, StoreCell, TakeQueues, Tested, Truths, WaitReturning, Walk, Woke, Word, before_in, content_at, exchanged, found_of, number_of, owes_more, part_of, row_in, scanned, standing_after, want_of, word_of}
 use Rattle.ns_word.proofs.Codes.{decoded}
 use Rattle.ns_word.proofs.Acts.{view_fits}
 

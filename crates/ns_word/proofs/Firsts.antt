@@ -1,19 +1,6 @@
 -- The first place of a call: nothing has been seen, kept or come back yet.
 use Rattle.std.proofs.Common.{◌≡◌, ℕ, false, None, Some, refl}
-use Rattle.ns_word.specs.declared.wait.Aim.TheVariants.{ForLock}
-use Rattle.ns_word.specs.declared.wait.Visit.TheVariants.{OnEntry}
-use Rattle.ns_word.specs.declared.wait.WaitPlace.TheVariants.{TestCells, TestLast, InQueuing}
-use Rattle.ns_word.specs.declared.wait.QueuePlace.TheVariants.{Load}
-use Rattle.ns_word.specs.declared.try_walk.TryPlace.TheVariants.{TryLoad}
-use Rattle.ns_word.specs.declared.acquire_walk.AcquirePlace.TheVariants.{AcquireLoad}
-use Rattle.ns_word.specs.declared.release_walk.ReleasePlace.TheVariants.{ReleaseLoad}
-use Rattle.ns_word.specs.declared.show_walk.ShowPlace.TheVariants.{ShowLoad}
-use Rattle.ns_word.specs.declared.signal_walk.SignalPlace.TheVariants.{SignalLoad}
-use Rattle.ns_word.specs.declared.walk.Walk.{Walk}
-use Rattle.ns_word.specs.declared.walk.Walk.TheVariants.{InTry, InAcquire, InRelease, InCells, InWait, InSignal, InShow}
-use Rattle.ns_word.specs.Answers.{cause_kept, has_come_back}
-use Rattle.ns_word.specs.Begins.{IsFirst}
-use Rattle.ns_word.specs.Seen.{word_seen}
+use Rattle.ns_word.specs.Prelude.{AcquireLoad, ForLock, InAcquire, InCells, InQueuing, InRelease, InShow, InSignal, InTry, InWait, IsFirst, Load, OnEntry, ReleaseLoad, ShowLoad, SignalLoad, TestCells, TestLast, TryLoad, Walk, cause_kept, has_come_back, word_seen}
 
 -- no word was seen, no cause of a wait's end is kept, and no wait has come back
 pub record IsBare {C : Type 0} (walk : Walk C) : Type 0 where

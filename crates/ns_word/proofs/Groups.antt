@@ -1,15 +1,7 @@
 -- The law in groups, as its proof goes by them.
 use Rattle.std.proofs.Common.{◌≡◌, ℕ, Bool, false, List}
-use Rattle.ns_model.specs.declared.event.Event.{Event}
-use Rattle.ns_model.specs.Histories.{standing_after}
-use Rattle.ns_queue.specs.declared.waiter.Waiter.{Waiter}
-use Rattle.ns_word.specs.declared.word.Word.{Word}
-use Rattle.ns_word.specs.declared.view.SeatView.{SeatView}
-use Rattle.ns_word.specs.Lists.{has_some, bits_of}
-use Rattle.ns_word.specs.Views.{queuers, AreApart}
-use Rattle.ns_model.specs.Truths.{Truths}
-use Rattle.ns_word.specs.Steps.{LockState}
-use Rattle.ns_word.specs.Lawful.{OneWriter, ReadersCounted, OneHistory, SpinHeldOnce, bits_in, WaitersPlaced, WaitersOwn, VariablesTell, TakenTold, DesigOnItsWay, IdleWaitersFalse, AllFalseTrue, WordsSeen, IsLawful}
+use Rattle.ns_word.specs.Prelude.{AllFalseTrue, AreApart, DesigOnItsWay, Event, IdleWaitersFalse, IsLawful, LockState, OneHistory, OneWriter, ReadersCounted, SeatView, SpinHeldOnce, TakenTold, Truths, VariablesTell, Waiter, WaitersOwn, WaitersPlaced, Word, WordsSeen}
+use Rattle.ns_word.specs.Prelude.{bits_in, bits_of, has_some, queuers, standing_after}
 
 -- the sections
 pub record Safe {C : Type 0} {N : ℕ} (truths : Truths C) (seats : ℕ) (history : List (Event C N)) (word : Word) (row : List ℕ) (views : List (SeatView C N)) : Type 0 where

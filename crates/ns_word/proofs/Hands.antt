@@ -1,10 +1,7 @@
 -- What is done to the queues in a hand, over plain data.
 use Rattle.std.proofs.Common.{◌≡◌, ℕ, ◌+◌, Bool, arith}
 use Rattle.std.specs.List.{sum_by}
-use Rattle.ns_queue.specs.declared.waiter.Which.TheVariants.{Lock}
-use Rattle.ns_queue.specs.Queues.{Lists, times, with_waiters}
-use Rattle.ns_queue.specs.Waiters.{times_in}
-use Rattle.ns_queue.specs.Scans.{left_of}
+use Rattle.ns_word.specs.Prelude.{Lists, Lock, left_of, times, times_in, with_waiters}
 use Rattle.ns_word.proofs.Scans.{times_scan}
 
 module _ {C : Type 0} (seat : ℕ) where

@@ -1,17 +1,7 @@
 -- What the steps leave of the queues' place and of the bits that tell of them.
 use Rattle.std.proofs.Common.{◌≡◌, ℕ, ◌+◌, ◌≤◌, true, false, List, ◌∷◌, ◌++◌, Option, ap, sym, ◌∙◌, arith}
-use Rattle.ns_queue.specs.declared.waiter.Waiter.{Waiter}
-use Rattle.ns_word.specs.declared.owed.Owed.{Owed}
-use Rattle.ns_word.specs.declared.word.Word.{Word}
-use Rattle.ns_word.specs.declared.view.Held.{Held}
-use Rattle.ns_word.specs.declared.view.SeatView.{SeatView}
-use Rattle.ns_word.specs.declared.walk.Walk.{Walk}
-use Rattle.ns_word.specs.Lists.{bits_of}
-use Rattle.ns_word.specs.Walks.{has_queues}
-use Rattle.ns_word.specs.Views.{takers}
-use Rattle.ns_word.specs.Lawful.{bits_in}
+use Rattle.ns_word.specs.Prelude.{Held, Owed, SeatView, Waiter, Walk, Word, bits_in, bits_of, has_queues, one_if, takers}
 use Rattle.ns_word.proofs.Groups.{Homed}
-use Rattle.ns_model.specs.Tallies.{one_if}
 use Rattle.ns_model.proofs.Tallies.{one_most}
 use Rattle.ns_word.proofs.Views.{view_of, takers_at}
 

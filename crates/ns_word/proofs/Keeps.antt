@@ -3,57 +3,22 @@ use Rattle.std.proofs.Common.{◌≡◌, ◌≢◌, ◌⊎◌, inl, inr, ℕ, �
 use Rattle.std.specs.List.{sum_by}
 use Rattle.std.proofs.lemmas.List.{length-map}
 use Rattle.std.proofs.lemmas.Bool.{ne_eqb, eqb-true, and_parts, not-true, both_ways}
-use Rattle.ns_model.specs.declared.event.Mode.{Mode}
-use Rattle.ns_model.specs.declared.event.Mode.TheVariants.{Write, Read}
-use Rattle.ns_model.specs.declared.event.Exit.{Exit}
-use Rattle.ns_model.specs.declared.event.Exit.TheVariants.{Plain, CondWait}
-use Rattle.ns_model.specs.declared.event.Event.{Event}
-use Rattle.ns_model.specs.declared.phase.Phase.{Phase}
-use Rattle.ns_model.specs.declared.cvs.Variables.{Variables}
-use Rattle.ns_model.specs.declared.cvs.Variables.TheVariants.{Any, Only}
-use Rattle.ns_model.specs.declared.phase.Phase.TheVariants.{Idle, Cond, Waiting, Left}
-use Rattle.ns_model.specs.Phases.{woken_phase, left_phase}
-use Rattle.ns_model.specs.Seats.{is_in}
-use Rattle.ns_model.specs.Sections.{ExitFits, phase_after}
-use Rattle.ns_model.specs.Histories.{Standing, first_standing, standing_after, standing_next, IsLegalEvent, who_of}
-use Rattle.ns_model.specs.Tallies.{one_if, Every}
+use Rattle.ns_word.specs.Prelude.{Any, AreVariables, Arrival, Cond, CondWait, Cv, Event, Every, Exit, ExitFits, Held, IsExpected, IsLegalEvent, IsNamed, IsSettledBy, Lists, LockState, Mode, NoneIs, OnCondition, OnVariables, Only, Opening, Owed, OwesAs, Phase, PlaceFits}
+use Rattle.ns_word.specs.Prelude.{Plain, QuietWriter, Read, Reader, Releasing, SeatView, Stance, Standing, Subject, TakenTold, Taking, Tells, ToChange, ToQueue, Truths, VariableWaiterFits, Variables, VariablesTell, ViewFits, Waiter, WaiterNames, WaitersOwn}
+use Rattle.ns_word.specs.Prelude.{WaitersPlaced, Waiting, Walk, Word, Write, Writer, awaits, bits_in, bits_of, called_of, called_to, calls_from_lock, counts_in, cvs_without, exit_for, first_standing, flags_with, has_armed, has_eligible, has_queues, has_some, is_armed}
+use Rattle.ns_word.specs.Prelude.{is_held, is_in, is_of, is_on_way, is_queuing, is_unwoken, is_woken, left_of, left_phase, lock_stance, may_acquire, meets_at, mode_released, needs_scan, one_if, outside, owed_to, pays, phase_after, phase_before, phase_by, queued}
+use Rattle.ns_word.specs.Prelude.{section_of, standing_after, standing_next, taken_set, times, times_among, times_in, tries_of, waiters_of, waits_at, waits_in, wakes_of, walk_at, was_woken, who_of, with_lock, without_in, woken_of, woken_phase, woken_phases}
+use Rattle.ns_word.specs.Prelude.{word_acquired, word_released, word_released_returning, word_returned, word_taken}
+use Rattle.ns_model.specs.declared.phase.Phase.TheVariants.{Idle, Left}
 use Rattle.ns_model.proofs.Tallies.{one_most}
-use Rattle.ns_model.specs.Truths.{Truths}
 use Rattle.ns_model.proofs.Histories.{standing_from-append}
-use Rattle.ns_queue.specs.declared.waiter.Waiter.{Waiter}
-use Rattle.ns_queue.specs.declared.waiter.Which.TheVariants.{Cv}
-use Rattle.ns_queue.specs.Queues.{Lists, cvs_without, times, waiters_of}
-use Rattle.ns_queue.specs.Waiters.{outside, times_in, without_in, is_of}
-use Rattle.ns_queue.specs.Scans.{woken_of, left_of}
-use Rattle.ns_queue.specs.Signals.{taken_set}
-use Rattle.ns_queue.specs.Wakes.{woken_phases}
 use Rattle.ns_queue.proofs.Seats.{times_in-append}
 use Rattle.ns_queue.proofs.Taken.{in_stands}
 use Rattle.ns_queue.proofs.Wakes.{stands_waits}
 use Rattle.ns_queue.proofs.Parts.{times_at_most}
-use Rattle.ns_word.specs.Owed.{Tells, called_of, times_among, wakes_of}
-use Rattle.ns_word.specs.declared.owed.Owed.{Owed}
-use Rattle.ns_word.specs.declared.word.Word.{Word}
-use Rattle.ns_word.specs.declared.word.Releasing.{Releasing}
-use Rattle.ns_word.specs.declared.word.Releasing.TheVariants.{Writer, QuietWriter, Reader}
-use Rattle.ns_word.specs.declared.word.Arrival.{Arrival}
-use Rattle.ns_word.specs.declared.word.Taking.{Taking}
-use Rattle.ns_word.specs.declared.word.Taking.TheVariants.{ToChange, ToQueue}
-use Rattle.ns_word.specs.declared.wait.Subject.{Subject}
-use Rattle.ns_word.specs.declared.wait.Subject.TheVariants.{OnCondition, OnVariables}
-use Rattle.ns_word.specs.declared.view.Opening.{Opening}
-use Rattle.ns_word.specs.declared.view.Held.{Held}
-use Rattle.ns_word.specs.declared.view.SeatView.{SeatView}
-use Rattle.ns_word.specs.declared.walk.Walk.{Walk}
-use Rattle.ns_word.specs.Words.{is_held, is_woken, tries_of, mode_released, may_acquire, needs_scan, word_acquired, word_released, word_taken, word_returned, word_released_returning}
-use Rattle.ns_word.specs.Lists.{counts_in, has_some, has_eligible, bits_of, queued}
-use Rattle.ns_word.specs.Walks.{Stance, has_queues, is_queuing, has_armed, waits_in, awaits, pays, was_woken, calls_from_lock, is_on_way, phase_by}
-use Rattle.ns_word.specs.Views.{called_to, owed_to, walk_at, NoneIs}
-use Rattle.ns_word.specs.Steps.{LockState, exit_for, section_of, flags_with, meets_at, waits_at, with_lock}
-use Rattle.ns_word.specs.Places.{AreVariables, IsSettledBy, PlaceFits}
-use Rattle.ns_word.specs.Lawful.{IsNamed, OwesAs, TakenTold, WaiterNames, WaitersPlaced, IsExpected, is_armed, is_unwoken, ViewFits, WaitersOwn, VariableWaiterFits, VariablesTell, lock_stance, bits_in, phase_before}
 use Rattle.ns_word.proofs.Groups.{Safe, Homed, Known, Groups}
-use Rattle.ns_word.proofs.Knows.{bool_cases, is_loud, due_flag, nothing_called, rests as known_rests, acquires as known_acquires, arms as known_arms, puts, withdraws as known_withdraws, moves_in as known_moves, releases as known_releases, scans as known_scans, pays_one as known_pays, sees_wake as known_sees}
+use Rattle.ns_word.proofs.Knows.{bool_cases, is_loud, due_flag, nothing_called, rests as known_rests, acquires as known_acquires, arms as known_arms, puts, withdraws as known_withdraws, moves_in as known_moves, releases as known_releases, scans as known_scans}
+use Rattle.ns_word.proofs.Knows.{pays_one as known_pays, sees_wake as known_sees}
 use Rattle.ns_word.proofs.Views.{view_of, apart_parts, each_parts, called_most, walk_here}
 use Rattle.ns_word.proofs.Waits.{not_due, cleared, placed_here, rested, armed, taken, entered, withdraws as withdrawn, woke, seen}
 use Rattle.ns_word.proofs.Owns.{own_stays, own_same, nowhere, own_queued, own_scanned, own_waited, own_without, own_moved}

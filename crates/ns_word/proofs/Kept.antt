@@ -1,56 +1,12 @@
 -- What ends a wait early, from the look that shows it to the answer; and that a section in hand whose wait was answered meets no wait that comes back.
 use Rattle.std.proofs.Common.{◌≡◌, ℕ, ◌+◌, ◌-◌, Bool, true, false, not, cond, eqb, ltb, ◌⊎◌, inl, inr, List, Option, None, Some, refl, ap, sym, ◌∙◌, subst}
-use Rattle.ns_model.specs.declared.event.Answer.{Answer}
-use Rattle.ns_model.specs.declared.event.Answer.TheVariants.{Met, TimedOut, Canceled}
-use Rattle.ns_model.specs.declared.event.Event.{Event}
-use Rattle.ns_env.specs.declared.limits.Cause.{Cause}
-use Rattle.ns_env.specs.declared.limits.Cause.TheVariants.{Expired, Notified}
-use Rattle.ns_word.specs.declared.word.Word.{Word}
-use Rattle.ns_word.specs.declared.word.Releasing.{Releasing}
-use Rattle.ns_word.specs.declared.word.Arrival.{Arrival}
-use Rattle.ns_word.specs.declared.word.Arrival.TheVariants.{AsFresh}
-use Rattle.ns_word.specs.declared.wait.Subject.{Subject}
-use Rattle.ns_model.specs.declared.cvs.Variables.TheVariants.{Only, Any}
-use Rattle.ns_word.specs.declared.wait.Subject.TheVariants.{OnCondition, OnVariables}
-use Rattle.ns_word.specs.declared.wait.Outcome.{Outcome}
-use Rattle.ns_word.specs.declared.wait.Outcome.TheVariants.{Woken, Ended}
-use Rattle.ns_word.specs.declared.wait.Wait.{Wait}
-use Rattle.ns_word.specs.declared.wait.Aim.{Aim}
-use Rattle.ns_word.specs.declared.wait.Aim.TheVariants.{ForLock, ForWait}
-use Rattle.ns_word.specs.declared.wait.Visit.{Visit}
-use Rattle.ns_word.specs.declared.wait.Visit.TheVariants.{OnEntry, OnReturn}
-use Rattle.ns_word.specs.declared.view.Held.{Held}
-use Rattle.ns_word.specs.declared.view.SeatView.{SeatView}
-use Rattle.ns_word.specs.declared.wait.WaitPlace.{WaitPlace}
-use Rattle.ns_word.specs.declared.wait.WaitPlace.TheVariants.{TestCells, TestLast, InQueuing, PayInWait, AwaitWakeInWait, LookOut, InLeaving}
-use Rattle.ns_word.specs.declared.wait.QueuePlace.{QueuePlace}
-use Rattle.ns_word.specs.declared.wait.QueuePlace.TheVariants.{LookIn, Load, Take, ArmToWait, LoadToScan, QueueToWait}
-use Rattle.ns_word.specs.declared.wait.LeavePlace.TheVariants.{LeaveLoad, TakeToLeave, Leave, AwaitWakeToLeave}
-use Rattle.ns_word.specs.declared.try_walk.TryPlace.TheVariants.{TryLoad, TryAcquire}
-use Rattle.ns_word.specs.declared.acquire_walk.AcquirePlace.TheVariants.{AcquireLoad, AcquireExchange, TakeToQueue, Arm, Queue, AwaitWake}
-use Rattle.ns_word.specs.declared.release_walk.ReleasePlace.TheVariants.{ReleaseLoad, ReleaseExchange, TakeToScan, ScanCells, ScanAndRelease, Pay}
-use Rattle.ns_word.specs.declared.cell_walk.Judging.TheVariants.{ToTell, ToRelease}
-use Rattle.ns_word.specs.declared.cell_walk.CellPlace.TheVariants.{GetLoad, SetLoad, SetStore, QuietCells, QuietLast}
-use Rattle.ns_word.specs.declared.show_walk.ShowPlace.{ShowPlace}
-use Rattle.ns_word.specs.declared.show_walk.ShowPlace.TheVariants.{ShowLoad, TakeToShow, ReturnShown}
-use Rattle.ns_word.specs.declared.signal_walk.SignalPlace.{SignalPlace}
-use Rattle.ns_word.specs.declared.signal_walk.SignalPlace.TheVariants.{SignalLoad, TakeToWake, WakeAndReturn, PayTheWoken}
-use Rattle.ns_word.specs.declared.act.Waking.{Waking}
-use Rattle.ns_word.specs.declared.walk.Walk.{Walk}
-use Rattle.ns_word.specs.declared.walk.Walk.TheVariants.{InTry, InAcquire, InRelease, InCells, InWait, InSignal, InShow}
-use Rattle.ns_word.specs.declared.act.Found.{Found}
-use Rattle.ns_word.specs.declared.act.Found.TheVariants.{Saw, Made, Cell, Quiet, Tested, Scanned, Paid, Left, Woke, Flag, Looked}
-use Rattle.ns_word.specs.declared.walk.Reply.{Reply}
-use Rattle.ns_word.specs.declared.walk.Reply.TheVariants.{Answered}
-use Rattle.ns_word.specs.declared.walk.Next.{Next}
-use Rattle.ns_word.specs.declared.walk.Next.TheVariants.{On, Idle, Done}
-use Rattle.ns_word.specs.Words.{may_acquire, needs_scan}
-use Rattle.ns_env.specs.Walks.{is_limited}
-use Rattle.ns_word.specs.Waits.{answer_of, cause_in, mode_for, outcome_taken}
-use Rattle.ns_word.specs.Walks.{want_of, got_waiting, got_signaling, got_showing, got_of, walk_after, unmet_by, look_or_queue, test_place, load_place, armed_place, acquire_by, back_with, acquired_for, release_by}
-use Rattle.ns_model.specs.Truths.{Truths}
-use Rattle.ns_word.specs.Steps.{LockState, Part, Effect, Step, part_of}
-use Rattle.ns_word.specs.Answers.{comes_back, place_has_come_back, has_come_back, is_back, cause_for, cause_by, place_cause_kept, cause_kept}
+use Rattle.ns_word.specs.Prelude.{AcquireExchange, AcquireLoad, Aim, Answer, Answered, Any, Arm, ArmToWait, Arrival, AsFresh, AwaitWake, AwaitWakeInWait, AwaitWakeToLeave, Canceled, Cause, Cell, Done, Effect, Ended, Event, Expired, Flag, ForLock, ForWait, Found}
+use Rattle.ns_word.specs.Prelude.{GetLoad, Held, Idle, InAcquire, InCells, InLeaving, InQueuing, InRelease, InShow, InSignal, InTry, InWait, Leave, LeaveLoad, Left, Load, LoadToScan, LockState, LookIn, LookOut, Looked, Made, Met, Next, Notified, On, OnCondition}
+use Rattle.ns_word.specs.Prelude.{OnEntry, OnReturn, OnVariables, Only, Outcome, Paid, Part, Pay, PayInWait, PayTheWoken, Queue, QueuePlace, QueueToWait, Quiet, QuietCells, QuietLast, ReleaseExchange, ReleaseLoad, Releasing, Reply, ReturnShown, Saw, ScanAndRelease}
+use Rattle.ns_word.specs.Prelude.{ScanCells, Scanned, SeatView, SetLoad, SetStore, ShowLoad, ShowPlace, SignalLoad, SignalPlace, Step, Subject, Take, TakeToLeave, TakeToQueue, TakeToScan, TakeToShow, TakeToWake, TestCells, TestLast, Tested, TimedOut, ToRelease, ToTell}
+use Rattle.ns_word.specs.Prelude.{Truths, TryAcquire, TryLoad, Visit, Wait, WaitPlace, WakeAndReturn, Waking, Walk, Woke, Woken, Word, acquire_by, acquired_for, answer_of, armed_place, back_with, cause_by, cause_for, cause_in, cause_kept, comes_back, got_of}
+use Rattle.ns_word.specs.Prelude.{got_showing, got_signaling, got_waiting, has_come_back, is_back, is_limited, load_place, look_or_queue, may_acquire, mode_for, needs_scan, outcome_taken, part_of, place_cause_kept, place_has_come_back, release_by, test_place, unmet_by}
+use Rattle.ns_word.specs.Prelude.{walk_after, want_of}
 
 -- ---- what ends a wait early
 

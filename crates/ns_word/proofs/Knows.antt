@@ -2,35 +2,14 @@
 use Rattle.std.proofs.Common.{◌≡◌, ◌≢◌, ℕ, ◌+◌, ◌≤◌, Bool, true, false, ◌&&◌, ◌||◌, not, cond, eqb, ltb, ◌⊎◌, inl, inr, List, [], ◌∷◌, ◌++◌, Option, Some, refl, ap, sym, ◌∙◌, subst, arith, eq-eqb}
 use Rattle.std.specs.List.{list_any}
 use Rattle.std.proofs.lemmas.Bool.{ne_eqb, eqb-true, cases_eq, and_parts, or_cases, or_parts, both_ways, not-false, not-true, and_cases, ltb-true, lt-ltb}
-use Rattle.ns_model.specs.declared.event.Mode.{Mode}
-use Rattle.ns_model.specs.declared.event.Mode.TheVariants.{Write, Read}
-use Rattle.ns_queue.specs.declared.waiter.Waiter.{Waiter}
-use Rattle.ns_queue.specs.Queues.{Lists}
-use Rattle.ns_queue.specs.Waiters.{is_long, times_in}
-use Rattle.ns_word.specs.Owed.{called_of, is_from_lock, times_among}
-use Rattle.ns_word.specs.declared.owed.Owed.{Owed}
-use Rattle.ns_queue.specs.Scans.{woken_of, left_of}
-use Rattle.ns_word.specs.declared.word.Word.{Word}
-use Rattle.ns_word.specs.declared.word.Releasing.{Releasing}
-use Rattle.ns_word.specs.declared.word.Releasing.TheVariants.{Writer, QuietWriter, Reader}
-use Rattle.ns_word.specs.declared.word.Taking.TheVariants.{ToQueue}
-use Rattle.ns_word.specs.declared.word.Arrival.{Arrival}
-use Rattle.ns_word.specs.declared.view.Held.{Held}
-use Rattle.ns_word.specs.declared.view.SeatView.{SeatView}
-use Rattle.ns_word.specs.declared.walk.Walk.{Walk}
-use Rattle.ns_word.specs.declared.walk.Walk.TheVariants.{InAcquire}
-use Rattle.ns_word.specs.Words.{is_held, is_woken, may_acquire, needs_scan, word_acquired, word_released, word_taken, word_returned, word_released_returning}
-use Rattle.ns_word.specs.Lists.{counts_in, has_some, has_eligible, bits_of, queued}
-use Rattle.ns_word.specs.Walks.{awaits, has_queues, is_queuing, was_woken, calls_from_lock, is_on_way}
-use Rattle.ns_word.specs.Views.{takers, queuers, owed_to, called_to, walk_at, NoneIs}
-use Rattle.ns_word.specs.Lawful.{WaitersPlaced, NobodyCouldGoOn, is_armed, is_unwoken}
+use Rattle.ns_word.specs.Prelude.{Arrival, Held, InAcquire, Lists, Mode, NobodyCouldGoOn, NoneIs, Owed, QuietWriter, Read, Reader, Releasing, SeatView, ToQueue, Waiter, WaitersPlaced, Walk, Word, Write, Writer, awaits, bits_of, called_of, called_to, calls_from_lock}
+use Rattle.ns_word.specs.Prelude.{counts_in, flags_with, has_eligible, has_queues, has_some, is_armed, is_from_lock, is_held, is_long, is_on_way, is_queuing, is_unwoken, is_woken, left_of, may_acquire, needs_scan, one_if, owed_to, queued, queuers, takers, times_among}
+use Rattle.ns_word.specs.Prelude.{times_in, walk_at, was_woken, woken_of, word_acquired, word_released, word_released_returning, word_returned, word_taken}
 use Rattle.ns_word.proofs.Groups.{Homed, Known}
 use Rattle.ns_word.proofs.Scans.{times_scan, times_seats, some_queued, writer_eligible, none_eligible, woken_none, woken_some}
-use Rattle.ns_model.specs.Tallies.{one_if}
 use Rattle.ns_model.proofs.Tallies.{one_most}
 use Rattle.ns_word.proofs.Views.{view_of, takers_at, queuers_at, called_at, called_most, walk_here, walk_there}
 use Rattle.ns_word.proofs.Waits.{cleared, due_of, placed_here}
-use Rattle.ns_word.specs.Steps.{flags_with}
 
 -- one that waits, and whose wake from the lock list is owed, is on its way
 called_on_way : {C : Type 0} (walk : Option (Walk C)) (flag owed : ℕ) → awaits walk ≡ true → 1 ≤ owed → is_on_way walk flag owed ≡ true

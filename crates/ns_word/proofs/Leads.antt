@@ -1,60 +1,18 @@
 -- Where a decision leads: the place goes with the section in hand, and tells the same as the place before.
 use Rattle.std.proofs.Common.{◌≡◌, ℕ, ◌-◌, ◌<◌, Bool, true, false, not, cond, ltb, List, length, Option, None, Some, IsSome, refl, ap, sym, ◌∙◌, subst, arith}
 use Rattle.std.proofs.lemmas.Bool.{ltb-true}
-use Rattle.ns_model.specs.declared.event.Mode.{Mode}
-use Rattle.ns_model.specs.declared.event.Mode.TheVariants.{Write, Read}
-use Rattle.ns_model.specs.declared.event.Answer.TheVariants.{Met}
-use Rattle.ns_model.specs.declared.phase.Phase.TheVariants as ThePhase
-use Rattle.ns_queue.specs.declared.waiter.Waiter.{Waiter}
-use Rattle.ns_word.specs.declared.word.Word.{Word}
-use Rattle.ns_word.specs.declared.word.Releasing.{Releasing}
-use Rattle.ns_word.specs.declared.word.Arrival.{Arrival}
-use Rattle.ns_word.specs.declared.word.Arrival.TheVariants.{AsFresh}
-use Rattle.ns_word.specs.declared.word.Releasing.TheVariants.{Writer, QuietWriter, Reader}
-use Rattle.ns_env.specs.declared.limits.Cause.{Cause}
-use Rattle.ns_word.specs.declared.wait.Subject.{Subject}
-use Rattle.ns_word.specs.declared.wait.Subject.TheVariants.{OnCondition, OnVariables}
-use Rattle.ns_word.specs.declared.wait.Outcome.{Outcome}
-use Rattle.ns_word.specs.declared.wait.Outcome.TheVariants.{Woken, Ended}
-use Rattle.ns_word.specs.declared.wait.Wait.{Wait}
-use Rattle.ns_word.specs.declared.wait.Aim.{Aim}
-use Rattle.ns_word.specs.declared.wait.Aim.TheVariants.{ForLock, ForWait}
-use Rattle.ns_word.specs.declared.wait.Visit.{Visit}
-use Rattle.ns_word.specs.declared.wait.Visit.TheVariants.{OnEntry, OnReturn}
-use Rattle.ns_word.specs.declared.view.Opening.{Opening}
-use Rattle.ns_word.specs.declared.view.Opening.TheVariants.{CameBack}
-use Rattle.ns_word.specs.declared.view.Held.{Held}
-use Rattle.ns_word.specs.declared.wait.WaitPlace.TheVariants.{TestCells, TestLast, InQueuing, AwaitWakeInWait, LookOut, InLeaving}
-use Rattle.ns_word.specs.declared.wait.QueuePlace.TheVariants.{LookIn, Load, Take, LoadToScan, QueueToWait}
-use Rattle.ns_word.specs.declared.wait.LeavePlace.TheVariants.{LeaveLoad, TakeToLeave}
-use Rattle.ns_word.specs.declared.try_walk.TryPlace.TheVariants.{TryAcquire}
-use Rattle.ns_word.specs.declared.acquire_walk.AcquirePlace.TheVariants.{AcquireLoad, AcquireExchange, TakeToQueue}
-use Rattle.ns_word.specs.declared.release_walk.ReleasePlace.TheVariants.{ReleaseLoad, ReleaseExchange, TakeToScan, ScanCells, ScanAndRelease}
-use Rattle.ns_word.specs.declared.cell_walk.Judging.{Judging}
-use Rattle.ns_word.specs.declared.cell_walk.Judging.TheVariants.{ToTell, ToRelease}
-use Rattle.ns_word.specs.declared.cell_walk.CellPlace.TheVariants.{QuietCells, QuietLast}
-use Rattle.ns_word.specs.declared.walk.Walk.{Walk}
-use Rattle.ns_word.specs.declared.act.Waking.{Waking}
-use Rattle.ns_word.specs.declared.show_walk.ShowPlace.TheVariants.{ShowLoad, TakeToShow}
-use Rattle.ns_word.specs.declared.signal_walk.SignalPlace.TheVariants.{SignalLoad, TakeToWake}
-use Rattle.ns_word.specs.declared.walk.Walk.TheVariants.{InTry, InAcquire, InRelease, InCells, InWait, InSignal, InShow}
-use Rattle.ns_word.specs.declared.walk.Next.TheVariants.{On, Idle, Done}
-use Rattle.ns_word.specs.declared.walk.Reply.TheVariants.{Busy, Answered}
-use Rattle.ns_word.specs.Words.{mode_released, may_acquire, needs_scan}
-use Rattle.ns_word.specs.Lists.{has_eligible}
-use Rattle.ns_env.specs.Walks.{is_limited}
-use Rattle.ns_word.specs.Waits.{IsWokenBy, OutcomeFits, mode_for, phase_kept}
-use Rattle.ns_word.specs.Walks.{after_judging, walk_after, acquire_by, back_with, acquired_for, load_place, armed_place, signal_by, show_by, pay_woken, expected_for, calls_from_lock, was_woken, release_by, quiet_place, scan_place, pay_releasing, test_place, unmet_by, queue_by, pay_waiting, rest_or_look, leave_by, has_queues, is_queuing, has_armed, waits_in, pays, phase_by}
-use Rattle.ns_model.specs.Truths.{Truths, QuietKeeps}
-use Rattle.ns_word.specs.Answers.{cause_by}
-use Rattle.ns_word.specs.Steps.{MayShow, newly_held, opening_by, held_after, meets_at}
-use Rattle.ns_word.specs.Places.{ComesBack, PlaceFits, IsForCondition, IsUnmet, IsInRange, HasMode, IsSettledBy, IsSettled, CanLeave, IsLeft, Tests, CanWait, AimFits}
-use Rattle.ns_word.specs.Finds.{row_in}
-use Rattle.ns_word.specs.Lawful.{IsExpected, phase_before}
+use Rattle.ns_word.specs.Prelude.{AcquireExchange, AcquireLoad, Aim, AimFits, Answered, Arrival, AsFresh, AwaitWakeInWait, Busy, CameBack, CanLeave, CanWait, Cause, ComesBack, Done, Ended, ForLock, ForWait, HasMode, Held, Idle, InAcquire, InCells, InLeaving, InQueuing}
+use Rattle.ns_word.specs.Prelude.{InRelease, InShow, InSignal, InTry, InWait, IsExpected, IsForCondition, IsInRange, IsLeft, IsSettled, IsSettledBy, IsUnmet, IsWokenBy, Judging, LeaveLoad, Load, LoadToScan, LookIn, LookOut, MayShow, Met, Mode, On, OnCondition, OnEntry}
+use Rattle.ns_word.specs.Prelude.{OnReturn, OnVariables, Opening, Outcome, OutcomeFits, PlaceFits, QueueToWait, QuietCells, QuietKeeps, QuietLast, QuietWriter, Read, Reader, ReleaseExchange, ReleaseLoad, Releasing, ScanAndRelease, ScanCells, ShowLoad, SignalLoad}
+use Rattle.ns_word.specs.Prelude.{Subject, Take, TakeToLeave, TakeToQueue, TakeToScan, TakeToShow, TakeToWake, TestCells, TestLast, Tests, ToRelease, ToTell, Truths, TryAcquire, Visit, Wait, Waiter, Waking, Walk, Woken, Word, Write, Writer, acquire_by, acquired_for}
+use Rattle.ns_word.specs.Prelude.{after_judging, armed_place, back_with, calls_from_lock, cause_by, expected_for, has_armed, has_eligible, has_queues, held_after, is_limited, is_queuing, leave_by, load_place, may_acquire, meets_at, mode_for, mode_released, needs_scan}
+use Rattle.ns_word.specs.Prelude.{newly_held, opening_by, pay_releasing, pay_waiting, pay_woken, pays, phase_before, phase_by, phase_kept, queue_by, quiet_place, release_by, rest_or_look, row_in, scan_place, show_by, signal_by, test_place, unmet_by, waits_in}
+use Rattle.ns_word.specs.Prelude.{walk_after, was_woken}
 use Rattle.ns_word.proofs.Scans.{quiet_eligible}
 use Rattle.ns_word.proofs.Knows.{is_loud}
 use Rattle.ns_word.proofs.Keeps.{Same, Way, Stays}
 use Rattle.ns_word.proofs.Safes.{section, SameSection}
+use Rattle.ns_model.specs.declared.phase.Phase.TheVariants as ThePhase
 
 -- a wait with its section in hand, and one that stands in the lock list
 abbrev pub inside : {C : Type 0} → Wait C → Option (Walk C)

@@ -3,33 +3,8 @@ use Rattle.std.proofs.Common.{◌≡◌, ℕ, ◌≤◌, ◌<◌, inl, inr, Bool
 use Rattle.std.specs.List.{sum_by}
 use Rattle.std.proofs.lemmas.Bool.{ltb-true, ltb-false}
 use Rattle.std.proofs.lemmas.List.Sums.{get_or-le-sum_by}
-use Rattle.ns_env.specs.declared.limits.Cause.{Cause}
-use Rattle.ns_model.specs.declared.cvs.Variables.{Variables}
-use Rattle.ns_model.specs.declared.event.Event.{Event}
-use Rattle.ns_model.specs.declared.event.Mode.{Mode}
-use Rattle.ns_model.specs.declared.phase.Phase.{Phase}
-use Rattle.ns_model.specs.declared.phase.Phase.TheVariants.{Waiting}
-use Rattle.ns_model.specs.Histories.{standing_after}
-use Rattle.ns_model.specs.Truths.{Truths}
-use Rattle.ns_queue.specs.declared.waiter.Which.TheVariants.{Cv}
-use Rattle.ns_queue.specs.Queues.{Lists, times, waiters_of, without}
-use Rattle.ns_queue.specs.Waiters.{times_in, without_in}
-use Rattle.ns_word.specs.declared.act.Found.TheVariants.{Left}
-use Rattle.ns_word.specs.declared.view.SeatView.{SeatView}
-use Rattle.ns_word.specs.declared.wait.LeavePlace.TheVariants.{Leave}
-use Rattle.ns_word.specs.declared.wait.Subject.TheVariants.{OnCondition, OnVariables}
-use Rattle.ns_word.specs.declared.wait.Wait.{Wait}
-use Rattle.ns_word.specs.declared.wait.WaitPlace.TheVariants.{InLeaving}
-use Rattle.ns_word.specs.declared.walk.Walk.TheVariants.{InWait}
-use Rattle.ns_word.specs.declared.word.Word.{Word}
-use Rattle.ns_word.specs.Lawful.{EachFits, IsExpected, IsLawful, SectionFits, VariableWaiterFits, VariablesTell, ViewFits}
-use Rattle.ns_word.specs.Lists.{stands_at}
-use Rattle.ns_word.specs.Places.{PlaceFits}
-use Rattle.ns_word.specs.Stands.{IsFoundLeaving}
-use Rattle.ns_word.specs.Steps.{LockState, Step}
-use Rattle.ns_word.specs.Views.{AreApart, walk_at}
-use Rattle.ns_word.specs.Waits.{home_of}
-use Rattle.ns_word.specs.Walks.{expected_for, phase_by, waits_in}
+use Rattle.ns_word.specs.Prelude.{AreApart, Cause, Cv, EachFits, Event, InLeaving, InWait, IsExpected, IsFoundLeaving, IsLawful, Leave, Left, Lists, LockState, Mode, OnCondition, OnVariables, Phase, PlaceFits, SeatView, SectionFits, Step, Truths, VariableWaiterFits}
+use Rattle.ns_word.specs.Prelude.{Variables, VariablesTell, ViewFits, Wait, Waiting, Word, expected_for, home_of, phase_by, standing_after, stands_at, times, times_in, waiters_of, waits_in, walk_at, without, without_in}
 use Rattle.ns_word.proofs.CountsIn.{gone_from, left_at, some_list}
 use Rattle.ns_word.proofs.Keeps.{stance_mode, stance_variables}
 use Rattle.ns_word.proofs.Scans.{times_without}

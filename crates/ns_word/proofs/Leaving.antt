@@ -1,19 +1,8 @@
 -- The event by which a wait for variables is left.
 use Rattle.std.proofs.Common.{◌≡◌, ◌≢◌, ℕ, ◌<◌, Bool, true, false, List, [], ◌∷◌, refl, subst, sym, eq-eqb}
 use Rattle.std.proofs.lemmas.Bool.{ne_eqb}
-use Rattle.ns_model.specs.declared.cvs.Variables.{Variables}
-use Rattle.ns_model.specs.declared.cvs.Variables.TheVariants.{Only, Any}
-use Rattle.ns_model.specs.declared.event.Event.{Event}
-use Rattle.ns_model.specs.declared.event.Event.TheVariants.{Leave, LeaveAny}
-use Rattle.ns_model.specs.declared.event.Mode.{Mode}
-use Rattle.ns_model.specs.declared.phase.Phase.{Phase}
-use Rattle.ns_model.specs.declared.phase.Phase.TheVariants.{Waiting}
-use Rattle.ns_model.specs.Histories.{Standing, IsLegalEvent, standing_next, who_of}
-use Rattle.ns_model.specs.Phases.{left_phase}
-use Rattle.ns_model.specs.Wakes.{IsLegalLeave, IsLegalLeaveAny}
-use Rattle.ns_word.specs.declared.wait.Home.{Home}
-use Rattle.ns_word.specs.declared.wait.Home.TheVariants.{AtLock, AtVariables}
-use Rattle.ns_word.specs.Steps.{leave_of}
+use Rattle.ns_word.specs.Prelude.{Any, AtLock, AtVariables, Event, Home, IsLegalEvent, IsLegalLeave, IsLegalLeaveAny, LeaveAny, Mode, Only, Phase, Standing, Variables, Waiting, leave_of, left_phase, standing_next, who_of}
+use Rattle.ns_model.specs.declared.event.Event.TheVariants.{Leave}
 
 -- the event
 abbrev pub left_event : {C : Type 0} {N : ℕ} → ℕ → Variables → Event C N

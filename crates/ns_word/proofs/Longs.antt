@@ -1,47 +1,12 @@
 -- While one waits long, only those acquire who were woken.
 use Rattle.std.proofs.Common.{◌≡◌, ℕ, Bool, true, false, not, eqb, inl, inr, refl, List, Option, None, Some, ap, sym, subst, ◌∙◌}
 use Rattle.std.proofs.lemmas.Bool.{and_parts, both_ways, or_cases, not-true}
-use Rattle.ns_model.specs.declared.event.Mode.{Mode}
-use Rattle.ns_model.specs.declared.event.Mode.TheVariants.{Write, Read}
-use Rattle.ns_model.specs.declared.event.Event.{Event}
-use Rattle.ns_model.specs.Truths.{Truths}
-use Rattle.ns_word.specs.declared.word.Word.{Word}
-use Rattle.ns_word.specs.declared.word.Arrival.{Arrival}
-use Rattle.ns_word.specs.declared.word.Arrival.TheVariants.{AsFresh}
-use Rattle.ns_word.specs.declared.wait.Subject.{Subject}
-use Rattle.ns_word.specs.declared.wait.Subject.TheVariants.{OnCondition, OnVariables}
-use Rattle.ns_word.specs.declared.wait.Wait.{Wait}
-use Rattle.ns_word.specs.declared.wait.WaitPlace.{WaitPlace}
-use Rattle.ns_word.specs.declared.wait.WaitPlace.TheVariants.{TestCells, TestLast, InQueuing, PayInWait, AwaitWakeInWait, LookOut, InLeaving}
-use Rattle.ns_word.specs.declared.wait.QueuePlace.{QueuePlace}
-use Rattle.ns_word.specs.declared.wait.QueuePlace.TheVariants.{LookIn, Load, Take, ArmToWait, LoadToScan, QueueToWait}
-use Rattle.ns_word.specs.declared.wait.LeavePlace.{LeavePlace}
-use Rattle.ns_word.specs.declared.wait.LeavePlace.TheVariants.{LeaveLoad, TakeToLeave, Leave, AwaitWakeToLeave}
-use Rattle.ns_word.specs.declared.try_walk.TryPlace.TheVariants.{TryLoad, TryAcquire}
-use Rattle.ns_word.specs.declared.acquire_walk.AcquirePlace.TheVariants.{AcquireLoad, AcquireExchange, TakeToQueue, Arm, Queue, AwaitWake}
-use Rattle.ns_word.specs.declared.release_walk.ReleasePlace.{ReleasePlace}
-use Rattle.ns_word.specs.declared.release_walk.ReleasePlace.TheVariants.{ReleaseLoad, ReleaseExchange, TakeToScan, ScanCells, ScanAndRelease, Pay}
-use Rattle.ns_word.specs.declared.cell_walk.CellPlace.{CellPlace}
-use Rattle.ns_word.specs.declared.cell_walk.CellPlace.TheVariants.{GetLoad, SetLoad, SetStore, QuietCells, QuietLast}
-use Rattle.ns_word.specs.declared.show_walk.ShowPlace.{ShowPlace}
-use Rattle.ns_word.specs.declared.show_walk.ShowPlace.TheVariants.{ShowLoad, TakeToShow, ReturnShown}
-use Rattle.ns_word.specs.declared.signal_walk.SignalPlace.{SignalPlace}
-use Rattle.ns_word.specs.declared.signal_walk.SignalPlace.TheVariants.{SignalLoad, TakeToWake, WakeAndReturn, PayTheWoken}
-use Rattle.ns_word.specs.declared.word.Releasing.{Releasing}
-use Rattle.ns_word.specs.declared.act.Waking.{Waking}
-use Rattle.ns_word.specs.declared.view.Held.{Held}
-use Rattle.ns_word.specs.declared.view.SeatView.{SeatView}
-use Rattle.ns_word.specs.declared.walk.Walk.{Walk}
-use Rattle.ns_word.specs.declared.walk.Walk.TheVariants.{InTry, InAcquire, InRelease, InCells, InWait, InSignal, InShow}
-use Rattle.ns_word.specs.declared.act.Act.{Act}
-use Rattle.ns_word.specs.declared.act.Act.TheVariants.{LoadWord, Acquire, TakeQueues, ReturnQueues, Release, ReleaseReturning, WaitReturning, LoadCell, JudgeQuiet, JudgeMet, StoreCell, ArmFlag, PayWake, LoadFlag, Look}
-use Rattle.ns_word.specs.declared.act.Found.{Found}
-use Rattle.ns_word.specs.declared.act.Found.TheVariants.{Saw, Made, Cell, Quiet, Tested, Scanned, Paid, Left, Woke, Flag, Looked}
-use Rattle.ns_env.specs.declared.limits.Cause.{Cause}
-use Rattle.ns_word.specs.Words.{is_woken, may_acquire}
-use Rattle.ns_word.specs.Waits.{mode_for}
-use Rattle.ns_word.specs.Walks.{want_of, judge_of, want_releasing, want_in_cells, want_queuing, want_leaving, want_waiting, want_signaling, want_showing, was_woken}
-use Rattle.ns_word.specs.Steps.{LockState, Part, Effect, Step, part_of, held_after, newly_held}
+use Rattle.ns_word.specs.Prelude.{Acquire, AcquireExchange, AcquireLoad, Act, Arm, ArmFlag, ArmToWait, Arrival, AsFresh, AwaitWake, AwaitWakeInWait, AwaitWakeToLeave, Cause, Cell, CellPlace, Effect, Event, Flag, Found, GetLoad, Held, InAcquire, InCells, InLeaving}
+use Rattle.ns_word.specs.Prelude.{InQueuing, InRelease, InShow, InSignal, InTry, InWait, JudgeMet, JudgeQuiet, Leave, LeaveLoad, LeavePlace, Left, Load, LoadCell, LoadFlag, LoadToScan, LoadWord, LockState, Look, LookIn, LookOut, Looked, Made, Mode, OnCondition}
+use Rattle.ns_word.specs.Prelude.{OnVariables, Paid, Part, Pay, PayInWait, PayTheWoken, PayWake, Queue, QueuePlace, QueueToWait, Quiet, QuietCells, QuietLast, Read, Release, ReleaseExchange, ReleaseLoad, ReleasePlace, ReleaseReturning, Releasing, ReturnQueues}
+use Rattle.ns_word.specs.Prelude.{ReturnShown, Saw, ScanAndRelease, ScanCells, Scanned, SeatView, SetLoad, SetStore, ShowLoad, ShowPlace, SignalLoad, SignalPlace, Step, StoreCell, Subject, Take, TakeQueues, TakeToLeave, TakeToQueue, TakeToScan, TakeToShow, TakeToWake}
+use Rattle.ns_word.specs.Prelude.{TestCells, TestLast, Tested, Truths, TryAcquire, TryLoad, Wait, WaitPlace, WaitReturning, WakeAndReturn, Waking, Walk, Woke, Word, Write, held_after, is_woken, judge_of, may_acquire, mode_for, newly_held, part_of, want_in_cells}
+use Rattle.ns_word.specs.Prelude.{want_leaving, want_of, want_queuing, want_releasing, want_showing, want_signaling, want_waiting, was_woken}
 
 -- such a word is acquired by one that was woken alone
 long_shuts : (mode : Mode) (arrival : Arrival) (word : Word) → word.long ≡ true → may_acquire mode arrival word ≡ true → is_woken arrival ≡ true

@@ -1,16 +1,6 @@
 -- Views that stand at their seats' numbers, and a step or a beginning by the number of its seat.
 use Rattle.std.proofs.Common.{◌≡◌, ℕ, zero, suc, ◌+◌, ◌∙◌, List, [], ◌∷◌, ◌++◌, None, Some, take, drop, slice_get, slice_set, refl, ap, sym, arith, zero-add}
-use Rattle.ns_model.specs.declared.event.Event.{Event}
-use Rattle.ns_model.specs.Truths.{Truths}
-use Rattle.ns_word.specs.declared.owed.Owed.{Owed}
-use Rattle.ns_word.specs.declared.view.SeatView.{SeatView}
-use Rattle.ns_word.specs.declared.walk.Walk.{Walk}
-use Rattle.ns_word.specs.declared.act.Found.{Found}
-use Rattle.ns_word.specs.Views.{AreNumbered}
-use Rattle.ns_word.specs.Walks.{want_of, got_of, walk_after}
-use Rattle.ns_word.specs.Steps.{LockState, Effect, Step, part_of}
-use Rattle.ns_word.specs.Begins.{Begins, IsFirst}
-use Rattle.ns_word.specs.Places.{PlaceFits}
+use Rattle.ns_word.specs.Prelude.{AreNumbered, Begins, Effect, Event, Found, IsFirst, LockState, Owed, PlaceFits, SeatView, Step, Truths, Walk, got_of, part_of, walk_after, want_of}
 
 module _ {C : Type 0} {N : ℕ} where
   pub number_from : (first : ℕ) (views : List (SeatView C N)) (i : ℕ) (view : SeatView C N) → slice_get views i ≡ Some view → AreNumbered first views → view.seat ≡ first + i

@@ -1,28 +1,11 @@
 -- What the steps leave of the waiters: each is its seat's own.
 use Rattle.std.proofs.Common.{◌≡◌, ◌≢◌, ℕ, ◌+◌, Bool, true, false, not, ◌&&◌, ◌||◌, cond, eqb, suc, inl, inr, List, [], ◌∷◌, ◌++◌, Option, None, Some, refl, ap, sym, ◌∙◌, subst, arith, eq-eqb}
-use Rattle.std.specs.List.{filter}
-use Rattle.std.specs.List.{list_any}
+use Rattle.std.specs.List.{filter, list_any}
 use Rattle.std.proofs.lemmas.Bool.{cases_eq, eqb-true, or_right}
-use Rattle.ns_model.specs.declared.event.Mode.{Mode}
-use Rattle.ns_queue.specs.declared.waiter.Waiter.{Waiter}
-use Rattle.ns_model.specs.declared.phase.Phase.{Phase}
-use Rattle.ns_model.specs.Tallies.{Every}
-use Rattle.ns_queue.specs.Queues.{Lists, times}
-use Rattle.ns_queue.specs.Waiters.{times_in, is_of, is_long, without_in, reads, writes}
-use Rattle.ns_queue.specs.Scans.{is_eligible, left_of}
+use Rattle.ns_word.specs.Prelude.{AwaitWake, Every, Held, InAcquire, InWait, Lists, Mode, NoneIs, Owed, Phase, SeatView, VariableWaiterFits, Waiter, WaiterFits, WaitersOwn, WaitersPlaced, Walk, counts_in, has_eligible, is_eligible, is_long, is_of, is_unwoken, left_of}
+use Rattle.ns_word.specs.Prelude.{lock_stance, one_if, owed_to, place_awaits, queued, reads, times, times_in, waits_in, walk_at, without_in, writes}
 use Rattle.ns_queue.proofs.Seats.{times_in-cons}
-use Rattle.ns_word.specs.declared.owed.Owed.{Owed}
-use Rattle.ns_word.specs.declared.view.Held.{Held}
-use Rattle.ns_word.specs.declared.view.SeatView.{SeatView}
-use Rattle.ns_word.specs.declared.acquire_walk.AcquirePlace.TheVariants.{AwaitWake}
-use Rattle.ns_word.specs.declared.walk.Walk.{Walk}
-use Rattle.ns_word.specs.declared.walk.Walk.TheVariants.{InAcquire, InWait}
-use Rattle.ns_word.specs.Lists.{counts_in, queued, has_eligible}
 use Rattle.ns_word.proofs.CountsIn.{counts_none}
-use Rattle.ns_word.specs.Walks.{place_awaits, waits_in}
-use Rattle.ns_word.specs.Views.{owed_to, walk_at, NoneIs}
-use Rattle.ns_word.specs.Lawful.{lock_stance, is_unwoken, WaitersPlaced, WaiterFits, WaitersOwn, VariableWaiterFits}
-use Rattle.ns_model.specs.Tallies.{one_if}
 use Rattle.ns_word.proofs.Views.{view_of, walk_here, walk_there}
 use Rattle.ns_word.proofs.Phases.{cond_in, tries_in}
 use Rattle.ns_word.proofs.Scans.{times_scan, times_without}

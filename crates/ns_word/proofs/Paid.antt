@@ -1,12 +1,6 @@
 -- What a paid wake stores.
 use Rattle.std.proofs.Common.{◌≡◌, ℕ, cond, List, ◌∷◌, refl, ap, sym, ◌∙◌, eq-eqb}
-use Rattle.ns_model.specs.declared.event.Event.{Event}
-use Rattle.ns_model.specs.Truths.{Truths}
-use Rattle.ns_word.specs.declared.act.Act.TheVariants.{PayWake}
-use Rattle.ns_word.specs.declared.act.Found.{Found}
-use Rattle.ns_word.specs.declared.act.Found.TheVariants.{Cell, Flag, Left, Looked, Made, Paid, Quiet, Saw, Scanned, Tested, Woke}
-use Rattle.ns_word.specs.declared.owed.Owed.{Owed}
-use Rattle.ns_word.specs.Steps.{Effect, Part}
+use Rattle.ns_word.specs.Prelude.{Cell, Effect, Event, Flag, Found, Left, Looked, Made, Owed, Paid, Part, PayWake, Quiet, Saw, Scanned, Tested, Truths, Woke}
 
 module _ {C : Type 0} {N : ℕ} (truths : Truths C) where
   -- the first wake that was owed is paid, and those behind it are owed still

@@ -2,28 +2,8 @@
 use Rattle.std.specs.Prelude.{slice_get}
 use Rattle.std.proofs.Common.{◌≡◌, ℕ, zero, suc, Bool, true, false, cond, inl, inr, List, [], ◌∷◌, Option, None, Some, refl, ap, ◌∙◌, subst, eq-eqb, ◌≤◌, arith}
 use Rattle.std.proofs.lemmas.Bool.{ne_eqb, cases_eq}
-use Rattle.ns_model.specs.declared.event.Mode.{Mode}
-use Rattle.ns_model.specs.declared.event.Event.{Event}
-use Rattle.ns_model.specs.declared.phase.Phase.{Phase}
-use Rattle.ns_model.specs.declared.phase.Phase.TheVariants.{Cond}
-use Rattle.ns_model.specs.Histories.{Standing, standing_after, phase_of}
-use Rattle.ns_queue.specs.declared.waiter.Waiter.{Waiter}
-use Rattle.ns_word.specs.declared.wait.Subject.{Subject}
-use Rattle.ns_word.specs.declared.wait.Subject.TheVariants.{OnCondition, OnVariables}
-use Rattle.ns_word.specs.declared.wait.Wait.{Wait}
-use Rattle.ns_word.specs.declared.view.Held.{Held}
-use Rattle.ns_word.specs.declared.view.SeatView.{SeatView}
-use Rattle.ns_word.specs.declared.wait.WaitPlace.{WaitPlace}
-use Rattle.ns_word.specs.declared.wait.WaitPlace.TheVariants.{PayInWait, AwaitWakeInWait, LookOut, InLeaving}
-use Rattle.ns_word.specs.declared.acquire_walk.AcquirePlace.TheVariants.{AwaitWake}
-use Rattle.ns_word.specs.declared.walk.Walk.{Walk}
-use Rattle.ns_word.specs.declared.walk.Walk.TheVariants.{InAcquire, InWait}
-use Rattle.ns_word.specs.Walks.{Stance, place_awaits, waits_in, expected_for}
-use Rattle.ns_word.specs.Views.{walk_at}
-use Rattle.ns_model.specs.Truths.{Truths}
-use Rattle.ns_word.specs.Steps.{LockState}
-use Rattle.ns_word.specs.Places.{WaitFits, PlaceFits}
-use Rattle.ns_word.specs.Lawful.{SectionFits, EachFits, IsExpected, WaiterFits, WaitersOwn, IsLawful, cond_on, lock_stance}
+use Rattle.ns_word.specs.Prelude.{AwaitWake, AwaitWakeInWait, Cond, EachFits, Event, Held, InAcquire, InLeaving, InWait, IsExpected, IsLawful, LockState, LookOut, Mode, OnCondition, OnVariables, PayInWait, Phase, PlaceFits, SeatView, SectionFits, Stance, Standing}
+use Rattle.ns_word.specs.Prelude.{Subject, Truths, Wait, WaitFits, WaitPlace, Waiter, WaiterFits, WaitersOwn, Walk, cond_on, expected_for, lock_stance, phase_of, place_awaits, standing_after, waits_in, walk_at}
 
 -- how one waits that waits for this condition in this mode
 abbrev pub waiting_for : {C : Type 0} → Mode → C → ℕ → Option (Stance C)

@@ -1,8 +1,6 @@
 -- One bit of a word's number, or the count of readers, in place of another.
 use Rattle.std.proofs.Common.{◌≡◌, ℕ, ◌+◌, ◌-◌, ◌^◌, ◌<◌, ◌≤◌, ap, ◌∙◌, sym, arith}
-use Rattle.ns_word.specs.Codec.{number_of, word_of}
-use Rattle.ns_word.specs.Encoded.{encoded}
-use Rattle.ns_word.specs.declared.word.Word.{Word}
+use Rattle.ns_word.specs.Prelude.{Word, encoded, number_of, word_of}
 use Rattle.ns_word.proofs.Codes.{bit_few, decoded}
 
 -- what is taken from a number and added to it makes the other word's

@@ -1,23 +1,9 @@
 -- Which seats the law speaks of, and how many: those that wait or are owed a wake are seats, each stands once, and not all of 64 read while one asks to.
 use Rattle.std.proofs.Common.{◌≡◌, ℕ, ◌+◌, ◌<◌, ◌≤◌, true, false, cond, eqb, inl, inr, List, [], ◌∷◌, ◌++◌, length, None, refl, ap, sym, ◌∙◌, subst, arith}
 use Rattle.std.proofs.lemmas.Bool.{ne_eqb, cases_eq}
-use Rattle.ns_model.specs.declared.event.Mode.TheVariants.{Read}
-use Rattle.ns_model.specs.declared.event.Event.{Event}
-use Rattle.ns_model.specs.Histories.{Standing, standing_after}
-use Rattle.ns_queue.specs.declared.waiter.Waiter.{Waiter}
-use Rattle.ns_queue.specs.declared.waiter.Which.TheVariants.{Cv}
-use Rattle.ns_queue.specs.Queues.{Lists, IsOrderly, beside, times, waiters_of}
-use Rattle.ns_queue.specs.Waiters.{times_in}
+use Rattle.ns_word.specs.Prelude.{AreApart, Cv, EachFits, Event, IsLawful, IsOrderly, Lists, LockState, NoneIs, Read, SeatView, Standing, Truths, Waiter, WaitersPlaced, awaits, beside, counts_in, is_reading, is_unwoken, one_if, owed_to, readers, standing_after, times}
+use Rattle.ns_word.specs.Prelude.{times_among, times_in, waiters_of, walk_at}
 use Rattle.ns_queue.proofs.Seats.{times_in-cons, few, room_for}
-use Rattle.ns_word.specs.Owed.{times_among}
-use Rattle.ns_word.specs.declared.view.SeatView.{SeatView}
-use Rattle.ns_word.specs.Lists.{counts_in}
-use Rattle.ns_word.specs.Walks.{awaits}
-use Rattle.ns_word.specs.Views.{is_reading, readers, owed_to, walk_at, NoneIs, AreApart}
-use Rattle.ns_model.specs.Truths.{Truths}
-use Rattle.ns_word.specs.Steps.{LockState}
-use Rattle.ns_word.specs.Lawful.{EachFits, WaitersPlaced, IsLawful, is_unwoken}
-use Rattle.ns_model.specs.Tallies.{one_if}
 use Rattle.ns_model.proofs.Tallies.{one_most}
 use Rattle.ns_word.proofs.CountsIn.{counts_none, counts_there}
 use Rattle.ns_word.proofs.Views.{owed_at, none_parts, each_parts}

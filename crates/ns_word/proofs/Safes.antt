@@ -2,37 +2,11 @@
 use Rattle.std.proofs.Common.{◌≡◌, ◌≢◌, ℕ, ◌+◌, ◌-◌, ◌<◌, ◌≤◌, Bool, true, false, cond, inl, inr, List, [], ◌∷◌, ◌++◌, length, Option, None, Some, slice_set, refl, ap, sym, ◌∙◌, subst, arith, eq-eqb}
 use Rattle.std.proofs.lemmas.List.{length-set}
 use Rattle.std.proofs.lemmas.Bool.{eqb-true, ne_eqb, both_ways}
-use Rattle.ns_model.specs.declared.event.Mode.{Mode}
-use Rattle.ns_model.specs.declared.event.Mode.TheVariants.{Write, Read}
-use Rattle.ns_model.specs.declared.event.Answer.TheVariants.{Met}
-use Rattle.ns_model.specs.declared.event.Exit.{Exit}
-use Rattle.ns_model.specs.declared.event.Event.{Event}
-use Rattle.ns_model.specs.declared.phase.Phase.{Phase}
-use Rattle.ns_model.specs.declared.phase.Phase.TheVariants.{Waiting, Left}
-use Rattle.ns_model.specs.Phases.{left_phase}
-use Rattle.ns_model.specs.declared.cvs.Variables.{Variables}
-use Rattle.ns_model.specs.declared.cvs.Variables.TheVariants.{Only, Any}
-use Rattle.ns_model.specs.Sections.{is_met, ModeFits, EntryFits, ExitFits, phase_after}
-use Rattle.ns_model.specs.Histories.{Standing, first_standing, standing_after, standing_next, IsLegal, IsLegalEvent, IsBySeats, who_of}
+use Rattle.ns_word.specs.Prelude.{Any, CameBack, Cause, Ended, EntryFits, Event, Exit, ExitFits, Expired, Held, HeldFits, IsBySeats, IsExpected, IsLegal, IsLegalEvent, IsSettledBy, Locked, Met, Mode, ModeFits, Notified, OnCondition, OnVariables, Only, Opening, Owed}
+use Rattle.ns_word.specs.Prelude.{OwesAs, Phase, PlaceFits, Read, SeatView, SectionFits, Standing, Truths, Variables, Waiting, Walk, Woken, Word, Write, answer_of, entry_of, first_standing, is_met, is_reading, is_writing, left_phase, phase_after, phase_before, phase_by}
+use Rattle.ns_word.specs.Prelude.{readers, section_of, standing_after, standing_next, who_of, writers}
+use Rattle.ns_model.specs.declared.phase.Phase.TheVariants.{Left}
 use Rattle.ns_model.proofs.Histories.{legal_append, standing_from-append}
-use Rattle.ns_word.specs.declared.owed.Owed.{Owed}
-use Rattle.ns_word.specs.declared.word.Word.{Word}
-use Rattle.ns_env.specs.declared.limits.Cause.{Cause}
-use Rattle.ns_env.specs.declared.limits.Cause.TheVariants.{Expired, Notified}
-use Rattle.ns_word.specs.declared.wait.Subject.TheVariants.{OnCondition, OnVariables}
-use Rattle.ns_word.specs.declared.wait.Outcome.TheVariants.{Woken, Ended}
-use Rattle.ns_word.specs.declared.view.Opening.{Opening}
-use Rattle.ns_word.specs.declared.view.Opening.TheVariants.{Locked, CameBack}
-use Rattle.ns_word.specs.declared.view.Held.{Held}
-use Rattle.ns_word.specs.declared.view.SeatView.{SeatView}
-use Rattle.ns_word.specs.declared.walk.Walk.{Walk}
-use Rattle.ns_word.specs.Waits.{answer_of}
-use Rattle.ns_word.specs.Walks.{phase_by}
-use Rattle.ns_word.specs.Views.{is_writing, is_reading, writers, readers}
-use Rattle.ns_model.specs.Truths.{Truths}
-use Rattle.ns_word.specs.Steps.{entry_of, section_of}
-use Rattle.ns_word.specs.Places.{IsSettledBy, PlaceFits}
-use Rattle.ns_word.specs.Lawful.{OwesAs, HeldFits, SectionFits, IsExpected, phase_before}
 use Rattle.ns_word.proofs.Leaving.{left_event, left_is_legal, left_next_here, left_next_there, left_row, left_who}
 use Rattle.ns_word.proofs.Groups.{Safe}
 use Rattle.ns_word.proofs.Views.{view_of, writers_at, readers_at, apart_parts, apart_moves, each_parts, each_join, each_moves, each_woken, IsWokenBy}

@@ -2,7 +2,7 @@
 use Rattle.std.proofs.Common.{◌≡◌, Bool, true, false, ◌&&◌, eqb, refl}
 use Rattle.std.specs.Bool.{beq}
 use Rattle.std.proofs.lemmas.Bool.{eqb-true, and_parts}
-use Rattle.ns_word.specs.declared.word.Word.{Word}
+use Rattle.ns_word.specs.Prelude.{Word}
 
 same_bit : (a b : Bool) → beq a b ≡ true → a ≡ b
 same_bit true true e = refl

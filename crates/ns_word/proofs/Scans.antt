@@ -3,16 +3,9 @@ use Rattle.std.proofs.Common.{◌≡◌, ◌≢◌, ℕ, ◌+◌, ◌<◌, ◌�
 use Rattle.std.specs.List.{filter, list_any}
 use Rattle.std.proofs.lemmas.Bool.{ne_eqb, or_parts, both_ways, cases_Bool, cases_eq, false_from_ne_true, le-ltb, lt-ltb, ltb-true}
 use Rattle.std.proofs.lemmas.List.{length-map}
-use Rattle.ns_model.specs.declared.event.Mode.{Mode}
-use Rattle.ns_queue.specs.declared.waiter.Waiter.{Waiter}
-use Rattle.ns_queue.specs.Waiters.{is_long, times_in, without_in, reads, writes, has_condition}
-use Rattle.ns_queue.specs.Scans.{is_satisfied, is_eligible, woken_of, left_of}
-use Rattle.ns_model.specs.Tallies.{Every, one_if}
+use Rattle.ns_word.specs.Prelude.{Every, Mode, Owed, Tells, Waiter, bits_of, called_by, called_of, has_condition, has_eligible, has_some, is_eligible, is_from_lock, is_long, is_satisfied, left_of, one_if, queued, reads, seats_of, times_among, times_in, value_of}
+use Rattle.ns_word.specs.Prelude.{wakes_of, without_in, woken_of, writes}
 use Rattle.ns_queue.proofs.Seats.{times_in-cons, times_in-append}
-use Rattle.ns_word.specs.Lists.{has_some, has_eligible, bits_of, queued}
-use Rattle.ns_queue.specs.Waiters.{seats_of}
-use Rattle.ns_word.specs.Owed.{called_by, Tells, called_of, is_from_lock, times_among, value_of, wakes_of}
-use Rattle.ns_word.specs.declared.owed.Owed.{Owed}
 
 -- what a wake from the lock list tells is 0, or of 6 to 9
 value_tells : (via : Option ℕ) → (value_of via ≡ 0) ⊎ ((6 ≤ value_of via) × (value_of via < 10))

@@ -2,48 +2,12 @@
 use Rattle.std.specs.Prelude.{min}
 use Rattle.std.proofs.Common.{◌≡◌, ℕ, ◌+◌, ◌<◌, inl, inr, Bool, true, false, cond, ltb, List, [], ◌∷◌, ◌++◌, length, Option, None, Some, refl, ap, sym, ◌∙◌, subst, arith}
 use Rattle.std.proofs.lemmas.Bool.{cases_Bool, ltb-true, ltb-false}
-use Rattle.ns_model.specs.Cvs.{has}
-use Rattle.ns_model.specs.Histories.{standing_after}
-use Rattle.ns_model.specs.Truths.{Truths}
-use Rattle.ns_model.specs.declared.event.Event.{Event}
-use Rattle.ns_model.specs.declared.event.Mode.{Mode}
+use Rattle.ns_word.specs.Prelude.{Aim, AreCalled, Arrival, AsFresh, AsWoken, CanWait, Cv, EachFits, Effect, Event, Found, Held, InAcquire, InQueuing, InSignal, InWait, IsInRange, IsLawful, IsUnmet, Lists, LockState, Made, Mode, OnCondition, OnVariables, PlaceFits}
+use Rattle.ns_word.specs.Prelude.{Queue, QueueSelf, QueueToWait, QueuesFor, Scanned, SeatView, Step, Subject, Truths, Wait, Waiter, WaitsFor, WakeAndReturn, WakeWaiters, Waking, Walk, Woke, Word, changed, cvs_without, has, is_held, is_woken, left_of, meets_at, mode_for}
+use Rattle.ns_word.specs.Prelude.{moved_to, outside, part_of, queued, standing_after, taken_by, taken_set, tries_of, waiter, waiters_of, waits_at, wakes_of, want_of, with_lock}
 use Rattle.ns_word.proofs.Enters.{entered_at}
-use Rattle.ns_queue.specs.Queues.{Lists, cvs_without, waiters_of}
-use Rattle.ns_queue.specs.Signals.{taken_set}
-use Rattle.ns_queue.specs.Waiters.{outside}
 use Rattle.ns_word.proofs.CountsIn.{taken_at}
-use Rattle.ns_queue.specs.Scans.{left_of}
-use Rattle.ns_word.specs.Owed.{wakes_of}
-use Rattle.ns_queue.specs.declared.waiter.Waiter.{Waiter}
-use Rattle.ns_queue.specs.declared.waiter.Which.TheVariants.{Cv}
 use Rattle.ns_word.proofs.Views.{each_parts}
-use Rattle.ns_word.specs.Lawful.{EachFits, IsLawful}
-use Rattle.ns_word.specs.Lists.{queued}
-use Rattle.ns_word.specs.Places.{CanWait, IsInRange, IsUnmet, PlaceFits}
-use Rattle.ns_word.specs.Stands.{AreCalled, QueuesFor, WaitsFor, waiter}
-use Rattle.ns_word.specs.Steps.{LockState, Step, Effect, part_of, changed, moved_to, taken_by, waits_at, with_lock, meets_at}
-use Rattle.ns_word.specs.Waits.{mode_for}
-use Rattle.ns_word.specs.Walks.{want_of}
-use Rattle.ns_word.specs.Words.{is_woken, is_held, tries_of}
-use Rattle.ns_word.specs.declared.acquire_walk.AcquirePlace.TheVariants.{Queue}
-use Rattle.ns_word.specs.declared.act.Change.TheVariants.{QueueSelf, WakeWaiters}
-use Rattle.ns_word.specs.declared.act.Found.TheVariants.{Made, Scanned, Woke}
-use Rattle.ns_word.specs.declared.act.Found.{Found}
-use Rattle.ns_word.specs.declared.act.Waking.{Waking}
-use Rattle.ns_word.specs.declared.signal_walk.SignalPlace.TheVariants.{WakeAndReturn}
-use Rattle.ns_word.specs.declared.view.Held.{Held}
-use Rattle.ns_word.specs.declared.view.SeatView.{SeatView}
-use Rattle.ns_word.specs.declared.wait.Aim.{Aim}
-use Rattle.ns_word.specs.declared.wait.QueuePlace.TheVariants.{QueueToWait}
-use Rattle.ns_word.specs.declared.wait.Subject.TheVariants.{OnCondition, OnVariables}
-use Rattle.ns_word.specs.declared.wait.Subject.{Subject}
-use Rattle.ns_word.specs.declared.wait.Wait.{Wait}
-use Rattle.ns_word.specs.declared.wait.WaitPlace.TheVariants.{InQueuing}
-use Rattle.ns_word.specs.declared.walk.Walk.TheVariants.{InAcquire, InWait, InSignal}
-use Rattle.ns_word.specs.declared.walk.Walk.{Walk}
-use Rattle.ns_word.specs.declared.word.Arrival.TheVariants.{AsFresh, AsWoken}
-use Rattle.ns_word.specs.declared.word.Arrival.{Arrival}
-use Rattle.ns_word.specs.declared.word.Word.{Word}
 
 -- one try more, and none above 30
 one_more : (tries : ℕ) (b : Bool) → ltb tries 30 ≡ b → cond b (tries + 1) 30 ≡ min (tries + 1) 30

@@ -1,15 +1,9 @@
 -- No waiter stands twice in a list, or in the lock list and in that of a variable.
 use Rattle.std.proofs.Common.{ℕ, ◌≤◌, ◌<◌, inl, inr, List, arith}
 use Rattle.std.proofs.lemmas.Bool.{cases_eq}
-use Rattle.ns_model.specs.declared.event.Event.{Event}
-use Rattle.ns_model.specs.Truths.{Truths}
-use Rattle.ns_queue.specs.declared.waiter.Which.TheVariants.{Cv}
-use Rattle.ns_queue.specs.Queues.{beside, waiters_of}
-use Rattle.ns_queue.specs.Waiters.{times_in}
+use Rattle.ns_word.specs.Prelude.{Cv, Event, IsLawful, LockState, Truths, beside, times_in, waiters_of}
 use Rattle.ns_word.proofs.CountsIn.{counts_there}
 use Rattle.ns_word.proofs.Ranges.{counts_once}
-use Rattle.ns_word.specs.Lawful.{IsLawful}
-use Rattle.ns_word.specs.Steps.{LockState}
 
 pub stands_once : {C : Type 0} {N : ℕ} (truths : Truths C) (seats : ℕ) (h : List (Event C N)) (s : LockState C N) (seat k : ℕ) → IsLawful truths seats h s → k < 4 → beside s.lists seat k ≤ 1
 stands_once truths seats h s seat k lawful low =

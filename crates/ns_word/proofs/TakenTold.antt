@@ -1,37 +1,15 @@
 -- What the taken are told stays so, by each kind of step.
 use Rattle.std.proofs.Common.{◌≡◌, ◌≢◌, ◌⊎◌, inl, inr, ℕ, ◌+◌, ◌<◌, ◌≤◌, Bool, true, false, not, cond, eqb, List, [], ◌∷◌, ◌++◌, Option, None, Some, refl, ap, sym, ◌∙◌, subst, arith, eq-eqb, append_assoc}
 use Rattle.std.proofs.lemmas.Bool.{cases_eq, cases_Bool, lt-ltb, ne_eqb}
-use Rattle.ns_model.specs.declared.event.Mode.{Mode}
-use Rattle.ns_model.specs.declared.phase.Phase.{Phase}
-use Rattle.ns_model.specs.declared.phase.Phase.TheVariants.{Waiting, Woken}
-use Rattle.ns_model.specs.declared.cvs.Variables.{Variables}
-use Rattle.ns_model.specs.Cvs.{has}
-use Rattle.ns_model.specs.Phases.{woken_phase}
-use Rattle.ns_model.specs.Seats.{is_in}
-use Rattle.ns_model.specs.Tallies.{Every, one_if}
+use Rattle.ns_word.specs.Prelude.{Every, Held, IsNamed, IsToldSo, Mode, NamesOn, NoneIs, OnCondition, OnVariables, Owed, Phase, SeatView, Stance, Subject, TakenTold, ToldOn, VariableWaiterFits, Variables, Waiter, WaiterNames, Waiting, WaitsAmong, WakeTells, Walk}
+use Rattle.ns_word.specs.Prelude.{called_of, flags_with, has, is_eligible, is_in, is_of, left_of, one_if, owed_in, owed_to, queued, taken_set, times_among, times_in, value_of, waits_in, wakes_of, walk_at, without_in, woken_of, woken_phase, woken_phases, writes}
+use Rattle.ns_model.specs.declared.phase.Phase.TheVariants.{Woken}
 use Rattle.ns_model.proofs.Tallies.{every_map}
-use Rattle.ns_queue.specs.declared.waiter.Waiter.{Waiter}
-use Rattle.ns_queue.specs.Scans.{is_eligible, left_of, woken_of}
-use Rattle.ns_queue.specs.Signals.{taken_set}
-use Rattle.ns_queue.specs.Wakes.{WaitsAmong, woken_phases}
-use Rattle.ns_queue.specs.Waiters.{is_of, times_in, without_in, writes}
 use Rattle.ns_queue.proofs.Seeking.{goes_along}
 use Rattle.ns_queue.proofs.Seats.{own_times, times_in-cons}
 use Rattle.ns_queue.proofs.Vias.{every_filter, every_woken}
 use Rattle.ns_queue.proofs.Wakes.{stands_waiting}
 use Rattle.ns_queue.proofs.Taken.{in_list, in_stands}
-use Rattle.ns_word.specs.declared.owed.Owed.{Owed}
-use Rattle.ns_word.specs.declared.wait.Subject.{Subject}
-use Rattle.ns_word.specs.declared.wait.Subject.TheVariants.{OnCondition, OnVariables}
-use Rattle.ns_word.specs.declared.view.Held.{Held}
-use Rattle.ns_word.specs.declared.view.SeatView.{SeatView}
-use Rattle.ns_word.specs.declared.walk.Walk.{Walk}
-use Rattle.ns_word.specs.Lists.{queued}
-use Rattle.ns_word.specs.Owed.{called_of, times_among, value_of, wakes_of}
-use Rattle.ns_word.specs.Steps.{flags_with}
-use Rattle.ns_word.specs.Views.{NoneIs, owed_in, owed_to, walk_at}
-use Rattle.ns_word.specs.Walks.{Stance, waits_in}
-use Rattle.ns_word.specs.Lawful.{IsNamed, IsToldSo, NamesOn, TakenTold, ToldOn, VariableWaiterFits, WaiterNames, WakeTells}
 use Rattle.ns_word.proofs.Variables.{waits_of}
 use Rattle.ns_word.proofs.Views.{view_of, walk_here, walk_there}
 

@@ -4,30 +4,9 @@ use Rattle.std.proofs.Common.{◌≡◌, ◌≢◌, ℕ, ◌<◌, ◌≤◌, Boo
 use Rattle.std.proofs.lemmas.List.{append-nil}
 use Rattle.std.proofs.lemmas.List.Elements.{All-nil, All-push, All-append, filter-append}
 use Rattle.std.proofs.lemmas.Bool.{ne_eqb}
-use Rattle.ns_model.specs.declared.event.Event.{Event}
-use Rattle.ns_model.specs.Histories.{IsLegal, IsBySeats, own, who_of}
-use Rattle.ns_word.specs.declared.view.SeatView.{SeatView}
-use Rattle.ns_word.specs.declared.walk.Walk.{Walk}
-use Rattle.ns_queue.specs.Queues.{Lists}
-use Rattle.ns_model.specs.declared.cvs.Variables.TheVariants.{Any, Only}
-use Rattle.ns_word.specs.declared.wait.Home.{Home}
-use Rattle.ns_word.specs.declared.wait.Home.TheVariants.{AtLock, AtVariables}
-use Rattle.ns_queue.specs.declared.waiter.Waiter.{Waiter}
-use Rattle.ns_word.specs.declared.act.Waking.{Waking}
-use Rattle.ns_word.specs.declared.act.Waking.TheVariants.{Signaling, Broadcasting}
-use Rattle.ns_word.specs.declared.act.Change.{Change}
-use Rattle.ns_word.specs.declared.act.Change.TheVariants.{QueueSelf, LeaveSelf, WakeWaiters, Nothing}
-use Rattle.ns_word.specs.declared.act.Act.{Act}
-use Rattle.ns_word.specs.declared.act.Act.TheVariants.{LoadWord, Acquire, TakeQueues, ReturnQueues, Release, ReleaseReturning, WaitReturning, LoadCell, JudgeQuiet, JudgeMet, StoreCell, ArmFlag, PayWake, LoadFlag, Look}
-use Rattle.ns_word.specs.declared.act.Found.{Found}
-use Rattle.ns_word.specs.declared.act.Found.TheVariants.{Saw, Made, Cell, Quiet, Tested, Scanned, Paid, Left, Woke, Flag, Looked}
-use Rattle.ns_word.specs.Walks.{want_of, got_of, walk_after}
-use Rattle.ns_model.specs.Truths.{Truths, QuietKeeps}
-use Rattle.ns_word.specs.Steps.{LockState, Part, Effect, Step, leave_of, wake_of, change_commits}
-use Rattle.ns_word.specs.Begins.{IsFirst, BeginsIf, SeatStep, view_in}
-use Rattle.ns_word.specs.Lawful.{IsLawful}
-use Rattle.ns_model.specs.Beginnings.{BeginsWith}
-use Rattle.ns_word.specs.Told.{Told, IsTold, nothing_told, told_after, calls_of, AreBy, walk_over, LedBy, IsLed}
+use Rattle.ns_word.specs.Prelude.{Acquire, Act, Any, AreBy, ArmFlag, AtLock, AtVariables, BeginsIf, BeginsWith, Broadcasting, Cell, Change, Effect, Event, Flag, Found, Home, IsBySeats, IsFirst, IsLawful, IsLed, IsLegal, IsTold, JudgeMet, JudgeQuiet, LeaveSelf, LedBy}
+use Rattle.ns_word.specs.Prelude.{Left, Lists, LoadCell, LoadFlag, LoadWord, LockState, Look, Looked, Made, Nothing, Only, Paid, Part, PayWake, QueueSelf, Quiet, QuietKeeps, Release, ReleaseReturning, ReturnQueues, Saw, Scanned, SeatStep, SeatView, Signaling, Step}
+use Rattle.ns_word.specs.Prelude.{StoreCell, TakeQueues, Tested, Told, Truths, WaitReturning, Waiter, WakeWaiters, Waking, Walk, Woke, calls_of, change_commits, got_of, leave_of, nothing_told, own, told_after, view_in, wake_of, walk_after, walk_over, want_of, who_of}
 use Rattle.ns_word.proofs.Starts.{begins}
 use Rattle.ns_word.proofs.Dispatch.{keeps}
 

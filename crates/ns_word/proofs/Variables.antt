@@ -1,35 +1,14 @@
 -- What the steps leave of the lists of the variables.
 use Rattle.std.proofs.Common.{◌≡◌, ◌≢◌, ℕ, ◌<◌, ◌≤◌, inl, inr, Bool, true, false, not, cond, eqb, List, [], ◌∷◌, ◌++◌, length, Option, Some, refl, ap, sym, ◌∙◌, subst, arith, eq-eqb}
 use Rattle.std.proofs.lemmas.Bool.{ne_eqb, cases_Bool, cases_eq}
-use Rattle.ns_model.specs.declared.event.Mode.{Mode}
-use Rattle.ns_model.specs.declared.phase.Phase.{Phase}
-use Rattle.ns_model.specs.Cvs.{has}
-use Rattle.ns_model.specs.declared.cvs.Variables.{Variables}
-use Rattle.ns_model.specs.declared.phase.Phase.TheVariants.{Idle, Cond, Waiting, Woken, Left}
-use Rattle.ns_model.specs.Phases.{is_waiting, woken_phase}
-use Rattle.ns_model.specs.Seats.{is_in}
-use Rattle.ns_model.specs.declared.seats.Seats.{Seats}
-use Rattle.ns_model.specs.Tallies.{one_if, Every}
-use Rattle.ns_queue.specs.declared.waiter.Waiter.{Waiter}
-use Rattle.ns_queue.specs.declared.waiter.Which.TheVariants.{Cv}
-use Rattle.ns_queue.specs.Queues.{Lists, IsOrderly, cvs_without, times, waiters_of}
-use Rattle.ns_queue.specs.Waiters.{outside, times_in, without_in, is_of}
+use Rattle.ns_word.specs.Prelude.{AreVariables, AreWaiting, Cond, Cv, Every, Held, IsOrderly, Lists, Mode, NoneIs, OnVariables, Owed, Phase, SeatView, Seats, VariableWaiterFits, Variables, VariablesTell, WaitFor, Waiter, Waiting, Walk, cvs_without, has, is_in, is_of}
+use Rattle.ns_word.specs.Prelude.{is_waiting, one_if, outside, taken_set, times, times_in, waiters_of, waits_in, walk_at, without_in, woken_phase, woken_phases}
+use Rattle.ns_model.specs.declared.phase.Phase.TheVariants.{Idle, Woken, Left}
 use Rattle.ns_queue.proofs.Seats.{times_in-cons, times_in-append}
 use Rattle.ns_queue.proofs.Outside.{gone_outside, times_outside}
 use Rattle.ns_queue.proofs.Parts.{times_at_most, once_in, below_in}
 use Rattle.ns_queue.proofs.Vias.{every_filter}
-use Rattle.ns_queue.specs.Signals.{taken_set}
-use Rattle.ns_queue.specs.Wakes.{WaitFor, AreWaiting, woken_phases}
-use Rattle.ns_word.specs.declared.owed.Owed.{Owed}
-use Rattle.ns_word.specs.declared.wait.Subject.TheVariants.{OnVariables}
-use Rattle.ns_word.specs.declared.view.Held.{Held}
-use Rattle.ns_word.specs.declared.view.SeatView.{SeatView}
-use Rattle.ns_word.specs.declared.walk.Walk.{Walk}
-use Rattle.ns_word.specs.Walks.{waits_in}
-use Rattle.ns_word.specs.Views.{walk_at, NoneIs}
-use Rattle.ns_word.specs.Lawful.{VariableWaiterFits, VariablesTell}
 use Rattle.ns_word.proofs.Enters.{HasEntered, one_has, stander, times_other, variable_low}
-use Rattle.ns_word.specs.Places.{AreVariables}
 use Rattle.ns_word.proofs.CountsIn.{cvs_left, left_at, outside_same, taken_at}
 use Rattle.ns_word.proofs.Scans.{times_without, times_others}
 use Rattle.ns_word.proofs.Views.{view_of, walk_here, walk_there}

@@ -1,33 +1,12 @@
 -- A view among the views: what holds of all of them, by the views before it, itself, and those behind it.
 use Rattle.std.proofs.Common.{◌≡◌, ◌≢◌, ℕ, ◌+◌, ◌≤◌, Bool, true, false, not, cond, ◌⊎◌, inl, inr, List, [], ◌∷◌, ◌++◌, Option, None, Some, eqb, refl, ap, sym, ◌∙◌, subst, arith, eq-eqb}
 use Rattle.std.proofs.lemmas.Bool.{ne_eqb}
-use Rattle.ns_model.specs.Phases.{is_waiting, is_write, woken_phase}
-use Rattle.ns_model.specs.declared.cvs.Variables.{Variables}
-use Rattle.ns_model.specs.Histories.{Standing}
-use Rattle.ns_model.specs.Tallies.{one_if}
+use Rattle.ns_word.specs.Prelude.{Aim, AreApart, CameBack, Cond, EachFits, ForLock, ForWait, Held, InAcquire, InCells, InRelease, InShow, InSignal, InTry, InWait, IsEither, IsExpected, Locked, Mode, NoneIs, OnCondition, OnVariables, Opening, Outcome, Owed, Phase}
+use Rattle.ns_word.specs.Prelude.{SeatView, SectionFits, Standing, Subject, Truths, Variables, ViewFits, Waiting, Walk, called_to, calls_from_lock, expected_for, has_queues, is_queuing, is_reading, is_waiting, is_write, is_writing, one_if, owed_to, phase_before}
+use Rattle.ns_word.specs.Prelude.{phase_by, phase_by_wake, phase_for, phase_kept, queuers, readers, takers, times_among, variable_in, walk_at, woken_phase, writers}
 use Rattle.ns_model.proofs.Tallies.{total_amid, every_parts, every_join}
-use Rattle.ns_model.specs.declared.event.Mode.{Mode}
-use Rattle.ns_model.specs.declared.phase.Phase.{Phase}
-use Rattle.ns_model.specs.declared.phase.Phase.TheVariants.{Idle, Cond, Waiting, Woken, Left}
-use Rattle.ns_word.specs.Owed.{times_among}
-use Rattle.ns_word.specs.declared.owed.Owed.{Owed}
-use Rattle.ns_word.specs.declared.wait.Subject.{Subject}
-use Rattle.ns_word.specs.declared.wait.Subject.TheVariants.{OnCondition, OnVariables}
-use Rattle.ns_word.specs.declared.wait.Outcome.{Outcome}
+use Rattle.ns_model.specs.declared.phase.Phase.TheVariants.{Idle, Woken, Left}
 use Rattle.ns_word.specs.declared.wait.Outcome.TheVariants as TheOutcome
-use Rattle.ns_word.specs.declared.wait.Aim.{Aim}
-use Rattle.ns_word.specs.declared.wait.Aim.TheVariants.{ForLock, ForWait}
-use Rattle.ns_word.specs.declared.view.Opening.{Opening}
-use Rattle.ns_word.specs.declared.view.Opening.TheVariants.{Locked, CameBack}
-use Rattle.ns_word.specs.declared.walk.Walk.TheVariants.{InTry, InAcquire, InRelease, InCells, InWait, InSignal, InShow}
-use Rattle.ns_word.specs.Waits.{phase_by_wake, phase_kept, phase_for, variable_in}
-use Rattle.ns_word.specs.declared.view.Held.{Held}
-use Rattle.ns_word.specs.declared.view.SeatView.{SeatView}
-use Rattle.ns_word.specs.declared.walk.Walk.{Walk}
-use Rattle.ns_word.specs.Walks.{has_queues, is_queuing, calls_from_lock, phase_by, expected_for}
-use Rattle.ns_word.specs.Views.{is_writing, is_reading, writers, readers, takers, queuers, owed_to, called_to, walk_at, NoneIs, AreApart}
-use Rattle.ns_model.specs.Truths.{Truths}
-use Rattle.ns_word.specs.Lawful.{ViewFits, SectionFits, EachFits, IsExpected, IsEither, phase_before}
 
 -- a seat with this place, this section and these wakes to pay
 abbrev pub view_of : {C : Type 0} {N : ℕ} → ℕ → Option (Walk C) → Option (Held C N) → List Owed → SeatView C N

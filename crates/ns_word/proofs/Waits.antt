@@ -1,23 +1,8 @@
 -- What the steps leave of the waiters: each stands where it did, or where it ought to.
 use Rattle.std.proofs.Common.{◌≡◌, ◌≢◌, ℕ, ◌+◌, ◌≤◌, ◌<◌, Bool, true, false, ◌&&◌, cond, eqb, inl, inr, List, [], ◌∷◌, ◌++◌, length, Option, Some, refl, ap, sym, ◌∙◌, subst, arith, eq-eqb}
 use Rattle.std.proofs.lemmas.Bool.{ne_eqb, cases_eq}
-use Rattle.ns_queue.specs.Queues.{Lists}
-use Rattle.ns_word.specs.declared.view.Held.{Held}
-use Rattle.ns_word.specs.declared.view.SeatView.{SeatView}
-use Rattle.ns_word.specs.declared.wait.WaitPlace.TheVariants.{InQueuing}
-use Rattle.ns_word.specs.declared.wait.QueuePlace.TheVariants.{LoadToScan, QueueToWait}
-use Rattle.ns_word.specs.declared.acquire_walk.AcquirePlace.TheVariants.{Queue}
-use Rattle.ns_word.specs.declared.walk.Walk.{Walk}
-use Rattle.ns_word.specs.declared.walk.Walk.TheVariants.{InAcquire, InWait}
-use Rattle.ns_word.specs.Owed.{times_among}
-use Rattle.ns_word.specs.declared.owed.Owed.{Owed}
-use Rattle.ns_word.specs.Walks.{awaits, has_armed}
-use Rattle.ns_word.specs.Views.{owed_to, walk_at, NoneIs}
-use Rattle.ns_word.specs.Steps.{flags_with}
-use Rattle.ns_word.specs.Lawful.{is_armed, is_unwoken, WaitersPlaced}
-use Rattle.ns_word.specs.Lists.{counts_in}
+use Rattle.ns_word.specs.Prelude.{Held, InAcquire, InQueuing, InWait, Lists, LoadToScan, NoneIs, Owed, Queue, QueueToWait, SeatView, WaitersPlaced, Walk, awaits, counts_in, flags_with, has_armed, is_armed, is_unwoken, one_if, owed_to, times_among, walk_at}
 use Rattle.ns_word.proofs.CountsIn.{OnceInEach}
-use Rattle.ns_model.specs.Tallies.{one_if}
 use Rattle.ns_model.proofs.Tallies.{one_most}
 use Rattle.ns_word.proofs.Views.{view_of, owed_at, walk_here, walk_there}
 

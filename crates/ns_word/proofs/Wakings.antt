@@ -1,42 +1,13 @@
 -- Where the woken go, when a try is busy, and what a shown cause does.
 use Rattle.std.proofs.Common.{◌≡◌, ◌≢◌, ◌<◌, ◌⊎◌, inl, inr, ℕ, arith, Bool, true, false, not, ◌&&◌, ◌||◌, cond, eqb, ltb, Some, refl, ap, ◌∙◌}
 use Rattle.std.proofs.lemmas.Bool.{cases_eq, lt-ltb, ne_eqb}
-use Rattle.ns_model.specs.declared.event.Mode.{Mode}
-use Rattle.ns_model.specs.declared.event.Mode.TheVariants.{Read}
+use Rattle.ns_word.specs.Prelude.{AcquireExchange, AcquireLoad, Aim, Answered, Arm, ArmToWait, Arrival, AsFresh, AsWoken, AwaitWake, AwaitWakeInWait, AwaitWakeToLeave, Busy, Cause, Done, Flag, ForWait, Found, GetLoad, Idle, InAcquire, InCells, InLeaving, InQueuing}
+use Rattle.ns_word.specs.Prelude.{InRelease, InShow, InSignal, InTry, InWait, Leave, LeaveLoad, Limits, Load, LoadFlag, LoadToScan, Look, LookIn, LookOut, Looked, Made, Mode, Next, On, OnCondition, OnVariables, Pay, PayInWait, PayTheWoken, Queue, QueueToWait}
+use Rattle.ns_word.specs.Prelude.{QuietCells, QuietLast, Read, ReleaseExchange, ReleaseLoad, ReturnShown, Saw, ScanAndRelease, ScanCells, SetLoad, SetStore, ShowLoad, SignalLoad, Subject, Take, TakeToLeave, TakeToQueue, TakeToScan, TakeToShow, TakeToWake, TestCells}
+use Rattle.ns_word.specs.Prelude.{TestLast, TryAcquire, TryLoad, TryPlace, WakeAndReturn, Walk, Word, answer_of, arrival_of, cause_kept, got_of, is_from_lock, is_woken, judge_of, may_acquire, outcome_taken, rest_or_look, walk_after, want_acquiring, want_in_cells}
+use Rattle.ns_word.specs.Prelude.{want_leaving, want_of, want_releasing, want_showing, want_signaling, want_trying, woken_by}
 use Rattle.ns_word.proofs.Answers.{acquire_looks_not, cells_look_not, judge_looks_not, leaver_looks_not, release_looks_not, signal_looks_not, show_looks_not, try_looks_not}
 use Rattle.ns_word.proofs.Calls.{no_look}
-use Rattle.ns_word.specs.Answers.{cause_kept}
-use Rattle.ns_word.specs.Waits.{answer_of, arrival_of, outcome_taken, woken_by}
-use Rattle.ns_word.specs.Walks.{got_of, judge_of, rest_or_look, walk_after, want_acquiring, want_in_cells, want_leaving, want_of, want_releasing, want_signaling, want_showing, want_trying}
-use Rattle.ns_word.specs.Owed.{is_from_lock}
-use Rattle.ns_word.specs.Words.{is_woken, may_acquire}
-use Rattle.ns_word.specs.declared.acquire_walk.AcquirePlace.TheVariants.{AcquireExchange, AcquireLoad, Arm, AwaitWake, Queue, TakeToQueue}
-use Rattle.ns_word.specs.declared.act.Act.TheVariants.{LoadFlag, Look}
-use Rattle.ns_word.specs.declared.act.Found.{Found}
-use Rattle.ns_word.specs.declared.act.Found.TheVariants.{Flag, Looked, Made, Saw}
-use Rattle.ns_word.specs.declared.cell_walk.CellPlace.TheVariants.{GetLoad, QuietCells, QuietLast, SetLoad, SetStore}
-use Rattle.ns_env.specs.declared.limits.Cause.{Cause}
-use Rattle.ns_env.specs.declared.limits.Limits.{Limits}
-use Rattle.ns_word.specs.declared.release_walk.ReleasePlace.TheVariants.{Pay, ReleaseExchange, ReleaseLoad, ScanAndRelease, ScanCells, TakeToScan}
-use Rattle.ns_word.specs.declared.show_walk.ShowPlace.TheVariants.{ShowLoad, TakeToShow, ReturnShown}
-use Rattle.ns_word.specs.declared.signal_walk.SignalPlace.TheVariants.{PayTheWoken, SignalLoad, TakeToWake, WakeAndReturn}
-use Rattle.ns_word.specs.declared.try_walk.TryPlace.{TryPlace}
-use Rattle.ns_word.specs.declared.try_walk.TryPlace.TheVariants.{TryAcquire, TryLoad}
-use Rattle.ns_word.specs.declared.wait.Aim.{Aim}
-use Rattle.ns_word.specs.declared.wait.Aim.TheVariants.{ForWait}
-use Rattle.ns_word.specs.declared.wait.LeavePlace.TheVariants.{AwaitWakeToLeave, Leave, LeaveLoad, TakeToLeave}
-use Rattle.ns_word.specs.declared.wait.QueuePlace.TheVariants.{ArmToWait, Load, LoadToScan, LookIn, QueueToWait, Take}
-use Rattle.ns_word.specs.declared.wait.Subject.{Subject}
-use Rattle.ns_word.specs.declared.wait.Subject.TheVariants.{OnCondition, OnVariables}
-use Rattle.ns_word.specs.declared.wait.WaitPlace.TheVariants.{AwaitWakeInWait, InLeaving, InQueuing, LookOut, PayInWait, TestCells, TestLast}
-use Rattle.ns_word.specs.declared.walk.Next.{Next}
-use Rattle.ns_word.specs.declared.walk.Next.TheVariants.{Done, Idle, On}
-use Rattle.ns_word.specs.declared.walk.Reply.TheVariants.{Answered, Busy}
-use Rattle.ns_word.specs.declared.walk.Walk.{Walk}
-use Rattle.ns_word.specs.declared.walk.Walk.TheVariants.{InAcquire, InCells, InRelease, InShow, InSignal, InTry, InWait}
-use Rattle.ns_word.specs.declared.word.Arrival.{Arrival}
-use Rattle.ns_word.specs.declared.word.Arrival.TheVariants.{AsFresh, AsWoken}
-use Rattle.ns_word.specs.declared.word.Word.{Word}
 
 -- ---- tries, and readers
 

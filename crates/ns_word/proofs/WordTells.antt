@@ -3,14 +3,7 @@ use Rattle.std.proofs.Common.{◌≡◌, inl, inr, Bool, true, false, not, ◌&&
 use Rattle.std.specs.List.{list_any}
 use Rattle.std.specs.Prelude.{◌↔◌}
 use Rattle.std.proofs.lemmas.Bool.{or_cases, or_parts}
-use Rattle.ns_model.specs.declared.event.Mode.{Mode}
-use Rattle.ns_model.specs.declared.event.Mode.TheVariants.{Write, Read}
-use Rattle.ns_model.specs.Phases.{is_write}
-use Rattle.ns_model.specs.Tallies.{Every}
-use Rattle.ns_queue.specs.declared.waiter.Waiter.{Waiter}
-use Rattle.ns_queue.specs.Scans.{is_satisfied}
-use Rattle.ns_queue.specs.Waiters.{has_condition, writes}
-use Rattle.ns_word.specs.Lists.{HasOne, IsPlainWriter, has_eligible, has_some}
+use Rattle.ns_word.specs.Prelude.{Every, HasOne, IsPlainWriter, Mode, Read, Waiter, Write, has_condition, has_eligible, has_some, is_satisfied, is_write, writes}
 
 module _ {C : Type 0} where
   nobody_there : (ws : List (Waiter C)) → has_some ws ≡ false → ws ≡ []

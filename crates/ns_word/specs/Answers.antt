@@ -1,15 +1,6 @@
 -- When a wait for a condition has come back, and is about to answer; and what ends it early, once a look has shown that.
 use Rattle.std.specs.Prelude.{Bool, true, false, Option, None, Some}
-use Rattle.ns_env.specs.declared.limits.Cause.{Cause}
-use Rattle.ns_word.specs.declared.wait.Aim.{Aim}
-use Rattle.ns_word.specs.declared.wait.Aim.TheVariants.{ForLock, ForWait}
-use Rattle.ns_word.specs.declared.wait.Visit.{Visit}
-use Rattle.ns_word.specs.declared.wait.Visit.TheVariants.{OnEntry, OnReturn}
-use Rattle.ns_word.specs.declared.wait.WaitPlace.{WaitPlace}
-use Rattle.ns_word.specs.declared.wait.WaitPlace.TheVariants.{TestCells, TestLast, InQueuing, InLeaving}
-use Rattle.ns_word.specs.declared.wait.QueuePlace.TheVariants.{LookIn}
-use Rattle.ns_word.specs.declared.walk.Walk.{Walk}
-use Rattle.ns_word.specs.declared.walk.Walk.TheVariants.{InAcquire, InWait}
+use Rattle.ns_word.specs.Names.{Aim, Cause, ForLock, ForWait, InAcquire, InLeaving, InQueuing, InWait, LookIn, OnEntry, OnReturn, TestCells, TestLast, Visit, WaitPlace, Walk}
 use Rattle.ns_word.specs.Waits.{cause_in}
 
 -- the condition is tested after the lock was acquired again

@@ -1,15 +1,7 @@
 -- What a call was asked to do, by its place.
-use Rattle.ns_word.specs.declared.word.Releasing.TheVariants.{QuietWriter}
-use Rattle.ns_word.specs.declared.wait.Aim.{Aim}
-use Rattle.ns_word.specs.declared.wait.Aim.TheVariants.{ForLock, ForWait}
-use Rattle.ns_word.specs.declared.cell_walk.Judging.{Judging}
-use Rattle.ns_word.specs.declared.cell_walk.Judging.TheVariants.{ToTell, ToRelease}
-use Rattle.ns_word.specs.declared.cell_walk.CellPlace.{CellPlace}
-use Rattle.ns_word.specs.declared.cell_walk.CellPlace.TheVariants.{GetLoad, SetLoad, SetStore, QuietCells, QuietLast}
-use Rattle.ns_word.specs.declared.walk.Walk.{Walk}
-use Rattle.ns_word.specs.declared.walk.Walk.TheVariants.{InTry, InAcquire, InRelease, InCells, InWait, InSignal, InShow}
-use Rattle.ns_word.specs.declared.request.Request.{Request}
-use Rattle.ns_word.specs.declared.request.Request.TheVariants.{Lock, TryLock, Release, Get, Set, IsQuiet, Await, Wake, Show}
+use Rattle.ns_word.specs.Names.{Aim, Await, CellPlace, ForLock, ForWait, Get, GetLoad, InAcquire, InCells, InRelease, InShow, InSignal, InTry, InWait, IsQuiet, Judging, QuietCells, QuietLast, QuietWriter, Request, Set, SetLoad, SetStore, Show, ToRelease, ToTell}
+use Rattle.ns_word.specs.Names.{TryLock, Wake, Walk}
+use Rattle.ns_word.specs.declared.request.Request.TheVariants.{Lock, Release}
 
 -- what a call was asked that judges the section
 abbrev pub asked_to_judge : {C : Type 0} → Judging → Request C

@@ -1,26 +1,7 @@
 -- How a lock begins, and how a seat's call begins.
 use Rattle.std.specs.Prelude.{◌≡◌, ℕ, zero, suc, ◌+◌, false, List, [], ◌∷◌, ◌++◌, replicate, Option, None, Some}
-use Rattle.ns_model.specs.declared.event.Event.{Event}
-use Rattle.ns_model.specs.Histories.{first_row}
-use Rattle.ns_word.specs.declared.word.Word.{Word}
-use Rattle.ns_word.specs.declared.view.SeatView.{SeatView}
-use Rattle.ns_word.specs.declared.wait.Aim.TheVariants.{ForLock}
-use Rattle.ns_word.specs.declared.wait.Visit.TheVariants.{OnEntry}
-use Rattle.ns_word.specs.declared.wait.WaitPlace.TheVariants.{TestCells, TestLast, InQueuing}
-use Rattle.ns_word.specs.declared.wait.QueuePlace.TheVariants.{Load}
-use Rattle.ns_word.specs.declared.wait.Subject.{Subject}
-use Rattle.ns_word.specs.declared.wait.Subject.TheVariants.{OnCondition, OnVariables}
-use Rattle.ns_word.specs.declared.show_walk.ShowPlace.TheVariants.{ShowLoad}
-use Rattle.ns_word.specs.declared.signal_walk.SignalPlace.TheVariants.{SignalLoad}
-use Rattle.ns_word.specs.declared.word.Arrival.TheVariants.{AsFresh}
-use Rattle.ns_word.specs.declared.try_walk.TryPlace.TheVariants.{TryLoad}
-use Rattle.ns_word.specs.declared.acquire_walk.AcquirePlace.TheVariants.{AcquireLoad}
-use Rattle.ns_word.specs.declared.release_walk.ReleasePlace.TheVariants.{ReleaseLoad}
-use Rattle.ns_word.specs.declared.cell_walk.CellPlace.TheVariants.{GetLoad, SetLoad, QuietCells, QuietLast}
-use Rattle.ns_word.specs.declared.walk.Walk.{Walk}
-use Rattle.ns_word.specs.declared.walk.Walk.TheVariants.{InTry, InAcquire, InRelease, InCells, InWait, InSignal, InShow}
-use Rattle.ns_word.specs.declared.act.Found.{Found}
-use Rattle.ns_model.specs.Truths.{Truths}
+use Rattle.ns_word.specs.Names.{AcquireLoad, AsFresh, Event, ForLock, Found, GetLoad, InAcquire, InCells, InQueuing, InRelease, InShow, InSignal, InTry, InWait, Load, OnCondition, OnEntry, OnVariables, QuietCells, QuietLast, ReleaseLoad, SeatView, SetLoad, ShowLoad}
+use Rattle.ns_word.specs.Names.{SignalLoad, Subject, TestCells, TestLast, Truths, TryLoad, Walk, Word, first_row}
 use Rattle.ns_word.specs.Steps.{LockState, Step}
 use Rattle.ns_word.specs.Places.{PlaceFits}
 

@@ -1,6 +1,6 @@
 -- The lock word as one number.
 use Rattle.std.specs.Prelude.{◌≡◌, ℕ, ◌+◌, ◌*◌, ◌/◌, ◌%◌, ◌≤◌, Bool, true, if◌then◌else◌, ◌==◌, ◌⊎◌}
-use Rattle.ns_word.specs.declared.word.Word.{Word}
+use Rattle.ns_word.specs.Names.{Word}
 
 -- a bit as a number
 abbrev pub bit : Bool → ℕ

@@ -1,18 +1,8 @@
 -- What a step finds, of the one word that it loads or compares and of what its seat has.
 use Rattle.std.specs.Prelude.{ℕ, false, ◌==◌, if◌then◌else◌, slice_index, List, [], ◌∷◌, Option, None, Some}
-use Rattle.ns_model.specs.Truths.{Truths}
-use Rattle.ns_queue.specs.declared.waiter.Waiter.{Waiter}
-use Rattle.ns_queue.specs.Queues.{Lists}
-use Rattle.ns_queue.specs.Scans.{woken_of, tests_of}
+use Rattle.ns_word.specs.Names.{Acquire, Act, ArmFlag, Cell, Flag, Found, Held, JudgeMet, JudgeQuiet, Lists, LoadCell, LoadFlag, LoadWord, Look, Looked, Made, Owed, Paid, PayWake, Quiet, Release, ReleaseReturning, ReturnQueues, Saw, Scanned, SeatView, StoreCell}
+use Rattle.ns_word.specs.Names.{TakeQueues, Tested, Truths, WaitReturning, Waiter, Word, tests_of, woken_of}
 use Rattle.ns_word.specs.Owed.{called_of}
-use Rattle.ns_word.specs.declared.owed.Owed.{Owed}
-use Rattle.ns_word.specs.declared.word.Word.{Word}
-use Rattle.ns_word.specs.declared.view.Held.{Held}
-use Rattle.ns_word.specs.declared.view.SeatView.{SeatView}
-use Rattle.ns_word.specs.declared.act.Act.{Act}
-use Rattle.ns_word.specs.declared.act.Act.TheVariants.{LoadWord, Acquire, TakeQueues, ReturnQueues, Release, ReleaseReturning, WaitReturning, LoadCell, JudgeQuiet, JudgeMet, StoreCell, ArmFlag, PayWake, LoadFlag, Look}
-use Rattle.ns_word.specs.declared.act.Found.{Found}
-use Rattle.ns_word.specs.declared.act.Found.TheVariants.{Saw, Made, Cell, Quiet, Tested, Scanned, Paid, Flag, Looked}
 use Rattle.ns_word.specs.Codec.{number_of, word_of}
 use Rattle.ns_word.specs.Lists.{has_some}
 use Rattle.ns_word.specs.Steps.{LockState, change_found, meets_at}

@@ -1,37 +1,15 @@
 -- The law: what holds of a lock and its seats between any two steps.
 use Rattle.std.specs.Prelude.{◌≡◌, ◌≢◌, ℕ, ◌+◌, ◌<◌, ◌≤◌, Bool, true, false, ◌&&◌, ◌==◌, ◌⊎◌, if◌then◌else◌, List, length, Option, None, Some}
-use Rattle.ns_model.specs.declared.event.Mode.{Mode}
-use Rattle.ns_model.specs.declared.event.Mode.TheVariants.{Read}
-use Rattle.ns_model.specs.declared.event.Event.{Event}
-use Rattle.ns_model.specs.declared.phase.Phase.{Phase}
-use Rattle.ns_model.specs.Cvs.{has}
-use Rattle.ns_model.specs.declared.cvs.Variables.{Variables}
-use Rattle.ns_model.specs.declared.phase.Phase.TheVariants.{Idle, Waiting, Woken}
-use Rattle.ns_model.specs.Phases.{is_waiting, woken_phase}
-use Rattle.ns_model.specs.Tallies.{Every}
-use Rattle.ns_model.specs.Histories.{Standing, IsLegal, IsBySeats, standing_after}
-use Rattle.ns_queue.specs.declared.waiter.Waiter.{Waiter}
-use Rattle.ns_queue.specs.declared.waiter.Which.TheVariants.{Cv}
-use Rattle.ns_queue.specs.Queues.{Lists, waiters_of}
-use Rattle.ns_queue.specs.Waiters.{times_in}
-use Rattle.ns_word.specs.declared.word.Word.{Word}
-use Rattle.ns_word.specs.declared.word.Bits.{Bits}
-use Rattle.ns_word.specs.declared.wait.Subject.{Subject}
-use Rattle.ns_word.specs.declared.wait.Subject.TheVariants.{OnCondition, OnVariables}
-use Rattle.ns_word.specs.declared.view.Opening.{Opening}
-use Rattle.ns_word.specs.declared.view.Opening.TheVariants.{Locked, CameBack}
-use Rattle.ns_word.specs.declared.view.Held.{Held}
-use Rattle.ns_word.specs.declared.view.SeatView.{SeatView}
-use Rattle.ns_word.specs.declared.walk.Walk.{Walk}
+use Rattle.ns_word.specs.Names.{Bits, CameBack, Cv, Event, Every, Held, IsBySeats, IsLegal, Lists, Locked, Mode, OnCondition, OnVariables, Opening, Owed, Phase, Read, SeatView, Standing, Subject, Truths, Variables, Waiter, Waiting, Walk, Word, has, is_waiting}
+use Rattle.ns_word.specs.Names.{standing_after, times_in, waiters_of, woken_phase}
+use Rattle.ns_model.specs.declared.phase.Phase.TheVariants.{Idle, Woken}
 use Rattle.ns_word.specs.Lists.{counts_in, has_some, has_eligible, bits_of}
 use Rattle.ns_word.specs.Owed.{Tells}
 use Rattle.ns_word.specs.Walks.{Stance, Expected, calls_from_lock, has_armed, waits_in, awaits, pays, is_on_way, phase_by}
-use Rattle.ns_word.specs.declared.owed.Owed.{Owed}
 use Rattle.ns_word.specs.Waits.{phase_kept}
 use Rattle.ns_word.specs.Views.{writers, readers, takers, queuers, owed_in, owed_to, called_to, walk_at, AreApart}
 use Rattle.ns_word.specs.Seen.{HasNumber, word_seen}
 use Rattle.ns_word.specs.Places.{PlaceFits}
-use Rattle.ns_model.specs.Truths.{Truths}
 use Rattle.ns_word.specs.Steps.{LockState}
 
 -- ---- the sections

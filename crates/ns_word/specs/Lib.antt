@@ -8,8 +8,10 @@ pub mod Finds
 pub mod Lawful
 pub mod Lists
 pub mod Meanings
+pub mod Names
 pub mod Owed
 pub mod Places
+pub mod Prelude
 pub mod Room
 pub mod Seen
 pub mod Stands

@@ -1,15 +1,7 @@
 -- The lock list, lists of seats, and how often a seat counts in the lists.
 use Rattle.std.specs.Prelude.{◌≡◌, ◌⊎◌, ℕ, ◌+◌, nat_lt, sum_by, Bool, true, false, not, ◌&&◌, ◌||◌, if◌then◌else◌, List, [], ◌∷◌, ◌++◌, Option, None}
 use Rattle.std.specs.List.{list_any}
-use Rattle.ns_model.specs.declared.event.Mode.{Mode}
-use Rattle.ns_model.specs.declared.event.Mode.TheVariants.{Write}
-use Rattle.ns_queue.specs.declared.waiter.Waiter.{Waiter}
-use Rattle.ns_queue.specs.Queues.{Lists}
-use Rattle.ns_queue.specs.Waiters.{has_condition, is_long, times_in, writes}
-use Rattle.ns_queue.specs.Scans.{is_eligible}
-use Rattle.ns_word.specs.declared.wait.Home.{Home}
-use Rattle.ns_word.specs.declared.wait.Home.TheVariants.{AtLock, AtVariables}
-use Rattle.ns_word.specs.declared.word.Bits.{Bits}
+use Rattle.ns_word.specs.Names.{AtLock, AtVariables, Bits, Home, Lists, Mode, Waiter, Write, has_condition, is_eligible, is_long, times_in, writes}
 
 -- whether the list has anything
 abbrev pub has_some : {A : Type 0} → List A → Bool

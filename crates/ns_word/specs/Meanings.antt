@@ -1,38 +1,14 @@
 -- What the answer of a call on the lock means. How a section is told in the history (`section_of`, `entry_of`) is the machine's; that it is told as it was, legality says.
 use Rattle.std.specs.Prelude.{◌≡◌, ℕ, ◌⊎◌, Bool, true, false, List, [], ◌∷◌, Option, None, Some, IsSome, slice_index, slice_set}
-use Rattle.ns_model.specs.declared.event.Mode.{Mode}
-use Rattle.ns_model.specs.declared.event.Answer.{Answer}
-use Rattle.ns_model.specs.declared.event.Answer.TheVariants.{Met, TimedOut, Canceled}
-use Rattle.ns_model.specs.declared.event.Entry.{Entry}
-use Rattle.ns_model.specs.declared.event.Entry.TheVariants.{Waited, AfterCv, AfterAny}
-use Rattle.ns_model.specs.declared.event.Exit.TheVariants as TheExit
-use Rattle.ns_model.specs.declared.event.Exit.TheVariants.{CondWait, CvWait, AnyWait}
-use Rattle.ns_model.specs.declared.cvs.Cvs.{Cvs}
-use Rattle.ns_model.specs.declared.cvs.Variables.{Variables}
-use Rattle.ns_model.specs.declared.cvs.Variables.TheVariants.{Only, Any}
+use Rattle.ns_word.specs.Names.{AfterAny, AfterCv, Answer, Answered, Any, AnyWait, Busy, Canceled, Cause, CondWait, CvWait, Cvs, Entry, Event, Expired, Held, Is, Limits, Locked, Met, Mode, Noisy, Notified, Number, OnCondition, OnVariables, Only, QuietWriter, Releasing}
+use Rattle.ns_word.specs.Names.{Reply, Request, Subject, Succeeded, TimedOut, Truths, Variables, Waited, Waiter, Waking, WokenBy, is_met}
 use Rattle.ns_model.specs.Cvs.{is_in}
-use Rattle.ns_model.specs.declared.event.Event.{Event}
-use Rattle.ns_model.specs.declared.event.Event.TheVariants as TheEvent
-use Rattle.ns_model.specs.Sections.{is_met}
-use Rattle.ns_model.specs.Truths.{Truths}
-use Rattle.ns_queue.specs.declared.waiter.Waiter.{Waiter}
-use Rattle.ns_word.specs.declared.word.Releasing.{Releasing}
-use Rattle.ns_word.specs.declared.word.Releasing.TheVariants.{QuietWriter}
-use Rattle.ns_env.specs.declared.limits.Limits.{Limits}
-use Rattle.ns_env.specs.declared.limits.Cause.{Cause}
-use Rattle.ns_env.specs.declared.limits.Cause.TheVariants.{Expired, Notified}
-use Rattle.ns_word.specs.declared.wait.Subject.{Subject}
-use Rattle.ns_word.specs.declared.wait.Subject.TheVariants.{OnCondition, OnVariables}
-use Rattle.ns_word.specs.declared.view.Opening.TheVariants.{Locked}
-use Rattle.ns_word.specs.declared.view.Held.{Held}
-use Rattle.ns_word.specs.declared.act.Waking.{Waking}
-use Rattle.ns_word.specs.declared.request.Request.{Request}
-use Rattle.ns_word.specs.declared.request.Request.TheVariants as TheRequest
-use Rattle.ns_word.specs.declared.walk.Reply.{Reply}
-use Rattle.ns_word.specs.declared.walk.Reply.TheVariants.{Succeeded, Busy, Noisy, Number, Is, Answered, WokenBy}
 use Rattle.ns_word.specs.Words.{mode_released}
 use Rattle.ns_word.specs.Places.{IsLeft}
 use Rattle.ns_word.specs.Steps.{MayShow, entry_of, section_of, taken_by, wake_of}
+use Rattle.ns_model.specs.declared.event.Exit.TheVariants as TheExit
+use Rattle.ns_model.specs.declared.event.Event.TheVariants as TheEvent
+use Rattle.ns_word.specs.declared.request.Request.TheVariants as TheRequest
 
 -- The course of a call: the section in hand as it began, what it has committed since, and what its last look has shown, if it has looked.
 pub record Course (C : Type 0) (N : ℕ) : Type 0 where

@@ -1,7 +1,6 @@
 -- Wakes that are owed, and what a flag tells that a wake has set.
 use Rattle.std.specs.Prelude.{◌≡◌, ◌⊎◌, ◌≤◌, ◌<◌, ◌+◌, ◌-◌, ℕ, Bool, true, false, ◌==◌, ◌||◌, nat_lt, List, [], ◌∷◌, map, if◌then◌else◌, Option, None, Some}
-use Rattle.ns_queue.specs.declared.waiter.Waiter.{Waiter}
-use Rattle.ns_word.specs.declared.owed.Owed.{Owed}
+use Rattle.ns_word.specs.Names.{Owed, Waiter}
 
 -- what the wake of one taken from the lock list sets the flag to: it tells the variable whose wake had moved it there, if one had
 abbrev pub value_of : Option ℕ → ℕ

@@ -1,24 +1,7 @@
 -- The word that a seat has last seen, as its place in a call keeps it.
 use Rattle.std.specs.Prelude.{Option, None, Some}
-use Rattle.ns_word.specs.declared.word.Word.{Word}
-use Rattle.ns_word.specs.declared.wait.WaitPlace.{WaitPlace}
-use Rattle.ns_word.specs.declared.wait.WaitPlace.TheVariants.{InQueuing, InLeaving}
-use Rattle.ns_word.specs.declared.wait.QueuePlace.{QueuePlace}
-use Rattle.ns_word.specs.declared.wait.QueuePlace.TheVariants.{Take, ArmToWait, LoadToScan, QueueToWait}
-use Rattle.ns_word.specs.declared.wait.LeavePlace.{LeavePlace}
-use Rattle.ns_word.specs.declared.wait.LeavePlace.TheVariants.{TakeToLeave, Leave}
-use Rattle.ns_word.specs.declared.try_walk.TryPlace.{TryPlace}
-use Rattle.ns_word.specs.declared.try_walk.TryPlace.TheVariants.{TryAcquire}
-use Rattle.ns_word.specs.declared.acquire_walk.AcquirePlace.{AcquirePlace}
-use Rattle.ns_word.specs.declared.acquire_walk.AcquirePlace.TheVariants.{AcquireExchange, TakeToQueue, Arm, Queue}
-use Rattle.ns_word.specs.declared.release_walk.ReleasePlace.{ReleasePlace}
-use Rattle.ns_word.specs.declared.release_walk.ReleasePlace.TheVariants.{ReleaseExchange, TakeToScan, ScanCells, ScanAndRelease}
-use Rattle.ns_word.specs.declared.show_walk.ShowPlace.{ShowPlace}
-use Rattle.ns_word.specs.declared.show_walk.ShowPlace.TheVariants.{TakeToShow, ReturnShown}
-use Rattle.ns_word.specs.declared.signal_walk.SignalPlace.{SignalPlace}
-use Rattle.ns_word.specs.declared.signal_walk.SignalPlace.TheVariants.{TakeToWake, WakeAndReturn}
-use Rattle.ns_word.specs.declared.walk.Walk.{Walk}
-use Rattle.ns_word.specs.declared.walk.Walk.TheVariants.{InTry, InAcquire, InRelease, InWait, InSignal, InShow}
+use Rattle.ns_word.specs.Names.{AcquireExchange, AcquirePlace, Arm, ArmToWait, InAcquire, InLeaving, InQueuing, InRelease, InShow, InSignal, InTry, InWait, Leave, LeavePlace, LoadToScan, Queue, QueuePlace, QueueToWait, ReleaseExchange, ReleasePlace, ReturnShown}
+use Rattle.ns_word.specs.Names.{ScanAndRelease, ScanCells, ShowPlace, SignalPlace, Take, TakeToLeave, TakeToQueue, TakeToScan, TakeToShow, TakeToWake, TryAcquire, TryPlace, WaitPlace, WakeAndReturn, Walk, Word}
 use Rattle.ns_word.specs.Codec.{IsPackable}
 
 abbrev pub try_seen : TryPlace → Option Word

@@ -1,20 +1,7 @@
 -- Where a seat stands that queues, said of the lists before and after.
 use Rattle.std.specs.Prelude.{◌≡◌, ℕ, ◌+◌, ◌<◌, min, Bool, true, false, if◌then◌else◌, List, [], ◌∷◌, ◌++◌, map, Option, None, Some}
-use Rattle.ns_model.specs.Cvs.{has}
-use Rattle.ns_model.specs.declared.cvs.Variables.{Variables}
-use Rattle.ns_model.specs.declared.phase.Phase.{Phase}
-use Rattle.ns_model.specs.declared.phase.Phase.TheVariants.{Waiting, Woken}
-use Rattle.ns_model.specs.declared.event.Mode.{Mode}
-use Rattle.ns_model.specs.Truths.{Truths}
-use Rattle.ns_queue.specs.declared.waiter.Waiter.{Waiter}
-use Rattle.ns_queue.specs.declared.waiter.Which.TheVariants.{Cv}
-use Rattle.ns_queue.specs.Queues.{Lists, waiters_of}
-use Rattle.ns_queue.specs.Scans.{left_of}
-use Rattle.ns_word.specs.declared.owed.Owed.{Owed}
-use Rattle.ns_word.specs.declared.word.Arrival.{Arrival}
-use Rattle.ns_word.specs.declared.word.Arrival.TheVariants.{AsFresh, AsWoken}
-use Rattle.ns_word.specs.declared.wait.Subject.{Subject}
-use Rattle.ns_word.specs.declared.wait.Subject.TheVariants.{OnCondition, OnVariables}
+use Rattle.ns_word.specs.Names.{Arrival, AsFresh, AsWoken, Cv, Lists, Mode, OnCondition, OnVariables, Owed, Phase, Subject, Truths, Variables, Waiter, Waiting, has, left_of, waiters_of}
+use Rattle.ns_model.specs.declared.phase.Phase.TheVariants.{Woken}
 use Rattle.ns_word.specs.Steps.{meets_at}
 
 -- a waiter, part by part

@@ -1,67 +1,18 @@
 -- One atomic step of one seat.
 use Rattle.std.specs.Prelude.{◌≡◌, ◌≢◌, ℕ, Bool, true, false, not, ◌&&◌, ◌==◌, if◌then◌else◌, List, [], ◌∷◌, ◌++◌, Option, None, Some, IsSome, slice_index, slice_set}
-use Rattle.ns_model.specs.declared.event.Mode.{Mode}
-use Rattle.ns_model.specs.declared.event.Mode.TheVariants.{Write}
-use Rattle.ns_model.specs.declared.event.Answer.TheVariants.{Met}
-use Rattle.ns_model.specs.declared.event.Entry.{Entry}
-use Rattle.ns_model.specs.declared.event.Entry.TheVariants.{Plain, Waited, AfterCv, AfterAny}
-use Rattle.ns_model.specs.declared.event.Exit.{Exit}
-use Rattle.ns_model.specs.declared.event.Exit.TheVariants.{CondWait, CvWait, AnyWait}
-use Rattle.ns_model.specs.declared.event.Exit.TheVariants as TheExit
-use Rattle.ns_model.specs.declared.event.Event.{Event}
-use Rattle.ns_model.specs.declared.event.Event.TheVariants.{Section, Signal, Broadcast}
-use Rattle.ns_model.specs.declared.event.Event.TheVariants as TheEvent
-use Rattle.ns_model.specs.Truths.{Truths}
-use Rattle.ns_queue.specs.declared.waiter.Waiter.{Waiter}
-use Rattle.ns_model.specs.declared.cvs.Variables.{Variables}
-use Rattle.ns_model.specs.declared.cvs.Variables.TheVariants.{Any, Only}
-use Rattle.ns_word.specs.declared.wait.Home.{Home}
-use Rattle.ns_word.specs.declared.wait.Home.TheVariants.{AtVariables}
-use Rattle.ns_queue.specs.declared.waiter.Which.TheVariants.{Cv}
-use Rattle.ns_queue.specs.Queues.{Lists, cvs_without, waiters_of, with_each, with_waiters, without}
-use Rattle.ns_queue.specs.Signals.{signaled_of, unsignaled_of, taken_set}
+use Rattle.ns_word.specs.Names.{Acquire, AcquirePlace, Act, AfterAny, AfterCv, Aim, Any, AnyWait, ArmFlag, AtVariables, Broadcast, Broadcasting, CameBack, Cause, Cell, Change, CondWait, Cv, CvWait, Ended, Entry, Event, Exit, Expired, Flag, ForLock, ForWait, Found, Held}
+use Rattle.ns_word.specs.Names.{Home, InAcquire, InLeaving, InQueuing, InRelease, InSignal, InWait, JudgeMet, JudgeQuiet, Leave, LeaveSelf, Left, Limits, Lists, LoadCell, LoadFlag, LoadWord, Locked, Look, Looked, Made, Met, Mode, Nothing, Notified, OnCondition}
+use Rattle.ns_word.specs.Names.{OnVariables, Only, Opening, Outcome, Owed, Paid, PayWake, Queue, QueueSelf, QueueToWait, Quiet, Release, ReleasePlace, ReleaseReturning, ReturnQueues, Saw, ScanAndRelease, Scanned, SeatView, Section, Signal, SignalPlace, Signaling}
+use Rattle.ns_word.specs.Names.{StoreCell, Subject, TakeQueues, Tested, Truths, Variables, Wait, WaitPlace, WaitReturning, Waited, Waiter, WakeAndReturn, WakeWaiters, Waking, Walk, Woke, Woken, Word, Write, cvs_without, left_of, signaled_of, taken_set, tests_of}
+use Rattle.ns_word.specs.Names.{unsignaled_of, waiters_of, with_each, with_waiters, without, woken_of}
+use Rattle.ns_model.specs.declared.event.Entry.TheVariants.{Plain}
 use Rattle.ns_word.specs.Owed.{called_of, wakes_of}
-use Rattle.ns_word.specs.declared.owed.Owed.{Owed}
-use Rattle.ns_queue.specs.Scans.{woken_of, left_of, tests_of}
-use Rattle.ns_word.specs.declared.word.Word.{Word}
-use Rattle.ns_env.specs.declared.limits.Limits.{Limits}
-use Rattle.ns_env.specs.declared.limits.Cause.{Cause}
-use Rattle.ns_env.specs.declared.limits.Cause.TheVariants.{Expired, Notified}
-use Rattle.ns_word.specs.declared.wait.Subject.{Subject}
-use Rattle.ns_word.specs.declared.wait.Subject.TheVariants.{OnCondition, OnVariables}
-use Rattle.ns_word.specs.declared.wait.Outcome.{Outcome}
-use Rattle.ns_word.specs.declared.wait.Outcome.TheVariants.{Woken, Ended}
-use Rattle.ns_word.specs.declared.wait.Wait.{Wait}
-use Rattle.ns_word.specs.declared.wait.Aim.{Aim}
-use Rattle.ns_word.specs.declared.wait.Aim.TheVariants.{ForLock, ForWait}
-use Rattle.ns_word.specs.declared.view.Opening.{Opening}
-use Rattle.ns_word.specs.declared.view.Opening.TheVariants.{Locked, CameBack}
-use Rattle.ns_word.specs.declared.view.Held.{Held}
-use Rattle.ns_word.specs.declared.view.SeatView.{SeatView}
-use Rattle.ns_word.specs.declared.wait.WaitPlace.{WaitPlace}
-use Rattle.ns_word.specs.declared.wait.WaitPlace.TheVariants.{InQueuing, InLeaving}
-use Rattle.ns_word.specs.declared.wait.QueuePlace.TheVariants.{QueueToWait}
-use Rattle.ns_word.specs.declared.wait.LeavePlace.TheVariants.{Leave}
-use Rattle.ns_word.specs.declared.acquire_walk.AcquirePlace.{AcquirePlace}
-use Rattle.ns_word.specs.declared.acquire_walk.AcquirePlace.TheVariants.{Queue}
-use Rattle.ns_word.specs.declared.release_walk.ReleasePlace.{ReleasePlace}
-use Rattle.ns_word.specs.declared.release_walk.ReleasePlace.TheVariants.{ScanAndRelease}
-use Rattle.ns_word.specs.declared.walk.Walk.{Walk}
-use Rattle.ns_word.specs.declared.signal_walk.SignalPlace.{SignalPlace}
-use Rattle.ns_word.specs.declared.signal_walk.SignalPlace.TheVariants.{WakeAndReturn}
-use Rattle.ns_word.specs.declared.walk.Walk.TheVariants.{InAcquire, InRelease, InWait, InSignal}
-use Rattle.ns_word.specs.declared.act.Change.{Change}
-use Rattle.ns_word.specs.declared.act.Change.TheVariants.{QueueSelf, LeaveSelf, WakeWaiters, Nothing}
-use Rattle.ns_word.specs.declared.act.Waking.{Waking}
-use Rattle.ns_word.specs.declared.act.Waking.TheVariants.{Signaling, Broadcasting}
-use Rattle.ns_word.specs.declared.act.Act.{Act}
-use Rattle.ns_word.specs.declared.act.Act.TheVariants.{LoadWord, Acquire, TakeQueues, ReturnQueues, Release, ReleaseReturning, WaitReturning, LoadCell, JudgeQuiet, JudgeMet, StoreCell, ArmFlag, PayWake, LoadFlag, Look}
-use Rattle.ns_word.specs.declared.act.Found.{Found}
-use Rattle.ns_word.specs.declared.act.Found.TheVariants.{Saw, Made, Cell, Quiet, Tested, Scanned, Paid, Left, Woke, Flag, Looked}
 use Rattle.ns_word.specs.Words.{is_held, is_woken, tries_of, mode_released, releasing_of, may_acquire, word_acquired, word_taken, word_returned, word_released, word_released_returning}
 use Rattle.ns_word.specs.Waits.{answer_of, answer_of_wait, home_of, mode_for, variable_in}
 use Rattle.ns_word.specs.Lists.{has_some, bits_of, queued, stands_at}
 use Rattle.ns_word.specs.Walks.{want_of, got_of, walk_after}
+use Rattle.ns_model.specs.declared.event.Exit.TheVariants as TheExit
+use Rattle.ns_model.specs.declared.event.Event.TheVariants as TheEvent
 
 -- the lock word, the row's cells, the lists as they last stood at home, each seat's flag, and each seat's view
 pub record LockState (C : Type 0) (N : ℕ) : Type 0 where

@@ -1,10 +1,6 @@
 -- What a seat was told: the history that it has seen, its own events, and the calls that it has begun.
 use Rattle.std.specs.Prelude.{◌≡◌, ℕ, Bool, List, [], ◌∷◌, ◌++◌, Option, None, Some, All}
-use Rattle.ns_model.specs.declared.event.Event.{Event}
-use Rattle.ns_model.specs.Beginnings.{BeginsWith}
-use Rattle.ns_model.specs.Histories.{IsLegal, IsBySeats, own, who_of}
-use Rattle.ns_word.specs.declared.walk.Walk.{Walk}
-use Rattle.ns_word.specs.declared.act.Found.{Found}
+use Rattle.ns_word.specs.Names.{BeginsWith, Event, Found, IsBySeats, IsLegal, Walk, own, who_of}
 use Rattle.ns_word.specs.Begins.{IsFirst}
 use Rattle.ns_word.specs.Walks.{got_of, walk_after}
 

@@ -1,12 +1,7 @@
 -- What is counted over the seats' views, and one of them among the others.
 use Rattle.std.specs.Prelude.{◌≡◌, ◌≢◌, ℕ, ◌+◌, ◌==◌, Bool, false, not, if◌then◌else◌, List, [], ◌∷◌, ◌++◌, Option, None, Some}
-use Rattle.ns_model.specs.Phases.{is_write}
-use Rattle.ns_model.specs.Tallies.{total, one_if}
-use Rattle.ns_word.specs.declared.view.Held.{Held}
-use Rattle.ns_word.specs.declared.view.SeatView.{SeatView}
-use Rattle.ns_word.specs.declared.walk.Walk.{Walk}
+use Rattle.ns_word.specs.Names.{Held, Owed, SeatView, Walk, is_write, one_if, total}
 use Rattle.ns_word.specs.Owed.{times_among}
-use Rattle.ns_word.specs.declared.owed.Owed.{Owed}
 use Rattle.ns_word.specs.Walks.{has_queues, is_queuing, calls_from_lock}
 
 -- whether the section in hand, if there is one, is a write section

@@ -1,26 +1,9 @@
 -- Waits, for a condition or for condition variables.
 use Rattle.std.specs.Prelude.{◌≡◌, ℕ, true, if◌then◌else◌, Option, None, Some}
-use Rattle.ns_model.specs.declared.event.Mode.{Mode}
-use Rattle.ns_model.specs.declared.event.Answer.{Answer}
-use Rattle.ns_model.specs.declared.event.Answer.TheVariants.{Met, TimedOut, Canceled}
-use Rattle.ns_model.specs.declared.phase.Phase.{Phase}
-use Rattle.ns_model.specs.declared.cvs.Variables.{Variables}
-use Rattle.ns_model.specs.Cvs.{has}
-use Rattle.ns_model.specs.declared.phase.Phase.TheVariants.{Idle, Cond, Woken, Left}
-use Rattle.ns_env.specs.declared.limits.Cause.{Cause}
-use Rattle.ns_env.specs.declared.limits.Cause.TheVariants.{Expired, Notified}
-use Rattle.ns_word.specs.declared.wait.Home.{Home}
-use Rattle.ns_word.specs.declared.wait.Home.TheVariants.{AtLock, AtVariables}
+use Rattle.ns_word.specs.Names.{Aim, Answer, Arrival, AsFresh, AsWoken, AtLock, AtVariables, Canceled, Cause, Cond, Ended, Expired, ForLock, ForWait, Home, Met, Mode, Notified, OnCondition, OnVariables, Outcome, Phase, Subject, TimedOut, Variables, has}
+use Rattle.ns_model.specs.declared.phase.Phase.TheVariants.{Idle, Woken, Left}
 use Rattle.ns_word.specs.Owed.{is_from_lock, variable_told}
-use Rattle.ns_word.specs.declared.word.Arrival.{Arrival}
-use Rattle.ns_word.specs.declared.word.Arrival.TheVariants.{AsFresh, AsWoken}
-use Rattle.ns_word.specs.declared.wait.Subject.{Subject}
-use Rattle.ns_word.specs.declared.wait.Subject.TheVariants.{OnCondition, OnVariables}
-use Rattle.ns_word.specs.declared.wait.Outcome.{Outcome}
 use Rattle.ns_word.specs.declared.wait.Outcome.TheVariants as TheOutcome
-use Rattle.ns_word.specs.declared.wait.Outcome.TheVariants.{Ended}
-use Rattle.ns_word.specs.declared.wait.Aim.{Aim}
-use Rattle.ns_word.specs.declared.wait.Aim.TheVariants.{ForLock, ForWait}
 
 -- what a wait answers that was ended early
 abbrev pub answer_of : Cause → Answer

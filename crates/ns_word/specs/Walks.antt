@@ -1,64 +1,15 @@
 -- What each place in a call wants next, where what its step found leads it, and what the place tells.
 use Rattle.std.specs.Prelude.{ℕ, ◌+◌, ◌-◌, nat_lt, Option, None, Some, is_some, Bool, true, false, not, ◌&&◌, ◌||◌, ◌==◌, if◌then◌else◌}
-use Rattle.ns_model.specs.declared.event.Mode.{Mode}
-use Rattle.ns_model.specs.declared.event.Answer.TheVariants.{Met}
-use Rattle.ns_model.specs.declared.phase.Phase.{Phase}
-use Rattle.ns_model.specs.declared.cvs.Variables.{Variables}
-use Rattle.ns_model.specs.declared.cvs.Variables.TheVariants.{Only, Any}
-use Rattle.ns_model.specs.declared.phase.Phase.TheVariants.{Cond, Waiting}
-use Rattle.ns_model.specs.declared.phase.Phase.TheVariants as ThePhase
-use Rattle.ns_word.specs.declared.word.Word.{Word}
-use Rattle.ns_word.specs.declared.word.Releasing.{Releasing}
-use Rattle.ns_word.specs.declared.word.Releasing.TheVariants.{QuietWriter}
-use Rattle.ns_word.specs.declared.word.Taking.TheVariants.{ToChange, ToQueue}
-use Rattle.ns_word.specs.declared.word.Arrival.{Arrival}
-use Rattle.ns_word.specs.declared.word.Arrival.TheVariants.{AsFresh}
-use Rattle.ns_env.specs.declared.limits.Cause.{Cause}
-use Rattle.ns_word.specs.declared.wait.Subject.{Subject}
-use Rattle.ns_word.specs.declared.wait.Subject.TheVariants.{OnCondition, OnVariables}
-use Rattle.ns_word.specs.declared.wait.Wait.{Wait}
-use Rattle.ns_word.specs.declared.wait.Outcome.{Outcome}
-use Rattle.ns_word.specs.declared.wait.Outcome.TheVariants.{Woken, Ended}
-use Rattle.ns_word.specs.declared.wait.Aim.{Aim}
-use Rattle.ns_word.specs.declared.wait.Aim.TheVariants.{ForLock, ForWait}
-use Rattle.ns_word.specs.declared.wait.Visit.{Visit}
-use Rattle.ns_word.specs.declared.wait.Visit.TheVariants.{OnEntry, OnReturn}
-use Rattle.ns_word.specs.declared.wait.WaitPlace.{WaitPlace}
-use Rattle.ns_word.specs.declared.wait.WaitPlace.TheVariants.{TestCells, TestLast, InQueuing, PayInWait, AwaitWakeInWait, LookOut, InLeaving}
-use Rattle.ns_word.specs.declared.wait.QueuePlace.{QueuePlace}
-use Rattle.ns_word.specs.declared.wait.QueuePlace.TheVariants.{LookIn, Load, Take, ArmToWait, LoadToScan, QueueToWait}
-use Rattle.ns_word.specs.declared.wait.LeavePlace.{LeavePlace}
-use Rattle.ns_word.specs.declared.wait.LeavePlace.TheVariants.{LeaveLoad, TakeToLeave, Leave, AwaitWakeToLeave}
-use Rattle.ns_word.specs.declared.try_walk.TryPlace.{TryPlace}
-use Rattle.ns_word.specs.declared.try_walk.TryPlace.TheVariants.{TryLoad, TryAcquire}
-use Rattle.ns_word.specs.declared.acquire_walk.AcquirePlace.{AcquirePlace}
-use Rattle.ns_word.specs.declared.acquire_walk.AcquirePlace.TheVariants.{AcquireLoad, AcquireExchange, TakeToQueue, Arm, Queue, AwaitWake}
-use Rattle.ns_word.specs.declared.release_walk.ReleasePlace.{ReleasePlace}
-use Rattle.ns_word.specs.declared.release_walk.ReleasePlace.TheVariants.{ReleaseLoad, ReleaseExchange, TakeToScan, ScanCells, ScanAndRelease, Pay}
-use Rattle.ns_word.specs.declared.cell_walk.Judging.{Judging}
-use Rattle.ns_word.specs.declared.cell_walk.Judging.TheVariants.{ToTell, ToRelease}
-use Rattle.ns_word.specs.declared.cell_walk.CellPlace.{CellPlace}
-use Rattle.ns_word.specs.declared.cell_walk.CellPlace.TheVariants.{GetLoad, SetLoad, SetStore, QuietCells, QuietLast}
-use Rattle.ns_word.specs.declared.walk.Walk.{Walk}
-use Rattle.ns_word.specs.declared.show_walk.ShowPlace.{ShowPlace}
-use Rattle.ns_word.specs.declared.show_walk.ShowPlace.TheVariants.{ShowLoad, TakeToShow, ReturnShown}
-use Rattle.ns_word.specs.declared.signal_walk.SignalPlace.{SignalPlace}
-use Rattle.ns_word.specs.declared.signal_walk.SignalPlace.TheVariants.{SignalLoad, TakeToWake, WakeAndReturn, PayTheWoken}
-use Rattle.ns_word.specs.declared.walk.Walk.TheVariants.{InTry, InAcquire, InRelease, InCells, InWait, InSignal, InShow}
-use Rattle.ns_word.specs.declared.act.Change.TheVariants.{QueueSelf, LeaveSelf, WakeWaiters, Nothing}
-use Rattle.ns_word.specs.declared.act.Waking.{Waking}
-use Rattle.ns_word.specs.declared.act.Act.{Act}
-use Rattle.ns_word.specs.declared.act.Act.TheVariants.{LoadWord, Acquire, TakeQueues, ReturnQueues, Release, ReleaseReturning, WaitReturning, LoadCell, JudgeQuiet, JudgeMet, StoreCell, ArmFlag, PayWake, LoadFlag, Look}
-use Rattle.ns_word.specs.declared.act.Found.{Found}
-use Rattle.ns_word.specs.declared.act.Found.TheVariants.{Saw, Made, Cell, Quiet, Tested, Scanned, Paid, Left, Woke, Flag, Looked}
-use Rattle.ns_word.specs.declared.walk.Reply.{Reply}
-use Rattle.ns_word.specs.declared.walk.Reply.TheVariants.{Succeeded, Busy, Noisy, Number, Is, Answered, WokenBy}
-use Rattle.ns_word.specs.declared.walk.Next.{Next}
-use Rattle.ns_word.specs.declared.walk.Next.TheVariants.{On, Idle, Done}
+use Rattle.ns_word.specs.Names.{Acquire, AcquireExchange, AcquireLoad, AcquirePlace, Act, Aim, Answered, Any, Arm, ArmFlag, ArmToWait, Arrival, AsFresh, AwaitWake, AwaitWakeInWait, AwaitWakeToLeave, Busy, Cause, Cell, CellPlace, Cond, Done, Ended, Flag, ForLock}
+use Rattle.ns_word.specs.Names.{ForWait, Found, GetLoad, Idle, InAcquire, InCells, InLeaving, InQueuing, InRelease, InShow, InSignal, InTry, InWait, Is, JudgeMet, JudgeQuiet, Judging, Leave, LeaveLoad, LeavePlace, LeaveSelf, Left, Load, LoadCell, LoadFlag, LoadToScan}
+use Rattle.ns_word.specs.Names.{LoadWord, Look, LookIn, LookOut, Looked, Made, Met, Mode, Next, Noisy, Nothing, Number, On, OnCondition, OnEntry, OnReturn, OnVariables, Only, Outcome, Paid, Pay, PayInWait, PayTheWoken, PayWake, Phase, Queue, QueuePlace, QueueSelf}
+use Rattle.ns_word.specs.Names.{QueueToWait, Quiet, QuietCells, QuietLast, QuietWriter, Release, ReleaseExchange, ReleaseLoad, ReleasePlace, ReleaseReturning, Releasing, Reply, ReturnQueues, ReturnShown, Saw, ScanAndRelease, ScanCells, Scanned, SetLoad, SetStore}
+use Rattle.ns_word.specs.Names.{ShowLoad, ShowPlace, SignalLoad, SignalPlace, StoreCell, Subject, Succeeded, Take, TakeQueues, TakeToLeave, TakeToQueue, TakeToScan, TakeToShow, TakeToWake, TestCells, TestLast, Tested, ToChange, ToQueue, ToRelease, ToTell, TryAcquire}
+use Rattle.ns_word.specs.Names.{TryLoad, TryPlace, Variables, Visit, Wait, WaitPlace, WaitReturning, Waiting, WakeAndReturn, WakeWaiters, Waking, Walk, Woke, Woken, WokenBy, Word, is_limited}
 use Rattle.ns_word.specs.Words.{is_woken, tries_of, may_acquire, needs_scan, word_taken}
-use Rattle.ns_env.specs.Walks.{is_limited}
 use Rattle.ns_word.specs.Owed.{is_from_lock}
 use Rattle.ns_word.specs.Waits.{answer_of, answer_of_wait, arrival_of, home_of, mode_for, outcome_taken, phase_for, variable_in, woken_by}
+use Rattle.ns_model.specs.declared.phase.Phase.TheVariants as ThePhase
 
 -- ---- what a place wants
 

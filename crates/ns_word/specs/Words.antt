@@ -1,16 +1,6 @@
 -- The decisions by a word, and the words that the steps make of one.
 use Rattle.std.specs.Prelude.{ℕ, ◌+◌, ◌-◌, nat_lt, if◌then◌else◌, Bool, true, false, not, ◌&&◌, ◌||◌, ◌==◌}
-use Rattle.ns_model.specs.declared.event.Mode.{Mode}
-use Rattle.ns_model.specs.declared.event.Mode.TheVariants.{Write, Read}
-use Rattle.ns_model.specs.Phases.{is_write}
-use Rattle.ns_word.specs.declared.word.Word.{Word}
-use Rattle.ns_word.specs.declared.word.Bits.{Bits}
-use Rattle.ns_word.specs.declared.word.Releasing.{Releasing}
-use Rattle.ns_word.specs.declared.word.Releasing.TheVariants.{Writer, QuietWriter, Reader}
-use Rattle.ns_word.specs.declared.word.Arrival.{Arrival}
-use Rattle.ns_word.specs.declared.word.Arrival.TheVariants.{AsFresh, AsWoken}
-use Rattle.ns_word.specs.declared.word.Taking.{Taking}
-use Rattle.ns_word.specs.declared.word.Taking.TheVariants.{ToChange, ToQueue}
+use Rattle.ns_word.specs.Names.{Arrival, AsFresh, AsWoken, Bits, Mode, QuietWriter, Read, Reader, Releasing, Taking, ToChange, ToQueue, Word, Write, Writer, is_write}
 
 -- the mode of the section that is left
 abbrev pub mode_released : Releasing → Mode

@@ -1,29 +1,10 @@
 -- The looks of a wait for any of a set of variables: it looks as it rests, and nowhere else; and while it does, its seat stands nowhere on the clock and the notes.
 use Rattle.std.proofs.Common.{◌≡◌, ℕ, Bool, true, cond, Option, None, Some, refl, ap, sym, subst}
-use Rattle.ns_env.specs.declared.limits.Limits.{Limits}
-use Rattle.ns_env.specs.declared.limits.Cause.{Cause}
-use Rattle.ns_model.specs.declared.cvs.Cvs.{Cvs}
-use Rattle.ns_model.specs.declared.event.Mode.{Mode}
-use Rattle.ns_model.specs.Truths.{Truths}
+use Rattle.ns_world.specs.Prelude.{Act, ArmToWait, Await, AwaitWakeInWait, Cause, Cvs, Held, InAcquire, InCells, InLeaving, InQueuing, InRelease, InShow, InSignal, InTry, InWait, IsForCondition, IsUnfinished, LeaveLoad, Limits, Load, LoadToScan, Look, LookIn, LookOut}
+use Rattle.ns_world.specs.Prelude.{Looked, Mode, PayInWait, PlaceFits, QueueToWait, Take, TestCells, TestLast, Truths, Walk, asked_of, asks_for_any, got_of, judge_of, look_of, look_place, looks_at, step_of, waits_for_any, walk_after, want_acquiring, want_in_cells}
+use Rattle.ns_world.specs.Prelude.{want_leaving, want_of, want_releasing, want_showing, want_signaling, want_trying}
 use Rattle.ns_word.specs.declared.wait.Wait.{Wait}
-use Rattle.ns_word.specs.declared.wait.WaitPlace.TheVariants.{TestCells, TestLast, InQueuing, PayInWait, AwaitWakeInWait, LookOut, InLeaving}
-use Rattle.ns_word.specs.declared.wait.QueuePlace.TheVariants.{LookIn, Load, Take, ArmToWait, LoadToScan, QueueToWait}
-use Rattle.ns_word.specs.declared.wait.LeavePlace.TheVariants.{LeaveLoad}
-use Rattle.ns_word.specs.declared.act.Act.{Act}
-use Rattle.ns_word.specs.declared.act.Act.TheVariants.{Look}
-use Rattle.ns_word.specs.declared.act.Found.TheVariants.{Looked}
-use Rattle.ns_word.specs.declared.request.Request.TheVariants.{Await}
-use Rattle.ns_word.specs.declared.view.Held.{Held}
-use Rattle.ns_word.specs.declared.walk.Walk.{Walk}
-use Rattle.ns_word.specs.declared.walk.Walk.TheVariants.{InTry, InAcquire, InRelease, InCells, InWait, InSignal, InShow}
-use Rattle.ns_word.specs.Asked.{asked_of}
-use Rattle.ns_word.specs.Places.{IsForCondition, PlaceFits}
-use Rattle.ns_word.specs.Walks.{want_trying, want_acquiring, want_releasing, want_in_cells, want_leaving, want_signaling, want_showing, judge_of, want_of, got_of, walk_after}
 use Rattle.ns_word.proofs.Answers.{look_of_act, try_looks_not, acquire_looks_not, release_looks_not, cells_look_not, leaver_looks_not, judge_looks_not, signal_looks_not, show_looks_not}
-use Rattle.ns_world.specs.Among.{asks_for_any, waits_for_any}
-use Rattle.ns_world.specs.Looks.{look_of, look_place, looks_at}
-use Rattle.ns_world.specs.Meanings.{IsUnfinished}
-use Rattle.ns_world.specs.Performs.{step_of}
 
 module _ {C : Type 0} where
   -- ---- where a wait looks

@@ -2,41 +2,13 @@
 use Rattle.std.proofs.Common.{◌≡◌, ◌≢◌, ℕ, suc, ◌<◌, List, ◌++◌, Bool, true, false, cond, Option, None, Some, IsSome, is_some, length, take, drop, slice_get, slice_set, refl, ap, sym, ◌∙◌, subst, arith, inl}
 use Rattle.std.proofs.lemmas.List.{append-nil, length-set}
 use Rattle.std.proofs.lemmas.Option.{slice_get_within}
-use Rattle.ns_counters.specs.declared.object.ObjectEvent.{ObjectEvent}
-use Rattle.ns_counters.specs.declared.object.Setup.{Setup}
-use Rattle.ns_env.specs.Steps.{EnvPlain}
-use Rattle.ns_env.specs.declared.limits.Limits.{Limits}
+use Rattle.ns_world.specs.Prelude.{Act, Acts, AnyWait, AreAmong, AreThere, Await, BeginsToWait, EndsLook, EnvPlain, FirstClock, Found, HasLedTo, HasOperated, HaveLedTo, Idle, InRound, IsLawfulWhole, IsLawfulWorld, Limits, LooksWhere, Now, ObjectEvent, ObjectWalk}
+use Rattle.ns_world.specs.Prelude.{Objects, OnLock, Past, PlaceFits, Round, SeatView, Setup, StandsBy, Step, WaitSteps, WaitsOnLock, Walk, Whole, asked_of, asks_for_any, cause_of, got_of, is_alone, items_of, look_of, looks_at, mode_of, mode_waited, object_after}
+use Rattle.ns_world.specs.Prelude.{object_got, round_due, shown_by, stood_at, wait_first, wait_in, waited_after, waits_for_any, walk_after, walk_in, want_of}
 use Rattle.ns_env.proofs.Asks.{set_here}
-use Rattle.ns_word.specs.declared.act.Act.{Act}
-use Rattle.ns_word.specs.declared.act.Found.{Found}
-use Rattle.ns_word.specs.declared.request.Request.TheVariants.{Await}
-use Rattle.ns_word.specs.declared.view.SeatView.{SeatView}
-use Rattle.ns_word.specs.declared.walk.Walk.{Walk}
-use Rattle.ns_word.specs.Asked.{asked_of}
-use Rattle.ns_word.specs.Places.{PlaceFits}
-use Rattle.ns_word.specs.Walks.{got_of, walk_after, wait_first, want_of}
 use Rattle.ns_word.proofs.Acts.{view_fits}
 use Rattle.ns_word.proofs.Asked.{asked_stays}
 use Rattle.ns_word.proofs.Numbers.{split_at}
-use Rattle.ns_world.specs.declared.call.Start.TheVariants.{OnLock}
-use Rattle.ns_world.specs.declared.object_walk.ObjectWalk.{ObjectWalk}
-use Rattle.ns_world.specs.declared.object_walk.ObjectWalk.TheVariants.{InRound}
-use Rattle.ns_world.specs.declared.objects.AnyWait.{AnyWait}
-use Rattle.ns_world.specs.declared.objects.Objects.{Objects}
-use Rattle.ns_world.specs.declared.round.Round.{Round}
-use Rattle.ns_world.specs.declared.round.RoundPlace.TheVariants.{FirstClock}
-use Rattle.ns_world.specs.declared.step.Step.{Step}
-use Rattle.ns_world.specs.declared.step.Step.TheVariants.{Idle}
-use Rattle.ns_world.specs.Among.{asks_for_any, cause_of, round_due, shown_by, waited_after, waits_for_any}
-use Rattle.ns_world.specs.Calls.{mode_of, mode_waited}
-use Rattle.ns_world.specs.Items.{AreAmong, items_of}
-use Rattle.ns_world.specs.Looks.{look_of, looks_at}
-use Rattle.ns_world.specs.Meanings.{HasLedTo}
-use Rattle.ns_counters.specs.Rounds.{Past}
-use Rattle.ns_world.specs.Objects.{AreThere, HasOperated, stood_at, wait_in, walk_in}
-use Rattle.ns_world.specs.ObjectWalks.{object_after, object_got}
-use Rattle.ns_world.specs.Whole.{Whole, BeginsToWait, EndsLook, HaveLedTo, IsLawfulWhole, LooksWhere, StandsBy, WaitSteps, WaitsOnLock, is_alone}
-use Rattle.ns_world.specs.World.{Now, Acts, IsLawfulWorld}
 use Rattle.ns_world.proofs.AnyLooks.{LeadsOn, LooksOut, leads_on, looks_out, unlooked}
 use Rattle.ns_world.proofs.Turns.{moves_stay}
 use Rattle.ns_world.proofs.Walks.{put_here, put_there, stands_within, wait_here, wait_there}

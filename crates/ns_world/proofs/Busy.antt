@@ -1,14 +1,9 @@
 -- Which seats are busy, after one more seat or another in its place.
-use Rattle.std.proofs.Common.{◌≡◌, ◌≢◌, ℕ, zero, suc, ◌<◌, Bool, true, false, eqb, ◌&&◌, ◌||◌, List, [], ◌∷◌, ◌++◌, Option, Some, None, is_some, length, slice_set, slice_get, refl, ap, sym, ◌∙◌, arith, eq-eqb, inl, inr}
-use Rattle.std.proofs.Common.{◌+◌, map, take, get_or, length-take}
+use Rattle.std.proofs.Common.{◌≡◌, ◌≢◌, ℕ, zero, suc, ◌<◌, Bool, true, false, eqb, ◌&&◌, ◌||◌, List, [], ◌∷◌, ◌++◌, Option, Some, None, is_some, length, slice_set, slice_get, refl, ap, sym, ◌∙◌, arith, eq-eqb, inl, inr, ◌+◌, map, take, get_or, length-take}
 use Rattle.std.proofs.lemmas.Bool.{cases_eq, ne_eqb}
 use Rattle.std.proofs.lemmas.List.{take_more, map-append, length-map}
 use Rattle.std.specs.Option.{option_map_or}
-use Rattle.ns_word.specs.declared.view.SeatView.{SeatView}
-use Rattle.ns_env.specs.declared.walk.EnvWalk.{EnvWalk}
-use Rattle.ns_world.specs.declared.seat.Seat.{Seat}
-use Rattle.ns_world.specs.Performs.{view_of}
-use Rattle.ns_world.specs.World.{is_walking, is_asking, is_busy}
+use Rattle.ns_world.specs.Prelude.{EnvWalk, Seat, SeatView, is_asking, is_busy, is_walking, view_of}
 
 and_false : (b : Bool) → (b && false) ≡ false
 and_false true = refl

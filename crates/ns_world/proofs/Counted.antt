@@ -5,39 +5,16 @@ use Rattle.std.proofs.lemmas.Bool.{cases_eq}
 use Rattle.std.proofs.lemmas.List.{length-set, get_or-set_same, get_or-set_other}
 use Rattle.std.proofs.lemmas.List.Elements.{All-head, All-tail, All-nil}
 use Rattle.std.proofs.lemmas.Option.{slice_get_within}
-use Rattle.ns_world.specs.declared.reply.Reply.{Reply}
-use Rattle.ns_word.specs.declared.walk.Next.{Next}
-use Rattle.ns_word.specs.declared.walk.Next.TheVariants.{On, Done}
-use Rattle.ns_word.specs.declared.walk.Next.TheVariants as TheNext
-use Rattle.ns_env.specs.declared.walk.EnvNext.{EnvNext}
-use Rattle.ns_env.specs.declared.walk.EnvNext.TheVariants.{Go, Repeat, Over, LookOver}
-use Rattle.ns_env.specs.Walks.{env_got_of, env_walk_after}
-use Rattle.ns_word.specs.Walks.{got_of, walk_after, wait_first}
-use Rattle.ns_world.specs.Asks.{env_step_of}
-use Rattle.ns_world.specs.declared.call.Call.{Call}
-use Rattle.ns_world.specs.declared.schedule.Line.{Line}
-use Rattle.ns_world.specs.declared.step.Step.{Step}
-use Rattle.ns_world.specs.declared.step.Step.TheVariants.{Went, Idle, Finished, Nothing}
-use Rattle.ns_world.specs.Calls.{CallInRange, start_of, object_start, mode_of, mode_waited}
-use Rattle.ns_world.specs.Performs.{step_of}
-use Rattle.ns_world.specs.Looks.{look_of}
-use Rattle.ns_world.specs.World.{Now, Goes, LookGoes, Moves, is_walking, is_asking, is_busy, Acts}
-use Rattle.ns_word.specs.declared.walk.Walk.{Walk}
-use Rattle.ns_world.specs.declared.call.Start.TheVariants.{OnLock}
-use Rattle.ns_world.specs.declared.object_walk.ObjectWalk.TheVariants.{InRound}
-use Rattle.ns_world.specs.declared.objects.AnyWait.{AnyWait}
-use Rattle.ns_world.specs.Among.{is_for_lock, round_due, shown_by, step_told, waited_after, waits_for_any}
-use Rattle.ns_world.specs.Runs.{Progress, progress, progressed, calls_of, GoesOnOrBegins, TurnOf, Counts, IsCounted, ListFits}
+use Rattle.ns_world.specs.Prelude.{Acts, AnyWait, Awaits, Call, CallInRange, Counts, EnvNext, Finished, Go, Goes, GoesOnOrBegins, HasOperated, Idle, InRound, IsCounted, Line, ListFits, LookGoes, LookOver, Moves, Next, Nothing, Now, ObjectNext, ObjectWalk, Objects, On}
+use Rattle.ns_world.specs.Prelude.{OnLock, Progress, Reply, Step, TurnOf, Walk, Went, Whole, WholeMoves, calls_of, env_got_of, env_step_of, env_walk_after, got_of, is_asking, is_busy, is_for_lock, is_walking, look_of, mode_of, mode_waited, object_after, object_got}
+use Rattle.ns_world.specs.Prelude.{object_start, object_step_of, objects_begun, progress, progressed, round_due, shown_by, start_of, step_of, step_told, stood_at, wait_first, wait_in, waited_after, waits_for_any, walk_after, walk_in, whole_busy}
+use Rattle.ns_word.specs.declared.walk.Next.TheVariants.{Done}
+use Rattle.ns_env.specs.declared.walk.EnvNext.TheVariants.{Repeat, Over}
 use Rattle.ns_world.proofs.Busy.{both, walking_at, walking_set_same, walking_set_other, asking_set_same, asking_set_other, asking_set_none}
 use Rattle.ns_world.proofs.Turns.{is_idle_of, is_whole_busy, is_whole_idle, begun_others}
 use Rattle.ns_world.proofs.Walks.{put_there, put_none}
-use Rattle.ns_world.specs.declared.object_walk.ObjectNext.{ObjectNext}
+use Rattle.ns_word.specs.declared.walk.Next.TheVariants as TheNext
 use Rattle.ns_world.specs.declared.object_walk.ObjectNext.TheVariants as TheObject
-use Rattle.ns_world.specs.declared.object_walk.ObjectWalk.{ObjectWalk}
-use Rattle.ns_world.specs.declared.objects.Objects.{Objects}
-use Rattle.ns_world.specs.Objects.{walk_in, object_step_of, objects_begun, HasOperated, stood_at, wait_in}
-use Rattle.ns_world.specs.ObjectWalks.{object_got, object_after}
-use Rattle.ns_world.specs.Whole.{Whole, WholeMoves, whole_busy, Awaits}
 
 -- ---- the lists
 

@@ -2,21 +2,10 @@
 use Rattle.std.proofs.Common.{ℕ, ◌<◌, inl, inr, List, [], ◌++◌, Some, None, length, slice_set, refl, sym, ◌∙◌, subst}
 use Rattle.std.proofs.lemmas.List.{append-nil}
 use Rattle.std.proofs.lemmas.Option.{slice_get_within}
-use Rattle.ns_model.specs.declared.environment.EnvEvent.{EnvEvent}
-use Rattle.ns_env.specs.declared.walk.EnvNext.{EnvNext}
-use Rattle.ns_env.specs.declared.walk.EnvNext.TheVariants.{Go, LookOver}
-use Rattle.ns_env.specs.Walks.{env_want_of, env_got_of, env_walk_after}
-use Rattle.ns_env.specs.Asks.{EnvEffect, IsLawfulEnv, IfMade}
-use Rattle.ns_env.specs.Steps.{EnvPlain}
-use Rattle.ns_word.specs.Walks.{got_of, walk_after}
+use Rattle.ns_world.specs.Prelude.{Acts, AreEnvBy, Asks, EnvAct, EnvEffect, EnvEvent, EnvFound, EnvNext, EnvPlain, Go, Goes, IfMade, IsLawfulEnv, IsLawfulWorld, LedTo, LookGoes, LookOver, Looks, Moves, Now, Step, env_done, env_got_of, env_state, env_walk_after}
+use Rattle.ns_world.specs.Prelude.{env_want_of, got_of, look_of, note_in, walk_after}
 use Rattle.ns_env.proofs.Asks.{set_here, keeps_env}
 use Rattle.ns_env.proofs.Keeps.{outcome_by}
-use Rattle.ns_world.specs.declared.step.Step.{Step}
-use Rattle.ns_world.specs.Asks.{env_state}
-use Rattle.ns_world.specs.Looks.{look_of, note_in}
-use Rattle.ns_env.specs.declared.act.EnvAct.{EnvAct}
-use Rattle.ns_env.specs.declared.act.EnvFound.{EnvFound}
-use Rattle.ns_world.specs.World.{Now, Goes, Acts, Asks, Looks, LookGoes, Moves, IsLawfulWorld, LedTo, AreEnvBy, env_done}
 use Rattle.ns_world.proofs.Looking.{first_if, noted}
 use Rattle.ns_world.proofs.Worlds.{env_begins}
 use Rattle.ns_word.proofs.Numbers.{set_same, set_again}

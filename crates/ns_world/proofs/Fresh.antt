@@ -1,20 +1,9 @@
 -- A new world's seats, one after another.
 use Rattle.std.proofs.Common.{◌≡◌, ℕ, zero, suc, ◌+◌, ◌-◌, ◌<◌, List, [], ◌∷◌, ◌++◌, None, Some, slice_get, subst, map, replicate, refl, sym, ap, ◌∙◌, arith, sub-one, get_or, length, ◌≤◌}
 use Rattle.std.proofs.lemmas.List.{map-append, append_assoc}
-use Rattle.ns_word.specs.declared.view.SeatView.{SeatView}
-use Rattle.ns_word.specs.Begins.{fresh_views}
-use Rattle.ns_world.specs.declared.seat.Seat.{Seat}
-use Rattle.ns_model.specs.Truths.{Truths}
-use Rattle.ns_model.specs.Environments.{NoteStanding, no_note}
-use Rattle.ns_env.specs.Notes.{standing_of, state_of}
+use Rattle.ns_world.specs.Prelude.{AreNumbered, AsksFor, IfMade, IsLawfulWorld, NoteStanding, Seat, SeatView, Truths, flag_at, fresh, fresh_views, no_note, note_at, note_in, standing_of, state_of, view_of}
 use Rattle.ns_env.proofs.Begins.{fresh_lawful}
 use Rattle.ns_word.proofs.Starts.{lawful_fresh}
-use Rattle.ns_world.specs.Asks.{note_at}
-use Rattle.ns_world.specs.Performs.{view_of, flag_at}
-use Rattle.ns_env.specs.Asks.{IfMade}
-use Rattle.ns_world.specs.Looks.{AsksFor, note_in}
-use Rattle.ns_word.specs.Views.{AreNumbered}
-use Rattle.ns_world.specs.World.{IsLawfulWorld, fresh}
 
 pub views_next : {C : Type 0} {N : ℕ} (first n : ℕ) → 0 < n → fresh_views {C = C} {N = N} first n ≡ record { seat = first; walk = None; held = None; owed = [] } ∷ fresh_views (first + 1) (n - 1)
 views_next first zero some = absurd (omega arith)

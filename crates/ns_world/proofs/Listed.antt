@@ -2,11 +2,7 @@
 use Rattle.std.proofs.Common.{◌≡◌, ℕ, zero, suc, ◌<◌, nat_lt, ◌||◌, Bool, true, false, cond, List, [], ◌∷◌, take, drop, Option, Some, None, slice_get, refl, sym, ◌∙◌, ap, subst, arith, inl, inr, eq-eqb}
 use Rattle.std.proofs.lemmas.Bool.{eqb-true, ltb-true, ltb-false, or_cases}
 use Rattle.std.specs.List.{list_any}
-use Rattle.ns_model.specs.Tallies.{Every}
-use Rattle.ns_world.specs.declared.items.Item.{Item}
-use Rattle.ns_world.specs.declared.items.Items.{Items}
-use Rattle.ns_world.specs.declared.items.Item.TheVariants.{OnNote, OnCounter, OnVariable}
-use Rattle.ns_world.specs.Items.{IsLow, is_among, is_this, is_variable, item_at, items_of, place_in}
+use Rattle.ns_world.specs.Prelude.{Every, IsLow, Item, Items, OnCounter, OnNote, OnVariable, is_among, is_this, is_variable, item_at, items_of, place_in}
 
 nothing : {A : Type 0} (at : ℕ) (xs : List A) → xs ≡ [] → drop at xs ≡ []
 nothing zero xs e = e

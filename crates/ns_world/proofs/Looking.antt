@@ -1,60 +1,16 @@
 -- The looks of a wait, over plain data: where a wait goes that looks, and what it needs of the notes.
 use Rattle.std.proofs.Common.{◌≡◌, ℕ, ◌+◌, ◌-◌, not, Bool, true, false, cond, List, [], Option, None, Some, IsSome, refl, ap, sym, ◌∙◌, subst}
 use Rattle.std.specs.Prelude.{nat_lt, ◌==◌}
-use Rattle.ns_model.specs.declared.environment.EnvEvent.{EnvEvent}
-use Rattle.ns_model.specs.Environments.{NoteStanding, is_due, is_over}
-use Rattle.ns_env.specs.declared.limits.Limits.{Limits}
-use Rattle.ns_env.specs.declared.limits.Cause.{Cause}
-use Rattle.ns_env.specs.declared.limits.Cause.TheVariants.{Expired}
-use Rattle.ns_word.specs.declared.word.Word.{Word}
-use Rattle.ns_word.specs.declared.word.Releasing.{Releasing}
-use Rattle.ns_word.specs.declared.word.Arrival.{Arrival}
-use Rattle.ns_word.specs.declared.word.Arrival.TheVariants.{AsFresh}
-use Rattle.ns_word.specs.declared.wait.Subject.{Subject}
-use Rattle.ns_word.specs.declared.wait.Subject.TheVariants.{OnCondition, OnVariables}
+use Rattle.ns_world.specs.Prelude.{AcquireExchange, AcquireLoad, Act, Aim, Arm, ArmToWait, Arrival, AsFresh, AsksFor, AwaitWake, AwaitWakeInWait, AwaitWakeToLeave, Cause, Cell, ClockLoad, Effect, Ended, EnvEffect, EnvEvent, EnvFound, EnvNext, EnvPlain, EnvWalk, Expired}
+use Rattle.ns_world.specs.Prelude.{Flag, ForLock, ForLook, ForWait, Found, GetLoad, Go, IfMade, InAcquire, InCells, InLeaving, InQueuing, InRelease, InShow, InSignal, InTry, InWait, IsFirstAsk, Leave, LeaveLoad, Left, Limits, Load, LoadToScan, Look, LookFits, LookIn}
+use Rattle.ns_world.specs.Prelude.{LookOut, LookOver, Looked, Made, MayShow, Next, NoteLoad, NoteStanding, On, OnCondition, OnEntry, OnReturn, OnVariables, Paid, Part, Pay, PayInWait, PayTheWoken, Queue, QueueToWait, Quiet, QuietCells, QuietLast, ReleaseExchange}
+use Rattle.ns_world.specs.Prelude.{ReleaseLoad, Releasing, ReturnShown, Saw, ScanAndRelease, ScanCells, Scanned, SetLoad, SetStore, ShowLoad, SignalLoad, Subject, Take, TakeToLeave, TakeToQueue, TakeToScan, TakeToShow, TakeToWake, TestCells, TestLast, Tested, ToRelease}
+use Rattle.ns_world.specs.Prelude.{ToTell, Truths, TryAcquire, TryLoad, Visit, WaitPlace, WakeAndReturn, Walk, Woke, Woken, Word, acquire_by, acquired_for, back_with, came_back, env_got_of, env_want_of, got_of, got_waiting, held_after, is_due, is_limited, is_over}
+use Rattle.ns_world.specs.Prelude.{judge_of, look_of, look_place, looks_at, may_acquire, mode_for, needs_scan, note_for, note_in, outcome, passed, release_by, stopped, test_place, unmet_by, up_to, waits_among, walk_after, want_acquiring, want_in_cells, want_leaving}
+use Rattle.ns_world.specs.Prelude.{want_of, want_releasing, want_showing, want_signaling, want_trying}
 use Rattle.ns_word.specs.declared.wait.Outcome.{Outcome}
-use Rattle.ns_word.specs.declared.wait.Outcome.TheVariants.{Woken, Ended}
 use Rattle.ns_word.specs.declared.wait.Wait.{Wait}
-use Rattle.ns_word.specs.declared.wait.Aim.{Aim}
-use Rattle.ns_word.specs.declared.wait.Aim.TheVariants.{ForLock, ForWait}
-use Rattle.ns_word.specs.declared.wait.Visit.{Visit}
-use Rattle.ns_word.specs.declared.wait.Visit.TheVariants.{OnEntry, OnReturn}
-use Rattle.ns_word.specs.declared.wait.WaitPlace.{WaitPlace}
-use Rattle.ns_word.specs.declared.wait.WaitPlace.TheVariants.{TestCells, TestLast, InQueuing, PayInWait, AwaitWakeInWait, LookOut, InLeaving}
-use Rattle.ns_word.specs.declared.wait.QueuePlace.TheVariants.{LookIn, Load, Take, ArmToWait, LoadToScan, QueueToWait}
-use Rattle.ns_word.specs.declared.wait.LeavePlace.TheVariants.{LeaveLoad, TakeToLeave, Leave, AwaitWakeToLeave}
-use Rattle.ns_word.specs.declared.try_walk.TryPlace.TheVariants.{TryLoad, TryAcquire}
-use Rattle.ns_word.specs.declared.acquire_walk.AcquirePlace.TheVariants.{AcquireLoad, AcquireExchange, TakeToQueue, Arm, Queue, AwaitWake}
-use Rattle.ns_word.specs.declared.release_walk.ReleasePlace.TheVariants.{ReleaseLoad, ReleaseExchange, TakeToScan, ScanCells, ScanAndRelease, Pay}
-use Rattle.ns_word.specs.declared.cell_walk.Judging.TheVariants.{ToTell, ToRelease}
-use Rattle.ns_word.specs.declared.cell_walk.CellPlace.TheVariants.{GetLoad, SetLoad, SetStore, QuietCells, QuietLast}
-use Rattle.ns_env.specs.declared.walk.Chain.TheVariants.{ForLook}
-use Rattle.ns_env.specs.declared.walk.EnvWalk.{EnvWalk}
-use Rattle.ns_env.specs.declared.walk.EnvWalk.TheVariants.{ClockLoad, NoteLoad}
-use Rattle.ns_env.specs.declared.walk.EnvNext.{EnvNext}
-use Rattle.ns_env.specs.declared.walk.EnvNext.TheVariants.{Go, LookOver}
-use Rattle.ns_word.specs.declared.walk.Walk.{Walk}
-use Rattle.ns_word.specs.declared.show_walk.ShowPlace.TheVariants.{ShowLoad, TakeToShow, ReturnShown}
-use Rattle.ns_word.specs.declared.signal_walk.SignalPlace.TheVariants.{SignalLoad, TakeToWake, WakeAndReturn, PayTheWoken}
-use Rattle.ns_word.specs.declared.walk.Walk.TheVariants.{InTry, InAcquire, InRelease, InCells, InWait, InSignal, InShow}
-use Rattle.ns_word.specs.declared.walk.Next.{Next}
-use Rattle.ns_word.specs.declared.walk.Next.TheVariants.{On}
-use Rattle.ns_word.specs.declared.act.Act.{Act}
-use Rattle.ns_word.specs.declared.act.Act.TheVariants.{Look}
-use Rattle.ns_word.specs.declared.act.Found.{Found}
-use Rattle.ns_word.specs.declared.act.Found.TheVariants.{Saw, Made, Cell, Quiet, Tested, Scanned, Paid, Left, Woke, Flag, Looked}
-use Rattle.ns_env.specs.declared.act.EnvFound.{EnvFound}
-use Rattle.ns_env.specs.Walks.{env_want_of, env_got_of, passed, up_to, stopped}
-use Rattle.ns_env.specs.Asks.{EnvEffect, IfMade, IsFirstAsk}
-use Rattle.ns_env.specs.Steps.{EnvPlain, outcome}
 use Rattle.ns_word.proofs.Answers.{look_of_act, try_looks_not, acquire_looks_not, release_looks_not, cells_look_not, leaver_looks_not, judge_looks_not, signal_looks_not, show_looks_not}
-use Rattle.ns_word.specs.Walks.{want_trying, want_acquiring, want_releasing, want_in_cells, want_leaving, want_signaling, want_showing, judge_of, want_of, got_of, got_waiting, walk_after, acquire_by, acquired_for, back_with, release_by, test_place, unmet_by}
-use Rattle.ns_word.specs.Words.{may_acquire, needs_scan}
-use Rattle.ns_env.specs.Walks.{is_limited}
-use Rattle.ns_word.specs.Waits.{mode_for}
-use Rattle.ns_model.specs.Truths.{Truths}
-use Rattle.ns_word.specs.Steps.{Part, Effect, MayShow, held_after}
-use Rattle.ns_world.specs.Looks.{looks_at, came_back, look_place, look_of, LookFits, AsksFor, note_for, note_in, waits_among}
 
 -- ---- the note that may end a wait
 

@@ -3,67 +3,28 @@ use Rattle.std.specs.Prelude.{nat_lt, take}
 use Rattle.std.proofs.Common.{◌≡◌, ℕ, zero, suc, ◌<◌, ◌≤◌, ℤ, Bool, true, false, cond, eqb, List, [], ◌∷◌, ◌++◌, Option, None, Some, drop, slice_get, slice_index, Result, Ok, Err, refl, ap, sym, ◌∙◌, subst, arith, inl, inr, append-nil, eq-eqb}
 use Rattle.std.proofs.lemmas.Bool.{ltb-false, eqb-true}
 use Rattle.std.proofs.lemmas.List.Sums.{fold-append}
-use Rattle.ns_model.specs.declared.environment.EnvEvent.{EnvEvent}
-use Rattle.ns_model.specs.Beginnings.{BeginsWith, IsBetween}
-use Rattle.ns_model.specs.Environments.{IsLegalEnv, clock_of, env_after, is_due}
+use Rattle.ns_world.specs.Prelude.{AddExchange, AddLoad, AnyAnswers, AtCounter, AtNote, AtSomeMoment, AtSomePoint, BeginsWith, ChainFits, Clock, CounterFault, CounterState, DoneLoad, Env, EnvEvent, EnvFound, EnvNext, EnvState, FirstClock, ForIsNotified, Free, HadValue}
+use Rattle.ns_world.specs.Prelude.{HasLookedUpTo, HasShownNone, HaveShownNothing, InRound, InTurn, IsBetween, IsLater, IsLawful, IsLawfulEnv, IsLegalEnv, IsReady, IsSo, Item, Items, Note, NoteLoad, Number, ObjectEffect, ObjectEvent, ObjectFound, ObjectGoes, ObjectSoFar}
+use Rattle.ns_world.specs.Prelude.{ObjectStanding, ObjectWalk, OnCounterItem, OnNote, OnOnce, OnVariable, OnceBegin, OnceEnd, OnceLoad, OnceState, Outcome, Over, Past, Repeat, Round, RoundGo, RoundNext, RoundOver, RoundPlace, RoundSoFar, Running, Setup, Stage}
+use Rattle.ns_world.specs.Prelude.{ValueLoad, WaitClock, WaitLoad, WaitMark, WalkFits, WereThere, by_answer, by_begun, by_chain, by_deadline, by_judging, by_round, by_stage, chain_from, clock_of, counter_of, counter_word, env_after, env_got_of, first_objects}
+use Rattle.ns_world.specs.Prelude.{from_items, from_place, has_run, is_done, is_due, is_ready, item_at, items_of, judged, object_asked, object_got, object_next, object_place, object_want, objects_after, objects_own, past_and, round_got, round_want, stage, stage_of}
+use Rattle.ns_world.specs.Prelude.{tried, waited_next, word_of_once}
 use Rattle.ns_model.proofs.Beginnings.{begins_itself, begins_through}
 use Rattle.ns_model.proofs.Environments.{legal_begins, made_begins}
 use Rattle.ns_model.proofs.Lines.{line_starts}
-use Rattle.ns_model.specs.declared.counter.CounterEvent.TheVariants as TheCounter
-use Rattle.ns_model.specs.declared.counter.CounterFault.{CounterFault}
-use Rattle.ns_model.specs.declared.counter.CounterState.{CounterState}
-use Rattle.ns_counters.specs.declared.object.ObjectEvent.{ObjectEvent}
-use Rattle.ns_counters.specs.declared.object.ObjectEvent.TheVariants.{OnCounter, OnOnce}
-use Rattle.ns_counters.specs.declared.object.Place.TheVariants.{Free, Running}
-use Rattle.ns_counters.specs.declared.object.Setup.{Setup}
-use Rattle.ns_model.specs.declared.once.OnceEvent.TheVariants as TheOnce
-use Rattle.ns_model.specs.declared.once.OnceState.{OnceState}
-use Rattle.ns_model.specs.declared.once.OnceState.TheVariants as TheState
-use Rattle.ns_counters.specs.declared.word.Stage.{Stage}
-use Rattle.ns_counters.specs.declared.word.Stage.TheVariants as TheStage
-use Rattle.ns_model.specs.Counters.{is_ready, judged}
-use Rattle.ns_counters.specs.Lawful.{IsLawful}
-use Rattle.ns_counters.specs.Objects.{ObjectStanding, first_objects, object_next, objects_after, objects_own}
-use Rattle.ns_model.specs.Onces.{is_done}
-use Rattle.ns_counters.specs.Rounds.{HasShownNone, HaveShownNothing, InTurn, IsLater, Past}
-use Rattle.ns_counters.specs.Steps.{Outcome, tried, word_of_once}
-use Rattle.ns_counters.specs.Words.{counter_word, counter_of, stage, stage_of}
+use Rattle.ns_counters.specs.declared.object.ObjectEvent.TheVariants.{OnCounter}
 use Rattle.ns_counters.proofs.Objects.{own-append}
 use Rattle.ns_counters.proofs.Rounds.{answers_until, later_itself, later_through, nothing_later, nothing_until, turn_more, turn_until}
 use Rattle.ns_counters.proofs.Words.{counter_of-counter_word, stage_of-stage_word}
-use Rattle.ns_env.specs.declared.act.EnvFound.{EnvFound}
-use Rattle.ns_env.specs.declared.act.EnvFound.TheVariants.{Clock, Note}
-use Rattle.ns_env.specs.declared.walk.Chain.TheVariants.{ForIsNotified}
-use Rattle.ns_env.specs.declared.walk.EnvNext.{EnvNext}
-use Rattle.ns_env.specs.declared.walk.EnvNext.TheVariants as TheEnv
-use Rattle.ns_env.specs.declared.walk.EnvWalk.TheVariants.{NoteLoad}
-use Rattle.ns_env.specs.declared.reply.EnvReply.TheVariants.{Is as IsSo}
-use Rattle.ns_env.specs.Chains.{ChainFits}
-use Rattle.ns_env.specs.Meanings.{AtSomePoint}
-use Rattle.ns_env.specs.Asks.{EnvState, IsLawfulEnv}
-use Rattle.ns_env.specs.Walks.{env_got_of}
 use Rattle.ns_env.proofs.Chains.{chain_answers}
-use Rattle.ns_world.specs.declared.items.Item.{Item}
-use Rattle.ns_world.specs.declared.items.Item.TheVariants.{OnNote, OnCounter as OnCounterItem, OnVariable}
-use Rattle.ns_world.specs.declared.items.Items.{Items}
-use Rattle.ns_world.specs.declared.object_walk.ObjectNext.TheVariants.{Repeat, Over}
-use Rattle.ns_world.specs.declared.object_walk.ObjectWalk.{ObjectWalk}
-use Rattle.ns_world.specs.declared.object_walk.ObjectWalk.TheVariants.{AddLoad, AddExchange, ValueLoad, WaitMark, WaitLoad, WaitClock, OnceLoad, OnceBegin, OnceEnd, DoneLoad, InRound}
-use Rattle.ns_world.specs.declared.reply.Reply.TheVariants.{Number}
-use Rattle.ns_world.specs.declared.round.ObjectFound.{ObjectFound}
-use Rattle.ns_world.specs.declared.round.ObjectFound.TheVariants.{Word, Env}
-use Rattle.ns_world.specs.declared.round.Round.{Round}
-use Rattle.ns_world.specs.declared.round.RoundNext.{RoundNext}
-use Rattle.ns_world.specs.declared.round.RoundNext.TheVariants.{RoundGo, RoundOver}
-use Rattle.ns_world.specs.declared.round.RoundPlace.{RoundPlace}
-use Rattle.ns_world.specs.declared.round.RoundPlace.TheVariants.{FirstClock, AtNote, AtCounter}
-use Rattle.ns_world.specs.Items.{item_at, items_of}
-use Rattle.ns_world.specs.Objects.{ObjectEffect, WalkFits}
-use Rattle.ns_world.specs.ObjectMeanings.{past_and, object_asked, AnyAnswers, AtSomeMoment, HadValue, HasLookedUpTo, IsReady, ObjectGoes, ObjectSoFar, RoundSoFar, WereThere}
-use Rattle.ns_world.specs.ObjectWalks.{by_answer, by_begun, by_deadline, by_judging, by_round, by_stage, has_run, object_got, object_place, object_want, waited_next}
-use Rattle.ns_world.specs.Rounds.{by_chain, chain_from, from_items, from_place, round_got, round_want}
+use Rattle.ns_world.specs.declared.round.ObjectFound.TheVariants.{Word}
 use Rattle.ns_world.proofs.ObjectLaw.{clock_found, counter_there, note_found, note_there}
 use Rattle.ns_world.proofs.Listed.{left_at, listed}
+use Rattle.ns_model.specs.declared.counter.CounterEvent.TheVariants as TheCounter
+use Rattle.ns_model.specs.declared.once.OnceEvent.TheVariants as TheOnce
+use Rattle.ns_model.specs.declared.once.OnceState.TheVariants as TheState
+use Rattle.ns_counters.specs.declared.word.Stage.TheVariants as TheStage
+use Rattle.ns_env.specs.declared.walk.EnvNext.TheVariants as TheEnv
 
 -- ---- more that has happened
 

@@ -1,70 +1,30 @@
 -- A step of a call on counters and once cells keeps their law, and leaves each seat where it may stand.
 use Rattle.std.specs.Prelude.{nat_lt}
 use Rattle.std.specs.List.{list_all}
-use Rattle.std.proofs.Common.{◌≡◌, ◌≢◌, ℕ, zero, suc, ◌<◌, ◌≤◌, ◌%◌, ◌^◌, ℤ, Bool, true, false, cond, ◌&&◌, eqb, List, [], ◌∷◌, ◌++◌, Option, None, Some, take, drop, slice_get, slice_set, slice_index, Result, Ok, Err, refl, ap, sym, ◌∙◌, subst, arith, inl, inr, append-nil}
+use Rattle.std.proofs.Common.{◌≡◌, ◌≢◌, ℕ, zero, suc, ◌<◌, ◌≤◌, ◌%◌, ◌^◌, ℤ, Bool, true, false, cond, ◌&&◌, eqb, List, [], ◌∷◌, ◌++◌, Option, None, Some, take, drop, slice_get, slice_set, slice_index, Result, Ok, Err, refl, ap, sym, ◌∙◌, subst, arith, inl, inr}
+use Rattle.std.proofs.Common.{append-nil}
 use Rattle.std.proofs.lemmas.Bool.{cases_eq, ltb-true}
-use Rattle.ns_model.specs.Environments.{NoteStanding}
-use Rattle.ns_model.specs.declared.environment.EnvEvent.{EnvEvent}
-use Rattle.ns_model.specs.Tallies.{Every}
-use Rattle.ns_counters.specs.declared.act.ObjectAct.{ObjectAct}
-use Rattle.ns_counters.specs.declared.act.ObjectAct.TheVariants.{LookCounter, LoadToAdd, ExchangeToAdd, MarkWait, LookOnce, BeginOnce, EndOnce}
-use Rattle.ns_model.specs.declared.counter.CounterFault.{CounterFault}
-use Rattle.ns_model.specs.declared.counter.CounterState.{CounterState}
+use Rattle.ns_world.specs.Prelude.{AddExchange, AddLoad, AreLedTo, AreThere, AtCounter, AtNote, Began, BeginOnce, CanAct, Clock, CounterFault, CounterState, DoneLoad, EndOnce, Env, EnvEvent, EnvFound, EnvNext, EnvPlain, Every, ExchangeToAdd, FirstClock, ForIsNotified}
+use Rattle.ns_world.specs.Prelude.{Free, InRound, Item, Items, LoadToAdd, LookCounter, LookOnce, MarkWait, Meets, Note, NoteLoad, NoteStanding, NoteWord, Number, ObjectAct, ObjectEffect, ObjectEvent, ObjectFound, ObjectNext, ObjectStanding, ObjectView, ObjectWalk}
+use Rattle.ns_world.specs.Prelude.{ObjectWant, Objects, OnCounter, OnEnv, OnNote, OnVariable, OnWord, OnceBegin, OnceEnd, OnceLoad, Outcome, Over, Place, Repeat, Round, RoundFits, RoundGo, RoundNext, RoundOver, Running, Setup, Stage, ValueLoad, ViewFits, WaitClock}
+use Rattle.ns_world.specs.Prelude.{WaitLoad, WaitMark, WalkFits, by_answer, by_begun, by_chain, by_deadline, by_judging, by_round, by_stage, chain_from, counter_of, counter_word, env_got_of, from_items, from_place, is_there, item_at, items_of, judged, most}
+use Rattle.ns_world.specs.Prelude.{object_after, object_got, object_place, object_want, object_who, objects_after, objects_own, round_got, stage_of, standing_of, state_of, tried, waited_next, walk_in, word_at, word_left}
 use Rattle.ns_model.specs.declared.counter.CounterEvent.TheVariants.{Add}
-use Rattle.ns_model.specs.declared.once.OnceEvent.TheVariants.{Began}
-use Rattle.ns_counters.specs.declared.object.ObjectEvent.{ObjectEvent}
-use Rattle.ns_counters.specs.declared.object.ObjectEvent.TheVariants as TheEvent
-use Rattle.ns_counters.specs.declared.object.ObjectView.{ObjectView}
-use Rattle.ns_counters.specs.declared.object.Place.{Place}
-use Rattle.ns_counters.specs.declared.object.Place.TheVariants.{Free, Running}
-use Rattle.ns_counters.specs.declared.object.Setup.{Setup}
-use Rattle.ns_model.specs.declared.once.OnceState.TheVariants as TheOnce
-use Rattle.ns_counters.specs.declared.word.Stage.{Stage}
-use Rattle.ns_counters.specs.declared.word.Stage.TheVariants as TheStage
-use Rattle.ns_model.specs.Counters.{most, judged}
-use Rattle.ns_counters.specs.Lawful.{ViewFits, PlaceFits}
-use Rattle.ns_counters.specs.Objects.{ObjectStanding, objects_after, object_who, objects_own}
-use Rattle.ns_counters.specs.Steps.{CanAct, Outcome, outcome, tried, word_at}
-use Rattle.ns_counters.specs.Words.{counter_word, counter_of, stage_of}
+use Rattle.ns_counters.specs.Lawful.{PlaceFits}
+use Rattle.ns_counters.specs.Steps.{outcome}
 use Rattle.ns_counters.proofs.Acts.{acted_lawful, acted_fits, others_fit}
 use Rattle.ns_counters.proofs.Keeps.{step_keeps}
 use Rattle.ns_model.proofs.Beginnings.{begins_itself}
-use Rattle.ns_env.specs.declared.act.EnvFound.{EnvFound}
-use Rattle.ns_env.specs.declared.act.EnvFound.TheVariants.{Clock, Note}
-use Rattle.ns_env.specs.declared.note.NoteWord.{NoteWord}
-use Rattle.ns_env.specs.declared.walk.Chain.TheVariants.{ForIsNotified}
-use Rattle.ns_env.specs.declared.walk.EnvNext.{EnvNext}
-use Rattle.ns_env.specs.declared.walk.EnvNext.TheVariants as TheEnv
-use Rattle.ns_env.specs.declared.walk.EnvWalk.TheVariants.{NoteLoad}
 use Rattle.ns_env.specs.declared.reply.EnvReply.TheVariants.{Is}
-use Rattle.ns_world.specs.declared.reply.Reply.TheVariants.{Number}
-use Rattle.ns_env.specs.Steps.{EnvPlain}
-use Rattle.ns_env.specs.Lawful.{Meets}
-use Rattle.ns_env.specs.Notes.{standing_of, state_of}
-use Rattle.ns_env.specs.Walks.{env_got_of}
 use Rattle.ns_env.proofs.Looks.{chain_up}
-use Rattle.ns_world.specs.declared.items.Item.{Item}
-use Rattle.ns_world.specs.declared.items.Item.TheVariants.{OnNote, OnCounter, OnVariable}
-use Rattle.ns_world.specs.declared.items.Items.{Items}
-use Rattle.ns_world.specs.declared.object_walk.ObjectNext.{ObjectNext}
-use Rattle.ns_world.specs.declared.object_walk.ObjectNext.TheVariants.{Go, Repeat, Over}
-use Rattle.ns_world.specs.declared.object_walk.ObjectWalk.{ObjectWalk}
-use Rattle.ns_world.specs.declared.object_walk.ObjectWalk.TheVariants.{AddLoad, AddExchange, ValueLoad, WaitMark, WaitLoad, WaitClock, OnceLoad, OnceBegin, OnceEnd, DoneLoad, InRound}
-use Rattle.ns_world.specs.declared.objects.Objects.{Objects}
-use Rattle.ns_world.specs.declared.round.ObjectFound.{ObjectFound}
-use Rattle.ns_world.specs.declared.round.ObjectFound.TheVariants.{Word, Env}
-use Rattle.ns_world.specs.declared.round.ObjectWant.{ObjectWant}
-use Rattle.ns_world.specs.declared.round.ObjectWant.TheVariants.{OnWord, OnEnv}
-use Rattle.ns_world.specs.declared.round.Round.{Round}
-use Rattle.ns_world.specs.declared.round.RoundNext.{RoundNext}
-use Rattle.ns_world.specs.declared.round.RoundNext.TheVariants.{RoundGo, RoundOver}
-use Rattle.ns_world.specs.declared.round.RoundPlace.TheVariants.{FirstClock, AtNote, AtCounter}
-use Rattle.ns_world.specs.Items.{item_at, items_of}
-use Rattle.ns_world.specs.Objects.{AreLedTo, AreThere, ObjectEffect, RoundFits, WalkFits, is_there, walk_in, word_left}
-use Rattle.ns_world.specs.ObjectWalks.{by_answer, by_begun, by_deadline, by_judging, by_round, by_stage, object_after, object_got, object_place, object_want, waited_next}
-use Rattle.ns_world.specs.Rounds.{by_chain, chain_from, from_items, from_place, round_got}
+use Rattle.ns_world.specs.declared.object_walk.ObjectNext.TheVariants.{Go}
+use Rattle.ns_world.specs.declared.round.ObjectFound.TheVariants.{Word}
 use Rattle.ns_world.proofs.Walks.{put_here, put_there, stands_within}
 use Rattle.ns_world.proofs.Listed.{listed}
+use Rattle.ns_counters.specs.declared.object.ObjectEvent.TheVariants as TheEvent
+use Rattle.ns_model.specs.declared.once.OnceState.TheVariants as TheOnce
+use Rattle.ns_counters.specs.declared.word.Stage.TheVariants as TheStage
+use Rattle.ns_env.specs.declared.walk.EnvNext.TheVariants as TheEnv
 
 -- ---- objects of a list
 

@@ -1,24 +1,8 @@
 -- What a call that begins is in a world.
 use Rattle.std.proofs.Common.{◌≡◌, ℕ, ◌<◌, ◌||◌, true, false, List, Option, Some, None, length, map, get_or, is_some, slice_get, slice_set, refl, ap, sym, ◌∙◌, inl, inr}
-use Rattle.ns_counters.specs.declared.object.Setup.{Setup}
-use Rattle.ns_model.specs.declared.event.Event.{Event}
-use Rattle.ns_queue.specs.Queues.{Lists}
-use Rattle.ns_word.specs.declared.word.Word.{Word}
-use Rattle.ns_word.specs.declared.walk.Walk.{Walk}
-use Rattle.ns_env.specs.declared.walk.EnvWalk.{EnvWalk}
-use Rattle.ns_model.specs.Truths.{Truths}
-use Rattle.ns_world.specs.declared.call.Call.{Call}
-use Rattle.ns_world.specs.declared.call.Start.{Start}
-use Rattle.ns_world.specs.declared.call.Start.TheVariants.{OnLock, Ask, OnObjects}
-use Rattle.ns_world.specs.declared.environment.Environment.{Environment}
-use Rattle.ns_world.specs.declared.seat.Seat.{Seat}
-use Rattle.ns_world.specs.Asks.{plain_of}
-use Rattle.ns_world.specs.Begins.{Starts, begun_at, placed}
-use Rattle.ns_world.specs.Calls.{CallFits, start_of, mode_of}
-use Rattle.ns_world.specs.Performs.{view_of}
-use Rattle.ns_world.specs.World.{Now, now_with, IsBusy}
-use Rattle.ns_world.proofs.Mapped.{got-map, map-set}
 use Rattle.std.proofs.lemmas.List.{set-get_or}
+use Rattle.ns_world.specs.Prelude.{Ask, Call, CallFits, EnvWalk, Environment, Event, IsBusy, Lists, Now, OnLock, OnObjects, Seat, Setup, Start, Starts, Truths, Walk, Word, begun_at, mode_of, now_with, placed, plain_of, start_of, view_of}
+use Rattle.ns_world.proofs.Mapped.{got-map, map-set}
 
 -- a seat that isn't busy stands in no call
 pub idle_walk : {C : Type 0} (walk : Option (Walk C)) (asking : Option EnvWalk) → (is_some walk || is_some asking) ≡ false → walk ≡ None

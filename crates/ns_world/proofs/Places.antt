@@ -1,38 +1,10 @@
 -- Where calls begin, and what acts may be made.
 use Rattle.std.proofs.Common.{◌≡◌, ℕ, ◌-◌, ◌<◌, ◌≤◌, Bool, true, false, cond, Option, Some, None, List, [], ◌∷◌, refl, arith, nat_lt}
 use Rattle.std.proofs.lemmas.Bool.Decides.{nat_tests}
-use Rattle.ns_model.specs.declared.event.Mode.{Mode}
-use Rattle.ns_model.specs.declared.event.Mode.TheVariants.{Write, Read}
-use Rattle.ns_word.specs.declared.owed.Owed.{Owed}
-use Rattle.ns_word.specs.declared.view.Held.{Held}
-use Rattle.ns_word.specs.declared.word.Releasing.TheVariants.{Writer, Reader}
-use Rattle.ns_env.specs.declared.limits.Limits.{Limits}
-use Rattle.ns_word.specs.declared.wait.Subject.{Subject}
-use Rattle.ns_model.specs.declared.cvs.Variables.TheVariants.{Only}
-use Rattle.ns_word.specs.declared.wait.Subject.TheVariants.{OnCondition, OnVariables}
-use Rattle.ns_word.specs.declared.wait.Wait.{Wait as WaitFor}
-use Rattle.ns_word.specs.declared.wait.Visit.TheVariants.{OnEntry}
-use Rattle.ns_word.specs.declared.wait.WaitPlace.TheVariants.{TestCells, TestLast, InQueuing}
-use Rattle.ns_word.specs.declared.wait.QueuePlace.TheVariants.{Load}
-use Rattle.ns_word.specs.declared.cell_walk.Judging.TheVariants.{ToRelease}
-use Rattle.ns_word.specs.declared.cell_walk.CellPlace.TheVariants.{QuietCells, QuietLast}
-use Rattle.ns_word.specs.declared.walk.Walk.TheVariants.{InCells, InWait}
-use Rattle.ns_word.specs.declared.act.Act.{Act}
-use Rattle.ns_word.specs.declared.act.Act.TheVariants.{LoadWord, Acquire, TakeQueues, ReturnQueues, Release, ReleaseReturning, WaitReturning, LoadCell, JudgeQuiet, JudgeMet, StoreCell, ArmFlag, PayWake, LoadFlag, Look}
-use Rattle.ns_counters.specs.declared.object.Setup.{Setup}
-use Rattle.ns_model.specs.Truths.{Truths}
-use Rattle.ns_word.specs.Steps.{Part}
-use Rattle.ns_word.specs.Places.{HasMode, IsSettled, CanLeave, PlaceFits, ActFits, MayWait, OwesOne}
-use Rattle.ns_word.specs.Begins.{IsFirst}
-use Rattle.ns_world.specs.declared.call.Call.{Call}
-use Rattle.ns_world.specs.declared.call.Call.TheVariants.{Lock, RLock, TryLock, TryRLock, Unlock, RUnlock, UnlockQuiet, Get, Set, Wait, CvWait, Signal, Broadcast, NewNote, Notify, Advance, IsNotified, Expiry, NoteWait, Add, Value, CounterWait, Once, Done, WaitAny}
-use Rattle.ns_model.specs.Environments.{NoteStanding}
-use Rattle.ns_env.specs.Asks.{IfMade, IsFirstAsk}
-use Rattle.ns_word.specs.Walks.{want_of}
-use Rattle.ns_world.specs.Looks.{looks_at, note_in}
-use Rattle.ns_world.specs.declared.call.Start.{Start}
-use Rattle.ns_world.specs.declared.call.Start.TheVariants.{OnLock, Ask, OnObjects}
-use Rattle.ns_world.specs.Calls.{start_of, CallFits, CallInRange, mode_of}
+use Rattle.ns_world.specs.Prelude.{Acquire, Act, ActFits, Add, Advance, ArmFlag, Ask, Broadcast, Call, CallFits, CallInRange, CanLeave, CounterWait, CvWait, Done, Expiry, Get, HasMode, Held, IfMade, InCells, InQueuing, InWait, IsFirst, IsFirstAsk, IsNotified, IsSettled}
+use Rattle.ns_world.specs.Prelude.{JudgeMet, JudgeQuiet, Limits, Load, LoadCell, LoadFlag, LoadWord, Lock, Look, MayWait, Mode, NewNote, NoteStanding, NoteWait, Notify, OnCondition, OnEntry, OnLock, OnObjects, OnVariables, Once, Only, Owed, OwesOne, Part, PayWake}
+use Rattle.ns_world.specs.Prelude.{PlaceFits, QuietCells, QuietLast, RLock, RUnlock, Read, Reader, Release, ReleaseReturning, ReturnQueues, Set, Setup, Signal, Start, StoreCell, Subject, TakeQueues, TestCells, TestLast, ToRelease, Truths, TryLock, TryRLock, Unlock}
+use Rattle.ns_world.specs.Prelude.{UnlockQuiet, Value, Wait, WaitAny, WaitFor, WaitReturning, Write, Writer, looks_at, mode_of, note_in, start_of, want_of}
 
 -- the first place of a call goes with the seat and the notes
 abbrev pub StartFits : {C : Type 0} {N : ℕ} → Truths C → (ℕ → NoteStanding) → Start C → Option (Held C N) → Type 0

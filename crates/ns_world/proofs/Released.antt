@@ -3,26 +3,9 @@ use Rattle.std.proofs.Common.{◌≡◌, ◌≢◌, ℕ, Bool, true, not, List, 
 use Rattle.std.specs.Prelude.{IfSome, ◌==◌}
 use Rattle.std.proofs.lemmas.List.{append-nil}
 use Rattle.std.proofs.lemmas.Bool.{ne_eqb}
-use Rattle.ns_model.specs.declared.event.Event.{Event}
-use Rattle.ns_model.specs.declared.event.Exit.TheVariants.{Plain}
-use Rattle.ns_queue.specs.declared.waiter.Waiter.{Waiter}
+use Rattle.ns_world.specs.Prelude.{Bits, CanLeave, Event, Held, Lists, Made, Makes, Owed, Plain, Release, ReleaseReturning, Releasing, Saw, Scanned, Truths, Waiter, Word, bits_of, called_of, has_some, left_of, meets_at, part, section_of, tests_of, with_waiters}
+use Rattle.ns_world.specs.Prelude.{woken_of, word_released, word_released_returning}
 use Rattle.ns_queue.specs.declared.waiter.Which.TheVariants.{Lock}
-use Rattle.ns_queue.specs.Queues.{Lists, with_waiters}
-use Rattle.ns_queue.specs.Scans.{woken_of, left_of, tests_of}
-use Rattle.ns_word.specs.Owed.{called_of}
-use Rattle.ns_word.specs.declared.owed.Owed.{Owed}
-use Rattle.ns_word.specs.declared.word.Word.{Word}
-use Rattle.ns_word.specs.declared.word.Bits.{Bits}
-use Rattle.ns_word.specs.declared.word.Releasing.{Releasing}
-use Rattle.ns_word.specs.declared.view.Held.{Held}
-use Rattle.ns_word.specs.declared.act.Act.TheVariants.{Release, ReleaseReturning}
-use Rattle.ns_word.specs.declared.act.Found.TheVariants.{Saw, Made, Scanned}
-use Rattle.ns_word.specs.Lists.{has_some, bits_of}
-use Rattle.ns_word.specs.Words.{word_released, word_released_returning}
-use Rattle.ns_model.specs.Truths.{Truths}
-use Rattle.ns_word.specs.Steps.{meets_at, section_of}
-use Rattle.ns_word.specs.Places.{CanLeave}
-use Rattle.ns_world.specs.Performs.{part, Makes}
 
 -- a list that isn't empty has somebody
 pub some_left : {A : Type 0} (xs : List A) → not (length xs == 0) ≡ has_some xs

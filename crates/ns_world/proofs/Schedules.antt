@@ -2,14 +2,8 @@
 use Rattle.std.proofs.Common.{◌≡◌, ℕ, inl, inr, append_assoc, suc, ◌+◌, ◌<◌, ◌≤◌, Bool, true, false, cond, eqb, List, [], ◌∷◌, ◌++◌, None, Some, length, refl, ap, sym, ◌∙◌, subst, arith, add-zero, length-append, eq-eqb, ◌-◌, replicate, get_or, take, drop, drop-cons}
 use Rattle.std.proofs.lemmas.List.{append-nil, replicate_more, replicate-append-replicate, take_more, take-append-drop}
 use Rattle.std.proofs.lemmas.List.Concat.{flat_map-append}
-use Rattle.ns_world.specs.declared.call.Call.{Call}
-use Rattle.ns_world.specs.declared.fault.Fault.{Fault}
-use Rattle.ns_world.specs.declared.fault.Fault.TheVariants.{OutOfMemory, NoSuchSeat, TooManySeats, StepLimit}
-use Rattle.ns_world.specs.declared.schedule.Turn.{Turn}
-use Rattle.ns_world.specs.declared.step.Step.{Step}
-use Rattle.ns_world.specs.declared.step.Step.TheVariants.{Finished}
-use Rattle.ns_world.specs.Whole.{Whole}
-use Rattle.ns_world.specs.Runs.{Progress, Turned, Item, TurnOf, TurnsOf, TurnFault, rest_of, is_end, word_items, items_of, Advances, IsFinished, EndFinished, Stops, StopsFor}
+use Rattle.ns_world.specs.Prelude.{Advances, Call, EndFinished, Fault, Finished, IsFinished, NoSuchSeat, OutOfMemory, Progress, Step, StepLimit, Stops, StopsFor, TooManySeats, Turn, TurnFault, TurnOf, Turned, TurnsOf, Whole, is_end, rest_of, word_items}
+use Rattle.ns_world.specs.Runs.{Item, items_of}
 
 -- ---- what is left of the items
 

@@ -2,12 +2,7 @@
 use Rattle.std.proofs.Common.{◌≡◌, ℕ, suc, ◌+◌, ◌<◌, ◌≤◌, Bool, true, false, cond, List, [], ◌∷◌, ◌++◌, length, map, take, drop, get_or, refl, ap, sym, ◌∙◌, arith, drop-cons}
 use Rattle.std.proofs.lemmas.List.{take_more, drop_all, take-append-drop, map-append, length-append, append-nil}
 use Rattle.std.proofs.lemmas.List.Concat.{flat_map-append}
-use Rattle.ns_queue.specs.Queues.{Lists}
-use Rattle.ns_word.specs.Walks.{has_queues}
-use Rattle.ns_model.specs.Truths.{Truths}
-use Rattle.ns_world.specs.declared.seat.Seat.{Seat}
-use Rattle.ns_world.specs.Performs.{view_of}
-use Rattle.ns_world.specs.Shows.{hand_of, lists_by, wakes_by, wakes_owed}
+use Rattle.ns_world.specs.Prelude.{Lists, Seat, Truths, hand_of, has_queues, lists_by, view_of, wakes_by, wakes_owed}
 
 module _ {C : Type 0} {N : ℕ} (seats : List (Seat C N)) (i : ℕ) (seat : Seat C N) (within : i < length seats) (is : seat ≡ get_or seats i seat) where
   pub wakes_more : wakes_owed (map view_of (take (i + 1) seats)) ≡ wakes_owed (map view_of (take i seats)) ++ map (λ wake. (seat.number, wake.seat)) seat.owed.items

@@ -3,33 +3,13 @@ use Rattle.std.proofs.Common.{◌≡◌, ℕ, suc, ◌+◌, ◌<◌, ◌≤◌, 
 use Rattle.std.specs.Prelude.{IfSome, option_map}
 use Rattle.std.proofs.lemmas.Bool.{cases_eq}
 use Rattle.std.proofs.lemmas.List.{length-append, length-map}
-use Rattle.ns_model.specs.declared.event.Mode.TheVariants.{Read}
-use Rattle.ns_model.specs.declared.event.Event.{Event}
-use Rattle.ns_queue.specs.declared.waiter.Waiter.{Waiter}
-use Rattle.ns_queue.specs.Queues.{Lists, times}
-use Rattle.ns_queue.specs.Waiters.{times_in}
+use Rattle.ns_world.specs.Prelude.{Environment, Event, HasList, IsLawfulWorld, Lists, LockState, Owed, Read, Seat, SeatView, Truths, Waiter, Walk, Word, counts_in, has_armed, is_unwoken, now_with, owed_to, times, times_among, times_in, view_of, wakes_owed, walk_at}
 use Rattle.ns_queue.proofs.Seats.{times_in-cons, few}
-use Rattle.ns_word.specs.declared.owed.Owed.{Owed}
-use Rattle.ns_word.specs.declared.word.Word.{Word}
-use Rattle.ns_word.specs.declared.view.SeatView.{SeatView}
-use Rattle.ns_word.specs.declared.walk.Walk.{Walk}
-use Rattle.ns_word.specs.Places.{HasList}
-use Rattle.ns_word.specs.Lists.{counts_in}
-use Rattle.ns_word.specs.Owed.{times_among}
-use Rattle.ns_word.specs.Walks.{has_armed}
-use Rattle.ns_word.specs.Views.{owed_to, walk_at}
-use Rattle.ns_model.specs.Truths.{Truths}
 use Rattle.ns_model.proofs.Tallies.{one_most}
-use Rattle.ns_word.specs.Steps.{LockState}
-use Rattle.ns_word.specs.Lawful.{IsLawful, is_unwoken}
+use Rattle.ns_word.specs.Lawful.{IsLawful}
 use Rattle.ns_word.proofs.Acts.{view_fits, stands_nowhere, has_list}
 use Rattle.ns_word.proofs.Ranges.{placed_below}
 use Rattle.ns_word.proofs.Waits.{unqueued}
-use Rattle.ns_world.specs.declared.environment.Environment.{Environment}
-use Rattle.ns_world.specs.declared.seat.Seat.{Seat}
-use Rattle.ns_world.specs.Performs.{view_of}
-use Rattle.ns_world.specs.Shows.{wakes_owed}
-use Rattle.ns_world.specs.World.{now_with, IsLawfulWorld}
 use Rattle.ns_world.proofs.Mapped.{slice_get-map}
 use Rattle.ns_word.proofs.Numbers.{split_at}
 

@@ -3,63 +3,24 @@ use Rattle.std.specs.List.{list_all}
 use Rattle.std.proofs.Common.{◌≡◌, ℕ, ◌<◌, ◌≤◌, not, Bool, true, false, List, [], ◌∷◌, Option, None, Some, IsSome, length, map, get_or, slice_get, slice_set, refl, ap, sym, ◌∙◌, subst, arith, inl, inr}
 use Rattle.std.proofs.lemmas.Bool.{ltb-true}
 use Rattle.std.proofs.lemmas.List.{append-nil, length-map}
-use Rattle.ns_counters.specs.declared.object.Setup.{Setup}
-use Rattle.ns_model.specs.Environments.{NoteStanding}
-use Rattle.ns_model.specs.Tallies.{Every}
-use Rattle.ns_model.specs.Truths.{Truths, QuietKeeps}
-use Rattle.ns_model.specs.declared.cvs.Cvs.{Cvs}
-use Rattle.ns_model.specs.declared.cvs.Variables.TheVariants.{Any}
-use Rattle.ns_model.specs.declared.event.Event.{Event}
-use Rattle.ns_model.specs.declared.event.Mode.{Mode}
-use Rattle.ns_queue.specs.Queues.{Lists}
-use Rattle.ns_word.specs.declared.act.Found.TheVariants.{Looked}
-use Rattle.ns_word.specs.declared.request.Request.TheVariants.{Await}
-use Rattle.ns_word.specs.declared.view.Held.{Held}
-use Rattle.ns_word.specs.declared.view.SeatView.{SeatView}
+use Rattle.std.proofs.lemmas.Option.{slice_get_within}
+use Rattle.ns_world.specs.Prelude.{Acts, Any, AnyWait, AreVariables, AsksFor, Await, BeginsToWait, CanTell, Cvs, Effect, EndsLook, EnvPlain, Environment, Event, Every, Finished, HasOperated, HasTold, Held, Idle, InRound, InWait, IsFew, IsLawfulWhole, IsLawfulWorld}
+use Rattle.ns_world.specs.Prelude.{IsLow, IsSettled, Item, Lists, Looked, LooksNot, LooksWhere, MayShow, MayWait, MayWaitOnLock, Mode, Moves, Next, NoteStanding, Nothing, Now, ObjectStanding, ObjectWalk, Objects, On, OnCounter, OnLock, OnNote, OnVariable, Performs}
+use Rattle.ns_world.specs.Prelude.{QuietKeeps, Seat, SeatView, Sees, Setup, StandsAlone, StandsBy, Step, StepOf, Truths, WaitSteps, WaitsOnLock, Walk, WalkFits, Went, Whole, WholeMoves, WholeStep, Word, asked_of, asks_for_any, at_will, cause_of, got_of, is_alone}
+use Rattle.ns_world.specs.Prelude.{is_for_lock, is_there, items_of, looks_at, mode_of, mode_waited, now_with, objects_after, plain_of, seat_part, shown_by, step_of, step_told, view_of, wait_first, wait_in, waited_after, waits_among, waits_for_any, walk_in, want_of}
+use Rattle.ns_world.specs.Prelude.{whole, whole_with}
 use Rattle.ns_word.specs.declared.wait.Wait.{Wait}
-use Rattle.ns_word.specs.declared.walk.Walk.{Walk}
-use Rattle.ns_word.specs.declared.walk.Walk.TheVariants.{InWait}
-use Rattle.ns_word.specs.declared.word.Word.{Word}
-use Rattle.ns_word.specs.Asked.{asked_of}
-use Rattle.ns_word.specs.Places.{AreVariables, IsSettled, MayWait}
-use Rattle.ns_word.specs.Steps.{Effect, MayShow}
-use Rattle.ns_word.specs.Walks.{got_of, wait_first, want_of}
-use Rattle.ns_world.specs.declared.call.Start.TheVariants.{OnLock}
-use Rattle.ns_world.specs.declared.environment.Environment.{Environment}
-use Rattle.ns_world.specs.declared.items.Item.{Item}
-use Rattle.ns_world.specs.declared.items.Item.TheVariants.{OnNote, OnCounter, OnVariable}
-use Rattle.ns_world.specs.declared.object_walk.ObjectWalk.{ObjectWalk}
-use Rattle.ns_world.specs.declared.object_walk.ObjectWalk.TheVariants.{InRound}
-use Rattle.ns_world.specs.declared.objects.AnyWait.{AnyWait}
-use Rattle.ns_world.specs.declared.objects.Objects.{Objects}
-use Rattle.ns_world.specs.declared.seat.Seat.{Seat}
-use Rattle.ns_world.specs.declared.step.Step.{Step}
-use Rattle.ns_world.specs.declared.step.Step.TheVariants.{Went, Idle, Finished, Nothing}
-use Rattle.ns_word.specs.declared.walk.Next.{Next}
-use Rattle.ns_word.specs.declared.walk.Next.TheVariants.{On, Done}
-use Rattle.ns_word.specs.declared.walk.Next.TheVariants as TheNext
-use Rattle.ns_world.specs.Among.{asks_for_any, CanTell, HasTold, IsFew, at_will, cause_of, is_for_lock, shown_by, step_told, waited_after, waits_for_any}
-use Rattle.ns_world.specs.Asks.{plain_of}
-use Rattle.ns_world.specs.Calls.{mode_of, mode_waited}
-use Rattle.ns_world.specs.Items.{IsLow, items_of}
-use Rattle.ns_world.specs.Looks.{AsksFor, waits_among, looks_at}
-use Rattle.ns_world.specs.Looked.{Sees}
-use Rattle.ns_world.specs.Objects.{HasOperated, WalkFits, is_there, wait_in, walk_in}
-use Rattle.ns_counters.specs.Objects.{ObjectStanding, objects_after}
-use Rattle.ns_env.specs.Steps.{EnvPlain}
-use Rattle.ns_world.specs.Performs.{Performs, seat_part, step_of, view_of}
-use Rattle.ns_world.specs.Whole.{Whole, BeginsToWait, EndsLook, IsLawfulWhole, LooksWhere, is_alone, MayWait as MayWaitOnLock, StandsAlone, StandsBy, WaitSteps, WaitsOnLock, WholeMoves, WholeStep, whole, whole_with}
-use Rattle.ns_world.specs.World.{Now, Acts, IsLawfulWorld, LooksNot, Moves, StepOf, now_with}
+use Rattle.ns_word.specs.declared.walk.Next.TheVariants.{Done}
 use Rattle.ns_world.proofs.AnyLooks.{LooksOut}
 use Rattle.ns_world.proofs.Awaits.{begins_to_wait_keeps, ends_look_keeps, next, next_at, out, there_as, wait_steps_keeps}
 use Rattle.ns_world.proofs.Turns.{moves_stay}
-use Rattle.std.proofs.lemmas.Option.{slice_get_within}
 use Rattle.ns_world.proofs.Looking.{shown_effect}
 use Rattle.ns_world.proofs.Mapped.{got-map}
 use Rattle.ns_world.proofs.ObjectLaw.{first_of_all, rest_of_all}
 use Rattle.ns_world.proofs.Placed.{begun_here}
 use Rattle.ns_world.proofs.Places.{StartFits}
 use Rattle.ns_world.proofs.Worlds.{acts_found, acts_here, lawful_after, lawful_placed, settled_here, some_step, unasked_cleared}
+use Rattle.ns_word.specs.declared.walk.Next.TheVariants as TheNext
 
 -- of several objects there are at most 16
 few_if : (setup : Setup) (now : ObjectStanding) (notes : ℕ → NoteStanding) (seat : ℕ) (walk : ObjectWalk) → WalkFits setup now notes seat walk → IsFew walk

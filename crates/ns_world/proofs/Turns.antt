@@ -3,43 +3,15 @@ use Rattle.std.proofs.Common.{◌≡◌, ℕ, ◌-◌, ◌≤◌, nat_lt, inl, i
 use Rattle.std.specs.Prelude.{IfOk, IfErr}
 use Rattle.std.proofs.lemmas.List.{length-set}
 use Rattle.std.proofs.lemmas.Option.{slice_get_within}
-use Rattle.ns_queue.specs.Queues.{Lists}
-use Rattle.ns_word.specs.declared.view.SeatView.{SeatView}
-use Rattle.ns_word.specs.declared.word.Word.{Word}
-use Rattle.ns_word.specs.declared.wait.WaitPlace.TheVariants.{TestCells, TestLast}
-use Rattle.ns_word.specs.declared.cell_walk.Judging.TheVariants.{ToRelease}
-use Rattle.ns_word.specs.declared.cell_walk.CellPlace.TheVariants.{QuietCells, QuietLast}
-use Rattle.ns_env.specs.declared.walk.EnvNext.{EnvNext}
-use Rattle.ns_env.specs.declared.walk.EnvNext.TheVariants.{Go, Repeat, Over, LookOver}
-use Rattle.ns_word.specs.declared.walk.Walk.TheVariants.{InCells, InWait}
-use Rattle.ns_world.specs.declared.reply.Reply.TheVariants as TheReply
-use Rattle.ns_word.specs.Walks.{want_of}
-use Rattle.ns_env.specs.declared.limits.Limits.{Limits}
-use Rattle.ns_word.specs.declared.wait.Subject.TheVariants.{OnCondition}
-use Rattle.ns_word.specs.declared.wait.Visit.TheVariants.{OnEntry}
-use Rattle.ns_model.specs.declared.event.Mode.{Mode}
-use Rattle.ns_env.specs.Walks.{env_got_of}
-use Rattle.ns_world.specs.declared.call.Call.{Call}
-use Rattle.ns_world.specs.declared.call.Start.{Start}
-use Rattle.ns_world.specs.declared.call.Start.TheVariants.{OnLock, Ask, OnObjects}
-use Rattle.ns_world.specs.declared.call.Call.TheVariants.{Lock, RLock, TryLock, TryRLock, Unlock, RUnlock, UnlockQuiet, Get, Set, Wait, CvWait, Signal, Broadcast, NewNote, Notify, Advance, IsNotified, Expiry, NoteWait, Add, Value, CounterWait, Once, Done, WaitAny}
-use Rattle.ns_world.specs.declared.fault.Fault.{Fault}
-use Rattle.ns_world.specs.declared.fault.Fault.TheVariants.{OutOfMemory, NoSuchSeat, TooManySeats, StepLimit}
-use Rattle.ns_world.specs.declared.step.Begun.TheVariants.{Misuse}
-use Rattle.ns_world.specs.declared.step.Step.{Step}
-use Rattle.ns_world.specs.declared.step.Step.TheVariants.{Went, Idle, Finished, Nothing}
-use Rattle.ns_counters.specs.declared.object.Setup.{Setup}
-use Rattle.ns_world.specs.declared.object_walk.ObjectWalk.{ObjectWalk}
-use Rattle.ns_world.specs.declared.object_walk.ObjectWalk.TheVariants.{InRound}
-use Rattle.ns_world.specs.Calls.{start_of, object_start, mode_of, mode_waited}
-use Rattle.ns_world.specs.Objects.{walk_in}
-use Rattle.ns_world.specs.Whole.{Whole, WholeIsBusy, WholeIsIdle, WholeStarts, WholeBegins, WholeMoves, WholeStep, WholeFault, WholeCommits, whole_busy}
-use Rattle.ns_world.specs.Commits.{Commits}
-use Rattle.ns_world.specs.Begins.{BeginFault, Starts, begun_at}
-use Rattle.ns_world.specs.World.{Now, LookGoes, Moves, IsWalking, IsBusy, IsIdle, StepFault, is_walking, is_asking, is_busy}
-use Rattle.ns_world.specs.Runs.{Progress, progress, progressed, finished, GoesOnOrBegins, TurnOf, TurnsWith, TurnFault}
+use Rattle.ns_world.specs.Prelude.{Add, Advance, Ask, BeginFault, Broadcast, Call, Commits, CounterWait, CvWait, Done, EnvNext, Expiry, Fault, Finished, Get, Go, GoesOnOrBegins, Idle, InCells, InRound, InWait, IsBusy, IsIdle, IsNotified, IsWalking, Limits, Lists, Lock}
+use Rattle.ns_world.specs.Prelude.{LookGoes, LookOver, Misuse, Mode, Moves, NewNote, NoSuchSeat, NoteWait, Nothing, Notify, Now, ObjectWalk, OnCondition, OnEntry, OnLock, OnObjects, Once, OutOfMemory, Progress, QuietCells, QuietLast, RLock, RUnlock, SeatView, Set}
+use Rattle.ns_world.specs.Prelude.{Setup, Signal, Start, Starts, Step, StepFault, StepLimit, TestCells, TestLast, ToRelease, TooManySeats, TryLock, TryRLock, TurnFault, TurnOf, TurnsWith, Unlock, UnlockQuiet, Value, Wait, WaitAny, Went, Whole, WholeBegins, WholeCommits}
+use Rattle.ns_world.specs.Prelude.{WholeFault, WholeIsBusy, WholeIsIdle, WholeMoves, WholeStarts, WholeStep, Word, begun_at, env_got_of, finished, is_asking, is_busy, is_walking, mode_of, mode_waited, object_start, progress, progressed, start_of, walk_in, want_of}
+use Rattle.ns_world.specs.Prelude.{whole_busy}
+use Rattle.ns_env.specs.declared.walk.EnvNext.TheVariants.{Repeat, Over}
 use Rattle.ns_world.proofs.Busy.{or_true, both, walking_at, walking_set_same, walking_set_other, asking_at, asking_set_same, asking_set_other}
 use Rattle.ns_env.proofs.Asks.{set_here}
+use Rattle.ns_world.specs.declared.reply.Reply.TheVariants as TheReply
 
 -- the first step of a call may commit an event
 abbrev StartCommits : {C : Type 0} → ℕ → Start C → Word → Lists C → Type 0

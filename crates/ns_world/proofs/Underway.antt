@@ -3,16 +3,15 @@ use Rattle.std.specs.Prelude.{slice_get}
 use Rattle.std.proofs.Common.{◌≡◌, ◌≢◌, inl, inr, ℕ, List, [], ◌++◌, Option, None, Some, slice_set, refl, ap, sym, ◌∙◌, subst, Bool, true, false, length}
 use Rattle.std.proofs.lemmas.List.{append-nil, append_assoc}
 use Rattle.std.proofs.lemmas.Option.{slice_get_within}
+use Rattle.ns_world.specs.Prelude.{Acquire, Act, Acts, Add, Advance, AnswersOfLock, AnswersOfNotes, Any, AreBy, ArmFlag, Ask, Asked, Asks, AsksFor, AtSomePoint, BeginsWith, Broadcast, Call, CallFits, CallGoes, Cause, ClockLoad, CounterWait, Course, CvWait, Done, Effect}
+use Rattle.ns_world.specs.Prelude.{EnvCourse, EnvEvent, EnvGoes, EnvGoesOn, EnvNext, EnvPlain, EnvRequest, EnvSoFar, EnvWalk, Event, Expiry, Finished, ForLook, Found, Get, Go, Goes, GoesOn, Held, Idle, IfMade, InAcquire, InCells, InRelease, InShow, InSignal, InTry}
+use Rattle.ns_world.specs.Prelude.{InWait, IsFirst, IsFirstAsk, IsLawfulWorld, IsNotified, JudgeMet, JudgeQuiet, LedTo, Limits, LoadCell, LoadFlag, LoadWord, Lock, Look, LookFits, LookGoes, LookMeans, LookOver, Looked, Means, Mode, Moves, NewNote, Next, NoteLoad}
+use Rattle.ns_world.specs.Prelude.{NoteStanding, NoteWait, Nothing, Notify, Now, OfLock, OfNotes, OfObjects, On, OnCondition, OnEntry, OnLock, OnObjects, OnVariables, Once, Only, Owed, Part, PayWake, RLock, RUnlock, Release, ReleaseReturning, Reply, Request}
+use Rattle.ns_world.specs.Prelude.{ReturnQueues, SeatView, Set, Setup, Shows, Signal, SoFar, Start, Starts, Step, StoreCell, Subject, TakeQueues, ToRelease, Truths, TryLock, TryRLock, Unlock, UnlockQuiet, Value, Wait, WaitAny, WaitReturning, Walk, WasShown, Went}
+use Rattle.ns_world.specs.Prelude.{asked_of, asks_of, begun_at, course_after, course_from, env_asked_of, env_course_after, env_course_at, env_done, env_got_of, env_own, env_state, env_step_of, env_walk_after, env_want_of, got_of, held_at, held_in, is_for_any}
+use Rattle.ns_world.specs.Prelude.{limits_for, limits_of, look_of, looked_after, looks_at, mode_of, mode_waited, note_in, own, part_of, row_after, start_of, step_of, waits_among, walk_after, want_of}
 use Rattle.ns_model.proofs.Beginnings.{begins_through, begins_itself}
 use Rattle.ns_model.proofs.Environments.{env_own-append}
-use Rattle.ns_model.specs.Beginnings.{BeginsWith}
-use Rattle.ns_model.specs.Environments.{NoteStanding, env_own}
-use Rattle.ns_model.specs.Histories.{own, row_after}
-use Rattle.ns_model.specs.Truths.{Truths}
-use Rattle.ns_model.specs.declared.environment.EnvEvent.{EnvEvent}
-use Rattle.ns_model.specs.declared.event.Event.{Event}
-use Rattle.ns_model.specs.declared.event.Mode.{Mode}
-use Rattle.ns_word.specs.declared.owed.Owed.{Owed}
 use Rattle.ns_word.proofs.Asked.{quiet_asks, test_asks}
 use Rattle.ns_word.proofs.Calls.{looks_by_asked}
 use Rattle.ns_word.proofs.Courses.{takes_on, begins_unchanged}
@@ -22,63 +21,13 @@ use Rattle.ns_env.proofs.Courses.{begins_course, others_leave_course, step_takes
 use Rattle.ns_env.proofs.Asks.{set_there, set_here}
 use Rattle.ns_word.proofs.Starts.{quiet_is_first, wait_is_first}
 use Rattle.ns_word.proofs.ToldAfter.{own_append, own_none, step_by, own_all}
-use Rattle.ns_word.specs.Asked.{asked_of}
-use Rattle.ns_word.specs.Begins.{IsFirst}
-use Rattle.ns_word.specs.Courses.{SoFar, CallGoes, GoesOn, course_after, looked_after}
-use Rattle.ns_env.specs.Meanings.{AtSomePoint, EnvCourse, EnvSoFar, Shows, env_asked_of, env_course_at, EnvGoes, EnvGoesOn, LookMeans, env_course_after}
-use Rattle.ns_env.specs.Asks.{IfMade, IsFirstAsk}
-use Rattle.ns_env.specs.Steps.{EnvPlain}
-use Rattle.ns_env.specs.Walks.{env_got_of, env_walk_after, env_want_of}
-use Rattle.ns_word.specs.Meanings.{Course, Means, course_from}
-use Rattle.ns_word.specs.Steps.{Part, Effect, part_of}
-use Rattle.ns_word.specs.Told.{AreBy}
-use Rattle.ns_word.specs.Walks.{want_of, got_of, walk_after}
-use Rattle.ns_word.specs.declared.act.Act.TheVariants.{LoadWord, Acquire, TakeQueues, ReturnQueues, Release, ReleaseReturning, WaitReturning, LoadCell, JudgeQuiet, JudgeMet, StoreCell, ArmFlag, PayWake, LoadFlag, Look}
-use Rattle.ns_word.specs.declared.act.Act.{Act}
-use Rattle.ns_word.specs.declared.act.Found.TheVariants.{Looked}
-use Rattle.ns_word.specs.declared.act.Found.{Found}
-use Rattle.ns_word.specs.declared.cell_walk.Judging.TheVariants.{ToRelease}
-use Rattle.ns_env.specs.declared.request.EnvRequest.TheVariants as TheEnvRequest
-use Rattle.ns_env.specs.declared.request.EnvRequest.{EnvRequest}
-use Rattle.ns_env.specs.declared.walk.Chain.TheVariants.{ForLook}
-use Rattle.ns_env.specs.declared.walk.EnvNext.TheVariants.{Go, LookOver, Repeat, Over}
-use Rattle.ns_env.specs.declared.walk.EnvNext.{EnvNext}
-use Rattle.ns_env.specs.declared.walk.EnvWalk.TheVariants.{ClockLoad, NoteLoad}
-use Rattle.ns_env.specs.declared.walk.EnvWalk.{EnvWalk}
-use Rattle.ns_env.specs.declared.limits.Cause.{Cause}
-use Rattle.ns_env.specs.declared.limits.Limits.{Limits}
-use Rattle.ns_word.specs.declared.request.Request.{Request}
-use Rattle.ns_word.specs.declared.view.Held.{Held}
-use Rattle.ns_word.specs.declared.view.SeatView.{SeatView}
-use Rattle.ns_model.specs.declared.cvs.Variables.TheVariants.{Any, Only}
-use Rattle.ns_word.specs.declared.wait.Subject.{Subject}
-use Rattle.ns_word.specs.declared.wait.Subject.TheVariants.{OnCondition, OnVariables}
-use Rattle.ns_word.specs.declared.wait.Visit.TheVariants.{OnEntry}
-use Rattle.ns_word.specs.declared.walk.Next.TheVariants as TheNext
-use Rattle.ns_word.specs.declared.walk.Next.TheVariants.{On, Done}
-use Rattle.ns_word.specs.declared.walk.Next.{Next}
-use Rattle.ns_world.specs.declared.reply.Reply.{Reply}
-use Rattle.ns_word.specs.declared.walk.Walk.{Walk}
+use Rattle.ns_env.specs.declared.walk.EnvNext.TheVariants.{Repeat, Over}
+use Rattle.ns_word.specs.declared.walk.Next.TheVariants.{Done}
 use Rattle.ns_world.proofs.EnvGrows.{acts_led, asks_led, looks_led, moves_led, events_by}
 use Rattle.ns_world.proofs.Looking.{FirstIf, first_if, noted}
 use Rattle.ns_world.proofs.Worlds.{env_begins}
-use Rattle.ns_world.specs.Asks.{env_state, env_step_of}
-use Rattle.ns_counters.specs.declared.object.Setup.{Setup}
-use Rattle.ns_world.specs.Begins.{Starts, begun_at}
-use Rattle.ns_world.specs.Calls.{mode_of, start_of, mode_waited, CallFits}
-use Rattle.ns_word.specs.declared.walk.Walk.TheVariants.{InAcquire, InCells, InRelease, InShow, InSignal, InTry, InWait}
-use Rattle.ns_world.specs.Looks.{looks_at, LookFits, AsksFor, waits_among, is_for_any, look_of, note_in}
-use Rattle.ns_world.specs.Meanings.{WasShown, AnswersOfLock, AnswersOfNotes, held_at, limits_for, limits_of, asks_of, held_in}
-use Rattle.ns_world.specs.Performs.{step_of}
-use Rattle.ns_world.specs.World.{Goes, LookGoes, Moves, Now, Asks, IsLawfulWorld, LedTo, env_done, Acts}
-use Rattle.ns_world.specs.declared.call.Asked.TheVariants.{OfLock, OfNotes, OfObjects}
-use Rattle.ns_world.specs.declared.call.Asked.{Asked}
-use Rattle.ns_world.specs.declared.call.Call.TheVariants.{Lock, RLock, TryLock, TryRLock, Unlock, RUnlock, UnlockQuiet, Get, Set, Wait, CvWait, Signal, Broadcast, NewNote, Notify, Advance, IsNotified, Expiry, NoteWait, Add, Value, CounterWait, Once, Done, WaitAny}
-use Rattle.ns_world.specs.declared.call.Call.{Call}
-use Rattle.ns_world.specs.declared.call.Start.TheVariants.{Ask, OnLock, OnObjects}
-use Rattle.ns_world.specs.declared.call.Start.{Start}
-use Rattle.ns_world.specs.declared.step.Step.TheVariants.{Went, Idle, Finished, Nothing}
-use Rattle.ns_world.specs.declared.step.Step.{Step}
+use Rattle.ns_env.specs.declared.request.EnvRequest.TheVariants as TheEnvRequest
+use Rattle.ns_word.specs.declared.walk.Next.TheVariants as TheNext
 
 -- what a history begins with, it begins with when it has grown
 pub begins_on : {A : Type 0} (front now more : List A) → BeginsWith now front → BeginsWith (now ++ more) front

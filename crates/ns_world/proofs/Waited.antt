@@ -4,38 +4,12 @@ use Rattle.std.specs.Prelude.{IfSome, IfOk, OnErr, if◌then◌else◌}
 use Rattle.std.specs.declared.result.Result.{Result}
 use Rattle.std.specs.declared.result.Result.TheVariants.{Ok, Err}
 use Rattle.std.proofs.lemmas.List.{append-nil}
-use Rattle.ns_model.specs.declared.event.Event.{Event}
-use Rattle.ns_model.specs.declared.event.Mode.{Mode}
-use Rattle.ns_queue.specs.declared.waiter.Waiter.{Waiter}
-use Rattle.ns_model.specs.declared.cvs.Variables.TheVariants.{Any, Only}
-use Rattle.ns_word.specs.declared.wait.Home.{Home}
-use Rattle.ns_word.specs.declared.wait.Home.TheVariants.{AtLock, AtVariables}
-use Rattle.ns_queue.specs.declared.waiter.Which.TheVariants.{Cv}
-use Rattle.ns_queue.specs.Queues.{cvs_without, Lists, waiters_of}
-use Rattle.ns_queue.specs.Signals.{taken_set}
-use Rattle.ns_queue.specs.Scans.{woken_of, tests_of}
-use Rattle.ns_word.specs.Owed.{called_of, wakes_of}
-use Rattle.ns_word.specs.declared.owed.Owed.{Owed}
-use Rattle.ns_word.specs.declared.word.Word.{Word}
-use Rattle.ns_word.specs.declared.word.Bits.{Bits}
-use Rattle.ns_word.specs.declared.wait.Subject.{Subject}
-use Rattle.ns_word.specs.declared.wait.Subject.TheVariants.{OnCondition, OnVariables}
+use Rattle.ns_world.specs.Prelude.{Any, Arrival, AtLock, AtVariables, Bits, Broadcasting, CanWait, Change, ChangeFits, Cv, Effect, Event, Held, Home, IsInRange, IsUnmet, LeaveSelf, Left, Lists, Made, Makes, Mode, OnCondition, OnVariables, Only, Owed, QueueSelf}
+use Rattle.ns_world.specs.Prelude.{ReturnQueues, Saw, Scanned, Signaling, Subject, Truths, WaitReturning, Waiter, WakeWaiters, Waking, Woke, Word, bits_of, called_of, change_commits, changed, cvs_without, exit_for, has_some, is_held, leave_of, meets_at, moved_to, part}
+use Rattle.ns_world.specs.Prelude.{releasing_of, section_of, stands_at, taken_by, taken_set, tests_of, waited_in, waiters_of, wakes_of, woken_of, word_released_returning, word_returned}
 use Rattle.ns_word.specs.declared.wait.Wait.{Wait}
-use Rattle.ns_word.specs.declared.view.Held.{Held}
-use Rattle.ns_word.specs.declared.act.Change.{Change}
-use Rattle.ns_word.specs.declared.act.Change.TheVariants.{QueueSelf, LeaveSelf, WakeWaiters, Nothing}
-use Rattle.ns_word.specs.declared.act.Waking.{Waking}
-use Rattle.ns_word.specs.declared.act.Waking.TheVariants.{Signaling, Broadcasting}
-use Rattle.ns_word.specs.declared.word.Arrival.{Arrival}
-use Rattle.ns_word.specs.declared.act.Act.TheVariants.{ReturnQueues, WaitReturning}
-use Rattle.ns_word.specs.declared.act.Found.TheVariants.{Saw, Made, Left, Woke, Scanned}
-use Rattle.ns_word.specs.Lists.{has_some, bits_of, stands_at}
-use Rattle.ns_word.specs.Words.{is_held, releasing_of, word_returned, word_released_returning}
-use Rattle.ns_model.specs.Truths.{Truths}
-use Rattle.ns_word.specs.Steps.{Effect, meets_at, section_of, changed, change_commits, exit_for, leave_of, moved_to, taken_by, waited_in}
-use Rattle.ns_word.specs.Places.{CanWait, ChangeFits, IsInRange, IsUnmet}
+use Rattle.ns_word.specs.declared.act.Change.TheVariants.{Nothing}
 use Rattle.ns_word.proofs.Scans.{some_seats}
-use Rattle.ns_world.specs.Performs.{part, Makes}
 
 -- one that queues put the queues back
 pub queued_back : {C : Type 0} {N : ℕ} (truths : Truths C) (seat : ℕ) (mode : Mode) (arrival : Arrival) (last word word' : Word) (row flags : List ℕ) (owed : List Owed) (held : Option (Held C N)) (queues queues' : Lists C) (bits : Bits) →

@@ -1,9 +1,7 @@
 -- Where the seats of a world stand in calls on counters and once cells, after one of them is put elsewhere.
 use Rattle.std.proofs.Common.{◌≡◌, ◌≢◌, ℕ, zero, suc, ◌+◌, ◌<◌, Bool, true, false, ◌&&◌, ◌||◌, eqb, List, [], ◌∷◌, Option, Some, None, is_some, length, take, get_or, slice_set, replicate, refl, ap, sym, ◌∙◌, arith, inl, inr, eq-eqb}
 use Rattle.std.proofs.lemmas.Bool.{cases_eq, ne_eqb}
-use Rattle.ns_world.specs.declared.object_walk.ObjectWalk.{ObjectWalk}
-use Rattle.ns_world.specs.declared.objects.AnyWait.{AnyWait}
-use Rattle.ns_world.specs.Objects.{wait_in, walk_in}
+use Rattle.ns_world.specs.Prelude.{AnyWait, ObjectWalk, wait_in, walk_in}
 
 pub put_here : (walks : List (Option ObjectWalk)) (seat : ℕ) (walk : Option ObjectWalk) → seat < length walks → walk_in (slice_set walks seat walk) seat ≡ walk
 put_here [] seat walk within = absurd (omega (arith, within))

@@ -2,83 +2,34 @@
 use Rattle.std.proofs.Common.{◌≡◌, ◌≢◌, ℕ, zero, suc, List, [], ◌++◌, Option, None, Some, slice_set, refl, ap, sym, ◌∙◌, subst, inl, inr, ◌⊎◌, true, false, cond, Bool, is_some, ◌<◌}
 use Rattle.std.proofs.lemmas.Bool.{cases_eq}
 use Rattle.std.proofs.lemmas.List.{append-nil, append_assoc}
+use Rattle.std.specs.Prelude.{unwrap_or}
+use Rattle.ns_world.specs.Prelude.{Acts, Add, Advance, Answer, AnswersCall, AnswersOfLock, AnswersTo, Any, AnyAnswers, AnyMeans, AnyWait, AreAmong, AreObjectsBy, AreThere, Asked, BeginsToWait, BeginsWith, Broadcast, Call, CallFits, Cause, CounterWait, CvWait, Cvs, Done}
+use Rattle.ns_world.specs.Prelude.{EndsLook, EnvEvent, Expiry, Finished, FirstClock, Found, Get, Happens, HasLedTo, HasOperated, HaveLedTo, HaveShownNothing, Held, Idle, InHand, InRound, IsIdle, IsLater, IsLawful, IsLawfulWhole, IsNotified, IsReady, IsUnfinished, Lock}
+use Rattle.ns_world.specs.Prelude.{LockSteps, LooksWhere, MayEnd, Means, Meanwhile, Mode, NewNote, Next, NoteWait, Nothing, Notify, Now, Number, ObjectEvent, ObjectGoes, ObjectNext, ObjectSoFar, ObjectWalk, Objects, OfLock, OfNotes, OfObjects, On, OnVariables, Once}
+use Rattle.ns_world.specs.Prelude.{Operates, Over, Past, PlaceBy, RLock, RUnlock, Repeat, Reply, Request, Round, RoundGo, RoundNext, RoundOver, RoundPlace, RoundShows, RoundSoFar, SeatView, Set, Signal, Started, Step, TryLock, TryRLock, Unlock, UnlockQuiet, Value, Wait}
+use Rattle.ns_world.specs.Prelude.{WaitAny, WaitMeans, WaitSteps, Walk, WalkFits, WalkReply, Went, WereThere, Whole, WholeBegins, WholeMoves, WholeStarts, WholeStep, asked_of, asks_of, at_will, by_round, cause_of, done_by, done_in, env_after, env_done, env_state}
+use Rattle.ns_world.specs.Prelude.{got_of, happened, held_at, held_in, is_among, is_for_lock, items_of, looked_after, looks_at, mode_of, mode_waited, notes_done, nothing_done, object_after, object_asked, object_got, object_start, object_step_of, objects_after}
+use Rattle.ns_world.specs.Prelude.{objects_begun, objects_done, objects_own, past_and, place_in, place_told, reply_of_lock, reply_told, round_due, round_got, row_after, shown_by, step_of, step_told, stood_at, wait_first, wait_in, waited_after, waits_for_any, walk_after}
+use Rattle.ns_world.specs.Prelude.{walk_in, want_of, woken_by}
 use Rattle.ns_env.proofs.Asks.{set_there}
-use Rattle.ns_word.specs.declared.walk.Walk.{Walk}
-use Rattle.ns_word.specs.Walks.{got_of, walk_after, wait_first, want_of}
-use Rattle.ns_world.specs.declared.object_walk.ObjectWalk.TheVariants.{InRound}
-use Rattle.ns_world.specs.declared.objects.AnyWait.{AnyWait}
-use Rattle.ns_world.specs.Among.{round_due, shown_by, waited_after, at_will, cause_of, is_for_lock, place_told, reply_told, step_told, waits_for_any, woken_by}
 use Rattle.ns_model.proofs.Beginnings.{begins_itself}
 use Rattle.ns_model.proofs.Environments.{made_begins}
-use Rattle.ns_model.specs.Beginnings.{BeginsWith}
-use Rattle.ns_model.specs.Environments.{env_after}
-use Rattle.ns_model.specs.declared.environment.EnvEvent.{EnvEvent}
-use Rattle.ns_counters.specs.declared.object.ObjectEvent.{ObjectEvent}
-use Rattle.ns_counters.specs.Lawful.{IsLawful}
-use Rattle.ns_counters.specs.Objects.{objects_after, objects_own}
-use Rattle.ns_counters.specs.Rounds.{HaveShownNothing, IsLater, Past, RoundShows}
 use Rattle.ns_counters.proofs.Objects.{own-append, own_all, own_none}
 use Rattle.ns_counters.proofs.Rounds.{last_nothing, later_itself, later_through}
-use Rattle.ns_world.specs.declared.call.Asked.{Asked}
-use Rattle.ns_world.specs.declared.call.Asked.TheVariants.{OfLock, OfNotes, OfObjects}
-use Rattle.ns_world.specs.declared.call.Call.{Call}
-use Rattle.ns_world.specs.declared.call.Call.TheVariants.{Lock, RLock, TryLock, TryRLock, Unlock, RUnlock, UnlockQuiet, Get, Set, Wait, CvWait, Signal, Broadcast, NewNote, Notify, Advance, IsNotified, Expiry, NoteWait, Add, Value, CounterWait, Once, Done, WaitAny}
-use Rattle.ns_model.specs.declared.event.Mode.{Mode}
-use Rattle.ns_world.specs.declared.object_walk.ObjectNext.{ObjectNext}
-use Rattle.ns_world.specs.declared.object_walk.ObjectNext.TheVariants.{Go, Repeat, Over}
-use Rattle.ns_world.specs.declared.object_walk.ObjectWalk.{ObjectWalk}
-use Rattle.ns_world.specs.declared.objects.Objects.{Objects}
-use Rattle.ns_world.specs.declared.reply.Reply.{Reply}
-use Rattle.ns_world.specs.declared.reply.Reply.TheVariants.{Number}
-use Rattle.ns_world.specs.declared.step.Begun.TheVariants.{Started}
-use Rattle.ns_world.specs.declared.step.Step.{Step}
-use Rattle.ns_world.specs.declared.step.Step.TheVariants.{Went, Idle, Finished, Nothing}
-use Rattle.ns_world.specs.Asks.{env_state}
-use Rattle.ns_world.specs.Calls.{CallFits, object_start, mode_of, mode_waited}
-use Rattle.ns_world.specs.Meanings.{AnswersCall, AnswersTo, Happens, HasLedTo, IsUnfinished, Meanwhile, asks_of, done_by, done_in, happened, held_at, held_in, nothing_done, AnswersOfLock, PlaceBy}
-use Rattle.ns_world.specs.ObjectMeanings.{past_and, object_asked, ObjectGoes, ObjectSoFar, AnyAnswers, IsReady, RoundSoFar, WereThere}
-use Rattle.ns_world.specs.Objects.{AreThere, HasOperated, WalkFits, object_step_of, objects_begun, stood_at, walk_in, wait_in}
-use Rattle.ns_world.specs.ObjectWalks.{object_after, object_got, by_round}
-use Rattle.ns_world.specs.Whole.{Whole, AreObjectsBy, BeginsToWait, EndsLook, HaveLedTo, IsLawfulWhole, LockSteps, Operates, WaitSteps, WholeBegins, WholeMoves, WholeStarts, WholeStep, notes_done, objects_done, LooksWhere}
-use Rattle.ns_world.specs.World.{Now, IsIdle, env_done, Acts}
+use Rattle.ns_world.specs.declared.object_walk.ObjectNext.TheVariants.{Go}
 use Rattle.ns_world.proofs.ObjectCourses.{operates_on, so_far_on, RoundGoes, any_on, later_and, nothing_on, round_by, round_makes_none, round_on}
-use Rattle.ns_world.proofs.Underway.{IsOfLock, IsUnderway, Outcome, Underway, Untouched, begin_away, begins_on, begins_underway, moves_away, moves_on, no_more as no_more_notes, not_idle, rests, stays_underway, HasLooked, LockUnderway, acts_on, acts_show_not, goes_to_lock, looks_any, rests_look}
+use Rattle.ns_world.proofs.Underway.{IsOfLock, IsUnderway, Outcome, Underway, Untouched, begin_away, begins_on, begins_underway, moves_away, moves_on, no_more as no_more_notes, not_idle, rests, stays_underway, HasLooked, LockUnderway, acts_on, acts_show_not}
+use Rattle.ns_world.proofs.Underway.{goes_to_lock, looks_any, rests_look}
 use Rattle.ns_world.proofs.Walks.{put_here, put_there, stands_within, wait_there}
 use Rattle.ns_world.proofs.WholeLed.{lock_led, operated_led, begins_to_wait_led, ends_look_led, wait_steps_led, starts_led}
-use Rattle.std.specs.Prelude.{unwrap_or}
-use Rattle.ns_model.specs.Histories.{row_after}
-use Rattle.ns_model.specs.declared.cvs.Cvs.{Cvs}
-use Rattle.ns_model.specs.declared.cvs.Variables.TheVariants.{Any}
-use Rattle.ns_model.specs.declared.event.Answer.{Answer}
-use Rattle.ns_env.specs.declared.limits.Cause.{Cause}
-use Rattle.ns_word.specs.declared.act.Found.{Found}
-use Rattle.ns_word.specs.declared.request.Request.{Request}
-use Rattle.ns_word.specs.declared.request.Request.TheVariants as TheRequest
-use Rattle.ns_word.specs.declared.view.Held.{Held}
-use Rattle.ns_word.specs.declared.view.SeatView.{SeatView}
-use Rattle.ns_word.specs.declared.wait.Subject.TheVariants.{OnVariables}
-use Rattle.ns_word.specs.declared.walk.Next.{Next}
-use Rattle.ns_word.specs.declared.walk.Next.TheVariants.{On, Done}
-use Rattle.ns_word.specs.declared.walk.Next.TheVariants as TheNext
-use Rattle.ns_word.specs.declared.walk.Reply.{Reply as WalkReply}
-use Rattle.ns_word.specs.declared.walk.Reply.TheVariants as TheWalk
-use Rattle.ns_word.specs.Asked.{asked_of}
-use Rattle.ns_word.specs.Courses.{looked_after}
-use Rattle.ns_word.specs.Meanings.{AnyMeans, InHand, MayEnd, Means, WaitMeans}
+use Rattle.ns_word.specs.declared.walk.Next.TheVariants.{Done}
 use Rattle.ns_word.proofs.Starts.{wait_is_first}
-use Rattle.ns_world.specs.declared.round.Round.{Round}
-use Rattle.ns_world.specs.declared.round.RoundNext.{RoundNext}
-use Rattle.ns_world.specs.declared.round.RoundNext.TheVariants.{RoundGo, RoundOver}
-use Rattle.ns_world.specs.declared.round.RoundPlace.{RoundPlace}
-use Rattle.ns_world.specs.declared.round.RoundPlace.TheVariants.{FirstClock}
-use Rattle.ns_world.specs.Items.{AreAmong, is_among, items_of, place_in}
 use Rattle.ns_world.proofs.Listed.{first_place, some_among}
-use Rattle.ns_world.specs.Looks.{looks_at}
-use Rattle.ns_world.specs.Performs.{step_of}
-use Rattle.ns_world.specs.Replies.{told as reply_of_lock}
-use Rattle.ns_world.specs.Rounds.{round_got}
 use Rattle.ns_world.proofs.Awaits.{becomes_over, leads, low_if, low_over, many_over, others_over, same_walk, setup_same, stands_here, there_as, waits_here}
 use Rattle.ns_world.proofs.Wholes.{begun_waits_not, there_more}
+use Rattle.ns_word.specs.declared.request.Request.TheVariants as TheRequest
+use Rattle.ns_word.specs.declared.walk.Next.TheVariants as TheNext
+use Rattle.ns_word.specs.declared.walk.Reply.TheVariants as TheWalk
 
 -- ---- a call that is under way
 

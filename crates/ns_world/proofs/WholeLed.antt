@@ -2,28 +2,9 @@
 use Rattle.std.proofs.Common.{◌≡◌, ℕ, List, [], ◌++◌, Bool, true, false, cond, ◌<◌, length, Option, None, Some, is_some, arith, refl, sym, subst, inl, inr}
 use Rattle.std.proofs.lemmas.List.{append-nil, length-set}
 use Rattle.std.proofs.lemmas.Option.{slice_get_within}
-use Rattle.ns_env.specs.Steps.{EnvPlain}
-use Rattle.ns_word.specs.declared.walk.Walk.{Walk}
-use Rattle.ns_word.specs.Walks.{got_of, walk_after, want_of}
-use Rattle.ns_world.specs.declared.object_walk.ObjectWalk.TheVariants.{InRound}
-use Rattle.ns_world.specs.declared.objects.AnyWait.{AnyWait}
-use Rattle.ns_world.specs.declared.round.RoundPlace.TheVariants.{FirstClock}
-use Rattle.ns_world.specs.Among.{round_due, shown_by, waited_after}
-use Rattle.ns_world.specs.Looks.{looks_at}
-use Rattle.ns_counters.specs.declared.object.ObjectEvent.{ObjectEvent}
-use Rattle.ns_counters.specs.Objects.{objects_after}
-use Rattle.ns_world.specs.declared.call.Call.{Call}
-use Rattle.ns_world.specs.declared.object_walk.ObjectWalk.{ObjectWalk}
-use Rattle.ns_world.specs.declared.objects.Objects.{Objects}
-use Rattle.ns_world.specs.declared.step.Step.{Step}
-use Rattle.ns_world.specs.declared.step.Step.TheVariants.{Went, Idle, Finished, Nothing}
-use Rattle.ns_world.specs.Calls.{object_start}
-use Rattle.ns_world.specs.Meanings.{HasLedTo, done_in, nothing_done}
-use Rattle.ns_counters.specs.Rounds.{Past}
-use Rattle.ns_world.specs.ObjectMeanings.{past_and}
-use Rattle.ns_world.specs.Objects.{AreLedTo, AreThere, HasOperated, stood_at, walk_in}
-use Rattle.ns_world.specs.Whole.{Whole, AreObjectsBy, BeginsToWait, EndsLook, HaveLedTo, IsLawfulWhole, LockSteps, Operates, StandsBy, WaitSteps, WaitsOnLock, WholeMoves, WholeStarts, WholeStep, notes_done, objects_done}
-use Rattle.ns_world.specs.World.{Now, AreEnvBy, LedTo, env_done}
+use Rattle.ns_world.specs.Prelude.{AnyWait, AreEnvBy, AreLedTo, AreObjectsBy, AreThere, BeginsToWait, Call, EndsLook, EnvPlain, Finished, FirstClock, HasLedTo, HasOperated, HaveLedTo, Idle, InRound, IsLawfulWhole, LedTo, LockSteps, Nothing, Now, ObjectEvent, ObjectWalk}
+use Rattle.ns_world.specs.Prelude.{Objects, Operates, Past, StandsBy, Step, WaitSteps, WaitsOnLock, Walk, Went, Whole, WholeMoves, WholeStarts, WholeStep, done_in, env_done, got_of, looks_at, notes_done, nothing_done, object_start, objects_after, objects_done, past_and}
+use Rattle.ns_world.specs.Prelude.{round_due, shown_by, stood_at, waited_after, walk_after, walk_in, want_of}
 use Rattle.ns_world.proofs.EnvGrows.{moves_led}
 use Rattle.ns_world.proofs.ObjectLaw.{operates_keeps}
 use Rattle.ns_world.proofs.Walks.{stands_within}

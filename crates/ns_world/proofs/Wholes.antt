@@ -1,85 +1,33 @@
 -- The law of a whole world: how it begins, and that calls that begin and steps keep it.
 use Rattle.std.specs.List.{list_all}
-use Rattle.std.proofs.Common.{◌≡◌, ◌≢◌, ℕ, ℤ, cond, eqb, nat_lt, ◌<◌, ◌≤◌, Bool, true, false, not, List, [], ◌∷◌, ◌++◌, Option, None, Some, IsSome, is_some, length, replicate, slice_get, slice_set, slice_index, refl, ap, sym, ◌∙◌, subst, arith, inl, inr, Result, Ok, Err}
+use Rattle.std.proofs.Common.{◌≡◌, ◌≢◌, ℕ, ℤ, cond, eqb, nat_lt, ◌<◌, ◌≤◌, Bool, true, false, not, List, [], ◌∷◌, ◌++◌, Option, None, Some, IsSome, is_some, length, replicate, slice_get, slice_set, slice_index, refl, ap, sym, ◌∙◌, subst, arith, inl, inr, Result, Ok}
+use Rattle.std.proofs.Common.{Err}
 use Rattle.std.specs.Prelude.{IfOk, IfErr}
 use Rattle.std.proofs.lemmas.Bool.{cases_eq}
 use Rattle.std.proofs.lemmas.List.{length-replicate, length-set}
 use Rattle.std.proofs.lemmas.Option.{slice_get_within}
-use Rattle.ns_model.specs.Environments.{NoteStanding}
-use Rattle.ns_model.specs.Truths.{Truths}
-use Rattle.ns_model.specs.declared.event.Mode.{Mode}
+use Rattle.ns_world.specs.Prelude.{Act, Add, AddExchange, AddLoad, Advance, AnyWait, AreLedTo, AreThere, Ask, AtCounter, AtNote, BeginAnswers, Begun, Broadcast, Busy, Call, CallFits, Clock, CounterFault, CounterState, CounterWait, CvWait, Done, DoneLoad, Env, EnvNext}
+use Rattle.ns_world.specs.Prelude.{EnvPlain, Expiry, Fault, Finished, FirstClock, Found, Get, Goes, HasOperated, Held, Idle, InRound, IsIdle, IsInBounds, IsLawfulWhole, IsLawfulWorld, IsNotified, Item, Items, Lock, LookGoes, LooksWhere, Meets, Misuse, Mode, Moves}
+use Rattle.ns_world.specs.Prelude.{NewNote, NoSuchSeat, NoteStanding, NoteWait, Nothing, Notify, Now, Number, ObjectAct, ObjectEvent, ObjectFound, ObjectNext, ObjectStanding, ObjectWalk, Objects, OnCondition, OnCounter, OnEntry, OnLock, OnNote, OnObjects, OnVariable}
+use Rattle.ns_world.specs.Prelude.{OnWord, Once, OnceBegin, OnceEnd, OnceLoad, Operates, OutOfMemory, Over, RLock, RUnlock, Repeat, Round, RoundFits, RoundGo, RoundNext, RoundOver, RoundPlace, SeatView, Set, Setup, Signal, Stage, StandsAlone, StandsBy, Start, Started}
+use Rattle.ns_world.specs.Prelude.{Starts, Step, StepFault, StepFits, StepLimit, StepOf, ToRelease, TooManySeats, Truths, TryLock, TryRLock, Unlock, UnlockQuiet, Value, ValueLoad, Wait, WaitAny, WaitClock, WaitLoad, WaitMark, Walk, WalkFits, WantFits, Went, Whole}
+use Rattle.ns_world.specs.Prelude.{WholeBegins, WholeFault, WholeIsBusy, WholeStarts, WholeStep, asks_for_any, begun_at, by_answer, by_begun, by_deadline, by_judging, by_round, by_stage, counter_of, counter_word, env_got_of, env_want_of, fresh_whole, got_of, is_alone}
+use Rattle.ns_world.specs.Prelude.{is_for_lock, is_there, items_of, judged, mode_of, mode_waited, most, object_after, object_asked, object_got, object_start, object_step_of, object_want, objects_after, objects_begun, put_at, round_got, stage_of, start_of, stood_at}
+use Rattle.ns_world.specs.Prelude.{wait_in, walk_after, walk_in, want_of, whole}
 use Rattle.ns_model.proofs.Environments.{made_below}
-use Rattle.ns_counters.specs.declared.act.ObjectAct.{ObjectAct}
-use Rattle.ns_counters.specs.declared.object.ObjectEvent.{ObjectEvent}
-use Rattle.ns_counters.specs.declared.object.Setup.{Setup}
-use Rattle.ns_model.specs.Counters.{judged, most}
-use Rattle.ns_counters.specs.Objects.{ObjectStanding, objects_after}
 use Rattle.ns_counters.proofs.NewObjects.{new_lawful}
-use Rattle.ns_word.specs.declared.view.Held.{Held}
-use Rattle.ns_word.specs.declared.view.SeatView.{SeatView}
-use Rattle.ns_env.specs.declared.walk.EnvNext.{EnvNext}
-use Rattle.ns_env.specs.declared.walk.EnvNext.TheVariants as TheEnv
-use Rattle.ns_env.specs.Steps.{EnvPlain}
-use Rattle.ns_env.specs.Lawful.{Meets}
-use Rattle.ns_env.specs.Walks.{env_got_of, env_want_of}
 use Rattle.ns_env.proofs.Asks.{if_made_stays, set_here, set_there}
-use Rattle.ns_world.specs.declared.call.Call.{Call}
-use Rattle.ns_world.specs.declared.call.Call.TheVariants.{Lock, RLock, TryLock, TryRLock, Unlock, RUnlock, UnlockQuiet, Get, Set, Wait, CvWait, Signal, Broadcast, NewNote, Notify, Advance, IsNotified, Expiry, NoteWait, Add, Value, CounterWait, Once, Done, WaitAny}
-use Rattle.ns_world.specs.declared.call.Start.{Start}
-use Rattle.ns_world.specs.declared.call.Start.TheVariants.{OnLock, Ask, OnObjects}
-use Rattle.ns_world.specs.declared.items.Item.{Item}
-use Rattle.ns_world.specs.declared.items.Item.TheVariants.{OnNote, OnCounter, OnVariable}
-use Rattle.ns_world.specs.declared.items.Items.{Items}
-use Rattle.ns_world.specs.declared.object_walk.ObjectNext.{ObjectNext}
-use Rattle.ns_world.specs.declared.object_walk.ObjectNext.TheVariants.{Go, Repeat, Over}
-use Rattle.ns_world.specs.declared.object_walk.ObjectWalk.{ObjectWalk}
-use Rattle.ns_world.specs.declared.object_walk.ObjectWalk.TheVariants.{AddLoad, AddExchange, ValueLoad, WaitMark, WaitLoad, WaitClock, OnceLoad, OnceBegin, OnceEnd, DoneLoad, InRound}
-use Rattle.ns_world.specs.declared.objects.Objects.{Objects}
-use Rattle.ns_world.specs.declared.round.ObjectWant.TheVariants.{OnWord}
-use Rattle.ns_world.specs.declared.round.Round.{Round}
-use Rattle.ns_world.specs.declared.round.RoundPlace.{RoundPlace}
-use Rattle.ns_world.specs.declared.round.RoundPlace.TheVariants.{FirstClock, AtNote, AtCounter}
-use Rattle.ns_world.specs.declared.fault.Fault.{Fault}
-use Rattle.ns_world.specs.declared.fault.Fault.TheVariants.{OutOfMemory, NoSuchSeat, TooManySeats, StepLimit}
-use Rattle.ns_world.specs.declared.step.Begun.{Begun}
-use Rattle.ns_world.specs.declared.step.Begun.TheVariants.{Started, Misuse, Busy}
-use Rattle.ns_world.specs.declared.step.Step.{Step}
-use Rattle.ns_world.specs.declared.step.Step.TheVariants.{Went, Idle, Finished, Nothing}
-use Rattle.ns_world.specs.Begins.{BeginAnswers, Starts, begun_at}
-use Rattle.ns_world.specs.Calls.{CallFits, start_of, object_start, mode_of, mode_waited}
-use Rattle.ns_world.specs.Items.{items_of}
-use Rattle.ns_world.specs.Objects.{AreLedTo, AreThere, HasOperated, RoundFits, StepFits, WalkFits, WantFits, is_there, object_step_of, objects_begun, put_at, stood_at, wait_in, walk_in}
-use Rattle.ns_model.specs.declared.counter.CounterFault.{CounterFault}
-use Rattle.ns_model.specs.declared.counter.CounterState.{CounterState}
-use Rattle.ns_counters.specs.declared.word.Stage.{Stage}
-use Rattle.ns_counters.specs.declared.word.Stage.TheVariants as TheStage
-use Rattle.ns_counters.specs.Words.{counter_of, counter_word, stage_of}
-use Rattle.ns_env.specs.declared.act.EnvFound.TheVariants.{Clock}
-use Rattle.ns_word.specs.declared.act.Act.{Act}
-use Rattle.ns_world.specs.declared.reply.Reply.TheVariants.{Number}
-use Rattle.ns_world.specs.declared.round.ObjectFound.{ObjectFound}
-use Rattle.ns_world.specs.declared.round.ObjectFound.TheVariants.{Word, Env}
-use Rattle.ns_world.specs.declared.round.RoundNext.{RoundNext}
-use Rattle.ns_world.specs.declared.round.RoundNext.TheVariants.{RoundGo, RoundOver}
-use Rattle.ns_world.specs.ObjectMeanings.{object_asked}
-use Rattle.ns_world.specs.Rounds.{round_got}
-use Rattle.ns_world.specs.ObjectWalks.{by_answer, by_begun, by_deadline, by_judging, by_round, by_stage, object_after, object_got, object_want, IsInBounds}
-use Rattle.ns_word.specs.declared.act.Found.{Found}
-use Rattle.ns_word.specs.declared.walk.Walk.{Walk}
-use Rattle.ns_word.specs.Walks.{got_of, walk_after, want_of}
+use Rattle.ns_world.specs.declared.object_walk.ObjectNext.TheVariants.{Go}
+use Rattle.ns_world.specs.declared.round.ObjectFound.TheVariants.{Word}
 use Rattle.ns_word.proofs.Asked.{asked_stays, quiet_asks, test_asks}
-use Rattle.ns_word.specs.declared.cell_walk.Judging.TheVariants.{ToRelease}
-use Rattle.ns_word.specs.declared.wait.Subject.TheVariants.{OnCondition}
-use Rattle.ns_word.specs.declared.wait.Visit.TheVariants.{OnEntry}
-use Rattle.ns_world.specs.Among.{asks_for_any, is_for_lock}
-use Rattle.ns_world.specs.declared.objects.AnyWait.{AnyWait}
-use Rattle.ns_world.specs.Whole.{Whole, whole, is_alone, IsLawfulWhole, LooksWhere, MayWait, Operates, StandsAlone, StandsBy, WholeBegins, WholeFault, WholeIsBusy, WholeStarts, WholeStep, fresh_whole}
-use Rattle.ns_world.specs.World.{Now, Goes, LookGoes, Moves, StepOf, StepFault, IsIdle, IsLawfulWorld}
+use Rattle.ns_world.specs.Whole.{MayWait}
 use Rattle.ns_world.proofs.Fresh.{lawful_new, length_views, no_walk}
 use Rattle.ns_world.proofs.Listed.{some_among}
 use Rattle.ns_world.proofs.ObjectLaw.{first_of_all, rest_of_all, in_list, operates_keeps, want_below}
 use Rattle.ns_world.proofs.Turns.{moves_stay, begun_stays, Pairs, pairs}
 use Rattle.ns_world.proofs.Walks.{put_here, put_there, none_stand, none_wait, stands_within}
+use Rattle.ns_env.specs.declared.walk.EnvNext.TheVariants as TheEnv
+use Rattle.ns_counters.specs.declared.word.Stage.TheVariants as TheStage
 
 -- ---- a new world
 

@@ -3,29 +3,12 @@ use Rattle.std.proofs.Common.{false, ◌≡◌, ℕ, suc, inl, inr, ◌<◌, ◌
 use Rattle.std.proofs.lemmas.Option.{slice_get-get_or}
 use Rattle.std.proofs.lemmas.Bool.{cases_eq}
 use Rattle.std.proofs.lemmas.List.{append-nil, set-get_or, length-set, length-map}
-use Rattle.ns_model.specs.declared.event.Event.{Event}
-use Rattle.ns_queue.specs.Queues.{Lists}
-use Rattle.ns_word.specs.declared.word.Word.{Word}
-use Rattle.ns_word.specs.declared.view.SeatView.{SeatView}
-use Rattle.ns_word.specs.declared.walk.Walk.{Walk}
-use Rattle.ns_word.specs.declared.walk.Next.{Next}
-use Rattle.ns_word.specs.declared.walk.Next.TheVariants.{On, Done}
-use Rattle.ns_word.specs.declared.walk.Next.TheVariants as TheNext
-use Rattle.ns_word.specs.declared.act.Found.{Found}
-use Rattle.ns_word.specs.declared.act.Found.TheVariants as TheFound
-use Rattle.ns_env.specs.declared.limits.Cause.{Cause}
-use Rattle.ns_model.specs.Environments.{NoteStanding}
-use Rattle.ns_env.specs.declared.walk.EnvWalk.{EnvWalk}
-use Rattle.ns_env.specs.declared.walk.EnvNext.{EnvNext}
-use Rattle.ns_env.specs.declared.walk.EnvNext.TheVariants.{Go, Repeat, Over, LookOver}
-use Rattle.ns_env.specs.Walks.{env_want_of, env_got_of, env_walk_after}
-use Rattle.ns_env.specs.Asks.{EnvBegins, EnvStep, EnvActFits, EnvEffect, IfMade, IsFirstAsk, IsLawfulEnv}
-use Rattle.ns_env.specs.Steps.{EnvPlain, outcome}
-use Rattle.ns_word.specs.Walks.{want_of, got_of, walk_after}
-use Rattle.ns_model.specs.Truths.{Truths, QuietKeeps}
-use Rattle.ns_word.specs.Steps.{LockState, Effect, MayShow}
-use Rattle.ns_word.specs.Places.{IsSettled, PlaceFits, ActFits}
-use Rattle.ns_word.specs.Begins.{IsFirst}
+use Rattle.ns_world.specs.Prelude.{ActFits, Acts, Ask, Asks, AsksFor, Cause, Effect, EnvActFits, EnvBegins, EnvEffect, EnvEvent, EnvMoves, EnvNext, EnvPlain, EnvStep, EnvWalk, Environment, Event, Finished, Found, Go, Goes, Idle, IfMade, IsFirst, IsFirstAsk, IsLawfulEnv}
+use Rattle.ns_world.specs.Prelude.{IsLawfulWorld, IsSettled, Lists, LockState, LookFits, LookGoes, LookOver, LookStep, Looks, MayShow, Moves, MovesFrom, Next, NoteStanding, NotesMade, Nothing, Now, ObjectWalk, On, OnLock, OnObjects, Performs, PlaceFits, QuietKeeps}
+use Rattle.ns_world.specs.Prelude.{Seat, SeatLooks, SeatView, Sees, StandRight, Start, Step, StepOf, Truths, Walk, Went, Word, env_got_of, env_state, env_step_of, env_walk_after, env_want_of, got_of, look_of, looks_at, note_in, now_with, outcome, placed, plain_of}
+use Rattle.ns_world.specs.Prelude.{seat_part, step_of, tests_after, view_of, waits_among, walk_after, want_of}
+use Rattle.ns_word.specs.declared.walk.Next.TheVariants.{Done}
+use Rattle.ns_env.specs.declared.walk.EnvNext.TheVariants.{Repeat, Over}
 use Rattle.ns_word.specs.Lawful.{IsLawful}
 use Rattle.ns_word.proofs.Acts.{act_fits, view_fits}
 use Rattle.ns_word.proofs.Dispatch.{keeps}
@@ -33,24 +16,13 @@ use Rattle.ns_word.proofs.Starts.{begins}
 use Rattle.ns_env.proofs.Asks.{if_made_stays, set_here, set_there, keeps_env}
 use Rattle.ns_env.proofs.Begins.{begins_env}
 use Rattle.ns_env.proofs.Ranges.{asks_in_range}
-use Rattle.ns_model.specs.declared.environment.EnvEvent.{EnvEvent}
-use Rattle.ns_world.specs.declared.object_walk.ObjectWalk.{ObjectWalk}
-use Rattle.ns_world.specs.declared.call.Start.{Start}
-use Rattle.ns_world.specs.declared.call.Start.TheVariants.{OnLock, Ask, OnObjects}
-use Rattle.ns_world.specs.declared.environment.Environment.{Environment}
-use Rattle.ns_world.specs.Asks.{Asked, plain_of, env_state, env_step_of}
-use Rattle.ns_world.specs.Begins.{placed}
-use Rattle.ns_world.specs.declared.seat.Seat.{Seat}
-use Rattle.ns_world.specs.declared.step.Step.{Step}
-use Rattle.ns_world.specs.declared.step.Step.TheVariants.{Went, Idle, Finished, Nothing}
-use Rattle.ns_world.specs.Performs.{Performs, view_of, seat_part, step_of, tests_after}
-use Rattle.ns_world.specs.Looks.{AsksFor, LookFits, waits_among, look_of, looks_at, note_in}
-use Rattle.ns_world.specs.Looked.{EnvMoves, LookStep, MovesFrom, SeatLooks, Sees}
-use Rattle.ns_world.specs.World.{Now, now_with, Goes, Acts, Asks, Looks, LookGoes, Moves, StepOf, IsLawfulWorld, StandRight, NotesMade}
+use Rattle.ns_world.specs.Asks.{Asked}
 use Rattle.ns_world.proofs.Looking.{FirstIf, LookLeads, first_if, look_leads, look_stays, noted, right_here, shown_effect}
 use Rattle.ns_world.proofs.Mapped.{got-map, map-set, index-map}
 use Rattle.ns_word.proofs.Numbers.{number_at, numbers_stay, split_at, step_at, begin_at, set_same, set_again}
 use Rattle.ns_world.proofs.Places.{StartFits, fits_more}
+use Rattle.ns_word.specs.declared.walk.Next.TheVariants as TheNext
+use Rattle.ns_word.specs.declared.act.Found.TheVariants as TheFound
 
 -- two reads of one element
 pub same_element : {X : Type 0} (xs : List X) (i : ℕ) (x y : X) → i < length xs → x ≡ get_or xs i x → y ≡ get_or xs i y → x ≡ y

@@ -1,36 +1,14 @@
 -- Waits for condition variables among notes and counters. As such a call begins, a round looks at the notes and counters; where that shows nothing, the call leaves its section and waits on the lock for the variables; and whenever that wait looks, another round does so.
 use Rattle.std.specs.Prelude.{◌≡◌, ℕ, ◌≤◌, Bool, true, false, if◌then◌else◌, Option, Some, None, IsSome, is_some, unwrap_or}
-use Rattle.ns_env.specs.declared.limits.Cause.{Cause}
-use Rattle.ns_env.specs.declared.limits.Cause.TheVariants.{Expired}
-use Rattle.ns_env.specs.declared.limits.Limits.{Limits}
-use Rattle.ns_model.specs.declared.cvs.Cvs.{Cvs}
-use Rattle.ns_model.specs.declared.cvs.Variables.TheVariants.{Any}
-use Rattle.ns_model.specs.declared.event.Mode.{Mode}
-use Rattle.ns_model.specs.Tallies.{Every}
-use Rattle.ns_word.specs.declared.request.Request.{Request}
-use Rattle.ns_word.specs.declared.request.Request.TheVariants as TheRequest
-use Rattle.ns_word.specs.declared.wait.Subject.TheVariants.{OnVariables}
+use Rattle.ns_world.specs.Names.{Any, AnyWait, AreVariables, Cause, Cvs, Every, Expired, Finished, FirstClock, Idle, InRound, Limits, Mode, Number, ObjectWalk, Objects, OnLock, OnVariables, Reply, Request, Seat, Step, Walk, Went, wait_first, want_of}
 use Rattle.ns_word.specs.declared.wait.Wait.{Wait}
-use Rattle.ns_word.specs.declared.walk.Walk.{Walk}
-use Rattle.ns_word.specs.Places.{AreVariables}
-use Rattle.ns_word.specs.Walks.{wait_first, want_of}
-use Rattle.ns_world.specs.declared.call.Start.TheVariants.{OnLock}
-use Rattle.ns_world.specs.declared.object_walk.ObjectWalk.{ObjectWalk}
-use Rattle.ns_world.specs.declared.object_walk.ObjectWalk.TheVariants.{InRound}
-use Rattle.ns_world.specs.declared.objects.AnyWait.{AnyWait}
-use Rattle.ns_world.specs.declared.objects.Objects.{Objects}
-use Rattle.ns_world.specs.declared.reply.Reply.{Reply}
-use Rattle.ns_world.specs.declared.reply.Reply.TheVariants.{Number}
-use Rattle.ns_world.specs.declared.round.RoundPlace.TheVariants.{FirstClock}
-use Rattle.ns_world.specs.declared.seat.Seat.{Seat}
-use Rattle.ns_world.specs.declared.step.Step.{Step}
-use Rattle.ns_world.specs.declared.step.Step.TheVariants.{Went, Idle, Finished}
 use Rattle.ns_world.specs.Begins.{placed}
 use Rattle.ns_world.specs.Calls.{mode_of, mode_waited}
 use Rattle.ns_world.specs.Items.{AreAmong, IsLow, have_variable, items_of, place_in}
 use Rattle.ns_world.specs.Looked.{Sees}
 use Rattle.ns_world.specs.Looks.{is_for_any, looks_at}
 use Rattle.ns_world.specs.Objects.{stood_at}
+use Rattle.ns_word.specs.declared.request.Request.TheVariants as TheRequest
 
 -- What ends such a wait early is for its caller to say: a deadline that has always come lets each of its looks end it.
 abbrev pub at_will : Limits

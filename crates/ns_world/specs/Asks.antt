@@ -1,21 +1,8 @@
 -- The clock and the notes of a world, and one step on them.
 use Rattle.std.specs.Prelude.{◌≡◌, ℕ, List, Option, get_or}
-use Rattle.ns_model.specs.Environments.{NoteStanding, no_note}
-use Rattle.ns_env.specs.declared.note.NoteWord.{NoteWord}
-use Rattle.ns_env.specs.declared.act.EnvAct.{EnvAct}
-use Rattle.ns_env.specs.declared.act.EnvAct.TheVariants.{LoadClock, LoadNote}
-use Rattle.ns_env.specs.declared.act.EnvFound.{EnvFound}
-use Rattle.ns_env.specs.declared.walk.EnvWalk.{EnvWalk}
-use Rattle.ns_env.specs.declared.walk.EnvNext.{EnvNext}
-use Rattle.ns_env.specs.declared.walk.EnvNext.TheVariants.{Go, Repeat, Over, LookOver}
-use Rattle.ns_env.specs.Notes.{standing_of, state_of}
-use Rattle.ns_env.specs.Walks.{env_want_of, env_got_of, env_walk_after}
-use Rattle.ns_env.specs.Asks.{EnvState, EnvEffect}
-use Rattle.ns_env.specs.Steps.{EnvPlain, outcome}
-use Rattle.ns_world.specs.declared.environment.Environment.{Environment}
-use Rattle.ns_world.specs.declared.seat.Seat.{Seat}
-use Rattle.ns_world.specs.declared.step.Step.{Step}
-use Rattle.ns_world.specs.declared.step.Step.TheVariants.{Went, Idle, Finished}
+use Rattle.ns_world.specs.Names.{EnvAct, EnvEffect, EnvFound, EnvNext, EnvPlain, EnvState, EnvWalk, Environment, Finished, Go, Idle, LoadClock, LoadNote, LookOver, NoteStanding, NoteWord, Seat, Step, Went, env_got_of, env_walk_after, env_want_of, no_note, outcome}
+use Rattle.ns_world.specs.Names.{standing_of, state_of}
+use Rattle.ns_env.specs.declared.walk.EnvNext.TheVariants.{Repeat, Over}
 use Rattle.ns_world.specs.Replies.{env_told}
 
 -- the notes of a list

@@ -1,15 +1,6 @@
 -- How a call begins.
 use Rattle.std.specs.Prelude.{◌≡◌, ℕ, ◌≤◌, Some, None, slice_get, slice_set, length}
-use Rattle.ns_counters.specs.declared.object.Setup.{Setup}
-use Rattle.ns_word.specs.declared.view.SeatView.{SeatView}
-use Rattle.ns_world.specs.declared.call.Call.{Call}
-use Rattle.ns_world.specs.declared.call.Start.{Start}
-use Rattle.ns_world.specs.declared.call.Start.TheVariants.{OnLock, Ask, OnObjects}
-use Rattle.ns_world.specs.declared.seat.Seat.{Seat}
-use Rattle.ns_world.specs.declared.step.Begun.{Begun}
-use Rattle.ns_world.specs.declared.step.Begun.TheVariants.{Started, Misuse, Busy}
-use Rattle.ns_world.specs.declared.fault.Fault.{Fault}
-use Rattle.ns_world.specs.declared.fault.Fault.TheVariants.{OutOfMemory, NoSuchSeat, TooManySeats, StepLimit}
+use Rattle.ns_world.specs.Names.{Ask, Begun, Busy, Call, Fault, Misuse, NoSuchSeat, OnLock, OnObjects, OutOfMemory, Seat, SeatView, Setup, Start, Started, StepLimit, TooManySeats}
 use Rattle.ns_world.specs.Calls.{start_of, CallFits, mode_of}
 use Rattle.ns_world.specs.World.{Now, IsBusy}
 

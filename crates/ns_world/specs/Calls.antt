@@ -1,37 +1,11 @@
 -- Where a call begins, and the section that it needs.
 use Rattle.std.specs.Prelude.{◌≡◌, ℕ, nat_lt, ◌<◌, ◌≤◌, ◌^◌, Bool, true, not, ◌&&◌, ◌||◌, Option, Some, None, IsSome, IfSome, is_some, length}
 use Rattle.std.specs.List.{list_all}
-use Rattle.ns_counters.specs.declared.object.Setup.{Setup}
-use Rattle.ns_model.specs.declared.event.Mode.{Mode}
-use Rattle.ns_model.specs.declared.event.Mode.TheVariants.{Write, Read}
-use Rattle.ns_word.specs.declared.view.Held.{Held}
-use Rattle.ns_word.specs.declared.word.Arrival.TheVariants.{AsFresh}
-use Rattle.ns_word.specs.declared.word.Releasing.TheVariants.{Writer, Reader}
-use Rattle.ns_model.specs.Environments.{NoteStanding}
-use Rattle.ns_word.specs.declared.wait.Aim.TheVariants.{ForLock}
-use Rattle.ns_word.specs.declared.try_walk.TryPlace.TheVariants.{TryLoad}
-use Rattle.ns_word.specs.declared.acquire_walk.AcquirePlace.TheVariants.{AcquireLoad}
-use Rattle.ns_word.specs.declared.release_walk.ReleasePlace.TheVariants.{ReleaseLoad}
-use Rattle.ns_word.specs.declared.cell_walk.Judging.TheVariants.{ToRelease}
-use Rattle.ns_word.specs.declared.cell_walk.CellPlace.TheVariants.{GetLoad, SetLoad}
-use Rattle.ns_env.specs.declared.walk.Chain.TheVariants.{ForIsNotified, ForNoteWait}
-use Rattle.ns_env.specs.declared.walk.EnvWalk.TheVariants.{NextLoad, Notifying, Advancing, ClockLoad, ExpiryLoad}
-use Rattle.ns_model.specs.declared.cvs.Variables.TheVariants.{Only}
-use Rattle.ns_word.specs.declared.wait.Subject.TheVariants.{OnCondition, OnVariables}
-use Rattle.ns_word.specs.declared.act.Waking.TheVariants.{Signaling, Broadcasting}
-use Rattle.ns_word.specs.declared.signal_walk.SignalPlace.TheVariants.{SignalLoad}
-use Rattle.ns_word.specs.declared.walk.Walk.TheVariants.{InTry, InAcquire, InRelease, InCells, InSignal}
-use Rattle.ns_word.specs.Walks.{quiet_first, wait_first}
-use Rattle.ns_env.specs.Asks.{IfMade}
-use Rattle.ns_world.specs.declared.object_walk.ObjectWalk.{ObjectWalk}
-use Rattle.ns_world.specs.declared.object_walk.ObjectWalk.TheVariants.{AddLoad, ValueLoad, WaitMark, OnceLoad, DoneLoad, InRound}
-use Rattle.ns_world.specs.declared.round.RoundPlace.TheVariants.{FirstClock}
+use Rattle.ns_world.specs.Names.{AcquireLoad, Add, AddLoad, Advance, Advancing, AsFresh, Ask, Broadcast, Broadcasting, Call, ClockLoad, CounterWait, CvWait, Done, DoneLoad, Expiry, ExpiryLoad, FirstClock, ForIsNotified, ForLock, ForNoteWait, Get, GetLoad, Held, IfMade}
+use Rattle.ns_world.specs.Names.{InAcquire, InCells, InRelease, InRound, InSignal, InTry, IsNotified, Lock, Mode, NewNote, NextLoad, NoteStanding, NoteWait, Notify, Notifying, ObjectWalk, OnCondition, OnLock, OnObjects, OnVariables, Once, OnceLoad, Only, RLock, RUnlock}
+use Rattle.ns_world.specs.Names.{Read, Reader, ReleaseLoad, Set, SetLoad, Setup, Signal, SignalLoad, Signaling, Start, ToRelease, TryLoad, TryLock, TryRLock, Unlock, UnlockQuiet, Value, ValueLoad, Wait, WaitAny, WaitMark, Write, Writer, quiet_first, wait_first}
 use Rattle.ns_world.specs.Items.{have_variable, is_among, items_of}
 use Rattle.ns_world.specs.Objects.{AreThere, is_there}
-use Rattle.ns_world.specs.declared.call.Start.{Start}
-use Rattle.ns_world.specs.declared.call.Start.TheVariants.{OnLock, Ask, OnObjects}
-use Rattle.ns_world.specs.declared.call.Call.{Call}
-use Rattle.ns_world.specs.declared.call.Call.TheVariants.{Lock, RLock, TryLock, TryRLock, Unlock, RUnlock, UnlockQuiet, Get, Set, Wait, CvWait, Signal, Broadcast, NewNote, Notify, Advance, IsNotified, Expiry, NoteWait, Add, Value, CounterWait, Once, Done, WaitAny}
 
 -- the mode of the section that a wait leaves
 abbrev pub mode_waited : Option Mode → Mode

@@ -1,13 +1,6 @@
 -- Which acts commit an event.
 use Rattle.std.specs.Prelude.{◌≡◌, ℕ, false, true}
-use Rattle.ns_queue.specs.Queues.{Lists}
-use Rattle.ns_word.specs.Lists.{stands_at}
-use Rattle.ns_word.specs.declared.wait.Home.TheVariants.{AtVariables}
-use Rattle.ns_word.specs.declared.word.Word.{Word}
-use Rattle.ns_word.specs.declared.act.Change.{Change}
-use Rattle.ns_word.specs.declared.act.Change.TheVariants.{LeaveSelf, WakeWaiters}
-use Rattle.ns_word.specs.declared.act.Act.{Act}
-use Rattle.ns_word.specs.declared.act.Act.TheVariants.{ReturnQueues, Release, ReleaseReturning, WaitReturning}
+use Rattle.ns_world.specs.Names.{Act, AtVariables, Change, LeaveSelf, Lists, Release, ReleaseReturning, ReturnQueues, WaitReturning, WakeWaiters, Word, stands_at}
 
 -- the change of the lists by this seat is an event: a signal, a broadcast, or that a wait for variables is left in some list of which the seat still stands
 abbrev pub IsEvent : {C : Type 0} → ℕ → Change → Lists C → Type 0

@@ -1,11 +1,8 @@
 -- The objects that a wait for any of several is for.
 use Rattle.std.specs.Prelude.{◌≡◌, ℕ, suc, ◌+◌, ◌<◌, nat_lt, ◌==◌, if◌then◌else◌, Bool, true, false, List, [], ◌∷◌, take, replicate, Option, None, slice_get, slice_set}
 use Rattle.std.specs.List.{list_any}
+use Rattle.ns_world.specs.Names.{Cvs, Item, Items, OnNote, OnVariable}
 use Rattle.ns_model.specs.Cvs.{is_in}
-use Rattle.ns_model.specs.declared.cvs.Cvs.{Cvs}
-use Rattle.ns_world.specs.declared.items.Item.{Item}
-use Rattle.ns_world.specs.declared.items.Item.TheVariants.{OnNote, OnVariable}
-use Rattle.ns_world.specs.declared.items.Items.{Items}
 
 -- the objects, in order
 abbrev pub items_of : Items → List Item

@@ -7,10 +7,12 @@ pub mod Items
 pub mod Looked
 pub mod Looks
 pub mod Meanings
+pub mod Names
 pub mod ObjectMeanings
 pub mod ObjectWalks
 pub mod Objects
 pub mod Performs
+pub mod Prelude
 pub mod Replies
 pub mod Room
 pub mod Rounds

@@ -1,20 +1,6 @@
 -- One step of a seat on the clock and the notes, of a call of its own or of a look.
 use Rattle.std.specs.Prelude.{◌≡◌, ℕ, Option, None, Some, []}
-use Rattle.ns_env.specs.declared.limits.Cause.{Cause}
-use Rattle.ns_word.specs.declared.walk.Walk.{Walk}
-use Rattle.ns_word.specs.declared.act.Found.TheVariants.{Looked}
-use Rattle.ns_env.specs.declared.act.EnvFound.{EnvFound}
-use Rattle.ns_env.specs.declared.walk.EnvWalk.{EnvWalk}
-use Rattle.ns_env.specs.declared.walk.EnvNext.{EnvNext}
-use Rattle.ns_env.specs.declared.walk.EnvNext.TheVariants.{Go, LookOver}
-use Rattle.ns_env.specs.Walks.{env_want_of, env_got_of}
-use Rattle.ns_env.specs.Asks.{EnvEffect}
-use Rattle.ns_env.specs.Steps.{EnvPlain}
-use Rattle.ns_word.specs.Walks.{want_of, got_of, walk_after}
-use Rattle.ns_word.specs.Steps.{held_after}
-use Rattle.ns_world.specs.declared.seat.Seat.{Seat}
-use Rattle.ns_world.specs.declared.step.Step.{Step}
-use Rattle.ns_world.specs.declared.step.Step.TheVariants.{Went}
+use Rattle.ns_world.specs.Names.{Cause, EnvEffect, EnvFound, EnvNext, EnvPlain, EnvWalk, Go, LookOver, Looked, Seat, Step, Walk, Went, env_got_of, env_want_of, got_of, held_after, walk_after, want_of}
 use Rattle.ns_world.specs.Asks.{Asked}
 use Rattle.ns_world.specs.Looks.{came_back, look_of}
 use Rattle.ns_world.specs.Performs.{step_of}

@@ -1,20 +1,6 @@
 -- The looks of a wait: where a seat stands on the clock and the notes while its wait looks.
 use Rattle.std.specs.Prelude.{◌≡◌, ℕ, Bool, true, false, if◌then◌else◌, Option, None, Some, IsSome}
-use Rattle.ns_env.specs.declared.limits.Limits.{Limits}
-use Rattle.ns_model.specs.declared.cvs.Variables.TheVariants.{Any}
-use Rattle.ns_word.specs.declared.wait.Aim.{Aim}
-use Rattle.ns_word.specs.declared.wait.Aim.TheVariants.{ForLock, ForWait}
-use Rattle.ns_env.specs.declared.walk.Chain.TheVariants.{ForLook}
-use Rattle.ns_env.specs.declared.walk.EnvWalk.{EnvWalk}
-use Rattle.ns_env.specs.declared.walk.EnvWalk.TheVariants.{ClockLoad, NoteLoad}
-use Rattle.ns_word.specs.declared.wait.Subject.{Subject}
-use Rattle.ns_word.specs.declared.wait.Subject.TheVariants.{OnVariables}
-use Rattle.ns_word.specs.declared.walk.Walk.{Walk}
-use Rattle.ns_word.specs.declared.walk.Walk.TheVariants.{InAcquire, InWait}
-use Rattle.ns_word.specs.declared.act.Act.{Act}
-use Rattle.ns_word.specs.declared.act.Act.TheVariants.{Look}
-use Rattle.ns_word.specs.Walks.{want_of}
-use Rattle.ns_world.specs.declared.wanted.Look.{Look as LookBy}
+use Rattle.ns_world.specs.Names.{Act, Aim, Any, ClockLoad, EnvWalk, ForLock, ForLook, ForWait, InAcquire, InWait, Limits, Look, LookBy, NoteLoad, OnVariables, Subject, Walk, want_of}
 
 -- what a look goes by, where the act is one
 abbrev pub looks_at : {C : Type 0} → Act C → Option Limits

@@ -1,55 +1,19 @@
 -- What the answer of a call in a world means, whatever others do while it is in progress.
 use Rattle.std.specs.Prelude.{◌≡◌, ℕ, zero, suc, ◌<◌, ◌⊎◌, true, List, ◌++◌, Option, None, Some, slice_get}
 use Rattle.std.proofs.Common.{inl, inr, []}
-use Rattle.ns_counters.specs.declared.object.ObjectEvent.{ObjectEvent}
-use Rattle.ns_counters.specs.declared.object.Setup.{Setup}
-use Rattle.ns_counters.specs.Objects.{objects_own}
-use Rattle.ns_counters.specs.Rounds.{IsLater, Past, RoundShows}
-use Rattle.ns_model.specs.declared.environment.EnvEvent.{EnvEvent}
-use Rattle.ns_model.specs.declared.event.Mode.{Mode}
-use Rattle.ns_model.specs.declared.event.Mode.TheVariants.{Write, Read}
-use Rattle.ns_model.specs.Environments.{env_own}
-use Rattle.ns_model.specs.Histories.{own, row_after}
-use Rattle.ns_word.specs.declared.act.Waking.TheVariants.{Signaling, Broadcasting}
-use Rattle.ns_env.specs.declared.request.EnvRequest.{EnvRequest}
-use Rattle.ns_env.specs.declared.request.EnvRequest.TheVariants as TheEnvRequest
-use Rattle.ns_env.specs.declared.limits.Cause.{Cause}
-use Rattle.ns_env.specs.declared.limits.Limits.{Limits}
-use Rattle.ns_word.specs.declared.request.Request.{Request}
-use Rattle.ns_word.specs.declared.request.Request.TheVariants as TheRequest
-use Rattle.ns_word.specs.declared.view.Held.{Held}
-use Rattle.ns_word.specs.declared.view.SeatView.{SeatView}
-use Rattle.ns_model.specs.declared.cvs.Cvs.{Cvs}
-use Rattle.ns_model.specs.declared.cvs.Variables.TheVariants.{Any, Only}
-use Rattle.ns_word.specs.declared.wait.Subject.{Subject}
-use Rattle.ns_word.specs.declared.wait.Subject.TheVariants.{OnCondition, OnVariables}
-use Rattle.ns_word.specs.declared.walk.Reply.{Reply as WalkReply}
-use Rattle.ns_word.specs.declared.walk.Reply.TheVariants.{WokenBy}
-use Rattle.ns_word.specs.declared.word.Releasing.TheVariants.{Writer, QuietWriter, Reader}
-use Rattle.ns_env.specs.Meanings.{AtSomePoint, EnvCourse, EnvMeans, Shows}
-use Rattle.ns_word.specs.Meanings.{Course, Means}
-use Rattle.ns_env.specs.declared.reply.EnvReply.{EnvReply}
-use Rattle.ns_world.specs.declared.call.Asked.{Asked}
-use Rattle.ns_world.specs.declared.call.Asked.TheVariants.{OfLock, OfNotes, OfObjects}
-use Rattle.ns_world.specs.declared.call.Call.{Call}
-use Rattle.ns_world.specs.declared.call.Call.TheVariants.{Lock, RLock, TryLock, TryRLock, Unlock, RUnlock, UnlockQuiet, Get, Set, Wait, CvWait, Signal, Broadcast, NewNote, Notify, Advance, IsNotified, Expiry, NoteWait, Add, Value, CounterWait, Once, Done, WaitAny}
-use Rattle.ns_world.specs.declared.step.Begun.TheVariants.{Started}
-use Rattle.ns_world.specs.declared.step.Step.{Step}
-use Rattle.ns_world.specs.declared.step.Step.TheVariants.{Finished}
+use Rattle.ns_world.specs.Names.{Add, AddLoad, Advance, Any, Asked, AtSomePoint, Broadcast, Broadcasting, Call, Cause, CounterWait, Course, CvWait, Cvs, Done, DoneLoad, EnvCourse, EnvEvent, EnvMeans, EnvReply, EnvRequest, Expiry, Finished, FirstClock, Get, Held}
+use Rattle.ns_world.specs.Names.{InRound, IsLater, IsNotified, Limits, Lock, Means, Mode, NewNote, NoteWait, Notify, Number, ObjectEvent, ObjectWalk, OfLock, OfNotes, OfObjects, OnCondition, OnVariable, OnVariables, Once, OnceLoad, Only, Past, QuietWriter, RLock}
+use Rattle.ns_world.specs.Names.{RUnlock, Read, Reader, Reply, Request, Round, RoundShows, SeatView, Set, Setup, Shows, Signal, Signaling, Started, Step, Subject, TryLock, TryRLock, Unlock, UnlockQuiet, Value, ValueLoad, Wait, WaitAny, WaitMark, WalkReply, WokenBy}
+use Rattle.ns_world.specs.Names.{Write, Writer, env_own, objects_own, own, row_after}
 use Rattle.ns_world.specs.Calls.{mode_of, mode_waited}
-use Rattle.ns_world.specs.declared.object_walk.ObjectWalk.{ObjectWalk}
-use Rattle.ns_world.specs.declared.object_walk.ObjectWalk.TheVariants.{AddLoad, ValueLoad, WaitMark, OnceLoad, DoneLoad, InRound}
-use Rattle.ns_world.specs.declared.reply.Reply.{Reply}
-use Rattle.ns_world.specs.declared.reply.Reply.TheVariants.{Number}
-use Rattle.ns_world.specs.declared.round.Round.{Round}
-use Rattle.ns_world.specs.declared.round.RoundPlace.TheVariants.{FirstClock}
 use Rattle.ns_world.specs.Among.{waits_for_any}
-use Rattle.ns_world.specs.declared.items.Item.TheVariants.{OnVariable}
 use Rattle.ns_world.specs.Items.{AreAmong, is_among, item_at, items_of}
 use Rattle.ns_world.specs.ObjectMeanings.{AnyAnswers, IsReady, ObjectMeans, past_and}
 use Rattle.ns_world.specs.Replies.{told, env_told}
 use Rattle.ns_world.specs.Whole.{Whole, HaveLedTo, IsLawfulWhole, WholeBegins, WholeStep, notes_by, objects_by}
 use Rattle.ns_world.specs.World.{Now, LedTo}
+use Rattle.ns_env.specs.declared.request.EnvRequest.TheVariants as TheEnvRequest
+use Rattle.ns_word.specs.declared.request.Request.TheVariants as TheRequest
 
 -- ---- what was asked
 

@@ -1,32 +1,15 @@
 -- What the answer of a call on counters and once cells means, whatever others do while it is in progress, and how far such a call has come at each of its places.
 use Rattle.std.specs.Prelude.{◌≡◌, ◌≢◌, ℕ, ◌≤◌, Bool, true, false, List, [], ◌∷◌, ◌++◌, take, Option, Some, IsSomeAnd, Ok, Err}
-use Rattle.ns_model.specs.Beginnings.{IsBetween}
-use Rattle.ns_model.specs.Environments.{env_after, is_notified, clock_of}
-use Rattle.ns_model.specs.Lines.{IsLeftAt}
-use Rattle.ns_model.specs.declared.counter.CounterEvent.TheVariants as TheCounter
-use Rattle.ns_counters.specs.declared.object.ObjectEvent.{ObjectEvent}
-use Rattle.ns_counters.specs.declared.object.ObjectEvent.TheVariants.{OnCounter, OnOnce}
-use Rattle.ns_counters.specs.declared.object.Setup.{Setup}
-use Rattle.ns_model.specs.declared.once.OnceEvent.TheVariants as TheOnce
-use Rattle.ns_model.specs.Counters.{is_ready}
-use Rattle.ns_counters.specs.Objects.{ObjectStanding, objects_after, objects_own}
-use Rattle.ns_counters.specs.Rounds.{AnswersByRounds, HaveShownNothing, InTurn, IsLater, Past}
-use Rattle.ns_model.specs.Onces.{is_done}
-use Rattle.ns_env.specs.Meanings.{AtSomePoint}
-use Rattle.ns_world.specs.declared.items.Item.{Item}
-use Rattle.ns_world.specs.declared.items.Item.TheVariants as TheItem
-use Rattle.ns_world.specs.declared.object_walk.ObjectNext.{ObjectNext}
-use Rattle.ns_world.specs.declared.object_walk.ObjectNext.TheVariants.{Go, Repeat, Over}
-use Rattle.ns_world.specs.declared.object_walk.ObjectWalk.{ObjectWalk}
-use Rattle.ns_world.specs.declared.object_walk.ObjectWalk.TheVariants.{AddLoad, AddExchange, ValueLoad, WaitMark, WaitLoad, WaitClock, OnceLoad, OnceBegin, OnceEnd, DoneLoad, InRound}
-use Rattle.ns_world.specs.declared.reply.Reply.{Reply}
-use Rattle.ns_world.specs.declared.reply.Reply.TheVariants.{Number, Is, Refused, Ran, Already}
-use Rattle.ns_world.specs.declared.round.Round.{Round}
-use Rattle.ns_world.specs.declared.round.RoundPlace.{RoundPlace}
-use Rattle.ns_world.specs.declared.round.RoundPlace.TheVariants.{FirstClock, AtNote, AtCounter}
-use Rattle.ns_world.specs.declared.items.Items.{Items}
+use Rattle.ns_world.specs.Names.{AddExchange, AddLoad, Already, AnswersByRounds, AtCounter, AtNote, AtSomePoint, DoneLoad, FirstClock, HaveShownNothing, InRound, InTurn, Is, IsBetween, IsLater, IsLeftAt, Item, Items, Number, ObjectEvent, ObjectNext, ObjectStanding}
+use Rattle.ns_world.specs.Names.{ObjectWalk, OnOnce, OnceBegin, OnceEnd, OnceLoad, Over, Past, Ran, Refused, Repeat, Reply, Round, RoundPlace, Setup, ValueLoad, WaitClock, WaitLoad, WaitMark, clock_of, env_after, is_done, is_notified, is_ready, objects_after}
+use Rattle.ns_world.specs.Names.{objects_own}
+use Rattle.ns_counters.specs.declared.object.ObjectEvent.TheVariants.{OnCounter}
+use Rattle.ns_world.specs.declared.object_walk.ObjectNext.TheVariants.{Go}
 use Rattle.ns_world.specs.Items.{items_of}
 use Rattle.ns_world.specs.Objects.{AreThere}
+use Rattle.ns_model.specs.declared.counter.CounterEvent.TheVariants as TheCounter
+use Rattle.ns_model.specs.declared.once.OnceEvent.TheVariants as TheOnce
+use Rattle.ns_world.specs.declared.items.Item.TheVariants as TheItem
 
 -- what has happened to the clock and the notes, and to the counters and once cells, with more behind each
 abbrev pub past_and : Past → Past → Past

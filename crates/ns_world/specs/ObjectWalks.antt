@@ -1,30 +1,12 @@
 -- The walks of the calls on counters and once cells: what each place wants, and where each answer leads.
 use Rattle.std.specs.Prelude.{ℕ, nat_lt, ◌==◌, ℤ, Bool, true, false, if◌then◌else◌, Option, None, Some, Result, Ok, Err}
-use Rattle.ns_counters.specs.declared.act.ObjectAct.TheVariants.{LookCounter, LoadToAdd, ExchangeToAdd, MarkWait, LookOnce, BeginOnce, EndOnce}
-use Rattle.ns_model.specs.declared.counter.CounterFault.{CounterFault}
-use Rattle.ns_model.specs.declared.counter.CounterState.{CounterState}
-use Rattle.ns_counters.specs.declared.object.Place.{Place}
-use Rattle.ns_counters.specs.declared.object.Place.TheVariants.{Free, Adding, Running}
-use Rattle.ns_counters.specs.declared.word.Stage.{Stage}
-use Rattle.ns_counters.specs.declared.word.Stage.TheVariants as TheStage
-use Rattle.ns_model.specs.Counters.{judged}
-use Rattle.ns_counters.specs.Words.{counter_word, counter_of, stage_of}
-use Rattle.ns_env.specs.declared.act.EnvAct.TheVariants.{LoadClock}
-use Rattle.ns_env.specs.declared.act.EnvFound.TheVariants.{Clock}
-use Rattle.ns_world.specs.declared.object_walk.ObjectNext.{ObjectNext}
-use Rattle.ns_world.specs.declared.object_walk.ObjectNext.TheVariants.{Go, Repeat, Over}
-use Rattle.ns_world.specs.declared.object_walk.ObjectWalk.{ObjectWalk}
-use Rattle.ns_world.specs.declared.object_walk.ObjectWalk.TheVariants.{AddLoad, AddExchange, ValueLoad, WaitMark, WaitLoad, WaitClock, OnceLoad, OnceBegin, OnceEnd, DoneLoad, InRound}
-use Rattle.ns_world.specs.declared.reply.Reply.TheVariants.{Number, Is, Refused, Ran, Already}
-use Rattle.ns_world.specs.declared.round.ObjectFound.{ObjectFound}
-use Rattle.ns_world.specs.declared.round.ObjectFound.TheVariants.{Word, Env}
-use Rattle.ns_world.specs.declared.round.ObjectWant.{ObjectWant}
-use Rattle.ns_world.specs.declared.round.ObjectWant.TheVariants.{OnWord, OnEnv}
-use Rattle.ns_world.specs.declared.round.Round.{Round}
-use Rattle.ns_world.specs.declared.round.RoundNext.{RoundNext}
-use Rattle.ns_world.specs.declared.round.RoundNext.TheVariants.{RoundGo, RoundOver}
-use Rattle.ns_world.specs.declared.round.RoundPlace.TheVariants.{FirstClock}
+use Rattle.ns_world.specs.Names.{AddExchange, AddLoad, Adding, Already, BeginOnce, Clock, CounterFault, CounterState, DoneLoad, EndOnce, Env, ExchangeToAdd, FirstClock, Free, InRound, Is, LoadClock, LoadToAdd, LookCounter, LookOnce, MarkWait, Number, ObjectFound}
+use Rattle.ns_world.specs.Names.{ObjectNext, ObjectWalk, ObjectWant, OnEnv, OnWord, OnceBegin, OnceEnd, OnceLoad, Over, Place, Ran, Refused, Repeat, Round, RoundGo, RoundNext, RoundOver, Running, Stage, ValueLoad, WaitClock, WaitLoad, WaitMark, counter_of, counter_word}
+use Rattle.ns_world.specs.Names.{judged, stage_of}
+use Rattle.ns_world.specs.declared.object_walk.ObjectNext.TheVariants.{Go}
+use Rattle.ns_world.specs.declared.round.ObjectFound.TheVariants.{Word}
 use Rattle.ns_world.specs.Rounds.{round_want, round_got, IsInList}
+use Rattle.ns_counters.specs.declared.word.Stage.TheVariants as TheStage
 
 -- the step that each place wants
 abbrev pub object_want : ObjectWalk → ObjectWant

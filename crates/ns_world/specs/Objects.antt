@@ -1,42 +1,16 @@
 -- The counters and once cells of a world, and one step of a seat in a call on them.
 use Rattle.std.specs.Prelude.{◌≡◌, ℕ, nat_lt, ◌<◌, ◌≤◌, ◌^◌, ◌==◌, Bool, true, bit_or, if◌then◌else◌, List, [], replicate, Option, None, Some, length, slice_get, slice_index, slice_set, unwrap_or, Ok}
 use Rattle.std.specs.List.{list_all}
-use Rattle.ns_model.specs.Environments.{NoteStanding}
-use Rattle.ns_counters.specs.declared.act.ObjectAct.{ObjectAct}
-use Rattle.ns_counters.specs.declared.act.ObjectAct.TheVariants.{ExchangeToAdd, MarkWait, BeginOnce, EndOnce}
-use Rattle.ns_counters.specs.declared.object.ObjectEvent.{ObjectEvent}
-use Rattle.ns_counters.specs.declared.object.Place.{Place}
-use Rattle.ns_counters.specs.declared.object.Setup.{Setup}
-use Rattle.ns_model.specs.declared.once.OnceState.TheVariants as TheOnce
-use Rattle.ns_model.specs.Counters.{most, judged}
-use Rattle.ns_counters.specs.Lawful.{IsLawful}
-use Rattle.ns_counters.specs.Made.{padded, setup_of, first_words}
-use Rattle.ns_counters.specs.Objects.{ObjectStanding, objects_after}
-use Rattle.ns_counters.specs.Steps.{outcome, word_at}
-use Rattle.ns_counters.specs.Words.{counter_word}
-use Rattle.ns_env.specs.Steps.{EnvPlain}
-use Rattle.ns_env.specs.Asks.{EnvEffect, EnvActFits}
-use Rattle.ns_world.specs.declared.items.Item.{Item}
-use Rattle.ns_world.specs.declared.items.Item.TheVariants.{OnNote, OnCounter, OnVariable}
-use Rattle.ns_world.specs.declared.items.Items.{Items}
-use Rattle.ns_world.specs.declared.object_walk.ObjectNext.{ObjectNext}
-use Rattle.ns_world.specs.declared.object_walk.ObjectNext.TheVariants.{Go, Repeat, Over}
-use Rattle.ns_world.specs.declared.object_walk.ObjectWalk.{ObjectWalk}
-use Rattle.ns_world.specs.declared.object_walk.ObjectWalk.TheVariants.{AddLoad, AddExchange, ValueLoad, WaitMark, WaitLoad, WaitClock, OnceLoad, OnceBegin, OnceEnd, DoneLoad, InRound}
-use Rattle.ns_world.specs.declared.objects.AnyWait.{AnyWait}
-use Rattle.ns_world.specs.declared.objects.Objects.{Objects}
-use Rattle.ns_world.specs.declared.round.ObjectFound.{ObjectFound}
-use Rattle.ns_world.specs.declared.round.ObjectFound.TheVariants.{Word, Env}
-use Rattle.ns_world.specs.declared.round.ObjectWant.{ObjectWant}
-use Rattle.ns_world.specs.declared.round.ObjectWant.TheVariants.{OnWord, OnEnv}
-use Rattle.ns_world.specs.declared.round.Round.{Round}
-use Rattle.ns_world.specs.declared.round.RoundPlace.{RoundPlace}
-use Rattle.ns_world.specs.declared.round.RoundPlace.TheVariants.{FirstClock, AtNote, AtCounter}
-use Rattle.ns_world.specs.declared.step.Step.{Step}
-use Rattle.ns_world.specs.declared.step.Step.TheVariants.{Went, Idle, Finished}
+use Rattle.ns_world.specs.Names.{AddExchange, AddLoad, AnyWait, AtCounter, AtNote, BeginOnce, DoneLoad, EndOnce, Env, EnvActFits, EnvEffect, EnvPlain, ExchangeToAdd, Finished, FirstClock, Idle, InRound, IsLawful, Item, Items, MarkWait, NoteStanding, ObjectAct}
+use Rattle.ns_world.specs.Names.{ObjectEvent, ObjectFound, ObjectNext, ObjectStanding, ObjectWalk, ObjectWant, Objects, OnCounter, OnEnv, OnNote, OnVariable, OnWord, OnceBegin, OnceEnd, OnceLoad, Over, Place, Repeat, Round, RoundPlace, Setup, Step, ValueLoad, WaitClock}
+use Rattle.ns_world.specs.Names.{WaitLoad, WaitMark, Went, counter_word, first_words, judged, most, objects_after, padded, setup_of, word_at}
+use Rattle.ns_counters.specs.Steps.{outcome}
+use Rattle.ns_world.specs.declared.object_walk.ObjectNext.TheVariants.{Go}
+use Rattle.ns_world.specs.declared.round.ObjectFound.TheVariants.{Word}
 use Rattle.ns_world.specs.Asks.{IsLoad}
 use Rattle.ns_world.specs.Items.{items_of, item_at}
 use Rattle.ns_world.specs.ObjectWalks.{object_want, object_got, object_after, object_place, IsInBounds}
+use Rattle.ns_model.specs.declared.once.OnceState.TheVariants as TheOnce
 
 -- what a step on a word leaves of it
 abbrev pub word_left : ObjectAct → ℕ → ℕ

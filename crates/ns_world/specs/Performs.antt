@@ -1,27 +1,10 @@
 -- One step on the parts of a world.
 use Rattle.std.specs.Prelude.{◌≡◌, ℕ, List, ◌++◌, Option, get_or}
-use Rattle.ns_model.specs.declared.event.Event.{Event}
-use Rattle.ns_queue.specs.Queues.{Lists}
-use Rattle.ns_word.specs.declared.owed.Owed.{Owed}
-use Rattle.ns_word.specs.declared.word.Word.{Word}
-use Rattle.ns_word.specs.declared.view.Held.{Held}
-use Rattle.ns_word.specs.declared.view.SeatView.{SeatView}
-use Rattle.ns_word.specs.declared.walk.Walk.{Walk}
-use Rattle.ns_env.specs.declared.walk.EnvWalk.{EnvWalk}
-use Rattle.ns_word.specs.declared.walk.Next.{Next}
-use Rattle.ns_word.specs.declared.walk.Next.TheVariants.{On, Done}
-use Rattle.ns_word.specs.declared.walk.Next.TheVariants as TheNext
-use Rattle.ns_word.specs.declared.act.Act.{Act}
-use Rattle.ns_word.specs.declared.act.Found.{Found}
-use Rattle.ns_word.specs.declared.act.Found.TheVariants.{Scanned}
-use Rattle.ns_word.specs.Walks.{want_of, got_of, walk_after}
-use Rattle.ns_model.specs.Truths.{Truths}
-use Rattle.ns_word.specs.Steps.{Part, Effect}
-use Rattle.ns_world.specs.declared.seat.Seat.{Seat}
+use Rattle.ns_world.specs.Names.{Act, Effect, EnvWalk, Event, Finished, Found, Held, Idle, Lists, Next, On, Owed, Part, Scanned, Seat, SeatView, Step, Truths, Walk, Went, Word, got_of, walk_after, want_of}
+use Rattle.ns_word.specs.declared.walk.Next.TheVariants.{Done}
 use Rattle.ns_world.specs.Looks.{look_of}
-use Rattle.ns_world.specs.declared.step.Step.{Step}
-use Rattle.ns_world.specs.declared.step.Step.TheVariants.{Went, Idle, Finished}
 use Rattle.ns_world.specs.Replies.{told}
+use Rattle.ns_word.specs.declared.walk.Next.TheVariants as TheNext
 
 -- the machine's view of a seat
 abbrev pub view_of : {C : Type 0} {N : ℕ} → Seat C N → SeatView C N

@@ -1,11 +1,9 @@
 -- What a call of a world answers, by what its walk does.
 use Rattle.std.specs.Prelude.{Some, None}
-use Rattle.ns_env.specs.declared.reply.EnvReply.{EnvReply}
+use Rattle.ns_world.specs.Names.{Answered, EnvReply, Is, Noisy, NotesFull, Number, Reply, Succeeded, WalkReply}
+use Rattle.ns_world.specs.declared.reply.Reply.TheVariants.{Busy, Expiry}
 use Rattle.ns_env.specs.declared.reply.EnvReply.TheVariants as TheEnv
-use Rattle.ns_word.specs.declared.walk.Reply.{Reply as WalkReply}
 use Rattle.ns_word.specs.declared.walk.Reply.TheVariants as TheWalk
-use Rattle.ns_world.specs.declared.reply.Reply.{Reply}
-use Rattle.ns_world.specs.declared.reply.Reply.TheVariants.{Succeeded, Busy, Noisy, Number, NotesFull, Is, Expiry, Answered}
 
 -- What a walk on the lock answers, as the answer of its call. A wait for any of a set of variables is a part of a call, to which it answers the number of the variable that has woken it, or that it is done where none has.
 abbrev pub told : WalkReply → Reply

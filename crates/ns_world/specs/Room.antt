@@ -2,12 +2,12 @@
 use Rattle.std.specs.Prelude.{◌<◌, ◌^◌}
 use Rattle.std.proofs.Common.{arith}
 use Rattle.std.specs.Mem.{FitsInMemory}
+use Rattle.ns_world.specs.Names.{HasRoom, room, room_enough}
 use prog.Memory.{size}
 use mir.Syntax.{Ty}
 use denote.RattleType.{RattleType}
 use denote.Param.{layout, copied, param}
 use Rattle.ns_world.specs.contracts.seat.Seat.{the_row as seat_row}
-use Rattle.ns_model.specs.Room.{HasRoom, room, room_enough}
 
 -- a seat of a world fits in memory
 abbrev pub SeatFits : (C N : RattleType) → Type 0

@@ -1,28 +1,10 @@
 -- One round of a wait for any of several objects.
 use Rattle.std.specs.Prelude.{ℕ, suc, ◌<◌, ◌==◌, true, if◌then◌else◌, List, [], ◌∷◌, drop, None, Some}
-use Rattle.ns_model.specs.Environments.{is_due}
-use Rattle.ns_counters.specs.declared.act.ObjectAct.TheVariants.{LookCounter}
-use Rattle.ns_counters.specs.Words.{counter_of}
-use Rattle.ns_env.specs.declared.act.EnvAct.TheVariants.{LoadClock, LoadNote}
-use Rattle.ns_env.specs.declared.act.EnvFound.TheVariants.{Clock}
-use Rattle.ns_env.specs.declared.walk.Chain.TheVariants.{ForIsNotified}
-use Rattle.ns_env.specs.declared.walk.EnvWalk.{EnvWalk}
-use Rattle.ns_env.specs.declared.walk.EnvWalk.TheVariants.{NoteLoad}
-use Rattle.ns_env.specs.declared.walk.EnvNext.{EnvNext}
-use Rattle.ns_env.specs.declared.walk.EnvNext.TheVariants.{Go, Over}
+use Rattle.ns_world.specs.Names.{AtCounter, AtNote, Clock, Env, EnvNext, EnvWalk, FirstClock, ForIsNotified, Go, Item, LoadClock, LoadNote, LookCounter, NoteLoad, ObjectFound, ObjectWant, OnCounter, OnEnv, OnNote, OnVariable, OnWord, Round, RoundGo, RoundNext}
+use Rattle.ns_world.specs.Names.{RoundOver, RoundPlace, counter_of, env_got_of, is_due}
+use Rattle.ns_env.specs.declared.walk.EnvNext.TheVariants.{Over}
 use Rattle.ns_env.specs.declared.reply.EnvReply.TheVariants.{Is}
-use Rattle.ns_env.specs.Walks.{env_got_of}
-use Rattle.ns_world.specs.declared.items.Item.{Item}
-use Rattle.ns_world.specs.declared.items.Item.TheVariants.{OnNote, OnCounter, OnVariable}
-use Rattle.ns_world.specs.declared.round.Round.{Round}
-use Rattle.ns_world.specs.declared.round.RoundPlace.{RoundPlace}
-use Rattle.ns_world.specs.declared.round.RoundPlace.TheVariants.{FirstClock, AtNote, AtCounter}
-use Rattle.ns_world.specs.declared.round.RoundNext.{RoundNext}
-use Rattle.ns_world.specs.declared.round.RoundNext.TheVariants.{RoundGo, RoundOver}
-use Rattle.ns_world.specs.declared.round.ObjectWant.{ObjectWant}
-use Rattle.ns_world.specs.declared.round.ObjectWant.TheVariants.{OnWord, OnEnv}
-use Rattle.ns_world.specs.declared.round.ObjectFound.{ObjectFound}
-use Rattle.ns_world.specs.declared.round.ObjectFound.TheVariants.{Word, Env}
+use Rattle.ns_world.specs.declared.round.ObjectFound.TheVariants.{Word}
 use Rattle.ns_world.specs.Items.{items_of}
 
 -- the step that a round wants at each of its places

@@ -1,18 +1,10 @@
 -- A run of a schedule, turn by turn.
 use Rattle.std.specs.Prelude.{◌≡◌, ◌≢◌, ℕ, ◌+◌, ◌<◌, ◌≤◌, ◌⊎◌, Bool, true, false, not, ◌==◌, if◌then◌else◌, List, [], ◌∷◌, ◌++◌, Option, Some, None, slice_get, slice_index, slice_set, length, replicate, unwrap_or, All}
 use Rattle.std.specs.List.{flat_map}
-use Rattle.ns_world.specs.declared.call.Call.{Call}
-use Rattle.ns_world.specs.declared.fault.Fault.{Fault}
-use Rattle.ns_world.specs.declared.fault.Fault.TheVariants.{OutOfMemory, NoSuchSeat, TooManySeats, StepLimit}
-use Rattle.ns_world.specs.declared.reply.Reply.{Reply}
-use Rattle.ns_world.specs.declared.reply.Reply.TheVariants as TheReply
-use Rattle.ns_world.specs.declared.schedule.Turn.{Turn}
-use Rattle.ns_world.specs.declared.schedule.Line.{Line}
-use Rattle.ns_world.specs.declared.step.Begun.TheVariants.{Started, Misuse}
-use Rattle.ns_world.specs.declared.step.Step.{Step}
-use Rattle.ns_world.specs.declared.step.Step.TheVariants.{Went, Idle, Finished, Nothing}
+use Rattle.ns_world.specs.Names.{Call, Fault, Finished, Idle, Line, Misuse, NoSuchSeat, Nothing, OutOfMemory, Reply, Started, Step, StepLimit, TooManySeats, Turn, Went}
 use Rattle.ns_world.specs.Calls.{CallInRange}
 use Rattle.ns_world.specs.Whole.{Whole, WholeIsIdle, WholeIsBusy, WholeStep, WholeBegins, WholeCommits, whole_busy}
+use Rattle.ns_world.specs.declared.reply.Reply.TheVariants as TheReply
 
 -- ---- one turn
 

@@ -1,12 +1,7 @@
 -- What a world shows of its queues and its owed wakes.
 use Rattle.std.specs.Prelude.{ℕ, if◌then◌else◌, List, [], ◌∷◌, map, Option, None, Some}
 use Rattle.std.specs.List.{flat_map}
-use Rattle.ns_queue.specs.Queues.{Lists}
-use Rattle.ns_word.specs.declared.view.SeatView.{SeatView}
-use Rattle.ns_word.specs.declared.walk.Walk.{Walk}
-use Rattle.ns_word.specs.Walks.{has_queues}
-use Rattle.ns_model.specs.Truths.{Truths}
-use Rattle.ns_word.specs.Steps.{in_hand}
+use Rattle.ns_world.specs.Names.{Lists, SeatView, Truths, Walk, has_queues, in_hand}
 use Rattle.ns_world.specs.World.{Now}
 
 -- the lists as a seat at this place has them in hand

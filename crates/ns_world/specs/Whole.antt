@@ -1,40 +1,8 @@
 -- A world as a contract sees it: the lock with its row, the clock and the notes, and beside them counters and once cells; and a seat's step in it.
 use Rattle.std.specs.Prelude.{◌≡◌, ℕ, ◌⊎◌, Bool, true, false, not, ◌||◌, ◌<◌, ◌≤◌, List, [], Option, Some, None, IsSome, is_some, length, slice_get}
 use Rattle.std.proofs.Common.{inl, inr}
-use Rattle.ns_counters.specs.declared.object.ObjectEvent.{ObjectEvent}
-use Rattle.ns_counters.specs.Objects.{object_who}
-use Rattle.ns_model.specs.Tallies.{Every}
-use Rattle.ns_model.specs.Truths.{Truths}
-use Rattle.ns_model.specs.declared.environment.EnvEvent.{EnvEvent}
-use Rattle.ns_model.specs.declared.cvs.Cvs.{Cvs}
-use Rattle.ns_model.specs.declared.event.Event.{Event}
-use Rattle.ns_model.specs.declared.event.Mode.{Mode}
-use Rattle.ns_queue.specs.Queues.{Lists}
-use Rattle.ns_word.specs.declared.act.Act.{Act}
-use Rattle.ns_word.specs.declared.act.Found.TheVariants.{Looked}
-use Rattle.ns_word.specs.declared.request.Request.TheVariants as TheRequest
-use Rattle.ns_word.specs.declared.view.Held.{Held}
-use Rattle.ns_word.specs.declared.view.SeatView.{SeatView}
-use Rattle.ns_word.specs.declared.walk.Walk.{Walk}
-use Rattle.ns_word.specs.declared.word.Word.{Word}
-use Rattle.ns_word.specs.Asked.{asked_of}
-use Rattle.ns_word.specs.Walks.{got_of, walk_after, wait_first, want_of}
-use Rattle.ns_world.specs.declared.call.Call.{Call}
-use Rattle.ns_world.specs.declared.call.Start.TheVariants.{OnLock}
-use Rattle.ns_world.specs.declared.environment.Environment.{Environment}
-use Rattle.ns_world.specs.declared.fault.Fault.{Fault}
-use Rattle.ns_world.specs.declared.fault.Fault.TheVariants.{OutOfMemory, NoSuchSeat, TooManySeats, StepLimit}
-use Rattle.ns_world.specs.declared.object_walk.ObjectWalk.{ObjectWalk}
-use Rattle.ns_world.specs.declared.object_walk.ObjectWalk.TheVariants.{InRound}
-use Rattle.ns_world.specs.declared.objects.AnyWait.{AnyWait}
-use Rattle.ns_world.specs.declared.objects.Objects.{Objects}
-use Rattle.ns_world.specs.declared.round.Round.{Round}
-use Rattle.ns_world.specs.declared.round.RoundPlace.{RoundPlace}
-use Rattle.ns_world.specs.declared.seat.Seat.{Seat}
-use Rattle.ns_world.specs.declared.step.Begun.{Begun}
-use Rattle.ns_world.specs.declared.step.Begun.TheVariants.{Started, Misuse, Busy}
-use Rattle.ns_world.specs.declared.step.Step.{Step}
-use Rattle.ns_world.specs.declared.step.Step.TheVariants.{Went, Idle, Finished, Nothing}
+use Rattle.ns_world.specs.Names.{Act, AnyWait, Begun, Busy, Call, Cvs, EnvEvent, Environment, Event, Every, Fault, Finished, Held, Idle, InRound, Lists, Looked, Misuse, Mode, NoSuchSeat, Nothing, ObjectEvent, ObjectWalk, Objects, OnLock, OutOfMemory, Round, RoundPlace}
+use Rattle.ns_world.specs.Names.{Seat, SeatView, Started, Step, StepLimit, TooManySeats, Truths, Walk, Went, Word, asked_of, got_of, object_who, wait_first, walk_after, want_of}
 use Rattle.ns_world.specs.Among.{asks_for_any, cause_of, is_for_lock, shown_by, step_told, waited_after, waits_for_any}
 use Rattle.ns_world.specs.Begins.{Starts, Misuses, begun_at}
 use Rattle.ns_world.specs.Calls.{mode_of, mode_waited, object_start}
@@ -42,6 +10,7 @@ use Rattle.ns_world.specs.Items.{AreAmong, have_variable, items_of}
 use Rattle.ns_world.specs.Looks.{looks_at}
 use Rattle.ns_world.specs.Objects.{AreLedTo, AreThere, HasOperated, fresh_objects, objects_begun, stood_at, wait_in, walk_in}
 use Rattle.ns_world.specs.World.{Now, Kept, kept, now_of, fresh, Acts, IsLawfulWorld, IsIdle, IsBusy, Moves, CommitsNext, env_done, is_busy}
+use Rattle.ns_word.specs.declared.request.Request.TheVariants as TheRequest
 
 -- a world: the lock with the clock and the notes, and the counters and once cells
 pub record Whole (C : Type 0) (N : ℕ) : Type 0 where

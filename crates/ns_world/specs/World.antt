@@ -2,35 +2,9 @@
 use Rattle.std.specs.Prelude.{◌≡◌, ℕ, ◌⊎◌, Bool, false, ◌||◌, ◌<◌, ◌≤◌, ◌++◌, List, [], map, replicate, Option, Some, None, is_some, slice_get, slice_set, slice_index, length}
 use Rattle.std.specs.Option.{option_map_or}
 use Rattle.std.proofs.Common.{inl, inr}
-use Rattle.ns_model.specs.declared.environment.EnvEvent.{EnvEvent}
-use Rattle.ns_model.specs.declared.event.Event.{Event}
-use Rattle.ns_queue.specs.Queues.{Lists}
-use Rattle.ns_word.specs.declared.view.SeatView.{SeatView}
-use Rattle.ns_word.specs.declared.word.Word.{Word}
-use Rattle.ns_word.specs.declared.walk.Walk.{Walk}
-use Rattle.ns_word.specs.declared.act.Found.{Found}
-use Rattle.ns_word.specs.declared.act.Found.TheVariants.{Looked}
-use Rattle.ns_model.specs.Environments.{NoteStanding, env_who}
-use Rattle.ns_model.specs.Tallies.{Every}
-use Rattle.ns_env.specs.declared.act.EnvFound.{EnvFound}
-use Rattle.ns_env.specs.declared.walk.EnvWalk.{EnvWalk}
-use Rattle.ns_word.specs.Walks.{want_of, got_of, walk_after}
-use Rattle.ns_model.specs.Truths.{Truths}
-use Rattle.ns_word.specs.Steps.{LockState, Step as Steps}
+use Rattle.ns_world.specs.Names.{AreNumbered, EnvEffect, EnvEvent, EnvFound, EnvNext, EnvPlain, EnvStep, EnvWalk, Environment, Event, Every, Fault, Finished, Found, Go, Idle, IfMade, IsLawfulEnv, Lists, LockState, LookOver, Looked, NoSuchSeat, NoteStanding, Nothing}
+use Rattle.ns_world.specs.Names.{OutOfMemory, Seat, SeatView, Step, StepLimit, Steps, TooManySeats, Truths, Walk, Went, Word, env_got_of, env_want_of, env_who, fresh_plain, fresh_state, got_of, walk_after, want_of}
 use Rattle.ns_word.specs.Lawful.{IsLawful}
-use Rattle.ns_word.specs.Views.{AreNumbered}
-use Rattle.ns_word.specs.Begins.{fresh_state}
-use Rattle.ns_env.specs.declared.walk.EnvNext.{EnvNext}
-use Rattle.ns_env.specs.declared.walk.EnvNext.TheVariants.{Go, LookOver}
-use Rattle.ns_env.specs.Walks.{env_want_of, env_got_of}
-use Rattle.ns_env.specs.Asks.{EnvStep, EnvEffect, IfMade, IsLawfulEnv}
-use Rattle.ns_env.specs.Steps.{EnvPlain, fresh_plain}
-use Rattle.ns_world.specs.declared.environment.Environment.{Environment}
-use Rattle.ns_world.specs.declared.seat.Seat.{Seat}
-use Rattle.ns_world.specs.declared.step.Step.{Step}
-use Rattle.ns_world.specs.declared.step.Step.TheVariants.{Went, Idle, Finished, Nothing}
-use Rattle.ns_world.specs.declared.fault.Fault.{Fault}
-use Rattle.ns_world.specs.declared.fault.Fault.TheVariants.{OutOfMemory, NoSuchSeat, TooManySeats, StepLimit}
 use Rattle.ns_world.specs.Asks.{plain_of, env_state, env_step_of}
 use Rattle.ns_world.specs.Commits.{Commits}
 use Rattle.ns_world.specs.Looks.{AsksFor, waits_among, look_of, looks_at, note_in}

@@ -1,6 +1,5 @@
 use Rattle.std.proofs.Common.{◌∙◌, ap, not, eqb}
-use Rattle.ns_gate.specs.Prelude.{waiters_of}
-use Rattle.ns_queue.specs.declared.waiter.Which.TheVariants.{Cv}
+use Rattle.ns_gate.specs.Prelude.{Cv, waiters_of}
 use Rattle.ns_gate.proofs.Wakes.{has_bits}
 use Rattle.ns_gate.proofs.waking.has_waiters.Goals as goal
 

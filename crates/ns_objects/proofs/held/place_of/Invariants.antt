@@ -1,5 +1,5 @@
 use Rattle.std.proofs.Common.{◌≡◌, ◌+◌, drop}
-use Rattle.ns_objects.specs.Held.{place_in}
+use Rattle.ns_objects.specs.Prelude.{place_in}
 use Rattle.ns_objects.proofs.held.place_of.Given as goal
 
 abbrev pub invariant-loop-i : goal.invariant-loop-i

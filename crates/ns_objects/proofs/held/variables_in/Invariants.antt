@@ -1,6 +1,5 @@
 use Rattle.std.proofs.Common.{◌≡◌, ◌<◌, ◌||◌, ℕ, drop}
-use Rattle.ns_model.specs.Cvs.{is_in}
-use Rattle.ns_objects.specs.Held.{is_among}
+use Rattle.ns_objects.specs.Prelude.{is_among, is_in}
 use Rattle.ns_objects.proofs.held.variables_in.Given as goal
 
 abbrev pub invariant-loop-item : goal.invariant-loop-item

@@ -1,7 +1,6 @@
 use Rattle.std.proofs.Common.{rules, ◌++◌, ◌∷◌, [], ap, map, sym, ◌∙◌}
 use Rattle.std.proofs.lemmas.List.{length-map, map-append}
-use Rattle.ns_queue.specs.Waiters.{shown_of}
-use Rattle.ns_queue.specs.Rings.{ahead}
+use Rattle.ns_queue.specs.Prelude.{ahead, shown_of}
 use Rattle.ns_queue.proofs.Places.{ahead_few, from_none, own, seated_stands, smaller, stepped}
 use Rattle.ns_queue.proofs.gather.shown_ring.Goals as goal
 

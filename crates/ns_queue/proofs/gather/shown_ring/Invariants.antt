@@ -1,6 +1,5 @@
 use Rattle.std.proofs.Common.{◌≡◌, length, map}
-use Rattle.ns_queue.specs.Waiters.{shown_of}
-use Rattle.ns_queue.specs.Rings.{ahead, from}
+use Rattle.ns_queue.specs.Prelude.{ahead, from, shown_of}
 use Rattle.ns_queue.proofs.gather.shown_ring.Given as goal
 
 -- those so far

@@ -1,8 +1,8 @@
-use Rattle.ns_queue.proofs.Orders.{list_small}
 use Rattle.std.proofs.Common.{ℕ, ◌≤◌, ◌<◌, length, sym, arith}
+use Rattle.ns_queue.proofs.Orders.{list_small}
 use Rattle.ns_queue.proofs.Marking.{pushed_on, skipped_on, marked_yes, marked_no}
-use Rattle.ns_queue.proofs.marks.marked.Goals as goal
 use Rattle.ns_queue.proofs.marks.marked.Goals.{then-marks-i, else-marks-i}
+use Rattle.ns_queue.proofs.marks.marked.Goals as goal
 
 pub loop-i-preserved : goal.loop-i-preserved
 loop-i-preserved g c =

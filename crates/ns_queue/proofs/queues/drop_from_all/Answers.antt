@@ -1,5 +1,5 @@
+use Rattle.ns_queue.specs.Prelude.{outside}
 use Rattle.ns_queue.proofs.Orders.{list_small}
-use Rattle.ns_queue.specs.Waiters.{outside}
 use Rattle.ns_queue.proofs.Inside.{lists_more}
 use Rattle.ns_queue.proofs.Outside.{next_below}
 use Rattle.ns_queue.proofs.queues.drop_from_all.Goals as goal

@@ -1,5 +1,5 @@
 use Rattle.std.proofs.Common.{ap, ◌∙◌}
-use Rattle.ns_queue.specs.Waiters.{times_in}
+use Rattle.ns_queue.specs.Prelude.{times_in}
 use Rattle.ns_queue.proofs.queues.drop_those.Goals as goal
 
 pub keep_outside-kept-requires : goal.keep_outside-kept-requires

@@ -1,10 +1,10 @@
-use borrow.Author.Rules.{scaled_Fits}
 use Rattle.std.proofs.Common.{◌≡◌, ℕ, ◌≤◌, ◌<◌, ◌∙◌, length, get_or, refl, sym, arith, rules}
 use Rattle.std.proofs.lemmas.List.{get_or_default}
 use Rattle.std.proofs.lemmas.List.Filters.{FiltersInPlace-all, FiltersInPlace-more_no, FiltersInPlace-more_set, FiltersInPlace-more_here}
+use borrow.Author.Rules.{scaled_Fits}
 use Rattle.ns_queue.proofs.Outside.{place_low}
-use Rattle.ns_queue.proofs.queues.keep_outside.Goals as goal
 use Rattle.ns_queue.proofs.queues.keep_outside.Goals.{then-not-contains, else-not-contains, then-kept-i, else-kept-i}
+use Rattle.ns_queue.proofs.queues.keep_outside.Goals as goal
 
 -- each place up to the loop's is one of the list's
 inside : (i n m : ℕ) → i < n → m ≡ n → i < m

@@ -2,8 +2,8 @@ use Rattle.std.proofs.Common.{rules, true, false, sym, arith}
 use Rattle.std.specs.Option.{option_copied}
 use Rattle.ns_queue.proofs.Making.{head_low, joins_told, made_begun, made_ends, made_joins, made_stops, run_read}
 use Rattle.ns_queue.proofs.Places.{seated_low, seated_stands, smaller}
-use Rattle.ns_queue.proofs.remake.remake.Goals as goal
 use Rattle.ns_queue.proofs.remake.remake.Goals.{then-not-joins+else-heads-at, else-not-joins}
+use Rattle.ns_queue.proofs.remake.remake.Goals as goal
 
 pub bounds-lasts-head : goal.bounds-lasts-head
 bounds-lasts-head g c = head_low g.C.Condition.means.same _ _ _ _ _ c.args.ring.now c.get.ensures.orderly c.loop-waiter.invariant

@@ -1,6 +1,5 @@
 use Rattle.std.proofs.Common.{length}
-use Rattle.ns_queue.specs.Rings.{from}
-use Rattle.ns_queue.specs.Runs.{MadeUpTo}
+use Rattle.ns_queue.specs.Prelude.{MadeUpTo, from}
 use Rattle.ns_queue.proofs.remake.remake.Given as goal
 
 -- the links are made up to here

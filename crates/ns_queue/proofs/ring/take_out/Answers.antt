@@ -1,5 +1,5 @@
 use Rattle.std.proofs.Common.{slice_index, sym, ◌-◌, arith}
-use Rattle.ns_queue.specs.Waiters.{times_in}
+use Rattle.ns_queue.specs.Prelude.{times_in}
 use Rattle.ns_queue.proofs.Inside.{told_no}
 use Rattle.ns_queue.proofs.Leaving.{all_on}
 use Rattle.ns_queue.proofs.Seats.{none_without}

@@ -1,12 +1,11 @@
 use Rattle.std.proofs.Common.{rules, ◌++◌, ◌∷◌, [], inl, inr, ap, sym, ◌∙◌}
 use Rattle.std.specs.Option.{option_copied}
-use Rattle.ns_queue.specs.Waiters.{reads}
-use Rattle.ns_queue.specs.declared.scan.Sought.{Sought}
+use Rattle.ns_queue.specs.Prelude.{Sought, reads}
 use Rattle.ns_queue.proofs.Asking.{Enters}
 use Rattle.ns_queue.proofs.Places.{seated_stands, smaller}
 use Rattle.ns_queue.proofs.Reading.{look_fits, none_taken, reads_end, reads_few, reads_on, reads_start, writer_taken}
-use Rattle.ns_queue.proofs.scan.choose.Goals as goal
 use Rattle.ns_queue.proofs.scan.choose.Goals.{then-not-is_alike, else-not-is_alike}
+use Rattle.ns_queue.proofs.scan.choose.Goals as goal
 
 pub returns-in_default-clause-woken : goal.returns-in_default-clause-woken
 returns-in_default-clause-woken g c =

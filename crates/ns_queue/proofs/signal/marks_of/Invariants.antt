@@ -1,6 +1,5 @@
 use Rattle.std.proofs.Common.{◌≡◌, ◌++◌, drop, length}
-use Rattle.ns_queue.specs.Marks.{signal_marks}
-use Rattle.ns_queue.specs.declared.signal.Wanted.TheVariants.{Anybody}
+use Rattle.ns_queue.specs.Prelude.{Anybody, signal_marks}
 use Rattle.ns_queue.proofs.signal.marks_of.Given as goal
 
 -- the marks so far, and the rest

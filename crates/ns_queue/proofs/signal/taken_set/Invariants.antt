@@ -1,6 +1,5 @@
 use Rattle.std.proofs.Common.{◌≡◌, ℕ, take, nat_lt}
-use Rattle.ns_model.specs.Seats.{is_in}
-use Rattle.ns_queue.specs.Waiters.{times_in}
+use Rattle.ns_queue.specs.Prelude.{is_in, times_in}
 use Rattle.ns_queue.proofs.signal.taken_set.Given as goal
 
 -- the seats so far

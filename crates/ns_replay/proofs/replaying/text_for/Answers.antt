@@ -1,7 +1,5 @@
-use Rattle.ns_replay.specs.Script.{plan_of}
+use Rattle.ns_replay.specs.Prelude.{plan_of, script_truths, whole_of}
 use Rattle.ns_replay.proofs.Runs.{few_threads}
-use Rattle.ns_world.specs.Whole.{whole_of}
-use Rattle.ns_replay.specs.Condition.{script_truths}
 use Rattle.ns_replay.proofs.replaying.text_for.Goals as goal
 
 pub run_text-requires : goal.run_text-requires

@@ -1,12 +1,6 @@
 use Rattle.std.proofs.Common.{length, map, string_bytes}
 use Rattle.std.proofs.lemmas.List.{length-map}
-use Rattle.ns_model.specs.Seats.{is_in}
-use Rattle.ns_queue.specs.Waiters.{shown_of}
-use Rattle.ns_world.specs.Whole.{whole_of, whole_busy}
-use Rattle.ns_world.specs.Shows.{lists_shown, wakes_owed}
-use Rattle.ns_replay.specs.Condition.{script_truths}
-use Rattle.ns_replay.specs.Script.{plan_of}
-use Rattle.ns_replay.specs.Text.{text_of, lines_text, lefts_text, row_text, history_text, state_text}
+use Rattle.ns_replay.specs.Prelude.{history_text, is_in, lefts_text, lines_text, lists_shown, plan_of, row_text, script_truths, shown_of, state_text, text_of, wakes_owed, whole_busy, whole_of}
 use Rattle.ns_replay.proofs.Texts.{five_parts, lefts_text-same}
 use Rattle.ns_replay.proofs.running.run_text.Goals as goal
 

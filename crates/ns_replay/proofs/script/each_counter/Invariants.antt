@@ -1,7 +1,5 @@
 use Rattle.std.proofs.Common.{◌≡◌, map, drop}
-use Rattle.serde_json.specs.View.{view}
-use Rattle.ns_replay.specs.Faults.{each_from}
-use Rattle.ns_replay.specs.Script.{counter_at}
+use Rattle.ns_replay.specs.Prelude.{counter_at, each_from, view}
 use Rattle.ns_replay.proofs.Loop.{with_front}
 use Rattle.ns_replay.proofs.script.each_counter.Given as goal
 

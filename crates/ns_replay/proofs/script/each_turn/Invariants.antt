@@ -1,6 +1,5 @@
 use Rattle.std.proofs.Common.{◌≡◌, map, drop}
-use Rattle.ns_replay.specs.Faults.{each_from}
-use Rattle.ns_replay.specs.Script.{turn_at}
+use Rattle.ns_replay.specs.Prelude.{each_from, turn_at}
 use Rattle.ns_replay.proofs.Loop.{with_front}
 use Rattle.ns_replay.proofs.script.each_turn.Given as goal
 

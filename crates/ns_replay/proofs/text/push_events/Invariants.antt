@@ -1,6 +1,6 @@
 use Rattle.std.proofs.Common.{◌≡◌, ◌++◌, take, string_bytes}
 use Rattle.std.specs.Prelude.{flat_map}
-use Rattle.ns_replay.specs.Text.{event_text}
+use Rattle.ns_replay.specs.Prelude.{event_text}
 use Rattle.ns_replay.proofs.text.push_events.Given as goal
 
 abbrev pub invariant-loop-event : goal.invariant-loop-event

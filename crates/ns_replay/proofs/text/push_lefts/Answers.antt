@@ -1,8 +1,7 @@
 use Rattle.std.proofs.Common.{string_bytes}
 use Rattle.std.specs.Prelude.{flat_map}
 use Rattle.std.specs.List.{range_with_len}
-use Rattle.ns_model.specs.Seats.{is_in}
-use Rattle.ns_replay.specs.Text.{left_text}
+use Rattle.ns_replay.specs.Prelude.{is_in, left_text}
 use Rattle.ns_replay.proofs.Texts.{grows, flat_map-range}
 use Rattle.ns_replay.proofs.text.push_lefts.Goals as goal
 

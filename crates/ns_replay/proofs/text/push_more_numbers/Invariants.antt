@@ -1,6 +1,6 @@
 use Rattle.std.proofs.Common.{◌≡◌, ◌++◌, take, string_bytes}
 use Rattle.std.specs.Prelude.{flat_map}
-use Rattle.ns_replay.specs.Text.{after_comma}
+use Rattle.ns_replay.specs.Prelude.{after_comma}
 use Rattle.ns_replay.proofs.text.push_more_numbers.Given as goal
 
 abbrev pub invariant-loop-number : goal.invariant-loop-number

@@ -1,7 +1,6 @@
 use Rattle.std.proofs.Common.{refl, sym, string_bytes}
 use Rattle.std.proofs.lemmas.List.{append-nil}
-use Rattle.ns_model.specs.Seats.{is_in}
-use Rattle.ns_replay.specs.Text.{numbers_text, seat_text, seats_below}
+use Rattle.ns_replay.specs.Prelude.{is_in, numbers_text, seat_text, seats_below}
 use Rattle.ns_replay.proofs.Texts.{grows, none_below, is_any, numbers_text-below, is_any-below}
 use Rattle.ns_replay.proofs.text.push_seats.Goals as goal
 

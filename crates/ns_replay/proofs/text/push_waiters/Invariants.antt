@@ -1,6 +1,6 @@
 use Rattle.std.proofs.Common.{◌≡◌, ◌++◌, take, string_bytes}
 use Rattle.std.specs.Prelude.{flat_map}
-use Rattle.ns_replay.specs.Text.{waiter_text}
+use Rattle.ns_replay.specs.Prelude.{waiter_text}
 use Rattle.ns_replay.proofs.text.push_waiters.Given as goal
 
 abbrev pub invariant-loop-waiter : goal.invariant-loop-waiter

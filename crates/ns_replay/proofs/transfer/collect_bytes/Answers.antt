@@ -2,7 +2,7 @@ use Rattle.std.proofs.Common.{◌≡◌, ℕ, ◌+◌, ◌≤◌, List, ◌++◌
 use Rattle.std.proofs.KnownBytes.{Consumes-trans}
 use Rattle.std.proofs.lemmas.List.{length-take-le}
 use Rattle.std.proofs.lemmas.Result.{err_from_is_err_and}
-use Rattle.ns_replay.specs.Transfer.{IsEnough, max_bytes, max_piece}
+use Rattle.ns_replay.specs.Prelude.{IsEnough, max_bytes, max_piece}
 use Rattle.ns_replay.proofs.transfer.collect_bytes.Goals as goal
 
 -- few bytes, and one read more

@@ -1,6 +1,6 @@
 use Rattle.std.proofs.Common.{subst}
+use Rattle.ns_word.specs.Prelude.{Effect, part_of}
 use Rattle.ns_word.proofs.Paid.{pays_first}
-use Rattle.ns_word.specs.Steps.{Effect, part_of}
 use Rattle.ns_word.proofs.call_law.wakes_are_paid_as_owed.Goals as goal
 
 pub returns : goal.returns

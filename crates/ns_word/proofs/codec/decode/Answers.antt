@@ -1,6 +1,5 @@
 use Rattle.std.proofs.Common.{◌≡◌, ◌∙◌, ◌≤◌, ◌/◌, ◌⊎◌, true, false, Ok, ap, sym, subst}
-use Rattle.ns_word.specs.Codec.{word_of}
-use Rattle.ns_word.specs.declared.word.Word.{Word}
+use Rattle.ns_word.specs.Prelude.{Word, word_of}
 use Rattle.ns_word.proofs.Codes.{decoded, read_back}
 use Rattle.ns_word.proofs.codec.decode.Goals as goal
 

@@ -1,5 +1,5 @@
 use Rattle.std.proofs.Common.{refl}
-use Rattle.ns_word.specs.Codec.{word_of}
+use Rattle.ns_word.specs.Prelude.{word_of}
 use Rattle.ns_word.proofs.codec.taken_apart.Goals as goal
 
 pub returns : goal.returns

@@ -1,13 +1,5 @@
 use Rattle.std.proofs.Common.{◌≡◌, ℕ, [], refl}
-use Rattle.ns_env.specs.declared.limits.Cause.{Cause}
-use Rattle.ns_model.specs.Truths.{Truths}
-use Rattle.ns_queue.specs.Queues.{Lists}
-use Rattle.ns_word.specs.declared.wait.LeavePlace.{LeavePlace}
-use Rattle.ns_word.specs.declared.wait.LeavePlace.TheVariants.{LeaveLoad, TakeToLeave, Leave, AwaitWakeToLeave}
-use Rattle.ns_word.specs.declared.wait.Wait.{Wait}
-use Rattle.ns_word.specs.declared.wait.WaitPlace.TheVariants.{InLeaving}
-use Rattle.ns_word.specs.declared.word.Word.{Word}
-use Rattle.ns_word.specs.Steps.{wait_hand}
+use Rattle.ns_word.specs.Prelude.{AwaitWakeToLeave, Cause, InLeaving, Leave, LeaveLoad, LeavePlace, Lists, TakeToLeave, Truths, Wait, Word, wait_hand}
 use Rattle.ns_word.proofs.hand.change_leaving.Goals as goal
 
 -- at no other place does it change the lists

@@ -1,10 +1,7 @@
 use Rattle.std.proofs.Common.{◌≡◌, ℕ, ◌<◌, ◌≤◌, ◌↔◌, Bool, true, false, IsTrue, cond, refl, sym, ◌∙◌, arith}
 use Rattle.std.specs.Bool.{OnTrue}
 use Rattle.std.proofs.lemmas.Bool.{ltb-true}
-use Rattle.ns_queue.specs.Queues.{Lists, times, without}
-use Rattle.ns_word.specs.declared.wait.Home.{Home}
-use Rattle.ns_word.specs.declared.wait.Home.TheVariants.{AtLock, AtVariables}
-use Rattle.ns_word.specs.Lists.{stands_at}
+use Rattle.ns_word.specs.Prelude.{AtLock, AtVariables, Home, Lists, stands_at, times, without}
 use Rattle.ns_word.proofs.hand.leave_self.Goals as goal
 
 -- who stands there stands in the lists

@@ -1,15 +1,8 @@
 use Rattle.std.proofs.Common.{rules, ◌≡◌, ℕ, ◌<◌, ◌≤◌, ◌++◌, Bool, true, false, List, [], ap, ◌∙◌, arith, if◌then◌else◌}
-use Rattle.ns_queue.specs.declared.waiter.Waiter.{Waiter}
-use Rattle.ns_queue.specs.declared.waiter.Which.TheVariants.{Cv, Lock}
-use Rattle.ns_queue.specs.Queues.{Lists, IsOrderly, cvs_without, times, waiters_of, with_waiters}
-use Rattle.ns_queue.specs.Signals.{taken_set}
-use Rattle.ns_queue.specs.Waiters.{HaveSeats, times_in}
+use Rattle.ns_word.specs.Prelude.{Cv, HaveSeats, IsOrderly, Lists, Lock, Owed, Waiter, cvs_without, moved_to, taken_set, times, times_in, waiters_of, wakes_of, with_waiters}
 use Rattle.ns_queue.proofs.Outside.{gone_those}
 use Rattle.ns_queue.proofs.Parts.{below_in, once_in}
 use Rattle.ns_queue.proofs.Taken.{times_signaled}
-use Rattle.ns_word.specs.declared.owed.Owed.{Owed}
-use Rattle.ns_word.specs.Owed.{wakes_of}
-use Rattle.ns_word.specs.Steps.{moved_to}
 use Rattle.ns_word.proofs.hand.wake_waiters.Goals.{in-Signaling, in-Broadcasting}
 use Rattle.ns_word.proofs.hand.wake_waiters.Goals as goal
 

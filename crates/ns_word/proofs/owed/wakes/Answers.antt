@@ -1,7 +1,5 @@
 use Rattle.std.proofs.Common.{ℕ, [], ◌∷◌, ◌++◌, ap, ◌∙◌, arith}
-use Rattle.ns_queue.specs.declared.waiter.Waiter.{Waiter}
-use Rattle.ns_word.specs.Owed.{wake_by}
-use Rattle.ns_word.specs.declared.owed.Owed.{Owed}
+use Rattle.ns_word.specs.Prelude.{Owed, Waiter, wake_by}
 use Rattle.ns_word.proofs.Mapped.{all_of, one_more, so_far}
 use Rattle.ns_word.proofs.owed.wakes.Goals as goal
 

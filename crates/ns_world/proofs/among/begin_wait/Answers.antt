@@ -1,11 +1,6 @@
 use Rattle.std.proofs.Common.{sym, ap, ◌∙◌}
+use Rattle.ns_world.specs.Prelude.{OnLock, items_of, mode_of, mode_waited, placed, wait_first, waits_for_any}
 use Rattle.ns_word.proofs.Enters.{are_some}
-use Rattle.ns_word.specs.Walks.{wait_first}
-use Rattle.ns_world.specs.declared.call.Start.TheVariants.{OnLock}
-use Rattle.ns_world.specs.Among.{waits_for_any}
-use Rattle.ns_world.specs.Begins.{placed}
-use Rattle.ns_world.specs.Calls.{mode_of, mode_waited}
-use Rattle.ns_world.specs.Items.{items_of}
 use Rattle.ns_world.proofs.Listed.{low_if_among, some_among}
 use Rattle.ns_world.proofs.among.begin_wait.Goals as goal
 

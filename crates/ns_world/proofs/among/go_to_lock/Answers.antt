@@ -1,10 +1,5 @@
 use Rattle.std.proofs.Common.{◌≡◌, ℕ, None, refl}
-use Rattle.ns_world.specs.declared.object_walk.ObjectWalk.{ObjectWalk}
-use Rattle.ns_world.specs.declared.object_walk.ObjectWalk.TheVariants.{InRound}
-use Rattle.ns_world.specs.declared.round.Round.{Round}
-use Rattle.ns_world.specs.declared.round.RoundPlace.{RoundPlace}
-use Rattle.ns_world.specs.declared.seat.Seat.{Seat}
-use Rattle.ns_world.specs.Among.{CanTell}
+use Rattle.ns_world.specs.Prelude.{CanTell, InRound, ObjectWalk, Round, RoundPlace, Seat}
 use Rattle.ns_world.proofs.among.go_to_lock.Goals as goal
 
 -- what goes to the lock is a round

@@ -1,6 +1,6 @@
 use Rattle.std.proofs.Common.{◌∙◌}
-use Rattle.ns_world.proofs.among.told_by_lock.Goals as goal
 use Rattle.ns_world.proofs.among.told_by_lock.Goals.{in-None, in-Some}
+use Rattle.ns_world.proofs.among.told_by_lock.Goals as goal
 
 pub returns-in-Finished-clause-after : goal.returns-in-Finished-clause-after
 returns-in-Finished-clause-after g c = elim c.match-seat.branch [

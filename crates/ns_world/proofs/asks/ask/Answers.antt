@@ -1,6 +1,6 @@
 use Rattle.ns_world.proofs.asks.ask.Goals as goal
 use Rattle.std.proofs.Common.{◌∙◌, ap}
-use Rattle.ns_world.specs.Asks.{env_step_of}
+use Rattle.ns_world.specs.Prelude.{env_step_of}
 
 pub returns : goal.returns
 returns g c = record {

@@ -1,8 +1,6 @@
 use Rattle.std.proofs.Common.{◌≡◌, true, take}
 use Rattle.std.specs.List.{list_all}
-use Rattle.ns_world.specs.Asks.{note_at}
-use Rattle.ns_world.specs.Items.{items_of}
-use Rattle.ns_world.specs.Objects.{is_there}
+use Rattle.ns_world.specs.Prelude.{is_there, items_of, note_at}
 use Rattle.ns_world.proofs.call.are_there.Given as goal
 
 -- there is each of those so far

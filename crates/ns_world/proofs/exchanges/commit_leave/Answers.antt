@@ -1,9 +1,7 @@
 use Rattle.std.proofs.Common.{◌≡◌, [], ◌++◌, ap, sym, ◌∙◌, subst}
 use Rattle.std.proofs.lemmas.List.{append-nil}
+use Rattle.ns_world.specs.Prelude.{AtVariables, leave_of, stands_at}
 use Rattle.ns_world.proofs.Waited.{not_leaving}
-use Rattle.ns_word.specs.Lists.{stands_at}
-use Rattle.ns_word.specs.Steps.{leave_of}
-use Rattle.ns_word.specs.declared.wait.Home.TheVariants.{AtVariables}
 use Rattle.ns_world.proofs.exchanges.commit_leave.Goals as goal
 
 -- who stands in no list of a variable leaves none

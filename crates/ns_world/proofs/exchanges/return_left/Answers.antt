@@ -1,7 +1,7 @@
 use Rattle.std.proofs.Common.{refl, sym}
 use Rattle.std.proofs.lemmas.Result.{err_from_is_err_and}
+use Rattle.ns_world.specs.Prelude.{LeaveSelf}
 use Rattle.ns_world.proofs.Waited.{left_back, change_missed}
-use Rattle.ns_word.specs.declared.act.Change.TheVariants.{LeaveSelf}
 use Rattle.ns_world.proofs.exchanges.return_left.Goals as goal
 
 pub returns-then-not-is_same-clause-ok : goal.returns-then-not-is_same-clause-ok

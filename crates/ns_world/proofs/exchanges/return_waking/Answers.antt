@@ -1,9 +1,8 @@
 use Rattle.std.proofs.Common.{refl, sym, ap, not, ◌∙◌}
 use Rattle.std.proofs.lemmas.Result.{err_from_is_err_and}
+use Rattle.ns_world.specs.Prelude.{WakeWaiters, has_some}
 use Rattle.ns_world.proofs.Released.{some_left}
 use Rattle.ns_world.proofs.Waited.{woken_back, change_missed}
-use Rattle.ns_word.specs.Lists.{has_some}
-use Rattle.ns_word.specs.declared.act.Change.TheVariants.{WakeWaiters}
 use Rattle.ns_world.proofs.exchanges.return_waking.Goals as goal
 
 pub returns-then-not-is_same-clause-ok : goal.returns-then-not-is_same-clause-ok

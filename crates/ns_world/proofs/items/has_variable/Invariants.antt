@@ -1,6 +1,6 @@
 use Rattle.std.proofs.Common.{◌≡◌, drop}
 use Rattle.std.specs.List.{list_any}
-use Rattle.ns_world.specs.Items.{is_variable}
+use Rattle.ns_world.specs.Prelude.{is_variable}
 use Rattle.ns_world.proofs.items.has_variable.Given as goal
 
 abbrev pub invariant-loop-item : goal.invariant-loop-item

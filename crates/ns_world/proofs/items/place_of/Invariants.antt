@@ -1,5 +1,5 @@
 use Rattle.std.proofs.Common.{◌≡◌, ◌+◌, drop}
-use Rattle.ns_world.specs.Items.{place_in}
+use Rattle.ns_world.specs.Prelude.{place_in}
 use Rattle.ns_world.proofs.items.place_of.Given as goal
 
 abbrev pub invariant-loop-i : goal.invariant-loop-i

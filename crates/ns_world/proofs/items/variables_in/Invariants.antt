@@ -1,6 +1,6 @@
 use Rattle.std.proofs.Common.{◌≡◌, ◌<◌, ◌||◌, ℕ, drop}
+use Rattle.ns_world.specs.Prelude.{is_among}
 use Rattle.ns_model.specs.Cvs.{is_in}
-use Rattle.ns_world.specs.Items.{is_among}
 use Rattle.ns_world.proofs.items.variables_in.Given as goal
 
 abbrev pub invariant-loop-item : goal.invariant-loop-item

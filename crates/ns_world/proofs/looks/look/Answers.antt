@@ -1,9 +1,5 @@
 use Rattle.std.proofs.Common.{Some, refl, sym, ◌∙◌, subst}
-use Rattle.ns_env.specs.Steps.{outcome}
-use Rattle.ns_env.specs.Walks.{env_want_of}
-use Rattle.ns_world.specs.Asks.{plain_of}
-use Rattle.ns_world.specs.declared.step.Step.TheVariants.{Went}
-use Rattle.ns_world.specs.Looked.{SeatLooks}
+use Rattle.ns_world.specs.Prelude.{SeatLooks, Went, env_want_of, outcome, plain_of}
 use Rattle.ns_world.proofs.Looking.{look_effect, look_leads, LookLeads}
 use Rattle.ns_world.proofs.looks.look.Goals as goal
 

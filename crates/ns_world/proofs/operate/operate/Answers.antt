@@ -1,6 +1,5 @@
 use Rattle.std.proofs.Common.{refl, ap, ◌∙◌, Some}
-use Rattle.ns_world.specs.Objects.{object_step_of}
-use Rattle.ns_world.specs.ObjectWalks.{object_place}
+use Rattle.ns_world.specs.Prelude.{object_place, object_step_of}
 use Rattle.ns_world.proofs.operate.operate.Goals as goal
 
 pub returns : goal.returns

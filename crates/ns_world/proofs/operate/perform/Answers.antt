@@ -1,5 +1,6 @@
 use Rattle.std.proofs.Common.{[], refl, ap, sym, ◌∙◌, slice_set}
-use Rattle.ns_counters.specs.Steps.{outcome, word_at}
+use Rattle.ns_world.specs.Prelude.{word_at}
+use Rattle.ns_counters.specs.Steps.{outcome}
 use Rattle.ns_world.proofs.ObjectLaw.{left_is}
 use Rattle.ns_world.proofs.operate.perform.Goals as goal
 

@@ -1,8 +1,8 @@
 use Rattle.std.proofs.Common.{sym, ◌∙◌, ◌<◌, length, arith}
-use Rattle.ns_model.specs.Seats.{is_in}
+use Rattle.ns_world.specs.Prelude.{is_in}
 use Rattle.ns_world.proofs.Walks.{stands_with, stands_without}
-use Rattle.ns_world.proofs.operate.with_busy.Goals as goal
 use Rattle.ns_world.proofs.operate.with_busy.Goals.{then-is_some, else-is_some}
+use Rattle.ns_world.proofs.operate.with_busy.Goals as goal
 
 pub loop-at-preserved : goal.loop-at-preserved
 loop-at-preserved c = λ seat. let walks = c.args.objects.now.walks in

@@ -1,6 +1,5 @@
 use Rattle.std.proofs.Common.{◌≡◌, ◌||◌, ℕ, take, is_some}
-use Rattle.ns_model.specs.Seats.{is_in}
-use Rattle.ns_world.specs.Objects.{walk_in}
+use Rattle.ns_world.specs.Prelude.{is_in, walk_in}
 use Rattle.ns_world.proofs.operate.with_busy.Given as goal
 
 -- the seats so far

@@ -1,7 +1,5 @@
 use Rattle.std.proofs.Common.{rules, ap, ◌∙◌}
-use Rattle.ns_word.specs.Walks.{walk_after}
-use Rattle.ns_world.specs.Looks.{look_of}
-use Rattle.ns_world.specs.Performs.{step_of, tests_after}
+use Rattle.ns_world.specs.Prelude.{look_of, step_of, tests_after, walk_after}
 use Rattle.ns_world.proofs.perform.perform.Goals as goal
 
 pub make-requires : goal.make-requires

@@ -1,8 +1,6 @@
 use Rattle.std.proofs.Common.{rules, arith, refl, sym, ◌∷◌, [], map, subst, Vec, Global}
 use Rattle.std.proofs.lemmas.Result.{err_from_is_err_and}
-use Rattle.ns_world.specs.Whole.{whole_of}
-use Rattle.ns_world.specs.declared.call.Call.{Call}
-use Rattle.ns_world.specs.Runs.{Progress, progress, progressed, IsCounted}
+use Rattle.ns_world.specs.Prelude.{Call, IsCounted, Progress, progress, progressed, whole_of}
 use Rattle.ns_world.proofs.Schedules.{stops_now, turn_stops, untold_stops}
 use Rattle.ns_world.proofs.Counted.{turn_counted, calls_fit, counts_progress}
 use Rattle.ns_world.proofs.Turns.{seats_stay, progressed_world}

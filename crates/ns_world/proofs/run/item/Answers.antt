@@ -1,8 +1,6 @@
 use Rattle.std.proofs.Common.{◌∷◌, [], map, Vec, Global, sym, ◌∙◌}
 use Rattle.std.proofs.lemmas.Result.{err_from_is_err_and}
-use Rattle.ns_world.specs.Whole.{whole_of}
-use Rattle.ns_world.specs.declared.call.Call.{Call}
-use Rattle.ns_world.specs.Runs.{progress}
+use Rattle.ns_world.specs.Prelude.{Call, progress, whole_of}
 use Rattle.ns_world.proofs.Schedules.{advance_none, advance_item, stops_behind}
 use Rattle.ns_world.proofs.run.item.Goals as goal
 

@@ -1,6 +1,5 @@
 use Rattle.std.proofs.Common.{◌∷◌, [], map, ◌-◌}
-use Rattle.ns_world.specs.Whole.{whole_of}
-use Rattle.ns_world.specs.Runs.{progress, Advances, IsCounted}
+use Rattle.ns_world.specs.Prelude.{Advances, IsCounted, progress, whole_of}
 use Rattle.ns_world.proofs.run.item.Given as goal
 
 -- the item goes on

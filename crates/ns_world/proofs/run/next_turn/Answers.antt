@@ -1,7 +1,6 @@
 use Rattle.std.proofs.Common.{rules, subst, sym, ◌∙◌}
 use Rattle.std.specs.Prelude.{IfSome}
-use Rattle.ns_world.specs.Calls.{CallInRange}
-use Rattle.ns_world.specs.Whole.{whole_of}
+use Rattle.ns_world.specs.Prelude.{CallInRange, whole_of}
 use Rattle.ns_world.proofs.Counted.{calls_fit, next_fits}
 use Rattle.ns_world.proofs.Turns.{turns_going, turns_without}
 use Rattle.ns_world.proofs.run.next_turn.Goals as goal

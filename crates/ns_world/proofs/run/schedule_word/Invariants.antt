@@ -1,6 +1,5 @@
 use Rattle.std.proofs.Common.{[], map, replicate}
-use Rattle.ns_world.specs.Whole.{whole_of}
-use Rattle.ns_world.specs.Runs.{progress, Advances, IsCounted}
+use Rattle.ns_world.specs.Prelude.{Advances, IsCounted, progress, whole_of}
 use Rattle.ns_world.proofs.run.schedule_word.Given as goal
 
 -- the items so far

@@ -1,8 +1,8 @@
 use Rattle.std.proofs.Common.{◌≡◌, length, sym, ◌∙◌, arith}
 use Rattle.std.proofs.Math.Seq.{take-length}
 use Rattle.ns_world.proofs.Busy.{busy_with, busy_without}
-use Rattle.ns_world.proofs.seats.busy_seats.Goals as goal
 use Rattle.ns_world.proofs.seats.busy_seats.Goals.{then-is_busy, else-is_busy}
+use Rattle.ns_world.proofs.seats.busy_seats.Goals as goal
 
 pub loop-at-preserved : goal.loop-at-preserved
 loop-at-preserved g c = λ number.

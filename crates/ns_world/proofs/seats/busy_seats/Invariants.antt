@@ -1,7 +1,5 @@
 use Rattle.std.proofs.Common.{◌≡◌, ℕ, take, map}
-use Rattle.ns_model.specs.Seats.{is_in}
-use Rattle.ns_world.specs.Performs.{view_of}
-use Rattle.ns_world.specs.World.{is_busy}
+use Rattle.ns_world.specs.Prelude.{is_busy, is_in, view_of}
 use Rattle.ns_world.proofs.seats.busy_seats.Given as goal
 
 -- the seats so far

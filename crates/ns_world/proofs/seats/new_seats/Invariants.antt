@@ -1,6 +1,5 @@
 use Rattle.std.proofs.Common.{◌≡◌, ◌-◌, ◌++◌, map, replicate, None}
-use Rattle.ns_word.specs.Begins.{fresh_views}
-use Rattle.ns_world.specs.Performs.{view_of}
+use Rattle.ns_world.specs.Prelude.{fresh_views, view_of}
 use Rattle.ns_world.proofs.seats.new_seats.Given as goal
 
 -- those made so far, and those to come

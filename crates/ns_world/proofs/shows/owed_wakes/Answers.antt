@@ -1,8 +1,7 @@
 use Rattle.std.proofs.Common.{◌≡◌, ◌+◌, length, map, take, ap, sym, ◌∙◌, arith}
 use Rattle.std.proofs.Math.Seq.{take-length}
 use Rattle.std.proofs.lemmas.List.{length-append, length-map}
-use Rattle.ns_world.specs.Performs.{view_of}
-use Rattle.ns_world.specs.Shows.{wakes_owed}
+use Rattle.ns_world.specs.Prelude.{view_of, wakes_owed}
 use Rattle.ns_world.proofs.Showing.{wakes_more, wakes_front}
 use Rattle.ns_world.proofs.shows.owed_wakes.Goals as goal
 

@@ -1,6 +1,5 @@
 use Rattle.std.proofs.Common.{◌≡◌, drop, map}
-use Rattle.ns_world.specs.Performs.{view_of}
-use Rattle.ns_world.specs.Shows.{lists_by}
+use Rattle.ns_world.specs.Prelude.{lists_by, view_of}
 use Rattle.ns_world.proofs.shows.shown_queues.Given as goal
 
 -- none of those before has the queues

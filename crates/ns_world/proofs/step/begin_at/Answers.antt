@@ -1,13 +1,8 @@
 use Rattle.std.proofs.Common.{◌≡◌, ◌<◌, ◌≤◌, length, arith, refl, sym, ◌∙◌, subst, get_or}
-use Rattle.ns_word.specs.Codec.{word_of}
-use Rattle.ns_world.specs.Asks.{note_at}
-use Rattle.ns_world.specs.Calls.{CallFits}
-use Rattle.ns_world.specs.Performs.{view_of}
+use Rattle.ns_world.specs.Prelude.{CallFits, IsSettled, Seat, note_at, view_of, word_of}
 use Rattle.ns_world.proofs.Mapped.{got-map}
 use Rattle.ns_world.proofs.Placed.{busy_here, idle_walk, idle_ask, starts_here}
 use Rattle.ns_world.proofs.Places.{StartFits, start_fits}
-use Rattle.ns_world.specs.declared.seat.Seat.{Seat}
-use Rattle.ns_word.specs.Places.{IsSettled}
 use Rattle.ns_world.proofs.Worlds.{settled_here, lawful_placed, past_views, same_element, asks_unasked}
 use Rattle.ns_world.proofs.step.begin_at.Goals as goal
 

@@ -1,11 +1,8 @@
 use Rattle.std.proofs.Common.{◌≡◌, ◌<◌, ◌≤◌, ◌∙◌, Some, length, rules, arith, refl, inl, ap, subst}
 use Rattle.std.proofs.lemmas.List.{set-get_or}
-use Rattle.ns_word.specs.Codec.{word_of}
+use Rattle.ns_world.specs.Prelude.{Commits, view_of, want_of, word_of}
 use Rattle.ns_word.proofs.Codes.{decoded}
 use Rattle.ns_word.proofs.Seen.{packable}
-use Rattle.ns_word.specs.Walks.{want_of}
-use Rattle.ns_world.specs.Commits.{Commits}
-use Rattle.ns_world.specs.Performs.{view_of}
 use Rattle.ns_world.proofs.Mapped.{got-map}
 use Rattle.ns_world.proofs.Worlds.{act_here, ask_here, asks_for, number_here, acts_here, moved_here, asks_unasked, unasked_cleared, past_views, lawful_after, same_element, told}
 use Rattle.ns_world.proofs.step.step_at.Goals as goal

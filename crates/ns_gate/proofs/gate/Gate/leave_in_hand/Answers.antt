@@ -1,5 +1,5 @@
 use Rattle.std.proofs.Common.{rules, ap, ◌∙◌}
-use Rattle.ns_gate.specs.Prelude.{changed, bits_of, stands_at, LeaveSelf, the}
+use Rattle.ns_gate.specs.Prelude.{LeaveSelf, bits_of, changed, stands_at, the}
 use Rattle.ns_gate.proofs.Findings.{has_slot, was_in_hand, now_in_hand}
 use Rattle.ns_gate.proofs.gate.Gate.leave_in_hand.Goals as goal
 

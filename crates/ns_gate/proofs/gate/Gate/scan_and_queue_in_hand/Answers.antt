@@ -1,8 +1,6 @@
 use Rattle.std.proofs.Common.{rules, ap, map, ◌∙◌}
-use Rattle.ns_gate.specs.Prelude.{meets_at}
+use Rattle.ns_gate.specs.Prelude.{Waiter, meets_at, tests_of, woken_of}
 use Rattle.ns_gate.proofs.Findings.{has_slot, was_in_hand}
-use Rattle.ns_queue.specs.Scans.{tests_of, woken_of}
-use Rattle.ns_queue.specs.declared.waiter.Waiter.{Waiter}
 use Rattle.ns_gate.proofs.gate.Gate.scan_and_queue_in_hand.Goals as goal
 
 pub slot_mut-queues-requires : goal.slot_mut-queues-requires

@@ -1,8 +1,6 @@
 use Rattle.std.proofs.Common.{rules, ap, map, sym, ◌∙◌}
-use Rattle.ns_gate.specs.Prelude.{bits_of, lists_scanned, meets_at, sought_at, the}
+use Rattle.ns_gate.specs.Prelude.{Waiter, bits_of, lists_scanned, meets_at, sought_at, tests_of, the, woken_of}
 use Rattle.ns_gate.proofs.Findings.{has_slot, now_in_hand, was_in_hand}
-use Rattle.ns_queue.specs.Scans.{tests_of, woken_of}
-use Rattle.ns_queue.specs.declared.waiter.Waiter.{Waiter}
 use Rattle.ns_gate.proofs.gate.Gate.scan_from_in_hand.Goals as goal
 
 pub slot_mut-queues-requires : goal.slot_mut-queues-requires

@@ -1,6 +1,5 @@
 use Rattle.std.proofs.Common.{rules, ap, refl, sym, ◌∙◌, None, Some, Ok}
-use Rattle.ns_gate.specs.Prelude.{bits_of, foremost_of, lists_scanned, meets_at, sought_at, the, woken_of, left_of}
-use Rattle.ns_gate.specs.declared.queues.Turned.{Turned}
+use Rattle.ns_gate.specs.Prelude.{Turned, bits_of, foremost_of, left_of, lists_scanned, meets_at, sought_at, the, woken_of}
 use Rattle.ns_gate.proofs.Findings.{has_slot, now_in_hand, was_in_hand}
 use Rattle.ns_gate.proofs.Scans.{lists_few, lists_kept, told_nobody, told_reader, told_writer}
 use Rattle.ns_gate.proofs.gate.Gate.scan_writer_in_hand.Goals as goal

@@ -1,7 +1,7 @@
 use Rattle.std.proofs.Common.{rules}
+use Rattle.std.specs.Prelude.{None}
 use Rattle.ns_gate.proofs.Allowed.{may_store}
 use Rattle.ns_gate.proofs.Findings.{stepped}
-use Rattle.std.specs.Prelude.{None}
 use Rattle.ns_gate.proofs.gate.Gate.store_at.Goals as goal
 
 pub store-requires : goal.store-requires

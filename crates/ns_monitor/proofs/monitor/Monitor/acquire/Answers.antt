@@ -1,5 +1,5 @@
 use Rattle.std.proofs.Common.{◌∙◌, sym, arith, None, rules}
-use Rattle.ns_gate.specs.Prelude.{TableId, HasSince, the, AcquireLoad, LoadWord, Saw, InAcquire}
+use Rattle.ns_monitor.specs.Prelude.{AcquireLoad, HasSince, InAcquire, LoadWord, Saw, TableId, the}
 use Rattle.ns_gate.proofs.Calls.{since, since_then}
 use Rattle.ns_gate.proofs.Room.{queues_fit}
 use Rattle.ns_monitor.proofs.Standing.{can_load, loads, same_number}

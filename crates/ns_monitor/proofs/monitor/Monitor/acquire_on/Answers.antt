@@ -1,5 +1,5 @@
 use Rattle.std.proofs.Common.{◌∙◌, sym, refl, arith, None}
-use Rattle.ns_gate.specs.Prelude.{TableId, the, AcquireLoad, LoadWord, Saw, InAcquire}
+use Rattle.ns_monitor.specs.Prelude.{AcquireLoad, InAcquire, LoadWord, Saw, TableId, the}
 use Rattle.ns_gate.proofs.Calls.{since, since_itself, since_then}
 use Rattle.ns_gate.proofs.Room.{queues_fit}
 use Rattle.ns_monitor.proofs.Standing.{can_load, loads, same_number}

@@ -1,6 +1,5 @@
 use Rattle.std.proofs.Common.{◌≡◌, None}
-use Rattle.ns_gate.specs.Prelude.{HasSince, the, IsPackable}
-use Rattle.ns_monitor.specs.Prelude.{AcquiresBy}
+use Rattle.ns_monitor.specs.Prelude.{AcquiresBy, HasSince, IsPackable, the}
 use Rattle.ns_monitor.proofs.monitor.Monitor.acquire_on.Given as goal
 
 abbrev pub invariant-loop : goal.invariant-loop

@@ -1,11 +1,10 @@
 use Rattle.std.proofs.Common.{◌≡◌, ◌∙◌, sym, subst, ap, refl, arith, false, Some}
-use Rattle.ns_gate.specs.Prelude.{TableId, HasSince, IsAtPlace, IsInRange, the, HasMode, AwaitWakeInWait, InQueuing, InWait, Load, Wait}
+use Rattle.ns_monitor.specs.Prelude.{AwaitWakeInWait, HasMode, HasSince, InQueuing, InWait, IsAtPlace, IsInRange, IsWaitingForAny, Known, Load, TableId, Wait, any_waiting, the, waits_for_any}
 use Rattle.ns_gate.proofs.Calls.{since_then}
 use Rattle.ns_gate.proofs.Room.{queues_fit}
 use Rattle.ns_monitor.proofs.SeveralWaits.{has_begun_to_wait, may_wait_for_any}
 use Rattle.ns_monitor.proofs.Standing.{same_number}
 use Rattle.ns_monitor.proofs.VariableWaits.{taken_now}
-use Rattle.ns_monitor.specs.Prelude.{IsWaitingForAny, Known, any_waiting, waits_for_any}
 use Rattle.ns_monitor.proofs.monitor.Monitor.any_begin.Given.{Over}
 use Rattle.ns_monitor.proofs.monitor.Monitor.any_begin.Goals.{After-drop-held-inside}
 use Rattle.ns_monitor.proofs.monitor.Monitor.any_begin.Goals as goal

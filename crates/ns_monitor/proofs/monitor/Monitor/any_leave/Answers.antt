@@ -1,12 +1,9 @@
 use Rattle.std.proofs.Common.{◌∙◌, sym, subst, ap, arith, None}
-use Rattle.ns_gate.specs.Prelude.{TableId, HasAnswered, IsAtPlace, IsInRange, the, Await, AwaitWakeInWait, ForWait, InWait, Wait}
+use Rattle.ns_monitor.specs.Prelude.{Await, AwaitWakeInWait, ForWait, HasAcquired, HasAnswered, HasComeBackFromAny, InWait, IsAtPlace, IsInRange, TableId, Wait, WaitKnown, WokenBy, known_of, the, variable_in, waits_for_any}
 use Rattle.ns_gate.proofs.Room.{queues_fit}
 use Rattle.ns_monitor.proofs.Returns.{fits_fresh}
 use Rattle.ns_monitor.proofs.SeveralWaits.{any_back_fresh, has_come_back}
 use Rattle.ns_monitor.proofs.Standing.{same_number}
-use Rattle.ns_monitor.specs.Prelude.{HasAcquired, HasComeBackFromAny, WaitKnown, known_of, waits_for_any}
-use Rattle.ns_word.specs.Waits.{variable_in}
-use Rattle.ns_word.specs.declared.walk.Reply.TheVariants.{WokenBy}
 use Rattle.ns_monitor.proofs.monitor.Monitor.any_leave.Given.{Over}
 use Rattle.ns_monitor.proofs.monitor.Monitor.any_leave.Goals.{After-variable-by}
 use Rattle.ns_monitor.proofs.monitor.Monitor.any_leave.Goals as goal

@@ -1,14 +1,11 @@
 use Rattle.std.proofs.Common.{◌∙◌, sym, subst, ap, refl, arith, false, Some, None}
-use Rattle.ns_env.specs.declared.limits.Limits.{Limits}
-use Rattle.ns_gate.specs.Prelude.{TableId, CanStep, HasAnswered, HasSince, IsAtPlace, Performed, the, got_of, AcquireLoad, Await, AwaitWakeInWait, Flag, ForWait, InAcquire, InWait, LoadFlag, Look, Looked, LookOut, Wait}
+use Rattle.ns_monitor.specs.Prelude.{AcquireLoad, Await, AwaitWakeInWait, CanStep, Flag, ForWait, HasAcquired, HasAnswered, HasSince, InAcquire, InWait, IsAtPlace, IsWaitingForAny, Limits, LoadFlag, Look, LookOut, Looked, Performed, TableId, Wait, WaitKnown, Woken}
+use Rattle.ns_monitor.specs.Prelude.{WokenBy, at_will, got_of, the, waits_for_any}
 use Rattle.ns_gate.proofs.Calls.{can_go, goes, since, since_then}
 use Rattle.ns_gate.proofs.Room.{queues_fit}
 use Rattle.ns_monitor.proofs.SeveralWaits.{has_come_back, still_waits, tells_still}
 use Rattle.ns_monitor.proofs.Standing.{same_number}
 use Rattle.ns_monitor.proofs.Waits.{looks_out, woken_next}
-use Rattle.ns_monitor.specs.Prelude.{HasAcquired, IsWaitingForAny, WaitKnown, at_will, waits_for_any}
-use Rattle.ns_word.specs.declared.wait.Outcome.TheVariants.{Woken}
-use Rattle.ns_word.specs.declared.walk.Reply.TheVariants.{WokenBy}
 use Rattle.ns_monitor.proofs.monitor.Monitor.any_poll.Given.{Over}
 use Rattle.ns_monitor.proofs.monitor.Monitor.any_poll.Goals.{After-look, After-acquire}
 use Rattle.ns_monitor.proofs.monitor.Monitor.any_poll.Goals as goal

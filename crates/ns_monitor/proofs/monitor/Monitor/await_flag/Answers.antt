@@ -1,5 +1,5 @@
 use Rattle.std.proofs.Common.{◌∙◌, sym, refl, arith, None, rules}
-use Rattle.ns_gate.specs.Prelude.{TableId, HasSince, the, LoadFlag, Flag}
+use Rattle.ns_monitor.specs.Prelude.{Flag, HasSince, LoadFlag, TableId, the}
 use Rattle.ns_gate.proofs.Calls.{can_go, since, since_itself, since_then}
 use Rattle.ns_gate.proofs.Room.{queues_fit}
 use Rattle.ns_monitor.proofs.Standing.{is_woken, same_number, sleeps_on}

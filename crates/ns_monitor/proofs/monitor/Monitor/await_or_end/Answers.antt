@@ -1,5 +1,5 @@
 use Rattle.std.proofs.Common.{◌≡◌, ◌∙◌, sym, subst, refl, arith, None, Some, false, rules}
-use Rattle.ns_gate.specs.Prelude.{TableId, HasSince, IsAtPlace, the, LoadFlag, Look, Flag, Looked, AwaitWakeInWait, LookOut, InWait}
+use Rattle.ns_monitor.specs.Prelude.{AwaitWakeInWait, Flag, HasSince, InWait, IsAtPlace, LoadFlag, Look, LookOut, Looked, TableId, the}
 use Rattle.ns_gate.proofs.Calls.{can_go, goes, since, since_itself, since_then}
 use Rattle.ns_gate.proofs.Room.{queues_fit}
 use Rattle.ns_monitor.proofs.Standing.{same_number}

@@ -1,9 +1,8 @@
 use Rattle.std.proofs.Common.{◌∙◌, Some, ap, arith, rules, subst, sym}
+use Rattle.ns_monitor.specs.Prelude.{HasSince, Known, TableId, WentAtOnce, known_of, locking, the}
 use Rattle.ns_gate.proofs.Room.{queues_fit}
-use Rattle.ns_gate.specs.Prelude.{HasSince, TableId, the}
 use Rattle.ns_monitor.proofs.Begins.{may_lock}
 use Rattle.ns_monitor.proofs.Standing.{same_number}
-use Rattle.ns_monitor.specs.Prelude.{Known, WentAtOnce, known_of, locking}
 use Rattle.ns_monitor.proofs.monitor.Monitor.begin_lock.Goals as goal
 
 pub go_at_once-last-requires : goal.go_at_once-last-requires

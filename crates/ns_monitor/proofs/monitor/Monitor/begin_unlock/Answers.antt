@@ -1,9 +1,8 @@
 use Rattle.std.proofs.Common.{◌∙◌, Some, ap, arith, rules, subst, sym}
-use Rattle.ns_gate.specs.Prelude.{HasSince, TableId, the}
+use Rattle.ns_monitor.specs.Prelude.{HasSince, IsQuietFor, Known, TableId, WentAtOnce, known_of, releasing_by, the}
 use Rattle.ns_gate.proofs.Room.{queues_fit}
 use Rattle.ns_monitor.proofs.Begins.{may_release}
 use Rattle.ns_monitor.proofs.Standing.{same_number}
-use Rattle.ns_monitor.specs.Prelude.{IsQuietFor, Known, WentAtOnce, known_of, releasing_by}
 use Rattle.ns_monitor.proofs.monitor.Monitor.begin_unlock.Goals as goal
 
 pub go_at_once-last-requires : goal.go_at_once-last-requires

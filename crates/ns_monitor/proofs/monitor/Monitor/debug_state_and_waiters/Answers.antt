@@ -1,14 +1,13 @@
 use Rattle.std.proofs.Common.{◌∙◌, sym, subst, refl, arith, Some, None}
-use Rattle.ns_gate.specs.Prelude.{TableId, HasAnswered, HasSince, IsAtPlace, IsPackable, InShow, ReturnShown, Succeeded, ToChange, Word, bits_of, the}
+use Rattle.ns_monitor.specs.Prelude.{HasAnswered, HasSince, HasStood, InShow, IsAtPlace, IsPackable, Known, ReturnShown, Succeeded, TableId, ToChange, Word, bits_of, known_of, showing, the}
 use Rattle.ns_gate.proofs.Calls.{since_itself, since_then, works}
 use Rattle.ns_gate.proofs.Room.{queues_fit}
 use Rattle.ns_monitor.proofs.Callers.{saw_more}
 use Rattle.ns_monitor.proofs.Shows.{stood_since}
 use Rattle.ns_monitor.proofs.Standing.{still_since, taken_packs}
-use Rattle.ns_monitor.specs.Prelude.{HasStood, Known, known_of, showing}
-use Rattle.ns_word.specs.declared.request.Request.TheVariants as TheRequest
 use Rattle.ns_monitor.proofs.monitor.Monitor.debug_state_and_waiters.Given.{Over}
 use Rattle.ns_monitor.proofs.monitor.Monitor.debug_state_and_waiters.Goals.{After-put_back}
+use Rattle.ns_word.specs.declared.request.Request.TheVariants as TheRequest
 use Rattle.ns_monitor.proofs.monitor.Monitor.debug_state_and_waiters.Goals as goal
 
 pub put_back-requires : goal.put_back-requires

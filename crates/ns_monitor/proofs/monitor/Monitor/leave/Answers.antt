@@ -1,6 +1,5 @@
 use Rattle.std.proofs.Common.{◌∙◌, ap, sym, subst, refl, arith, None, true, false, rules}
-use Rattle.ns_gate.specs.Prelude.{TableId, HasSince, IsAtPlace, HasReached, the, LeaveSelf, Await, AwaitWakeToLeave, Leave, InLeaving, InWait}
-use Rattle.ns_gate.specs.declared.queues.Returning.TheVariants.{Changed}
+use Rattle.ns_monitor.specs.Prelude.{Await, AwaitWakeToLeave, Changed, HasReached, HasSince, InLeaving, InWait, IsAtPlace, Leave, LeaveSelf, TableId, the}
 use Rattle.ns_gate.proofs.Calls.{since_then, works}
 use Rattle.ns_gate.proofs.Room.{queues_fit}
 use Rattle.ns_monitor.proofs.Standing.{hand_by, same_number, still_since}

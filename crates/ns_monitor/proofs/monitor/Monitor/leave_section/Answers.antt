@@ -1,13 +1,10 @@
 use Rattle.std.proofs.Common.{◌≡◌, ◌∙◌, ap, not, sym, subst, refl, arith, None, rules}
-use Rattle.ns_gate.specs.Prelude.{TableId, HasSince, HasReached, Lists, armed_place, bits_of, row_in, the, times, woken_of, has_some, meets_at, pay_waiting, Await, QueueToWait, InQueuing, InWait}
-use Rattle.ns_gate.specs.declared.queues.Returning.TheVariants.{Waited}
+use Rattle.ns_monitor.specs.Prelude.{Await, HasReached, HasRow, HasSince, InQueuing, InWait, Lists, QueueToWait, TableId, Waited, armed_place, bits_of, called_by, has_some, meets_at, pay_waiting, row_in, the, times, woken_of}
 use Rattle.ns_gate.proofs.Calls.{since_then, works}
 use Rattle.ns_gate.proofs.Room.{queues_fit}
-use Rattle.ns_word.specs.Owed.{called_by}
 use Rattle.ns_word.proofs.Scans.{as_many}
 use Rattle.ns_monitor.proofs.Locks.{HasArmed}
 use Rattle.ns_monitor.proofs.Releases.{hand_scanned, scans_at_hand, took_some, calls_are}
-use Rattle.ns_monitor.specs.Prelude.{HasRow}
 use Rattle.ns_monitor.proofs.Standing.{still_since}
 use Rattle.ns_monitor.proofs.Waits.{arms_to_wait, loads_or_queues}
 use Rattle.ns_monitor.proofs.monitor.Monitor.leave_section.Given.{Over}

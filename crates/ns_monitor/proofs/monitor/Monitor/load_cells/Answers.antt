@@ -1,8 +1,7 @@
 use Rattle.std.proofs.Common.{◌≡◌, ◌∙◌, ◌<◌, sym, subst, arith, refl, rules}
-use Rattle.ns_gate.specs.Prelude.{TableId}
+use Rattle.ns_monitor.specs.Prelude.{HasLoaded, TableId}
 use Rattle.ns_gate.proofs.Room.{queues_fit}
 use Rattle.ns_monitor.proofs.Tests.{can_load_cell, loads_cell, loads_none}
-use Rattle.ns_monitor.specs.Prelude.{HasLoaded}
 use Rattle.ns_monitor.proofs.monitor.Monitor.load_cells.Goals as goal
 
 pub loop-i-init : goal.loop-i-init

@@ -1,5 +1,5 @@
 use Rattle.std.proofs.Common.{◌∙◌, sym, arith, refl, rules}
-use Rattle.ns_gate.specs.Prelude.{TableId}
+use Rattle.ns_monitor.specs.Prelude.{TableId}
 use Rattle.ns_gate.proofs.Room.{queues_fit}
 use Rattle.ns_monitor.proofs.Begins.{may_judge}
 use Rattle.ns_monitor.proofs.Tests.{can_tell, is_judged}

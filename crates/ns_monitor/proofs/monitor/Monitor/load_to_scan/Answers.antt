@@ -1,9 +1,8 @@
 use Rattle.std.proofs.Common.{◌∙◌, ap, arith, cond, subst, sym, rules}
-use Rattle.ns_gate.specs.Prelude.{IsAtPlace, row_in, the}
+use Rattle.ns_monitor.specs.Prelude.{IsAtPlace, loading, loading_at, row_in, the}
 use Rattle.ns_gate.proofs.Room.{queues_fit}
 use Rattle.ns_monitor.proofs.Releases.{scans_row}
 use Rattle.ns_monitor.proofs.Tests.{is_scanned}
-use Rattle.ns_monitor.specs.Prelude.{loading, loading_at}
 use Rattle.ns_monitor.proofs.monitor.Monitor.load_to_scan.Goals as goal
 
 pub returns-then-not-needed : goal.returns-then-not-needed

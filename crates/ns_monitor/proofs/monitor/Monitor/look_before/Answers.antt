@@ -1,5 +1,5 @@
 use Rattle.std.proofs.Common.{◌≡◌, ◌∙◌, sym, refl, arith, IfSome, None, Option, Some, true, false, rules}
-use Rattle.ns_gate.specs.Prelude.{Cause, Limits, TableId, is_limited, the, Look, Looked, LookIn, InQueuing, InWait}
+use Rattle.ns_monitor.specs.Prelude.{Cause, InQueuing, InWait, Limits, Look, LookIn, Looked, TableId, is_limited, the}
 use Rattle.ns_gate.proofs.Calls.{can_go, since, since_itself}
 use Rattle.ns_gate.proofs.Findings.{does}
 use Rattle.ns_gate.proofs.Room.{queues_fit}

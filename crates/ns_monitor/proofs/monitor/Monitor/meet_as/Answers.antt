@@ -1,5 +1,5 @@
 use Rattle.std.proofs.Common.{◌∙◌, sym, rules}
-use Rattle.ns_gate.specs.Prelude.{TableId}
+use Rattle.ns_monitor.specs.Prelude.{TableId}
 use Rattle.ns_monitor.proofs.Meetings.{learned}
 use Rattle.ns_monitor.proofs.monitor.Monitor.meet_as.Goals as goal
 

@@ -1,10 +1,8 @@
 use Rattle.std.proofs.Common.{rules, arith, ap, sym, refl, subst, ◌∙◌, ◌≡◌, ◌+◌, ◌<◌, ℕ, List, [], ◌∷◌, length, length-append}
-use Rattle.ns_gate.specs.Prelude.{TableId, SeatOf, GateView, first_of, fresh_seat, rest_of, the}
+use Rattle.ns_monitor.specs.Prelude.{AreNew, GateView, IsNumberOf, Known, SeatOf, TableId, first_of, fresh_seat, known_of, new_seat, rest_of, the}
 use Rattle.ns_gate.proofs.Room.{queues_fit}
 use Rattle.ns_seats.proofs.Numbered.{all_new, new_more, numbered_first, numbered_rest}
 use Rattle.ns_monitor.proofs.Made.{new_rests}
-use Rattle.ns_monitor.specs.Known.{new_seat}
-use Rattle.ns_monitor.specs.Prelude.{AreNew, IsNumberOf, Known, known_of}
 use Rattle.ns_monitor.proofs.monitor.Monitor.new.Goals as goal
 
 pub seated-requires : goal.seated-requires

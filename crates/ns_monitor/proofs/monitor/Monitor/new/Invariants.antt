@@ -1,6 +1,5 @@
 use Rattle.std.proofs.Common.{◌≡◌, ◌-◌, length}
-use Rattle.ns_gate.specs.Prelude.{fresh}
-use Rattle.ns_monitor.specs.Prelude.{AreNew}
+use Rattle.ns_monitor.specs.Prelude.{AreNew, fresh}
 use Rattle.ns_monitor.proofs.monitor.Monitor.new.Given as goal
 
 abbrev pub invariant-loop-number : goal.invariant-loop-number

@@ -1,6 +1,6 @@
 use Rattle.std.proofs.Common.{◌∙◌, ◌+◌, arith, drop, get_or, refl, sym, None}
 use Rattle.std.proofs.lemmas.List.{drop_all, drop_more}
-use Rattle.ns_gate.specs.Prelude.{Owed, TableId, the, owes_more, PayWake}
+use Rattle.ns_monitor.specs.Prelude.{Owed, PayWake, TableId, owes_more, the}
 use Rattle.ns_gate.proofs.Calls.{can_go, since, since_itself, since_then}
 use Rattle.ns_gate.proofs.Room.{queues_fit}
 use Rattle.ns_monitor.proofs.SeveralWaits.{true_now}

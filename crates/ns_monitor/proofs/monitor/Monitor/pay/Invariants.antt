@@ -1,6 +1,5 @@
 use Rattle.std.proofs.Common.{◌≡◌, drop, None}
-use Rattle.ns_gate.specs.Prelude.{HasSince, HasReached, the, asked_of, has_some, got_of, Paid}
-use Rattle.ns_monitor.specs.Prelude.{HasSeenTrue}
+use Rattle.ns_monitor.specs.Prelude.{HasReached, HasSeenTrue, HasSince, Paid, asked_of, got_of, has_some, the}
 use Rattle.ns_monitor.proofs.monitor.Monitor.pay.Given as goal
 
 abbrev pub invariant-loop-wake : goal.invariant-loop-wake

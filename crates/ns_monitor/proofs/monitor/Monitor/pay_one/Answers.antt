@@ -1,5 +1,5 @@
 use Rattle.std.proofs.Common.{◌∙◌, [], arith, subst, sym, None}
-use Rattle.ns_gate.specs.Prelude.{HasReached, Paid, PayWake, TableId, asked_of, got_of, has_some, owes_more, the}
+use Rattle.ns_monitor.specs.Prelude.{HasReached, Paid, PayWake, TableId, asked_of, got_of, has_some, owes_more, the}
 use Rattle.ns_gate.proofs.Calls.{can_go, since}
 use Rattle.ns_gate.proofs.Room.{queues_fit}
 use Rattle.ns_monitor.proofs.SeveralWaits.{true_now}

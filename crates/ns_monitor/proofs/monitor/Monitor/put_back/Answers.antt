@@ -1,11 +1,10 @@
 use Rattle.std.proofs.Common.{◌∙◌, sym, subst, refl, arith, None}
-use Rattle.ns_gate.specs.Prelude.{TableId, the, act_returning, CanStep, Performed, Saw}
+use Rattle.ns_monitor.specs.Prelude.{CanStep, Performed, Saw, TableId, act_returning, found_back, the}
 use Rattle.ns_gate.proofs.Calls.{since, since_itself, since_then}
 use Rattle.ns_gate.proofs.Stays.{stays_itself, stays_through}
 use Rattle.ns_gate.proofs.Room.{queues_fit}
 use Rattle.ns_monitor.proofs.SeveralWaits.{true_now}
 use Rattle.ns_monitor.proofs.Standing.{can_put_back, hand_stays, is_back_for, misses_back}
-use Rattle.ns_monitor.specs.Prelude.{found_back}
 use Rattle.ns_monitor.proofs.monitor.Monitor.put_back.Goals as goal
 
 pub loop-init : goal.loop-init

@@ -1,6 +1,5 @@
 use Rattle.std.proofs.Common.{◌≡◌, ◌∙◌, sym, subst, ap, refl, arith, None, rules}
-use Rattle.ns_gate.specs.Prelude.{TableId, the, times, Arm, Queue, QueueSelf, InAcquire}
-use Rattle.ns_gate.specs.declared.queues.Returning.TheVariants.{Changed}
+use Rattle.ns_monitor.specs.Prelude.{Arm, Changed, InAcquire, Queue, QueueSelf, TableId, the, times}
 use Rattle.ns_gate.proofs.Calls.{since_then, works}
 use Rattle.ns_gate.proofs.Room.{queues_fit}
 use Rattle.ns_monitor.proofs.Locks.{HasArmed, arms, comes_to_acquire}

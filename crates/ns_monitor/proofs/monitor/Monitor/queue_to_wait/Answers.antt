@@ -1,9 +1,8 @@
 use Rattle.std.proofs.Common.{ap, sym, subst, arith, None}
-use Rattle.ns_gate.specs.Prelude.{row_in, Load, InQueuing, InWait}
+use Rattle.ns_monitor.specs.Prelude.{HasRow, InQueuing, InWait, Load, row_in}
 use Rattle.ns_gate.proofs.Room.{queues_fit}
 use Rattle.ns_monitor.proofs.Standing.{same_number}
 use Rattle.ns_monitor.proofs.VariableWaits.{taken_now}
-use Rattle.ns_monitor.specs.Prelude.{HasRow}
 use Rattle.ns_monitor.proofs.monitor.Monitor.queue_to_wait.Goals as goal
 
 pub leave_section-requires : goal.leave_section-requires

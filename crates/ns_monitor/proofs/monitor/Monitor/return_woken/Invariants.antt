@@ -1,6 +1,5 @@
 use Rattle.std.proofs.Common.{◌≡◌, None}
-use Rattle.ns_gate.specs.Prelude.{HasSince, InSignal, IsAtPlace, IsPackable, WakeAndReturn, is_held, the}
-use Rattle.ns_monitor.specs.Prelude.{HasWokenInHand}
+use Rattle.ns_monitor.specs.Prelude.{HasSince, HasWokenInHand, InSignal, IsAtPlace, IsPackable, WakeAndReturn, is_held, the}
 use Rattle.ns_monitor.proofs.monitor.Monitor.return_woken.Given as goal
 
 abbrev pub invariant-loop : goal.invariant-loop

@@ -1,9 +1,8 @@
 use Rattle.std.proofs.Common.{Some, arith, subst, sym}
+use Rattle.ns_monitor.specs.Prelude.{HasUnlocked, Reader, releasing_by}
 use Rattle.ns_gate.proofs.Calls.{since_then}
 use Rattle.ns_gate.proofs.Room.{queues_fit}
-use Rattle.ns_gate.specs.Prelude.{Reader}
 use Rattle.ns_monitor.proofs.Callers.{CameSo, came_at_once, released_so}
-use Rattle.ns_monitor.specs.Prelude.{HasUnlocked, releasing_by}
 use Rattle.ns_monitor.proofs.monitor.Monitor.runlock.Given.{Over}
 use Rattle.ns_monitor.proofs.monitor.Monitor.runlock.Goals.{Joined-last, in-Some, in-None}
 use Rattle.ns_monitor.proofs.monitor.Monitor.runlock.Goals as goal

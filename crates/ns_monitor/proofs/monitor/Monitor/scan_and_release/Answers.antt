@@ -1,11 +1,11 @@
 use Rattle.std.proofs.Common.{List, ◌∙◌, ap, sym, subst, refl, arith, None}
-use Rattle.ns_gate.specs.Prelude.{TableId, IsAtPlace, HasReached, the, row_in, has_some, pay_releasing, scan_place, sought_at, GateView, ScanAndRelease, InRelease}
+use Rattle.ns_monitor.specs.Prelude.{GateView, HasReached, InRelease, IsAtPlace, ScanAndRelease, TableId, has_some, pay_releasing, row_in, scan_place, sought_at, the}
 use Rattle.ns_gate.proofs.Calls.{since_then, works}
 use Rattle.ns_gate.proofs.Room.{queues_fit}
 use Rattle.ns_monitor.proofs.Releases.{calls_few, found_first, hand_few, ready_still, scans_plain, told_list}
 use Rattle.ns_monitor.proofs.Standing.{still_since}
-use Rattle.ns_word.specs.declared.request.Request.TheVariants as TheRequest
 use Rattle.ns_monitor.proofs.Tests.{moves_in}
+use Rattle.ns_word.specs.declared.request.Request.TheVariants as TheRequest
 use Rattle.ns_monitor.proofs.monitor.Monitor.scan_and_release.Goals as goal
 
 pub load_to_scan-requires : goal.load_to_scan-requires

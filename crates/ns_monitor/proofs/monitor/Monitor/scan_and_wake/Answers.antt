@@ -1,9 +1,7 @@
 use Rattle.std.proofs.Common.{◌∙◌, ap, not, sym, subst, refl, arith, None, rules}
-use Rattle.ns_gate.specs.Prelude.{TableId, HasReached, HasSince, the, woken_of, has_some, meets_at, pay_releasing, ScanAndRelease, InRelease}
-use Rattle.ns_gate.specs.declared.queues.Returning.TheVariants.{Released}
+use Rattle.ns_monitor.specs.Prelude.{HasReached, HasSince, InRelease, Released, ScanAndRelease, TableId, called_by, has_some, meets_at, pay_releasing, the, woken_of}
 use Rattle.ns_gate.proofs.Calls.{since_then, works}
 use Rattle.ns_gate.proofs.Room.{queues_fit}
-use Rattle.ns_word.specs.Owed.{called_by}
 use Rattle.ns_word.proofs.Scans.{as_many}
 use Rattle.ns_monitor.proofs.Releases.{hand_scanned, took_some, calls_are}
 use Rattle.ns_word.specs.declared.request.Request.TheVariants as TheRequest

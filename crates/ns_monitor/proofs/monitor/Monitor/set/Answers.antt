@@ -1,9 +1,8 @@
 use Rattle.std.proofs.Common.{◌∙◌, ap, Some, rules}
-use Rattle.ns_gate.specs.Prelude.{TableId, the}
+use Rattle.ns_monitor.specs.Prelude.{Known, TableId, setting, the}
 use Rattle.ns_monitor.proofs.Saves.{saves}
 use Rattle.ns_monitor.proofs.Standing.{same_number}
 use Rattle.ns_monitor.proofs.Callers.{grew, is_set, sets_next}
-use Rattle.ns_monitor.specs.Prelude.{Known, setting}
 use Rattle.ns_monitor.proofs.monitor.Monitor.set.Goals as goal
 
 -- the section stays in hand, and has saved what the cell held

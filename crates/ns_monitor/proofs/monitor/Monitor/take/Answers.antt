@@ -1,9 +1,8 @@
 use Rattle.std.proofs.Common.{◌∙◌, sym, subst, arith, None}
-use Rattle.ns_gate.specs.Prelude.{TableId, LoadWord, Saw}
+use Rattle.ns_monitor.specs.Prelude.{LoadWord, MayGoAlone, Saw, TableId}
 use Rattle.ns_gate.proofs.Calls.{since, since_then}
 use Rattle.ns_gate.proofs.Room.{queues_fit}
 use Rattle.ns_monitor.proofs.Standing.{can_load, loads, saw_held}
-use Rattle.ns_monitor.specs.Prelude.{MayGoAlone}
 use Rattle.ns_monitor.proofs.monitor.Monitor.take.Goals as goal
 
 pub load-first-requires : goal.load-first-requires

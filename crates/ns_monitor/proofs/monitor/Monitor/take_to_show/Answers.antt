@@ -1,10 +1,8 @@
 use Rattle.std.proofs.Common.{◌∙◌, true, false, Some, None, rules, sym}
-use Rattle.ns_gate.specs.Prelude.{TableId, IsAtPlace, InShow, LoadWord, Made, Saw, TakeQueues, ToChange}
+use Rattle.ns_monitor.specs.Prelude.{InShow, IsAtPlace, LoadWord, Made, Saw, TableId, TakeQueues, TakeToShow, ToChange, showing}
 use Rattle.ns_gate.proofs.Calls.{since, since_then}
 use Rattle.ns_monitor.proofs.Shows.{has_stood, loads_to_show, misses_to_show, shows_by, takes_to_show}
 use Rattle.ns_monitor.proofs.Standing.{loads_first}
-use Rattle.ns_monitor.specs.Prelude.{showing}
-use Rattle.ns_word.specs.declared.show_walk.ShowPlace.TheVariants.{TakeToShow}
 use Rattle.ns_monitor.proofs.monitor.Monitor.take_to_show.Given.{Over}
 use Rattle.ns_monitor.proofs.monitor.Monitor.take_to_show.Goals.{In-Ok}
 use Rattle.ns_monitor.proofs.monitor.Monitor.take_to_show.Goals as goal

@@ -1,7 +1,5 @@
 use Rattle.std.proofs.Common.{◌≡◌, Some}
-use Rattle.ns_gate.specs.Prelude.{HasReached, HasSince, IsPackable, the}
-use Rattle.ns_monitor.specs.Prelude.{showing}
-use Rattle.ns_word.specs.Walks.{show_by}
+use Rattle.ns_monitor.specs.Prelude.{HasReached, HasSince, IsPackable, show_by, showing, the}
 use Rattle.ns_word.specs.declared.request.Request.TheVariants as TheRequest
 use Rattle.ns_monitor.proofs.monitor.Monitor.take_to_show.Given as goal
 

@@ -1,5 +1,5 @@
 use Rattle.std.proofs.Common.{◌∙◌, ◌-◌, ap, sym, arith, rules}
-use Rattle.ns_gate.specs.Prelude.{TableId, judge_of}
+use Rattle.ns_monitor.specs.Prelude.{TableId, judge_of}
 use Rattle.ns_gate.proofs.Room.{queues_fit}
 use Rattle.ns_monitor.proofs.Tests.{can_tell, is_tested}
 use Rattle.ns_monitor.proofs.monitor.Monitor.test.Goals as goal

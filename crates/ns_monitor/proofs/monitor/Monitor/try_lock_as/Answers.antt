@@ -1,7 +1,6 @@
 use Rattle.std.proofs.Common.{◌∙◌, cond, sym, subst, rules}
-use Rattle.ns_gate.specs.Prelude.{TableId, HasAnswered, TryLock, Busy, Succeeded}
+use Rattle.ns_monitor.specs.Prelude.{Busy, HasAnswered, HasLocked, HasSeenMore, Succeeded, TableId, TryLock, known_of, trying}
 use Rattle.ns_monitor.proofs.Callers.{locked, saw_more}
-use Rattle.ns_monitor.specs.Prelude.{HasLocked, HasSeenMore, known_of, trying}
 use Rattle.ns_monitor.proofs.monitor.Monitor.try_lock_as.Goals as goal
 
 pub returns-then-try_acquire : goal.returns-then-try_acquire

@@ -1,11 +1,10 @@
 use Rattle.std.proofs.Common.{◌≡◌, ◌∙◌, inl, inr, sym, subst, ap, refl, arith, Some, IfSome, true, false, rules}
-use Rattle.ns_gate.specs.Prelude.{TableId, HasAnswered, HasSince, IsAtRest, SeatOf, the, Answer, Met, row_in, HasMode, answer_of, is_limited, wait_first, Cause, Await, OnEntry, Answered}
+use Rattle.ns_monitor.specs.Prelude.{Answer, Answered, Await, Cause, Grows, HasAnswered, HasMode, HasSince, HasWaitedFor, IsAtRest, IsFreshIn, Known, Met, OnEntry, QueuesOrEnds, SeatOf, TableId, answer_of, is_limited, known_of, row_in, the, wait_first, waits_by}
 use Rattle.ns_gate.proofs.Calls.{since_then}
 use Rattle.ns_gate.proofs.Room.{queues_fit}
 use Rattle.ns_monitor.proofs.Callers.{grew}
 use Rattle.ns_monitor.proofs.Returns.{ended_as, ended_since, fits_fresh, tested_so, wait_tells}
 use Rattle.ns_monitor.proofs.Standing.{same_number}
-use Rattle.ns_monitor.specs.Prelude.{Grows, HasWaitedFor, IsFreshIn, Known, QueuesOrEnds, known_of, waits_by}
 use Rattle.ns_monitor.proofs.monitor.Monitor.wait_by.Given.{Over}
 use Rattle.ns_monitor.proofs.monitor.Monitor.wait_by.Goals.{After-wait, After-test, After-look_before, After-wait_on-answer}
 use Rattle.ns_monitor.proofs.monitor.Monitor.wait_by.Goals as goal

@@ -1,13 +1,11 @@
 use Rattle.std.proofs.Common.{◌≡◌, ◌∙◌, sym, subst, ap, refl, arith, true, false, Some, rules}
-use Rattle.ns_gate.specs.Prelude.{TableId, HasAnswered, HasSince, the, HasMode, Await, Answered, InQueuing, InWait, Load, is_limited}
+use Rattle.ns_monitor.specs.Prelude.{Answered, Await, Grows, HasAnswered, HasMode, HasSince, InQueuing, InWait, IsFreshIn, Known, Load, TableId, answer_of_wait, is_limited, known_of, the, waits_for_variable}
 use Rattle.ns_gate.proofs.Calls.{since_then}
 use Rattle.ns_gate.proofs.Room.{queues_fit}
 use Rattle.ns_monitor.proofs.Callers.{grew}
 use Rattle.ns_monitor.proofs.Returns.{fits_fresh}
 use Rattle.ns_monitor.proofs.Standing.{same_number}
 use Rattle.ns_monitor.proofs.VariableWaits.{back_fresh, ended_so, may_wait, taken_now, variable_wait_tells}
-use Rattle.ns_monitor.specs.Prelude.{Grows, IsFreshIn, Known, known_of, waits_for_variable}
-use Rattle.ns_word.specs.Waits.{answer_of_wait}
 use Rattle.ns_monitor.proofs.monitor.Monitor.wait_for_variable.Given.{Over}
 use Rattle.ns_monitor.proofs.monitor.Monitor.wait_for_variable.Goals.{After-leave_section, After-come_back-outcome}
 use Rattle.ns_monitor.proofs.monitor.Monitor.wait_for_variable.Goals as goal

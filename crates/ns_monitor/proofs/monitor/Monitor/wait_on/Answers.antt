@@ -1,10 +1,9 @@
 use Rattle.std.proofs.Common.{◌≡◌, ◌∙◌, sym, subst, ap, refl, arith, None, Some, IfSome, true, false}
-use Rattle.ns_gate.specs.Prelude.{TableId, HasAnswered, HasSince, HasReached, the, row_in, is_limited, unmet_by, Cause, Await, OnReturn, Answered}
+use Rattle.ns_monitor.specs.Prelude.{Answered, Await, Cause, HasAnswered, HasReached, HasSince, IfEnded, IsFreshIn, OnReturn, QueuesOrEnds, TableId, is_limited, row_in, the, unmet_by}
 use Rattle.ns_gate.proofs.Calls.{since_itself, since_then}
 use Rattle.ns_gate.proofs.Room.{queues_fit}
 use Rattle.ns_monitor.proofs.Returns.{back_to_test, comes_fresh, ended_as, has_row, in_range, tested_so}
 use Rattle.ns_monitor.proofs.Standing.{same_number}
-use Rattle.ns_monitor.specs.Prelude.{IfEnded, IsFreshIn, QueuesOrEnds}
 use Rattle.ns_monitor.proofs.monitor.Monitor.wait_on.Given.{Over}
 use Rattle.ns_monitor.proofs.monitor.Monitor.wait_on.Goals.{After-look_before, After-test}
 use Rattle.ns_monitor.proofs.monitor.Monitor.wait_on.Goals as goal

@@ -1,11 +1,10 @@
 use Rattle.std.proofs.Common.{◌∙◌, sym, arith, Some, rules}
-use Rattle.ns_gate.specs.Prelude.{TableId, HasSince, is_held, taken_from, the, woken_nobody}
+use Rattle.ns_monitor.specs.Prelude.{HasSince, TableId, is_held, taken_from, the, waking_by, woken_nobody}
 use Rattle.ns_gate.proofs.Calls.{since_then}
 use Rattle.ns_gate.proofs.Wakes.{found_nobody, takes_nobody}
 use Rattle.ns_gate.proofs.Room.{queues_fit}
 use Rattle.ns_monitor.proofs.Standing.{still_since}
 use Rattle.ns_monitor.proofs.Wakes.{hand_of_nobody, nobody_woken, taken_still}
-use Rattle.ns_monitor.specs.Prelude.{waking_by}
 use Rattle.ns_monitor.proofs.monitor.Monitor.wake.Given.{Over}
 use Rattle.ns_monitor.proofs.monitor.Monitor.wake.Goals.{After-wake_nobody_in_hand}
 use Rattle.ns_monitor.proofs.monitor.Monitor.wake.Goals as goal

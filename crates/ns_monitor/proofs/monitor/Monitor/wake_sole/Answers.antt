@@ -1,5 +1,5 @@
 use Rattle.std.proofs.Common.{sym, refl, arith, None}
-use Rattle.ns_gate.specs.Prelude.{the}
+use Rattle.ns_monitor.specs.Prelude.{the}
 use Rattle.ns_gate.proofs.Calls.{since_then}
 use Rattle.ns_gate.proofs.Room.{queues_fit}
 use Rattle.ns_monitor.proofs.Wakes.{owes_sole}

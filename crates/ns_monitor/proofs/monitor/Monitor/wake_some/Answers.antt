@@ -1,11 +1,10 @@
 use Rattle.std.proofs.Common.{◌∙◌, sym, subst, refl, arith, None, rules}
-use Rattle.ns_gate.specs.Prelude.{TableId, HasSince, InSignal, IsOrderly, WakeAndReturn, taken_from, the}
+use Rattle.ns_monitor.specs.Prelude.{HasSince, HasWokenInHand, InSignal, IsOrderly, TableId, WakeAndReturn, taken_from, the}
 use Rattle.ns_gate.proofs.Calls.{since_itself, since_then, works}
 use Rattle.ns_gate.proofs.Room.{queues_fit}
 use Rattle.ns_gate.proofs.Wakes.{found_sole}
 use Rattle.ns_monitor.proofs.Standing.{still_since}
 use Rattle.ns_monitor.proofs.Wakes.{hand_made, taken_still}
-use Rattle.ns_monitor.specs.Prelude.{HasWokenInHand}
 use Rattle.ns_monitor.proofs.monitor.Monitor.wake_some.Given.{Over}
 use Rattle.ns_monitor.proofs.monitor.Monitor.wake_some.Goals.{After-wake_sole_in_hand}
 use Rattle.ns_monitor.proofs.monitor.Monitor.wake_some.Goals as goal

@@ -1,15 +1,12 @@
 use Rattle.std.proofs.Common.{◌≡◌, ◌∙◌, ap, sym, subst, refl, arith, Bool, None, rules}
-use Rattle.ns_gate.specs.Prelude.{TableId, HasReached, InSignal, IsOrderly, WakeAndReturn, has_some, owed_woken, taken_from, the}
+use Rattle.ns_monitor.specs.Prelude.{HasReached, HasWokenInHand, InSignal, IsOrderly, TableId, WakeAndReturn, has_some, owed_woken, pay_woken, taken_from, the, wakes_of}
 use Rattle.ns_gate.proofs.Calls.{since_itself, since_then, works}
 use Rattle.ns_gate.proofs.Room.{queues_fit}
-use Rattle.ns_word.specs.Owed.{wakes_of}
 use Rattle.ns_monitor.proofs.Standing.{still_since}
 use Rattle.ns_monitor.proofs.Wakes.{hand_made}
-use Rattle.ns_monitor.specs.Prelude.{HasWokenInHand}
-use Rattle.ns_word.specs.Walks.{pay_woken}
-use Rattle.ns_word.specs.declared.request.Request.TheVariants as TheRequest
 use Rattle.ns_monitor.proofs.monitor.Monitor.wake_waiters.Given.{Over}
 use Rattle.ns_monitor.proofs.monitor.Monitor.wake_waiters.Goals.{Joined-moved, then-moved, else-moved}
+use Rattle.ns_word.specs.declared.request.Request.TheVariants as TheRequest
 use Rattle.ns_monitor.proofs.monitor.Monitor.wake_waiters.Goals as goal
 
 pub return_woken-moved-requires : goal.return_woken-moved-requires

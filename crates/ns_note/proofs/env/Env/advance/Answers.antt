@@ -1,6 +1,5 @@
 use Rattle.std.proofs.Common.{rules, ◌∙◌, subst, sym}
-use Rattle.ns_env.specs.declared.act.EnvAct.TheVariants.{MoveClock}
-use Rattle.ns_note.specs.Known.{Grows}
+use Rattle.ns_note.specs.Prelude.{Grows, MoveClock}
 use Rattle.ns_note.proofs.Rests.{rests, grew, adds_by}
 use Rattle.ns_note.proofs.Allowed.{moves}
 use Rattle.ns_note.proofs.env.Env.advance.Goals as goal

@@ -1,8 +1,7 @@
 use Rattle.std.proofs.Common.{ℕ, Option, None, sym, ap, ◌∙◌, subst}
-use Rattle.ns_model.specs.Environments.{env_after, earlier}
+use Rattle.ns_note.specs.Prelude.{NoteWord, earlier, env_after}
 use Rattle.ns_model.proofs.Environments.{made_below, legal_begins, expiry_begins}
 use Rattle.ns_model.proofs.Lines.{IsExpiryAt, expiry_starts, expiry_goes_on, line_falls, nearer}
-use Rattle.ns_env.specs.declared.note.NoteWord.{NoteWord}
 use Rattle.ns_note.proofs.Rests.{grows_through}
 use Rattle.ns_note.proofs.env.Env.expiry.Goals as goal
 

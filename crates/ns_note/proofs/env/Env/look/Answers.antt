@@ -1,14 +1,10 @@
 use Rattle.std.proofs.Common.{◌∙◌, Option, option_map, sym, subst, IfSome}
-use Rattle.ns_model.specs.Beginnings.{BeginsWith, IsBetween}
-use Rattle.ns_model.specs.Environments.{IsMade}
+use Rattle.ns_note.specs.Prelude.{BeginsWith, EnvKnown, IsBetween, IsMade, IsUnnotified, Note}
 use Rattle.ns_model.proofs.Beginnings.{begins_itself}
 use Rattle.ns_model.proofs.Environments.{made_begins}
-use Rattle.ns_env.specs.Chains.{IsUnnotified}
-use Rattle.ns_note.specs.declared.note.Note.{Note}
-use Rattle.ns_note.specs.Known.{EnvKnown}
 use Rattle.ns_note.proofs.Looks.{times_out, shows_nothing}
-use Rattle.ns_note.proofs.env.Env.look.Goals as goal
 use Rattle.ns_note.proofs.env.Env.look.Goals.{After-is_due, in-Some+else-stops, in_default}
+use Rattle.ns_note.proofs.env.Env.look.Goals as goal
 
 pub stops-requires-clause-made : goal.stops-requires-clause-made
 stops-requires-clause-made c = let g = c.now-clock.ensures.grows in let made = subst (λ (o : Option Note). IfSome o (λ n. IsMade c.args.seat.now.seen n.index)) c.in-Some.is c.requires.made in

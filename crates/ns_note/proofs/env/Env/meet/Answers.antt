@@ -1,11 +1,6 @@
 use Rattle.std.proofs.Common.{ℕ, List, rules, ap, sym, subst, ◌∙◌}
-use Rattle.atomic_table.specs.Table.{Me}
-use Rattle.atomic_table.specs.Seated.{TableId}
-use Rattle.ns_env.specs.declared.view.EnvView.{EnvView}
-use Rattle.ns_note.specs.Known.{EnvKnown, known_of, the, Grows, AreOfOneHistory}
+use Rattle.ns_note.specs.Prelude.{AreOfOneHistory, EnvKnown, EnvView, Grows, HaveLearned, Me, TableId, fresh_seat, known_of, the}
 use Rattle.ns_note.proofs.Rests.{grew, nowhere}
-use Rattle.ns_note.specs.Law.{fresh_seat}
-use Rattle.ns_note.specs.Told.{HaveLearned}
 use Rattle.ns_note.proofs.Seats.{by_sums, learns}
 use Rattle.ns_seats.proofs.Meetings.{cuts, glues, meets}
 use Rattle.ns_seats.proofs.Views.{pair_of}

@@ -1,10 +1,5 @@
 use Rattle.std.proofs.Common.{rules, arith, ap, sym, subst, refl, ◌∙◌, ◌≡◌, ◌+◌, ◌<◌, ℕ, List, [], ◌∷◌, length, length-append}
-use Rattle.atomic_table.specs.Seated.{TableId}
-use Rattle.atomic_table.specs.Table.{Me}
-use Rattle.ns_env.specs.declared.view.EnvView.{EnvView}
-use Rattle.ns_note.specs.Law.{fresh_seat}
-use Rattle.ns_seats.specs.Views.{first_of, rest_of}
-use Rattle.ns_note.specs.Known.{EnvKnown, the, IsAtRest, IsNumberOf, AreNew, known, known_of}
+use Rattle.ns_note.specs.Prelude.{AreNew, EnvKnown, EnvView, IsAtRest, IsNumberOf, Me, TableId, first_of, fresh_seat, known, known_of, rest_of, the}
 use Rattle.ns_note.proofs.Seats.{begins_with, by_sums}
 use Rattle.ns_seats.proofs.Meetings.{cuts}
 use Rattle.ns_seats.proofs.Numbered.{all_new, numbered_first, numbered_rest, new_more}

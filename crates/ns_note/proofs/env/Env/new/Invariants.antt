@@ -1,6 +1,5 @@
 use Rattle.std.proofs.Common.{◌≡◌, ◌-◌, length}
-use Rattle.ns_note.specs.Known.{AreNew}
-use Rattle.ns_note.specs.Law.{fresh}
+use Rattle.ns_note.specs.Prelude.{AreNew, fresh}
 use Rattle.ns_note.proofs.env.Env.new.Given as goal
 
 abbrev pub invariant-loop-number : goal.invariant-loop-number

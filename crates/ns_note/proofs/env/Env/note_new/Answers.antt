@@ -1,13 +1,5 @@
 use Rattle.std.proofs.Common.{rules, arith, sym, ap, subst, ◌≡◌, ◌∙◌, ◌++◌, ◌<◌, ◌+◌, ◌-◌, ◌^◌, ℕ, [], ◌∷◌, Option, IfSome, option_map}
-use Rattle.ns_model.specs.declared.environment.EnvEvent.TheVariants.{Take, New}
-use Rattle.ns_model.specs.Environments.{IsMade, ParentFits, made_note, env_after}
-use Rattle.ns_env.specs.declared.view.Making.TheVariants.{Taken}
-use Rattle.ns_env.specs.declared.view.EnvView.{EnvView}
-use Rattle.ns_env.specs.Notes.{state_of}
-use Rattle.ns_note.specs.declared.note.Note.{Note}
-use Rattle.ns_note.specs.Words.{WordFits, word_of, note_of}
-use Rattle.ns_note.specs.Known.{EnvKnown, the}
-use Rattle.ns_note.specs.Told.{Adds, FoundWord, note_stored}
+use Rattle.ns_note.specs.Prelude.{Adds, EnvKnown, EnvView, FoundWord, IsMade, New, Note, ParentFits, Take, Taken, WordFits, env_after, made_note, note_of, note_stored, state_of, the, word_of}
 use Rattle.ns_note.proofs.Codec.{note_of-word_of}
 use Rattle.ns_note.proofs.Rests.{rests, grew, adds_by, adds_note, note_made, numbers_fit, parent_above}
 use Rattle.ns_note.proofs.Allowed.{makes, back}

@@ -1,6 +1,5 @@
 use Rattle.std.proofs.Common.{◌≡◌, Some}
-use Rattle.ns_note.specs.Answers.{LookAnswers}
-use Rattle.ns_note.specs.Known.{Grows}
+use Rattle.ns_note.specs.Prelude.{Grows, LookAnswers}
 use Rattle.ns_note.proofs.env.Env.note_wait.Given as goal
 
 abbrev pub invariant-loop : goal.invariant-loop

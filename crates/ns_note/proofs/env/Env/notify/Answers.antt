@@ -1,7 +1,5 @@
 use Rattle.std.proofs.Common.{rules, ◌∙◌, ◌+◌, ◌-◌, subst, sym, ℕ, arith}
-use Rattle.ns_env.specs.declared.act.EnvAct.TheVariants.{NotifyNote}
-use Rattle.ns_model.specs.Environments.{IsMade}
-use Rattle.ns_note.specs.Known.{EnvKnown, Grows}
+use Rattle.ns_note.specs.Prelude.{EnvKnown, Grows, IsMade, NotifyNote}
 use Rattle.ns_note.proofs.Rests.{rests, grew, adds_by}
 use Rattle.ns_note.proofs.Allowed.{marks}
 use Rattle.ns_note.proofs.env.Env.notify.Goals as goal

@@ -1,10 +1,7 @@
 use Rattle.std.proofs.Common.{◌≡◌, ℕ, Bool, sym, ap, ◌∙◌, subst}
-use Rattle.ns_model.specs.Environments.{NoteStanding, env_after, is_over}
-use Rattle.ns_env.specs.Notes.{standing_of}
-use Rattle.ns_model.specs.Lines.{IsLeftAt}
+use Rattle.ns_note.specs.Prelude.{IsLeftAt, NoteStanding, NoteWord, env_after, is_over, standing_of}
 use Rattle.ns_model.proofs.Environments.{made_below}
 use Rattle.ns_model.proofs.Lines.{line_stops, line_goes_on, line_falls, nearer}
-use Rattle.ns_env.specs.declared.note.NoteWord.{NoteWord}
 use Rattle.ns_note.proofs.Rests.{grows_through}
 use Rattle.ns_note.proofs.env.Env.stops.Goals as goal
 

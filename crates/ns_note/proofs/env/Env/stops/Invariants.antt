@@ -1,7 +1,6 @@
 use Rattle.std.proofs.Common.{◌≡◌}
-use Rattle.ns_model.specs.Lines.{IsLeftAt}
+use Rattle.ns_note.specs.Prelude.{Grows, IsLeftAt}
 use Rattle.ns_model.proofs.Lines.{height}
-use Rattle.ns_note.specs.Known.{Grows}
 use Rattle.ns_note.proofs.env.Env.stops.Given as goal
 
 abbrev pub invariant-loop-next : goal.invariant-loop-next

@@ -1,5 +1,5 @@
 use Rattle.std.proofs.Common.{rules, ◌∙◌, ◌+◌, ◌-◌, refl, arith}
-use Rattle.ns_env.specs.declared.act.EnvAct.TheVariants.{LoadNote}
+use Rattle.ns_note.specs.Prelude.{LoadNote}
 use Rattle.ns_note.proofs.Rests.{rests, grew, quiet_adds}
 use Rattle.ns_note.proofs.Allowed.{loads_note}
 use Rattle.ns_note.proofs.env.Env.word.Goals as goal

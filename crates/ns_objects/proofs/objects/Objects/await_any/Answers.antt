@@ -1,12 +1,6 @@
 use Rattle.std.proofs.Common.{ℕ, suc, Option, Some, None, refl, sym, ap, subst, ◌∙◌}
+use Rattle.ns_objects.specs.Prelude.{BothKnown, EnvGrows, EnvKnown, HasComeBackFromAny, HaveShownNothing, Known, RoundAnswers, Setup, WaitAnswers, WasReady, past_of}
 use Rattle.ns_counters.proofs.Rounds.{later_itself}
-use Rattle.ns_counters.specs.Rounds.{HaveShownNothing}
-use Rattle.ns_note.specs.Known.{EnvKnown, Grows as EnvGrows}
-use Rattle.ns_counters.specs.declared.object.Setup.{Setup}
-use Rattle.ns_monitor.specs.Known.{Known}
-use Rattle.ns_monitor.specs.Several.{HasComeBackFromAny}
-use Rattle.ns_objects.specs.Any.{BothKnown, RoundAnswers, WasReady, past_of}
-use Rattle.ns_objects.specs.Held.{WaitAnswers}
 use Rattle.ns_objects.proofs.HeldWaits.{back_from_wait, place_by, waits_on_itself, waits_through}
 use Rattle.ns_objects.proofs.Rests.{env_grows_not, env_grows_through, grows_not, grows_through}
 use Rattle.ns_objects.proofs.Rounds.{all_known_later}

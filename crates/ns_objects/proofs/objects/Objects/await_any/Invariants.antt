@@ -1,9 +1,5 @@
 use Rattle.std.proofs.Common.{◌≡◌, ℕ}
-use Rattle.ns_counters.specs.Rounds.{HaveShownNothing}
-use Rattle.ns_monitor.specs.Several.{WaitsOn}
-use Rattle.ns_note.specs.Known.{Grows as EnvGrows}
-use Rattle.ns_objects.specs.Any.{WasReady, past_of}
-use Rattle.ns_objects.specs.Known.{Grows}
+use Rattle.ns_objects.specs.Prelude.{EnvGrows, Grows, HaveShownNothing, WaitsOn, WasReady, past_of}
 use Rattle.ns_objects.proofs.objects.Objects.await_any.Given as goal
 
 -- each round so far has shown nothing, and the wait on the monitor goes on

@@ -1,8 +1,5 @@
 use Rattle.std.proofs.Common.{◌≡◌, []}
-use Rattle.ns_counters.specs.declared.object.Place.TheVariants.{Free}
-use Rattle.ns_counters.specs.Words.{stage}
-use Rattle.ns_objects.specs.Known.{standing_in, the}
-use Rattle.ns_objects.specs.Told.{OneComes}
+use Rattle.ns_objects.specs.Prelude.{Free, OneComes, stage, standing_in, the}
 use Rattle.ns_objects.proofs.objects.Objects.begin_or_wait.Given as goal
 
 abbrev pub invariant-loop : goal.invariant-loop

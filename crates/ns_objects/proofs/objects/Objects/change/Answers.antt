@@ -1,9 +1,6 @@
 use Rattle.std.proofs.Common.{rules, arith, ap, ◌∙◌}
-use Rattle.ns_model.specs.declared.counter.CounterState.{CounterState}
-use Rattle.ns_counters.specs.Words.{counter_of, counter_word}
+use Rattle.ns_objects.specs.Prelude.{CounterState, change_in_hand, counter_of, counter_word, the}
 use Rattle.ns_model.proofs.Counters.{accepted}
-use Rattle.ns_objects.specs.Known.{the}
-use Rattle.ns_objects.specs.Told.{change_in_hand}
 use Rattle.ns_objects.proofs.Allowed.{exchanges_word, value_made}
 use Rattle.ns_objects.proofs.Rests.{has_exchanged}
 use Rattle.ns_objects.proofs.objects.Objects.change.Goals as goal

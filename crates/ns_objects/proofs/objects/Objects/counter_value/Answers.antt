@@ -1,6 +1,5 @@
 use Rattle.std.proofs.Common.{rules, arith, refl, sym, subst, ◌<◌}
-use Rattle.ns_counters.specs.declared.act.ObjectAct.TheVariants.{LookCounter}
-use Rattle.ns_objects.specs.Known.{ObjectsKnown}
+use Rattle.ns_objects.specs.Prelude.{LookCounter, ObjectsKnown}
 use Rattle.ns_objects.proofs.Allowed.{allows}
 use Rattle.ns_objects.proofs.objects.Objects.counter_value.Goals as goal
 

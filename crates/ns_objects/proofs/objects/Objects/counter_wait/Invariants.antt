@@ -1,6 +1,5 @@
 use Rattle.std.proofs.Common.{◌≡◌}
-use Rattle.ns_note.specs.Known.{Grows as EnvGrows}
-use Rattle.ns_objects.specs.Waiting.{WaitHasBegun}
+use Rattle.ns_objects.specs.Prelude.{EnvGrows, WaitHasBegun}
 use Rattle.ns_objects.proofs.objects.Objects.counter_wait.Given as goal
 
 abbrev pub invariant-loop : goal.invariant-loop

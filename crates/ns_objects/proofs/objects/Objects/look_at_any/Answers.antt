@@ -2,14 +2,10 @@ use Rattle.std.proofs.Common.{◌∙◌, inl, inr, refl, leb, [], ◌∷◌, ◌
 use Rattle.std.proofs.lemmas.Bool.{le-leb, lt-leb}
 use Rattle.std.proofs.lemmas.List.{take_more}
 use Rattle.std.proofs.lemmas.Option.{slice_get-get_or}
+use Rattle.ns_objects.specs.Prelude.{AnyItem, BothKnown, InTurn, IsNamed, Setup, WasReady, WasReadyIn, clock_of, is_due, past_of}
 use Rattle.ns_counters.proofs.Rounds.{turn_more, turn_until}
-use Rattle.ns_counters.specs.declared.object.Setup.{Setup}
-use Rattle.ns_counters.specs.Rounds.{InTurn}
 use Rattle.ns_model.proofs.Beginnings.{begins_itself}
-use Rattle.ns_model.specs.Environments.{clock_of, is_due}
-use Rattle.ns_objects.specs.Any.{BothKnown, IsNamed, WasReady, WasReadyIn, past_of}
 use Rattle.ns_objects.proofs.Rests.{env_grows_through, grows_through}
-use Rattle.ns_objects.specs.declared.any.AnyItem.{AnyItem}
 use Rattle.ns_objects.proofs.Rounds.{every_get, known_later, whole_round}
 use Rattle.ns_objects.proofs.objects.Objects.look_at_any.Goals as goal
 

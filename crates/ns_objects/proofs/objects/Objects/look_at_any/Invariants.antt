@@ -1,8 +1,5 @@
 use Rattle.std.proofs.Common.{◌≡◌, take, false}
-use Rattle.ns_counters.specs.Rounds.{InTurn}
-use Rattle.ns_note.specs.Known.{Grows as EnvGrows}
-use Rattle.ns_objects.specs.Any.{WasReady, past_of}
-use Rattle.ns_objects.specs.Known.{Grows}
+use Rattle.ns_objects.specs.Prelude.{EnvGrows, Grows, InTurn, WasReady, past_of}
 use Rattle.ns_objects.proofs.objects.Objects.look_at_any.Given as goal
 
 -- behind the look at the clock each item so far was unready, in order

@@ -1,11 +1,6 @@
 use Rattle.std.proofs.Common.{ℕ, List, rules, ap, sym, subst, ◌∙◌}
-use Rattle.atomic_table.specs.Table.{Me}
-use Rattle.atomic_table.specs.Seated.{TableId}
-use Rattle.ns_counters.specs.declared.object.ObjectView.{ObjectView}
-use Rattle.ns_objects.specs.Known.{ObjectsKnown, no_setup, known_of, the, Grows, AreOfOneHistory}
+use Rattle.ns_objects.specs.Prelude.{AreOfOneHistory, Grows, HaveMet, Me, ObjectView, ObjectsKnown, TableId, fresh_seat, known_of, no_setup, the}
 use Rattle.ns_objects.proofs.Rests.{grew}
-use Rattle.ns_objects.specs.Law.{fresh_seat}
-use Rattle.ns_objects.specs.Told.{HaveMet}
 use Rattle.ns_objects.proofs.Seats.{by_sums, learns}
 use Rattle.ns_seats.proofs.Meetings.{cuts, glues, meets}
 use Rattle.ns_seats.proofs.Views.{pair_of}

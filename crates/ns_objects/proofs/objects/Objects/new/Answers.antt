@@ -1,14 +1,6 @@
 use Rattle.std.proofs.Common.{rules, arith, ap, sym, subst, refl, ◌∙◌, ◌≡◌, ◌+◌, ◌<◌, ℕ, List, [], ◌∷◌, length, length-append}
-use Rattle.atomic_table.specs.Seated.{TableId}
-use Rattle.atomic_table.specs.Table.{Me}
-use Rattle.ns_counters.specs.declared.object.ObjectEvent.{ObjectEvent}
-use Rattle.ns_counters.specs.declared.object.ObjectView.{ObjectView}
-use Rattle.ns_objects.specs.Known.{ObjectsKnown, the, IsAtRest, AreNew, known, known_of}
-use Rattle.ns_objects.specs.Law.{IsRuled, fresh_seat, fresh}
-use Rattle.ns_counters.specs.Made.{padded, setup_of, first_words}
-use Rattle.ns_seats.specs.Views.{first_of, rest_of}
+use Rattle.ns_objects.specs.Prelude.{AreNew, IsAtRest, IsRuled, Me, ObjectEvent, ObjectView, ObjectsKnown, Setup, TableId, first_of, first_words, fresh, fresh_seat, known, known_of, padded, rest_of, setup_of, the}
 use Rattle.ns_counters.proofs.NewObjects.{new_lawful}
-use Rattle.ns_counters.specs.declared.object.Setup.{Setup}
 use Rattle.ns_objects.proofs.Seats.{begins, by_sums}
 use Rattle.ns_seats.proofs.Meetings.{cuts}
 use Rattle.ns_seats.proofs.Numbered.{all_new, numbered_first, numbered_rest, new_more}

@@ -1,7 +1,5 @@
 use Rattle.std.proofs.Common.{◌≡◌, ◌-◌, length}
-use Rattle.ns_objects.specs.Known.{AreNew}
-use Rattle.ns_objects.specs.Law.{fresh}
-use Rattle.ns_counters.specs.Made.{setup_of}
+use Rattle.ns_objects.specs.Prelude.{AreNew, fresh, setup_of}
 use Rattle.ns_objects.proofs.objects.Objects.new.Given as goal
 
 abbrev pub invariant-loop-number : goal.invariant-loop-number

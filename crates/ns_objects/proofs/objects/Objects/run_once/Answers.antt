@@ -1,8 +1,5 @@
 use Rattle.std.proofs.Common.{◌≡◌, ◌∙◌, ◌++◌, [], ◌∷◌, subst}
-use Rattle.ns_counters.specs.declared.object.ObjectEvent.TheVariants.{OnOnce}
-use Rattle.ns_counters.specs.declared.object.Place.TheVariants.{Free, Running}
-use Rattle.ns_model.specs.declared.once.OnceEvent.TheVariants.{Began, Ran}
-use Rattle.ns_objects.specs.Known.{ObjectsKnown, known_of, the}
+use Rattle.ns_objects.specs.Prelude.{Began, Free, ObjectsKnown, OnOnce, Ran, Running, known_of, the}
 use Rattle.ns_objects.proofs.Rests.{grew, come_grows, comes_through, comes_with}
 use Rattle.ns_objects.proofs.objects.Objects.run_once.Goals as goal
 

@@ -1,8 +1,5 @@
 use Rattle.std.proofs.Common.{suc, subst, sym, ap, ◌∙◌, Some, None}
-use Rattle.ns_counters.specs.declared.object.Setup.{Setup}
-use Rattle.ns_counters.specs.Rounds.{HaveShownNothing}
-use Rattle.ns_note.specs.Known.{EnvKnown, Grows as EnvGrows}
-use Rattle.ns_objects.specs.Any.{BothKnown, RoundAnswers, WasReady, any_of, past_of}
+use Rattle.ns_objects.specs.Prelude.{BothKnown, EnvGrows, EnvKnown, HaveShownNothing, RoundAnswers, Setup, WasReady, any_of, past_of}
 use Rattle.ns_objects.proofs.Rests.{env_grows_through, grows_through}
 use Rattle.ns_objects.proofs.Rounds.{all_known_later}
 use Rattle.ns_objects.proofs.objects.Objects.wait_any.Goals as goal

@@ -1,10 +1,6 @@
 use Rattle.std.proofs.Common.{◌≡◌, ◌∙◌, inr, sym, subst, arith}
+use Rattle.ns_objects.specs.Prelude.{BothKnown, Cvs, PlaceBy, RoundAnswers, Setup, is_among, is_in, past_of}
 use denote.Param.{layout}
-use Rattle.ns_model.specs.Cvs.{is_in}
-use Rattle.ns_model.specs.declared.cvs.Cvs.{Cvs}
-use Rattle.ns_counters.specs.declared.object.Setup.{Setup}
-use Rattle.ns_objects.specs.Any.{BothKnown, RoundAnswers, past_of}
-use Rattle.ns_objects.specs.Held.{PlaceBy, is_among}
 use Rattle.ns_objects.proofs.HeldWaits.{all_low, some_wait, waited, hand_fits}
 use Rattle.ns_objects.proofs.Rounds.{all_known_later, further}
 use Rattle.ns_objects.proofs.objects.Objects.wait_any_held.Goals as goal

@@ -1,6 +1,5 @@
 use Rattle.std.proofs.Common.{◌∙◌, ap, sym, nat_lt}
-use Rattle.ns_queue.specs.Waiters.{has_condition, is_long}
-use Rattle.ns_queue.specs.Rings.{writes_plainly}
+use Rattle.ns_queue.specs.Prelude.{has_condition, is_long, writes_plainly}
 use Rattle.ns_queue.proofs.Ringed.{any_counted}
 use Rattle.ns_queue.proofs.lock_list.LockList.bits.Goals as goal
 

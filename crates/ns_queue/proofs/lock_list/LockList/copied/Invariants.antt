@@ -1,5 +1,5 @@
 use Rattle.std.proofs.Common.{◌≡◌, length}
-use Rattle.ns_queue.specs.Rings.{ahead, from}
+use Rattle.ns_queue.specs.Prelude.{ahead, from}
 use Rattle.ns_queue.proofs.lock_list.LockList.copied.Given as goal
 
 -- those so far

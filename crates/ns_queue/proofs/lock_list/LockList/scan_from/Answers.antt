@@ -1,6 +1,6 @@
 use Rattle.std.proofs.Common.{rules, ap, map, ◌∙◌}
+use Rattle.ns_queue.specs.Prelude.{seated, via_in, without_all}
 use Rattle.ns_queue.proofs.RunCounts.{tests_most}
-use Rattle.ns_queue.specs.Rings.{seated, via_in, without_all}
 use Rattle.ns_queue.proofs.Leaving.{woken_leave}
 use Rattle.ns_queue.proofs.Vias.{vias_woken}
 use Rattle.ns_queue.proofs.lock_list.LockList.scan_from.Goals as goal

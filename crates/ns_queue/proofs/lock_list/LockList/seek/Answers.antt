@@ -1,7 +1,7 @@
 use Rattle.std.proofs.Common.{rules, true, false, sym}
 use Rattle.std.specs.Option.{option_copied}
+use Rattle.ns_queue.specs.Prelude.{has_condition}
 use Rattle.ns_queue.proofs.Seeking.{answered, counted}
-use Rattle.ns_queue.specs.Waiters.{has_condition}
 use Rattle.ns_queue.proofs.Places.{seated_stands}
 use Rattle.ns_queue.proofs.Running.{next_run, sought_few, sought_here, sought_none, sought_on, sought_smaller, sought_start, tests_fit}
 use Rattle.ns_queue.proofs.Making.{start_link}

@@ -1,5 +1,5 @@
 use Rattle.std.proofs.Common.{length}
-use Rattle.ns_queue.specs.Rings.{from}
+use Rattle.ns_queue.specs.Prelude.{from}
 use Rattle.ns_queue.proofs.Running.{Sought}
 use Rattle.ns_queue.proofs.lock_list.LockList.seek.Given as goal
 

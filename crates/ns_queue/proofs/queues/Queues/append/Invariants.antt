@@ -1,6 +1,5 @@
 use Rattle.std.proofs.Common.{◌≡◌, ◌++◌, take}
-use Rattle.ns_queue.specs.Queues.{with_waiters}
-use Rattle.ns_queue.specs.declared.waiter.Which.TheVariants.{Lock}
+use Rattle.ns_queue.specs.Prelude.{Lock, with_waiters}
 use Rattle.ns_queue.proofs.queues.Queues.append.Given as goal
 
 -- those so far stand at the back

@@ -1,5 +1,5 @@
 use Rattle.std.proofs.Common.{◌≡◌, ◌∙◌, ◌∷◌, [], subst, sym}
-use Rattle.ns_queue.specs.Queues.{IsOrderly}
+use Rattle.ns_queue.specs.Prelude.{IsOrderly}
 use Rattle.ns_queue.proofs.Inside.{again, shape}
 use Rattle.ns_queue.proofs.queues.Queues.copied.Given.{Over}
 use Rattle.ns_queue.proofs.queues.Queues.copied.Goals.{After-copied-5}

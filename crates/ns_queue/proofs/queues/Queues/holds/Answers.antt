@@ -1,5 +1,5 @@
 use Rattle.std.proofs.Common.{arith}
-use Rattle.ns_queue.specs.Waiters.{times_in}
+use Rattle.ns_queue.specs.Prelude.{times_in}
 use Rattle.ns_queue.proofs.Inside.{on_none, told_no}
 use Rattle.ns_queue.proofs.queues.Queues.holds.Goals as goal
 

@@ -1,7 +1,5 @@
 use Rattle.std.proofs.Common.{◌≡◌, ◌++◌, ◌∷◌, [], sym, ◌∙◌, arith, ap, rules, subst}
-use Rattle.ns_queue.specs.Queues.{beside, waiters_of, with_each, with_waiters}
-use Rattle.ns_queue.specs.declared.waiter.Waiter.{Waiter}
-use Rattle.ns_queue.specs.declared.waiter.Which.TheVariants.{Cv}
+use Rattle.ns_queue.specs.Prelude.{Cv, Waiter, beside, waiters_of, with_each, with_waiters}
 use Rattle.ns_queue.proofs.Orders.{free_beside}
 use Rattle.ns_queue.proofs.Parts.{each_beside, each_less, each_more}
 use Rattle.ns_queue.proofs.queues.Queues.push_any.Goals.{then-contains, else-contains}

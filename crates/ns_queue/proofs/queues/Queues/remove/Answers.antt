@@ -1,7 +1,6 @@
 use Rattle.std.proofs.Common.{refl, arith, not, eqb, map}
 use Rattle.std.specs.List.{sum_by}
-use Rattle.ns_queue.specs.Waiters.{times_in}
-use Rattle.ns_queue.specs.declared.waiter.Which.TheVariants.{Lock}
+use Rattle.ns_queue.specs.Prelude.{Lock, times_in}
 use Rattle.ns_queue.proofs.Inside.{lock_left, neither, shape, times_in-filter, told_no, told_yes}
 use Rattle.ns_queue.proofs.Orders.{list_small}
 use Rattle.ns_queue.proofs.Outside.{all_below, low_of, orderly_outside}

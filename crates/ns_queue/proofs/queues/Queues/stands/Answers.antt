@@ -1,6 +1,6 @@
 use Rattle.std.proofs.Common.{◌<◌, nat_lt, ap, ◌∙◌}
 use Rattle.std.proofs.lemmas.Bool.{ltb_from_iff}
-use Rattle.ns_queue.specs.Waiters.{times_in}
+use Rattle.ns_queue.specs.Prelude.{times_in}
 use Rattle.ns_queue.proofs.Orders.{offset_fits}
 use Rattle.ns_queue.proofs.Inside.{list_at}
 use Rattle.ns_queue.proofs.queues.Queues.stands.Goals as goal

@@ -1,7 +1,5 @@
 use Rattle.std.proofs.Common.{get_or, ap, arith, sym, ◌∙◌}
-use Rattle.ns_queue.specs.declared.waiter.Which.TheVariants.{Cv}
-use Rattle.ns_queue.specs.Queues.{waiters_of}
-use Rattle.ns_queue.specs.Signals.{signaled_of, taken_set}
+use Rattle.ns_queue.specs.Prelude.{Cv, signaled_of, taken_set, waiters_of}
 use Rattle.ns_queue.proofs.Appended.{have_seats_at}
 use Rattle.ns_queue.proofs.Orders.{list_small, offset_fits}
 use Rattle.ns_queue.proofs.Inside.{list_at, shape}

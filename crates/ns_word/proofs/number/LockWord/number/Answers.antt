@@ -1,5 +1,5 @@
 use Rattle.std.proofs.Common.{sym}
-use Rattle.ns_word.specs.Encoded.{encoded}
+use Rattle.ns_word.specs.Prelude.{encoded}
 use Rattle.ns_word.proofs.number.LockWord.number.Goals as goal
 
 pub returns : goal.returns

@@ -1,5 +1,5 @@
 use Rattle.std.proofs.Common.{◌<◌, ◌*◌, ◌^◌, rules, refl, ap, ◌∙◌, arith}
-use Rattle.ns_word.specs.Codec.{bit}
+use Rattle.ns_word.specs.Prelude.{bit}
 use Rattle.ns_word.proofs.Puts.{Puts, has, puts}
 use Rattle.ns_word.proofs.number.LockWord.with_long.Goals as goal
 

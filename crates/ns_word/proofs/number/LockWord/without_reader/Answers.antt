@@ -1,8 +1,8 @@
 use Rattle.std.proofs.Common.{ap, ◌∙◌, arith}
-use Rattle.ns_word.specs.Codec.{word_of}
+use Rattle.ns_word.specs.Prelude.{word_of}
 use Rattle.ns_word.proofs.Puts.{less, none}
-use Rattle.ns_word.proofs.number.LockWord.without_reader.Goals as goal
 use Rattle.ns_word.proofs.number.LockWord.without_reader.Goals.{then-readers-gt0, else-readers-gt0}
+use Rattle.ns_word.proofs.number.LockWord.without_reader.Goals as goal
 
 pub overflow_sub-number : goal.overflow_sub-number
 overflow_sub-number c = (less c.args.self c.self.inside.number c.self.view_is (omega (arith, c.readers.ensures, c.if-readers-gt0.true))).0

@@ -2,19 +2,7 @@ use Rattle.std.proofs.Common.{◌≡◌, ℕ, ◌<◌, nat_lt, Bool, true, false
 use Rattle.std.specs.Prelude.{MatchOption}
 use Rattle.std.specs.List.{list_all}
 use Rattle.std.proofs.lemmas.Bool.{ltb-true}
-use Rattle.ns_counters.specs.declared.object.Setup.{Setup}
-use Rattle.ns_model.specs.declared.event.Mode.{Mode}
-use Rattle.ns_model.specs.Environments.{NoteStanding}
-use Rattle.ns_world.specs.Asks.{note_at}
-use Rattle.ns_world.specs.Calls.{CallFits, CallInRange, NamesAll, finds, object_start, start_of}
-use Rattle.ns_world.specs.Items.{have_variable, is_among, items_of}
-use Rattle.ns_world.specs.Objects.{is_there}
-use Rattle.ns_world.specs.declared.call.Call.{Call}
-use Rattle.ns_world.specs.declared.call.Call.TheVariants.{Add, Value, CounterWait, Once, Done, WaitAny}
-use Rattle.ns_world.specs.declared.call.Start.{Start}
-use Rattle.ns_world.specs.declared.call.Start.TheVariants.{OnObjects}
-use Rattle.ns_world.specs.declared.items.Items.{Items}
-use Rattle.ns_world.specs.declared.object_walk.ObjectWalk.{ObjectWalk}
+use Rattle.ns_world.specs.Prelude.{Add, Call, CallFits, CallInRange, CounterWait, Done, Items, Mode, NamesAll, NoteStanding, ObjectWalk, OnObjects, Once, Setup, Start, Value, WaitAny, finds, have_variable, is_among, is_there, items_of, note_at, object_start, start_of}
 use Rattle.ns_world.proofs.Listed.{lower, none_among, some_among}
 use Rattle.ns_world.proofs.ObjectLaw.{first_of_all, rest_of_all}
 use Rattle.ns_world.proofs.call.Call.start.Goals as goal

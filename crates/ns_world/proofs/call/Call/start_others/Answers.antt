@@ -1,18 +1,7 @@
 use Rattle.std.proofs.Common.{◌≡◌, ℕ, Bool, true, false, cond, Option, Some, None, refl, sym, ◌∙◌, subst}
 use Rattle.std.specs.Prelude.{MatchOption}
 use Rattle.std.specs.Option.{option_map_or}
-use Rattle.ns_counters.specs.declared.object.Setup.{Setup}
-use Rattle.ns_model.specs.declared.event.Mode.{Mode}
-use Rattle.ns_model.specs.Environments.{NoteStanding}
-use Rattle.ns_env.specs.Asks.{IfMade}
-use Rattle.ns_env.specs.declared.walk.EnvWalk.TheVariants.{NextLoad, Notifying, Advancing, ClockLoad, ExpiryLoad}
-use Rattle.ns_env.specs.declared.walk.Chain.TheVariants.{ForIsNotified, ForNoteWait}
-use Rattle.ns_world.specs.Asks.{note_at}
-use Rattle.ns_world.specs.Calls.{CallFits, start_of}
-use Rattle.ns_world.specs.declared.call.Call.{Call}
-use Rattle.ns_world.specs.declared.call.Call.TheVariants.{NewNote, Notify, Advance, IsNotified, Expiry, NoteWait}
-use Rattle.ns_world.specs.declared.call.Start.{Start}
-use Rattle.ns_world.specs.declared.call.Start.TheVariants.{Ask}
+use Rattle.ns_world.specs.Prelude.{Advance, Advancing, Ask, Call, CallFits, ClockLoad, Expiry, ExpiryLoad, ForIsNotified, ForNoteWait, IfMade, IsNotified, Mode, NewNote, NextLoad, NoteStanding, NoteWait, Notify, Notifying, Setup, Start, note_at, start_of}
 use Rattle.ns_world.proofs.call.Call.start_others.Goals as goal
 
 -- a call that begins where a test says that its need is met

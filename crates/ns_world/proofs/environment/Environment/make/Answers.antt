@@ -1,9 +1,5 @@
 use Rattle.std.proofs.Common.{◌≡◌, ℕ, sym, subst}
-use Rattle.ns_env.specs.declared.act.EnvAct.{EnvAct}
-use Rattle.ns_env.specs.declared.act.EnvFound.{EnvFound}
-use Rattle.ns_env.specs.Asks.{EnvEffect}
-use Rattle.ns_env.specs.Steps.{EnvPlain, outcome}
-use Rattle.ns_world.specs.Asks.{plain_of}
+use Rattle.ns_world.specs.Prelude.{EnvAct, EnvEffect, EnvFound, EnvPlain, outcome, plain_of}
 use Rattle.ns_world.proofs.environment.Environment.make.Goals as goal
 
 -- the act is the one that was matched

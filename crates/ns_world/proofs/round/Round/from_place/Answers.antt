@@ -1,11 +1,8 @@
 use Rattle.std.proofs.Common.{◌≡◌, ◌+◌, ℕ, suc, Some, None, arith, sym, ap, ◌∙◌}
-use Rattle.ns_world.specs.declared.items.Item.TheVariants.{OnNote, OnCounter, OnVariable}
-use Rattle.ns_world.specs.declared.round.Round.{Round}
-use Rattle.ns_world.specs.Items.{item_at}
-use Rattle.ns_world.specs.Rounds.{from_items, from_place}
+use Rattle.ns_world.specs.Prelude.{OnCounter, OnNote, OnVariable, Round, from_items, from_place, item_at}
 use Rattle.ns_world.proofs.Listed.{left_at, none_behind_it, none_left}
-use Rattle.ns_world.proofs.round.Round.from_place.Goals as goal
 use Rattle.ns_world.proofs.round.Round.from_place.Goals.{in-Some-OnVariable, in-None}
+use Rattle.ns_world.proofs.round.Round.from_place.Goals as goal
 
 pub returns-in-Some-OnNote : goal.returns-in-Some-OnNote
 returns-in-Some-OnNote c = sym (ap (from_items c.args.self.now c.args.clock c.loop-place.place) (left_at c.args.self.now.items c.loop-place.place (OnNote c.in-Some-OnNote.note) (sym c.get.ensures ∙ c.in-Some-OnNote.is ∙ ap Some c.in-Some-OnNote.field-0-is))) ∙ c.loop-place.invariant

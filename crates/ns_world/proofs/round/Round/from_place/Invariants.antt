@@ -1,5 +1,5 @@
 use Rattle.std.proofs.Common.{◌≡◌}
-use Rattle.ns_world.specs.Rounds.{from_place}
+use Rattle.ns_world.specs.Prelude.{from_place}
 use Rattle.ns_world.proofs.round.Round.from_place.Given as goal
 
 -- what is left leads where all does

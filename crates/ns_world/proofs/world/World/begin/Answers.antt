@@ -1,8 +1,5 @@
 use Rattle.std.proofs.Common.{arith, ◌≡◌, sym, ◌∙◌, ap, refl, Option, Some, None, is_some, false}
-use Rattle.ns_world.specs.declared.step.Begun.TheVariants.{Misuse, Busy}
-use Rattle.ns_word.specs.Codec.{word_of}
-use Rattle.ns_world.specs.Whole.{whole_with}
-use Rattle.ns_world.specs.World.{now_with}
+use Rattle.ns_world.specs.Prelude.{Busy, Misuse, now_with, whole_with, word_of}
 use Rattle.ns_world.proofs.Wholes.{busy_elsewhere, unbegun, same_keeps, whole_begun, whole_starts, low}
 use Rattle.ns_world.proofs.world.World.begin.Goals as goal
 

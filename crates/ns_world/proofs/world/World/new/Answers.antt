@@ -1,5 +1,5 @@
 use Rattle.std.proofs.Common.{arith, refl}
-use Rattle.ns_word.specs.Begins.{free_word}
+use Rattle.ns_world.specs.Prelude.{free_word}
 use Rattle.ns_word.proofs.Codes.{decoded}
 use Rattle.ns_world.proofs.Fresh.{no_flags}
 use Rattle.ns_world.proofs.Wholes.{whole_new}

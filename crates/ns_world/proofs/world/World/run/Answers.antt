@@ -1,9 +1,7 @@
 use Rattle.std.proofs.Common.{arith, map, Vec, Global, length, ◌≡◌, refl}
 use Rattle.std.proofs.Math.Seq.{take-length}
 use Rattle.std.proofs.lemmas.Result.{err_from_is_err_and}
-use Rattle.ns_world.specs.Whole.{whole_of}
-use Rattle.ns_world.specs.declared.call.Call.{Call}
-use Rattle.ns_world.specs.Runs.{start, progress}
+use Rattle.ns_world.specs.Prelude.{Call, progress, start, whole_of}
 use Rattle.ns_world.proofs.Schedules.{advance_none, advance_word, stops_word}
 use Rattle.ns_world.proofs.Counted.{start_counted}
 use Rattle.ns_world.proofs.world.World.run.Goals as goal

@@ -1,6 +1,6 @@
 use Rattle.std.proofs.Common.{[], map, take}
-use Rattle.ns_world.specs.Whole.{whole_of}
-use Rattle.ns_world.specs.Runs.{start, progress, items_of, Advances, IsCounted}
+use Rattle.ns_world.specs.Prelude.{Advances, IsCounted, progress, start, whole_of}
+use Rattle.ns_world.specs.Runs.{items_of}
 use Rattle.ns_world.proofs.world.World.run.Given as goal
 
 -- the words so far

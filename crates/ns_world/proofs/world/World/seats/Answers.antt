@@ -1,6 +1,6 @@
 use Rattle.std.proofs.Common.{arith}
 use Rattle.std.proofs.lemmas.List.{length-map}
-use Rattle.ns_world.specs.Performs.{view_of}
+use Rattle.ns_world.specs.Prelude.{view_of}
 use Rattle.ns_world.proofs.world.World.seats.Goals as goal
 
 pub returns-clause-count : goal.returns-clause-count

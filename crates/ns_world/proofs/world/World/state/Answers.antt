@@ -1,8 +1,5 @@
 use Rattle.std.proofs.Common.{map, rules, refl, ap, ◌∙◌, ◌||◌, is_some}
-use Rattle.ns_world.specs.Objects.{walk_in}
-use Rattle.ns_word.specs.Codec.{word_of}
-use Rattle.ns_queue.specs.Queues.{Lists}
-use Rattle.ns_queue.specs.Waiters.{shown_of}
+use Rattle.ns_world.specs.Prelude.{Lists, shown_of, walk_in, word_of}
 use Rattle.ns_queue.proofs.Shown.{each_shown}
 use Rattle.ns_world.proofs.States.{listed, number_below, nowhere, few_seats, wakes_few}
 use Rattle.ns_world.proofs.world.World.state.Goals as goal

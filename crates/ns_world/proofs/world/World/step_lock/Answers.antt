@@ -1,9 +1,6 @@
 use Rattle.std.proofs.Common.{arith, sym, ◌∙◌}
 use Rattle.std.proofs.lemmas.Result.{err_from_is_err_and}
-use Rattle.ns_word.specs.Codec.{word_of}
-use Rattle.ns_world.specs.Performs.{view_of}
-use Rattle.ns_world.specs.Whole.{whole_with}
-use Rattle.ns_world.specs.World.{now_with}
+use Rattle.ns_world.specs.Prelude.{now_with, view_of, whole_with, word_of}
 use Rattle.ns_world.proofs.Mapped.{got-map}
 use Rattle.ns_world.proofs.Tells.{few_there, looks_not, of_views, seat_low, seat_there, waits_on}
 use Rattle.ns_world.proofs.Wholes.{lock_step, lock_step_keeps, lock_fault}

@@ -1,8 +1,5 @@
 use Rattle.std.proofs.Common.{arith, false, ap, sym, ◌∙◌}
-use Rattle.ns_world.specs.declared.objects.Objects.{Objects}
-use Rattle.ns_world.specs.Objects.{wait_in}
-use Rattle.ns_word.specs.Codec.{word_of}
-use Rattle.ns_world.specs.Whole.{whole_with}
+use Rattle.ns_world.specs.Prelude.{Objects, wait_in, whole_with, word_of}
 use Rattle.ns_world.proofs.Tells.{as_it_was, can_tell, few_here, seat_within, told_here}
 use Rattle.ns_world.proofs.Wholes.{may_operate, stands_low, operates, whole_operated, operated_step}
 use Rattle.ns_world.proofs.world.World.step_objects.Goals as goal

@@ -1,0 +1,167 @@
+-- The names from other places that the specs of this crate cite, passed on from one. Declares nothing.
+pub use Rattle.ns_counters.specs.Lawful.{IsLawful, ViewFits}
+pub use Rattle.ns_counters.specs.Made.{first_words, padded, setup_of}
+pub use Rattle.ns_counters.specs.Objects.{ObjectStanding, first_objects, object_next, object_who, objects_after, objects_own}
+pub use Rattle.ns_counters.specs.Rounds.{AnswersByRounds, HasShownNone, HaveShownNothing, InTurn, IsLater, Past, RoundShows}
+pub use Rattle.ns_counters.specs.Steps.{CanAct, Outcome, tried, word_at, word_of_once}
+pub use Rattle.ns_counters.specs.Words.{counter_of, counter_word, stage, stage_of}
+pub use Rattle.ns_counters.specs.declared.act.ObjectAct.{ObjectAct}
+pub use Rattle.ns_counters.specs.declared.act.ObjectAct.TheVariants.{BeginOnce, EndOnce, ExchangeToAdd, LoadToAdd, LookCounter, LookOnce, MarkWait}
+pub use Rattle.ns_counters.specs.declared.object.ObjectEvent.{ObjectEvent}
+pub use Rattle.ns_counters.specs.declared.object.ObjectEvent.TheVariants.{OnOnce}
+pub use Rattle.ns_counters.specs.declared.object.ObjectView.{ObjectView}
+pub use Rattle.ns_counters.specs.declared.object.Place.{Place}
+pub use Rattle.ns_counters.specs.declared.object.Place.TheVariants.{Adding, Free, Running}
+pub use Rattle.ns_counters.specs.declared.object.Setup.{Setup}
+pub use Rattle.ns_counters.specs.declared.word.Stage.{Stage}
+pub use Rattle.ns_env.specs.Asks.{EnvActFits, EnvBegins, EnvEffect, EnvState, EnvStep, IfMade, IsFirstAsk, IsLawfulEnv}
+pub use Rattle.ns_env.specs.Chains.{ChainFits}
+pub use Rattle.ns_env.specs.Lawful.{Meets}
+pub use Rattle.ns_env.specs.Meanings.{AtSomePoint, EnvCourse, EnvGoes, EnvGoesOn, EnvMeans, EnvSoFar, LookMeans, Shows, env_asked_of, env_course_after, env_course_at}
+pub use Rattle.ns_env.specs.Notes.{standing_of, state_of}
+pub use Rattle.ns_env.specs.Steps.{EnvPlain, fresh_plain, outcome}
+pub use Rattle.ns_env.specs.Walks.{env_got_of, env_walk_after, env_want_of, is_limited, passed, stopped, up_to}
+pub use Rattle.ns_env.specs.declared.act.EnvAct.{EnvAct}
+pub use Rattle.ns_env.specs.declared.act.EnvAct.TheVariants.{LoadClock, LoadNote}
+pub use Rattle.ns_env.specs.declared.act.EnvFound.{EnvFound}
+pub use Rattle.ns_env.specs.declared.act.EnvFound.TheVariants.{Clock, Note}
+pub use Rattle.ns_env.specs.declared.limits.Cause.{Cause}
+pub use Rattle.ns_env.specs.declared.limits.Cause.TheVariants.{Expired}
+pub use Rattle.ns_env.specs.declared.limits.Limits.{Limits}
+pub use Rattle.ns_env.specs.declared.note.NoteWord.{NoteWord}
+pub use Rattle.ns_env.specs.declared.reply.EnvReply.{EnvReply}
+pub use Rattle.ns_env.specs.declared.reply.EnvReply.TheVariants.{Is as IsSo}
+pub use Rattle.ns_env.specs.declared.request.EnvRequest.{EnvRequest}
+pub use Rattle.ns_env.specs.declared.walk.Chain.TheVariants.{ForIsNotified, ForLook, ForNoteWait}
+pub use Rattle.ns_env.specs.declared.walk.EnvNext.{EnvNext}
+pub use Rattle.ns_env.specs.declared.walk.EnvNext.TheVariants.{Go, LookOver}
+pub use Rattle.ns_env.specs.declared.walk.EnvWalk.{EnvWalk}
+pub use Rattle.ns_env.specs.declared.walk.EnvWalk.TheVariants.{Advancing, ClockLoad, ExpiryLoad, NextLoad, NoteLoad, Notifying}
+pub use Rattle.ns_model.specs.Beginnings.{BeginsWith, IsBetween}
+pub use Rattle.ns_model.specs.Counters.{is_ready, judged, most}
+pub use Rattle.ns_model.specs.Environments.{IsLegalEnv, NoteStanding, clock_of, env_after, env_own, env_who, is_due, is_over, no_note}
+unfoldable pub use Rattle.ns_model.specs.Environments.{is_notified}
+pub use Rattle.ns_model.specs.Histories.{own, row_after}
+pub use Rattle.ns_model.specs.Lines.{IsLeftAt}
+pub use Rattle.ns_model.specs.Onces.{is_done}
+pub use Rattle.ns_model.specs.Room.{HasRoom, room, room_enough}
+pub use Rattle.ns_model.specs.Seats.{is_in}
+pub use Rattle.ns_model.specs.Tallies.{Every}
+pub use Rattle.ns_model.specs.Truths.{QuietKeeps, Truths}
+pub use Rattle.ns_model.specs.declared.counter.CounterFault.{CounterFault}
+pub use Rattle.ns_model.specs.declared.counter.CounterState.{CounterState}
+pub use Rattle.ns_model.specs.declared.cvs.Cvs.{Cvs}
+pub use Rattle.ns_model.specs.declared.cvs.Variables.TheVariants.{Any, Only}
+pub use Rattle.ns_model.specs.declared.environment.EnvEvent.{EnvEvent}
+pub use Rattle.ns_model.specs.declared.event.Answer.{Answer}
+pub use Rattle.ns_model.specs.declared.event.Event.{Event}
+pub use Rattle.ns_model.specs.declared.event.Exit.TheVariants.{Plain}
+pub use Rattle.ns_model.specs.declared.event.Mode.{Mode}
+pub use Rattle.ns_model.specs.declared.event.Mode.TheVariants.{Read, Write}
+pub use Rattle.ns_model.specs.declared.once.OnceEvent.TheVariants.{Began}
+pub use Rattle.ns_model.specs.declared.once.OnceState.{OnceState}
+pub use Rattle.ns_queue.specs.Queues.{Lists, cvs_without, times, waiters_of, with_waiters}
+pub use Rattle.ns_queue.specs.Scans.{left_of, tests_of, woken_of}
+pub use Rattle.ns_queue.specs.Signals.{taken_set}
+pub use Rattle.ns_queue.specs.Waiters.{shown_of, times_in}
+pub use Rattle.ns_queue.specs.declared.waiter.Waiter.{Waiter}
+pub use Rattle.ns_queue.specs.declared.waiter.Which.TheVariants.{Cv}
+pub use Rattle.ns_word.specs.Asked.{asked_of}
+pub use Rattle.ns_word.specs.Begins.{IsFirst, free_word, fresh_state, fresh_views}
+unfoldable pub use Rattle.ns_word.specs.Codec.{word_of}
+pub use Rattle.ns_word.specs.Courses.{CallGoes, GoesOn, SoFar, course_after, looked_after}
+pub use Rattle.ns_word.specs.Lawful.{is_unwoken}
+pub use Rattle.ns_word.specs.Lists.{bits_of, counts_in, has_some, stands_at}
+pub use Rattle.ns_word.specs.Meanings.{AnyMeans, Course, InHand, MayEnd, Means, WaitMeans, course_from}
+pub use Rattle.ns_word.specs.Owed.{called_by, called_of, times_among, wakes_of}
+pub use Rattle.ns_word.specs.Places.{ActFits, AreVariables, CanLeave, CanWait, ChangeFits, HasList, HasMode, IsForCondition, IsInRange, IsSettled, IsUnmet, MayWait, OwesOne, PlaceFits}
+pub use Rattle.ns_word.specs.Steps.{Effect, LockState, MayShow, Part, Step as Steps, change_commits, changed, exit_for, held_after, in_hand, leave_of, meets_at, moved_to, part_of, section_of, taken_by, waited_in}
+pub use Rattle.ns_word.specs.Told.{AreBy}
+pub use Rattle.ns_word.specs.Views.{AreNumbered, owed_to, walk_at}
+pub use Rattle.ns_word.specs.Waits.{mode_for}
+pub use Rattle.ns_word.specs.Walks.{acquire_by, acquired_for, back_with, got_of, got_waiting, has_armed, has_queues, judge_of, quiet_first, release_by, test_place, unmet_by, wait_first, walk_after, want_acquiring, want_in_cells, want_leaving, want_of, want_releasing}
+pub use Rattle.ns_word.specs.Walks.{want_showing, want_signaling, want_trying}
+pub use Rattle.ns_word.specs.Words.{is_held, may_acquire, needs_scan, releasing_of, word_released, word_released_returning, word_returned}
+pub use Rattle.ns_word.specs.declared.acquire_walk.AcquirePlace.TheVariants.{AcquireExchange, AcquireLoad, Arm, AwaitWake, Queue, TakeToQueue}
+pub use Rattle.ns_word.specs.declared.act.Act.{Act}
+pub use Rattle.ns_word.specs.declared.act.Act.TheVariants.{Acquire, ArmFlag, JudgeMet, JudgeQuiet, LoadCell, LoadFlag, LoadWord, Look, PayWake, Release, ReleaseReturning, ReturnQueues, StoreCell, TakeQueues, WaitReturning}
+pub use Rattle.ns_word.specs.declared.act.Change.{Change}
+pub use Rattle.ns_word.specs.declared.act.Change.TheVariants.{LeaveSelf, QueueSelf, WakeWaiters}
+pub use Rattle.ns_word.specs.declared.act.Found.{Found}
+pub use Rattle.ns_word.specs.declared.act.Found.TheVariants.{Cell, Flag, Left, Looked, Made, Paid, Quiet, Saw, Scanned, Tested, Woke}
+pub use Rattle.ns_word.specs.declared.act.Waking.{Waking}
+pub use Rattle.ns_word.specs.declared.act.Waking.TheVariants.{Broadcasting, Signaling}
+pub use Rattle.ns_word.specs.declared.cell_walk.CellPlace.TheVariants.{GetLoad, QuietCells, QuietLast, SetLoad, SetStore}
+pub use Rattle.ns_word.specs.declared.cell_walk.Judging.TheVariants.{ToRelease, ToTell}
+pub use Rattle.ns_word.specs.declared.owed.Owed.{Owed}
+pub use Rattle.ns_word.specs.declared.release_walk.ReleasePlace.TheVariants.{Pay, ReleaseExchange, ReleaseLoad, ScanAndRelease, ScanCells, TakeToScan}
+pub use Rattle.ns_word.specs.declared.request.Request.{Request}
+pub use Rattle.ns_word.specs.declared.request.Request.TheVariants.{Await}
+pub use Rattle.ns_word.specs.declared.show_walk.ShowPlace.TheVariants.{ReturnShown, ShowLoad, TakeToShow}
+pub use Rattle.ns_word.specs.declared.signal_walk.SignalPlace.TheVariants.{PayTheWoken, SignalLoad, TakeToWake, WakeAndReturn}
+pub use Rattle.ns_word.specs.declared.try_walk.TryPlace.TheVariants.{TryAcquire, TryLoad}
+pub use Rattle.ns_word.specs.declared.view.Held.{Held}
+pub use Rattle.ns_word.specs.declared.view.SeatView.{SeatView}
+pub use Rattle.ns_word.specs.declared.wait.Aim.{Aim}
+pub use Rattle.ns_word.specs.declared.wait.Aim.TheVariants.{ForLock, ForWait}
+pub use Rattle.ns_word.specs.declared.wait.Home.{Home}
+pub use Rattle.ns_word.specs.declared.wait.Home.TheVariants.{AtLock, AtVariables}
+pub use Rattle.ns_word.specs.declared.wait.LeavePlace.TheVariants.{AwaitWakeToLeave, Leave, LeaveLoad, TakeToLeave}
+pub use Rattle.ns_word.specs.declared.wait.Outcome.TheVariants.{Ended, Woken}
+pub use Rattle.ns_word.specs.declared.wait.QueuePlace.TheVariants.{ArmToWait, Load, LoadToScan, LookIn, QueueToWait, Take}
+pub use Rattle.ns_word.specs.declared.wait.Subject.{Subject}
+pub use Rattle.ns_word.specs.declared.wait.Subject.TheVariants.{OnCondition, OnVariables}
+pub use Rattle.ns_word.specs.declared.wait.Visit.{Visit}
+pub use Rattle.ns_word.specs.declared.wait.Visit.TheVariants.{OnEntry, OnReturn}
+pub use Rattle.ns_word.specs.declared.wait.Wait.{Wait as WaitFor}
+pub use Rattle.ns_word.specs.declared.wait.WaitPlace.{WaitPlace}
+pub use Rattle.ns_word.specs.declared.wait.WaitPlace.TheVariants.{AwaitWakeInWait, InLeaving, InQueuing, LookOut, PayInWait, TestCells, TestLast}
+pub use Rattle.ns_word.specs.declared.walk.Next.{Next}
+pub use Rattle.ns_word.specs.declared.walk.Next.TheVariants.{On}
+pub use Rattle.ns_word.specs.declared.walk.Reply.{Reply as WalkReply}
+pub use Rattle.ns_word.specs.declared.walk.Reply.TheVariants.{WokenBy}
+pub use Rattle.ns_word.specs.declared.walk.Walk.{Walk}
+pub use Rattle.ns_word.specs.declared.walk.Walk.TheVariants.{InAcquire, InCells, InRelease, InShow, InSignal, InTry, InWait}
+pub use Rattle.ns_word.specs.declared.word.Arrival.{Arrival}
+pub use Rattle.ns_word.specs.declared.word.Arrival.TheVariants.{AsFresh}
+pub use Rattle.ns_word.specs.declared.word.Bits.{Bits}
+pub use Rattle.ns_word.specs.declared.word.Releasing.{Releasing}
+pub use Rattle.ns_word.specs.declared.word.Releasing.TheVariants.{QuietWriter, Reader, Writer}
+pub use Rattle.ns_word.specs.declared.word.Word.{Word}
+pub use Rattle.ns_world.specs.declared.call.Asked.{Asked}
+pub use Rattle.ns_world.specs.declared.call.Asked.TheVariants.{OfLock, OfNotes, OfObjects}
+pub use Rattle.ns_world.specs.declared.call.Call.{Call}
+pub use Rattle.ns_world.specs.declared.call.Call.TheVariants.{Add, Advance, Broadcast, CounterWait, CvWait, Done, Expiry, Get, IsNotified, Lock, NewNote, NoteWait, Notify, Once, RLock, RUnlock, Set, Signal, TryLock, TryRLock, Unlock, UnlockQuiet, Value, Wait, WaitAny}
+pub use Rattle.ns_world.specs.declared.call.Start.{Start}
+pub use Rattle.ns_world.specs.declared.call.Start.TheVariants.{Ask, OnLock, OnObjects}
+pub use Rattle.ns_world.specs.declared.environment.Environment.{Environment}
+pub use Rattle.ns_world.specs.declared.fault.Fault.{Fault}
+pub use Rattle.ns_world.specs.declared.fault.Fault.TheVariants.{NoSuchSeat, OutOfMemory, StepLimit, TooManySeats}
+pub use Rattle.ns_world.specs.declared.items.Item.{Item}
+pub use Rattle.ns_world.specs.declared.items.Item.TheVariants.{OnCounter, OnCounter as OnCounterItem, OnNote, OnVariable}
+pub use Rattle.ns_world.specs.declared.items.Items.{Items}
+pub use Rattle.ns_world.specs.declared.object_walk.ObjectNext.{ObjectNext}
+pub use Rattle.ns_world.specs.declared.object_walk.ObjectNext.TheVariants.{Over, Repeat}
+pub use Rattle.ns_world.specs.declared.object_walk.ObjectWalk.{ObjectWalk}
+pub use Rattle.ns_world.specs.declared.object_walk.ObjectWalk.TheVariants.{AddExchange, AddLoad, DoneLoad, InRound, OnceBegin, OnceEnd, OnceLoad, ValueLoad, WaitClock, WaitLoad, WaitMark}
+pub use Rattle.ns_world.specs.declared.objects.AnyWait.{AnyWait}
+pub use Rattle.ns_world.specs.declared.objects.Objects.{Objects}
+pub use Rattle.ns_world.specs.declared.reply.Reply.{Reply}
+pub use Rattle.ns_world.specs.declared.reply.Reply.TheVariants.{Already, Answered, Is, Noisy, NotesFull, Number, Ran, Refused, Succeeded}
+pub use Rattle.ns_world.specs.declared.round.ObjectFound.{ObjectFound}
+pub use Rattle.ns_world.specs.declared.round.ObjectFound.TheVariants.{Env}
+pub use Rattle.ns_world.specs.declared.round.ObjectWant.{ObjectWant}
+pub use Rattle.ns_world.specs.declared.round.ObjectWant.TheVariants.{OnEnv, OnWord}
+pub use Rattle.ns_world.specs.declared.round.Round.{Round}
+pub use Rattle.ns_world.specs.declared.round.RoundNext.{RoundNext}
+pub use Rattle.ns_world.specs.declared.round.RoundNext.TheVariants.{RoundGo, RoundOver}
+pub use Rattle.ns_world.specs.declared.round.RoundPlace.{RoundPlace}
+pub use Rattle.ns_world.specs.declared.round.RoundPlace.TheVariants.{AtCounter, AtNote, FirstClock}
+pub use Rattle.ns_world.specs.declared.schedule.Line.{Line}
+pub use Rattle.ns_world.specs.declared.schedule.Turn.{Turn}
+pub use Rattle.ns_world.specs.declared.seat.Seat.{Seat}
+pub use Rattle.ns_world.specs.declared.step.Begun.{Begun}
+pub use Rattle.ns_world.specs.declared.step.Begun.TheVariants.{Busy, Misuse, Started}
+pub use Rattle.ns_world.specs.declared.step.Step.{Step}
+pub use Rattle.ns_world.specs.declared.step.Step.TheVariants.{Finished, Idle, Nothing, Went}
+pub use Rattle.ns_world.specs.declared.wanted.Look.{Look as LookBy}
