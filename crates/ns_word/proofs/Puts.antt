@@ -1,6 +1,7 @@
 -- One bit of a word's number, or the count of readers, in place of another.
-use Rattle.std.proofs.Common.{◌≡◌, ℕ, ◌+◌, ◌-◌, ◌^◌, ◌<◌, ◌≤◌, ap, ◌∙◌, sym, arith}
-use Rattle.ns_word.specs.Prelude.{Word, encoded, number_of, word_of}
+use Rattle.std.proofs.Common.{◌≡◌, ℕ, ◌+◌, ◌-◌, ◌*◌, ◌^◌, ◌<◌, ◌≤◌, Bool, refl, ap, ◌∙◌, sym, arith}
+use Rattle.ns_word.specs.Prelude.{Bit, Word, bit, encoded, is_set, number_of, value_of_bit, word_of, word_with}
+use Rattle.ns_word.specs.declared.number.Bit.TheVariants as TheBit
 use Rattle.ns_word.proofs.Codes.{bit_few, decoded}
 
 -- what is taken from a number and added to it makes the other word's
@@ -29,6 +30,24 @@ puts w w' n old new view fits readers less sum =
       fits = rw made low;
       is = ap word_of made ∙ decoded w';
     }
+
+-- a bit of this value, which was so, is put so
+one : (w w' : Word) (n old new value : ℕ) (was is set : Bool) → word_of n ≡ w → n < 2 ^ 64 → is ≡ was → old ≡ value * bit is → new ≡ value * bit set → w'.readers ≡ w.readers → value * bit was ≤ number_of w → number_of w + value * bit set ≡ number_of w' + value * bit was →
+    (old ≤ n) × Puts w' n old new
+one w w' n old new value was is set view low same had puts_in readers less sum =
+    let own : old ≡ value * bit was = had ∙ ap (λ b. value * bit b) same in
+    (has w n old view (rw own less), puts w w' n old new view low readers (rw own less) (rw (own, puts_in) sum))
+
+pub put : (b : Bit) (set : Bool) (w : Word) (n old new : ℕ) → word_of n ≡ w → n < 2 ^ 64 → old ≡ value_of_bit b * bit (is_set n (value_of_bit b)) → new ≡ value_of_bit b * bit set → (old ≤ n) × Puts (word_with b set w) n old new
+unfolding word_of
+put TheBit.Write set w n old new view low had gives = one w _ n old new 1 w.write (is_set n 1) set view low (ap (λ (w : Word). w.write) view) had gives refl (omega arith) (omega arith)
+put TheBit.Spin set w n old new view low had gives = one w _ n old new 2 w.spin (is_set n 2) set view low (ap (λ (w : Word). w.spin) view) had gives refl (omega arith) (omega arith)
+put TheBit.Waiting set w n old new view low had gives = one w _ n old new 4 w.waiting (is_set n 4) set view low (ap (λ (w : Word). w.waiting) view) had gives refl (omega arith) (omega arith)
+put TheBit.Desig set w n old new view low had gives = one w _ n old new 8 w.desig (is_set n 8) set view low (ap (λ (w : Word). w.desig) view) had gives refl (omega arith) (omega arith)
+put TheBit.Cond set w n old new view low had gives = one w _ n old new 16 w.cond (is_set n 16) set view low (ap (λ (w : Word). w.cond) view) had gives refl (omega arith) (omega arith)
+put TheBit.WriterWaits set w n old new view low had gives = one w _ n old new 32 w.writer_waits (is_set n 32) set view low (ap (λ (w : Word). w.writer_waits) view) had gives refl (omega arith) (omega arith)
+put TheBit.AllFalse set w n old new view low had gives = one w _ n old new 64 w.all_false (is_set n 64) set view low (ap (λ (w : Word). w.all_false) view) had gives refl (omega arith) (omega arith)
+put TheBit.Long set w n old new view low had gives = one w _ n old new 128 w.long (is_set n 128) set view low (ap (λ (w : Word). w.long) view) had gives refl (omega arith) (omega arith)
 
 -- one reader more
 pub more : (w : Word) (n : ℕ) → word_of n ≡ w → w.readers < 255 → (n + 256 < 2 ^ 64) × (word_of (n + 256) ≡ record w { readers = w.readers + 1 })

@@ -1,6 +1,7 @@
 pub mod Answers
 pub mod Asked
 pub mod Begins
+pub mod Bits
 pub mod Codec
 pub mod Encoded
 pub mod Courses

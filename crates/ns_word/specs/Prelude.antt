@@ -2,7 +2,8 @@
 pub use Rattle.ns_word.specs.Answers.{cause_by, cause_for, cause_kept, comes_back, has_come_back, is_back, place_cause_kept, place_has_come_back}
 pub use Rattle.ns_word.specs.Asked.{asked_in_cells, asked_of, asked_to_judge}
 pub use Rattle.ns_word.specs.Begins.{Begins, BeginsIf, IsFirst, IsForVariables, SeatStep, fresh_state, fresh_views, view_in}
-pub use Rattle.ns_word.specs.Codec.{IsPackable, bit, number_of}
+pub use Rattle.ns_word.specs.Bits.{value_of_bit, word_with}
+pub use Rattle.ns_word.specs.Codec.{IsPackable, bit, is_set, number_of}
 unfoldable pub use Rattle.ns_word.specs.Codec.{word_of}
 pub use Rattle.ns_word.specs.Courses.{AcquireSoFar, CallGoes, HasLeft, HasLookedFor, IsComing, KeptFits, QueuesAfter, QueuesSoFar, ReleaseSoFar, SignalSoFar, SoFar, TestsSoFar, WaitSoFar, course_after, left_by, looked_after}
 pub use Rattle.ns_word.specs.Encoded.{encoded}
@@ -25,6 +26,7 @@ pub use Rattle.ns_word.specs.Walks.{got_trying, got_waiting, has_armed, has_queu
 pub use Rattle.ns_word.specs.Walks.{quiet_place, release_by, reply_for, reply_of, rest_or_look, scan_place, show_by, signal_by, test_place, unmet_by, wait_first, wait_has_queues, waits_in, walk_after, want_acquiring, want_in_cells, want_leaving, want_of, want_queuing}
 pub use Rattle.ns_word.specs.Walks.{want_releasing, want_showing, want_signaling, want_trying, want_waiting, was_woken}
 pub use Rattle.ns_word.specs.Words.{is_held, is_woken, may_acquire, mode_released, needs_scan, releasing_of, tries_of, word_acquired, word_released, word_released_returning, word_returned, word_taken}
+pub use Rattle.ns_word.specs.declared.number.Bit.{Bit}
 pub use Rattle.ns_word.specs.Names.{Acquire, AcquireExchange, AcquireLoad, AcquirePlace, Act, Aim, Answer, Answered, Any, AnyWait, AreWaiting, Arm, ArmFlag, ArmToWait, Arrival, AsFresh, AsWoken, AtLock, AtVariables, Await, AwaitWake, AwaitWakeInWait, AwaitWakeToLeave}
 pub use Rattle.ns_word.specs.Names.{BeginsWith, Broadcasting, Busy, CameBack, Canceled, Cause, Cell, CellPlace, Change, Cond, CondWait, Cv, CvWait, Cvs, Done, Ended, EntryFits, Event, Every, Exit, ExitFits, Expired, Flag, ForLock, ForWait, Found, Get, GetLoad}
 pub use Rattle.ns_word.specs.Names.{HaveSeats, Held, Home, Idle, InAcquire, InCells, InLeaving, InQueuing, InRelease, InShow, InSignal, InTry, InWait, Is, IsBySeats, IsLegal, IsLegalEvent, IsLegalLeave, IsLegalLeaveAny, IsOrderly, IsQuiet, JudgeMet, JudgeQuiet, Judging}

@@ -5,6 +5,7 @@
 //! others make the number of a word, read a part of it, or change one. The values of the bits stand in `codec.rt`.
 
 ghost use Rattle.std.specs.Prelude.{◌≡◌, ◌<◌, ◌+◌, ◌-◌};
+ghost use Rattle.ns_word.specs.Bits.{value_of_bit, word_with};
 ghost use Rattle.ns_word.specs.Codec.{number_of, word_of, IsPackable};
 ghost use Rattle.ns_word.specs.Words.{is_held, may_acquire, needs_scan, word_acquired, word_taken, word_returned, word_released, word_released_returning};
 
@@ -15,6 +16,38 @@ use crate::codec::{
 use crate::word::{Arrival, Bits, Releasing, Taking, Word};
 use ns_model::event::Mode;
 use std::marker::Model;
+
+/// A bit of the lock word.
+#[derive(Clone, Copy)]
+enum Bit {
+    Write,
+    Spin,
+    Waiting,
+    Desig,
+    Cond,
+    WriterWaits,
+    AllFalse,
+    Long,
+}
+
+impl Bit {
+    /// Its value in the number of a word.
+    #[inline(always)]
+    fn value(self) -> u64
+        ensures { result ≡ value_of_bit self }
+    {
+        match self {
+            Bit::Write => WRITE,
+            Bit::Spin => SPIN,
+            Bit::Waiting => WAITING,
+            Bit::Desig => DESIG,
+            Bit::Cond => COND,
+            Bit::WriterWaits => WRITER_WAITS,
+            Bit::AllFalse => ALL_FALSE,
+            Bit::Long => LONG,
+        }
+    }
+}
 
 /// The lock word as its number. To its callers this is the word that has the number.
 #[derive(Clone, Copy)]
@@ -147,75 +180,12 @@ impl LockWord {
 
     /// The word with this bit so.
     #[inline(always)]
-    fn with_write(self, write: bool) -> LockWord
-        ensures { result ≡ record self { write = write } }
+    fn with(self, bit: Bit, set: bool) -> LockWord
+        ensures { result ≡ word_with bit set self }
     {
-        let number = self.number - valued(self.write(), WRITE) + valued(write, WRITE);
-        LockWord { number }
-    }
-
-    /// The word with this bit so.
-    #[inline(always)]
-    fn with_spin(self, spin: bool) -> LockWord
-        ensures { result ≡ record self { spin = spin } }
-    {
-        let number = self.number - valued(self.spin(), SPIN) + valued(spin, SPIN);
-        LockWord { number }
-    }
-
-    /// The word with this bit so.
-    #[inline(always)]
-    fn with_waiting(self, waiting: bool) -> LockWord
-        ensures { result ≡ record self { waiting = waiting } }
-    {
-        let number = self.number - valued(self.waiting(), WAITING) + valued(waiting, WAITING);
-        LockWord { number }
-    }
-
-    /// The word with this bit so.
-    #[inline(always)]
-    fn with_desig(self, desig: bool) -> LockWord
-        ensures { result ≡ record self { desig = desig } }
-    {
-        let number = self.number - valued(self.desig(), DESIG) + valued(desig, DESIG);
-        LockWord { number }
-    }
-
-    /// The word with this bit so.
-    #[inline(always)]
-    fn with_cond(self, cond: bool) -> LockWord
-        ensures { result ≡ record self { cond = cond } }
-    {
-        let number = self.number - valued(self.cond(), COND) + valued(cond, COND);
-        LockWord { number }
-    }
-
-    /// The word with this bit so.
-    #[inline(always)]
-    fn with_writer_waits(self, writer_waits: bool) -> LockWord
-        ensures { result ≡ record self { writer_waits = writer_waits } }
-    {
-        let number = self.number - valued(self.writer_waits(), WRITER_WAITS)
-            + valued(writer_waits, WRITER_WAITS);
-        LockWord { number }
-    }
-
-    /// The word with this bit so.
-    #[inline(always)]
-    fn with_all_false(self, all_false: bool) -> LockWord
-        ensures { result ≡ record self { all_false = all_false } }
-    {
-        let number = self.number - valued(self.all_false(), ALL_FALSE)
-            + valued(all_false, ALL_FALSE);
-        LockWord { number }
-    }
-
-    /// The word with this bit so.
-    #[inline(always)]
-    fn with_long(self, long: bool) -> LockWord
-        ensures { result ≡ record self { long = long } }
-    {
-        let number = self.number - valued(self.long(), LONG) + valued(long, LONG);
+        let value = bit.value();
+        let old = valued(is_set(self.number, value), value);
+        let number = self.number - old + valued(set, value);
         LockWord { number }
     }
 
@@ -263,12 +233,12 @@ impl LockWord {
         ensures { result ≡ word_acquired mode arrival self }
     {
         let here = if arrival.is_woken() {
-            self.with_desig(false)
+            self.with(Bit::Desig, false)
         } else {
             self
         };
         match mode {
-            Mode::Write => here.with_write(true),
+            Mode::Write => here.with(Bit::Write, true),
             Mode::Read => here.with_reader(),
         }
     }
@@ -300,14 +270,14 @@ impl LockWord {
     pub fn taken(self, taking: Taking) -> LockWord
         ensures { result ≡ word_taken taking self }
     {
-        let taken = self.with_spin(true);
+        let taken = self.with(Bit::Spin, true);
         match taking {
             Taking::ToChange => taken,
             Taking::ToQueue(mode, arrival) => taken
-                .with_waiting(true)
-                .with_desig(self.desig() && !arrival.is_woken())
-                .with_writer_waits(self.writer_waits() || mode.is_write())
-                .with_all_false(false),
+                .with(Bit::Waiting, true)
+                .with(Bit::Desig, self.desig() && !arrival.is_woken())
+                .with(Bit::WriterWaits, self.writer_waits() || mode.is_write())
+                .with(Bit::AllFalse, false),
         }
     }
 
@@ -316,12 +286,12 @@ impl LockWord {
     pub fn returned(self, moved: bool, bits: Bits) -> LockWord
         ensures { result ≡ word_returned moved bits self }
     {
-        self.with_spin(false)
-            .with_waiting(bits.waiting)
-            .with_cond(bits.conditional)
-            .with_writer_waits(bits.writer_waits)
-            .with_long(bits.long)
-            .with_all_false(self.all_false() && bits.waiting && !moved)
+        self.with(Bit::Spin, false)
+            .with(Bit::Waiting, bits.waiting)
+            .with(Bit::Cond, bits.conditional)
+            .with(Bit::WriterWaits, bits.writer_waits)
+            .with(Bit::Long, bits.long)
+            .with(Bit::AllFalse, self.all_false() && bits.waiting && !moved)
     }
 
     /// The word after a release without a scan.
@@ -330,8 +300,8 @@ impl LockWord {
         ensures { result ≡ word_released releasing self }
     {
         match releasing {
-            Releasing::Writer => self.with_write(false).with_all_false(false),
-            Releasing::QuietWriter => self.with_write(false),
+            Releasing::Writer => self.with(Bit::Write, false).with(Bit::AllFalse, false),
+            Releasing::QuietWriter => self.with(Bit::Write, false),
             Releasing::Reader => self.without_reader(),
         }
     }
@@ -343,7 +313,7 @@ impl LockWord {
     {
         self.released(releasing)
             .returned(false, bits)
-            .with_desig(took || self.desig())
-            .with_all_false(bits.waiting && !took)
+            .with(Bit::Desig, took || self.desig())
+            .with(Bit::AllFalse, bits.waiting && !took)
     }
 }
