@@ -1,6 +1,7 @@
 -- The looks of a wait: where a seat stands on the clock and the notes while its wait looks.
 use Rattle.std.specs.Prelude.{◌≡◌, ℕ, Bool, true, false, if◌then◌else◌, Option, None, Some, IsSome}
-use Rattle.ns_world.specs.Names.{Act, Aim, Any, ClockLoad, EnvWalk, ForLock, ForLook, ForWait, InAcquire, InWait, Limits, Look, LookBy, NoteLoad, OnVariables, Subject, Walk, want_of}
+use Rattle.ns_world.specs.Names.{Act, Any, ClockLoad, EnvWalk, ForLook, InWait, Limits, Look, LookBy, NoteLoad, OnVariables, Request, Subject, Walk, asked_of, want_of}
+use Rattle.ns_word.specs.declared.request.Request.TheVariants as TheRequest
 
 -- what a look goes by, where the act is one
 abbrev pub looks_at : {C : Type 0} → Act C → Option Limits
@@ -27,7 +28,7 @@ abbrev pub is_for_any : {C : Type 0} → Subject C → Bool
 is_for_any (OnVariables (Any cvs)) = true
 is_for_any on = false
 
--- The walk waits for any of a set of variables. Such a wait looks at the objects among which they are, and not at the clock and the notes by itself.
+-- The walk waits for any of a set of variables. Such a wait looks at the objects among which they are, and not at the clock and the notes by itself. What such a look's limits say is for its caller to fill (`at_will`), and the round loads the clock by itself. So `WasShown` says nothing of it; what its rounds have shown is said of the objects (`AnswersOfWaiting`).
 abbrev pub waits_among : {C : Type 0} → Walk C → Bool
 waits_among (InWait wait place) = is_for_any wait.on
 waits_among walk = false
@@ -49,13 +50,12 @@ AsksFor None asking = Unit {0}
 AsksFor (Some walk) None = waits_among walk ≡ false → looks_at (want_of walk) ≡ None
 AsksFor (Some walk) (Some place) = (limits : Limits) × (looks_at (want_of walk) ≡ Some limits) × LookFits limits place
 
--- the note that may end the wait that a seat is in
-abbrev pub note_for : {C : Type 0} → Aim C → Option ℕ
-note_for (ForLock mode) = None
-note_for (ForWait wait outcome) = wait.limits.note
+-- the note that may end what was asked, where that is a wait and a note was given
+abbrev pub note_asked : {C : Type 0} → Request C → Option ℕ
+note_asked (TheRequest.Await wait) = wait.limits.note
+note_asked request = None
 
--- the note that may end the wait of a seat at this place, if it is in a wait and a note was given
+-- the same of a seat at this place, if it is in a call
 abbrev pub note_in : {C : Type 0} → Option (Walk C) → Option ℕ
-note_in (Some (InAcquire aim place)) = note_for aim
-note_in (Some (InWait wait place)) = wait.limits.note
-note_in walk = None
+note_in None = None
+note_in (Some walk) = note_asked (asked_of walk)

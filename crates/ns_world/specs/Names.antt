@@ -20,7 +20,7 @@ pub use Rattle.ns_env.specs.Lawful.{Meets}
 pub use Rattle.ns_env.specs.Meanings.{AtSomePoint, EnvCourse, EnvGoes, EnvGoesOn, EnvMeans, EnvSoFar, LookMeans, Shows, env_asked_of, env_course_after, env_course_at}
 pub use Rattle.ns_env.specs.Notes.{standing_of, state_of}
 pub use Rattle.ns_env.specs.Steps.{EnvPlain, fresh_plain, outcome}
-pub use Rattle.ns_env.specs.Walks.{env_got_of, env_walk_after, env_want_of, is_limited, passed, stopped, up_to}
+pub use Rattle.ns_env.specs.Walks.{env_got_of, env_walk_after, env_want_of, passed, stopped, up_to}
 pub use Rattle.ns_env.specs.declared.act.EnvAct.{EnvAct}
 pub use Rattle.ns_env.specs.declared.act.EnvAct.TheVariants.{LoadClock, LoadNote}
 pub use Rattle.ns_env.specs.declared.act.EnvFound.{EnvFound}
@@ -68,7 +68,6 @@ pub use Rattle.ns_queue.specs.declared.waiter.Waiter.{Waiter}
 pub use Rattle.ns_queue.specs.declared.waiter.Which.TheVariants.{Cv}
 pub use Rattle.ns_word.specs.Asked.{asked_of}
 pub use Rattle.ns_word.specs.Begins.{IsFirst, free_word, fresh_state, fresh_views}
-unfoldable pub use Rattle.ns_word.specs.Codec.{word_of}
 pub use Rattle.ns_word.specs.Courses.{CallGoes, GoesOn, SoFar, course_after, looked_after}
 pub use Rattle.ns_word.specs.Lawful.{is_unwoken}
 pub use Rattle.ns_word.specs.Lists.{bits_of, counts_in, has_some, stands_at}
@@ -78,43 +77,37 @@ pub use Rattle.ns_word.specs.Places.{ActFits, AreVariables, CanLeave, CanWait, C
 pub use Rattle.ns_word.specs.Steps.{Effect, LockState, MayShow, Part, Step as Steps, change_commits, changed, exit_for, held_after, in_hand, leave_of, meets_at, moved_to, part_of, section_of, taken_by, waited_in}
 pub use Rattle.ns_word.specs.Told.{AreBy}
 pub use Rattle.ns_word.specs.Views.{AreNumbered, owed_to, walk_at}
-pub use Rattle.ns_word.specs.Waits.{mode_for}
-pub use Rattle.ns_word.specs.Walks.{acquire_by, acquired_for, back_with, got_of, got_waiting, has_armed, has_queues, judge_of, quiet_first, release_by, test_place, unmet_by, wait_first, walk_after, want_acquiring, want_in_cells, want_leaving, want_of, want_releasing}
+pub use Rattle.ns_word.specs.Walks.{got_of, has_armed, has_queues, judge_of, quiet_first, wait_first, walk_after, want_acquiring, want_in_cells, want_leaving, want_of, want_releasing}
 pub use Rattle.ns_word.specs.Walks.{want_showing, want_signaling, want_trying}
-pub use Rattle.ns_word.specs.Words.{is_held, may_acquire, needs_scan, releasing_of, word_released, word_released_returning, word_returned}
-pub use Rattle.ns_word.specs.declared.acquire_walk.AcquirePlace.TheVariants.{AcquireExchange, AcquireLoad, Arm, AwaitWake, Queue, TakeToQueue}
+pub use Rattle.ns_word.specs.Words.{is_held, releasing_of, word_released, word_released_returning, word_returned}
+pub use Rattle.ns_word.specs.declared.acquire_walk.AcquirePlace.TheVariants.{AcquireLoad}
 pub use Rattle.ns_word.specs.declared.act.Act.{Act}
 pub use Rattle.ns_word.specs.declared.act.Act.TheVariants.{Acquire, ArmFlag, JudgeMet, JudgeQuiet, LoadCell, LoadFlag, LoadWord, Look, PayWake, Release, ReleaseReturning, ReturnQueues, StoreCell, TakeQueues, WaitReturning}
 pub use Rattle.ns_word.specs.declared.act.Change.{Change}
 pub use Rattle.ns_word.specs.declared.act.Change.TheVariants.{LeaveSelf, QueueSelf, WakeWaiters}
 pub use Rattle.ns_word.specs.declared.act.Found.{Found}
-pub use Rattle.ns_word.specs.declared.act.Found.TheVariants.{Cell, Flag, Left, Looked, Made, Paid, Quiet, Saw, Scanned, Tested, Woke}
+pub use Rattle.ns_word.specs.declared.act.Found.TheVariants.{Left, Looked, Made, Saw, Scanned, Woke}
 pub use Rattle.ns_word.specs.declared.act.Waking.{Waking}
 pub use Rattle.ns_word.specs.declared.act.Waking.TheVariants.{Broadcasting, Signaling}
-pub use Rattle.ns_word.specs.declared.cell_walk.CellPlace.TheVariants.{GetLoad, QuietCells, QuietLast, SetLoad, SetStore}
-pub use Rattle.ns_word.specs.declared.cell_walk.Judging.TheVariants.{ToRelease, ToTell}
+pub use Rattle.ns_word.specs.declared.cell_walk.CellPlace.TheVariants.{GetLoad, QuietCells, QuietLast, SetLoad}
+pub use Rattle.ns_word.specs.declared.cell_walk.Judging.TheVariants.{ToRelease}
 pub use Rattle.ns_word.specs.declared.owed.Owed.{Owed}
-pub use Rattle.ns_word.specs.declared.release_walk.ReleasePlace.TheVariants.{Pay, ReleaseExchange, ReleaseLoad, ScanAndRelease, ScanCells, TakeToScan}
+pub use Rattle.ns_word.specs.declared.release_walk.ReleasePlace.TheVariants.{ReleaseLoad}
 pub use Rattle.ns_word.specs.declared.request.Request.{Request}
 pub use Rattle.ns_word.specs.declared.request.Request.TheVariants.{Await}
-pub use Rattle.ns_word.specs.declared.show_walk.ShowPlace.TheVariants.{ReturnShown, ShowLoad, TakeToShow}
-pub use Rattle.ns_word.specs.declared.signal_walk.SignalPlace.TheVariants.{PayTheWoken, SignalLoad, TakeToWake, WakeAndReturn}
-pub use Rattle.ns_word.specs.declared.try_walk.TryPlace.TheVariants.{TryAcquire, TryLoad}
+pub use Rattle.ns_word.specs.declared.signal_walk.SignalPlace.TheVariants.{SignalLoad}
+pub use Rattle.ns_word.specs.declared.try_walk.TryPlace.TheVariants.{TryLoad}
 pub use Rattle.ns_word.specs.declared.view.Held.{Held}
 pub use Rattle.ns_word.specs.declared.view.SeatView.{SeatView}
-pub use Rattle.ns_word.specs.declared.wait.Aim.{Aim}
-pub use Rattle.ns_word.specs.declared.wait.Aim.TheVariants.{ForLock, ForWait}
+pub use Rattle.ns_word.specs.declared.wait.Aim.TheVariants.{ForLock}
 pub use Rattle.ns_word.specs.declared.wait.Home.{Home}
 pub use Rattle.ns_word.specs.declared.wait.Home.TheVariants.{AtLock, AtVariables}
-pub use Rattle.ns_word.specs.declared.wait.LeavePlace.TheVariants.{AwaitWakeToLeave, Leave, LeaveLoad, TakeToLeave}
-pub use Rattle.ns_word.specs.declared.wait.Outcome.TheVariants.{Ended, Woken}
+pub use Rattle.ns_word.specs.declared.wait.LeavePlace.TheVariants.{LeaveLoad}
 pub use Rattle.ns_word.specs.declared.wait.QueuePlace.TheVariants.{ArmToWait, Load, LoadToScan, LookIn, QueueToWait, Take}
 pub use Rattle.ns_word.specs.declared.wait.Subject.{Subject}
 pub use Rattle.ns_word.specs.declared.wait.Subject.TheVariants.{OnCondition, OnVariables}
-pub use Rattle.ns_word.specs.declared.wait.Visit.{Visit}
-pub use Rattle.ns_word.specs.declared.wait.Visit.TheVariants.{OnEntry, OnReturn}
+pub use Rattle.ns_word.specs.declared.wait.Visit.TheVariants.{OnEntry}
 pub use Rattle.ns_word.specs.declared.wait.Wait.{Wait as WaitFor}
-pub use Rattle.ns_word.specs.declared.wait.WaitPlace.{WaitPlace}
 pub use Rattle.ns_word.specs.declared.wait.WaitPlace.TheVariants.{AwaitWakeInWait, InLeaving, InQueuing, LookOut, PayInWait, TestCells, TestLast}
 pub use Rattle.ns_word.specs.declared.walk.Next.{Next}
 pub use Rattle.ns_word.specs.declared.walk.Next.TheVariants.{On}
