@@ -83,7 +83,8 @@ impl<const N: usize> Compact<N> for Reading {
     ghost has_room = { reading_small N.row };
 }
 
-/// A section in hand that writes, with what it found in the cells that it has set.
+/// A section in hand that writes, with what it found in the cells that it has set. So `is_quiet` has the row
+/// that the section began at, by the loads that `set` makes anyway, and an acquire loads no cell.
 #[derive(Drop)]
 pub struct Writing<const N: usize> {
     /// For each cell, what it held as the section began, if the section has set it.

@@ -29,6 +29,10 @@ pub enum Going<C> {
 /// last, or none where it has gone. By that word it goes on in a function that may wait.
 ///
 /// What goes at once is no such function: each call of one costs a look at whether it was cut short.
+///
+/// No half gives back a section, nor an enum with either a section or what is to be gone on with: LLVM keeps
+/// both in memory, where a call went at once, too. The second halves are given the seat and not lent it, so
+/// that the first keep it in registers.
 #[derive(Drop)]
 pub(crate) struct Begun<C: Condition<N>, const N: usize> {
     /// The seat.
@@ -66,6 +70,11 @@ impl<C: Copy> Going<C> {
 
     /// The lock word as the call finds it where no other caller holds the lock, or stands in its list,
     /// or has the queues. It lets each call go that may go at all without the queues.
+    ///
+    /// That this word lets the call go is a clause, and no test. That it is the word of a caller alone is for
+    /// speed, and no clause says it. The mark is `#[inline]` and not `#[inline(always)]`: a function that
+    /// would grow large loses the latter, and with that here and a test, a section of a lock, a read and an
+    /// unlock is called and not inlined.
     #[inline]
     fn word_alone(self) -> LockWord
         ensures packs { IsPackable result }
@@ -158,6 +167,10 @@ impl<C: Condition<N>, const N: usize> Monitor<C, N> {
     ///
     /// A load that follows an exchange of the same word waits for that to end, which a right guess spares.
     /// A wrong one costs what an exchange takes more than a load.
+    ///
+    /// It guesses only where the caller's last lock, try or release began with such a word too. So past
+    /// waiters and beside other readers a caller guesses wrong once, and then loads first until the word is
+    /// such a one again.
     #[inline(always)]
     pub(crate) fn begin_to_go(
         &self,

@@ -42,6 +42,9 @@
 //! The behaviour is that of nsync's `nsync_mu`, `nsync_mu_wait` and `nsync_cv`: waiters queue, one
 //! designated waker is enough, conditions are tested by whoever releases, and who is signalled while the
 //! lock is held is moved to the waiters for it.
+//!
+//! Programs call it, and so do ns_live and ns_objects. Its calls are made of the steps of ns_gate, which
+//! follow the walks of ns_word; clock and notes are ns_note's.
 #![tactic(auto)]
 
 mod acquiring;

@@ -3,7 +3,7 @@
 ghost use Rattle.std.specs.Prelude.{◌≡◌, ◌<◌, ◌≤◌, ◌++◌, [], ◌∷◌, if◌then◌else◌, None, Some, true, All, IfErr, IfOk, OnOk, length, slice_index, slice_set};
 ghost use Rattle.ns_model.specs.declared.event.Exit.TheVariants as TheExit;
 ghost use Rattle.ns_gate.specs.Prelude.{Read, Write, TryLock, Busy, Succeeded, QuietWriter, Reader, Writer, InHand, HasMode, section_of, mode_released, HasAnswered, HasSince, IsAtRest, RefusesGate, ShareTheLock, the};
-ghost use Rattle.ns_monitor.specs.Prelude.{AreNew, AreOfOneHistory, EndsAs, Grows, HasBegun, HasLearned, HasLocked, HasSeenMore, IsFreshIn, IsNumberOf, IsQuietFor, WentAtOnce, getting, judging, known_of, locking, releasing_by, setting, trying};
+ghost use Rattle.ns_monitor.specs.Prelude.{AreNew, AreOfOneHistory, EndsAs, Grows, HasBegun, HasLearned, HasLocked, HasSeenMore, HasUnlocked, IsFreshIn, IsNumberOf, IsQuietFor, WentAtOnce, getting, judging, known_of, locking, releasing_by, setting, trying};
 
 use crate::caller::{Caller, Free, Hand, ReadHeld, Renewed, Seat, Section, WriteHeld};
 use crate::going::{Begun, Going};
@@ -183,6 +183,10 @@ impl<C: Gated<N>, const N: usize> Monitor<C, N> {
     }
 
     /// Begins to acquire the lock in this mode, and does it at once where the word lets it.
+    ///
+    /// The functions of the fast path are marked to be inlined, the public calls too, and what stands behind
+    /// it as cold. Else a program with many calls keeps them apart, and hands the word, and the section, from
+    /// one to the other in memory.
     #[inline(always)]
     fn begin_lock(&self, seat: Seat<C, N>, mode: Mode) -> Begun<C, N>
         requires { seat.monitor ≡ self.now }
@@ -206,6 +210,26 @@ impl<C: Gated<N>, const N: usize> Monitor<C, N> {
         }
     }
 
+    /// Acquires the lock for such a section, and waits as long as it has to.
+    #[inline(always)]
+    fn lock_as<H: Renewed<C, N>, R: Wait>(&self, rt: &R, seat: Seat<C, N>) -> Caller<H, C, N>
+        requires { seat.monitor ≡ self.now }
+        ensures { HasLocked C.means (locking H.mode) H.mode seat result }
+    {
+        let mode = H::mode();
+        let Begun {
+            seat,
+            number,
+            alone,
+            last,
+        } = self.begin_lock(seat, mode);
+        let seat = match last {
+            None => seat,
+            Some(last) => self.lock_slow(rt, seat, number, mode, last),
+        };
+        holding(seat, number, alone)
+    }
+
     /// Acquires the lock to write, and waits as long as it has to. The section begins at the row after
     /// all that it has seen.
     #[inline(always)]
@@ -213,17 +237,7 @@ impl<C: Gated<N>, const N: usize> Monitor<C, N> {
         requires { seat.monitor ≡ self.now }
         ensures { HasLocked C.means (locking Write) Write seat result }
     {
-        let Begun {
-            seat,
-            number,
-            alone,
-            last,
-        } = self.begin_lock(seat, Mode::Write);
-        let seat = match last {
-            None => seat,
-            Some(last) => self.lock_slow(rt, seat, number, Mode::Write, last),
-        };
-        holding(seat, number, alone)
+        self.lock_as(rt, seat)
     }
 
     /// Acquires the lock to read, beside other readers, and waits as long as it has to. The section
@@ -233,17 +247,7 @@ impl<C: Gated<N>, const N: usize> Monitor<C, N> {
         requires { seat.monitor ≡ self.now }
         ensures { HasLocked C.means (locking Read) Read seat result }
     {
-        let Begun {
-            seat,
-            number,
-            alone,
-            last,
-        } = self.begin_lock(seat, Mode::Read);
-        let seat = match last {
-            None => seat,
-            Some(last) => self.lock_slow(rt, seat, number, Mode::Read, last),
-        };
-        holding(seat, number, alone)
+        self.lock_as(rt, seat)
     }
 
     /// The value of a cell of the section's row.
@@ -394,18 +398,19 @@ impl<C: Gated<N>, const N: usize> Monitor<C, N> {
         }
     }
 
-    /// Ends a write section: it is committed as it is, and the caller's events have it as their last.
-    ///
-    /// Where waiters may be able to go on, it tests their conditions, here in this thread, and wakes
-    /// those who can. It tries its exchange again where another has changed the word meanwhile, and goes
-    /// round while another has the waiter queues.
+    /// Releases the section in hand in this way, and goes round while another has the waiter queues.
     #[inline(always)]
-    pub fn unlock<R: Wait>(&self, rt: &R, held: WriteHeld<C, N>) -> Seat<C, N>
-        requires { held.monitor ≡ self.now }
-        ensures grows { Grows C.means (releasing_by Writer) held result }
-        ensures mine { InHand held.held (λ section. result.mine ≡ held.mine ++ section_of C.means.holds held.seat section TheExit.Plain ∷ []) }
+    fn release<H: Section<C, N> + Drop, R: Wait>(
+        &self,
+        rt: &R,
+        held: Caller<H, C, N>,
+        releasing: Releasing,
+    ) -> Seat<C, N>
+        requires of { held.monitor ≡ self.now }
+        requires mode { mode_released releasing ≡ H.mode }
+        requires quiet { IsQuietFor C.means releasing held.held }
+        ensures { HasUnlocked C.means releasing held result }
     {
-        let releasing = Releasing::Writer;
         let Begun {
             seat,
             number,
@@ -419,6 +424,20 @@ impl<C: Gated<N>, const N: usize> Monitor<C, N> {
         seated(seat, number, alone)
     }
 
+    /// Ends a write section: it is committed as it is, and the caller's events have it as their last.
+    ///
+    /// Where waiters may be able to go on, it tests their conditions, here in this thread, and wakes
+    /// those who can. It tries its exchange again where another has changed the word meanwhile, and goes
+    /// round while another has the waiter queues.
+    #[inline(always)]
+    pub fn unlock<R: Wait>(&self, rt: &R, held: WriteHeld<C, N>) -> Seat<C, N>
+        requires { held.monitor ≡ self.now }
+        ensures grows { Grows C.means (releasing_by Writer) held result }
+        ensures mine { InHand held.held (λ section. result.mine ≡ held.mine ++ section_of C.means.holds held.seat section TheExit.Plain ∷ []) }
+    {
+        self.release(rt, held, Releasing::Writer)
+    }
+
     /// Ends a read section: it is committed, and the caller's events have it as their last.
     ///
     /// Goes round as [`Monitor::unlock`] does.
@@ -428,18 +447,7 @@ impl<C: Gated<N>, const N: usize> Monitor<C, N> {
         ensures grows { Grows C.means (releasing_by Reader) held result }
         ensures mine { InHand held.held (λ section. result.mine ≡ held.mine ++ section_of C.means.holds held.seat section TheExit.Plain ∷ []) }
     {
-        let releasing = Releasing::Reader;
-        let Begun {
-            seat,
-            number,
-            alone,
-            last,
-        } = self.begin_unlock(held, releasing);
-        let seat = match last {
-            None => seat,
-            Some(last) => self.unlock_slow(rt, seat, releasing, last),
-        };
-        seated(seat, number, alone)
+        self.release(rt, held, Releasing::Reader)
     }
 
     /// Ends a write section that can't have made a false condition true: it is committed as it is, as
@@ -452,18 +460,7 @@ impl<C: Gated<N>, const N: usize> Monitor<C, N> {
         ensures grows { Grows C.means (releasing_by QuietWriter) held result }
         ensures mine { InHand held.held (λ section. result.mine ≡ held.mine ++ section_of C.means.holds held.seat section TheExit.Plain ∷ []) }
     {
-        let releasing = Releasing::QuietWriter;
-        let Begun {
-            seat,
-            number,
-            alone,
-            last,
-        } = self.begin_unlock(held, releasing);
-        let seat = match last {
-            None => seat,
-            Some(last) => self.unlock_slow(rt, seat, releasing, last),
-        };
-        seated(seat, number, alone)
+        self.release(rt, held, Releasing::QuietWriter)
     }
 
     /// Ends the monitor, and tells the cells as they stand, and whether the lock is free. Where it

@@ -184,8 +184,9 @@ impl<C: Condition<N>, const N: usize> Monitor<C, N> {
     ///
     /// `Met` says that the condition is true of the section that it returns with; else `Canceled` that
     /// the note was notified, and `TimedOut` that the deadline had come while the note wasn't. Where that
-    /// is so as the call begins, nothing is released: it looks before it leaves its section. (That it has
-    /// looked is a clause; that it did so first is how it is written.)
+    /// is so as the call begins, nothing is released: it looks before it leaves its section. (That a look
+    /// within the call has shown nothing is a clause, `HadLooked`; that it came first is how it is written.
+    /// Of the later looks no clause speaks; the call itself tells the gate which were made.)
     ///
     /// Needs the environment's own seat, and a note, if one is given, that it has seen made. While it
     /// waits with a deadline or a note it goes round between its wake and a look, and after a while sleeps

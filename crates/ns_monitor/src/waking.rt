@@ -35,6 +35,10 @@ impl<C: Condition<N>, const N: usize> Monitor<C, N> {
     /// Puts the queues back without those whom the call has taken, who are at the back of the lock list
     /// where the word that the exchange compares is held: what is in hand is turned each time the word
     /// found differs in that. Answers whether the lock was held; else they are owed their wakes.
+    ///
+    /// The taken are kept apart until the queues are back. To turn what is in hand is to put them at the back
+    /// of the lock list there, or to take them out of it again. That needs the lists to have stood orderly,
+    /// which `wake_in_hand` tells.
     fn return_woken<R: Wait>(
         &self,
         rt: &R,

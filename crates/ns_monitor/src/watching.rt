@@ -13,6 +13,10 @@ use ns_note::note::Note;
 use ns_note::seat::EnvSeat;
 
 /// What watches for an early end of a wait: it looks, where the wait's limits let anything end it.
+///
+/// Its laws are ghost members, and [`Looker`] borrows the environment's seat for the time of the
+/// call. So `wait` takes no environment, and both waits are one body. A wait that is given neither
+/// deadline nor note makes no look.
 pub trait Watch {
     /// It watches for what these limits name.
     ghost watches: { Self → Limits → Type 0 };
