@@ -1,4 +1,5 @@
-//! The program `ns_bench`: times a monitor.
+//! The program `ns_bench`: times a monitor. It calls ns_monitor, ns_note and ns_objects as any program
+//! does, and takes its ring from ns_live.
 //!
 //!     ns_bench WORKLOAD THREADS OPERATIONS
 //!

@@ -1,5 +1,7 @@
 //! A bounded queue between two threads, by condition variables: one puts the numbers 1 to 100 into a ring of
 //! four cells, the other takes them out and adds them. Each signals a variable for which the other may wait.
+//!
+//! The ring is ns_live's, and its monitor ns_monitor's. docs/USING.md shows such a wait.
 #![tactic(auto)]
 
 ghost use Rattle.std.specs.Prelude.{◌≡◌};

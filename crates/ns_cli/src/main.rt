@@ -1,8 +1,8 @@
 //! The program `ns_cli`: replays scripts from standard input to standard output, and has live threads
 //! use the lock.
 //!
-//! It only reads its words, passes them and the process's streams on to the command, and makes the
-//! threads where those are asked for.
+//! It only reads its words, passes them and the process's streams on to the command, which is
+//! ns_command's, and makes the threads by ns_live where those are asked for. `./ns_cli` runs it.
 #![tactic(auto)]
 
 ghost use Rattle.std.specs.Prelude.{◌≡◌, false};

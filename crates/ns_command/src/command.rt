@@ -119,6 +119,10 @@ fn script_commands<'a>(alloc: Global) -> Result<Command<'a>, AllocError>
 }
 
 /// The words that the program takes.
+///
+/// They are written down twice, as clap's builder and as a definition (`application`), and the
+/// first is proved to be the second. What the words ask for is then a function of them, and the
+/// options that reach a replay are a clause.
 fn command<'a>(alloc: Global) -> Result<Command<'a>, AllocError>
     ensures { IfOk result (λ command. app_of command ≡ application) }
 {

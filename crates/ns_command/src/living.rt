@@ -12,6 +12,9 @@ use ns_replay::{Fault, Sink, write_all};
 use std::alloc::{AllocError, Global};
 
 /// Why live threads have no sum.
+///
+/// It is a type of its own, into which `main` turns ns_live's, so that this crate doesn't stand on that one.
+/// ns_live's own prints in plain words; the lines with numbers are the command's.
 #[derive(Clone, Copy, Debug, Drop, PartialEq, Eq)]
 pub enum NoSum {
     /// An allocation was refused.

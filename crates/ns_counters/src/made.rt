@@ -5,7 +5,8 @@ ghost use Rattle.ns_counters.specs.Made.{first_words, padded, setup_of};
 
 use crate::object::Setup;
 
-/// How many counters there may be, and how many once cells.
+/// How many counters there may be, and how many once cells. A table has the words of so many of
+/// each, whatever is asked for, so no list of words has to be made.
 pub const MOST: usize = 16;
 
 /// The values by number, and 0 past the last.

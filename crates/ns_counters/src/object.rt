@@ -7,6 +7,9 @@ use ns_model::once::OnceEvent;
 use std::collections::LinkedList;
 
 /// One event of one of several objects.
+///
+/// All objects of a table have one history, in which each event says of which object it is. A seat
+/// sees beginnings of that history, so two seats that meet compare all objects at once.
 #[derive(Clone, Copy, Debug)]
 pub enum ObjectEvent {
     /// An event of a counter.

@@ -6,7 +6,8 @@
 //! leaves, and what has happened by it, is in `specs/Steps.antt`. What holds between any two steps
 //! is in `specs/Lawful.antt`, of whoever keeps a clock and notes: as words that threads share, or as
 //! plain data with a list of the places where its seats stand. The contracts that carry the law are
-//! those of [`law`].
+//! those of [`law`]. ns_note makes these steps between threads, ns_world on plain data, and ns_word
+//! takes a wait's limits from here; the events and their histories are ns_model's.
 //!
 //! ```rust
 //! // a call is a walk: a place that wants an act next, and goes on by what the act found

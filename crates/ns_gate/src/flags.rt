@@ -17,6 +17,9 @@ impl<C: Condition<N>, const N: usize> Gate<C, N> {
     /// The word that has a seat's own flag, or the flag of the seat that it owes the next wake.
     ///
     /// Needs the number, below 64, of one of these two.
+    ///
+    /// A flag is reached by its seat alone, so no seat sleeps at another's flag, of which no clause could
+    /// speak.
     #[inline(always)]
     pub(crate) fn flag_at(_seat: &GateSeat<C, N>, number: u8) -> usize
         requires { HasUseFor number (the _seat.now.me.0) × (number < 64) }

@@ -109,6 +109,8 @@ impl<C: Condition<N>, const N: usize> Gate<C, N> {
     /// the other, and now both have seen one history that begins with it. They are two, and where both
     /// have a section in hand, both read.
     ///
+    /// To join and to split seats tells them nothing, so one load between the two learns.
+    ///
     /// Needs two seats of this gate, both between their calls.
     pub fn meet(
         &self,
@@ -185,6 +187,10 @@ impl<C: Condition<N>, const N: usize> Gate<C, N> {
     /// Begins a call that loads the lock word and then wants an exchange of it, by that exchange, with a
     /// guess of the word. Where the guess is right, this one exchange is both the load and the exchange
     /// behind it; else it is the load alone, and tells the word.
+    ///
+    /// The rule lets a view become whatever a step of the table can lead to, and that may be two steps away
+    /// (`at_once` in ns_seats). That no step of another comes between the two no clause says; it is one
+    /// exchange of one word.
     #[inline(always)]
     fn exchange_guessing(
         &self,
@@ -218,6 +224,9 @@ impl<C: Condition<N>, const N: usize> Gate<C, N> {
     ///
     /// Needs a seat of this gate, whose call wants that next, or whose last call is over and which may
     /// begin this one. As in each function, what begins is for the proof alone.
+    ///
+    /// The first step of each call is a load. So stores are told no call, and of the exchanges only the one
+    /// that is a first load, too.
     #[inline(always)]
     pub fn load(&self, seat: &mut GateSeat<C, N>, begins: Option<Walk<C>>) -> LockWord
         requires of { seat.old.table_id ≡ self.now }
@@ -375,7 +384,8 @@ impl<C: Condition<N>, const N: usize> Gate<C, N> {
     }
 
     /// Tells a seat's call what the look that it wants next has shown. A look changes no word of the
-    /// gate, so any load may be told of it; this one, of the seat's own flag, is made for that.
+    /// gate, so any load may be told of it; this one, of the seat's own flag, is made for that. That flag
+    /// lies in this thread's cache already, and by the load the view is never behind the call.
     ///
     /// Needs a seat of this gate, whose call wants that next, its number, below 64, and something that
     /// such a look may show.
@@ -419,6 +429,10 @@ impl<C: Condition<N>, const N: usize> Gate<C, N> {
     ///
     /// Needs a seat of this gate. The others may be in their calls, or have a section in hand; the cells
     /// then show also what a writer has not committed.
+    ///
+    /// It takes a seat, since what is told of the end is that the history begins with what somebody has seen.
+    /// The others may be dropped, in a call or with a section: the rule holds of those, too, and `free` says
+    /// whether the lock is held.
     pub fn close(self, seat: GateSeat<C, N>) -> Closed<N>
         requires { (seat.table_id ≡ self) × IsOne seat.me.0 }
         ensures { EndsAs C.means (the seat.me.0) result.row result.free }

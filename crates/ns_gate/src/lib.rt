@@ -5,6 +5,10 @@
 //! ns_word's machine that is lawful with one history, and that each seat was told what ns_word says
 //! that a seat is told. So each step of a seat is a step of the machine, and what holds between any
 //! two of those holds between any two steps of any threads.
+//!
+//! ns_monitor calls it: its public calls are made of these steps. The steps, the law and what a
+//! seat is told are ns_word's, the lists in the slot ns_queue's, the table the kit's atomic_table,
+//! and how its seats meet ns_seats'.
 #![tactic(auto)]
 
 pub mod closed;

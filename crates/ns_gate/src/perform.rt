@@ -1,4 +1,4 @@
-//! One function for every act that a seat's call wants, for whoever runs walks as values.
+//! One function for every act that a seat's call wants. Only a test runs walks as values, and calls it.
 
 ghost use Rattle.std.specs.Prelude.{◌≡◌, IfErr};
 ghost use Rattle.ns_gate.specs.Prelude.{IsPackable, IsOnWord, IsTurned, Needs, CanStep, Performed, act_returning, tried_for};
@@ -50,6 +50,9 @@ impl<C: Condition<N>, const N: usize> Gate<C, N> {
     /// asks for: for an exchange a word that has a number, for a cell one below `N`; for the seat's
     /// flag and for a look its number, and what the look has shown; for a judgment the section's rows;
     /// for a wake the one that is owed next; and for putting the queues back what the hand has made of them.
+    ///
+    /// The calls of a monitor use the functions of one kind, since walks as values cost many times as much.
+    /// What is done to the queues in hand is no step, and has its own functions.
     pub fn perform(
         &self,
         seat: &mut GateSeat<C, N>,

@@ -1,4 +1,9 @@
 //! The steps on the waiter queues, and what is done to the queues in a hand between them.
+//!
+//! Who sets the spinlock bit takes the queues in the same step, and who clears it puts them back.
+//! In between they are changed in place (`slot_mut`), and nothing of their ten kilobytes is copied.
+//! Each step that puts them back asks that what is in hand is what its place makes of the lists at
+//! home (`Carries`), so the rule needs nothing more.
 
 ghost use Rattle.std.specs.Prelude.{◌≡◌, ◌<◌, ⊤, map, IfErr, IfOk, None};
 ghost use Rattle.ns_gate.specs.Prelude.{stands_at, times, woken_of, tests_of, seats_of, IsPackable, row_in, bits_of, IsInRange, changed, meets_at, waited_in, CanStep, Carries, HasUnchangedQueues, Performed, act_returning, found_returned, lists_returned, lists_scanned, scanned_writer, some_returned, sought_at, the, tried, tried_for, word_returning};

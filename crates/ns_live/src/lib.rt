@@ -20,6 +20,9 @@
 //! ```
 //!
 //! Who waits for condition variables instead asks [`is_met`] after each wake.
+//!
+//! ns_cli calls it, and ns_bounded, ns_bounded_cv and ns_bench use its ring. It rests on ns_monitor for the
+//! lock and on ns_note for the note.
 #![tactic(auto)]
 
 mod commons;

@@ -36,7 +36,8 @@ pub type RingHeld = WriteHeld<Wish, ROW>;
 
 /// Puts an item behind the others.
 ///
-/// Needs a section whose ring has room, as one has that waited for [`Wish::Room`].
+/// Needs a section whose ring has room, as one has that waited for [`Wish::Room`]. So a program that forgets
+/// to wait isn't proved.
 pub fn put(monitor: &RingMonitor, held: &mut RingHeld, item: u64)
     requires of { held.old.monitor ≡ monitor.now }
     requires room { IsMetIn Room held.old.held }
@@ -53,7 +54,9 @@ pub fn put(monitor: &RingMonitor, held: &mut RingHeld, item: u64)
 
 /// Takes the first item, and answers it.
 ///
-/// Needs a section whose ring has an item, as one has that waited for [`Wish::Item`].
+/// Needs a section whose ring has an item, as one has that waited for [`Wish::Item`]. So a program that
+/// forgets to wait isn't proved. What goes from thread to thread through the ring is said nowhere: behind
+/// a wait, a section's row is known by the wait's condition alone.
 pub fn take(monitor: &RingMonitor, held: &mut RingHeld) -> u64
     requires of { held.old.monitor ≡ monitor.now }
     requires some { IsMetIn Item held.old.held }

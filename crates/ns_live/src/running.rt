@@ -54,6 +54,9 @@ fn started<'s, E, R: Wait + Sync>(
 
 /// Has the four threads do their work, and answers what they have taken. Where one can't be made, the
 /// others are told to end by the note.
+///
+/// The threads are made by `thread::scope`, whose `spawn` says where one can't be made. Where `join` can't
+/// make one, it makes the calls of both one behind the other, and the first would wait for good.
 fn played<R: Threads + Wait + Sync>(
     rt: &R,
     commons: Commons<'_>,

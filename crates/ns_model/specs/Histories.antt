@@ -9,7 +9,7 @@ use Rattle.ns_model.specs.Phases.{woken_phase, left_phase}
 use Rattle.ns_model.specs.Sections.{IsLegalSection, phase_after}
 use Rattle.ns_model.specs.Wakes.{IsLegalSignal, IsLegalBroadcast, IsLegalLeave, IsLegalLeaveAny}
 
--- what a history leaves: the row, and each seat's phase
+-- What a history leaves: the row, and each seat's phase. The phases are a function and no list, since they have no order; that no other seat's phase changes is then one line.
 pub record Standing (C : Type 0) : Type 0 where
   pub row : List ℕ
   pub phases : ℕ → Phase C

@@ -1,4 +1,4 @@
--- Which wakes are legal.
+-- Which wakes are legal. They are said by counts over the 64 seats, so that they are decidable as they stand; the program counts by one loop for whichever seats.
 use Rattle.std.specs.Prelude.{◌≡◌, ℕ, min, Bool, true, false, not, ◌&&◌, ◌⊎◌}
 use Rattle.ns_model.specs.Cvs.{is_just, is_exactly}
 use Rattle.ns_model.specs.declared.cvs.Cvs.{Cvs}

@@ -73,7 +73,8 @@ impl CounterState {
     }
 
     /// What a change comes to: the new value, or why it is refused. A refusal is, in this order,
-    /// `Under`, `Over` or `AfterWait`.
+    /// `Under`, `Over` or `AfterWait`. It judges by whole numbers: the sum is made in 128 bits, where nothing
+    /// overflows.
     pub fn judge(self, delta: i64) -> Result<u32, CounterFault>
         ensures { result ≡ judged self delta }
     {

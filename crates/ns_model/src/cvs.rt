@@ -33,7 +33,9 @@ impl Cvs {
 
 /// What a wait is for: one condition variable, whose number may be any, or any of a set.
 ///
-/// A set of just one variable and that variable are told apart by no rule.
+/// A set of just one variable and that variable are told apart by no rule. There are two forms,
+/// since `legal` is decided of every list of events, and an event may name a variable of any
+/// number. A set has a bit for each of eight, which all count, though a lock has four variables.
 #[derive(Clone, Copy, Debug)]
 pub enum Variables {
     /// The variable of this number.

@@ -111,6 +111,8 @@ fn event_fits<C: Condition<N>, const N: usize>(past: &[Event<C, N>], event: &Eve
 
 /// Whether the history is legal: each event, by a seat below 64, is legal after those before it.
 ///
+/// It is a judge for tests and tools, and no part of a running lock.
+///
 /// Takes no memory. The time grows with the square of the history's length, since the past is
 /// read again for each event.
 pub fn legal<C: Condition<N>, const N: usize>(history: &[Event<C, N>]) -> bool

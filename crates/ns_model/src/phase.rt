@@ -57,7 +57,8 @@ impl<C: Copy> Phase<C> {
         }
     }
 
-    /// The phase after a wake of the variable.
+    /// The phase after a wake of the variable. Whatever else the seat waited for, it is woken by
+    /// `k` then, and a wake of another variable doesn't find it any more.
     pub(crate) fn woken(self, k: u8) -> Phase<C>
         ensures { result ≡ woken_phase k self }
     {

@@ -96,6 +96,8 @@ impl Env {
     /// Two callers compare what they have seen: of what one had seen and what the other had, one
     /// begins the other, with just the events of both as their own, and now both have seen one
     /// history that begins with it.
+    ///
+    /// To join and to split seats tells them nothing, so one load between the two learns.
     pub fn meet(&self, first: EnvSeat, second: EnvSeat) -> (EnvSeat, EnvSeat)
         requires { (first.env ≡ self.now) × (second.env ≡ self.now) }
         ensures grows { Grows first result.0 × Grows second result.1 }
@@ -171,7 +173,8 @@ impl Env {
         Ok(Note { index })
     }
 
-    /// The clock, in ticks: a moment below 2^54.
+    /// The clock, in ticks: a moment below 2^54. The answer is right at the end of the call, which is more
+    /// than at some point of it.
     pub fn now(&self, seat: &mut EnvSeat) -> u64
         requires { seat.old.env ≡ self.now }
         ensures grows { Grows seat.old seat.new }
@@ -196,6 +199,9 @@ impl Env {
 
     /// Rings the bell of every seat, and wakes who sleeps at it, after a step that whoever waits
     /// has to see. It takes no lock and no memory, and never waits.
+    ///
+    /// With nobody waiting it takes a load a seat, and no call of the operating system. Where a seat has set
+    /// its bell back and has gone on without sleeping, the next ring makes one wake that nobody needs.
     fn ring(&self, seat: &mut EnvSeat)
         requires { seat.old.env ≡ self.now }
         ensures { seat.new ≡ seat.old }
@@ -272,7 +278,8 @@ impl Env {
         decode_note(word)
     }
 
-    /// Whether the note is made, so that other calls of this seat may take it.
+    /// Whether the note is made, so that other calls of this seat may take it. The answer is right at the end
+    /// of the call, which is more than at some point of it.
     pub fn knows(&self, seat: &mut EnvSeat, note: Note) -> bool
         requires { seat.old.env ≡ self.now }
         ensures grows { Grows seat.old seat.new }
@@ -344,7 +351,7 @@ impl Env {
 
     /// One look at a note and a deadline, in ticks: `Canceled` where the note is notified, else
     /// `TimedOut` where the clock has reached the deadline, else nothing. What is not given is
-    /// not looked at.
+    /// not looked at. With neither it loads the clock all the same, and answers nothing.
     ///
     /// Needs a note, if one is given, that the seat has seen made.
     pub fn look(

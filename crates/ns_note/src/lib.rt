@@ -39,6 +39,9 @@
 //! events are just those that its calls have added. Each call says which events it adds, and at
 //! which point of the history its answer is right. Two callers compare their histories by
 //! [`env::Env::meet`]; between callers that never met, nothing is said of the order.
+//!
+//! Programs call it, and so do the waits of ns_monitor and ns_objects. The steps and the law are
+//! ns_env's, the table is the kit's atomic_table, and how its seats meet is proved by ns_seats.
 #![tactic(auto)]
 
 pub mod env;

@@ -11,7 +11,7 @@ use ns_env::note::NoteWord;
 pub struct Note {
     /// The number.
     pub index: u8,
-    /// There are 64 notes.
+    /// There are 64 notes. So `Env::knows` needs nothing of its note.
     pub ghost in_range: { index < 64 },
 }
 

@@ -20,6 +20,9 @@ use std::sync::Wait;
 
 impl Objects {
     /// Loads a counter that is to be changed. Where the change is refused, the refusal has then happened.
+    ///
+    /// A refused change changes no word. So this load is told the change for the proof alone (`load_saying`),
+    /// and the seat's place remembers it until the exchange.
     #[inline(always)]
     fn load_to_change(&self, seat: &mut TableSeat, counter: u8, delta: i64) -> u64
         requires objects { seat.old.table_id ≡ self.now }

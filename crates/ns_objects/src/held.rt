@@ -53,6 +53,10 @@ fn place_of(items: &[AnyItem], k: u8) -> usize
 impl Objects {
     /// Goes round between a wait for variables that was begun and the notes and counters among the items,
     /// until a signal or a broadcast has woken it, or something else is ready, or the deadline has come.
+    ///
+    /// What a signal tells is loaded anew before the wait is left, so no wake is lost between the look and
+    /// that. Between looks it sleeps as [`Objects::wait_any`] does, and not at its flag: one thread can't
+    /// sleep at two words.
     fn await_any<H: Renewed<C, N>, C: Condition<N>, const N: usize, R: Wait>(
         &self,
         rt: &R,

@@ -31,6 +31,9 @@
 //! events are just those that its calls have added. Each call says which events it adds, and at
 //! which point of the history its answer is right. Two callers compare their histories by
 //! [`objects::Objects::meet`]; between callers that never met, nothing is said of the order.
+//!
+//! Programs call it. The steps and the law are ns_counters', the variables are those of a monitor
+//! of ns_monitor, the clock and the notes ns_note's, and how its seats meet is proved by ns_seats.
 #![tactic(auto)]
 
 mod adding;

@@ -85,6 +85,8 @@ impl Objects {
     /// Two callers compare what they have seen: of what one had seen and what the other had, one
     /// begins the other, with just the events of both as their own, and now both have seen one
     /// history that begins with it.
+    ///
+    /// To join and to split seats tells them nothing, so one load between the two learns.
     pub fn meet(&self, first: ObjSeat, second: ObjSeat) -> (ObjSeat, ObjSeat)
         requires { (first.objects ≡ self.now) × (second.objects ≡ self.now) }
         ensures grows { Grows first result.0 × Grows second result.1 }

@@ -120,6 +120,11 @@ impl Objects {
     /// has said that it has run, which is written behind its end. A function that doesn't return leaves
     /// all others waiting. Needs the number of a once cell of these objects, and a function that may be
     /// called.
+    ///
+    /// The function may be called only where this caller has begun by its own event, of which a legal history
+    /// has one (`MayRunOnceBegun`). So a body that calls it and answers `Already` isn't proved. A function's
+    /// call is no event of the table, so no clause says that the cell is said done only behind its end; the
+    /// test `done_behind_the_function` does.
     #[inline(always)]
     pub fn run_once<R: Wait, T, F: FnOnce() -> T>(
         &self,
@@ -134,7 +139,8 @@ impl Objects {
         ensures grows { Grows seat.old seat.new }
         ensures answers { OnceAnswers (F.post function) once seat.old seat.new result }
     {
-        // a cell that is done takes this look and no call; any other is looked at anew
+        // A cell that is done takes this look and no call. The loop behind it looks anew, so a first call
+        // loads twice: told what was seen, it would have to be told as well that this is true to a history.
         if self.look_once(&mut seat.seat, once) == Stage::Done {
             return Once::Already;
         }

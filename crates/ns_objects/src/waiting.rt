@@ -50,6 +50,9 @@ impl Objects {
     /// ticks, and answers the value. With no deadline it waits for 0 alone. nsync's
     /// `nsync_counter_wait`.
     ///
+    /// The value is what its last look showed. The mark with which the wait begins is a look, too, since an
+    /// operation on a word answers what was there.
+    ///
     /// From when the wait begins, the counter refuses to rise from 0, for good. A value that isn't 0 is
     /// answered only where the deadline has come. The call sleeps meanwhile, and the change that gives 0
     /// wakes it; with a deadline it turns for a while, and then sleeps for at most 64 milliseconds at a time.

@@ -11,7 +11,7 @@ WaitsAmong k mode phase = (among : Variables) × (phase ≡ Waiting among mode) 
 abbrev pub WaitFor : {C : Type 0} → ℕ → (ℕ → Phase C) → List (Waiter C) → Type 0
 WaitFor k phases ws = Every (λ w. WaitsAmong k w.mode (phases w.seat)) ws
 
--- The waiters are just the seats whose phase is that they wait for the variable k, each of them once and in its mode.
+-- The waiters are just the seats whose phase is that they wait for the variable k, each of them once and in its mode. By it the counts over the 64 seats, by which a signal or a broadcast is legal, become tallies of the variable's list.
 pub record AreWaiting {C : Type 0} (k : ℕ) (phases : ℕ → Phase C) (ws : List (Waiter C)) : Type 0 where
   pub own : WaitFor k phases ws
   pub once : (seat : ℕ) → times_in seat ws ≤ 1

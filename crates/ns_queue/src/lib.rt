@@ -5,7 +5,8 @@
 //! The lists are plain data: nothing here waits, wakes or takes memory. [`queues::Queues`] keeps
 //! them, [`queues::Queues::scan`] decides whom a release of the lock wakes, and
 //! [`queues::Queues::take_signal`] whom a signal takes. Each contract says what a call makes of the
-//! lists in the words of lists; the definitions stand in `specs/`.
+//! lists in the words of lists; the definitions stand in `specs/`. ns_word, ns_gate and ns_world call
+//! it, each with the lists in hand. It rests on ns_model for modes, seats and conditions.
 //!
 //! ```rust
 //! let mut queues: Queues<Plain, 2> = Queues::new(); // `Plain` is any `Condition<2>`

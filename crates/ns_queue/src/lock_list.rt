@@ -24,6 +24,10 @@ use std::marker::Model;
 ///
 /// The place [`END`] has these links too, as it has those to neighbours: so nobody in front, or
 /// behind, is no case of its own.
+///
+/// The links to firsts show at once whether a run goes on behind a waiter, and whether a waiter that leaves
+/// was a first. Of the links to lasts only a first's is read, so a waiter that is put behind the others makes
+/// no run anew.
 #[derive(Drop)]
 pub struct LockList<C: Condition<N>, const N: usize> {
     ring: Ring<C, N>,
@@ -227,6 +231,10 @@ impl<C: Queueable<N>, const N: usize> LockList<C, N> {
     /// Takes these seats out. The others stay as they are. Where more than one goes, the runs of
     /// those who stay are made anew once. The links to firsts are cleared before, so that `remake`
     /// nowhere finds one that was a first, and goes to the end.
+    ///
+    /// That pass goes over all who stay, also over those in front of the first taken, where it may compare
+    /// for nothing. Were runs mended for each that leaves, some lists of 64 waiters would take about 500
+    /// comparisons. This pass takes at most 63, and each who is taken costs a wake besides.
     fn remove_all(&mut self, seats: &[u8])
         ensures { self.new ≡ without_all seats.now self.old }
     {

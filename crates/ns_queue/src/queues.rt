@@ -15,7 +15,8 @@ use ns_model::seats::Seats;
 use std::marker::Model;
 
 /// The waiter lists of a lock. To its callers this is five lists: the lock's, and one for each of four condition
-/// variables. A seat stands in the lock's once, or once in any of the others.
+/// variables. A seat stands in the lock's once, or once in any of the others. So a list has room
+/// for every waiter: seats are below 64, and each stands there at most once.
 #[derive(Drop)]
 pub struct Queues<C: Condition<N>, const N: usize> {
     pub(crate) lock: LockList<C, N>,
@@ -76,7 +77,8 @@ impl<C: Queueable<N>, const N: usize> Queues<C, N> {
         }
     }
 
-    /// The same lists once more.
+    /// The same lists once more. A world shows by it how the lists are in a hand; the gate copies
+    /// none.
     pub fn copied(&self) -> Queues<C, N>
         ensures { result ≡ self.now }
     {

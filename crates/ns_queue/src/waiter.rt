@@ -2,7 +2,8 @@
 
 use ns_model::event::Mode;
 
-/// Tries are counted up to here: a waiter that has failed so often waits long.
+/// Tries are counted up to here: a waiter that has failed so often waits long. A count stays there, so 'has
+/// 30' is 'has 30 or more'.
 pub const LONG_TRIES: u8 = 30;
 
 /// One who waits: its seat, the mode that it waits in, the condition that it waits for, if any, how

@@ -58,6 +58,9 @@ fn text_for(alloc: Global, bytes: &[u8], options: Options) -> Result<String, Fau
 ///
 /// Needs a source and a sink that have not failed. What it says of bytes it says of streams
 /// that know theirs.
+///
+/// It takes the allocator first, as whoever takes memory does, and is generic over its streams,
+/// since a clause names their ghost members through the type.
 pub fn replay<S: Source, W: Sink>(
     alloc: Global,
     source: &mut S,

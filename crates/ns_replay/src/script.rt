@@ -3,6 +3,11 @@
 //! A script is an object with the members `version`, `counters`, `onces`, `cvs`, `threads` and
 //! `schedule`, checked in this order; each member for its kind, then for its size, then element by element in the same way.
 //! `specs/Script.antt` says the same by cases, with a definition for each function here.
+//!
+//! A number in a member is whole where the JSON reading holds it as a `u64`: `1.0` and `1e0` are
+//! not. Where two members have one name, the later one counts. A text that is not UTF-8 is not
+//! JSON, nor is one nested deeper than 127 levels, one with half of a surrogate pair, or one with a
+//! number past the largest double.
 
 ghost use Rattle.std.specs.Prelude.{◌≡◌, ◌≤◌, map, option_map, IfOk, string_bytes};
 ghost use Rattle.std.specs.List.{list_all};

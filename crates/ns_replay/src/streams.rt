@@ -2,6 +2,10 @@
 //!
 //! The bytes that are still to come, and those that were taken, are ghost members, and are known
 //! only where the stream knows them. A replay claims nothing of the other bytes of the world.
+//!
+//! Faults of streams are told by a flag, by counts of the reads, of those that gave the end, and of
+//! the writes that took nothing, and by what the last read gave. So these faults are answered only
+//! where a clause can name their cause.
 
 ghost use Rattle.std.specs.Prelude.{◌≡◌, ◌<◌, ℕ, List, Bool, Option, false, length};
 ghost use Rattle.ns_replay.specs.Streams.{Counts, Reads, Writes, ends_by, given, is_failure, is_refusal, stuck_by};

@@ -1,4 +1,5 @@
-//! The program `ns_runs`: a lock list that is changed at random, beside a plain list.
+//! The program `ns_runs`: a lock list that is changed at random, beside a plain list. The lock list
+//! is ns_queue's, called by itself, without a lock.
 //!
 //!     ns_runs SEED OPERATIONS
 //!

@@ -10,7 +10,8 @@
 //! counts of a round are known beforehand, or, of wakes, have to agree: who is called is woken, and nobody
 //! else.
 //!
-//! Behind each round two threads hand a turn to and fro by 1,024 fresh notes.
+//! Behind each round two threads hand a turn to and fro by 1,024 fresh notes. The program calls
+//! ns_monitor and ns_note.
 //!
 //! The last line is `seed SEED ok`, with status 0, or `seed SEED round ROUND wrong: WHAT`, with status 3.
 //! Where memory is refused, the status is 4, and where the words are wrong, 2.

@@ -8,6 +8,11 @@
 //!
 //! The folder of the rows may be named by a word, as `rt run -- data`; else it is the one that the
 //! program runs in.
+//!
+//! A row goes through the whole command, which is ns_command's, so that nothing between the words and the
+//! exit status stays untested; a row more costs the gate nothing. `#[test]` functions have what no file can
+//! show: streams that fail, memory that is refused, the ends of live threads, the examples of the plain
+//! libraries.
 #![tactic(auto)]
 
 mod compare;

@@ -1,7 +1,10 @@
 //! What no clause says of the crates between threads: that their calls succeed where they can and come
 //! back, and that threads meet and wake one another. There is nothing here but tests.
 //!
-//! They stand apart from those of ns_tests, which wait for the branch of the replay.
+//! They call ns_note, ns_gate and ns_monitor as the crates above these do. The crate is a library, so without
+//! its tests there is nothing to prove, and there is no program to run. The tests of one crate are proved in
+//! one process: these stand apart from those of ns_tests, so that they can begin once ns_monitor is proved,
+//! and wait for nothing of the replay.
 //!
 //! A test's own body is what takes the longest to prove, and the more values it has to let go, the longer:
 //! so what a test does stands in functions, and its body has little more than what it compares.

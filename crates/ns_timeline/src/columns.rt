@@ -1,4 +1,8 @@
 //! The columns: which threads have one, and what stands in it.
+//!
+//! A column has two marks and a blank. The words of a turn stand beside the columns, since one
+//! thread makes each turn. That leaves room for sixteen threads and for the whole of what a turn has
+//! done.
 
 ghost use Rattle.std.specs.Prelude.{◌<◌, ◌≤◌};
 

@@ -2,7 +2,8 @@
 //!
 //! [`timeline`] reads the same scripts as `ns_replay::replay`, refuses what that refuses, and draws who holds
 //! the lock, who waits, who has the waiter queues and who is to be woken, turn by turn, with what the turn did
-//! beside it. No line is longer than 100 characters.
+//! beside it. No line is longer than 100 characters. ns_command calls it; scripts are read by ns_replay, and
+//! run in a world of ns_world.
 //!
 //! ```rust
 //! let script = b"{\"version\":1,\"threads\":[[\"trylock\",\"unlock\"]],\"schedule\":\"0!*2\"}";

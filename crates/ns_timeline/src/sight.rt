@@ -68,6 +68,9 @@ fn owed(wakes: &[(u8, u8)]) -> Seats {
 
 /// Who holds what only one can hold, after a turn of the thread: who has held it before, else who has made
 /// the turn.
+///
+/// A world shows no section by its seat, so it is drawn by the lock word: whose turn sets the writer's bit,
+/// or counts one reader more, has begun a section, and whose turn takes it back has ended it.
 fn holder(before: Option<u8>, is_held: bool, thread: u8) -> Option<u8> {
     if is_held {
         before.or(Some(thread))

@@ -36,7 +36,7 @@ pub record HasLeft {C : Type 0} {N : ℕ} (truths : Truths C) (seat : ℕ) (wait
   pub unmet : IsUnmet truths wait.on was.row
   pub committed : course.committed ≡ section_of truths.holds seat was (exit_for wait.on) ∷ left_by seat wait.on ended
 
--- a cause that a place keeps is the one that the last look has shown; a place that keeps none says nothing of it
+-- A cause that a place keeps is the one that the last look has shown; a place that keeps none says nothing of it. Only the last look's answer is kept, since a wait answers by that, and queues for a condition only behind a look that showed nothing.
 abbrev pub KeptFits : Option (Option Cause) → Option Cause → Type 0
 KeptFits looked None = Unit {0}
 KeptFits looked (Some cause) = looked ≡ Some (Some cause)

@@ -105,7 +105,7 @@ pub record WaitersPlaced {C : Type 0} {N : ℕ} (lists : Lists C) (flags : ℕ �
   pub flag : (seat : ℕ) → flags seat < 10
   pub four : length lists.cvs ≡ 4
 
--- with which condition one stands in the lock list that waits so: one that waits for variables, and was moved there, with none
+-- With which condition one stands in the lock list that waits so: one that waits for variables, and was moved there, with none. The place of a moved waiter still has its variables, and doesn't tell that it was moved.
 abbrev pub cond_on : {C : Type 0} → Option (Subject C) → Option C
 cond_on None = None
 cond_on (Some (OnCondition c)) = Some c
@@ -176,7 +176,7 @@ pub record TakenTold {C : Type 0} {N : ℕ} (phases : ℕ → Phase C) (flags : 
 
 -- ---- nobody is forgotten
 
--- Where the `desig` bit is set, some seat is on its way that a scan took from the lock list.
+-- Where the `desig` bit is set, some seat is on its way that a scan took from the lock list. Such a seat has neither acquired nor queued since; one that was woken straight from a variable acquires as fresh, and doesn't count.
 abbrev pub DesigOnItsWay : {C : Type 0} {N : ℕ} → Word → (ℕ → ℕ) → List (SeatView C N) → Type 0
 DesigOnItsWay word flags views = word.desig ≡ true → (seat : ℕ) × (is_on_way (walk_at seat views) (flags seat) (called_to seat views) ≡ true)
 

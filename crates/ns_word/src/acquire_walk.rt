@@ -24,6 +24,12 @@ pub enum AcquirePlace {
     /// It is about to put the queues back with itself in the lock list.
     Queue(Arrival, Word),
     /// It waits to be woken, and stood in the list with so many failed tries.
+    ///
+    /// The tries stand here and in the entry of the lock list: the `long` bit is read off the
+    /// entry, which the scan that takes it drops. That both are the same is law (`WaitersOwn`).
+    /// Tries count per acquire: only a seat that queues again in the acquire for which it was woken
+    /// has one more. Each other entry has none, also that of a wait, of a wait that queues again,
+    /// and of a waiter that was moved.
     AwaitWake(u8),
 }
 

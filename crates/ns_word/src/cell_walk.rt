@@ -11,7 +11,8 @@ use crate::word::Releasing;
 /// What a call judges the section in hand for.
 #[derive(Clone, Copy)]
 pub enum Judging {
-    /// To tell whether it is quiet.
+    /// To tell whether it is quiet. No script makes this call; it is for callers that release
+    /// without a wakeup behind it.
     ToTell,
     /// To release it if it is quiet.
     ToRelease,

@@ -3,10 +3,13 @@
 //!
 //! A call is a [`walk::Walk`]: a place that [`walk::Walk::want`]s one [`act::Act`] next, and
 //! that [`walk::Walk::got`] takes to the next place by what the act found. The lock is one
-//! [`word::Word`], a list of waiters, a flag for each seat and the guarded row; a seat's
-//! [`view::SeatView`] has its number, its place in its call, its section in hand and the wakes that
-//! it owes. Nothing here runs: a world steps the machine on plain data, and the same walks can
-//! run over atomic words.
+//! [`word::Word`], the lock list and the lists of four variables, a flag for each seat and the guarded
+//! row; a seat's [`view::SeatView`] has its number, its place in its call, its section in hand and the
+//! wakes that it owes.
+//!
+//! Nothing here runs. ns_world steps the machine on plain data. Between threads ns_gate makes the same
+//! steps on shared words, and the walk is there for the proof alone. The lists are ns_queue's, the events
+//! and their histories ns_model's, and a wait's limits ns_env's.
 //!
 //! The law is in `specs/Lawful.antt`, its proof in `proofs/`, and the contract that carries it
 //! is [`law::steps_keep_the_law`]'s.

@@ -1,4 +1,8 @@
 //! A try: one exchange, and no second.
+//!
+//! One load and one exchange are all that it makes, and where the exchange fails it is busy. A try
+//! may succeed while another seat has the queues: the exchange by which that seat puts them back
+//! then fails, and looks again.
 
 ghost use Rattle.std.specs.Prelude.{◌≡◌};
 ghost use Rattle.ns_word.specs.Walks.{want_trying, got_trying};

@@ -60,7 +60,8 @@ impl<C: Copy, const N: usize> Clone for Held<C, N> {
 pub struct SeatView<C, const N: usize> {
     /// Its number.
     pub seat: u8,
-    /// Its place in its call, if one is in progress.
+    /// Its place in its call, if one is in progress. A step needs no name for its kind; what it is
+    /// follows from the place.
     pub walk: Option<Walk<C>>,
     /// Its section, if it has one in hand.
     pub held: Option<Held<C, N>>,

@@ -12,7 +12,7 @@
 //! | | `Take` | nobody has the queues | set the spinlock bit | `ArmToWait` |
 //! | | `ArmToWait` | has the queues | set one's own flag | `QueueToWait`; for variables `LoadToScan` if a waiter of the lock list has a condition |
 //! | | `LoadToScan` | waits for variables, has the queues, its flag is set | load each cell | after the last `QueueToWait` |
-//! | | `QueueToWait` | has the queues, its flag is set | put back what a scan leaves, with oneself in the lock list, at the back, or at the front if again, or at the back of its variables' lists; release, and commit if not again | `PayInWait` if the scan took somebody, else `AwaitWakeInWait` |
+//! | | `QueueToWait` | has the queues, its flag is set | put back what a scan leaves, which is made whatever `desig` says, since the section may have made conditions true; with oneself in the lock list, at the back, or at the front if again, or at the back of its variables' lists; release, and commit if not again | `PayInWait` if the scan took somebody, else `AwaitWakeInWait` |
 //! | outside: waits | `PayInWait` | owes wakes | clear the flag of the next who is owed one | again while wakes are owed, then `AwaitWakeInWait` |
 //! | | `AwaitWakeInWait` | | load one's own flag | cleared: `AcquireLoad`, as woken if the flag tells that it was taken from the lock list, else fresh, to come back; else `LookOut`, or idle and again if nothing may end the wait early |
 //! | | `LookOut` | | look | what is shown is kept: `LeaveLoad`; nothing: idle, and `AwaitWakeInWait` again |

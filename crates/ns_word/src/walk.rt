@@ -61,6 +61,10 @@ use ns_model::event::{Answer, Mode};
 use std::alloc::AllocError;
 
 /// A place in a call.
+///
+/// It, [`Act`], [`Found`], [`Next`] and the places have no `Debug` and no comparisons, and those
+/// with a condition are cloned by hand, as a copy: what a derive writes for a type with many
+/// variants is proved anew in each check.
 #[derive(Copy)]
 pub enum Walk<C> {
     /// A try for this mode.

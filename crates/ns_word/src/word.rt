@@ -9,7 +9,9 @@
 //! - **One designated waker is enough.** A release that wakes somebody sets the `desig` bit; while it
 //!   is set, other releases wake nobody. The woken one clears it as it acquires or queues again, so from
 //!   then on a release looks at the list itself. So somebody is always on its way, or the next release
-//!   looks, and nobody is forgotten; and a lock that changes hands often wakes no crowd.
+//!   looks, and nobody is forgotten; and a lock that changes hands often wakes no crowd. A seat is on its
+//!   way that was taken from the lock list and has neither acquired nor queued since. A seat that was woken
+//!   straight from a variable acquires as fresh, and doesn't count.
 //! - **When `all_false` may be believed.** A release that has the queues, tests the waiters' conditions
 //!   and takes nobody sets the bit: all wait for conditions that are false of the row which it leaves.
 //!   Whoever may change that clears it: an ordinary writer as it releases, and a waiter
@@ -17,7 +19,9 @@
 //!   A reader, and a writer whose change is quiet, leave it, and need no scan while it is set.
 //! - **A long wait lets nobody fresh in.** A woken one that can't acquire, since others were faster,
 //!   queues again at the front, and counts one more try. Where one stands in the lock list with 30,
-//!   nobody acquires who was not woken, of either mode; the bit goes with that waiter.
+//!   nobody acquires who was not woken, of either mode; the bit goes with that waiter. A long waiter is in
+//!   an acquire, and can't leave it: where the deadline of its wait has passed, it is woken and acquires
+//!   first, and can answer that only then.
 //! - **Why a woken reader passes a waiting writer.** A fresh reader stands back where a writer waits, so
 //!   that readers who come and go keep no writer out. A woken one was taken from the list in its turn:
 //!   if it stood back, the writer could wait for it, and it for the writer.
@@ -97,11 +101,14 @@ pub enum Releasing {
 pub enum Taking {
     /// To change what the lock list holds; the word tells of that as they are put back.
     ToChange,
-    /// To queue oneself in this mode, of which the word tells at once.
+    /// To queue oneself in this mode, of which the word tells at once. The waiting bit, and that of
+    /// a waiting writer, are set before the seat stands in the list, so that nobody releases past
+    /// it.
     ToQueue(Mode, Arrival),
 }
 
-/// How a seat comes to acquire.
+/// How a seat comes to acquire. It has names of its own, since it goes from place to place and into
+/// acts, where a bare number would tell nothing of what it means.
 #[derive(Clone, Copy, Debug, PartialEq, Eq)]
 pub enum Arrival {
     /// It has not waited in the lock list for this, or has left it by itself.

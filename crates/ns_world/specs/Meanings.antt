@@ -103,7 +103,7 @@ pub record AnswersOfObjects {C : Type 0} {N : ℕ} (before : Now C N) (earlier :
   pub same : held_at after seat ≡ held_at before seat
   pub silent : own after.history seat ≡ own before.history seat
 
--- The place that is answered, where a round has shown nothing up to the first of these, and the section was left: where a variable has woken the call, one at which this variable stands, and before which it stands nowhere; else what rounds of looks at the notes and counters answer from then on.
+-- The place that is answered, where a round has shown nothing up to the first of these, and the section was left: where a variable has woken the call, one at which this variable stands, and before which it stands nowhere; else what rounds of looks at the notes and counters answer from then on. It isn't said by `place_in`, by which the program is proved, so a wrong place isn't believed because its definition is wrong in the same way.
 abbrev pub PlaceBy : Setup → Past → Past → Round → Option ℕ → ℕ → Type 0
 PlaceBy setup mid now round (Some k) place = (item_at round.items place ≡ Some (OnVariable k)) × ((i : ℕ) → i < place → item_at round.items i ≡ Some (OnVariable k) → ⊥)
 PlaceBy setup mid now round None place = AnyAnswers setup mid now round.items round.deadline place

@@ -197,7 +197,8 @@ fn operate<C: Copy>(met: bool, walk: ObjectWalk) -> Option<Start<C>>
     }
 }
 
-/// A wait begins where it may leave a section in this mode, and its note is made.
+/// A wait begins where it may leave a section in this mode, and its note is made. No step asks for the note
+/// again, since notes stay made.
 fn wait<C: Copy, const N: usize>(
     mode: Option<Mode>,
     on: Subject<C>,

@@ -8,6 +8,9 @@ use ns_model::counter::CounterFault;
 use ns_model::event::Answer;
 
 /// The answer of a call.
+///
+/// It is one flat type, and not the machine's answer, the notes' and the objects' inside one: whoever prints
+/// it writes one `match`.
 #[derive(Clone, Copy, Debug, PartialEq, Eq)]
 pub enum Reply {
     /// Done, or acquired.

@@ -216,6 +216,9 @@ impl<C: Seated<N>, const N: usize> World<C, N> {
     /// (`NoSuchSeat`), the turn after `limit` turns (`StepLimit`), and want of memory (`OutOfMemory`), for the
     /// event of the next turn or for the line of the call that the last turn finished; the world is then as
     /// the last turn left it.
+    ///
+    /// An item whose thread is no seat is refused before the limit is asked. A misused call counts one turn,
+    /// and so does an item of a thread with no call left.
     pub fn run(
         &mut self,
         alloc: Global,

@@ -44,6 +44,8 @@ use std::marker::Model;
 /// history by seats of this world. The clock and the notes are as a legal history by seats of this
 /// world leaves them, and so are the counters and once cells; who is to store a note has taken its
 /// number, and who is to say that a function has run has begun to run it.
+///
+/// The queues are worked on in place, at the step that puts them back; only what is shown is a copy.
 #[derive(Drop)]
 pub struct World<C: Condition<N>, const N: usize> {
     word: u64,
@@ -207,7 +209,8 @@ impl<C: Seated<N>, const N: usize> World<C, N> {
         self.history.as_slice()
     }
 
-    /// The lock word as it stands, as [`World::state`] shows it.
+    /// The lock word as it stands, as [`World::state`] shows it. A picture asks for it at each turn, and for
+    /// the state, which copies the lists, only where it may differ from what was seen.
     pub fn word(&self) -> Word
         ensures { result ≡ self.now.lock.word }
     {

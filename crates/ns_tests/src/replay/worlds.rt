@@ -1,5 +1,9 @@
 //! A world of `ns_world`, by its own calls, and over no condition of a script. What its contracts say
 //! is not tested again; they leave open that memory is there.
+//!
+//! Worlds are tested by scripts where they can be: a script owes nothing, where a test that steps a
+//! world owes each call's range and each step's refusals. Here stands what only a world's own calls
+//! show, that a step refused for memory changes nothing.
 
 ghost use Rattle.std.specs.Prelude.{IfOk};
 ghost use Rattle.ns_world.specs.Runs.{ListFits};
