@@ -1,4 +1,4 @@
--- The names from other places that the specs of this crate cite, passed on from one. Declares nothing.
+-- The names of crates below and of this crate's own types, passed on from one place. Declares nothing.
 pub use Rattle.ns_counters.specs.declared.act.ObjectAct.{ObjectAct}
 pub use Rattle.ns_counters.specs.declared.act.ObjectAct.TheVariants.{BeginOnce, EndOnce, ExchangeToAdd, LoadToAdd, LookCounter, LookOnce, MarkWait}
 pub use Rattle.ns_counters.specs.declared.object.ObjectEvent.{ObjectEvent}

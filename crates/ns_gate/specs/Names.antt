@@ -1,4 +1,4 @@
--- The names from other places that the specs of this crate cite, passed on from one. Declares nothing.
+-- The names of crates below and of this crate's own types, passed on from one place. Declares nothing.
 pub use Rattle.atomic_table.specs.Table.{Act as TableAct, Allows, Final, Me, Seen, State as TableState, Valid, carried_after, gives, homes_after, keeps as keeps_slots, opening, rest, takes}
 pub use Rattle.ns_env.specs.declared.limits.Cause.{Cause}
 pub use Rattle.ns_env.specs.declared.limits.Limits.{Limits}

@@ -18,8 +18,7 @@ impl<C: Condition<N>, const N: usize> Gate<C, N> {
     ///
     /// Needs the number, below 64, of one of these two.
     ///
-    /// A flag is reached by its seat alone, so no seat sleeps at another's flag, of which no clause could
-    /// speak.
+    /// A seat reaches no other flag, and sleeps at its own alone: no clause could speak of a sleep at another's.
     #[inline(always)]
     pub(crate) fn flag_at(_seat: &GateSeat<C, N>, number: u8) -> usize
         requires { HasUseFor number (the _seat.now.me.0) × (number < 64) }

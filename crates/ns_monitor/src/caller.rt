@@ -39,7 +39,7 @@ pub trait Renewed<C, const N: usize>: Section<C, N> + Drop {
 /// A section in hand that takes little memory, as both do. Code that holds any of them beside much else takes
 /// this for a bound, too.
 pub trait Compact<const N: usize> {
-    /// How little: a row's bound is enough.
+    /// Where a row takes less than 2^32, the section takes less than 2^40.
     ghost has_room: { TakesLittle Self.row N.row };
 }
 

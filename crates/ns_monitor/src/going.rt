@@ -71,10 +71,10 @@ impl<C: Copy> Going<C> {
     /// The lock word as the call finds it where no other caller holds the lock, or stands in its list,
     /// or has the queues. It lets each call go that may go at all without the queues.
     ///
-    /// That this word lets the call go is a clause, and no test. That it is the word of a caller alone is for
-    /// speed, and no clause says it. The mark is `#[inline]` and not `#[inline(always)]`: a function that
-    /// would grow large loses the latter, and with that here and a test, a section of a lock, a read and an
-    /// unlock is called and not inlined.
+    /// A clause says that this word lets the call go, so the code doesn't test it. That it is the word of a
+    /// caller alone is for speed, and no clause says it. The mark is `#[inline]` and not `#[inline(always)]`:
+    /// a function that would grow large loses the latter. With that mark here, and a test, the compiler
+    /// calls a section of a lock, a read and an unlock, and doesn't inline it.
     #[inline]
     fn word_alone(self) -> LockWord
         ensures packs { IsPackable result }

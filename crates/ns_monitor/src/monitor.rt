@@ -210,7 +210,7 @@ impl<C: Gated<N>, const N: usize> Monitor<C, N> {
         }
     }
 
-    /// Acquires the lock for such a section, and waits as long as it has to.
+    /// Acquires the lock in the mode of a section of this type, and waits as long as it has to.
     #[inline(always)]
     fn lock_as<H: Renewed<C, N>, R: Wait>(&self, rt: &R, seat: Seat<C, N>) -> Caller<H, C, N>
         requires { seat.monitor ≡ self.now }
@@ -398,7 +398,7 @@ impl<C: Gated<N>, const N: usize> Monitor<C, N> {
         }
     }
 
-    /// Releases the section in hand in this way, and goes round while another has the waiter queues.
+    /// Releases the section in hand, as `releasing` says, and goes round while another has the waiter queues.
     #[inline(always)]
     fn release<H: Section<C, N> + Drop, R: Wait>(
         &self,

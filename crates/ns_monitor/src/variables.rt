@@ -69,7 +69,8 @@ impl<C: Condition<N>, const N: usize> Monitor<C, N> {
     /// signal and no broadcast comes between the two. `Met` says that it was woken, which tells nothing of
     /// the row; `Canceled` that the note was notified, and `TimedOut` that the deadline had come while
     /// the note wasn't: then it has left the variable before anybody took it from there. A wake is never
-    /// answered as an early end.
+    /// answered as an early end. It looks at neither before it has left its section: where one has come
+    /// already, the section is committed all the same.
     ///
     /// The behaviour is that of nsync's `nsync_cv_wait_with_deadline`. Needs a variable below 4; the
     /// environment's own seat; and a note, if one is given, that it has seen made. Without note and

@@ -139,8 +139,8 @@ impl Objects {
         ensures grows { Grows seat.old seat.new }
         ensures answers { OnceAnswers (F.post function) once seat.old seat.new result }
     {
-        // A cell that is done takes this look and no call. The loop behind it looks anew, so a first call
-        // loads twice: told what was seen, it would have to be told as well that this is true to a history.
+        // A cell that is done takes this look and no call. The loop behind it looks anew, so a first call loads
+        // twice: to be told what this look saw, it would need a clause that this is true to a history.
         if self.look_once(&mut seat.seat, once) == Stage::Done {
             return Once::Already;
         }

@@ -1,4 +1,4 @@
--- The names from other places that the specs of this crate cite, passed on from one. Declares nothing.
+-- The names of crates below and of this crate's own types, passed on from one place. Declares nothing.
 pub use Rattle.arrayvec.specs.ArrayVec.{ArrayVec}
 pub use Rattle.ns_model.specs.Cvs.{has}
 pub use Rattle.ns_model.specs.Phases.{is_waiting, is_waiting_as, is_write, woken_phase}

@@ -1,4 +1,4 @@
--- The names from other places that the specs of this crate cite, passed on from one. Declares nothing.
+-- The names of crates below and of this crate's own types, passed on from one place. Declares nothing.
 pub use Rattle.ns_env.specs.declared.limits.Limits.{Limits}
 pub use Rattle.ns_model.specs.Seats.{is_in}
 pub use Rattle.ns_model.specs.Truths.{Truths, truths}

@@ -36,7 +36,7 @@ pub struct Drawing {
 
 /// Whether the thread's call was in progress before this step, and has to wait: such a step has only loaded,
 /// or failed to exchange, and changed nothing that is seen. No lemma says so; without this shortcut the
-/// picture is the same on every row.
+/// picture is the same on every row of ns_tests.
 fn is_waiting(seen: &Sight, thread: u8, step: Step) -> bool {
     matches!(step, Step::Idle) && both(seen.busy, only(thread)) != Seats::none()
 }

@@ -1,4 +1,4 @@
--- The names from other places that the specs of this crate cite, passed on from one. Declares nothing.
+-- The names of crates below and of this crate's own types, passed on from one place. Declares nothing.
 pub use Rattle.ns_counters.specs.Lawful.{IsLawful, ViewFits}
 pub use Rattle.ns_counters.specs.Made.{first_words, padded, setup_of}
 pub use Rattle.ns_counters.specs.Objects.{ObjectStanding, first_objects, object_next, object_who, objects_after, objects_own}
