@@ -3,7 +3,7 @@
 ghost use Rattle.std.specs.Prelude.{◌≡◌, ◌<◌, ◌≤◌, ◌++◌, [], ◌∷◌, if◌then◌else◌, None, Some, true, All, IfErr, IfOk, OnOk, length, slice_index, slice_set};
 ghost use Rattle.ns_model.specs.declared.event.Exit.TheVariants as TheExit;
 ghost use Rattle.ns_gate.specs.Prelude.{Read, Write, TryLock, Busy, Succeeded, QuietWriter, Reader, Writer, InHand, HasMode, section_of, mode_released, HasAnswered, HasSince, IsAtRest, RefusesGate, ShareTheLock, the};
-ghost use Rattle.ns_monitor.specs.Prelude.{AreNew, AreOfOneHistory, EndsAs, Grows, HasBegun, HasLearned, HasLocked, HasSeenMore, HasUnlocked, IsFreshIn, IsNumberOf, IsQuietFor, WentAtOnce, getting, judging, known_of, locking, releasing_by, setting, trying};
+ghost use Rattle.ns_monitor.specs.Prelude.{AreNew, AreOfOneHistory, EndsAs, Grows, HasBegun, HasLearned, HasLocked, HasSeenMore, IsFreshIn, IsNumberOf, IsQuietFor, WentAtOnce, getting, judging, known_of, locking, releasing_by, setting, trying};
 
 use crate::caller::{Caller, Free, Hand, ReadHeld, Renewed, Seat, Section, WriteHeld};
 use crate::going::{Begun, Going};
@@ -210,26 +210,6 @@ impl<C: Gated<N>, const N: usize> Monitor<C, N> {
         }
     }
 
-    /// Acquires the lock in the mode of a section of this type, and waits as long as it has to.
-    #[inline(always)]
-    fn lock_as<H: Renewed<C, N>, R: Wait>(&self, rt: &R, seat: Seat<C, N>) -> Caller<H, C, N>
-        requires { seat.monitor ≡ self.now }
-        ensures { HasLocked C.means (locking H.mode) H.mode seat result }
-    {
-        let mode = H::mode();
-        let Begun {
-            seat,
-            number,
-            alone,
-            last,
-        } = self.begin_lock(seat, mode);
-        let seat = match last {
-            None => seat,
-            Some(last) => self.lock_slow(rt, seat, number, mode, last),
-        };
-        holding(seat, number, alone)
-    }
-
     /// Acquires the lock to write, and waits as long as it has to. The section begins at the row after
     /// all that it has seen.
     #[inline(always)]
@@ -237,7 +217,17 @@ impl<C: Gated<N>, const N: usize> Monitor<C, N> {
         requires { seat.monitor ≡ self.now }
         ensures { HasLocked C.means (locking Write) Write seat result }
     {
-        self.lock_as(rt, seat)
+        let Begun {
+            seat,
+            number,
+            alone,
+            last,
+        } = self.begin_lock(seat, Mode::Write);
+        let seat = match last {
+            None => seat,
+            Some(last) => self.lock_slow(rt, seat, number, Mode::Write, last),
+        };
+        holding(seat, number, alone)
     }
 
     /// Acquires the lock to read, beside other readers, and waits as long as it has to. The section
@@ -247,7 +237,17 @@ impl<C: Gated<N>, const N: usize> Monitor<C, N> {
         requires { seat.monitor ≡ self.now }
         ensures { HasLocked C.means (locking Read) Read seat result }
     {
-        self.lock_as(rt, seat)
+        let Begun {
+            seat,
+            number,
+            alone,
+            last,
+        } = self.begin_lock(seat, Mode::Read);
+        let seat = match last {
+            None => seat,
+            Some(last) => self.lock_slow(rt, seat, number, Mode::Read, last),
+        };
+        holding(seat, number, alone)
     }
 
     /// The value of a cell of the section's row.
@@ -398,19 +398,18 @@ impl<C: Gated<N>, const N: usize> Monitor<C, N> {
         }
     }
 
-    /// Releases the section in hand, as `releasing` says, and goes round while another has the waiter queues.
+    /// Ends a write section: it is committed as it is, and the caller's events have it as their last.
+    ///
+    /// Where waiters may be able to go on, it tests their conditions, here in this thread, and wakes
+    /// those who can. It tries its exchange again where another has changed the word meanwhile, and goes
+    /// round while another has the waiter queues.
     #[inline(always)]
-    fn release<H: Section<C, N> + Drop, R: Wait>(
-        &self,
-        rt: &R,
-        held: Caller<H, C, N>,
-        releasing: Releasing,
-    ) -> Seat<C, N>
-        requires of { held.monitor ≡ self.now }
-        requires mode { mode_released releasing ≡ H.mode }
-        requires quiet { IsQuietFor C.means releasing held.held }
-        ensures { HasUnlocked C.means releasing held result }
+    pub fn unlock<R: Wait>(&self, rt: &R, held: WriteHeld<C, N>) -> Seat<C, N>
+        requires { held.monitor ≡ self.now }
+        ensures grows { Grows C.means (releasing_by Writer) held result }
+        ensures mine { InHand held.held (λ section. result.mine ≡ held.mine ++ section_of C.means.holds held.seat section TheExit.Plain ∷ []) }
     {
+        let releasing = Releasing::Writer;
         let Begun {
             seat,
             number,
@@ -424,20 +423,6 @@ impl<C: Gated<N>, const N: usize> Monitor<C, N> {
         seated(seat, number, alone)
     }
 
-    /// Ends a write section: it is committed as it is, and the caller's events have it as their last.
-    ///
-    /// Where waiters may be able to go on, it tests their conditions, here in this thread, and wakes
-    /// those who can. It tries its exchange again where another has changed the word meanwhile, and goes
-    /// round while another has the waiter queues.
-    #[inline(always)]
-    pub fn unlock<R: Wait>(&self, rt: &R, held: WriteHeld<C, N>) -> Seat<C, N>
-        requires { held.monitor ≡ self.now }
-        ensures grows { Grows C.means (releasing_by Writer) held result }
-        ensures mine { InHand held.held (λ section. result.mine ≡ held.mine ++ section_of C.means.holds held.seat section TheExit.Plain ∷ []) }
-    {
-        self.release(rt, held, Releasing::Writer)
-    }
-
     /// Ends a read section: it is committed, and the caller's events have it as their last.
     ///
     /// Goes round as [`Monitor::unlock`] does.
@@ -447,7 +432,18 @@ impl<C: Gated<N>, const N: usize> Monitor<C, N> {
         ensures grows { Grows C.means (releasing_by Reader) held result }
         ensures mine { InHand held.held (λ section. result.mine ≡ held.mine ++ section_of C.means.holds held.seat section TheExit.Plain ∷ []) }
     {
-        self.release(rt, held, Releasing::Reader)
+        let releasing = Releasing::Reader;
+        let Begun {
+            seat,
+            number,
+            alone,
+            last,
+        } = self.begin_unlock(held, releasing);
+        let seat = match last {
+            None => seat,
+            Some(last) => self.unlock_slow(rt, seat, releasing, last),
+        };
+        seated(seat, number, alone)
     }
 
     /// Ends a write section that can't have made a false condition true: it is committed as it is, as
@@ -460,7 +456,18 @@ impl<C: Gated<N>, const N: usize> Monitor<C, N> {
         ensures grows { Grows C.means (releasing_by QuietWriter) held result }
         ensures mine { InHand held.held (λ section. result.mine ≡ held.mine ++ section_of C.means.holds held.seat section TheExit.Plain ∷ []) }
     {
-        self.release(rt, held, Releasing::QuietWriter)
+        let releasing = Releasing::QuietWriter;
+        let Begun {
+            seat,
+            number,
+            alone,
+            last,
+        } = self.begin_unlock(held, releasing);
+        let seat = match last {
+            None => seat,
+            Some(last) => self.unlock_slow(rt, seat, releasing, last),
+        };
+        seated(seat, number, alone)
     }
 
     /// Ends the monitor, and tells the cells as they stand, and whether the lock is free. Where it
