@@ -1,6 +1,11 @@
 pub mod Acts
+pub mod Courses
 pub mod Keeps
+pub mod Listed
+pub mod Needs
 pub mod NewObjects
 pub mod Objects
+pub mod Placed
 pub mod Rounds
+pub mod WalkLaw
 pub mod Words

@@ -1,9 +1,14 @@
 pub mod Acted
+pub mod Asks
+pub mod Items
 pub mod Lawful
 pub mod Made
+pub mod Meanings
 pub mod Names
 pub mod Objects
 pub mod Prelude
+pub mod RoundWalks
 pub mod Rounds
 pub mod Steps
+pub mod Walks
 pub mod Words

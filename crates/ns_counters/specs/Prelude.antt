@@ -1,10 +1,18 @@
 -- The names that contracts and proofs cite, passed on from one place. Declares nothing.
 pub use Rattle.ns_counters.specs.Acted.{HasActed, IsFoundAt, acted}
+pub use Rattle.ns_counters.specs.Asks.{AreThere, IsLawfulObjects, ObjectEffect, ObjectState, RoundFits, StepFits, WalkFits, WantFits, is_there, walk_in, word_left}
+pub use Rattle.ns_counters.specs.Items.{IsLow, is_among, is_this, is_variable, item_at, items_of, place_in}
 pub use Rattle.ns_counters.specs.Lawful.{AreWordsOf, HasWords, IsLawful, IsWordOf, PlaceFits, ViewFits}
 pub use Rattle.ns_counters.specs.Made.{first_words, padded, setup_of}
+pub use Rattle.ns_counters.specs.Meanings.{AnyAnswers, AtSomeMoment, HadValue, HasLookedUpTo, IsReady, ObjectGoes, ObjectSoFar, RoundSoFar, WereThere, object_asked, past_and}
 pub use Rattle.ns_counters.specs.Objects.{AreObjectsBySeats, IsLegalObjectEvent, IsLegalObjects, ObjectStanding, first_objects, object_next, object_who, objects_after, objects_from, objects_own, of_counter, of_once}
+pub use Rattle.ns_counters.specs.RoundWalks.{by_chain, chain_from, from_items, from_place, round_got, round_want}
 pub use Rattle.ns_counters.specs.Rounds.{AnswersByRounds, HasShownNone, HasShownOne, HaveShownNothing, InTurn, IsLater, Past, RoundShows}
 pub use Rattle.ns_counters.specs.Steps.{CanAct, Outcome, looked, outcome, tried, word_at, word_of_once}
+pub use Rattle.ns_counters.specs.Walks.{IsInBounds, by_answer, by_begun, by_deadline, by_judging, by_round, by_stage, has_run, object_after, object_got, object_place, object_want, waited_next}
 pub use Rattle.ns_counters.specs.Words.{counter_of, counter_word, stage, stage_of, stage_word}
-pub use Rattle.ns_counters.specs.Names.{Add, Adding, Began, BeginOnce, Begun, CounterFault, CounterState, Done, EndOnce, Every, ExchangeToAdd, Free, IsLegalCounter, IsLegalCounterEvent, IsLegalFrom, IsLegalOnce, IsLegalOnceEvent, LoadToAdd, LookCounter, LookOnce}
-pub use Rattle.ns_counters.specs.Names.{MarkWait, ObjectAct, ObjectEvent, ObjectView, OnCounter, OnOnce, OnceEvent, OnceState, Place, Ran, Running, Setup, Stage, Unused, but_at, counter_after, counter_next, judged, most, once_after, once_next}
+pub use Rattle.ns_counters.specs.Names.{Add, AddExchange, AddLoad, Adding, AtCounter, AtNote, AtSomePoint, Began, BeginOnce, BeginsWith, Begun, ChainFits, Clock, CounterFault, CounterState, Done, DoneLoad, EndOnce, Env, EnvEvent, EnvFound, EnvNext, EnvPlain, EnvState}
+pub use Rattle.ns_counters.specs.Names.{Every, ExchangeToAdd, FirstClock, ForIsNotified, Free, InRound, Is, IsBetween, IsLawfulEnv, IsLegalCounter, IsLegalCounterEvent, IsLegalEnv, IsLegalFrom, IsLegalOnce, IsLegalOnceEvent, IsSo, Item, Items, LoadToAdd, LookCounter}
+pub use Rattle.ns_counters.specs.Names.{LookOnce, MarkWait, Meets, Note, NoteLoad, NoteStanding, NoteWord, Number, ObjectAct, ObjectEvent, ObjectFound, ObjectNext, ObjectView, ObjectWalk, ObjectWant, OnCounter, OnCounterItem, OnEnv, OnNote, OnOnce, OnVariable, OnWord}
+pub use Rattle.ns_counters.specs.Names.{OnceBegin, OnceEnd, OnceEvent, OnceLoad, OnceState, Place, Ran, Repeat, Round, RoundGo, RoundNext, RoundOver, RoundPlace, Running, Setup, Stage, Unused, ValueLoad, WaitClock, WaitLoad, WaitMark, Word, but_at, clock_of}
+pub use Rattle.ns_counters.specs.Names.{counter_after, counter_next, env_after, env_got_of, is_done, is_due, is_in, is_ready, judged, most, once_after, once_next, standing_of, state_of}

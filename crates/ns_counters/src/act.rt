@@ -1,5 +1,11 @@
 //! The steps that calls on counters and once cells are made of. Each is one step on one word.
 
+ghost use Rattle.std.specs.Prelude.{◌≡◌};
+ghost use Rattle.ns_counters.specs.Asks.{word_left};
+ghost use Rattle.ns_counters.specs.Steps.{word_at as word_at_of};
+
+use crate::made::MOST;
+use crate::word::{WAITED, encode_counter};
 use ns_model::counter::CounterState;
 
 /// One step.
@@ -48,4 +54,36 @@ pub enum ObjectAct {
         /// The cell's number.
         once: u8,
     },
+}
+
+impl ObjectAct {
+    /// The number of the word that the step is on: the counters' words, and then the once cells'.
+    pub fn word_at(self) -> usize
+        ensures { result ≡ word_at_of self }
+    {
+        match self {
+            ObjectAct::LookCounter { counter } => counter as usize,
+            ObjectAct::LoadToAdd { counter, .. } => counter as usize,
+            ObjectAct::ExchangeToAdd { counter, .. } => counter as usize,
+            ObjectAct::MarkWait { counter } => counter as usize,
+            ObjectAct::LookOnce { once } => MOST + once as usize,
+            ObjectAct::BeginOnce { once } => MOST + once as usize,
+            ObjectAct::EndOnce { once } => MOST + once as usize,
+        }
+    }
+
+    /// What the step leaves of the word that it finds.
+    pub fn word_left(self, found: u64) -> u64
+        ensures { result ≡ word_left self found }
+    {
+        match self {
+            ObjectAct::ExchangeToAdd { seen, value, .. } if found == encode_counter(seen) => {
+                encode_counter(CounterState { value, ..seen })
+            }
+            ObjectAct::MarkWait { .. } => found | WAITED,
+            ObjectAct::BeginOnce { .. } if found == 0 => 1,
+            ObjectAct::EndOnce { .. } => 2,
+            _ => found,
+        }
+    }
 }

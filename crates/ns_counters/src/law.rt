@@ -1,7 +1,18 @@
 //! The history of each object in that of all, and the law of the steps on them. Each function is a
 //! theorem: its clause holds, and it does nothing.
 
-ghost use Rattle.std.specs.Prelude.{◌≡◌, ℕ, ◌≤◌, ◌≢◌, ◌++◌, List, [], length, slice_index, slice_set};
+ghost use Rattle.std.specs.Prelude.{◌≡◌, ℕ, ◌<◌, ◌≤◌, ◌≢◌, ◌++◌, List, [], Some, length, slice_get, slice_index, slice_set};
+ghost use Rattle.ns_env.specs.Asks.{EnvState, IsLawfulEnv};
+ghost use Rattle.ns_env.specs.Lawful.{Meets};
+ghost use Rattle.ns_env.specs.Steps.{EnvPlain};
+ghost use Rattle.ns_model.specs.declared.environment.EnvEvent.{EnvEvent};
+ghost use Rattle.ns_model.specs.Tallies.{Every};
+ghost use Rattle.ns_counters.specs.Asks.{IsLawfulObjects, ObjectState, ObjectStep, WalkFits, walk_in};
+ghost use Rattle.ns_counters.specs.declared.round.ObjectFound.{ObjectFound};
+ghost use Rattle.ns_counters.specs.declared.walk.ObjectWalk.{ObjectWalk};
+ghost use Rattle.ns_counters.specs.Meanings.{ObjectGoes, ObjectSoFar, object_asked, past_and};
+ghost use Rattle.ns_counters.specs.Rounds.{IsLater, Past};
+ghost use Rattle.ns_counters.specs.Walks.{object_got};
 ghost use Rattle.ns_counters.specs.declared.act.ObjectAct.{ObjectAct};
 ghost use Rattle.ns_counters.specs.declared.object.ObjectEvent.{ObjectEvent};
 ghost use Rattle.ns_counters.specs.declared.object.ObjectView.{ObjectView};
@@ -10,7 +21,7 @@ ghost use Rattle.ns_counters.specs.Acted.{HasActed, acted, events_of};
 ghost use Rattle.ns_model.specs.Counters.{IsLegalCounter, counter_after, most};
 ghost use Rattle.ns_counters.specs.Lawful.{IsLawful, ViewFits};
 ghost use Rattle.ns_counters.specs.Made.{first_words, padded, setup_of};
-ghost use Rattle.ns_counters.specs.Objects.{IsLegalObjects, of_counter, of_once, objects_after};
+ghost use Rattle.ns_counters.specs.Objects.{IsLegalObjects, object_who, objects_after, objects_own, of_counter, of_once};
 ghost use Rattle.ns_model.specs.Onces.{IsLegalOnce, once_after};
 ghost use Rattle.ns_counters.specs.Steps.{CanAct, outcome, word_at};
 
@@ -55,4 +66,33 @@ pub fn a_step_tells_no_other()
         IsLawful setup words history → ViewFits setup history view → CanAct setup view.place act →
         other.seat ≢ view.seat → ViewFits setup history other →
         ViewFits setup (history ++ events_of act (slice_index words (word_at act)) view) other }
+{}
+
+/// A seat may begin a call at any place that fits: the law stays, with the same events.
+pub fn beginning_to_walk_keeps_the_law()
+    ensures { (history : List ObjectEvent) (env : EnvPlain) (state : ObjectState) (seat : ℕ) (walk : ObjectWalk) →
+        IsLawfulObjects history state env.notes → seat < length state.walks → seat < state.setup.seats → WalkFits state.setup (objects_after state.setup history) env.notes seat walk →
+        IsLawfulObjects history (record state { walks = slice_set state.walks seat (Some walk) }) env.notes }
+{}
+
+/// A step of any seat's walk keeps the law, and the history grows by the events of the step, which are the seat's.
+pub fn walking_keeps_the_law()
+    ensures { (history more : List ObjectEvent) (happened : List EnvEvent) (env : EnvPlain) (old new : ObjectState) (seat : ℕ) (walk : ObjectWalk) (found : ObjectFound) →
+        Meets happened env → IsLawfulObjects history old env.notes → walk_in old.walks seat ≡ Some walk → ObjectStep env seat walk old found new more →
+        IsLawfulObjects (history ++ more) new env.notes × Every (λ event. object_who event ≡ seat) more }
+{}
+
+/// A step of a call takes it on: the call goes on as what it was asked, or it is over, and its answer means what it
+/// says of what has happened since it began.
+pub fn steps_on_objects_take_their_call_on()
+    ensures { (earlier now : Past) (seat : ℕ) (events more : List ObjectEvent) (notes : EnvState) (old new : ObjectState) (walk : ObjectWalk) (found : ObjectFound) →
+        IsLawfulEnv now.notes notes → IsLawfulObjects now.objects old notes.plain.notes → IsLater earlier now → objects_own now.objects seat ≡ objects_own earlier.objects seat ++ events →
+        walk_in old.walks seat ≡ Some walk → ObjectSoFar old.setup earlier now seat events walk → ObjectStep notes.plain seat walk old found new more →
+        ObjectGoes old.setup earlier (past_and now (record { notes = []; objects = more })) seat (object_asked walk) (events ++ more) (object_got walk found) }
+{}
+
+/// What others do leaves a call where it is.
+pub fn steps_of_others_leave_a_call_on_objects()
+    ensures { (setup : Setup) (earlier now more : Past) (seat : ℕ) (events : List ObjectEvent) (walk : ObjectWalk) →
+        ObjectSoFar setup earlier now seat events walk → ObjectSoFar setup earlier (past_and now more) seat events walk }
 {}

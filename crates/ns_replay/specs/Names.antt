@@ -32,7 +32,7 @@ pub use Rattle.ns_word.specs.declared.view.SeatView.{SeatView}
 pub use Rattle.ns_word.specs.declared.word.Word.{Word}
 pub use Rattle.ns_world.specs.Begins.{begun_at}
 pub use Rattle.ns_world.specs.Calls.{CallInRange, IsMoment, IsNoteNumber, IsVariable, mode_of, start_of}
-pub use Rattle.ns_world.specs.Items.{no_items, with_item}
+pub use Rattle.ns_counters.specs.Items.{no_items, with_item}
 pub use Rattle.ns_world.specs.Runs.{GoesOnOrBegins, ListFits, Progress, RunFault, Runs, StopsFor, TurnOf, Turned, TurnsOf, is_end, progressed, rest_of, start}
 pub use Rattle.ns_world.specs.Shows.{lists_shown, wakes_owed}
 pub use Rattle.ns_world.specs.Whole.{Whole, fresh_whole, whole_busy, whole_of}
@@ -42,9 +42,9 @@ pub use Rattle.ns_world.specs.declared.call.Call.TheVariants.{Add, Advance, Broa
 pub use Rattle.ns_world.specs.declared.call.Start.{Start}
 pub use Rattle.ns_world.specs.declared.call.Start.TheVariants.{Ask, OnLock, OnObjects}
 pub use Rattle.ns_world.specs.declared.fault.Fault.{Fault as WorldFault}
-pub use Rattle.ns_world.specs.declared.items.Item.{Item}
-pub use Rattle.ns_world.specs.declared.items.Item.TheVariants.{OnCounter, OnNote, OnVariable}
-pub use Rattle.ns_world.specs.declared.items.Items.{Items}
+pub use Rattle.ns_counters.specs.declared.items.Item.{Item}
+pub use Rattle.ns_counters.specs.declared.items.Item.TheVariants.{OnCounter, OnNote, OnVariable}
+pub use Rattle.ns_counters.specs.declared.items.Items.{Items}
 pub use Rattle.ns_world.specs.declared.reply.Reply.{Reply}
 pub use Rattle.ns_world.specs.declared.reply.Reply.TheVariants.{Already, Answered, Busy, Is, Misuse, Noisy, NotesFull, Number, Ran, Refused, Succeeded}
 pub use Rattle.ns_world.specs.declared.schedule.Line.{Line}

@@ -4,7 +4,7 @@ ghost use Rattle.std.specs.Prelude.{◌≡◌, map, option_map, IfOk};
 ghost use Rattle.ns_replay.specs.Objects.{after_letter_of, item_of, items_in, any_wait_of};
 
 use crate::words::{NOTES, moment_or_none, number_below, parts_at};
-use ns_world::items::{Item, Items};
+use ns_counters::items::{Item, Items};
 use std::alloc::{AllocError, Global};
 
 /// How many counters, once cells and condition variables a script declares.

@@ -1,9 +1,9 @@
 //! A call, in the words in which a script has it.
 
+use ns_counters::items::{Item, Items};
 use ns_env::limits::Limits;
 use ns_replay::ScriptCondition;
 use ns_world::call::Call;
-use ns_world::items::{Item, Items};
 use std::alloc::AllocError;
 
 /// The name of a call.

@@ -11,9 +11,10 @@ use Rattle.ns_word.proofs.Asked.{asked_stays}
 use Rattle.ns_word.proofs.Numbers.{split_at}
 use Rattle.ns_world.proofs.AnyLooks.{LeadsOn, LooksOut, leads_on, looks_out, unlooked}
 use Rattle.ns_world.proofs.Turns.{moves_stay}
-use Rattle.ns_world.proofs.Walks.{put_here, put_there, stands_within, wait_here, wait_there}
+use Rattle.ns_world.proofs.Walks.{wait_here, wait_there}
 use Rattle.ns_world.proofs.Wholes.{IsAlone, Rests, begun_rests, each_stands, goes_rests, stands_nowhere, stands_on}
 use Rattle.ns_world.proofs.WholeLed.{begins_to_wait_led, ends_look_led, wait_steps_led}
+use Rattle.ns_counters.proofs.Placed.{put_here, put_there, stands_within}
 
 -- which it is
 which : {A : Type 0} (o : Option A) → IsSome o → (x : A) × (o ≡ Some x)

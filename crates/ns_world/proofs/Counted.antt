@@ -12,9 +12,9 @@ use Rattle.ns_word.specs.declared.walk.Next.TheVariants.{Done}
 use Rattle.ns_env.specs.declared.walk.EnvNext.TheVariants.{Repeat, Over}
 use Rattle.ns_world.proofs.Busy.{both, walking_at, walking_set_same, walking_set_other, asking_set_same, asking_set_other, asking_set_none}
 use Rattle.ns_world.proofs.Turns.{is_idle_of, is_whole_busy, is_whole_idle, begun_others}
-use Rattle.ns_world.proofs.Walks.{put_there, put_none}
 use Rattle.ns_word.specs.declared.walk.Next.TheVariants as TheNext
-use Rattle.ns_world.specs.declared.object_walk.ObjectNext.TheVariants as TheObject
+use Rattle.ns_counters.specs.declared.walk.ObjectNext.TheVariants as TheObject
+use Rattle.ns_counters.proofs.Placed.{put_none, put_there}
 
 -- ---- the lists
 

@@ -4,11 +4,8 @@ pub mod Busy
 pub mod Counted
 pub mod EnvGrows
 pub mod Fresh
-pub mod Listed
 pub mod Looking
 pub mod Mapped
-pub mod ObjectCourses
-pub mod ObjectLaw
 pub mod Placed
 pub mod Places
 pub mod Released

@@ -16,11 +16,11 @@ use Rattle.ns_world.proofs.Awaits.{begins_to_wait_keeps, ends_look_keeps, next, 
 use Rattle.ns_world.proofs.Turns.{moves_stay}
 use Rattle.ns_world.proofs.Looking.{shown_effect}
 use Rattle.ns_world.proofs.Mapped.{got-map}
-use Rattle.ns_world.proofs.ObjectLaw.{first_of_all, rest_of_all}
 use Rattle.ns_world.proofs.Placed.{begun_here}
 use Rattle.ns_world.proofs.Places.{StartFits}
 use Rattle.ns_world.proofs.Worlds.{acts_found, acts_here, lawful_after, lawful_placed, settled_here, some_step, unasked_cleared}
 use Rattle.ns_word.specs.declared.walk.Next.TheVariants as TheNext
+use Rattle.ns_counters.proofs.Listed.{first_of_all, rest_of_all}
 
 -- of several objects there are at most 16
 few_if : (setup : Setup) (now : ObjectStanding) (notes : ℕ → NoteStanding) (seat : ℕ) (walk : ObjectWalk) → WalkFits setup now notes seat walk → IsFew walk

@@ -3,30 +3,6 @@ use Rattle.std.proofs.Common.{◌≡◌, ◌≢◌, ℕ, zero, suc, ◌+◌, ◌
 use Rattle.std.proofs.lemmas.Bool.{cases_eq, ne_eqb}
 use Rattle.ns_world.specs.Prelude.{AnyWait, ObjectWalk, wait_in, walk_in}
 
-pub put_here : (walks : List (Option ObjectWalk)) (seat : ℕ) (walk : Option ObjectWalk) → seat < length walks → walk_in (slice_set walks seat walk) seat ≡ walk
-put_here [] seat walk within = absurd (omega (arith, within))
-put_here (w ∷ walks) zero walk within = refl
-put_here (w ∷ walks) (suc seat) walk within = put_here walks seat walk (omega arith)
-
-pub put_there : (walks : List (Option ObjectWalk)) (seat : ℕ) (walk : Option ObjectWalk) (other : ℕ) → other ≢ seat → walk_in (slice_set walks seat walk) other ≡ walk_in walks other
-put_there [] seat walk other ne = refl
-put_there (w ∷ walks) zero walk zero ne = absurd (ne refl)
-put_there (w ∷ walks) zero walk (suc other) ne = refl
-put_there (w ∷ walks) (suc seat) walk zero ne = refl
-put_there (w ∷ walks) (suc seat) walk (suc other) ne = put_there walks seat walk other (λ e. ne (ap suc e))
-
--- a seat that is put nowhere stands nowhere
-pub put_none : (walks : List (Option ObjectWalk)) (seat : ℕ) → walk_in (slice_set walks seat None) seat ≡ None
-put_none [] seat = refl
-put_none (w ∷ walks) zero = refl
-put_none (w ∷ walks) (suc seat) = put_none walks seat
-
--- a seat that stands somewhere is one of those that there are
-pub stands_within : (walks : List (Option ObjectWalk)) (seat : ℕ) (walk : ObjectWalk) → walk_in walks seat ≡ Some walk → seat < length walks
-stands_within [] seat walk e = absurd (cc)
-stands_within (w ∷ walks) zero walk e = omega arith
-stands_within (w ∷ walks) (suc seat) walk e = let below = stands_within walks seat walk e in omega (arith, below)
-
 -- none stands anywhere where all stand nowhere
 pub none_stand : (n seat : ℕ) → walk_in (replicate n None) seat ≡ None
 none_stand zero seat = refl

@@ -16,20 +16,21 @@ use Rattle.ns_model.proofs.Beginnings.{begins_itself}
 use Rattle.ns_model.proofs.Environments.{made_begins}
 use Rattle.ns_counters.proofs.Objects.{own-append, own_all, own_none}
 use Rattle.ns_counters.proofs.Rounds.{last_nothing, later_itself, later_through}
-use Rattle.ns_world.specs.declared.object_walk.ObjectNext.TheVariants.{Go}
-use Rattle.ns_world.proofs.ObjectCourses.{operates_on, so_far_on, RoundGoes, any_on, later_and, nothing_on, round_by, round_makes_none, round_on}
+use Rattle.ns_counters.specs.declared.walk.ObjectNext.TheVariants.{Go}
 use Rattle.ns_world.proofs.Underway.{IsOfLock, IsUnderway, Outcome, Underway, Untouched, begin_away, begins_on, begins_underway, moves_away, moves_on, no_more as no_more_notes, not_idle, rests, stays_underway, HasLooked, LockUnderway, acts_on, acts_show_not}
 use Rattle.ns_world.proofs.Underway.{goes_to_lock, looks_any, rests_look}
-use Rattle.ns_world.proofs.Walks.{put_here, put_there, stands_within, wait_there}
+use Rattle.ns_world.proofs.Walks.{wait_there}
 use Rattle.ns_world.proofs.WholeLed.{lock_led, operated_led, begins_to_wait_led, ends_look_led, wait_steps_led, starts_led}
 use Rattle.ns_word.specs.declared.walk.Next.TheVariants.{Done}
 use Rattle.ns_word.proofs.Starts.{wait_is_first}
-use Rattle.ns_world.proofs.Listed.{first_place, some_among}
 use Rattle.ns_world.proofs.Awaits.{becomes_over, leads, low_if, low_over, many_over, others_over, same_walk, setup_same, stands_here, there_as, waits_here}
-use Rattle.ns_world.proofs.Wholes.{begun_waits_not, there_more}
+use Rattle.ns_world.proofs.Wholes.{begun_waits_not}
 use Rattle.ns_word.specs.declared.request.Request.TheVariants as TheRequest
 use Rattle.ns_word.specs.declared.walk.Next.TheVariants as TheNext
 use Rattle.ns_word.specs.declared.walk.Reply.TheVariants as TheWalk
+use Rattle.ns_counters.proofs.Courses.{RoundGoes, any_on, later_and, nothing_on, operates_on, round_by, round_makes_none, round_on, so_far_on}
+use Rattle.ns_counters.proofs.Listed.{first_place, some_among}
+use Rattle.ns_counters.proofs.Placed.{put_here, put_there, stands_within, there_more}
 
 -- ---- a call that is under way
 
@@ -381,6 +382,8 @@ module _ (C : Type 0) (N : ℕ) (before : Whole C N) (earlier : Past) (seat : �
       by (Over reply) at goes = let rest = inner.underway in inl (record {
         events = done;
         added = added;
+        answer = reply;
+        tells = refl;
         means = goes;
         still = rest.still;
         same = ap held_in rest.at ∙ rest.same;

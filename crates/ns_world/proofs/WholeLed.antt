@@ -2,13 +2,13 @@
 use Rattle.std.proofs.Common.{◌≡◌, ℕ, List, [], ◌++◌, Bool, true, false, cond, ◌<◌, length, Option, None, Some, is_some, arith, refl, sym, subst, inl, inr}
 use Rattle.std.proofs.lemmas.List.{append-nil, length-set}
 use Rattle.std.proofs.lemmas.Option.{slice_get_within}
-use Rattle.ns_world.specs.Prelude.{AnyWait, AreEnvBy, AreLedTo, AreObjectsBy, AreThere, BeginsToWait, Call, EndsLook, EnvPlain, Finished, FirstClock, HasLedTo, HasOperated, HaveLedTo, Idle, InRound, IsLawfulWhole, LedTo, LockSteps, Nothing, Now, ObjectEvent, ObjectWalk}
+use Rattle.ns_world.specs.Prelude.{objects_state, AnyWait, AreEnvBy, AreLedTo, AreObjectsBy, AreThere, BeginsToWait, Call, EndsLook, EnvPlain, Finished, FirstClock, HasLedTo, HasOperated, HaveLedTo, Idle, InRound, IsLawfulWhole, LedTo, LockSteps, Nothing, Now, ObjectEvent, ObjectWalk}
 use Rattle.ns_world.specs.Prelude.{Objects, Operates, Past, StandsBy, Step, WaitSteps, WaitsOnLock, Walk, Went, Whole, WholeMoves, WholeStarts, WholeStep, done_in, env_done, got_of, looks_at, notes_done, nothing_done, object_start, objects_after, objects_done, past_and}
 use Rattle.ns_world.specs.Prelude.{round_due, shown_by, stood_at, waited_after, walk_after, walk_in, want_of}
 use Rattle.ns_world.proofs.EnvGrows.{moves_led}
-use Rattle.ns_world.proofs.ObjectLaw.{operates_keeps}
-use Rattle.ns_world.proofs.Walks.{stands_within}
-use Rattle.ns_world.proofs.Wholes.{Fit, begun_led, led_more, led_stood, moves_make}
+use Rattle.ns_world.proofs.Wholes.{begun_led, led_stood, moves_make}
+use Rattle.ns_counters.proofs.Placed.{Fit, led_more, stands_within}
+use Rattle.ns_counters.proofs.WalkLaw.{operates_keeps}
 
 pub no_more : {C : Type 0} {N : ℕ} (past : Past) (world : Whole C N) → HasLedTo past world → HasLedTo (past_and past nothing_done) world
 no_more past world led = (subst (λ es. LedTo es world.lock) (sym (append-nil past.notes)) led.0, subst (λ es. HaveLedTo es world) (sym (append-nil past.objects)) led.1)
@@ -18,14 +18,14 @@ module _ {C : Type 0} {N : ℕ} (past : Past) (old new : Whole C N) (seat : ℕ)
   pub lock_led : (p : LockSteps old new seat step) → AreEnvBy seat (env_done p.moves) × HasLedTo (past_and past (record { notes = env_done p.moves; objects = [] })) new
   lock_led p =
       let notes = moves_led past.notes old.lock new.lock seat step lawful.lock led.0 p.moves in
-      let objects = led_more past.objects old.objects old.lock.env.notes new.lock.env.notes (moves_make old.lock new.lock seat step p.moves) led.1 in
+      let objects = led_more past.objects (objects_state old.objects) old.lock.env.notes new.lock.env.notes (moves_make old.lock new.lock seat step p.moves) led.1 in
       (notes.0, (notes.1, subst (λ es. AreLedTo es new.objects new.lock.env.notes) (sym (append-nil past.objects)) (subst (λ (o : Objects). AreLedTo past.objects o new.lock.env.notes) (sym p.same) objects)))
 
   -- by one of a call on counters and once cells
   pub operated_led : (p : Operates old new seat step) → AreObjectsBy seat p.operated.events × HasLedTo (past_and past (record { notes = []; objects = p.operated.events })) new
   operated_led p =
       let q = p.operated in
-      let kept = operates_keeps old.objects old.lock.env past.notes led.0.lawful.meets past.objects led.1 seat p.walk p.walks q.found q.words q.events q.effect in
+      let kept = operates_keeps (objects_state old.objects) old.lock.env past.notes led.0.lawful.meets past.objects led.1 seat p.walk p.walks q.found q.words q.events q.effect in
       let objects = subst (λ (o : Objects). AreLedTo (past.objects ++ q.events) o old.lock.env.notes) (sym q.becomes) kept.0 in
       (kept.1, (subst (λ es. LedTo es new.lock) (sym (append-nil past.notes)) (subst (LedTo past.notes) (sym p.same) led.0), subst (λ (lock : Now C N). AreLedTo (past.objects ++ q.events) new.objects lock.env.notes) (sym p.same) objects))
 
@@ -33,7 +33,7 @@ module _ {C : Type 0} {N : ℕ} (past : Past) (old new : Whole C N) (seat : ℕ)
   module _ (walk : ObjectWalk) (walks : walk_in old.objects.walks seat ≡ Some walk) (then : Objects) (told : Step) (q : HasOperated old.lock.env seat walk old.objects then told) where
     over_led : (wait : Option AnyWait) → AreObjectsBy seat q.events × AreLedTo (past.objects ++ q.events) (stood_at then seat None wait) old.lock.env.notes
     over_led wait =
-        let kept = operates_keeps old.objects old.lock.env past.notes led.0.lawful.meets past.objects led.1 seat walk walks q.found q.words q.events q.effect in
+        let kept = operates_keeps (objects_state old.objects) old.lock.env past.notes led.0.lawful.meets past.objects led.1 seat walk walks q.found q.words q.events q.effect in
         let inside : seat < length then.walks = subst (λ (o : Objects). seat < length o.walks) (sym q.becomes) (subst (λ n. seat < n) (sym (length-set old.objects.walks seat _)) (stands_within old.objects.walks seat walk walks)) in
         let low : seat < then.setup.seats = subst (λ (o : Objects). seat < o.setup.seats) (sym q.becomes) (led.1.within seat walk walks) in
         (kept.1, led_stood (past.objects ++ q.events) then old.lock.env.notes seat None wait inside low tt (subst (λ (o : Objects). AreLedTo (past.objects ++ q.events) o old.lock.env.notes) (sym q.becomes) kept.0))

@@ -6,7 +6,7 @@ use Rattle.std.specs.Prelude.{IfOk, IfErr}
 use Rattle.std.proofs.lemmas.Bool.{cases_eq}
 use Rattle.std.proofs.lemmas.List.{length-replicate, length-set}
 use Rattle.std.proofs.lemmas.Option.{slice_get_within}
-use Rattle.ns_world.specs.Prelude.{Act, Add, AddExchange, AddLoad, Advance, AnyWait, AreLedTo, AreThere, Ask, AtCounter, AtNote, BeginAnswers, Begun, Broadcast, Busy, Call, CallFits, Clock, CounterFault, CounterState, CounterWait, CvWait, Done, DoneLoad, Env, EnvNext}
+use Rattle.ns_world.specs.Prelude.{objects_state, Act, Add, AddExchange, AddLoad, Advance, AnyWait, AreLedTo, AreThere, Ask, AtCounter, AtNote, BeginAnswers, Begun, Broadcast, Busy, Call, CallFits, Clock, CounterFault, CounterState, CounterWait, CvWait, Done, DoneLoad, Env, EnvNext}
 use Rattle.ns_world.specs.Prelude.{EnvPlain, Expiry, Fault, Finished, FirstClock, Found, Get, Goes, HasOperated, Held, Idle, InRound, IsIdle, IsInBounds, IsLawfulWhole, IsLawfulWorld, IsNotified, Item, Items, Lock, LookGoes, LooksWhere, Meets, Misuse, Mode, Moves}
 use Rattle.ns_world.specs.Prelude.{NewNote, NoSuchSeat, NoteStanding, NoteWait, Nothing, Notify, Now, Number, ObjectAct, ObjectEvent, ObjectFound, ObjectNext, ObjectStanding, ObjectWalk, Objects, OnCondition, OnCounter, OnEntry, OnLock, OnNote, OnObjects, OnVariable}
 use Rattle.ns_world.specs.Prelude.{OnWord, Once, OnceBegin, OnceEnd, OnceLoad, Operates, OutOfMemory, Over, RLock, RUnlock, Repeat, Round, RoundFits, RoundGo, RoundNext, RoundOver, RoundPlace, SeatView, Set, Setup, Signal, Stage, StandsAlone, StandsBy, Start, Started}
@@ -17,17 +17,19 @@ use Rattle.ns_world.specs.Prelude.{wait_in, walk_after, walk_in, want_of, whole}
 use Rattle.ns_model.proofs.Environments.{made_below}
 use Rattle.ns_counters.proofs.NewObjects.{new_lawful}
 use Rattle.ns_env.proofs.Asks.{if_made_stays, set_here, set_there}
-use Rattle.ns_world.specs.declared.object_walk.ObjectNext.TheVariants.{Go}
-use Rattle.ns_world.specs.declared.round.ObjectFound.TheVariants.{Word}
+use Rattle.ns_counters.specs.declared.walk.ObjectNext.TheVariants.{Go}
+use Rattle.ns_counters.specs.declared.round.ObjectFound.TheVariants.{Word}
 use Rattle.ns_word.proofs.Asked.{asked_stays, quiet_asks, test_asks}
 use Rattle.ns_world.specs.Whole.{MayWait}
 use Rattle.ns_world.proofs.Fresh.{lawful_new, length_views, no_walk}
-use Rattle.ns_world.proofs.Listed.{some_among}
-use Rattle.ns_world.proofs.ObjectLaw.{first_of_all, rest_of_all, in_list, operates_keeps, want_below}
 use Rattle.ns_world.proofs.Turns.{moves_stay, begun_stays, Pairs, pairs}
-use Rattle.ns_world.proofs.Walks.{put_here, put_there, none_stand, none_wait, stands_within}
+use Rattle.ns_world.proofs.Walks.{none_stand, none_wait}
 use Rattle.ns_env.specs.declared.walk.EnvNext.TheVariants as TheEnv
 use Rattle.ns_counters.specs.declared.word.Stage.TheVariants as TheStage
+use Rattle.ns_counters.proofs.Listed.{some_among}
+use Rattle.ns_counters.proofs.Placed.{Fit, StaysAsked, led_more, put_here, put_keeps, put_there, stands_within, stays_asked, there_more}
+use Rattle.ns_counters.proofs.Needs.{may_step}
+use Rattle.ns_counters.proofs.WalkLaw.{operates_keeps}
 
 -- ---- a new world
 
@@ -52,65 +54,10 @@ whole_new C N truths seats counters onces few short cells values = record {
   none : (seat : ℕ) (walk : ObjectWalk) → walk_in (replicate 64 None) seat ≡ Some walk → ⊥
   none seat walk at = let is = sym (none_stand 64 seat) ∙ at in absurd (cc)
 
--- ---- notes that are made stay made
-
-all_more : {A : Type 0} (p q : A → Bool) (xs : List A) → ((x : A) → p x ≡ true → q x ≡ true) → list_all p xs ≡ true → list_all q xs ≡ true
-all_more p q [] more all = refl
-all_more p q (x ∷ xs) more all = rw (more x (first_of_all (p x) (list_all p xs) all)) (all_more p q xs more (rest_of_all (p x) (list_all p xs) all))
-
--- a seat stands where it stood when more notes are made
-module _ (setup : Setup) (notes later : ℕ → NoteStanding) (more : (n : ℕ) → (notes n).made ≡ true → (later n).made ≡ true) where
-  pub there_more : (items : Items) → AreThere setup notes items → AreThere setup later items
-  there_more items there = (there.0, all_more (is_there setup notes) (is_there setup later) (items_of items) each there.1, there.2) where
-    each : (item : Item) → is_there setup notes item ≡ true → is_there setup later item ≡ true
-    each (OnNote note) is = more note is
-    each (OnCounter counter) is = is
-    each (OnVariable k) is = is
-
-  round_more : (round : Round) (place : RoundPlace) → RoundFits notes round place → RoundFits later round place
-  round_more round FirstClock fits = tt
-  round_more round (AtNote at clock asked note) fits = (fits.0, more note fits.1)
-  round_more round (AtCounter at clock counter) fits = fits
-
-  walk_more : (now : ObjectStanding) (seat : ℕ) (walk : ObjectWalk) → WalkFits setup now notes seat walk → WalkFits setup now later seat walk
-  walk_more now seat (InRound round place) fits = (there_more round.items fits.0, round_more round place fits.1)
-  walk_more now seat (AddLoad counter delta) fits = fits
-  walk_more now seat (AddExchange counter delta seen value) fits = fits
-  walk_more now seat (ValueLoad counter) fits = fits
-  walk_more now seat (WaitMark counter deadline) fits = fits
-  walk_more now seat (WaitLoad counter deadline) fits = fits
-  walk_more now seat (WaitClock counter moment value) fits = fits
-  walk_more now seat (OnceLoad once) fits = fits
-  walk_more now seat (OnceBegin once) fits = fits
-  walk_more now seat (OnceEnd once) fits = fits
-  walk_more now seat (DoneLoad once) fits = fits
-
-pub led_more : (history : List ObjectEvent) (objects : Objects) (notes later : ℕ → NoteStanding) → ((n : ℕ) → (notes n).made ≡ true → (later n).made ≡ true) → AreLedTo history objects notes → AreLedTo history objects later
-led_more history objects notes later more led = record {
-  lawful = led.lawful;
-  within = led.within;
-  each = λ seat walk at. walk_more objects.setup notes later more (objects_after objects.setup history) seat walk (led.each seat walk at);
-}
-
-abbrev pub Fit : Setup → ObjectStanding → (ℕ → NoteStanding) → ℕ → Option ObjectWalk → Type 0
-Fit setup now notes seat None = Unit {0}
-Fit setup now notes seat (Some walk) = WalkFits setup now notes seat walk
-
 -- what has led to the objects has led to them where a seat is put at a place that fits, and into any wait or none
-pub led_stood : (history : List ObjectEvent) (objects : Objects) (notes : ℕ → NoteStanding) (seat : ℕ) (walk : Option ObjectWalk) (wait : Option AnyWait) → seat < length objects.walks → seat < objects.setup.seats → Fit objects.setup (objects_after objects.setup history) notes seat walk → AreLedTo history objects notes → AreLedTo history (stood_at objects seat walk wait) notes
-led_stood history objects notes seat walk wait inside low fits led = record {
-  lawful = led.lawful;
-  within = λ other w at. elim (cases_eq other seat) [
-    | inl e ↦ subst (λ n. n < objects.setup.seats) (sym e) low
-    | inr ne ↦ led.within other w (sym (put_there objects.walks seat walk other ne) ∙ at)
-  ];
-  each = λ other w at. elim (cases_eq other seat) [
-    | inl e ↦
-        let is : walk ≡ Some w = sym (put_here objects.walks seat walk inside) ∙ ap (walk_in (slice_set objects.walks seat walk)) (sym e) ∙ at in
-        subst (λ n. WalkFits objects.setup (objects_after objects.setup history) notes n w) (sym e) (subst (Fit objects.setup (objects_after objects.setup history) notes seat) is fits)
-    | inr ne ↦ led.each other w (sym (put_there objects.walks seat walk other ne) ∙ at)
-  ];
-}
+pub led_stood : (history : List ObjectEvent) (objects : Objects) (notes : ℕ → NoteStanding) (seat : ℕ) (walk : Option ObjectWalk) (wait : Option AnyWait) → seat < length objects.walks → seat < objects.setup.seats →
+    Fit objects.setup (objects_after objects.setup history) notes seat walk → AreLedTo history objects notes → AreLedTo history (stood_at objects seat walk wait) notes
+led_stood history objects notes seat walk wait inside low fits led = put_keeps history (objects_state objects) notes seat walk inside low fits led
 
 first_fits : {C : Type 0} (setup : Setup) (now : ObjectStanding) (notes : ℕ → NoteStanding) (mode : Option Mode) (seat : ℕ) (call : Call C) → CallFits setup notes call mode → Fit setup now notes seat (object_start call)
 first_fits setup now notes mode seat (Add counter delta) fits = fits
@@ -211,55 +158,6 @@ start_may setup notes (Value counter) held fits = tt
 start_may setup notes (CounterWait counter deadline) held fits = tt
 start_may setup notes (Once once) held fits = tt
 start_may setup notes (Done once) held fits = tt
-
--- ---- a step of a call on counters and once cells leaves what the call was asked
-
-abbrev StaysAsked : ObjectWalk → ObjectNext → Type 0
-StaysAsked asked (Go walk) = object_asked walk ≡ asked
-StaysAsked asked (Repeat walk) = object_asked walk ≡ asked
-StaysAsked asked (Over reply) = Unit {0}
-
-judged_stays : (counter : ℕ) (delta : ℤ) (seen : CounterState) (answer : Result ℕ CounterFault) → StaysAsked (AddLoad counter delta) (by_answer counter delta seen answer)
-judged_stays counter delta seen (Ok value) = refl
-judged_stays counter delta seen (Err fault) = tt
-
-waited_stays : (counter : ℕ) (deadline : Option ℕ) (value : ℕ) (b : Bool) → StaysAsked (WaitMark counter deadline) (cond b (Over (Number 0)) (by_deadline counter deadline value))
-waited_stays counter deadline value true = tt
-waited_stays counter None value false = refl
-waited_stays counter (Some moment) value false = refl
-
-stage_stays : (once : ℕ) (stage : Stage) → StaysAsked (OnceLoad once) (by_stage once stage)
-stage_stays once TheStage.Unused = refl
-stage_stays once TheStage.Running = refl
-stage_stays once TheStage.Done = tt
-
-begun_stage_stays : (once : ℕ) (stage : Stage) → StaysAsked (OnceLoad once) (by_begun once stage)
-begun_stage_stays once TheStage.Unused = refl
-begun_stage_stays once TheStage.Running = refl
-begun_stage_stays once TheStage.Done = tt
-
-round_stays : (round : Round) (next : RoundNext) → StaysAsked (InRound round FirstClock) (by_round round next)
-round_stays round (RoundGo place) = refl
-round_stays round (RoundOver None) = refl
-round_stays round (RoundOver (Some at)) = tt
-
-two_stay : (asked : ObjectWalk) (b : Bool) (x y : ObjectNext) → StaysAsked asked x → StaysAsked asked y → StaysAsked asked (cond b x y)
-two_stay asked true x y p q = p
-two_stay asked false x y p q = q
-
-stays_asked : (walk : ObjectWalk) (found : ObjectFound) → StaysAsked (object_asked walk) (object_got walk found)
-stays_asked (AddLoad counter delta) (Word word) = judged_stays counter delta (counter_of word) (judged (counter_of word) delta)
-stays_asked (AddExchange counter delta seen value) (Word word) = two_stay (AddLoad counter delta) (eqb word (counter_word seen)) (Over (Number value)) (by_judging counter delta word) tt (judged_stays counter delta (counter_of word) (judged (counter_of word) delta))
-stays_asked (ValueLoad counter) (Word word) = tt
-stays_asked (WaitMark counter deadline) (Word word) = waited_stays counter deadline (counter_of word).value (eqb (counter_of word).value 0)
-stays_asked (WaitLoad counter deadline) (Word word) = waited_stays counter deadline (counter_of word).value (eqb (counter_of word).value 0)
-stays_asked (WaitClock counter moment value) (Env (Clock clock)) = two_stay (WaitMark counter (Some moment)) (nat_lt clock moment) (Repeat (WaitLoad counter (Some moment))) (Over (Number value)) refl tt
-stays_asked (OnceLoad once) (Word word) = stage_stays once (stage_of word)
-stays_asked (OnceBegin once) (Word word) = begun_stage_stays once (stage_of word)
-stays_asked (OnceEnd once) (Word word) = tt
-stays_asked (DoneLoad once) (Word word) = tt
-stays_asked (InRound round place) found = round_stays round (round_got round place found)
-stays_asked walk found = refl
 
 -- whether a round may wait, or looks for a wait on the lock, is told by what was asked
 may_asked : {C : Type 0} {N : ℕ} (walk : ObjectWalk) (held : Option (Held C N)) → MayWait (Some walk) held → MayWait (Some (object_asked walk)) held
@@ -543,7 +441,7 @@ module _ {C : Type 0} {N : ℕ} where
         each_stands (whole new old.objects) seat None waits_not (stands_nowhere (whole new old.objects) seat elsewhere (moves_alone old.lock new seat step moves was.alone))
         (λ other ne. stands_on old (whole new old.objects) other (moves_rests old.lock new seat step other ne moves) refl refl (moves_make old.lock new seat step moves) (wait_in old.objects.waits other) (lawful.stands other));
     events = lawful.events;
-    objects_lawful = led_more lawful.events old.objects old.lock.env.notes new.env.notes (moves_make old.lock new seat step moves) lawful.objects_lawful;
+    objects_lawful = led_more lawful.events (objects_state old.objects) old.lock.env.notes new.env.notes (moves_make old.lock new seat step moves) lawful.objects_lawful;
   }
 
   -- on counters and once cells
@@ -552,50 +450,8 @@ module _ {C : Type 0} {N : ℕ} where
     abbrev notes_meet : Meets lawful.lock.events old.lock.env
     notes_meet = lawful.lock.env_lawful.lawful.meets
 
-    note_low : (note : ℕ) → (old.lock.env.notes note).made ≡ true → note < 64
-    note_low note made = made_below lawful.lock.events note notes_meet.legal (sym (ap (λ (notes : ℕ → NoteStanding). (notes note).made) notes_meet.notes) ∙ made)
-
-    abbrev Fits : ObjectWalk → Type 0
-    Fits walk = WalkFits old.objects.setup (objects_after old.objects.setup lawful.events) old.lock.env.notes seat walk
-
-    word_fits : (walk : ObjectWalk) (act : ObjectAct) → Fits walk → object_want walk ≡ OnWord act → WantFits old.lock.env.next (OnWord act)
-    word_fits walk act fits is = want_below old.objects.setup (objects_after old.objects.setup lawful.events) old.lock.env.notes seat walk act lawful.objects_lawful.lawful.room.0 lawful.objects_lawful.lawful.room.1 fits is
-
-    want_fits : (walk : ObjectWalk) → Fits walk → WantFits old.lock.env.next (object_want walk)
-    want_fits (AddLoad counter delta) fits = word_fits (AddLoad counter delta) _ fits refl
-    want_fits (AddExchange counter delta seen value) fits = word_fits (AddExchange counter delta seen value) _ fits refl
-    want_fits (ValueLoad counter) fits = word_fits (ValueLoad counter) _ fits refl
-    want_fits (WaitMark counter deadline) fits = word_fits (WaitMark counter deadline) _ fits refl
-    want_fits (WaitLoad counter deadline) fits = word_fits (WaitLoad counter deadline) _ fits refl
-    want_fits (WaitClock counter moment value) fits = (tt, tt)
-    want_fits (OnceLoad once) fits = word_fits (OnceLoad once) _ fits refl
-    want_fits (OnceBegin once) fits = word_fits (OnceBegin once) _ fits refl
-    want_fits (OnceEnd once) fits = word_fits (OnceEnd once) _ fits refl
-    want_fits (DoneLoad once) fits = word_fits (DoneLoad once) _ fits refl
-    want_fits (InRound round FirstClock) fits = (tt, tt)
-    want_fits (InRound round (AtNote at clock asked note)) fits = (tt, note_low note fits.1.1)
-    want_fits (InRound round (AtCounter at clock counter)) fits = word_fits (InRound round (AtCounter at clock counter)) _ fits refl
-
-    bounds : (walk : ObjectWalk) → WalkFits old.objects.setup (objects_after old.objects.setup lawful.events) old.lock.env.notes seat walk → IsInBounds walk
-    bounds (InRound round FirstClock) fits = tt
-    bounds (InRound round (AtNote at clock asked note)) fits = in_list round.items at (OnNote asked) fits.0.0 fits.1.0
-    bounds (InRound round (AtCounter at clock counter)) fits = in_list round.items at (OnCounter counter) fits.0.0 fits.1
-    bounds (AddLoad counter delta) fits = tt
-    bounds (AddExchange counter delta seen value) fits = tt
-    bounds (ValueLoad counter) fits = tt
-    bounds (WaitMark counter deadline) fits = tt
-    bounds (WaitLoad counter deadline) fits = tt
-    bounds (WaitClock counter moment value) fits = tt
-    bounds (OnceLoad once) fits = tt
-    bounds (OnceBegin once) fits = tt
-    bounds (OnceEnd once) fits = tt
-    bounds (DoneLoad once) fits = tt
-
-    fits_here : Fits walk
-    fits_here = lawful.objects_lawful.each seat walk walks
-
     pub may_operate : StepFits old.lock.env.next walk
-    may_operate = (want_fits walk fits_here, bounds walk fits_here)
+    may_operate = may_step lawful.events (objects_state old.objects) old.lock.env lawful.lock.events notes_meet lawful.objects_lawful seat walk walks
 
     pub stands_low : seat < 64
     stands_low = let all = lawful.places in let low = stands_within old.objects.walks seat walk walks in omega (arith, all, low)
@@ -647,7 +503,7 @@ module _ {C : Type 0} {N : ℕ} where
 
     pub whole_operated : (new : Objects) (step : Step) → is_for_lock (wait_in old.objects.waits seat) walk step ≡ false → HasOperated old.lock.env seat walk old.objects new step → IsLawfulWhole (whole old.lock new)
     whole_operated new step not_for_lock p =
-        let kept = (operates_keeps old.objects old.lock.env lawful.lock.events notes_meet lawful.events lawful.objects_lawful seat walk walks p.found p.words p.events p.effect).0 in
+        let kept = (operates_keeps (objects_state old.objects) old.lock.env lawful.lock.events notes_meet lawful.events lawful.objects_lawful seat walk walks p.found p.words p.events p.effect).0 in
         subst (λ (o : Objects). IsLawfulWhole (whole old.lock o)) (sym p.becomes) (record {
           lock = lawful.lock;
           seats = lawful.seats;

@@ -4,7 +4,7 @@ use Rattle.ns_world.specs.Names.{Any, AnyWait, AreVariables, Cause, Cvs, Every, 
 use Rattle.ns_word.specs.declared.wait.Wait.{Wait}
 use Rattle.ns_world.specs.Begins.{placed}
 use Rattle.ns_world.specs.Calls.{mode_of, mode_waited}
-use Rattle.ns_world.specs.Items.{AreAmong, IsLow, have_variable, items_of, place_in}
+use Rattle.ns_world.specs.Names.{AreAmong, IsLow, have_variable, items_of, place_in}
 use Rattle.ns_world.specs.Looked.{Sees}
 use Rattle.ns_world.specs.Looks.{is_for_any, looks_at}
 use Rattle.ns_world.specs.Objects.{stood_at}

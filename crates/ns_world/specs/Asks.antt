@@ -1,6 +1,6 @@
 -- The clock and the notes of a world, and one step on them.
 use Rattle.std.specs.Prelude.{◌≡◌, ℕ, List, Option, get_or}
-use Rattle.ns_world.specs.Names.{EnvAct, EnvEffect, EnvFound, EnvNext, EnvPlain, EnvState, EnvWalk, Environment, Finished, Go, Idle, LoadClock, LoadNote, LookOver, NoteStanding, NoteWord, Seat, Step, Went, env_got_of, env_walk_after, env_want_of, no_note, outcome}
+use Rattle.ns_world.specs.Names.{EnvEffect, EnvFound, EnvNext, EnvPlain, EnvState, EnvWalk, Environment, Finished, Go, Idle, LookOver, NoteStanding, NoteWord, Seat, Step, Went, env_got_of, env_walk_after, env_want_of, no_note, outcome}
 use Rattle.ns_world.specs.Names.{standing_of, state_of}
 use Rattle.ns_env.specs.declared.walk.EnvNext.TheVariants.{Repeat, Over}
 use Rattle.ns_world.specs.Replies.{env_told}
@@ -30,9 +30,3 @@ pub record Asked {C : Type 0} {N : ℕ} (old new : EnvPlain) (seat : Seat C N) (
   pub effect : EnvEffect seat.number (env_want_of walk) old found new (outcome seat.number (env_want_of walk) old).events
   pub goes : seat' ≡ record seat { asking = env_walk_after (env_got_of walk found) }
   pub answers : step ≡ env_step_of (env_got_of walk found)
-
--- the act is a load of the clock or of a note
-abbrev pub IsLoad : EnvAct → Type 0
-IsLoad LoadClock = Unit {0}
-IsLoad (LoadNote note) = Unit {0}
-IsLoad act = ⊥

@@ -2,14 +2,14 @@
 use Rattle.std.specs.Prelude.{◌≡◌, ℕ, zero, suc, ◌<◌, ◌⊎◌, true, List, ◌++◌, Option, None, Some, slice_get}
 use Rattle.std.proofs.Common.{inl, inr, []}
 use Rattle.ns_world.specs.Names.{Add, AddLoad, Advance, Any, Asked, AtSomePoint, Broadcast, Broadcasting, Call, Cause, CounterWait, Course, CvWait, Cvs, Done, DoneLoad, EnvCourse, EnvEvent, EnvMeans, EnvReply, EnvRequest, Expiry, Finished, FirstClock, Get, Held}
-use Rattle.ns_world.specs.Names.{InRound, IsLater, IsNotified, Limits, Lock, Means, Mode, NewNote, NoteWait, Notify, Number, ObjectEvent, ObjectWalk, OfLock, OfNotes, OfObjects, OnCondition, OnVariable, OnVariables, Once, OnceLoad, Only, Past, QuietWriter, RLock}
+use Rattle.ns_world.specs.Names.{InRound, IsLater, IsNotified, Limits, Lock, Means, Mode, NewNote, NoteWait, Notify, Number, ObjectEvent, ObjectReply, ObjectWalk, OfLock, OfNotes, OfObjects, OnCondition, OnVariable, OnVariables, Once, OnceLoad, Only, Past, QuietWriter, RLock}
 use Rattle.ns_world.specs.Names.{RUnlock, Read, Reader, Reply, Request, Round, RoundShows, SeatView, Set, Setup, Shows, Signal, Signaling, Started, Step, Subject, TryLock, TryRLock, Unlock, UnlockQuiet, Value, ValueLoad, Wait, WaitAny, WaitMark, WalkReply, WokenBy}
 use Rattle.ns_world.specs.Names.{Write, Writer, env_own, objects_own, own, row_after}
 use Rattle.ns_world.specs.Calls.{mode_of, mode_waited}
 use Rattle.ns_world.specs.Among.{waits_for_any}
-use Rattle.ns_world.specs.Items.{AreAmong, is_among, item_at, items_of}
-use Rattle.ns_world.specs.ObjectMeanings.{AnyAnswers, IsReady, ObjectMeans, past_and}
-use Rattle.ns_world.specs.Replies.{told, env_told}
+use Rattle.ns_world.specs.Names.{AreAmong, is_among, item_at, items_of}
+use Rattle.ns_world.specs.Names.{AnyAnswers, IsReady, ObjectMeans, past_and}
+use Rattle.ns_world.specs.Replies.{told, env_told, object_told}
 use Rattle.ns_world.specs.Whole.{Whole, HaveLedTo, IsLawfulWhole, WholeBegins, WholeStep, notes_by, objects_by}
 use Rattle.ns_world.specs.World.{Now, LedTo}
 use Rattle.ns_env.specs.declared.request.EnvRequest.TheVariants as TheEnvRequest
@@ -98,7 +98,9 @@ pub record AnswersOfNotes {C : Type 0} {N : ℕ} (before : Now C N) (earlier : L
 pub record AnswersOfObjects {C : Type 0} {N : ℕ} (before : Now C N) (earlier : Past) (setup : Setup) (seat : ℕ) (asked : ObjectWalk) (reply : Reply) (after : Now C N) (later : Past) : Type 0 where
   pub events : List ObjectEvent
   pub added : objects_own later.objects seat ≡ objects_own earlier.objects seat ++ events
-  pub means : ObjectMeans setup earlier later seat asked events reply
+  pub answer : ObjectReply
+  pub tells : reply ≡ object_told answer
+  pub means : ObjectMeans setup earlier later seat asked events answer
   pub still : env_own later.notes seat ≡ env_own earlier.notes seat
   pub same : held_at after seat ≡ held_at before seat
   pub silent : own after.history seat ≡ own before.history seat

@@ -1,18 +1,40 @@
 -- The names of crates below and of this crate's own types, passed on from one place. Declares nothing.
+pub use Rattle.ns_counters.specs.Asks.{AreThere, IsLawfulObjects, IsLoad, ObjectEffect, ObjectState, RoundFits, StepFits, WalkFits, WantFits, is_there, walk_in, word_left}
+pub use Rattle.ns_counters.specs.Items.{AreAmong, IsLow, have_variable, is_among, is_this, is_variable, item_at, items_of, place_in}
 pub use Rattle.ns_counters.specs.Lawful.{IsLawful, ViewFits}
 pub use Rattle.ns_counters.specs.Made.{first_words, padded, setup_of}
+pub use Rattle.ns_counters.specs.Meanings.{AnyAnswers, AtSomeMoment, HadValue, HasLookedUpTo, IsReady, ObjectGoes, ObjectMeans, ObjectSoFar, RoundSoFar, WereThere, object_asked, past_and}
 pub use Rattle.ns_counters.specs.Objects.{ObjectStanding, first_objects, object_next, object_who, objects_after, objects_own}
+pub use Rattle.ns_counters.specs.RoundWalks.{IsInList, by_chain, chain_from, from_items, from_place, round_got, round_want}
 pub use Rattle.ns_counters.specs.Rounds.{AnswersByRounds, HasShownNone, HaveShownNothing, InTurn, IsLater, Past, RoundShows}
 pub use Rattle.ns_counters.specs.Steps.{CanAct, Outcome, tried, word_at, word_of_once}
+pub use Rattle.ns_counters.specs.Walks.{IsInBounds, by_answer, by_begun, by_deadline, by_judging, by_round, by_stage, has_run, object_after, object_got, object_place, object_want, waited_next}
 pub use Rattle.ns_counters.specs.Words.{counter_of, counter_word, stage, stage_of}
 pub use Rattle.ns_counters.specs.declared.act.ObjectAct.{ObjectAct}
 pub use Rattle.ns_counters.specs.declared.act.ObjectAct.TheVariants.{BeginOnce, EndOnce, ExchangeToAdd, LoadToAdd, LookCounter, LookOnce, MarkWait}
+pub use Rattle.ns_counters.specs.declared.items.Item.{Item}
+pub use Rattle.ns_counters.specs.declared.items.Item.TheVariants.{OnCounter, OnCounter as OnCounterItem, OnNote, OnVariable}
+pub use Rattle.ns_counters.specs.declared.items.Items.{Items}
 pub use Rattle.ns_counters.specs.declared.object.ObjectEvent.{ObjectEvent}
 pub use Rattle.ns_counters.specs.declared.object.ObjectEvent.TheVariants.{OnOnce}
 pub use Rattle.ns_counters.specs.declared.object.ObjectView.{ObjectView}
 pub use Rattle.ns_counters.specs.declared.object.Place.{Place}
 pub use Rattle.ns_counters.specs.declared.object.Place.TheVariants.{Adding, Free, Running}
 pub use Rattle.ns_counters.specs.declared.object.Setup.{Setup}
+pub use Rattle.ns_counters.specs.declared.reply.ObjectReply.{ObjectReply}
+pub use Rattle.ns_counters.specs.declared.round.ObjectFound.{ObjectFound}
+pub use Rattle.ns_counters.specs.declared.round.ObjectFound.TheVariants.{Env}
+pub use Rattle.ns_counters.specs.declared.round.ObjectWant.{ObjectWant}
+pub use Rattle.ns_counters.specs.declared.round.ObjectWant.TheVariants.{OnEnv, OnWord}
+pub use Rattle.ns_counters.specs.declared.round.Round.{Round}
+pub use Rattle.ns_counters.specs.declared.round.RoundNext.{RoundNext}
+pub use Rattle.ns_counters.specs.declared.round.RoundNext.TheVariants.{RoundGo, RoundOver}
+pub use Rattle.ns_counters.specs.declared.round.RoundPlace.{RoundPlace}
+pub use Rattle.ns_counters.specs.declared.round.RoundPlace.TheVariants.{AtCounter, AtNote, FirstClock}
+pub use Rattle.ns_counters.specs.declared.walk.ObjectNext.{ObjectNext}
+pub use Rattle.ns_counters.specs.declared.walk.ObjectNext.TheVariants.{Over, Repeat}
+pub use Rattle.ns_counters.specs.declared.walk.ObjectWalk.{ObjectWalk}
+pub use Rattle.ns_counters.specs.declared.walk.ObjectWalk.TheVariants.{AddExchange, AddLoad, DoneLoad, InRound, OnceBegin, OnceEnd, OnceLoad, ValueLoad, WaitClock, WaitLoad, WaitMark}
 pub use Rattle.ns_counters.specs.declared.word.Stage.{Stage}
 pub use Rattle.ns_env.specs.Asks.{EnvActFits, EnvBegins, EnvEffect, EnvState, EnvStep, IfMade, IsFirstAsk, IsLawfulEnv}
 pub use Rattle.ns_env.specs.Chains.{ChainFits}
@@ -77,8 +99,7 @@ pub use Rattle.ns_word.specs.Places.{ActFits, AreVariables, CanLeave, CanWait, C
 pub use Rattle.ns_word.specs.Steps.{Effect, LockState, MayShow, Part, Step as Steps, change_commits, changed, exit_for, held_after, in_hand, leave_of, meets_at, moved_to, part_of, section_of, taken_by, waited_in}
 pub use Rattle.ns_word.specs.Told.{AreBy}
 pub use Rattle.ns_word.specs.Views.{AreNumbered, owed_to, walk_at}
-pub use Rattle.ns_word.specs.Walks.{got_of, has_armed, has_queues, judge_of, quiet_first, wait_first, walk_after, want_acquiring, want_in_cells, want_leaving, want_of, want_releasing}
-pub use Rattle.ns_word.specs.Walks.{want_showing, want_signaling, want_trying}
+pub use Rattle.ns_word.specs.Walks.{got_of, has_armed, has_queues, judge_of, quiet_first, wait_first, walk_after, want_acquiring, want_in_cells, want_leaving, want_of, want_releasing, want_showing, want_signaling, want_trying}
 pub use Rattle.ns_word.specs.Words.{is_held, releasing_of, word_released, word_released_returning, word_returned}
 pub use Rattle.ns_word.specs.declared.acquire_walk.AcquirePlace.TheVariants.{AcquireLoad}
 pub use Rattle.ns_word.specs.declared.act.Act.{Act}
@@ -130,26 +151,10 @@ pub use Rattle.ns_world.specs.declared.call.Start.TheVariants.{Ask, OnLock, OnOb
 pub use Rattle.ns_world.specs.declared.environment.Environment.{Environment}
 pub use Rattle.ns_world.specs.declared.fault.Fault.{Fault}
 pub use Rattle.ns_world.specs.declared.fault.Fault.TheVariants.{NoSuchSeat, OutOfMemory, StepLimit, TooManySeats}
-pub use Rattle.ns_world.specs.declared.items.Item.{Item}
-pub use Rattle.ns_world.specs.declared.items.Item.TheVariants.{OnCounter, OnCounter as OnCounterItem, OnNote, OnVariable}
-pub use Rattle.ns_world.specs.declared.items.Items.{Items}
-pub use Rattle.ns_world.specs.declared.object_walk.ObjectNext.{ObjectNext}
-pub use Rattle.ns_world.specs.declared.object_walk.ObjectNext.TheVariants.{Over, Repeat}
-pub use Rattle.ns_world.specs.declared.object_walk.ObjectWalk.{ObjectWalk}
-pub use Rattle.ns_world.specs.declared.object_walk.ObjectWalk.TheVariants.{AddExchange, AddLoad, DoneLoad, InRound, OnceBegin, OnceEnd, OnceLoad, ValueLoad, WaitClock, WaitLoad, WaitMark}
 pub use Rattle.ns_world.specs.declared.objects.AnyWait.{AnyWait}
 pub use Rattle.ns_world.specs.declared.objects.Objects.{Objects}
 pub use Rattle.ns_world.specs.declared.reply.Reply.{Reply}
 pub use Rattle.ns_world.specs.declared.reply.Reply.TheVariants.{Already, Answered, Is, Noisy, NotesFull, Number, Ran, Refused, Succeeded}
-pub use Rattle.ns_world.specs.declared.round.ObjectFound.{ObjectFound}
-pub use Rattle.ns_world.specs.declared.round.ObjectFound.TheVariants.{Env}
-pub use Rattle.ns_world.specs.declared.round.ObjectWant.{ObjectWant}
-pub use Rattle.ns_world.specs.declared.round.ObjectWant.TheVariants.{OnEnv, OnWord}
-pub use Rattle.ns_world.specs.declared.round.Round.{Round}
-pub use Rattle.ns_world.specs.declared.round.RoundNext.{RoundNext}
-pub use Rattle.ns_world.specs.declared.round.RoundNext.TheVariants.{RoundGo, RoundOver}
-pub use Rattle.ns_world.specs.declared.round.RoundPlace.{RoundPlace}
-pub use Rattle.ns_world.specs.declared.round.RoundPlace.TheVariants.{AtCounter, AtNote, FirstClock}
 pub use Rattle.ns_world.specs.declared.schedule.Line.{Line}
 pub use Rattle.ns_world.specs.declared.schedule.Turn.{Turn}
 pub use Rattle.ns_world.specs.declared.seat.Seat.{Seat}

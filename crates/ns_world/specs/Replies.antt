@@ -1,8 +1,9 @@
 -- What a call of a world answers, by what its walk does.
 use Rattle.std.specs.Prelude.{Some, None}
-use Rattle.ns_world.specs.Names.{Answered, EnvReply, Is, Noisy, NotesFull, Number, Reply, Succeeded, WalkReply}
+use Rattle.ns_world.specs.Names.{Already, Answered, EnvReply, Is, Noisy, NotesFull, Number, ObjectReply, Ran, Refused, Reply, Succeeded, WalkReply}
 use Rattle.ns_world.specs.declared.reply.Reply.TheVariants.{Busy, Expiry}
 use Rattle.ns_env.specs.declared.reply.EnvReply.TheVariants as TheEnv
+use Rattle.ns_counters.specs.declared.reply.ObjectReply.TheVariants as TheObject
 use Rattle.ns_word.specs.declared.walk.Reply.TheVariants as TheWalk
 
 -- What a walk on the lock answers, as the answer of its call. A wait for any of a set of variables is a part of a call, to which it answers the number of the variable that has woken it, or that it is done where none has.
@@ -23,3 +24,11 @@ env_told (TheEnv.Number note) = Number note
 env_told TheEnv.NotesFull = NotesFull
 env_told (TheEnv.Is answer) = Is answer
 env_told (TheEnv.Expiry moment) = Expiry moment
+
+-- and what one on counters and once cells answers
+abbrev pub object_told : ObjectReply → Reply
+object_told (TheObject.Number number) = Number number
+object_told (TheObject.Refused fault) = Refused fault
+object_told (TheObject.Is answer) = Is answer
+object_told TheObject.Ran = Ran
+object_told TheObject.Already = Already

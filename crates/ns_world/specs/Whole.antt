@@ -6,9 +6,10 @@ use Rattle.ns_world.specs.Names.{Seat, SeatView, Started, Step, StepLimit, TooMa
 use Rattle.ns_world.specs.Among.{asks_for_any, cause_of, is_for_lock, shown_by, step_told, waited_after, waits_for_any}
 use Rattle.ns_world.specs.Begins.{Starts, Misuses, begun_at}
 use Rattle.ns_world.specs.Calls.{mode_of, mode_waited, object_start}
-use Rattle.ns_world.specs.Items.{AreAmong, have_variable, items_of}
+use Rattle.ns_world.specs.Names.{AreAmong, have_variable, items_of}
 use Rattle.ns_world.specs.Looks.{looks_at}
-use Rattle.ns_world.specs.Objects.{AreLedTo, AreThere, HasOperated, fresh_objects, objects_begun, stood_at, wait_in, walk_in}
+use Rattle.ns_world.specs.Objects.{AreLedTo, HasOperated, fresh_objects, objects_begun, stood_at, wait_in}
+use Rattle.ns_world.specs.Names.{AreThere, walk_in}
 use Rattle.ns_world.specs.World.{Now, Kept, kept, now_of, fresh, Acts, IsLawfulWorld, IsIdle, IsBusy, Moves, CommitsNext, env_done, is_busy}
 use Rattle.ns_word.specs.declared.request.Request.TheVariants as TheRequest
 

@@ -4,16 +4,16 @@ ghost use Rattle.std.specs.Prelude.{◌≡◌, ◌≤◌, ⊤, MatchOption, Some
 ghost use Rattle.ns_world.specs.Asks.{note_at};
 ghost use Rattle.ns_word.specs.Walks.{wait_first};
 ghost use Rattle.ns_world.specs.Calls.{finds, mode_waited, object_start, start_of, CallFits, CallInRange, NamesAll, SectionFits};
-ghost use Rattle.ns_world.specs.Items.{items_of};
-ghost use Rattle.ns_world.specs.Objects.{is_there as is_there_in};
+ghost use Rattle.ns_counters.specs.Items.{items_of};
+ghost use Rattle.ns_counters.specs.Asks.{is_there as is_there_in};
 ghost use Rattle.ns_counters.specs.declared.object.Setup.{Setup as SetupOf};
 ghost use Rattle.std.specs.List.{list_all};
 
 use crate::environment::{is_made, is_made_or_none};
-use crate::items::{Item, Items};
-use crate::object_walk::ObjectWalk;
-use crate::round::{Round, RoundPlace};
+use ns_counters::items::{Item, Items};
 use ns_counters::object::Setup;
+use ns_counters::round::{Round, RoundPlace};
+use ns_counters::walk::ObjectWalk;
 use ns_env::limits::Limits;
 use ns_env::note::NoteWord;
 use ns_env::request::EnvRequest;

@@ -8,7 +8,7 @@ ghost use Rattle.ns_world.specs.declared.step.Step.{Step};
 ghost use Rattle.ns_world.specs.declared.step.Step.TheVariants.{Finished};
 ghost use Rattle.ns_world.specs.Meanings.{AnswersCall, HasLedTo, Meanwhile, done_in, happened};
 ghost use Rattle.ns_counters.specs.Rounds.{Past};
-ghost use Rattle.ns_world.specs.ObjectMeanings.{past_and};
+ghost use Rattle.ns_counters.specs.Meanings.{past_and};
 ghost use Rattle.ns_world.specs.Whole.{Whole, AreObjectsBy, IsLawfulWhole, WholeBegins, WholeStep};
 ghost use Rattle.ns_world.specs.World.{AreEnvBy};
 

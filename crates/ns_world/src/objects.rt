@@ -2,19 +2,16 @@
 
 ghost use Rattle.std.specs.Prelude.{◌≡◌, ◌<◌, ◌≤◌, length, slice_index, slice_set};
 ghost use Rattle.ns_counters.specs.Steps.{word_at};
-ghost use Rattle.ns_world.specs.Objects.{fresh_objects, object_step_of, put_at, stood_at, wait_in, walk_in, word_left};
-ghost use Rattle.ns_world.specs.ObjectWalks.{object_after};
+ghost use Rattle.ns_world.specs.Objects.{fresh_objects, object_step_of, put_at, stood_at, wait_in};
+ghost use Rattle.ns_counters.specs.Asks.{walk_in, word_left};
+ghost use Rattle.ns_counters.specs.Walks.{object_after};
 
-use crate::items::{Item, Items};
-use crate::object_walk::{ObjectNext, ObjectWalk};
-use crate::reply::Reply;
-use crate::round::Round;
+use crate::reply::object_told;
 use crate::step::Step;
 use ns_counters::act::ObjectAct;
-use ns_counters::made::MOST;
 use ns_counters::object::Setup;
-use ns_counters::word::{WAITED, encode_counter};
-use ns_model::counter::CounterState;
+use ns_counters::round::Round;
+use ns_counters::walk::{ObjectNext, ObjectWalk};
 
 /// A wait for condition variables among notes and counters whose first round has found nothing: on the lock it
 /// waits for the variables, and whenever it looks, it looks at the others by a round.
@@ -42,36 +39,6 @@ pub(crate) struct Objects {
     pub(crate) waits: [Option<AnyWait>; 64],
 }
 
-/// The word that a step is on.
-fn word_at(act: ObjectAct) -> usize
-    ensures { result ≡ word_at act }
-{
-    match act {
-        ObjectAct::LookCounter { counter } => counter as usize,
-        ObjectAct::LoadToAdd { counter, .. } => counter as usize,
-        ObjectAct::ExchangeToAdd { counter, .. } => counter as usize,
-        ObjectAct::MarkWait { counter } => counter as usize,
-        ObjectAct::LookOnce { once } => MOST + once as usize,
-        ObjectAct::BeginOnce { once } => MOST + once as usize,
-        ObjectAct::EndOnce { once } => MOST + once as usize,
-    }
-}
-
-/// What a step leaves of the word that it finds.
-fn word_left(act: ObjectAct, found: u64) -> u64
-    ensures { result ≡ word_left act found }
-{
-    match act {
-        ObjectAct::ExchangeToAdd { seen, value, .. } if found == encode_counter(seen) => {
-            encode_counter(CounterState { value, ..seen })
-        }
-        ObjectAct::MarkWait { .. } => found | WAITED,
-        ObjectAct::BeginOnce { .. } if found == 0 => 1,
-        ObjectAct::EndOnce { .. } => 2,
-        _ => found,
-    }
-}
-
 /// What a step was, by where it leads.
 pub(crate) fn step_of(next: ObjectNext) -> Step
     ensures { result ≡ object_step_of next }
@@ -79,7 +46,7 @@ pub(crate) fn step_of(next: ObjectNext) -> Step
     match next {
         ObjectNext::Go(_) => Step::Went,
         ObjectNext::Repeat(_) => Step::Idle,
-        ObjectNext::Over(reply) => Step::Finished(reply),
+        ObjectNext::Over(reply) => Step::Finished(object_told(reply)),
     }
 }
 
@@ -154,9 +121,9 @@ impl Objects {
         ensures found { result ≡ slice_index self.old.words (word_at act) }
         ensures left { self.new ≡ record self.old { words = slice_set self.old.words (word_at act) (word_left act result) } }
     {
-        let at = word_at(act);
+        let at = act.word_at();
         let found = self.words[at];
-        self.words[at] = word_left(act, found);
+        self.words[at] = act.word_left(found);
         found
     }
 }

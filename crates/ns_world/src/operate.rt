@@ -3,15 +3,16 @@
 ghost use Rattle.std.specs.Prelude.{◌≡◌, ◌||◌, ◌<◌, ℕ, List, is_some, length};
 ghost use Rattle.ns_model.specs.Seats.{is_in};
 ghost use Rattle.ns_world.specs.Asks.{plain_of};
-ghost use Rattle.ns_world.specs.Objects.{HasOperated, ObjectEffect, StepFits, WantFits, objects_begun, walk_in};
+ghost use Rattle.ns_world.specs.Objects.{HasOperated, objects_begun};
+ghost use Rattle.ns_counters.specs.Asks.{ObjectEffect, StepFits, WantFits, walk_in};
 ghost use Rattle.ns_counters.specs.declared.object.ObjectEvent.{ObjectEvent};
 ghost use Rattle.ns_counters.specs.declared.object.Place.{Place};
 
 use crate::environment::Environment;
-use crate::object_walk::ObjectWalk;
 use crate::objects::{Objects, step_of, walk_after};
-use crate::round::{ObjectFound, ObjectWant};
 use crate::step::Step;
+use ns_counters::round::{ObjectFound, ObjectWant};
+use ns_counters::walk::ObjectWalk;
 use ns_model::seats::Seats;
 
 /// Puts the seat at the first place of its call, if it is one on counters and once cells.

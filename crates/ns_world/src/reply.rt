@@ -1,8 +1,9 @@
 //! What the calls of a world answer.
 
 ghost use Rattle.std.specs.Prelude.{◌≡◌};
-ghost use Rattle.ns_world.specs.Replies.{env_told, told};
+ghost use Rattle.ns_world.specs.Replies.{env_told, object_told, told};
 
+use ns_counters::reply::ObjectReply;
 use ns_env::reply::EnvReply;
 use ns_model::counter::CounterFault;
 use ns_model::event::Answer;
@@ -68,5 +69,18 @@ pub(crate) fn env_told(reply: EnvReply) -> Reply
         EnvReply::NotesFull => Reply::NotesFull,
         EnvReply::Is(answer) => Reply::Is(answer),
         EnvReply::Expiry(moment) => Reply::Expiry(moment),
+    }
+}
+
+/// What a walk on counters and once cells answers, likewise.
+pub(crate) fn object_told(reply: ObjectReply) -> Reply
+    ensures { result ≡ object_told reply }
+{
+    match reply {
+        ObjectReply::Number(number) => Reply::Number(number),
+        ObjectReply::Refused(fault) => Reply::Refused(fault),
+        ObjectReply::Is(answer) => Reply::Is(answer),
+        ObjectReply::Ran => Reply::Ran,
+        ObjectReply::Already => Reply::Already,
     }
 }

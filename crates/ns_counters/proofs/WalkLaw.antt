@@ -1,41 +1,28 @@
 -- A step of a call on counters and once cells keeps their law, and leaves each seat where it may stand.
-use Rattle.std.specs.Prelude.{nat_lt}
-use Rattle.std.specs.List.{list_all}
 use Rattle.std.proofs.Common.{◌≡◌, ◌≢◌, ℕ, zero, suc, ◌<◌, ◌≤◌, ◌%◌, ◌^◌, ℤ, Bool, true, false, cond, ◌&&◌, eqb, List, [], ◌∷◌, ◌++◌, Option, None, Some, take, drop, slice_get, slice_set, slice_index, Result, Ok, Err, refl, ap, sym, ◌∙◌, subst, arith, inl, inr}
 use Rattle.std.proofs.Common.{append-nil}
 use Rattle.std.proofs.lemmas.Bool.{cases_eq, ltb-true}
-use Rattle.ns_world.specs.Prelude.{AddExchange, AddLoad, AreLedTo, AreThere, AtCounter, AtNote, Began, BeginOnce, CanAct, Clock, CounterFault, CounterState, DoneLoad, EndOnce, Env, EnvEvent, EnvFound, EnvNext, EnvPlain, Every, ExchangeToAdd, FirstClock, ForIsNotified}
-use Rattle.ns_world.specs.Prelude.{Free, InRound, Item, Items, LoadToAdd, LookCounter, LookOnce, MarkWait, Meets, Note, NoteLoad, NoteStanding, NoteWord, Number, ObjectAct, ObjectEffect, ObjectEvent, ObjectFound, ObjectNext, ObjectStanding, ObjectView, ObjectWalk}
-use Rattle.ns_world.specs.Prelude.{ObjectWant, Objects, OnCounter, OnEnv, OnNote, OnVariable, OnWord, OnceBegin, OnceEnd, OnceLoad, Outcome, Over, Place, Repeat, Round, RoundFits, RoundGo, RoundNext, RoundOver, Running, Setup, Stage, ValueLoad, ViewFits, WaitClock}
-use Rattle.ns_world.specs.Prelude.{WaitLoad, WaitMark, WalkFits, by_answer, by_begun, by_chain, by_deadline, by_judging, by_round, by_stage, chain_from, counter_of, counter_word, env_got_of, from_items, from_place, is_there, item_at, items_of, judged, most}
-use Rattle.ns_world.specs.Prelude.{object_after, object_got, object_place, object_want, object_who, objects_after, objects_own, round_got, stage_of, standing_of, state_of, tried, waited_next, walk_in, word_at, word_left}
-use Rattle.ns_model.specs.declared.counter.CounterEvent.TheVariants.{Add}
-use Rattle.ns_counters.specs.Lawful.{PlaceFits}
-use Rattle.ns_counters.specs.Steps.{outcome}
-use Rattle.ns_counters.proofs.Acts.{acted_lawful, acted_fits, others_fit}
+use Rattle.std.specs.List.{list_all}
+use Rattle.std.specs.Prelude.{nat_lt}
+use Rattle.ns_counters.specs.Prelude.{Add, AddExchange, AddLoad, AreThere, AtCounter, AtNote, Began, BeginOnce, CanAct, Clock, CounterFault, CounterState, DoneLoad, EndOnce, Env, EnvEvent, EnvFound, EnvNext, EnvPlain, Every, ExchangeToAdd, FirstClock, ForIsNotified}
+use Rattle.ns_counters.specs.Prelude.{Free, InRound, Is, IsLawfulObjects, Item, Items, LoadToAdd, LookCounter, LookOnce, MarkWait, Meets, Note, NoteLoad, NoteStanding, NoteWord, Number, ObjectAct, ObjectEffect, ObjectEvent, ObjectFound, ObjectNext, ObjectStanding}
+use Rattle.ns_counters.specs.Prelude.{ObjectState, ObjectView, ObjectWalk, ObjectWant, OnEnv, OnNote, OnVariable, OnWord, OnceBegin, OnceEnd, OnceLoad, Outcome, Place, PlaceFits, Repeat, Round, RoundFits, RoundGo, RoundNext, RoundOver, Running, Setup, Stage, ValueLoad}
+use Rattle.ns_counters.specs.Prelude.{ViewFits, WaitClock, WaitLoad, WaitMark, WalkFits, Word, by_answer, by_begun, by_chain, by_deadline, by_judging, by_round, by_stage, chain_from, counter_of, counter_word, env_got_of, from_items, from_place, is_there, item_at}
+use Rattle.ns_counters.specs.Prelude.{items_of, judged, most, object_after, object_got, object_place, object_want, object_who, objects_after, objects_own, outcome, round_got, stage_of, standing_of, state_of, tried, waited_next, walk_in, word_at, word_left}
+use Rattle.ns_counters.proofs.Acts.{acted_fits, acted_lawful, others_fit}
 use Rattle.ns_counters.proofs.Keeps.{step_keeps}
-use Rattle.ns_model.proofs.Beginnings.{begins_itself}
-use Rattle.ns_env.specs.declared.reply.EnvReply.TheVariants.{Is}
+use Rattle.ns_counters.proofs.Listed.{first_of_all, listed, rest_of_all}
+use Rattle.ns_counters.proofs.Placed.{put_here, put_there, stands_within}
+use Rattle.ns_counters.specs.declared.items.Item.TheVariants.{OnCounter}
+use Rattle.ns_counters.specs.declared.walk.ObjectNext.TheVariants.{Go, Over}
 use Rattle.ns_env.proofs.Looks.{chain_up}
-use Rattle.ns_world.specs.declared.object_walk.ObjectNext.TheVariants.{Go}
-use Rattle.ns_world.specs.declared.round.ObjectFound.TheVariants.{Word}
-use Rattle.ns_world.proofs.Walks.{put_here, put_there, stands_within}
-use Rattle.ns_world.proofs.Listed.{listed}
+use Rattle.ns_model.proofs.Beginnings.{begins_itself}
 use Rattle.ns_counters.specs.declared.object.ObjectEvent.TheVariants as TheEvent
 use Rattle.ns_model.specs.declared.once.OnceState.TheVariants as TheOnce
 use Rattle.ns_counters.specs.declared.word.Stage.TheVariants as TheStage
 use Rattle.ns_env.specs.declared.walk.EnvNext.TheVariants as TheEnv
 
 -- ---- objects of a list
-
--- each object of a list that passes a test passes it
-pub first_of_all : (b c : Bool) → (b && c) ≡ true → b ≡ true
-first_of_all true c e = refl
-first_of_all false c e = absurd (cc)
-
-pub rest_of_all : (b c : Bool) → (b && c) ≡ true → c ≡ true
-rest_of_all true c e = e
-rest_of_all false c e = absurd (cc)
 
 passes : {A : Type 0} (p : A → Bool) (n at : ℕ) (xs : List A) (x : A) → list_all p (take n xs) ≡ true → at < n → slice_get xs at ≡ Some x → p x ≡ true
 passes p zero at xs x all low is = absurd (omega (arith, low))
@@ -340,7 +327,7 @@ goes_on setup now notes seat (Go place) walk fits is = let same : place ≡ walk
 goes_on setup now notes seat (Repeat place) walk fits is = let same : place ≡ walk = cc in subst (λ w. WalkFits setup now notes seat w) same fits
 goes_on setup now notes seat (Over reply) walk fits is = absurd (cc)
 
-module _ (objects : Objects) (env : EnvPlain) (happened : List EnvEvent) (meets : Meets happened env) (history : List ObjectEvent) (led : AreLedTo history objects env.notes) (seat : ℕ) (walk : ObjectWalk) (walks : walk_in objects.walks seat ≡ Some walk) where
+module _ (objects : ObjectState) (env : EnvPlain) (happened : List EnvEvent) (meets : Meets happened env) (history : List ObjectEvent) (led : IsLawfulObjects history objects env.notes) (seat : ℕ) (walk : ObjectWalk) (walks : walk_in objects.walks seat ≡ Some walk) where
   abbrev setup : Setup
   setup = objects.setup
 
@@ -357,7 +344,7 @@ module _ (objects : Objects) (env : EnvPlain) (happened : List EnvEvent) (meets 
   view_fits = record { made = refl; below = led.within seat walk walks; seen = begins_itself history; mine = refl; mine_seen = refl; place = placed_by setup standing env.notes seat walk fits }
 
   -- the objects after the step
-  abbrev after : List ℕ → ObjectNext → Objects
+  abbrev after : List ℕ → ObjectNext → ObjectState
   after words next = record objects { words = words; walks = slice_set objects.walks seat (object_after next) }
 
   -- each seat stands where it may, after a step that leads its seat there and leaves others where they were
@@ -403,7 +390,7 @@ module _ (objects : Objects) (env : EnvPlain) (happened : List EnvEvent) (meets 
         let knew : ViewFits setup history (view_at setup history other (Some w)) = record { made = refl; below = led.within other w at; seen = begins_itself history; mine = refl; mine_seen = refl; place = placed_by setup standing env.notes other w theirs } in
         stays_put setup standing later env.notes other w theirs (others_fit setup objects.words history led.lawful view view_fits act can (view_at setup history other (Some w)) ne knew).place
 
-    word_keeps : AreLedTo (history ++ made_by) (after (slice_set objects.words (word_at act) (outcome seat act view.place word).word) next) env.notes
+    word_keeps : IsLawfulObjects (history ++ made_by) (after (slice_set objects.words (word_at act) (outcome seat act view.place word).word) next) env.notes
     word_keeps = record {
       lawful = acted_lawful setup objects.words history led.lawful view view_fits act can;
       within = within_after (slice_set objects.words (word_at act) (outcome seat act view.place word).word) next;
@@ -414,15 +401,15 @@ module _ (objects : Objects) (env : EnvPlain) (happened : List EnvEvent) (meets 
     by_seat = (step_keeps setup standing objects.words seat led.lawful.room led.lawful.words_are act view.place view_fits.place can).by
 
   -- a load of the clock or of a note
-  env_keeps : (found : EnvFound) → NextFits setup standing env.notes seat (object_got walk (Env found)) → AreLedTo (history ++ []) (after objects.words (object_got walk (Env found))) env.notes
-  env_keeps found here = subst (λ h. AreLedTo h (after objects.words (object_got walk (Env found))) env.notes) (sym (append-nil history)) (record {
+  env_keeps : (found : EnvFound) → NextFits setup standing env.notes seat (object_got walk (Env found)) → IsLawfulObjects (history ++ []) (after objects.words (object_got walk (Env found))) env.notes
+  env_keeps found here = subst (λ h. IsLawfulObjects h (after objects.words (object_got walk (Env found))) env.notes) (sym (append-nil history)) (record {
     lawful = led.lawful;
     within = within_after objects.words (object_got walk (Env found));
     each = each_after standing objects.words (object_got walk (Env found)) here (λ other w ne at. led.each other w at);
   })
 
   abbrev Kept : ObjectFound → List ℕ → List ObjectEvent → Type 0
-  Kept found words events = AreLedTo (history ++ events) (after words (object_got walk found)) env.notes × Every (λ event. object_who event ≡ seat) events
+  Kept found words events = IsLawfulObjects (history ++ events) (after words (object_got walk found)) env.notes × Every (λ event. object_who event ≡ seat) events
 
   kept_by : (want : ObjectWant) → object_want walk ≡ want → (found : ObjectFound) (words : List ℕ) (events : List ObjectEvent) → ObjectEffect seat view.place want objects.words env found words events → ObjectEffect seat view.place (object_want walk) objects.words env found words events → Kept found words events
   kept_by (OnWord act) wants (Word w) words events effect same =

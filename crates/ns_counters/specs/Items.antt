@@ -1,8 +1,7 @@
 -- The objects that a wait for any of several is for.
-use Rattle.std.specs.Prelude.{◌≡◌, ℕ, suc, ◌+◌, ◌<◌, nat_lt, ◌==◌, if◌then◌else◌, Bool, true, false, List, [], ◌∷◌, take, replicate, Option, None, slice_get, slice_set}
 use Rattle.std.specs.List.{list_any}
-use Rattle.ns_world.specs.Names.{Cvs, Item, Items, OnNote, OnVariable}
-use Rattle.ns_model.specs.Cvs.{is_in}
+use Rattle.std.specs.Prelude.{◌≡◌, ℕ, suc, ◌+◌, ◌<◌, nat_lt, ◌==◌, if◌then◌else◌, Bool, true, false, List, [], ◌∷◌, take, replicate, Option, None, slice_get, slice_set}
+use Rattle.ns_counters.specs.Names.{Cvs, Item, Items, OnNote, OnVariable, is_in}
 
 -- the objects, in order
 abbrev pub items_of : Items → List Item

@@ -1,6 +1,6 @@
 use Rattle.std.proofs.Common.{◌≡◌}
-use Rattle.ns_world.specs.Prelude.{from_place}
-use Rattle.ns_world.proofs.round.Round.from_place.Given as goal
+use Rattle.ns_counters.specs.Prelude.{from_place}
+use Rattle.ns_counters.proofs.round.Round.from_place.Given as goal
 
 -- what is left leads where all does
 abbrev pub invariant-loop-place : goal.invariant-loop-place

@@ -1,15 +1,16 @@
 -- What the answer of a call on counters and once cells means, whatever others do while it is in progress, and how far such a call has come at each of its places.
 use Rattle.std.specs.Prelude.{◌≡◌, ◌≢◌, ℕ, ◌≤◌, Bool, true, false, List, [], ◌∷◌, ◌++◌, take, Option, Some, IsSomeAnd, Ok, Err}
-use Rattle.ns_world.specs.Names.{AddExchange, AddLoad, Already, AnswersByRounds, AtCounter, AtNote, AtSomePoint, DoneLoad, FirstClock, HaveShownNothing, InRound, InTurn, Is, IsBetween, IsLater, IsLeftAt, Item, Items, Number, ObjectEvent, ObjectNext, ObjectStanding}
-use Rattle.ns_world.specs.Names.{ObjectWalk, OnOnce, OnceBegin, OnceEnd, OnceLoad, Over, Past, Ran, Refused, Repeat, Reply, Round, RoundPlace, Setup, ValueLoad, WaitClock, WaitLoad, WaitMark, clock_of, env_after, is_done, is_notified, is_ready, objects_after}
-use Rattle.ns_world.specs.Names.{objects_own}
-use Rattle.ns_counters.specs.declared.object.ObjectEvent.TheVariants.{OnCounter}
-use Rattle.ns_world.specs.declared.object_walk.ObjectNext.TheVariants.{Go}
-use Rattle.ns_world.specs.Items.{items_of}
-use Rattle.ns_world.specs.Objects.{AreThere}
+use Rattle.ns_counters.specs.Names.{AddExchange, AddLoad, Already, AtCounter, AtNote, AtSomePoint, DoneLoad, FirstClock, InRound, IsBetween, IsLeftAt, Item, Items, Number, ObjectEvent, ObjectNext, ObjectReply, ObjectWalk, OnCounter, OnOnce, OnceBegin, OnceEnd, OnceLoad}
+use Rattle.ns_counters.specs.Names.{Refused, Repeat, Round, RoundPlace, Setup, ValueLoad, WaitClock, WaitLoad, WaitMark, clock_of, env_after, is_done, is_notified, is_ready}
+use Rattle.ns_counters.specs.Asks.{AreThere}
+use Rattle.ns_counters.specs.Items.{items_of}
+use Rattle.ns_counters.specs.Objects.{ObjectStanding, objects_after, objects_own}
+use Rattle.ns_counters.specs.Rounds.{AnswersByRounds, HaveShownNothing, InTurn, IsLater, Past}
+use Rattle.ns_counters.specs.declared.reply.ObjectReply.TheVariants.{Is, Ran}
+use Rattle.ns_counters.specs.declared.walk.ObjectNext.TheVariants.{Go, Over}
 use Rattle.ns_model.specs.declared.counter.CounterEvent.TheVariants as TheCounter
 use Rattle.ns_model.specs.declared.once.OnceEvent.TheVariants as TheOnce
-use Rattle.ns_world.specs.declared.items.Item.TheVariants as TheItem
+use Rattle.ns_counters.specs.declared.items.Item.TheVariants as TheItem
 
 -- what has happened to the clock and the notes, and to the counters and once cells, with more behind each
 abbrev pub past_and : Past → Past → Past
@@ -58,7 +59,7 @@ HadValue setup earlier now seat counter value = (point : List ObjectEvent) × Is
     × (objects_own point seat ≡ objects_own earlier.objects seat ++ OnCounter counter (TheCounter.Begun seat) ∷ []) × (((objects_after setup point).counters counter).value ≡ value)
 
 -- What an answer means, of what has happened since the call began. A change has just the event of its answer, of which the history of its counter tells what it means. A wait for 0 has begun, and answers the value at a point since; one that isn't 0 where the clock had come to the deadline. A function has begun and ended by this call, or had ended by another's. All else was so at some point of the call.
-abbrev pub ObjectMeans : Setup → Past → Past → ℕ → ObjectWalk → List ObjectEvent → Reply → Type 0
+abbrev pub ObjectMeans : Setup → Past → Past → ℕ → ObjectWalk → List ObjectEvent → ObjectReply → Type 0
 ObjectMeans setup earlier now seat (AddLoad counter delta) events (Number value) = events ≡ OnCounter counter (TheCounter.Add seat delta (Ok value)) ∷ []
 ObjectMeans setup earlier now seat (AddLoad counter delta) events (Refused fault) = events ≡ OnCounter counter (TheCounter.Add seat delta (Err fault)) ∷ []
 ObjectMeans setup earlier now seat (ValueLoad counter) events (Number value) = (events ≡ []) × AtSomeMoment setup earlier.objects now.objects (λ standing. (standing.counters counter).value ≡ value)

@@ -1,8 +1,9 @@
 use Rattle.std.proofs.Common.{◌≡◌, ◌+◌, ℕ, suc, Some, None, arith, sym, ap, ◌∙◌}
-use Rattle.ns_world.specs.Prelude.{OnCounter, OnNote, OnVariable, Round, from_items, from_place, item_at}
-use Rattle.ns_world.proofs.Listed.{left_at, none_behind_it, none_left}
-use Rattle.ns_world.proofs.round.Round.from_place.Goals.{in-Some-OnVariable, in-None}
-use Rattle.ns_world.proofs.round.Round.from_place.Goals as goal
+use Rattle.ns_counters.specs.Prelude.{OnNote, OnVariable, Round, from_items, from_place, item_at}
+use Rattle.ns_counters.proofs.Listed.{left_at, none_behind_it, none_left}
+use Rattle.ns_counters.proofs.round.Round.from_place.Goals.{in-None, in-Some-OnVariable}
+use Rattle.ns_counters.specs.declared.items.Item.TheVariants.{OnCounter}
+use Rattle.ns_counters.proofs.round.Round.from_place.Goals as goal
 
 pub returns-in-Some-OnNote : goal.returns-in-Some-OnNote
 returns-in-Some-OnNote c = sym (ap (from_items c.args.self.now c.args.clock c.loop-place.place) (left_at c.args.self.now.items c.loop-place.place (OnNote c.in-Some-OnNote.note) (sym c.get.ensures ∙ c.in-Some-OnNote.is ∙ ap Some c.in-Some-OnNote.field-0-is))) ∙ c.loop-place.invariant

@@ -13,17 +13,14 @@
 //! | `OnceEnd` | say that the function has run | `Ran` |
 //! | `DoneLoad` | load the cell | whether a function has run |
 //! | `InRound` | what the round wants | what the round shows; if that is nothing idle, a new round |
-//!
-//! Where condition variables are among the objects of a round, what its last step tells is for the lock, but for
-//! what the first round of a call has shown (`among.rt`).
 
 ghost use Rattle.std.specs.Prelude.{◌≡◌};
-ghost use Rattle.ns_world.specs.ObjectWalks.{by_begun, by_judging, by_round, by_stage, object_got, object_want, waited_next, IsInBounds};
+ghost use Rattle.ns_counters.specs.Walks.{by_begun, by_judging, by_round, by_stage, object_got, object_want, waited_next, IsInBounds};
 
-use crate::reply::Reply;
+use crate::act::ObjectAct;
+use crate::reply::ObjectReply;
 use crate::round::{ObjectFound, ObjectWant, Round, RoundNext, RoundPlace};
-use ns_counters::act::ObjectAct;
-use ns_counters::word::{Stage, decode_counter, decode_once, encode_counter};
+use crate::word::{Stage, decode_counter, decode_once, encode_counter};
 use ns_env::act::{EnvAct, EnvFound};
 use ns_model::counter::CounterState;
 
@@ -64,7 +61,7 @@ pub enum ObjectNext {
     /// It has to wait for another seat, and repeats from this place.
     Repeat(ObjectWalk),
     /// The call is over.
-    Over(Reply),
+    Over(ObjectReply),
 }
 
 /// Where a change goes by what the counter was seen to be.
@@ -74,7 +71,7 @@ fn by_judging(counter: u8, delta: i64, word: u64) -> ObjectNext
     let seen = decode_counter(word);
     match seen.judge(delta) {
         Ok(value) => ObjectNext::Go(ObjectWalk::AddExchange(counter, delta, seen, value)),
-        Err(fault) => ObjectNext::Over(Reply::Refused(fault)),
+        Err(fault) => ObjectNext::Over(ObjectReply::Refused(fault)),
     }
 }
 
@@ -83,7 +80,7 @@ fn waited_next(counter: u8, deadline: Option<u64>, value: u32) -> ObjectNext
     ensures { result ≡ waited_next counter deadline value }
 {
     if value == 0 {
-        return ObjectNext::Over(Reply::Number(0));
+        return ObjectNext::Over(ObjectReply::Number(0));
     }
     match deadline {
         None => ObjectNext::Repeat(ObjectWalk::WaitLoad(counter, None)),
@@ -98,7 +95,7 @@ fn by_stage(once: u8, stage: Stage) -> ObjectNext
     match stage {
         Stage::Unused => ObjectNext::Go(ObjectWalk::OnceBegin(once)),
         Stage::Running => ObjectNext::Repeat(ObjectWalk::OnceLoad(once)),
-        Stage::Done => ObjectNext::Over(Reply::Already),
+        Stage::Done => ObjectNext::Over(ObjectReply::Already),
     }
 }
 
@@ -121,7 +118,7 @@ fn by_round(round: Round, next: RoundNext) -> ObjectNext
         RoundNext::RoundOver(None) => {
             ObjectNext::Repeat(ObjectWalk::InRound(round, RoundPlace::FirstClock))
         }
-        RoundNext::RoundOver(Some(at)) => ObjectNext::Over(Reply::Number(u64::from(at))),
+        RoundNext::RoundOver(Some(at)) => ObjectNext::Over(ObjectReply::Number(u64::from(at))),
     }
 }
 
@@ -161,11 +158,11 @@ impl ObjectWalk {
         match self {
             ObjectWalk::AddLoad(counter, delta) => by_judging(counter, delta, word),
             ObjectWalk::AddExchange(_, _, seen, value) if word == encode_counter(seen) => {
-                ObjectNext::Over(Reply::Number(u64::from(value)))
+                ObjectNext::Over(ObjectReply::Number(u64::from(value)))
             }
             ObjectWalk::AddExchange(counter, delta, _, _) => by_judging(counter, delta, word),
             ObjectWalk::ValueLoad(_) => {
-                ObjectNext::Over(Reply::Number(u64::from(decode_counter(word).value)))
+                ObjectNext::Over(ObjectReply::Number(u64::from(decode_counter(word).value)))
             }
             ObjectWalk::WaitMark(counter, deadline) => {
                 waited_next(counter, deadline, decode_counter(word).value)
@@ -175,8 +172,8 @@ impl ObjectWalk {
             }
             ObjectWalk::OnceLoad(once) => by_stage(once, decode_once(word)),
             ObjectWalk::OnceBegin(once) => by_begun(once, decode_once(word)),
-            ObjectWalk::OnceEnd(_) => ObjectNext::Over(Reply::Ran),
-            ObjectWalk::DoneLoad(_) => ObjectNext::Over(Reply::Is(
+            ObjectWalk::OnceEnd(_) => ObjectNext::Over(ObjectReply::Ran),
+            ObjectWalk::DoneLoad(_) => ObjectNext::Over(ObjectReply::Is(
                 decode_once(word) == Stage::Done,
             )),
             ObjectWalk::InRound(round, place) => {
@@ -193,7 +190,7 @@ impl ObjectWalk {
     {
         match (self, found) {
             (ObjectWalk::WaitClock(_, moment, value), EnvFound::Clock(clock)) if moment <= clock =>
-                { ObjectNext::Over(Reply::Number(u64::from(value))) }
+                { ObjectNext::Over(ObjectReply::Number(u64::from(value))) }
             (ObjectWalk::WaitClock(counter, moment, _), EnvFound::Clock(_)) => {
                 ObjectNext::Repeat(ObjectWalk::WaitLoad(counter, Some(moment)))
             }

@@ -1,11 +1,11 @@
 -- The walks of the calls on counters and once cells: what each place wants, and where each answer leads.
 use Rattle.std.specs.Prelude.{ℕ, nat_lt, ◌==◌, ℤ, Bool, true, false, if◌then◌else◌, Option, None, Some, Result, Ok, Err}
-use Rattle.ns_world.specs.Names.{AddExchange, AddLoad, Adding, Already, BeginOnce, Clock, CounterFault, CounterState, DoneLoad, EndOnce, Env, ExchangeToAdd, FirstClock, Free, InRound, Is, LoadClock, LoadToAdd, LookCounter, LookOnce, MarkWait, Number, ObjectFound}
-use Rattle.ns_world.specs.Names.{ObjectNext, ObjectWalk, ObjectWant, OnEnv, OnWord, OnceBegin, OnceEnd, OnceLoad, Over, Place, Ran, Refused, Repeat, Round, RoundGo, RoundNext, RoundOver, Running, Stage, ValueLoad, WaitClock, WaitLoad, WaitMark, counter_of, counter_word}
-use Rattle.ns_world.specs.Names.{judged, stage_of}
-use Rattle.ns_world.specs.declared.object_walk.ObjectNext.TheVariants.{Go}
-use Rattle.ns_world.specs.declared.round.ObjectFound.TheVariants.{Word}
-use Rattle.ns_world.specs.Rounds.{round_want, round_got, IsInList}
+use Rattle.ns_counters.specs.Names.{AddExchange, AddLoad, Adding, Already, BeginOnce, Clock, CounterFault, CounterState, DoneLoad, EndOnce, Env, ExchangeToAdd, FirstClock, Free, InRound, LoadClock, LoadToAdd, LookCounter, LookOnce, MarkWait, Number, ObjectFound}
+use Rattle.ns_counters.specs.Names.{ObjectNext, ObjectWalk, ObjectWant, OnEnv, OnWord, OnceBegin, OnceEnd, OnceLoad, Place, Refused, Repeat, Round, RoundGo, RoundNext, RoundOver, Running, Stage, ValueLoad, WaitClock, WaitLoad, WaitMark, Word, judged}
+use Rattle.ns_counters.specs.RoundWalks.{IsInList, round_got, round_want}
+use Rattle.ns_counters.specs.Words.{counter_of, counter_word, stage_of}
+use Rattle.ns_counters.specs.declared.reply.ObjectReply.TheVariants.{Is, Ran}
+use Rattle.ns_counters.specs.declared.walk.ObjectNext.TheVariants.{Go, Over}
 use Rattle.ns_counters.specs.declared.word.Stage.TheVariants as TheStage
 
 -- the step that each place wants

@@ -1,11 +1,10 @@
 -- One round of a wait for any of several objects.
 use Rattle.std.specs.Prelude.{ℕ, suc, ◌<◌, ◌==◌, true, if◌then◌else◌, List, [], ◌∷◌, drop, None, Some}
-use Rattle.ns_world.specs.Names.{AtCounter, AtNote, Clock, Env, EnvNext, EnvWalk, FirstClock, ForIsNotified, Go, Item, LoadClock, LoadNote, LookCounter, NoteLoad, ObjectFound, ObjectWant, OnCounter, OnEnv, OnNote, OnVariable, OnWord, Round, RoundGo, RoundNext}
-use Rattle.ns_world.specs.Names.{RoundOver, RoundPlace, counter_of, env_got_of, is_due}
-use Rattle.ns_env.specs.declared.walk.EnvNext.TheVariants.{Over}
-use Rattle.ns_env.specs.declared.reply.EnvReply.TheVariants.{Is}
-use Rattle.ns_world.specs.declared.round.ObjectFound.TheVariants.{Word}
-use Rattle.ns_world.specs.Items.{items_of}
+use Rattle.ns_counters.specs.Names.{AtCounter, AtNote, Clock, Env, EnvNext, EnvWalk, FirstClock, ForIsNotified, Go, Is, Item, LoadClock, LoadNote, LookCounter, NoteLoad, ObjectFound, ObjectWant, OnEnv, OnNote, OnVariable, OnWord, Over, Round, RoundGo, RoundNext}
+use Rattle.ns_counters.specs.Names.{RoundOver, RoundPlace, Word, env_got_of, is_due}
+use Rattle.ns_counters.specs.Items.{items_of}
+use Rattle.ns_counters.specs.Words.{counter_of}
+use Rattle.ns_counters.specs.declared.items.Item.TheVariants.{OnCounter}
 
 -- the step that a round wants at each of its places
 abbrev pub round_want : RoundPlace → ObjectWant

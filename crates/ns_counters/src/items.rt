@@ -3,7 +3,7 @@
 ghost use Rattle.std.specs.Prelude.{◌≡◌, ◌<◌, ◌≤◌, ◌++◌, [], ◌∷◌};
 ghost use Rattle.std.specs.List.{list_any};
 ghost use Rattle.ns_model.specs.Tallies.{Every};
-ghost use Rattle.ns_world.specs.Items.{AreAmong, IsLow, have_variable, is_variable, item_at, items_of, no_items, place_in, with_item};
+ghost use Rattle.ns_counters.specs.Items.{AreAmong, IsLow, have_variable, is_variable, item_at, items_of, no_items, place_in, with_item};
 
 use ns_model::cvs::Cvs;
 
@@ -102,7 +102,7 @@ impl Items {
     }
 
     /// Whether a condition variable is among the objects. Needs that there are at most 16.
-    pub(crate) fn has_variable(&self) -> bool
+    pub fn has_variable(&self) -> bool
         requires { self.now.count ≤ 16 }
         ensures { result ≡ have_variable self.now }
     {
@@ -110,7 +110,7 @@ impl Items {
     }
 
     /// The condition variables among the objects. Needs at most 16 objects, and variables below 4.
-    pub(crate) fn variables(&self) -> Cvs
+    pub fn variables(&self) -> Cvs
         requires few { self.now.count ≤ 16 }
         requires low { Every IsLow (items_of self.now) }
         ensures among { AreAmong result (items_of self.now) }
@@ -121,7 +121,7 @@ impl Items {
 
     /// The place of the first object that is this condition variable, or how many there are where none is. Needs
     /// that there are at most 16.
-    pub(crate) fn place_of(&self, k: u64) -> u64
+    pub fn place_of(&self, k: u64) -> u64
         requires { self.now.count ≤ 16 }
         ensures { result ≡ place_in k (items_of self.now) }
     {

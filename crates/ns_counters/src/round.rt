@@ -11,11 +11,11 @@
 //! deadline, and else nothing.
 
 ghost use Rattle.std.specs.Prelude.{◌≡◌, ◌<◌};
-ghost use Rattle.ns_world.specs.Rounds.{by_chain, from_place, round_got, round_want, IsInList};
+ghost use Rattle.ns_counters.specs.RoundWalks.{by_chain, from_place, round_got, round_want, IsInList};
 
+use crate::act::ObjectAct;
 use crate::items::{Item, Items};
-use ns_counters::act::ObjectAct;
-use ns_counters::word::decode_counter;
+use crate::word::decode_counter;
 use ns_env::act::{EnvAct, EnvFound};
 use ns_env::note::is_due;
 use ns_env::reply::EnvReply;

@@ -1,7 +1,7 @@
 use Rattle.std.proofs.Common.{◌≡◌, ◌+◌, suc, arith, rules, ap, ◌∙◌}
-use Rattle.ns_world.specs.Prelude.{from_place}
-use Rattle.ns_world.proofs.round.Round.by_chain.Goals.{in_default-via-in-Go+in_default, in_default-via-in-Over+in-Is+else-next, in_default-via-in-Over+in_default, in_default-via-in_default}
-use Rattle.ns_world.proofs.round.Round.by_chain.Goals as goal
+use Rattle.ns_counters.specs.Prelude.{from_place}
+use Rattle.ns_counters.proofs.round.Round.by_chain.Goals.{in_default-via-in-Go+in_default, in_default-via-in-Over+in-Is+else-next, in_default-via-in-Over+in_default, in_default-via-in_default}
+use Rattle.ns_counters.proofs.round.Round.by_chain.Goals as goal
 
 pub returns-in_default : goal.returns-in_default
 returns-in_default c =

@@ -1,8 +1,9 @@
 -- What stands at a place of a list of objects, and behind it.
-use Rattle.std.proofs.Common.{◌≡◌, ℕ, zero, suc, ◌<◌, nat_lt, ◌||◌, Bool, true, false, cond, List, [], ◌∷◌, take, drop, Option, Some, None, slice_get, refl, sym, ◌∙◌, ap, subst, arith, inl, inr, eq-eqb}
+use Rattle.std.proofs.Common.{◌≡◌, ℕ, zero, suc, ◌<◌, nat_lt, ◌||◌, Bool, true, false, cond, List, [], ◌∷◌, take, drop, Option, Some, None, slice_get, refl, sym, ◌∙◌, ap, subst, arith, inl, inr, eq-eqb, ◌&&◌}
 use Rattle.std.proofs.lemmas.Bool.{eqb-true, ltb-true, ltb-false, or_cases}
 use Rattle.std.specs.List.{list_any}
-use Rattle.ns_world.specs.Prelude.{Every, IsLow, Item, Items, OnCounter, OnNote, OnVariable, is_among, is_this, is_variable, item_at, items_of, place_in}
+use Rattle.ns_counters.specs.Prelude.{Every, IsLow, Item, Items, OnNote, OnVariable, is_among, is_this, is_variable, item_at, items_of, place_in}
+use Rattle.ns_counters.specs.declared.items.Item.TheVariants.{OnCounter}
 
 nothing : {A : Type 0} (at : ℕ) (xs : List A) → xs ≡ [] → drop at xs ≡ []
 nothing zero xs e = e
@@ -122,3 +123,12 @@ none_among [] k none is = absurd (cc)
 none_among (OnNote note ∷ items) k none is = none_among items k none is
 none_among (OnCounter counter ∷ items) k none is = none_among items k none is
 none_among (OnVariable j ∷ items) k none is = absurd (cc)
+
+-- each object of a list that passes a test passes it
+pub first_of_all : (b c : Bool) → (b && c) ≡ true → b ≡ true
+first_of_all true c e = refl
+first_of_all false c e = absurd (cc)
+
+pub rest_of_all : (b c : Bool) → (b && c) ≡ true → c ≡ true
+rest_of_all true c e = e
+rest_of_all false c e = absurd (cc)

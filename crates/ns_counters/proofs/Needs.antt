@@ -1,0 +1,50 @@
+-- What a step of a call on counters and once cells needs is so, where its seat stands in a lawful state.
+use Rattle.std.proofs.Common.{◌≡◌, ◌≢◌, ℕ, ◌+◌, ◌<◌, true, ◌&&◌, ◌||◌, List, [], ◌∷◌, Some, refl, ap, sym, ◌∙◌, ℤ, ◌≤◌, ◌++◌}
+use Rattle.ns_counters.specs.Prelude.{AddExchange, AddLoad, AtCounter, AtNote, DoneLoad, EnvEvent, EnvPlain, FirstClock, InRound, IsInBounds, IsLawfulObjects, Meets, NoteStanding, ObjectAct, ObjectEvent, ObjectState, ObjectWalk, OnNote, OnWord, OnceBegin, OnceEnd}
+use Rattle.ns_counters.specs.Prelude.{OnceLoad, StepFits, ValueLoad, WaitClock, WaitLoad, WaitMark, WalkFits, WantFits, object_want, objects_after, walk_in}
+use Rattle.ns_counters.proofs.WalkLaw.{in_list, want_below}
+use Rattle.ns_counters.specs.declared.items.Item.TheVariants.{OnCounter}
+use Rattle.ns_model.proofs.Environments.{made_below}
+
+module _ (history : List ObjectEvent) (state : ObjectState) (env : EnvPlain) (happened : List EnvEvent) (meets : Meets happened env) (led : IsLawfulObjects history state env.notes) (seat : ℕ) where
+  note_low : (note : ℕ) → (env.notes note).made ≡ true → note < 64
+  note_low note made = made_below happened note meets.legal (sym (ap (λ (notes : ℕ → NoteStanding). (notes note).made) meets.notes) ∙ made)
+
+  abbrev Fits : ObjectWalk → Type 0
+  Fits walk = WalkFits state.setup (objects_after state.setup history) env.notes seat walk
+
+  word_fits : (walk : ObjectWalk) (act : ObjectAct) → Fits walk → object_want walk ≡ OnWord act → WantFits env.next (OnWord act)
+  word_fits walk act fits is = want_below state.setup (objects_after state.setup history) env.notes seat walk act led.lawful.room.0 led.lawful.room.1 fits is
+
+  want_fits : (walk : ObjectWalk) → Fits walk → WantFits env.next (object_want walk)
+  want_fits (AddLoad counter delta) fits = word_fits (AddLoad counter delta) _ fits refl
+  want_fits (AddExchange counter delta seen value) fits = word_fits (AddExchange counter delta seen value) _ fits refl
+  want_fits (ValueLoad counter) fits = word_fits (ValueLoad counter) _ fits refl
+  want_fits (WaitMark counter deadline) fits = word_fits (WaitMark counter deadline) _ fits refl
+  want_fits (WaitLoad counter deadline) fits = word_fits (WaitLoad counter deadline) _ fits refl
+  want_fits (WaitClock counter moment value) fits = (tt, tt)
+  want_fits (OnceLoad once) fits = word_fits (OnceLoad once) _ fits refl
+  want_fits (OnceBegin once) fits = word_fits (OnceBegin once) _ fits refl
+  want_fits (OnceEnd once) fits = word_fits (OnceEnd once) _ fits refl
+  want_fits (DoneLoad once) fits = word_fits (DoneLoad once) _ fits refl
+  want_fits (InRound round FirstClock) fits = (tt, tt)
+  want_fits (InRound round (AtNote at clock asked note)) fits = (tt, note_low note fits.1.1)
+  want_fits (InRound round (AtCounter at clock counter)) fits = word_fits (InRound round (AtCounter at clock counter)) _ fits refl
+
+  bounds : (walk : ObjectWalk) → WalkFits state.setup (objects_after state.setup history) env.notes seat walk → IsInBounds walk
+  bounds (InRound round FirstClock) fits = tt
+  bounds (InRound round (AtNote at clock asked note)) fits = in_list round.items at (OnNote asked) fits.0.0 fits.1.0
+  bounds (InRound round (AtCounter at clock counter)) fits = in_list round.items at (OnCounter counter) fits.0.0 fits.1
+  bounds (AddLoad counter delta) fits = tt
+  bounds (AddExchange counter delta seen value) fits = tt
+  bounds (ValueLoad counter) fits = tt
+  bounds (WaitMark counter deadline) fits = tt
+  bounds (WaitLoad counter deadline) fits = tt
+  bounds (WaitClock counter moment value) fits = tt
+  bounds (OnceLoad once) fits = tt
+  bounds (OnceBegin once) fits = tt
+  bounds (OnceEnd once) fits = tt
+  bounds (DoneLoad once) fits = tt
+
+  pub may_step : (walk : ObjectWalk) → walk_in state.walks seat ≡ Some walk → StepFits env.next walk
+  may_step walk walks = let fits = led.each seat walk walks in (want_fits walk fits, bounds walk fits)
