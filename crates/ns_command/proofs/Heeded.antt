@@ -15,7 +15,7 @@ use Rattle.clap.specs.declared.error.kind.ErrorKind.{ErrorKind}
 use Rattle.clap.specs.declared.error.kind.ErrorKind.TheVariants as kind
 use Rattle.ns_replay.specs.declared.fault.Fault.TheVariants.{OutOfMemory, NotJson, BadScript, TooMany, StepLimit, Read, Write}
 use Rattle.ns_command.specs.declared.ending.Ending.{Ending}
-use Rattle.ns_command.specs.declared.ending.Ending.TheVariants.{Replayed, Lived, NoThread, Failed, HelpShown, Misused}
+use Rattle.ns_command.specs.declared.ending.Ending.TheVariants.{Failed, HelpShown, Misused}
 use Rattle.ns_command.specs.Printing.{is_mistake, is_request}
 use Rattle.ns_command.specs.Endings.{EndsForOneOf, EndsFor}
 use Rattle.ns_command.specs.Words.{application, kinds_of}
@@ -75,9 +75,6 @@ may_say test kinds what rules_out (inl is) passes = absurd (true≢false (sym pa
 may_say test kinds what rules_out (inr h) passes = any_among test kinds what h passes
 
 pub heeds : (kinds : Kinds) (what : ErrorKind) (ending : Ending) → (what ≡ kind.OutOfMemory) ⊎ IsAmong what kinds → EndsFor what ending → EndsForOneOf kinds ending
-heeds kinds what Replayed h told = absurd told
-heeds kinds what Lived h told = absurd told
-heeds kinds what NoThread h told = absurd told
 heeds kinds what (Failed OutOfMemory) h told = tt
 heeds kinds what (Failed NotJson) h told = absurd told
 heeds kinds what (Failed (BadScript path)) h told = absurd told
@@ -87,3 +84,4 @@ heeds kinds what (Failed Read) h told = absurd told
 heeds kinds what (Failed Write) h told = inr (may_say is_request kinds what refl h told)
 heeds kinds what HelpShown h told = may_say is_request kinds what refl h told
 heeds kinds what Misused h told = may_say is_mistake kinds what refl h told
+heeds kinds what other h told = absurd told

@@ -3,12 +3,11 @@ use Rattle.std.proofs.Common.{◌≡◌, ℕ, zero, suc, ◌<◌, ◌≤◌, ℤ
 use Rattle.std.proofs.lemmas.Bool.{ltb-false, eqb-true}
 use Rattle.std.proofs.lemmas.List.Sums.{fold-append}
 use Rattle.std.specs.Prelude.{nat_lt, take}
-use Rattle.ns_counters.specs.Prelude.{AddExchange, AddLoad, AnyAnswers, AtCounter, AtNote, AtSomeMoment, AtSomePoint, BeginsWith, ChainFits, Clock, CounterFault, CounterState, DoneLoad, Env, EnvEvent, EnvFound, EnvNext, EnvState, FirstClock, ForIsNotified, Free}
-use Rattle.ns_counters.specs.Prelude.{HadValue, HasLookedUpTo, HasShownNone, HaveShownNothing, InRound, InTurn, IsBetween, IsLater, IsLawful, IsLawfulEnv, IsLegalEnv, IsReady, IsSo, Item, Items, Note, NoteLoad, Number, ObjectEffect, ObjectEvent, ObjectFound, ObjectGoes}
-use Rattle.ns_counters.specs.Prelude.{ObjectSoFar, ObjectStanding, ObjectWalk, OnCounter, OnCounterItem, OnNote, OnOnce, OnVariable, OnceBegin, OnceEnd, OnceLoad, OnceState, Outcome, Past, Repeat, Round, RoundGo, RoundNext, RoundOver, RoundPlace, RoundSoFar, Running}
-use Rattle.ns_counters.specs.Prelude.{Setup, Stage, ValueLoad, WaitClock, WaitLoad, WaitMark, WalkFits, WereThere, Word, by_answer, by_begun, by_chain, by_deadline, by_judging, by_round, by_stage, chain_from, clock_of, counter_of, counter_word, env_after, env_got_of}
-use Rattle.ns_counters.specs.Prelude.{first_objects, from_items, from_place, has_run, is_done, is_due, is_ready, item_at, items_of, judged, object_asked, object_got, object_next, object_place, object_want, objects_after, objects_own, past_and, round_got, round_want}
-use Rattle.ns_counters.specs.Prelude.{stage, stage_of, tried, waited_next, word_of_once}
+use Rattle.ns_counters.specs.Prelude.{AddExchange, AddLoad, AnyAnswers, AtCounter, AtNote, AtSomeMoment, AtSomePoint, BeginsWith, ChainFits, Clock, CounterFault, CounterState, DoneLoad, Env, EnvEvent, EnvFound, EnvNext, EnvState, FirstClock, ForIsNotified, Free, HadValue, HasLookedUpTo}
+use Rattle.ns_counters.specs.Prelude.{HasShownNone, HaveShownNothing, InRound, InTurn, IsBetween, IsLater, IsLawful, IsLawfulEnv, IsLegalEnv, IsReady, IsSo, Item, Items, Note, NoteLoad, Number, ObjectEffect, ObjectEvent, ObjectFound, ObjectGoes, ObjectSoFar, ObjectStanding, ObjectWalk, OnCounter}
+use Rattle.ns_counters.specs.Prelude.{OnCounterItem, OnNote, OnOnce, OnVariable, OnceBegin, OnceEnd, OnceLoad, OnceState, Outcome, Past, Repeat, Round, RoundGo, RoundNext, RoundOver, RoundPlace, RoundSoFar, Running, Setup, Stage, ValueLoad, WaitClock, WaitLoad, WaitMark, WalkFits, WereThere, Word}
+use Rattle.ns_counters.specs.Prelude.{by_answer, by_begun, by_chain, by_deadline, by_judging, by_round, by_stage, chain_from, clock_of, counter_of, counter_word, env_after, env_got_of, first_objects, from_items, from_place, has_run, is_done, is_due, is_ready, item_at, items_of, judged}
+use Rattle.ns_counters.specs.Prelude.{object_asked, object_got, object_next, object_place, object_want, objects_after, objects_own, past_and, round_got, round_want, stage, stage_of, tried, waited_next, word_of_once}
 use Rattle.ns_counters.proofs.Listed.{left_at, listed}
 use Rattle.ns_counters.proofs.Objects.{own-append}
 use Rattle.ns_counters.proofs.Rounds.{answers_until, later_itself, later_through, nothing_later, nothing_until, turn_more, turn_until}
@@ -70,15 +69,7 @@ module _ (setup : Setup) (earlier : Past) (seat : ℕ) (now more : Past) where
   pub so_far_on : (events : List ObjectEvent) (walk : ObjectWalk) → ObjectSoFar setup earlier now seat events walk → ObjectSoFar setup earlier (past_and now more) seat events walk
   so_far_on events (WaitClock counter moment value) so = (so.0, had_on counter value so.1)
   so_far_on events (InRound round place) so = (so.0, so.1, round_on setup earlier now more round place so.2)
-  so_far_on events (WaitLoad counter deadline) so = so
-  so_far_on events (OnceEnd once) so = so
-  so_far_on events (AddLoad counter delta) so = so
-  so_far_on events (AddExchange counter delta seen value) so = so
-  so_far_on events (ValueLoad counter) so = so
-  so_far_on events (WaitMark counter deadline) so = so
-  so_far_on events (OnceLoad once) so = so
-  so_far_on events (OnceBegin once) so = so
-  so_far_on events (DoneLoad once) so = so
+  so_far_on events other so = so
 
 -- ---- what a word tells
 
@@ -99,8 +90,7 @@ module _ (setup : Setup) (words : List ℕ) (history : List ObjectEvent) (law : 
 
 has_run_is : (state : OnceState) → has_run (stage state) ≡ is_done state
 has_run_is TheState.Unused = refl
-has_run_is (TheState.Running who) = refl
-has_run_is TheState.Done = refl
+has_run_is other = refl
 
 done_is : (state : OnceState) → stage state ≡ TheStage.Done → is_done state ≡ true
 done_is TheState.Unused e = absurd (cc)
@@ -261,7 +251,8 @@ module _ (setup : Setup) (earlier : Past) (seat : ℕ) (now : Past) (words : Lis
   round_makes_none (AtNote at clock asked note) (Word word) words' effect = absurd effect
   round_makes_none (AtCounter at clock counter) (Env found) words' effect = absurd effect
 
-  shows_now : (round : Round) (place : RoundPlace) (found : ObjectFound) (words' : List ℕ) → WalkFits setup (objects_after setup now.objects) state.plain.notes seat (InRound round place) → WereThere setup earlier round.items → RoundSoFar setup earlier now round place → ObjectEffect seat Free (round_want place) words state.plain found words' more →
+  shows_now : (round : Round) (place : RoundPlace) (found : ObjectFound) (words' : List ℕ) → WalkFits setup (objects_after setup now.objects) state.plain.notes seat (InRound round place) →
+      WereThere setup earlier round.items → RoundSoFar setup earlier now round place → ObjectEffect seat Free (round_want place) words state.plain found words' more →
       RoundGoes setup earlier now round (round_got round place found)
   shows_now round FirstClock (Env (Clock clock)) words' fits there so effect = from_goes setup earlier now round now clock led.lawful.meets.legal there 0 (record {
     rounds = so.0;
@@ -289,7 +280,8 @@ module _ (setup : Setup) (earlier : Past) (seat : ℕ) (now : Past) (words : Lis
   shows_now round (AtCounter at clock counter) (Env found) words' fits there so effect = absurd effect
 
   -- What it shows is so.
-  pub round_by : (round : Round) (place : RoundPlace) (found : ObjectFound) (words' : List ℕ) → WalkFits setup (objects_after setup now.objects) state.plain.notes seat (InRound round place) → WereThere setup earlier round.items → RoundSoFar setup earlier now round place → ObjectEffect seat Free (round_want place) words state.plain found words' more →
+  pub round_by : (round : Round) (place : RoundPlace) (found : ObjectFound) (words' : List ℕ) → WalkFits setup (objects_after setup now.objects) state.plain.notes seat (InRound round place) →
+      WereThere setup earlier round.items → RoundSoFar setup earlier now round place → ObjectEffect seat Free (round_want place) words state.plain found words' more →
       RoundGoes setup earlier (past_and now (record { notes = []; objects = more })) round (round_got round place found)
   round_by round place found words' fits there so effect = goes_on setup earlier now (record { notes = []; objects = more }) round (round_got round place found) (shows_now round place found words' fits there so effect)
 
@@ -310,7 +302,8 @@ module _ (setup : Setup) (earlier : Past) (seat : ℕ) (now : Past) (words : Lis
     judged_goes counter delta word seen (Err fault) none is = joined events more (OnCounter counter (TheCounter.Add seat delta (Err fault)) ∷ []) none is
 
     -- a wait for 0 that has seen this value
-    waited_goes : (counter : ℕ) (deadline : Option ℕ) (value : ℕ) (done : List ObjectEvent) → done ≡ OnCounter counter (TheCounter.Begun seat) ∷ [] → HadValue setup earlier so_far seat counter value → ObjectGoes setup earlier so_far seat (WaitMark counter deadline) done (waited_next counter deadline value)
+    waited_goes : (counter : ℕ) (deadline : Option ℕ) (value : ℕ) (done : List ObjectEvent) → done ≡ OnCounter counter (TheCounter.Begun seat) ∷ [] → HadValue setup earlier so_far seat counter value →
+        ObjectGoes setup earlier so_far seat (WaitMark counter deadline) done (waited_next counter deadline value)
     waited_goes counter deadline value done begun had = by (eqb value 0) refl deadline where
       by : (b : Bool) → eqb value 0 ≡ b → (deadline : Option ℕ) → ObjectGoes setup earlier so_far seat (WaitMark counter deadline) done (cond b (Over (Number 0)) (by_deadline counter deadline value))
       by true is deadline = (begun, subst (HadValue setup earlier so_far seat counter) (eqb-true value 0 is) had, λ ne. absurd (ne refl))

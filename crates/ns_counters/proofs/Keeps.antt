@@ -1,8 +1,8 @@
 -- A step keeps the law: what has happened by it is legal, the words are those of the objects as they then stand, and its caller and all others stand where they may.
 use Rattle.std.proofs.Common.{◌≡◌, ◌≢◌, ℕ, ◌+◌, ◌^◌, ◌<◌, ◌≤◌, ℤ, Bool, true, false, eqb, cond, List, [], ◌∷◌, length, get_or, set, Result, Ok, Err, slice_index, bit_or, refl, sym, ap, ◌∙◌, subst, arith, length-set, get_or-set_same, get_or-set_other, eqb-true}
-use Rattle.ns_counters.specs.Prelude.{Add, Adding, AreWordsOf, Began, BeginOnce, Begun, CanAct, CounterFault, CounterState, EndOnce, Every, ExchangeToAdd, Free, HasWords, IsLegalFrom, IsLegalObjectEvent, IsLegalOnceEvent, IsWordOf, LoadToAdd, LookCounter, LookOnce}
-use Rattle.ns_counters.specs.Prelude.{MarkWait, ObjectAct, ObjectEvent, ObjectStanding, OnCounter, OnOnce, OnceEvent, OnceState, Outcome, Place, PlaceFits, Ran, Running, Setup, but_at, counter_of, counter_word, judged, looked, most, object_next, object_who}
-use Rattle.ns_counters.specs.Prelude.{objects_from, once_next, outcome, stage, stage_word, tried, word_at, word_of_once}
+use Rattle.ns_counters.specs.Prelude.{Add, Adding, AreWordsOf, Began, BeginOnce, Begun, CanAct, CounterFault, CounterState, EndOnce, Every, ExchangeToAdd, Free, HasWords, IsLegalFrom, IsLegalObjectEvent, IsLegalOnceEvent, IsWordOf, LoadToAdd, LookCounter, LookOnce, MarkWait, ObjectAct}
+use Rattle.ns_counters.specs.Prelude.{ObjectEvent, ObjectStanding, OnCounter, OnOnce, OnceEvent, OnceState, Outcome, Place, PlaceFits, Ran, Running, Setup, but_at, counter_of, counter_word, judged, looked, most, object_next, object_who, objects_from, once_next, outcome, stage, stage_word, tried}
+use Rattle.ns_counters.specs.Prelude.{word_at, word_of_once}
 use lib.Seq.{set-get_or}
 use Rattle.ns_model.proofs.Environments.{but_cases, but-here}
 use Rattle.ns_model.proofs.Counters.{accepted}
@@ -47,7 +47,8 @@ place_still setup now (OnOnce cell event) seat (Running once) apart legal fits =
   taken (Began who) apart legal = legal
   taken (Ran who) apart legal = apart legal
 
-pub places_still : (setup : Setup) (now : ObjectStanding) (events : List ObjectEvent) (who seat : ℕ) (place : Place) → who ≢ seat → Every (λ event. object_who event ≡ who) events → IsLegalFrom (IsLegalObjectEvent setup) object_next now events → PlaceFits setup now seat place → PlaceFits setup (objects_from now events) seat place
+pub places_still : (setup : Setup) (now : ObjectStanding) (events : List ObjectEvent) (who seat : ℕ) (place : Place) → who ≢ seat → Every (λ event. object_who event ≡ who) events →
+    IsLegalFrom (IsLegalObjectEvent setup) object_next now events → PlaceFits setup now seat place → PlaceFits setup (objects_from now events) seat place
 places_still setup now [] who seat place apart by legal fits = fits
 places_still setup now (event ∷ events) who seat place apart by legal fits =
     places_still setup (object_next now event) events who seat place apart by.1 legal.1 (place_still setup now event seat place (λ is. apart (sym by.0 ∙ is)) legal.0 fits)

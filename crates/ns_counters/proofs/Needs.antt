@@ -1,7 +1,7 @@
 -- What a step of a call on counters and once cells needs is so, where its seat stands in a lawful state.
-use Rattle.std.proofs.Common.{◌≡◌, ◌≢◌, ℕ, ◌+◌, ◌<◌, true, ◌&&◌, ◌||◌, List, [], ◌∷◌, Some, refl, ap, sym, ◌∙◌, ℤ, ◌≤◌, ◌++◌}
-use Rattle.ns_counters.specs.Prelude.{AddExchange, AddLoad, AtCounter, AtNote, DoneLoad, EnvEvent, EnvPlain, FirstClock, InRound, IsInBounds, IsLawfulObjects, Meets, NoteStanding, ObjectAct, ObjectEvent, ObjectState, ObjectWalk, OnNote, OnWord, OnceBegin, OnceEnd}
-use Rattle.ns_counters.specs.Prelude.{OnceLoad, StepFits, ValueLoad, WaitClock, WaitLoad, WaitMark, WalkFits, WantFits, object_want, objects_after, walk_in}
+use Rattle.std.proofs.Common.{◌≡◌, ℕ, ◌<◌, true, List, Some, refl, ap, sym, ◌∙◌}
+use Rattle.ns_counters.specs.Prelude.{AddExchange, AddLoad, AtCounter, AtNote, DoneLoad, EnvEvent, EnvPlain, FirstClock, InRound, IsInBounds, IsLawfulObjects, Meets, NoteStanding, ObjectAct, ObjectEvent, ObjectState, ObjectWalk, OnNote, OnWord, OnceBegin, OnceEnd, OnceLoad, StepFits, ValueLoad}
+use Rattle.ns_counters.specs.Prelude.{WaitClock, WaitLoad, WaitMark, WalkFits, WantFits, object_want, objects_after, walk_in}
 use Rattle.ns_counters.proofs.WalkLaw.{in_list, want_below}
 use Rattle.ns_counters.specs.declared.items.Item.TheVariants.{OnCounter}
 use Rattle.ns_model.proofs.Environments.{made_below}
@@ -35,16 +35,7 @@ module _ (history : List ObjectEvent) (state : ObjectState) (env : EnvPlain) (ha
   bounds (InRound round FirstClock) fits = tt
   bounds (InRound round (AtNote at clock asked note)) fits = in_list round.items at (OnNote asked) fits.0.0 fits.1.0
   bounds (InRound round (AtCounter at clock counter)) fits = in_list round.items at (OnCounter counter) fits.0.0 fits.1
-  bounds (AddLoad counter delta) fits = tt
-  bounds (AddExchange counter delta seen value) fits = tt
-  bounds (ValueLoad counter) fits = tt
-  bounds (WaitMark counter deadline) fits = tt
-  bounds (WaitLoad counter deadline) fits = tt
-  bounds (WaitClock counter moment value) fits = tt
-  bounds (OnceLoad once) fits = tt
-  bounds (OnceBegin once) fits = tt
-  bounds (OnceEnd once) fits = tt
-  bounds (DoneLoad once) fits = tt
+  bounds other fits = tt
 
   pub may_step : (walk : ObjectWalk) → walk_in state.walks seat ≡ Some walk → StepFits env.next walk
   may_step walk walks = let fits = led.each seat walk walks in (want_fits walk fits, bounds walk fits)

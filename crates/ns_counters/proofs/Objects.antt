@@ -1,8 +1,8 @@
 -- Histories of all objects: their parts, and the history of each object in them.
 use Rattle.std.proofs.Common.{◌≡◌, ◌≢◌, ℕ, Bool, true, false, eqb, cond, List, [], ◌∷◌, ◌++◌, fold, slice_index, refl, sym, ap, ◌∙◌, subst, eq-eqb, ne_eqb, eqb-true}
 use Rattle.std.proofs.lemmas.List.Elements.{filter-append}
-use Rattle.ns_counters.specs.Prelude.{CounterState, Every, IsLegalCounter, IsLegalCounterEvent, IsLegalFrom, IsLegalObjectEvent, IsLegalObjects, IsLegalOnce, IsLegalOnceEvent, ObjectEvent, ObjectStanding, OnCounter, OnOnce, OnceState, Setup, counter_after, counter_next}
-use Rattle.ns_counters.specs.Prelude.{first_objects, object_next, object_who, objects_after, objects_from, objects_own, of_counter, of_once, once_after, once_next}
+use Rattle.ns_counters.specs.Prelude.{CounterState, Every, IsLegalCounter, IsLegalCounterEvent, IsLegalFrom, IsLegalObjectEvent, IsLegalObjects, IsLegalOnce, IsLegalOnceEvent, ObjectEvent, ObjectStanding, OnCounter, OnOnce, OnceState, Setup, counter_after, counter_next, first_objects, object_next}
+use Rattle.ns_counters.specs.Prelude.{object_who, objects_after, objects_from, objects_own, of_counter, of_once, once_after, once_next}
 
 -- ---- each object by itself
 
@@ -12,7 +12,8 @@ module _ (number : ℕ) where
   counter_from now [] = refl
   counter_from now (OnOnce once event ∷ events) = counter_from (object_next now (OnOnce once event)) events
   counter_from now (OnCounter counter event ∷ events) = counter_from (object_next now (OnCounter counter event)) events ∙ by (eqb number counter) (λ is. ap now.counters (sym (eqb-true number counter is))) where
-    by : (b : Bool) → (b ≡ true → now.counters counter ≡ now.counters number) → fold counter_next (cond b (counter_next (now.counters counter) event) (now.counters number)) (of_counter number events) ≡ fold counter_next (now.counters number) (cond b (event ∷ of_counter number events) (of_counter number events))
+    by : (b : Bool) → (b ≡ true → now.counters counter ≡ now.counters number) →
+        fold counter_next (cond b (counter_next (now.counters counter) event) (now.counters number)) (of_counter number events) ≡ fold counter_next (now.counters number) (cond b (event ∷ of_counter number events) (of_counter number events))
     by true same = ap (λ (state : CounterState). fold counter_next (counter_next state event) (of_counter number events)) (same refl)
     by false same = refl
 

@@ -1,10 +1,10 @@
 -- Where seats stand in calls on counters and once cells: after one of them is put elsewhere, and while more notes are made; what a step leaves of what was asked, and what it needs.
-use Rattle.std.proofs.Common.{◌≡◌, ◌≢◌, ℕ, zero, suc, ◌+◌, ◌<◌, Bool, true, false, ◌&&◌, ◌||◌, eqb, List, [], ◌∷◌, Option, Some, None, length, slice_set, refl, ap, sym, ◌∙◌, arith, inl, inr, ℤ, cond, nat_lt, ◌≤◌, ◌++◌, subst, Result, Ok, Err}
+use Rattle.std.proofs.Common.{◌≡◌, ◌≢◌, ℕ, zero, suc, ◌<◌, Bool, true, false, eqb, List, [], ◌∷◌, Option, Some, None, length, slice_set, refl, ap, sym, ◌∙◌, arith, inl, inr, ℤ, cond, nat_lt, subst, Result, Ok, Err}
 use Rattle.std.proofs.lemmas.Bool.{cases_eq}
 use Rattle.std.specs.List.{list_all}
-use Rattle.ns_counters.specs.Prelude.{AddExchange, AddLoad, AreThere, AtCounter, AtNote, Clock, CounterFault, CounterState, DoneLoad, Env, FirstClock, InRound, IsLawfulObjects, Item, Items, NoteStanding, Number, ObjectEvent, ObjectFound, ObjectNext, ObjectStanding}
-use Rattle.ns_counters.specs.Prelude.{ObjectState, ObjectWalk, OnNote, OnVariable, OnceBegin, OnceEnd, OnceLoad, Repeat, Round, RoundFits, RoundGo, RoundNext, RoundOver, RoundPlace, Setup, Stage, ValueLoad, WaitClock, WaitLoad, WaitMark, WalkFits, Word, by_answer}
-use Rattle.ns_counters.specs.Prelude.{by_begun, by_deadline, by_judging, by_round, by_stage, counter_of, counter_word, is_there, items_of, judged, object_asked, object_got, objects_after, round_got, stage_of, walk_in}
+use Rattle.ns_counters.specs.Prelude.{AddExchange, AddLoad, AreThere, AtCounter, AtNote, Clock, CounterFault, CounterState, DoneLoad, Env, FirstClock, InRound, IsLawfulObjects, Item, Items, NoteStanding, Number, ObjectEvent, ObjectFound, ObjectNext, ObjectStanding, ObjectState, ObjectWalk, OnNote}
+use Rattle.ns_counters.specs.Prelude.{OnVariable, OnceBegin, OnceEnd, OnceLoad, Repeat, Round, RoundFits, RoundGo, RoundNext, RoundOver, RoundPlace, Setup, Stage, ValueLoad, WaitClock, WaitLoad, WaitMark, WalkFits, Word, by_answer, by_begun, by_deadline, by_judging, by_round, by_stage, counter_of}
+use Rattle.ns_counters.specs.Prelude.{counter_word, is_there, items_of, judged, object_asked, object_got, objects_after, round_got, stage_of, walk_in}
 use Rattle.ns_counters.proofs.Listed.{first_of_all, rest_of_all}
 use Rattle.ns_counters.specs.declared.items.Item.TheVariants.{OnCounter}
 use Rattle.ns_counters.specs.declared.walk.ObjectNext.TheVariants.{Go, Over}
@@ -58,16 +58,7 @@ module _ (setup : Setup) (notes later : ℕ → NoteStanding) (more : (n : ℕ) 
 
   walk_more : (now : ObjectStanding) (seat : ℕ) (walk : ObjectWalk) → WalkFits setup now notes seat walk → WalkFits setup now later seat walk
   walk_more now seat (InRound round place) fits = (there_more round.items fits.0, round_more round place fits.1)
-  walk_more now seat (AddLoad counter delta) fits = fits
-  walk_more now seat (AddExchange counter delta seen value) fits = fits
-  walk_more now seat (ValueLoad counter) fits = fits
-  walk_more now seat (WaitMark counter deadline) fits = fits
-  walk_more now seat (WaitLoad counter deadline) fits = fits
-  walk_more now seat (WaitClock counter moment value) fits = fits
-  walk_more now seat (OnceLoad once) fits = fits
-  walk_more now seat (OnceBegin once) fits = fits
-  walk_more now seat (OnceEnd once) fits = fits
-  walk_more now seat (DoneLoad once) fits = fits
+  walk_more now seat other fits = fits
 
 pub led_more : (history : List ObjectEvent) (state : ObjectState) (notes later : ℕ → NoteStanding) → ((n : ℕ) → (notes n).made ≡ true → (later n).made ≡ true) → IsLawfulObjects history state notes → IsLawfulObjects history state later
 led_more history state notes later more led = record {

@@ -18,10 +18,6 @@ module _ {A : Type 0} (IsSo : Past → A → Type 0) where
   turn_until from to on [] turn later = later_through from to on turn later
   turn_until from to on (x ∷ xs) turn later = (turn.0, turn.1, turn.2, turn_until turn.0 to on xs turn.3 later)
 
-  pub turn_since : (since from to : Past) (xs : List A) → IsLater since from → InTurn IsSo from to xs → InTurn IsSo since to xs
-  turn_since since from to [] later turn = later_through since from to later turn
-  turn_since since from to (x ∷ xs) later turn = (turn.0, later_through since from turn.0 later turn.1, turn.2, turn.3)
-
   -- whose last is not before their first
   pub turn_later : (from to : Past) (xs : List A) → InTurn IsSo from to xs → IsLater from to
   turn_later from to [] turn = turn
@@ -67,7 +63,3 @@ module _ {A : Type 0} (IsSo : Bool → Past → A → Type 0) (things : List A) 
   -- of rounds that have shown nothing the last has
   pub last_nothing : (n : ℕ) (from to : Past) → HaveShownNothing IsSo things deadline (suc n) from to → RoundShows IsSo things deadline from to None
   last_nothing n from to nothing = none_since false from nothing.0 to (nothing_later n from nothing.0 nothing.1) nothing.2
-
-  -- one round alone
-  pub by_one_round : (from to : Past) (place : ℕ) → RoundShows IsSo things deadline from to (Some place) → AnswersByRounds IsSo things deadline from to place
-  by_one_round from to place shows = record { rounds = 0; mid = from; nothing = later_itself from; last = shows }

@@ -1,14 +1,13 @@
 -- A step of a call on counters and once cells keeps their law, and leaves each seat where it may stand.
-use Rattle.std.proofs.Common.{◌≡◌, ◌≢◌, ℕ, zero, suc, ◌<◌, ◌≤◌, ◌%◌, ◌^◌, ℤ, Bool, true, false, cond, ◌&&◌, eqb, List, [], ◌∷◌, ◌++◌, Option, None, Some, take, drop, slice_get, slice_set, slice_index, Result, Ok, Err, refl, ap, sym, ◌∙◌, subst, arith, inl, inr}
-use Rattle.std.proofs.Common.{append-nil}
+use Rattle.std.proofs.Common.{◌≡◌, ◌≢◌, ℕ, zero, suc, ◌<◌, ◌≤◌, ◌%◌, ◌^◌, ℤ, Bool, true, false, cond, eqb, List, [], ◌∷◌, ◌++◌, Option, None, Some, take, drop, slice_get, slice_set, slice_index, Result, Ok, Err, refl, ap, sym, ◌∙◌, subst, arith, inl, inr, append-nil}
 use Rattle.std.proofs.lemmas.Bool.{cases_eq, ltb-true}
 use Rattle.std.specs.List.{list_all}
 use Rattle.std.specs.Prelude.{nat_lt}
-use Rattle.ns_counters.specs.Prelude.{Add, AddExchange, AddLoad, AreThere, AtCounter, AtNote, Began, BeginOnce, CanAct, Clock, CounterFault, CounterState, DoneLoad, EndOnce, Env, EnvEvent, EnvFound, EnvNext, EnvPlain, Every, ExchangeToAdd, FirstClock, ForIsNotified}
-use Rattle.ns_counters.specs.Prelude.{Free, InRound, Is, IsLawfulObjects, Item, Items, LoadToAdd, LookCounter, LookOnce, MarkWait, Meets, Note, NoteLoad, NoteStanding, NoteWord, Number, ObjectAct, ObjectEffect, ObjectEvent, ObjectFound, ObjectNext, ObjectStanding}
-use Rattle.ns_counters.specs.Prelude.{ObjectState, ObjectView, ObjectWalk, ObjectWant, OnEnv, OnNote, OnVariable, OnWord, OnceBegin, OnceEnd, OnceLoad, Outcome, Place, PlaceFits, Repeat, Round, RoundFits, RoundGo, RoundNext, RoundOver, Running, Setup, Stage, ValueLoad}
-use Rattle.ns_counters.specs.Prelude.{ViewFits, WaitClock, WaitLoad, WaitMark, WalkFits, Word, by_answer, by_begun, by_chain, by_deadline, by_judging, by_round, by_stage, chain_from, counter_of, counter_word, env_got_of, from_items, from_place, is_there, item_at}
-use Rattle.ns_counters.specs.Prelude.{items_of, judged, most, object_after, object_got, object_place, object_want, object_who, objects_after, objects_own, outcome, round_got, stage_of, standing_of, state_of, tried, waited_next, walk_in, word_at, word_left}
+use Rattle.ns_counters.specs.Prelude.{Add, AddExchange, AddLoad, AreThere, AtCounter, AtNote, Began, BeginOnce, CanAct, Clock, CounterFault, CounterState, DoneLoad, Env, EnvEvent, EnvFound, EnvNext, EnvPlain, Every, ExchangeToAdd, FirstClock, ForIsNotified, Free, InRound, Is, IsLawfulObjects}
+use Rattle.ns_counters.specs.Prelude.{Item, Items, LoadToAdd, Meets, Note, NoteLoad, NoteStanding, NoteWord, Number, ObjectAct, ObjectEffect, ObjectEvent, ObjectFound, ObjectNext, ObjectStanding, ObjectState, ObjectView, ObjectWalk, ObjectWant, OnEnv, OnNote, OnVariable, OnWord, OnceBegin}
+use Rattle.ns_counters.specs.Prelude.{OnceEnd, OnceLoad, Outcome, Place, PlaceFits, Repeat, Round, RoundFits, RoundGo, RoundNext, RoundOver, Running, Setup, Stage, ValueLoad, ViewFits, WaitClock, WaitLoad, WaitMark, WalkFits, Word, by_answer, by_begun, by_chain, by_deadline, by_judging, by_round}
+use Rattle.ns_counters.specs.Prelude.{by_stage, chain_from, counter_of, counter_word, env_got_of, from_items, from_place, is_there, item_at, items_of, judged, most, object_after, object_got, object_place, object_want, object_who, objects_after, objects_own, outcome, round_got, stage_of}
+use Rattle.ns_counters.specs.Prelude.{standing_of, state_of, tried, waited_next, walk_in, word_at, word_left}
 use Rattle.ns_counters.proofs.Acts.{acted_fits, acted_lawful, others_fit}
 use Rattle.ns_counters.proofs.Keeps.{step_keeps}
 use Rattle.ns_counters.proofs.Listed.{first_of_all, listed, rest_of_all}
@@ -99,11 +98,6 @@ module _ (setup : Setup) (now : ObjectStanding) (notes : ℕ → NoteStanding) (
   stage_stands once TheStage.Running there = there
   stage_stands once TheStage.Done there = tt
 
-  begun_stands : (once : ℕ) (stage : Stage) → once < setup.cells → (stage ≡ TheStage.Unused → now.onces once ≡ TheOnce.Running seat) → NextFits setup now notes seat (by_begun once stage)
-  begun_stands once TheStage.Unused there runs = (there, runs refl)
-  begun_stands once TheStage.Running there runs = there
-  begun_stands once TheStage.Done there runs = tt
-
   round_stands : (round : Round) (next : RoundNext) → AreThere setup notes round.items → RoundStands setup notes round next → NextFits setup now notes seat (by_round round next)
   round_stands round (RoundGo place) there fits = (there, fits)
   round_stands round (RoundOver None) there fits = (there, tt)
@@ -121,7 +115,6 @@ module _ (setup : Setup) (now : ObjectStanding) (notes : ℕ → NoteStanding) (
     by : (b : Bool) → NextFits setup now notes seat (cond b (Over (Number value)) (by_judging counter delta word))
     by true = tt
     by false = judged_stands setup now notes seat counter delta word fits.0 (value_few word)
-  word_leads (ValueLoad counter) was fits placed = tt
   word_leads (WaitMark counter deadline) was fits placed = waited_stands setup now notes seat counter deadline (counter_of word).value fits
   word_leads (WaitLoad counter deadline) was fits placed = waited_stands setup now notes seat counter deadline (counter_of word).value fits
   word_leads (WaitClock counter moment value) was fits placed = fits
@@ -131,14 +124,13 @@ module _ (setup : Setup) (now : ObjectStanding) (notes : ℕ → NoteStanding) (
     by TheStage.Unused p = p
     by TheStage.Running p = fits
     by TheStage.Done p = tt
-  word_leads (OnceEnd once) was fits placed = tt
-  word_leads (DoneLoad once) was fits placed = tt
   word_leads (InRound round FirstClock) was fits placed = (fits.0, tt)
   word_leads (InRound round (AtNote at clock asked note)) was fits placed = (fits.0, fits.1)
   word_leads (InRound round (AtCounter at clock counter)) was fits placed = round_stands setup now notes seat round (cond (eqb (counter_of word).value 0) (RoundOver (Some at)) (from_place round clock (suc at))) fits.0 (by (eqb (counter_of word).value 0)) where
     by : (b : Bool) → RoundStands setup notes round (cond b (RoundOver (Some at)) (from_place round clock (suc at)))
     by true = tt
     by false = from_stands setup notes round clock (suc at) fits.0
+  word_leads other was fits placed = tt
 
 -- what a load finds
 pub note_found : (state : NoteWord) (note : NoteStanding) → Note state ≡ Note (state_of note) → standing_of state ≡ note
@@ -149,14 +141,16 @@ clock_found clock now is = cc
 
 -- where a load of the clock or of a note leads
 module _ (setup : Setup) (now : ObjectStanding) (env : EnvPlain) (happened : List EnvEvent) (meets : Meets happened env) (seat : ℕ) where
-  note_leads : (round : Round) (at clock asked note : ℕ) (next : EnvNext) (state : NoteWord) → AreThere setup env.notes round.items → standing_of state ≡ env.notes note → env_got_of (chain_from asked clock note) (Note state) ≡ next → (item_at round.items at ≡ Some (OnNote asked)) → RoundStands setup env.notes round (by_chain round at clock asked next)
+  note_leads : (round : Round) (at clock asked note : ℕ) (next : EnvNext) (state : NoteWord) → AreThere setup env.notes round.items → standing_of state ≡ env.notes note →
+      env_got_of (chain_from asked clock note) (Note state) ≡ next → (item_at round.items at ≡ Some (OnNote asked)) → RoundStands setup env.notes round (by_chain round at clock asked next)
   note_leads round at clock asked note (TheEnv.Go (NoteLoad chain moment above)) state there same is here =
       let up = chain_up happened env (ForIsNotified asked) chain clock moment note above state meets same is in
       (here, ap (λ (notes : ℕ → NoteStanding). (notes above).made) meets.notes ∙ up.1)
   note_leads round at clock asked note (TheEnv.Over (Is true)) state there same is here = tt
   note_leads round at clock asked note next state there same is here = from_stands setup env.notes round clock (suc at) there
 
-  pub env_leads : (walk : ObjectWalk) (found : EnvFound) (words' : List ℕ) (events : List ObjectEvent) (words : List ℕ) → WalkFits setup now env.notes seat walk → ObjectEffect seat (object_place (Some walk)) (object_want walk) words env (Env found) words' events → NextFits setup now env.notes seat (object_got walk (Env found))
+  pub env_leads : (walk : ObjectWalk) (found : EnvFound) (words' : List ℕ) (events : List ObjectEvent) (words : List ℕ) → WalkFits setup now env.notes seat walk →
+      ObjectEffect seat (object_place (Some walk)) (object_want walk) words env (Env found) words' events → NextFits setup now env.notes seat (object_got walk (Env found))
   env_leads (AddLoad counter delta) found words' events words fits effect = absurd effect
   env_leads (AddExchange counter delta seen value) found words' events words fits effect = absurd effect
   env_leads (ValueLoad counter) found words' events words fits effect = absurd effect
@@ -187,29 +181,12 @@ view_at setup history seat walk = record { setup = setup; seat = seat; place = o
 placed_by : (setup : Setup) (now : ObjectStanding) (notes : ℕ → NoteStanding) (seat : ℕ) (walk : ObjectWalk) → WalkFits setup now notes seat walk → PlaceFits setup now seat (object_place (Some walk))
 placed_by setup now notes seat (AddExchange counter delta seen value) fits = fits.0
 placed_by setup now notes seat (OnceEnd once) fits = fits
-placed_by setup now notes seat (AddLoad counter delta) fits = tt
-placed_by setup now notes seat (ValueLoad counter) fits = tt
-placed_by setup now notes seat (WaitMark counter deadline) fits = tt
-placed_by setup now notes seat (WaitLoad counter deadline) fits = tt
-placed_by setup now notes seat (WaitClock counter moment value) fits = tt
-placed_by setup now notes seat (OnceLoad once) fits = tt
-placed_by setup now notes seat (OnceBegin once) fits = tt
-placed_by setup now notes seat (DoneLoad once) fits = tt
-placed_by setup now notes seat (InRound round place) fits = tt
+placed_by setup now notes seat other fits = tt
 
 -- who stood somewhere stands there where what binds it still holds
 pub stays_put : (setup : Setup) (now later : ObjectStanding) (notes : ℕ → NoteStanding) (seat : ℕ) (walk : ObjectWalk) → WalkFits setup now notes seat walk → PlaceFits setup later seat (object_place (Some walk)) → WalkFits setup later notes seat walk
 stays_put setup now later notes seat (OnceEnd once) fits placed = placed
-stays_put setup now later notes seat (AddExchange counter delta seen value) fits placed = fits
-stays_put setup now later notes seat (AddLoad counter delta) fits placed = fits
-stays_put setup now later notes seat (ValueLoad counter) fits placed = fits
-stays_put setup now later notes seat (WaitMark counter deadline) fits placed = fits
-stays_put setup now later notes seat (WaitLoad counter deadline) fits placed = fits
-stays_put setup now later notes seat (WaitClock counter moment value) fits placed = fits
-stays_put setup now later notes seat (OnceLoad once) fits placed = fits
-stays_put setup now later notes seat (OnceBegin once) fits placed = fits
-stays_put setup now later notes seat (DoneLoad once) fits placed = fits
-stays_put setup now later notes seat (InRound round place) fits placed = fits
+stays_put setup now later notes seat other fits placed = fits
 
 -- the step that a place wants is one that it allows
 abbrev Allows : Setup → Place → ObjectWant → Type 0
@@ -219,17 +196,14 @@ Allows setup place (OnEnv act) = Unit {0}
 allows : (setup : Setup) (now : ObjectStanding) (notes : ℕ → NoteStanding) (seat : ℕ) (walk : ObjectWalk) → WalkFits setup now notes seat walk → Allows setup (object_place (Some walk)) (object_want walk)
 allows setup now notes seat (AddLoad counter delta) fits = (fits, refl)
 allows setup now notes seat (AddExchange counter delta seen value) fits = (fits.0, refl, fits.1, fits.2)
-allows setup now notes seat (ValueLoad counter) fits = fits
 allows setup now notes seat (WaitMark counter deadline) fits = (fits, refl)
-allows setup now notes seat (WaitLoad counter deadline) fits = fits
 allows setup now notes seat (WaitClock counter moment value) fits = tt
-allows setup now notes seat (OnceLoad once) fits = fits
 allows setup now notes seat (OnceBegin once) fits = (fits, refl)
 allows setup now notes seat (OnceEnd once) fits = refl
-allows setup now notes seat (DoneLoad once) fits = fits
 allows setup now notes seat (InRound round FirstClock) fits = tt
 allows setup now notes seat (InRound round (AtNote at clock asked note)) fits = tt
 allows setup now notes seat (InRound round (AtCounter at clock counter)) fits = counter_there setup notes round.items at counter fits.0 fits.1
+allows setup now notes seat other fits = fits
 
 abbrev Below : ObjectWant → Type 0
 Below (OnWord act) = word_at act < 32
@@ -275,8 +249,7 @@ waited_leads counter deadline value = by (eqb value 0) deadline where
 
 stage_leads : (once : ℕ) (stage : Stage) → object_place (object_after (by_stage once stage)) ≡ Free
 stage_leads once TheStage.Unused = refl
-stage_leads once TheStage.Running = refl
-stage_leads once TheStage.Done = refl
+stage_leads once other = refl
 
 round_leads : (round : Round) (next : RoundNext) → object_place (object_after (by_round round next)) ≡ Free
 round_leads round (RoundGo place) = refl
@@ -289,7 +262,6 @@ leads seat (AddExchange counter delta seen value) word = by (eqb word (counter_w
   by : (b : Bool) → object_place (object_after (cond b (Over (Number value)) (by_judging counter delta word))) ≡ (cond {A = Outcome} b (record { word = counter_word (record { value = value; waited = seen.waited }); events = TheEvent.OnCounter counter (Add seat delta (Ok value)) ∷ []; place = Free }) (tried seat counter delta word (judged (counter_of word) delta))).place
   by true = refl
   by false = judged_leads seat counter delta word (counter_of word) (judged (counter_of word) delta)
-leads seat (ValueLoad counter) word = refl
 leads seat (WaitMark counter deadline) word = waited_leads counter deadline (counter_of word).value
 leads seat (WaitLoad counter deadline) word = waited_leads counter deadline (counter_of word).value
 leads seat (WaitClock counter moment value) word = tt
@@ -299,27 +271,23 @@ leads seat (OnceBegin once) word = by (eqb word 0) (eqb word 1) where
   by true c = refl
   by false true = refl
   by false false = refl
-leads seat (OnceEnd once) word = refl
-leads seat (DoneLoad once) word = refl
 leads seat (InRound round FirstClock) word = tt
 leads seat (InRound round (AtNote at clock asked note)) word = tt
 leads seat (InRound round (AtCounter at clock counter)) word = round_leads round (round_got round (AtCounter at clock counter) (Word word))
+leads seat other word = refl
 
 -- what a step leaves of its word, whoever makes it
 pub left_is : (seat : ℕ) (act : ObjectAct) (place : Place) (word : ℕ) → (outcome seat act place word).word ≡ word_left act word
-left_is seat (LookCounter counter) place word = refl
 left_is seat (LoadToAdd counter delta) place word = tried_left seat counter delta word (judged (counter_of word) delta)
 left_is seat (ExchangeToAdd counter delta seen value) place word = by (eqb word (counter_word seen)) where
   by : (b : Bool) → (cond {A = Outcome} b (record { word = counter_word (record { value = value; waited = seen.waited }); events = TheEvent.OnCounter counter (Add seat delta (Ok value)) ∷ []; place = Free }) (tried seat counter delta word (judged (counter_of word) delta))).word ≡ cond b (counter_word (record { value = value; waited = seen.waited })) word
   by true = refl
   by false = tried_left seat counter delta word (judged (counter_of word) delta)
-left_is seat (MarkWait counter) place word = refl
-left_is seat (LookOnce once) place word = refl
 left_is seat (BeginOnce once) place word = by (eqb word 0) where
   by : (b : Bool) → (cond {A = Outcome} b (record { word = 1; events = TheEvent.OnOnce once (Began seat) ∷ []; place = Running once }) (record { word = word; events = []; place = place })).word ≡ cond b 1 word
   by true = refl
   by false = refl
-left_is seat (EndOnce once) place word = refl
+left_is seat other place word = refl
 
 -- where a seat stands that goes on
 goes_on : (setup : Setup) (now : ObjectStanding) (notes : ℕ → NoteStanding) (seat : ℕ) (next : ObjectNext) (walk : ObjectWalk) → NextFits setup now notes seat next → object_after next ≡ Some walk → WalkFits setup now notes seat walk
@@ -411,7 +379,8 @@ module _ (objects : ObjectState) (env : EnvPlain) (happened : List EnvEvent) (me
   abbrev Kept : ObjectFound → List ℕ → List ObjectEvent → Type 0
   Kept found words events = IsLawfulObjects (history ++ events) (after words (object_got walk found)) env.notes × Every (λ event. object_who event ≡ seat) events
 
-  kept_by : (want : ObjectWant) → object_want walk ≡ want → (found : ObjectFound) (words : List ℕ) (events : List ObjectEvent) → ObjectEffect seat view.place want objects.words env found words events → ObjectEffect seat view.place (object_want walk) objects.words env found words events → Kept found words events
+  kept_by : (want : ObjectWant) → object_want walk ≡ want → (found : ObjectFound) (words : List ℕ) (events : List ObjectEvent) → ObjectEffect seat view.place want objects.words env found words events →
+      ObjectEffect seat view.place (object_want walk) objects.words env found words events → Kept found words events
   kept_by (OnWord act) wants (Word w) words events effect same =
       subst (λ (z : ℕ × (List ℕ × List ObjectEvent)). Kept (Word z.0) z.1.0 z.1.1) (λ i. (sym effect.0 i, (sym (effect.1 ∙ ap (λ n. slice_set objects.words (word_at act) (outcome seat act view.place n).word) effect.0) i, sym (effect.2 ∙ ap (λ n. (outcome seat act view.place n).events) effect.0) i)))
       (word_keeps act wants, by_seat act wants)

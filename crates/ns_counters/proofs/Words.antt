@@ -1,8 +1,7 @@
 -- The words of counters and once cells: each tells of what it was made for, and what a mark leaves of a counter's.
 use Rattle.std.proofs.Common.{◌≡◌, ℕ, ◌+◌, ◌*◌, ◌/◌, ◌%◌, ◌^◌, ◌≤◌, Bool, true, false, eqb, refl, ap, ◌∙◌, arith, bit_or, if◌then◌else◌}
 use Rattle.std.proofs.lemmas.Nat.{or_block, or_disjoint, and_le_r}
-use Rattle.ns_counters.specs.Prelude.{CounterState, Done, Stage, Unused, counter_of, counter_word, most, stage_of, stage_word}
-use Rattle.ns_counters.specs.declared.word.Stage.TheVariants.{Running}
+use Rattle.ns_counters.specs.Prelude.{CounterState, Stage, Unused, counter_of, counter_word, most, stage_of, stage_word}
 
 by_mark : (value : ℕ) (waited : Bool) → value ≤ most → counter_of (counter_word (record { value = value; waited = waited })) ≡ record { value = value; waited = waited }
 by_mark value true few = let v : (value + 2 ^ 32) % 2 ^ 32 ≡ value = omega arith in let w : ((value + 2 ^ 32) / 2 ^ 32) % 2 ≡ 1 = omega arith in λ i. record { value = v i; waited = ap (λ (n : ℕ). eqb n 1) w i }
@@ -15,8 +14,7 @@ counter_of-counter_word counter few = by_mark counter.value counter.waited few
 -- a cell's word tells how far the cell has come
 pub stage_of-stage_word : (at : Stage) → stage_of (stage_word at) ≡ at
 stage_of-stage_word Unused = refl
-stage_of-stage_word Running = refl
-stage_of-stage_word Done = refl
+stage_of-stage_word other = refl
 
 or_none : (n : ℕ) → bit_or n 0 ≡ n
 or_none n = let low = and_le_r n 0 in or_disjoint n 0 (omega arith) ∙ (let e : n + 0 ≡ n = omega arith in e)

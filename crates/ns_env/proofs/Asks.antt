@@ -3,10 +3,9 @@ use Rattle.std.proofs.Common.{◌≡◌, ◌≢◌, ℕ, zero, suc, ◌+◌, ◌
 use Rattle.std.proofs.lemmas.Bool.{cases_eq}
 use Rattle.std.proofs.lemmas.List.{length-set}
 use Rattle.std.proofs.lemmas.Option.{slice_get_within}
-use Rattle.ns_env.specs.Prelude.{Advancing, AskFits, BeginsWith, CanAct, Chain, ClockLoad, EnvAct, EnvEffect, EnvEvent, EnvFound, EnvNext, EnvPlain, EnvState, EnvStep, EnvWalk, Expired, ExpiryLoad, ForIsNotified, ForLook, ForNoteWait, Go, IfMade, Is, IsLawful}
-use Rattle.ns_env.specs.Prelude.{IsLawfulEnv, IsLegalEnv, IsMade, LoadClock, LoadNext, LoadNote, LookOver, MakeNote, Making, MakingFits, Meets, MoveClock, NextLoad, NoteLoad, NoteStanding, NotesFull, Nothing, NotifyNote, Notifying, Over, ParentFits, Repeat, StoreNote}
-use Rattle.ns_env.specs.Prelude.{TakeNext, TakeNumber, adders, adds, chain_note, earlier, env_after, env_got_of, env_walk_after, env_want_of, expiry_of, is_due, is_over, lowered_to, made_note, making_after, making_at, making_of, notified_note, outcome, passed, stopped}
-use Rattle.ns_env.specs.Prelude.{up_to}
+use Rattle.ns_env.specs.Prelude.{Advancing, AskFits, BeginsWith, CanAct, Chain, ClockLoad, EnvAct, EnvEffect, EnvEvent, EnvFound, EnvNext, EnvPlain, EnvState, EnvStep, EnvWalk, Expired, ExpiryLoad, ForIsNotified, ForLook, ForNoteWait, Go, IfMade, Is, IsLawful, IsLawfulEnv, IsLegalEnv, IsMade}
+use Rattle.ns_env.specs.Prelude.{LookOver, MakeNote, Making, MakingFits, Meets, NextLoad, NoteLoad, NoteStanding, NotesFull, Nothing, NotifyNote, Notifying, Over, ParentFits, Repeat, StoreNote, TakeNumber, adders, adds, chain_note, earlier, env_after, env_got_of, env_walk_after, env_want_of}
+use Rattle.ns_env.specs.Prelude.{expiry_of, is_due, is_over, lowered_to, made_note, making_after, making_at, making_of, notified_note, outcome, passed, stopped, up_to}
 use Rattle.ns_model.proofs.Beginnings.{begins_itself}
 use Rattle.ns_model.proofs.Environments.{but_cases, sound_after, grown_begins, made_begins, expiry_begins}
 use Rattle.ns_model.proofs.Lines.{IsExpiryAt, expiry_goes_on}
@@ -30,13 +29,9 @@ set_there (y ∷ xs) (suc i) (suc j) x ne = set_there xs i j x (λ e. ne (ap suc
 
 -- a note that is made stays made
 made_after : (seat : ℕ) (act : EnvAct) (old : EnvPlain) (n : ℕ) → (old.notes n).made ≡ true → ((outcome seat act old).plain.notes n).made ≡ true
-made_after seat LoadNext old n p = p
-made_after seat TakeNext old n p = p
 made_after seat (StoreNote note parent deadline) old n p = but_cases (λ (s : NoteStanding). s.made ≡ true) note n (made_note parent deadline) old.notes (λ _. refl) (λ _. p)
 made_after seat (NotifyNote note) old n p = but_cases (λ (s : NoteStanding). s.made ≡ true) note n (notified_note (old.notes note)) old.notes (λ here. ap (λ (k : ℕ). (old.notes k).made) (sym here) ∙ p) (λ _. p)
-made_after seat (MoveClock moment) old n p = p
-made_after seat LoadClock old n p = p
-made_after seat (LoadNote note) old n p = p
+made_after seat other old n p = p
 
 pub if_made_stays : (seat : ℕ) (act : EnvAct) (old new : EnvPlain) (found : EnvFound) (events : List EnvEvent) → EnvEffect seat act old found new events → (given : Option ℕ) → IfMade old.notes given → IfMade new.notes given
 if_made_stays seat act old new found events e None p = tt
@@ -76,14 +71,12 @@ module _ (walks : List (Option EnvWalk)) (i : ℕ) (old : Option EnvWalk) (at : 
 
 -- what its walk wants next, the seat may do
 can_ask : (h : List EnvEvent) (walk : EnvWalk) → AskFits h walk → CanAct (env_after h) (making_of walk) (env_want_of walk)
-can_ask h (NextLoad parent deadline) fits = refl
-can_ask h (TakeNumber parent deadline) fits = refl
 can_ask h (MakeNote note parent deadline) fits = (refl, fits)
 can_ask h (Notifying note) fits = (refl, fits)
-can_ask h (Advancing moment) fits = refl
 can_ask h (ClockLoad chain) fits = tt
 can_ask h (NoteLoad chain clock note) fits = tt
 can_ask h (ExpiryLoad asked note least) fits = tt
+can_ask h other fits = refl
 
 -- how far it has come where a walk goes
 abbrev making_next : EnvNext → Making
@@ -99,8 +92,7 @@ makes_none false x y p q = q
 
 stopped_makes : (chain : Chain) → making_next (stopped chain) ≡ Nothing
 stopped_makes (ForLook limits) = refl
-stopped_makes (ForIsNotified note) = refl
-stopped_makes (ForNoteWait note deadline) = refl
+stopped_makes other = refl
 
 passed_makes : (chain : Chain) (clock : ℕ) → making_next (passed chain clock) ≡ Nothing
 passed_makes (ForLook limits) clock = makes_none (is_due clock limits.deadline) (LookOver (Some Expired)) (LookOver None) refl refl
@@ -119,12 +111,10 @@ lowered_makes asked (Some note) least = refl
 goes_making : (seat : ℕ) (plain : EnvPlain) (walk : EnvWalk) → making_next (env_got_of walk (outcome seat (env_want_of walk) plain).found) ≡ making_after (env_want_of walk) plain (making_of walk)
 goes_making seat plain (NextLoad parent deadline) = by_two (nat_lt plain.next 64) (Go (TakeNumber parent deadline)) (Over NotesFull)
 goes_making seat plain (TakeNumber parent deadline) = by_two (nat_lt plain.next 64) (Go (MakeNote plain.next parent deadline)) (Over NotesFull)
-goes_making seat plain (MakeNote note parent deadline) = refl
-goes_making seat plain (Notifying note) = refl
-goes_making seat plain (Advancing moment) = refl
 goes_making seat plain (ClockLoad chain) = up_makes chain plain.clock (chain_note chain)
 goes_making seat plain (NoteLoad chain clock at) = makes_none (is_over clock (plain.notes at)) (stopped chain) (up_to chain clock (plain.notes at).parent) (stopped_makes chain) (up_makes chain clock (plain.notes at).parent)
 goes_making seat plain (ExpiryLoad asked at least) = lowered_makes asked (plain.notes at).parent (earlier least (plain.notes at).deadline)
+goes_making seat plain other = refl
 
 -- ---- what places tell beside that
 
@@ -164,8 +154,7 @@ module _ (h k : List EnvEvent) (legal : IsLegalEnv k) (begins : BeginsWith k h) 
 
   stopped_fits : (chain : Chain) → NextFits (stopped chain)
   stopped_fits (ForLook limits) = tt
-  stopped_fits (ForIsNotified note) = tt
-  stopped_fits (ForNoteWait note deadline) = tt
+  stopped_fits other = tt
 
   passed_fits : (chain : Chain) (clock : ℕ) → IfMade (env_after k).notes (chain_note chain) → NextFits (passed chain clock)
   passed_fits (ForLook limits) clock p = either_fits (is_due clock limits.deadline) (LookOver (Some Expired)) (LookOver None) tt tt
@@ -201,13 +190,11 @@ module _ (h k : List EnvEvent) (legal : IsLegalEnv k) (begins : BeginsWith k h) 
     pub own_fits : (seat : ℕ) (walk : EnvWalk) → AskFits h walk → NextFits (env_got_of walk (outcome seat (env_want_of walk) plain).found)
     own_fits seat (NextLoad parent deadline) p = either_fits (nat_lt plain.next 64) (Go (TakeNumber parent deadline)) (Over NotesFull) (given_later parent p) tt
     own_fits seat (TakeNumber parent deadline) p = either_fits (nat_lt plain.next 64) (Go (MakeNote plain.next parent deadline)) (Over NotesFull) (parent_below parent p) tt
-    own_fits seat (MakeNote note parent deadline) p = tt
-    own_fits seat (Notifying note) p = tt
-    own_fits seat (Advancing moment) p = tt
     own_fits seat (ClockLoad chain) p = up_fits chain plain.clock (chain_note chain) clock_past (given_later (chain_note chain) p) (given_later (chain_note chain) p)
     own_fits seat (NoteLoad chain clock at) p = either_fits (is_over clock (plain.notes at)) (stopped chain) (up_to chain clock (plain.notes at).parent) (stopped_fits chain)
         (up_fits chain clock (plain.notes at).parent (let on = (grown_begins k h legal begins).clock in let was = p.0 in omega (arith, on, was)) (given_later (chain_note chain) p.2) (parent_made at (plain.notes at).parent refl))
     own_fits seat (ExpiryLoad asked at least) p = lowered_fits asked at least p.0 p.1 p.2
+    own_fits seat other p = tt
 
   next_fits : (next : EnvNext) (walk : EnvWalk) → env_walk_after next ≡ Some walk → NextFits next → AskFits k walk
   next_fits (Go one) walk e p = let is : one ≡ walk = cc in subst (AskFits k) is p

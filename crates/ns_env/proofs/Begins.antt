@@ -3,8 +3,7 @@ use Rattle.std.proofs.Common.{length, ◌≡◌, ℕ, zero, suc, List, [], repli
 use Rattle.std.proofs.lemmas.Bool.{cases_eq}
 use Rattle.std.proofs.lemmas.List.{length-set}
 use Rattle.std.proofs.lemmas.Option.{slice_get_within}
-use Rattle.ns_env.specs.Prelude.{Advancing, AskFits, ClockLoad, EnvBegins, EnvEvent, EnvState, EnvWalk, ExpiryLoad, IsEnvBySeats, IsFirstAsk, IsLawful, IsLawfulEnv, MakeNote, MakingFits, NextLoad, NoteLoad, NoteStanding, Nothing, Notifying, TakeNumber, adders, adds}
-use Rattle.ns_env.specs.Prelude.{env_after, fresh_asks, fresh_plain, making_of}
+use Rattle.ns_env.specs.Prelude.{Advancing, AskFits, EnvBegins, EnvEvent, EnvState, EnvWalk, ExpiryLoad, IsEnvBySeats, IsFirstAsk, IsLawful, IsLawfulEnv, MakeNote, MakingFits, NoteLoad, NoteStanding, Nothing, TakeNumber, adders, adds, env_after, fresh_asks, fresh_plain, making_of}
 use Rattle.ns_env.proofs.Asks.{set_here, set_there, adders_set}
 
 -- ---- a new environment
@@ -32,24 +31,17 @@ fresh_lawful seats = record {
 
 -- it begins to make no note yet
 first_makes : (notes : ℕ → NoteStanding) (walk : EnvWalk) → IsFirstAsk notes walk → making_of walk ≡ Nothing
-first_makes notes (NextLoad parent deadline) p = refl
 first_makes notes (TakeNumber parent deadline) p = absurd p
 first_makes notes (MakeNote note parent deadline) p = absurd p
-first_makes notes (Notifying note) p = refl
-first_makes notes (Advancing moment) p = refl
-first_makes notes (ClockLoad chain) p = refl
-first_makes notes (NoteLoad chain clock note) p = refl
-first_makes notes (ExpiryLoad asked note least) p = refl
+first_makes notes other p = refl
 
 first_fits : (h : List EnvEvent) (walk : EnvWalk) → IsFirstAsk (env_after h).notes walk → AskFits h walk
-first_fits h (NextLoad parent deadline) p = p
 first_fits h (TakeNumber parent deadline) p = absurd p
 first_fits h (MakeNote note parent deadline) p = absurd p
-first_fits h (Notifying note) p = p
 first_fits h (Advancing moment) p = tt
-first_fits h (ClockLoad chain) p = p
 first_fits h (NoteLoad chain clock note) p = absurd p
 first_fits h (ExpiryLoad asked note least) p = subst (λ (z : ℕ × Option ℕ). AskFits h (ExpiryLoad asked z.0 z.1)) (λ i. (sym p.0 i, sym p.1 i)) (p.2, p.2, refl)
+first_fits h other p = p
 
 pub begins_env : (h : List EnvEvent) (old new : EnvState) (seat : ℕ) (walk : EnvWalk) → EnvBegins old seat walk new → IsLawfulEnv h old → IsLawfulEnv h new
 begins_env h old new seat walk p lawful =

@@ -1,7 +1,7 @@
 -- A chain answers rightly, whatever others do between its loads.
 use Rattle.std.proofs.Common.{◌≡◌, ℕ, ◌<◌, ◌≤◌, Bool, true, false, cond, List, Option, None, Some, IfSome, IsSomeAnd, slice_get, refl, sym, ◌∙◌, subst, leb-true, leb-false}
-use Rattle.ns_env.specs.Prelude.{AtSomePoint, BeginsWith, Cause, Chain, ChainFits, Clock, ClockLoad, EnvEvent, EnvNext, EnvState, Expired, ForIsNotified, ForLook, ForNoteWait, Go, HasLooked, IfMade, Is, IsLawfulEnv, IsLeftAt, IsLegalEnv, IsNotified, IsUnnotified}
-use Rattle.ns_env.specs.Prelude.{Limits, LookOver, Note, NoteLoad, NoteStanding, NoteWord, Notified, Over, Repeat, Shows, chain_note, clock_of, env_after, env_got_of, is_due, is_over, passed, standing_of, stopped, up_to}
+use Rattle.ns_env.specs.Prelude.{AtSomePoint, BeginsWith, Cause, Chain, ChainFits, Clock, ClockLoad, EnvEvent, EnvNext, EnvState, Expired, ForIsNotified, ForLook, ForNoteWait, Go, HasLooked, IfMade, Is, IsLawfulEnv, IsLeftAt, IsLegalEnv, IsNotified, IsUnnotified, Limits, LookOver, Note, NoteLoad}
+use Rattle.ns_env.specs.Prelude.{NoteStanding, NoteWord, Notified, Over, Repeat, Shows, chain_note, clock_of, env_after, env_got_of, is_due, is_over, passed, standing_of, stopped, up_to}
 use Rattle.ns_model.proofs.Beginnings.{begins_itself, begins_through}
 use Rattle.ns_model.proofs.Lines.{line_starts, line_stops, line_goes_on}
 use Rattle.ns_env.proofs.Looks.{note_is}
@@ -45,13 +45,11 @@ module _ (point now : List EnvEvent) where
   -- it stands at a note, and what that tells
   on_fits : (chain : Chain) (clock at : ℕ) → clock ≡ clock_of point → IsSomeAnd (chain_note chain) (λ asked. IsLeftAt point asked (Some at)) → ChainFits point now chain (Go (NoteLoad chain clock at))
   on_fits (ForLook limits) clock at is left = (refl, is, left)
-  on_fits (ForIsNotified note) clock at is left = (refl, is, left)
-  on_fits (ForNoteWait note deadline) clock at is left = (refl, is, left)
+  on_fits other clock at is left = (refl, is, left)
 
   fits_on : (chain : Chain) (clock at : ℕ) → ChainFits point now chain (Go (NoteLoad chain clock at)) → (clock ≡ clock_of point) × IsSomeAnd (chain_note chain) (λ asked. IsLeftAt point asked (Some at))
   fits_on (ForLook limits) clock at fits = (fits.1, fits.2)
-  fits_on (ForIsNotified note) clock at fits = (fits.1, fits.2)
-  fits_on (ForNoteWait note deadline) clock at fits = (fits.1, fits.2)
+  fits_on other clock at fits = (fits.1, fits.2)
 
   -- it goes on to what is above, or passes the root
   up_fits : (chain : Chain) (clock asked : ℕ) (above : Option ℕ) → clock ≡ clock_of point → chain_note chain ≡ Some asked → IsLeftAt point asked above → ChainFits point now chain (up_to chain clock above)

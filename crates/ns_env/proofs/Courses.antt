@@ -1,9 +1,9 @@
 -- A call on the clock and the notes stays what it was asked, a step takes it on, and what others do leaves it where it is.
 use Rattle.std.proofs.Common.{◌≡◌, ℕ, ◌≤◌, min, nat_lt, Bool, true, false, cond, List, [], ◌∷◌, ◌++◌, Option, None, Some, slice_get, refl, sym, ap, ◌∙◌, subst, arith, append-nil}
 use Rattle.std.proofs.lemmas.Bool.Decides.{nat_tests}
-use Rattle.ns_env.specs.Prelude.{Advance, Advancing, BeginsWith, Chain, ChainFits, Clock, ClockLoad, EnvCourse, EnvEvent, EnvFound, EnvGoes, EnvHasDone, EnvNext, EnvPlain, EnvRequest, EnvSoFar, EnvState, EnvStep, EnvWalk, Expired, Expiry, ExpiryLoad, ForIsNotified}
-use Rattle.ns_env.specs.Prelude.{ForLook, ForNoteWait, Go, Is, IsBetween, IsFirstAsk, IsLawfulEnv, LookOver, MakeNote, New, NextLoad, NextNumber, Note, NoteLoad, NoteStanding, NotesFull, Notify, Notifying, Over, Repeat, Stored, Take, TakeNumber, Taken, asked_by}
-use Rattle.ns_env.specs.Prelude.{chain_note, earlier, env_asked_of, env_course_after, env_course_at, env_got_of, env_walk_after, env_want_of, expiry_of, is_due, is_over, lowered_to, outcome, passed, standing_of, state_of, stopped, takes_in, up_to}
+use Rattle.ns_env.specs.Prelude.{Advance, Advancing, BeginsWith, Chain, ChainFits, Clock, ClockLoad, EnvCourse, EnvEvent, EnvFound, EnvGoes, EnvHasDone, EnvNext, EnvPlain, EnvRequest, EnvSoFar, EnvState, EnvStep, EnvWalk, Expired, Expiry, ExpiryLoad, ForIsNotified, ForLook, ForNoteWait, Go, Is}
+use Rattle.ns_env.specs.Prelude.{IsBetween, IsFirstAsk, IsLawfulEnv, LookOver, MakeNote, New, NextLoad, NextNumber, Note, NoteLoad, NoteStanding, NotesFull, Notify, Notifying, Over, Repeat, Stored, Take, TakeNumber, Taken, asked_by, chain_note, earlier, env_asked_of, env_course_after}
+use Rattle.ns_env.specs.Prelude.{env_course_at, env_got_of, env_walk_after, env_want_of, expiry_of, is_due, is_over, lowered_to, outcome, passed, standing_of, state_of, stopped, takes_in, up_to}
 use Rattle.ns_model.proofs.Beginnings.{begins_itself, begins_through}
 use Rattle.ns_env.proofs.Chains.{chain_begins, chain_answers}
 use Rattle.ns_env.proofs.Looks.{expiry_is}
@@ -26,8 +26,7 @@ either_way P false one other p q = q
 -- a chain that stops is over
 stopped_asks : (chain : Chain) → GoesAsAsked (asked_by chain) (stopped chain)
 stopped_asks (ForLook limits) = tt
-stopped_asks (ForIsNotified note) = tt
-stopped_asks (ForNoteWait note deadline) = tt
+stopped_asks other = tt
 
 -- past the root a chain is over, or waits on for its note
 passed_asks : (chain : Chain) (clock : ℕ) → GoesAsAsked (asked_by chain) (passed chain clock)
@@ -90,8 +89,7 @@ begins_on events more front begins = begins_through (events ++ more) events fron
 -- where a chain stands at a note doesn't depend on what happens later
 stands_on : (point now later : List EnvEvent) (chain : Chain) (clock note : ℕ) → ChainFits point now chain (Go (NoteLoad chain clock note)) → ChainFits point later chain (Go (NoteLoad chain clock note))
 stands_on point now later (ForLook limits) clock note fits = fits
-stands_on point now later (ForIsNotified asked) clock note fits = fits
-stands_on point now later (ForNoteWait asked deadline) clock note fits = fits
+stands_on point now later other clock note fits = fits
 
 -- what a call has done at its place doesn't depend on what happens later
 done_on : (events more : List EnvEvent) (seat : ℕ) (course : EnvCourse) (walk : EnvWalk) → EnvHasDone events seat course walk → EnvHasDone (events ++ more) seat course walk
@@ -127,8 +125,7 @@ module _ (now : List EnvEvent) (seat : ℕ) (course : EnvCourse) (since : Begins
     -- a chain that stops answers of all until now
     stopped_goes : (chain : Chain) → ChainFits point now chain (stopped chain) → EnvGoes now seat (asked_by chain) course (stopped chain)
     stopped_goes (ForLook limits) fits = (none, (now, (since, begins_itself now), fits))
-    stopped_goes (ForIsNotified note) fits = (none, (now, (since, begins_itself now), fits))
-    stopped_goes (ForNoteWait note deadline) fits = (none, (now, (since, begins_itself now), fits))
+    stopped_goes other fits = (none, (now, (since, begins_itself now), fits))
 
     -- past the root a chain answers of the point at which it loaded the clock, or waits on for its note
     passed_goes : (chain : Chain) (clock : ℕ) → ChainFits point now chain (passed chain clock) → EnvGoes now seat (asked_by chain) course (passed chain clock)

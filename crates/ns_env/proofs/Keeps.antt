@@ -1,8 +1,8 @@
 -- A step keeps the law: what has happened by it is legal, the clock and the notes are as it leaves them, and its caller and all others have come as far as they say.
 use Rattle.std.proofs.Common.{◌≡◌, ◌≢◌, ℕ, ◌+◌, ◌<◌, ◌≤◌, min, max, nat_lt, Bool, true, false, cond, List, [], ◌∷◌, ◌++◌, Some, sym, refl, ap, ◌∙◌, subst, arith, append-nil}
 use Rattle.std.proofs.lemmas.Bool.Decides.{nat_tests}
-use Rattle.ns_env.specs.Prelude.{Adding, Advance, CanAct, Clock, EnvAct, EnvEvent, EnvFound, EnvPlain, EnvStanding, Every, IsLawful, IsLegalEnv, IsLegalEnvEvent, IsLegalEnvFrom, LoadClock, LoadNext, LoadNote, Making, MakingFits, Meets, MoveClock, New, NextNumber, Note}
-use Rattle.ns_env.specs.Prelude.{NoteStanding, Nothing, Notify, NotifyNote, Outcome, StoreNote, Stored, Take, TakeNext, Taken, adds, but_at, env_after, env_from, env_next, env_who, first_env, loaded, made_note, making_after, notified_note, outcome, state_of, takes_in}
+use Rattle.ns_env.specs.Prelude.{Adding, Advance, CanAct, Clock, EnvAct, EnvEvent, EnvFound, EnvPlain, EnvStanding, Every, IsLawful, IsLegalEnv, IsLegalEnvEvent, IsLegalEnvFrom, LoadClock, LoadNext, LoadNote, Making, MakingFits, Meets, MoveClock, New, NextNumber, Note, NoteStanding, Nothing}
+use Rattle.ns_env.specs.Prelude.{Notify, NotifyNote, Outcome, StoreNote, Stored, Take, TakeNext, Taken, adds, but_at, env_after, env_from, env_next, env_who, first_env, loaded, made_note, making_after, notified_note, outcome, state_of, takes_in}
 use Rattle.ns_model.proofs.Environments.{env_from-append, legal_env_append, by_seats_append, but_cases, but-here, but-there, IsSound, sound_from, sound_after}
 use Rattle.ns_env.specs.declared.view.Making.TheVariants as TheMaking
 
@@ -54,7 +54,6 @@ others_make h events who seat making legal more apart by fits =
 
 -- what has happened by it is its caller's
 pub outcome_by : (seat : ℕ) (act : EnvAct) (plain : EnvPlain) → Every (λ e. env_who e ≡ seat) (outcome seat act plain).events
-outcome_by seat LoadNext plain = tt
 outcome_by seat TakeNext plain = taken (nat_lt plain.next 64) where
   taken : (b : Bool) → Every (λ e. env_who e ≡ seat) (cond b (Take seat plain.next ∷ []) [])
   taken true = (refl, tt)
@@ -62,8 +61,7 @@ outcome_by seat TakeNext plain = taken (nat_lt plain.next 64) where
 outcome_by seat (StoreNote note parent deadline) plain = (refl, tt)
 outcome_by seat (NotifyNote note) plain = (refl, tt)
 outcome_by seat (MoveClock moment) plain = (refl, tt)
-outcome_by seat LoadClock plain = tt
-outcome_by seat (LoadNote note) plain = tt
+outcome_by seat other plain = tt
 
 -- what a step keeps that leaves this, and by which its caller has come so far
 pub record StepKeeps (seats others seat : ℕ) (h : List EnvEvent) (left : Outcome) (making : Making) : Type 0 where

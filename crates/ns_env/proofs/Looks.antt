@@ -1,7 +1,7 @@
 -- What a chain of notes finds, and where it goes.
 use Rattle.std.proofs.Common.{◌≡◌, ℕ, zero, suc, ◌<◌, Bool, true, false, ◌||◌, cond, List, Option, None, Some, slice_get, refl, sym, ap, ◌∙◌, subst, arith}
-use Rattle.ns_env.specs.Prelude.{Chain, ClockLoad, EnvEvent, EnvNext, EnvPlain, EnvState, Expired, Expiry, ExpiryLoad, ForIsNotified, ForLook, ForNoteWait, Go, Is, IsLawfulEnv, IsMade, LookOver, Meets, Note, NoteLoad, NoteStanding, NoteWord, Over, Repeat, earlier}
-use Rattle.ns_env.specs.Prelude.{env_after, env_got_of, expiry_of, is_due, is_notified, is_over, looked, lowered_to, notified_in, passed, standing_of, stopped, up_by, up_to}
+use Rattle.ns_env.specs.Prelude.{Chain, ClockLoad, EnvEvent, EnvNext, EnvPlain, EnvState, Expired, Expiry, ExpiryLoad, ForIsNotified, ForLook, ForNoteWait, Go, Is, IsLawfulEnv, IsMade, LookOver, Meets, Note, NoteLoad, NoteStanding, NoteWord, Over, Repeat, earlier, env_after, env_got_of, expiry_of}
+use Rattle.ns_env.specs.Prelude.{is_due, is_notified, is_over, looked, lowered_to, notified_in, passed, standing_of, stopped, up_by, up_to}
 use Rattle.ns_model.proofs.Beginnings.{begins_itself}
 use Rattle.ns_model.proofs.Lines.{IsExpiryAt, expiry_goes_on}
 use Rattle.ns_model.proofs.Environments.{sound_after, notified_in-up, notified_in-root}
@@ -10,8 +10,7 @@ use Rattle.ns_model.proofs.Environments.{sound_after, notified_in-up, notified_i
 
 by_stopped : (follow : ℕ → EnvNext) (chain : Chain) → up_by follow (stopped chain) ≡ stopped chain
 by_stopped follow (ForLook limits) = refl
-by_stopped follow (ForIsNotified note) = refl
-by_stopped follow (ForNoteWait note deadline) = refl
+by_stopped follow other = refl
 
 by_cond : (follow : ℕ → EnvNext) (b : Bool) (one other : EnvNext) → up_by follow one ≡ one → up_by follow other ≡ other → up_by follow (cond b one other) ≡ cond b one other
 by_cond follow true one other p q = p

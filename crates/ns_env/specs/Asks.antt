@@ -1,7 +1,7 @@
 -- A clock and notes as plain data, with a list of the places where seats stand in calls on them: a step of one seat, and what holds between any two.
 use Rattle.std.specs.Prelude.{◌≡◌, ℕ, zero, suc, ◌<◌, ◌≤◌, true, List, length, replicate, Option, None, Some, IfSome, slice_get, slice_set}
-use Rattle.ns_env.specs.Names.{Adding, Advancing, Chain, ClockLoad, EnvAct, EnvEvent, EnvFound, EnvNext, EnvWalk, ExpiryLoad, Go, IsMade, LoadClock, LoadNext, LoadNote, MakeNote, Making, MoveClock, NextLoad, Note, NoteLoad, NoteStanding, Nothing, NotifyNote, Notifying}
-use Rattle.ns_env.specs.Names.{ParentFits, StoreNote, TakeNext, TakeNumber, clock_of, earlier, env_after, expiry_of, total}
+use Rattle.ns_env.specs.Names.{Adding, Advancing, Chain, ClockLoad, EnvAct, EnvEvent, EnvFound, EnvNext, EnvWalk, ExpiryLoad, Go, IsMade, LoadClock, LoadNext, LoadNote, MakeNote, Making, MoveClock, NextLoad, Note, NoteLoad, NoteStanding, Nothing, NotifyNote, Notifying, ParentFits, StoreNote}
+use Rattle.ns_env.specs.Names.{TakeNext, TakeNumber, clock_of, earlier, env_after, expiry_of, total}
 use Rattle.ns_env.specs.declared.view.Making.TheVariants.{Taken}
 use Rattle.ns_env.specs.Lawful.{adds, MakingFits, IsLawful}
 use Rattle.ns_env.specs.Notes.{state_of}

@@ -1,7 +1,7 @@
 -- What the answer of a call on the clock and the notes means, and how far such a call has come at each of its places.
 use Rattle.std.specs.Prelude.{◌≡◌, ℕ, List, [], ◌∷◌, ◌++◌, Option}
-use Rattle.ns_env.specs.Names.{Advance, Advancing, BeginsWith, Cause, Chain, ClockLoad, EnvEvent, EnvNext, EnvReply, EnvRequest, EnvWalk, Expiry, ExpiryLoad, ForIsNotified, ForLook, ForNoteWait, Go, Is, IsBetween, Limits, LookOver, MakeNote, New, NextLoad, NoteLoad}
-use Rattle.ns_env.specs.Names.{NotesFull, Notify, Notifying, Number, Over, Repeat, Succeeded, Take, TakeNumber, expiry_of, is_notified, takes_in}
+use Rattle.ns_env.specs.Names.{Advance, Advancing, BeginsWith, Cause, Chain, ClockLoad, EnvEvent, EnvNext, EnvReply, EnvRequest, EnvWalk, Expiry, ExpiryLoad, ForIsNotified, ForLook, ForNoteWait, Go, Is, IsBetween, Limits, LookOver, MakeNote, New, NextLoad, NoteLoad, NotesFull, Notify, Notifying}
+use Rattle.ns_env.specs.Names.{Number, Over, Repeat, Succeeded, Take, TakeNumber, expiry_of, is_notified, takes_in}
 use Rattle.ns_env.specs.Chains.{HasFound, HasLooked, HasWaited, ChainFits}
 use Rattle.ns_env.specs.declared.request.EnvRequest.TheVariants as TheRequest
 

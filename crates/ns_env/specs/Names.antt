@@ -20,8 +20,8 @@ pub use Rattle.ns_env.specs.declared.walk.EnvNext.TheVariants.{Go, LookOver, Ove
 pub use Rattle.ns_env.specs.declared.walk.EnvWalk.{EnvWalk}
 pub use Rattle.ns_env.specs.declared.walk.EnvWalk.TheVariants.{Advancing, ClockLoad, ExpiryLoad, MakeNote, NextLoad, NoteLoad, Notifying, TakeNumber}
 pub use Rattle.ns_model.specs.Beginnings.{BeginsWith, IsBetween}
-pub use Rattle.ns_model.specs.Environments.{EnvStanding, IsEnvBySeats, IsLegalEnv, IsLegalEnvEvent, IsLegalEnvFrom, IsMade, IsNotified, NoteStanding, ParentFits, but_at, clock_of, earlier, env_after, env_from, env_next, env_own, env_who, first_env, is_due, is_over}
-pub use Rattle.ns_model.specs.Environments.{made_note, no_note, notified_in, notified_note, takes_in}
+pub use Rattle.ns_model.specs.Environments.{EnvStanding, IsEnvBySeats, IsLegalEnv, IsLegalEnvEvent, IsLegalEnvFrom, IsMade, IsNotified, NoteStanding, ParentFits, but_at, clock_of, earlier, env_after, env_from, env_next, env_own, env_who, first_env, is_due, is_over, made_note, no_note, notified_in}
+pub use Rattle.ns_model.specs.Environments.{notified_note, takes_in}
 unfoldable pub use Rattle.ns_model.specs.Environments.{expiry_of, is_notified}
 pub use Rattle.ns_model.specs.Lines.{IsLeftAt}
 pub use Rattle.ns_model.specs.Tallies.{Every, total}

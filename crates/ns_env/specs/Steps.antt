@@ -1,7 +1,7 @@
 -- What one step on the clock and the notes finds and leaves.
 use Rattle.std.specs.Prelude.{◌≡◌, ℕ, ◌+◌, max, nat_lt, true, if◌then◌else◌, List, [], ◌∷◌}
-use Rattle.ns_env.specs.Names.{Adding, Advance, Clock, EnvAct, EnvEvent, EnvFound, EnvStanding, LoadClock, LoadNext, LoadNote, Making, MoveClock, New, NextNumber, Note, NoteStanding, Nothing, Notify, NotifyNote, ParentFits, StoreNote, Stored, Take, TakeNext, Taken}
-use Rattle.ns_env.specs.Names.{but_at, made_note, no_note, notified_note}
+use Rattle.ns_env.specs.Names.{Adding, Advance, Clock, EnvAct, EnvEvent, EnvFound, EnvStanding, LoadClock, LoadNext, LoadNote, Making, MoveClock, New, NextNumber, Note, NoteStanding, Nothing, Notify, NotifyNote, ParentFits, StoreNote, Stored, Take, TakeNext, Taken, but_at, made_note, no_note}
+use Rattle.ns_env.specs.Names.{notified_note}
 use Rattle.ns_env.specs.Notes.{state_of}
 use Rattle.ns_env.specs.declared.view.Making.TheVariants as TheMaking
 

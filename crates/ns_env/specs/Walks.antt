@@ -1,7 +1,7 @@
 -- What each place in a call on the clock and the notes wants next, and where what its step found leads it.
 use Rattle.std.specs.Prelude.{ℕ, nat_lt, Bool, true, false, ◌||◌, if◌then◌else◌, Option, None, Some, is_some}
-use Rattle.ns_env.specs.Names.{Advancing, Chain, Clock, ClockLoad, EnvAct, EnvFound, EnvNext, EnvWalk, Expired, Expiry, ExpiryLoad, ForIsNotified, ForLook, ForNoteWait, Go, Is, Limits, LoadClock, LoadNext, LoadNote, LookOver, MakeNote, MoveClock, NextLoad, NextNumber}
-use Rattle.ns_env.specs.Names.{Note, NoteLoad, NotesFull, Notified, NotifyNote, Notifying, Number, Over, Repeat, StoreNote, Stored, Succeeded, TakeNext, TakeNumber, Taken, earlier, is_due, is_over}
+use Rattle.ns_env.specs.Names.{Advancing, Chain, Clock, ClockLoad, EnvAct, EnvFound, EnvNext, EnvWalk, Expired, Expiry, ExpiryLoad, ForIsNotified, ForLook, ForNoteWait, Go, Is, Limits, LoadClock, LoadNext, LoadNote, LookOver, MakeNote, MoveClock, NextLoad, NextNumber, Note, NoteLoad, NotesFull}
+use Rattle.ns_env.specs.Names.{Notified, NotifyNote, Notifying, Number, Over, Repeat, StoreNote, Stored, Succeeded, TakeNext, TakeNumber, Taken, earlier, is_due, is_over}
 use Rattle.ns_env.specs.Notes.{standing_of}
 
 -- the step that the place wants

@@ -3,13 +3,12 @@ use Rattle.std.specs.Prelude.{IsSome}
 use Rattle.std.proofs.Common.{◌≡◌, ◌≢◌, ◌⊎◌, inl, inr, ℕ, suc, ◌+◌, ◌<◌, Bool, true, false, cond, eqb, if◌then◌else◌, List, [], ◌∷◌, length, Option, None, Some, set, get_or, refl, ap, sym, ◌∙◌, subst, arith, eq-eqb, length-set, take, drop, slice_set}
 use Rattle.std.proofs.lemmas.Bool.{ne_eqb, cases_eq}
 use Rattle.std.proofs.lemmas.List.{get_or-set_same, get_or-set_other, set-get_or}
-use Rattle.ns_gate.specs.Prelude.{Acquire, Act, ActFits, Allows, ArmFlag, Arrival, AtHome, CanLeave, CanStep, CanWait, Cell, Change, Effect, Event, Flag, Found, GateView, GetLoad, HasMode, HasStepped, Held, Holds, Homes, InAcquire, InCells, InLeaving, InQueuing}
-use Rattle.ns_gate.specs.Prelude.{InRelease, InShow, InSignal, InTry, InWait, IsExchange, IsLoad, IsOne, IsRuled, IsStoreOf, JudgeMet, JudgeQuiet, Leave, LeaveSelf, Lists, LoadCell, LoadFlag, LoadWord, Made, MayBegin, MayExchange, MayLoad, MayStore, Me, Mode, Nothing}
-use Rattle.ns_gate.specs.Prelude.{OnCondition, OnVariables, Owed, OwesOne, Paid, Part, PayWake, PerformedWith, Queue, QueueSelf, QueueToWait, Quiet, QuietKeeps, QuietWriter, Read, Reader, Release, ReleaseReturning, Releasing, ReturnQueues, ReturnShown, Saw}
-use Rattle.ns_gate.specs.Prelude.{ScanAndRelease, SectionFits, Shows, StoreCell, Subject, TableAct, TakeQueues, Taking, TestLast, Tested, ToChange, ToQueue, Truths, TryLoad, Underlying, Valid, Views, WaitReturning, WakeAndReturn, WakeWaiters, Walk, Word, Write, Writer}
-use Rattle.ns_gate.specs.Prelude.{act_by, before_in, bits_of, called_of, carried_after, carried_by, change_commits, change_found, changed, content_by, encoded, exchanged, exit_for, flags_with, found_of, gives, has_queues, has_some, homes_after, judge_of, keeps_slots}
-use Rattle.ns_gate.specs.Prelude.{lists_scanned, meets_at, mode_for, moves, newly_held, next_owed, number_of, owed_after, owes_more, part_of, releasing_of, rest, row_in, scanned, section_of, standing_after, takes, the, view_in, waited_in, walk_by, want_of, woken_of}
-use Rattle.ns_gate.specs.Prelude.{word_acquired, word_at, word_of, word_released, word_released_returning, word_returned, word_taken}
+use Rattle.ns_gate.specs.Prelude.{Acquire, Act, ActFits, Allows, ArmFlag, Arrival, AtHome, CanLeave, CanStep, CanWait, Cell, Change, Effect, Event, Flag, Found, GateView, GetLoad, HasMode, HasStepped, Held, Holds, Homes, InAcquire, InCells, InLeaving, InQueuing, InRelease, InShow, InSignal, InTry}
+use Rattle.ns_gate.specs.Prelude.{InWait, IsExchange, IsLoad, IsOne, IsRuled, IsStoreOf, JudgeMet, JudgeQuiet, Leave, Lists, LoadCell, LoadFlag, LoadWord, Made, MayBegin, MayExchange, MayLoad, MayStore, Me, Mode, OnCondition, OnVariables, Owed, OwesOne, Paid, Part, PayWake, PerformedWith, Queue}
+use Rattle.ns_gate.specs.Prelude.{QueueSelf, QueueToWait, Quiet, QuietKeeps, Read, Release, ReleaseReturning, Releasing, ReturnQueues, ReturnShown, Saw, ScanAndRelease, SectionFits, Shows, StoreCell, Subject, TableAct, TakeQueues, Taking, TestLast, Tested, ToChange, ToQueue, Truths, TryLoad}
+use Rattle.ns_gate.specs.Prelude.{Underlying, Valid, Views, WaitReturning, WakeAndReturn, Walk, Word, Write, Writer, act_by, before_in, bits_of, called_of, carried_after, carried_by, change_commits, change_found, changed, content_by, encoded, exchanged, exit_for, flags_with, found_of, gives}
+use Rattle.ns_gate.specs.Prelude.{has_queues, has_some, homes_after, judge_of, keeps_slots, lists_scanned, meets_at, mode_for, moves, newly_held, next_owed, number_of, owed_after, owes_more, part_of, releasing_of, rest, row_in, scanned, section_of, standing_after, takes, the, view_in, waited_in}
+use Rattle.ns_gate.specs.Prelude.{walk_by, want_of, woken_of, word_acquired, word_at, word_of, word_released, word_released_returning, word_returned, word_taken}
 use Rattle.ns_seats.proofs.Views.{one_is}
 use Rattle.ns_gate.proofs.Keeps.{none_takes, hand_of, its_fit, between, lawful_between, stands_between, walk_in, now, later, did, did_from, ruled}
 use Rattle.ns_gate.proofs.Findings.{meant_by, walk_is}
@@ -31,8 +30,7 @@ acquired_spin Read arrival w = refl
 
 released_spin : (releasing : Releasing) (w : Word) → (word_released releasing w).spin ≡ w.spin
 released_spin Writer w = refl
-released_spin QuietWriter w = refl
-released_spin Reader w = refl
+released_spin other w = refl
 
 taken_spin : (taking : Taking) (w : Word) → (word_taken taking w).spin ≡ true
 taken_spin ToChange w = refl
@@ -41,9 +39,7 @@ taken_spin (ToQueue mode arrival) w = refl
 -- who puts the queues back has none
 carried_returned : {C : Type 0} (seat : ℕ) (change : Change) (last : Word) (lists stood : Lists C) (cs : List (ℕ × Lists C)) → carried_by (ReturnQueues change last) (change_found seat change last lists) stood cs ≡ rest cs
 carried_returned seat (QueueSelf mode arrival) last lists stood cs = refl
-carried_returned seat (LeaveSelf home) last lists stood cs = refl
-carried_returned seat (WakeWaiters waking k) last lists stood cs = refl
-carried_returned seat Nothing last lists stood cs = refl
+carried_returned seat other last lists stood cs = refl
 
 -- what is left as they are put back, with the lists changed
 abbrev returned : {C : Type 0} {N : ℕ} → ℕ → Change → Word → Part C N → Part C N
@@ -51,11 +47,10 @@ returned seat change last old =
     let lists = changed seat change last old.lists in
     record old { word = word_returned (moves change last old.lists) (bits_of lists.lock) last; lists = lists; owed = owed_after change last old.lists old.owed }
 
-returned_effect : {C : Type 0} {N : ℕ} (truths : Truths C) (seat : ℕ) (change : Change) (last : Word) (old : Part C N) → last ≡ old.word → Effect truths seat (ReturnQueues change last) old (change_found seat change last old.lists) (returned seat change last old) (change_commits seat change old.lists)
+returned_effect : {C : Type 0} {N : ℕ} (truths : Truths C) (seat : ℕ) (change : Change) (last : Word) (old : Part C N) → last ≡ old.word →
+    Effect truths seat (ReturnQueues change last) old (change_found seat change last old.lists) (returned seat change last old) (change_commits seat change old.lists)
 returned_effect truths seat (QueueSelf mode arrival) last old same = (refl, same, refl, refl)
-returned_effect truths seat (LeaveSelf home) last old same = (refl, same, refl, refl)
-returned_effect truths seat (WakeWaiters waking k) last old same = (refl, same, refl, refl)
-returned_effect truths seat Nothing last old same = (refl, same, refl, refl)
+returned_effect truths seat other last old same = (refl, same, refl, refl)
 
 -- the words after a flag was stored
 shows_flag : (N : ℕ) (words : List ℕ) (word : Word) (row : List ℕ) (flags : ℕ → ℕ) (payee x : ℕ) → Shows N words word row flags → payee < 64 → Shows N (set words (payee + (N + 1)) x) word row (flags_with flags payee x)
@@ -167,7 +162,9 @@ module _ {C : Type 0} {N : ℕ} (truths : Truths C) (cells : 0 < N) (quiet : Qui
           let a = act_fits truths seat_count r.few g.history s (take v.at.seat s.views) (view_in v.at b) (drop (suc v.at.seat) s.views) (split_at s.views v.at.seat (view_in v.at b) stands) (lawful_between truths cells quiet seat_count words homes views g r id v at b may) walk (walk_in b v.at ∙ walks) in
           plain b a
         where
-          plain : (x : Option (Walk C)) → ActFits truths seat_count (view_in v.at x).seat (want_of walk) (part_of (record g.state { views = slice_set g.state.views v.at.seat (view_in v.at x) }) (view_in v.at x).held (view_in v.at x).owed) → ActFits truths seat_count v.at.seat (want_of walk) (part_of g.state v.at.held v.at.owed)
+          plain : (x : Option (Walk C)) →
+              ActFits truths seat_count (view_in v.at x).seat (want_of walk) (part_of (record g.state { views = slice_set g.state.views v.at.seat (view_in v.at x) }) (view_in v.at x).held (view_in v.at x).owed) →
+              ActFits truths seat_count v.at.seat (want_of walk) (part_of g.state v.at.held v.at.owed)
           plain None p = p
           plain (Some first) p = p
 
@@ -182,7 +179,8 @@ module _ {C : Type 0} {N : ℕ} (truths : Truths C) (cells : 0 < N) (quiet : Qui
     shown = ap word_of r.shows.word_is ∙ decoded g.state.word
 
     -- the step, from its effect
-    finish : (act : Act C) → want_of walk ≡ act → (k : ℕ) (found : Found) (part : Part C N) (commits : List (Event C N)) → Effect truths v.at.seat act old found part commits → found_of truths act v.at v.stood k ≡ found → k ≡ content_by v.at act g.state → (words' : List ℕ) → Shows N words' part.word part.row part.flags
+    finish : (act : Act C) → want_of walk ≡ act → (k : ℕ) (found : Found) (part : Part C N) (commits : List (Event C N)) → Effect truths v.at.seat act old found part commits →
+        found_of truths act v.at v.stood k ≡ found → k ≡ content_by v.at act g.state → (words' : List ℕ) → Shows N words' part.word part.row part.flags
         → (a : TableAct (Lists C)) → Valid homes cs a → AtHome part.word.spin part.lists (homes_after homes cs a) → (part.lists ≡ g.state.lists) ⊎ (part.word.spin ≡ false) → carried_after cs a ≡ carried_by act found part.lists cs → Owes homes views v cs words' act k
     finish act wants k found part commits e is tells words' shows a valid home kept carried =
         let e' : Effect truths v.at.seat (want_of walk) old found part commits = subst (λ x. Effect truths v.at.seat x old found part commits) (sym wants) e in
@@ -198,7 +196,8 @@ module _ {C : Type 0} {N : ℕ} (truths : Truths C) (cells : 0 < N) (quiet : Qui
         )
 
     -- nothing changes
-    stays : (act : Act C) → want_of walk ≡ act → (k : ℕ) (found : Found) → Effect truths v.at.seat act old found old [] → found_of truths act v.at v.stood k ≡ found → k ≡ content_by v.at act g.state → cs ≡ carried_by act found g.state.lists cs → (words' : List ℕ) → words' ≡ words → Owes homes views v cs words' act k
+    stays : (act : Act C) → want_of walk ≡ act → (k : ℕ) (found : Found) → Effect truths v.at.seat act old found old [] → found_of truths act v.at v.stood k ≡ found → k ≡ content_by v.at act g.state →
+        cs ≡ carried_by act found g.state.lists cs → (words' : List ℕ) → words' ≡ words → Owes homes views v cs words' act k
     stays act wants k found e is tells carried words' same = finish act wants k found old [] e is tells words' (subst (λ ws. Shows N ws g.state.word g.state.row g.state.flags) (sym same) r.shows) keeps_slots tt r.home (inl refl) carried
 
     -- ---- a load
@@ -316,7 +315,8 @@ module _ {C : Type 0} {N : ℕ} (truths : Truths C) (cells : 0 < N) (quiet : Qui
     }
 
     -- the queues are put back: what the seat made of what it knows of them is what the machine makes of them
-    puts_back : (act : Act C) → want_of walk ≡ act → (last : Word) (Z : Type 0) (mine theirs : Z) → mine ≡ theirs → (lists : Z → Lists C) (found : Z → Found) (word : Z → Word) (held : Option (Held C N)) (owed : List Owed) (commits : List (Event C N)) (x y : ℕ) → x ≡ number_of last → y ≡ number_of (word mine)
+    puts_back : (act : Act C) → want_of walk ≡ act → (last : Word) (Z : Type 0) (mine theirs : Z) → mine ≡ theirs →
+        (lists : Z → Lists C) (found : Z → Found) (word : Z → Word) (held : Option (Held C N)) (owed : List Owed) (commits : List (Event C N)) (x y : ℕ) → x ≡ number_of last → y ≡ number_of (word mine)
         → has_queues v.at.walk ≡ true → cs ≡ (0, lists mine) ∷ [] → (word theirs).spin ≡ false
         → number_of g.state.word ≡ content_by v.at act g.state
         → ((k : ℕ) → found_of truths act v.at v.stood k ≡ exchanged k last (found mine))

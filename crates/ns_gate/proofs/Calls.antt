@@ -1,9 +1,9 @@
 -- A step takes its call on, as its caller follows it.
 use Rattle.std.proofs.Common.{◌≡◌, ℕ, ◌≤◌, true, false, arith, List, [], ◌∷◌, ◌++◌, length, Option, None, Some, refl, ap, sym, ◌∙◌, subst}
 use Rattle.std.proofs.lemmas.List.{append_assoc, append-nil}
-use Rattle.ns_gate.specs.Prelude.{Act, ActFits, CallGoes, CanStep, Course, Done, Event, Found, GateView, HasReached, HasSince, HasStepped, Held, Idle, InAcquire, InCells, InRelease, InShow, InSignal, InTry, InWait, IsAtPlace, IsAtRest, IsOne, IsTold, IsTrueToHistory}
-use Rattle.ns_gate.specs.Prelude.{IsWide, Next, On, Owed, OwesBelow, OwesOne, Pay, PayInWait, PayTheWoken, PayWake, Performed, PlaceFits, SeatOf, SeatView, SectionFits, Standing, Told, Truths, Walk, asked_of, carried_by, course_by, got_of, has_queues, has_some, part_of}
-use Rattle.ns_gate.specs.Prelude.{pays, row_after, standing_after, the, walk_after, walk_by, want_of}
+use Rattle.ns_gate.specs.Prelude.{Act, ActFits, CallGoes, CanStep, Course, Done, Event, Found, GateView, HasReached, HasSince, HasStepped, Held, Idle, InAcquire, InCells, InRelease, InShow, InSignal, InTry, InWait, IsAtPlace, IsAtRest, IsOne, IsTold, IsTrueToHistory, IsWide, Next, On, Owed}
+use Rattle.ns_gate.specs.Prelude.{OwesBelow, OwesOne, Pay, PayInWait, PayTheWoken, PayWake, Performed, PlaceFits, SeatOf, SeatView, SectionFits, Standing, Told, Truths, Walk, asked_of, carried_by, course_by, got_of, has_queues, has_some, part_of, pays, row_after, standing_after, the, walk_after}
+use Rattle.ns_gate.specs.Prelude.{walk_by, want_of}
 use Rattle.ns_gate.proofs.Findings.{fits_now, walk_is}
 use Rattle.ns_model.proofs.Beginnings.{begins_itself, begins_through}
 
@@ -111,7 +111,8 @@ module _ {C : Type 0} {N : ℕ} (truths : Truths C) where
   goes_on walk act found next me now at is empty p = leads None walk found next (the me.0) now p.one empty at.walks is p.did
 
   -- one that takes and puts back nothing does without the queues
-  pub goes : (walk : Walk C) (act : Act C) (found : Found) (next : Next C) (me now : SeatOf C N) → IsAtPlace truths walk me → has_queues (Some walk) ≡ false → got_of N walk found ≡ next → carried_by act found (the now.0).stood me.1 ≡ me.1 → Performed truths None act found me now → HasReached truths (asked_of walk) next now
+  pub goes : (walk : Walk C) (act : Act C) (found : Found) (next : Next C) (me now : SeatOf C N) → IsAtPlace truths walk me → has_queues (Some walk) ≡ false → got_of N walk found ≡ next →
+      carried_by act found (the now.0).stood me.1 ≡ me.1 → Performed truths None act found me now → HasReached truths (asked_of walk) next now
   goes walk act found next me now at free is keeps p = goes_on walk act found next me now at is (λ _. p.carried ∙ (keeps ∙ at.empty free)) p
 
 module _ {C : Type 0} {N : ℕ} where

@@ -40,7 +40,8 @@ module _ {C : Type 0} {N : ℕ} (truths : Truths C) (seat_count id : ℕ) where
     shows_row row wide each = let cells = r.lawful.one_history.cells in
         ext_get_or 0 row g.state.row (wide ∙ sym cells) (λ k low. let below : k < N = omega (arith, low, wide) in sym (read_at words (k + 1) (get_or row k 0) (each k below)) ∙ r.shows.cells k below)
 
-    ends_so : (vs : List (GateView C N)) (row : List ℕ) (free : Bool) (n : ℕ) → get_elem? views id ≡ some vs → IsOne vs → get_elem? words 0 ≡ some n → length row ≡ N → ((k : ℕ) → k < N → get_elem? words (k + 1) ≡ some (get_or row k 0)) → free ≡ not (is_held (word_of n)) → EndsAs truths (the vs) row free
+    ends_so : (vs : List (GateView C N)) (row : List ℕ) (free : Bool) (n : ℕ) → get_elem? views id ≡ some vs → IsOne vs → get_elem? words 0 ≡ some n → length row ≡ N →
+        ((k : ℕ) → k < N → get_elem? words (k + 1) ≡ some (get_or row k 0)) → free ≡ not (is_held (word_of n)) → EndsAs truths (the vs) row free
     ends_so vs row free n at one word wide each is =
         let fit = its_fit g vs one (every_at (Every (Fits truths seat_count g.history g.state)) views id vs r.each at) in
         let limited = sym fit.limited in

@@ -2,9 +2,9 @@
 use Rattle.std.specs.Prelude.{slice_index}
 use Rattle.std.proofs.Common.{◌≡◌, ℕ, Bool, cond, inl, inr, ◌<◌, List, [], ◌++◌, ◌∷◌, Option, None, Some, Result, refl, ap, sym, ◌∙◌, subst}
 use Rattle.std.proofs.lemmas.Bool.{ne_eqb, cases_eq}
-use Rattle.ns_gate.specs.Prelude.{Acquire, Act, ActFits, BeginsIf, CanStep, Cell, Changed, Effect, Flag, Found, GateView, HasStepped, Held, IsExchange, IsOwedNext, IsPackable, JudgeMet, JudgeQuiet, Lists, LoadCell, LoadFlag, LoadWord, LockState, Made, MayExchange, Me}
-use Rattle.ns_gate.specs.Prelude.{Owed, Part, Performed, PerformedWith, Release, ReleaseReturning, Released, ReturnQueues, Returning, Saw, SeatView, SectionFits, TakeQueues, Truths, WaitReturning, Waited, Walk, Word, act_by, act_of, act_returning, change_found}
-use Rattle.ns_gate.specs.Prelude.{exchanged, found_of, found_returned, got_of, made_by, next_owed, number_of, part_of, rest, row_in, scanned, standing_after, the, tried_for, view_in, walk_after, walk_by, want_of, word_of}
+use Rattle.ns_gate.specs.Prelude.{Acquire, Act, ActFits, BeginsIf, CanStep, Cell, Changed, Effect, Flag, Found, GateView, HasStepped, Held, IsExchange, IsOwedNext, IsPackable, JudgeMet, JudgeQuiet, Lists, LoadCell, LoadFlag, LoadWord, LockState, Made, MayExchange, Me, Owed, Part, Performed}
+use Rattle.ns_gate.specs.Prelude.{PerformedWith, Release, ReleaseReturning, ReturnQueues, Returning, Saw, SeatView, SectionFits, TakeQueues, Truths, WaitReturning, Walk, Word, act_by, act_of, act_returning, change_found, exchanged, found_of, found_returned, got_of, made_by, next_owed, number_of}
+use Rattle.ns_gate.specs.Prelude.{part_of, rest, row_in, scanned, standing_after, the, tried_for, view_in, walk_after, walk_by, want_of, word_of}
 use Rattle.ns_word.proofs.Codes.{decoded}
 use Rattle.ns_word.proofs.Seen.{packable, found_fits}
 use Rattle.ns_word.proofs.Acts.{act_fits, view_fits}
@@ -51,8 +51,7 @@ module _ {C : Type 0} {N : ℕ} (truths : Truths C) where
   pub returned_so : (returning : Returning C) (last : Word) (result : Result Unit Word) (me now : Me (Lists C) (List (GateView C N))) → Performed truths None (act_returning returning last) (tried_for (made_by truths (act_returning returning last) (the me.0)) result) me now
       → Performed truths None (act_returning returning last) (tried_for (found_returned truths (the me.0).at.seat returning last (row_in (the me.0).at.held) (the me.0).stood) result) me now
   returned_so (Changed change) last result me now p = p
-  returned_so (Released releasing) last result me now p = p
-  returned_so (Waited wait again) last result me now p = p
+  returned_so other last result me now p = p
 
   -- the act that a seat's call wants next, or begins with
   pub meant_by : (b : Option (Walk C)) (act : Act C) (me : Me (Lists C) (List (GateView C N))) → CanStep truths b act me → act_by b (the me.0) ≡ act

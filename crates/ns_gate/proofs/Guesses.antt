@@ -1,8 +1,8 @@
 -- One exchange of the lock word that is a load and the exchange behind it, where the word was guessed.
 use Rattle.std.proofs.Common.{◌≡◌, inl, inr, ℕ, ◌<◌, Bool, cond, eqb, None, Some, Result, Ok, Err, refl, ap, sym, ◌∙◌, subst}
 use Rattle.std.proofs.lemmas.Bool.{ne_eqb, cases_eq, eq-eqb}
-use Rattle.ns_gate.specs.Prelude.{Acquire, Act, Allows, CameByGuess, CanStep, Found, GateView, HasGuessed, HasMadeBoth, Holds, IsExchange, IsPackable, IsPlainExchange, LoadWord, Made, MayExchange, MayGuess, Performed, PerformedBoth, PerformedWith, QuietKeeps, Release}
-use Rattle.ns_gate.specs.Prelude.{Saw, SeatOf, SeatView, Truths, Walk, WantsNext, Word, act_by, carried_after, exchanged, got_of, made_by, number_of, the, tried_for, walk_after, want_of, word_of}
+use Rattle.ns_gate.specs.Prelude.{Acquire, Act, Allows, CameByGuess, CanStep, Found, GateView, HasGuessed, HasMadeBoth, Holds, IsExchange, IsPackable, IsPlainExchange, LoadWord, Made, MayExchange, MayGuess, Performed, PerformedBoth, PerformedWith, QuietKeeps, Release, Saw, SeatOf, SeatView}
+use Rattle.ns_gate.specs.Prelude.{Truths, Walk, WantsNext, Word, act_by, carried_after, exchanged, got_of, made_by, number_of, the, tried_for, walk_after, want_of, word_of}
 use Rattle.ns_gate.proofs.Allowed.{may_load, may_exchange}
 use Rattle.ns_gate.proofs.Findings.{exchanged_by, stepped, walk_is, word_packs}
 use Rattle.ns_seats.proofs.AtOnce.{at_once, GoesOn}
@@ -54,7 +54,8 @@ module _ {C : Type 0} {N : ℕ} (truths : Truths C) where
     some_is : {x y : Walk C} → Some x ≡ Some y → x ≡ y
     some_is e = cc
 
-  both_made : (first : Walk C) (guess new : Word) (k : ℕ) (me now : SeatOf C N) → MayGuess N first guess new → CanStep truths (Some first) LoadWord me → k ≡ number_of guess → PerformedBoth truths (Some first) k me now → (act : Act C) → WantsNext N first guess act → HasMadeBoth truths first guess act me now
+  both_made : (first : Walk C) (guess new : Word) (k : ℕ) (me now : SeatOf C N) → MayGuess N first guess new → CanStep truths (Some first) LoadWord me → k ≡ number_of guess → PerformedBoth truths (Some first) k me now →
+      (act : Act C) → WantsNext N first guess act → HasMadeBoth truths first guess act me now
   unfolding may_then
   both_made first guess new k me now g can is b act w =
       let mid = b.between in
@@ -69,7 +70,8 @@ module _ {C : Type 0} {N : ℕ} (truths : Truths C) where
       }
 
   -- what came of it
-  pub came_so : (first : Walk C) (guess new : Word) (x k : ℕ) (result : Result Unit Word) (me now : SeatOf C N) → x ≡ number_of guess → MayGuess N first guess new → CanStep truths (Some first) LoadWord me → ((made : Found) → tried_for made result ≡ exchanged k guess made) → HasGuessed truths (Some first) x k me now
+  pub came_so : (first : Walk C) (guess new : Word) (x k : ℕ) (result : Result Unit Word) (me now : SeatOf C N) → x ≡ number_of guess → MayGuess N first guess new → CanStep truths (Some first) LoadWord me →
+      ((made : Found) → tried_for made result ≡ exchanged k guess made) → HasGuessed truths (Some first) x k me now
       → (act : Act C) → WantsNext N first guess act → CameByGuess truths first guess act result me now
   came_so first guess new x k (Ok u) me now is_x g can tries h act w = elim (cases_eq (number_of guess) k) [
     | inl e ↦ both_made first guess new k me now g can (sym e) (h.hit (sym e ∙ sym is_x)) act w
@@ -89,7 +91,8 @@ module _ {C : Type 0} {N : ℕ} (truths : Truths C) (cells : 0 < N) (quiet : Qui
   swapped x y n = either (eqb n x) y n
 
   -- A seat may begin its call so.
-  pub may_guess : (first : Walk C) (guess new : Word) (x y : ℕ) → CanStep truths (Some first) LoadWord me → MayGuess N first guess new → x ≡ number_of guess → y ≡ number_of new → Allows (Holds truths seat_count) slots id me 0 (λ n. either (eqb n x) y n) (λ k now. HasGuessed truths (Some first) x k me now)
+  pub may_guess : (first : Walk C) (guess new : Word) (x y : ℕ) → CanStep truths (Some first) LoadWord me → MayGuess N first guess new → x ≡ number_of guess → y ≡ number_of new →
+      Allows (Holds truths seat_count) slots id me 0 (λ n. either (eqb n x) y n) (λ k now. HasGuessed truths (Some first) x k me now)
   may_guess first guess new x y can g is_x is_y = at_once (Holds truths seat_count) slots id 0 (swapped x y) me (λ k mid. PerformedWith truths (Some first) (act_by (Some first) (the me.0)) k me mid) (λ k now. HasGuessed truths (Some first) x k me now)
       (may_load truths cells quiet seat_count id slots me (Some first) 0 (record { act = LoadWord; can = can; loads = tt; there = refl })) goes_on
     where

@@ -2,9 +2,8 @@
 use Rattle.std.specs.Prelude.{nat_lt, slice_get}
 use Rattle.std.proofs.Common.{◌≡◌, ◌≢◌, ◌⊎◌, inl, inr, ℕ, zero, suc, ◌<◌, ◌≤◌, true, false, cond, eqb, List, [], ◌∷◌, ◌++◌, Option, None, Some, IfSome, set, slice_set, take, drop, refl, ap, sym, ◌∙◌, subst, arith, eq-eqb}
 use Rattle.std.proofs.lemmas.Option.{slice_get_within}
-use Rattle.ns_gate.specs.Prelude.{AtHome, BeginsIf, BeginsWith, CallGoes, Course, Done, Effect, Event, Every, Fits, Found, GateView, HasCome, HasStepped, Held, Homes, Idle, IsLawful, IsRuled, IsTold, LockState, MayBegin, Next, On, Owed, Part, QuietKeeps, Request}
-use Rattle.ns_gate.specs.Prelude.{SeatStep, SeatView, Shows, SoFar, Step, Truths, Underlying, ViewFits, Views, Walk, asked_of, calls_of, course_after, course_by, course_from, got_of, has_queues, is_seat, one_if, part_of, row_after, standing_after, takers, told_after}
-use Rattle.ns_gate.specs.Prelude.{total, view_in, walk_after, walk_by, want_of}
+use Rattle.ns_gate.specs.Prelude.{AtHome, BeginsIf, BeginsWith, CallGoes, Course, Done, Effect, Event, Every, Fits, Found, GateView, HasCome, HasStepped, Held, Homes, Idle, IsLawful, IsRuled, IsTold, LockState, MayBegin, Next, On, Owed, Part, QuietKeeps, Request, SeatStep, SeatView, Shows, SoFar}
+use Rattle.ns_gate.specs.Prelude.{Step, Truths, Underlying, ViewFits, Views, Walk, asked_of, calls_of, course_after, course_by, course_from, got_of, has_queues, is_seat, one_if, part_of, row_after, standing_after, takers, told_after, total, view_in, walk_after, walk_by, want_of}
 use Rattle.ns_model.proofs.Tallies.{one_most, total_set, total_none, Others, every_at, others_of, others_both, others_map, others_none, every_both, every_put}
 use Rattle.ns_word.proofs.Acts.{view_fits}
 use Rattle.ns_word.proofs.Courses.{takes_on, begins_unchanged}
@@ -42,7 +41,8 @@ module _ {C : Type 0} {N : ℕ} where
   next_view view walk found part = record { seat = view.seat; walk = walk_after (got_of N walk found); held = part.held; owed = part.owed }
 
   -- how far its call has come then
-  has_come : (truths : Truths C) (seat : ℕ) (row : List ℕ) (request : Request C) (course : Course C N) (next : Next C) (held : Option (Held C N)) (owed : List Owed) → CallGoes truths seat row request course next held → HasCome truths course (record { seat = seat; walk = walk_after next; held = held; owed = owed })
+  has_come : (truths : Truths C) (seat : ℕ) (row : List ℕ) (request : Request C) (course : Course C N) (next : Next C) (held : Option (Held C N)) (owed : List Owed) → CallGoes truths seat row request course next held →
+      HasCome truths course (record { seat = seat; walk = walk_after next; held = held; owed = owed })
   has_come truths seat row request course (On walk) held owed goes = goes.so_far
   has_come truths seat row request course (Idle walk) held owed goes = goes.so_far
   has_come truths seat row request course (Done reply) held owed goes = tt

@@ -1,8 +1,8 @@
 -- A look changes no word of the table: any load may be told what it has shown.
 use Rattle.std.proofs.Common.{◌≡◌, ◌<◌, ℕ, Bool, inl, List, [], ◌∷◌, set, Option, None, Some, refl, ap, sym, ◌∙◌, subst}
 use Rattle.std.proofs.lemmas.List.{set-get_or}
-use Rattle.ns_gate.specs.Prelude.{Act, Allows, CanStep, Cause, Effect, GateView, HasLooked, HasStepped, Holds, Homes, IsOne, IsRuled, Limits, Lists, Look, Looked, MayShow, Me, Part, Performed, QuietKeeps, Truths, Underlying, Views, Walk, carried_after, held_after}
-use Rattle.ns_gate.specs.Prelude.{keeps_slots, part_of, the, want_of}
+use Rattle.ns_gate.specs.Prelude.{Act, Allows, CanStep, Cause, Effect, GateView, HasLooked, HasStepped, Holds, Homes, IsOne, IsRuled, Limits, Lists, Look, Looked, MayShow, Me, Part, Performed, QuietKeeps, Truths, Underlying, Views, Walk, carried_after, held_after, keeps_slots, part_of, the}
+use Rattle.ns_gate.specs.Prelude.{want_of}
 use Rattle.ns_gate.proofs.Keeps.{now, later, did, ruled}
 use Rattle.ns_gate.proofs.Findings.{meant_by, walk_is}
 use lib.ListN.{get_elem?}
@@ -25,7 +25,8 @@ module _ {C : Type 0} {N : ℕ} (truths : Truths C) (cells : 0 < N) (quiet : Qui
           (d, ap want_of (walk_is truths None (Looked cause) walk v (now truths cells quiet seat_count words homes views g r id v at None tt walk walks (Looked cause) part [] effect) d walks) ∙ wants),
         )
 
-  looks_at : (i : ℕ) (vs : List (GateView C N)) (cs : List (ℕ × Lists C)) → IsOne vs → (walk : Walk C) → (the vs).at.walk ≡ Some walk → want_of walk ≡ Look limits again → Allows (Holds truths seat_count) slots id (vs, cs) i (λ n. n) (λ k now. Performed truths None (Look limits again) (Looked cause) (vs, cs) now)
+  looks_at : (i : ℕ) (vs : List (GateView C N)) (cs : List (ℕ × Lists C)) → IsOne vs → (walk : Walk C) → (the vs).at.walk ≡ Some walk → want_of walk ≡ Look limits again →
+      Allows (Holds truths seat_count) slots id (vs, cs) i (λ n. n) (λ k now. Performed truths None (Look limits again) (Looked cause) (vs, cs) now)
   looks_at i [] cs one walk walks wants s h _ at _ = absurd one
   looks_at i (v ∷ x ∷ xs) cs one walk walks wants s h _ at _ = absurd one
   looks_at i (v ∷ []) cs one walk walks wants s h _ at _ = let t = silent v walk walks wants s.words s.homes s.views h.0 h.1 at in

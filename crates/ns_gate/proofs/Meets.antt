@@ -1,8 +1,8 @@
 -- Two seats of a gate that meet.
 use Rattle.std.specs.Prelude.{not, slice_get}
 use Rattle.std.proofs.Common.{◌≡◌, ◌≢◌, ℕ, zero, suc, ◌+◌, ◌≤◌, Bool, true, false, cond, eqb, List, [], ◌∷◌, ◌++◌, Option, None, Some, refl, ap, sym, ◌∙◌, subst, arith, eq-eqb}
-use Rattle.ns_gate.specs.Prelude.{Allows, ArePair, Event, Fits, GateView, HasLearned, HasSight, HaveLearned, HaveMet, Held, Holds, Homes, IsAtRest, IsBySeats, IsBySums, IsOne, IsRuled, IsSettled, IsWide, Mode, OneWriter, Read, SeatOf, SeatView, ShareTheLock, Truths}
-use Rattle.ns_gate.specs.Prelude.{Underlying, Views, Word, Write, first_of, fresh_seat, is_reading, is_seat, is_write, is_writing, number_of_seat, one_if, own_of, readers, rest_of, sight_of, the, total, writers}
+use Rattle.ns_gate.specs.Prelude.{Allows, ArePair, Event, Fits, GateView, HasLearned, HasSight, HaveLearned, HaveMet, Held, Holds, Homes, IsAtRest, IsBySeats, IsBySums, IsOne, IsRuled, IsSettled, IsWide, Mode, OneWriter, Read, SeatOf, SeatView, ShareTheLock, Truths, Underlying, Views, Word, Write}
+use Rattle.ns_gate.specs.Prelude.{first_of, fresh_seat, is_reading, is_seat, is_write, is_writing, number_of_seat, one_if, own_of, readers, rest_of, sight_of, the, total, writers}
 use Rattle.ns_gate.proofs.Keeps.{once}
 use Rattle.ns_model.proofs.Beginnings.{begins_itself}
 use Rattle.ns_model.proofs.Tallies.{total_at}

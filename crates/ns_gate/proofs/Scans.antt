@@ -1,8 +1,7 @@
 -- A scan of the lock list in hand that takes a writer alone, or nobody: what is told of it.
 use Rattle.std.proofs.Common.{◌≡◌, ℕ, inl, inr, Bool, true, false, cond, List, [], ◌∷◌, Option, None, Some, Result, Ok, Err, refl, ap, sym, ◌∙◌}
 use Rattle.std.proofs.lemmas.Bool.{cases_Bool}
-use Rattle.ns_gate.specs.Prelude.{Bits, Foremost, Lists, Lock, Nobody, Owed, Sought, Truths, Turned, Waiter, begins_with_reader, bits_of, called_by, foremost_of, has_some, left_by_writer, left_of, lists_scanned, meets_at, value_of, wake_told, with_waiters, woken_of}
-use Rattle.ns_gate.specs.Prelude.{writes}
+use Rattle.ns_gate.specs.Prelude.{Bits, Foremost, Lists, Lock, Nobody, Owed, Sought, Truths, Turned, Waiter, begins_with_reader, bits_of, called_by, foremost_of, has_some, left_by_writer, left_of, lists_scanned, meets_at, value_of, wake_told, with_waiters, woken_of, writes}
 use Rattle.ns_queue.specs.declared.scan.Foremost.TheVariants.{Reader, Writer}
 
 -- whether whom a scan takes first is a reader

@@ -8,9 +8,8 @@ use Rattle.std.proofs.lemmas.Bool.{cases_Bool, cases_eq, eq-eqb, ne_eqb}
 use Rattle.std.specs.Option.{option_map}
 use Rattle.std.proofs.lemmas.List.Elements.{filter-append}
 use Rattle.std.proofs.lemmas.List.Sums.{sum_by-cons}
-use Rattle.ns_gate.specs.Prelude.{Act, Broadcasting, Carries, Cv, Found, HaveSeats, IsOrderly, Lists, Lock, Part, Performed, ReturnQueues, SeatOf, SeatView, Signaling, Truths, Turned, Waiter, WakeWaiters, Waking, Walk, Woke, Word, bits_of, change_found, cvs_without}
-use Rattle.ns_gate.specs.Prelude.{has_queues, has_some, is_held, is_of, kept_by, lists_left, lists_woken, moved_to, moves, outside, owed_woken, seats_of, sole_of, taken_by, taken_from, taken_set, the, times, times_in, turned_to, waiters_of, wakes_of, with_waiters}
-use Rattle.ns_gate.specs.Prelude.{without, without_each, without_in, woken_nobody, woken_sole, writes}
+use Rattle.ns_gate.specs.Prelude.{Act, Broadcasting, Carries, Cv, Found, HaveSeats, IsOrderly, Lists, Lock, Part, Performed, ReturnQueues, SeatOf, SeatView, Signaling, Truths, Turned, Waiter, WakeWaiters, Waking, Walk, Woke, Word, bits_of, change_found, cvs_without, has_queues, has_some, is_held}
+use Rattle.ns_gate.specs.Prelude.{is_of, kept_by, lists_left, lists_woken, moved_to, outside, owed_woken, seats_of, sole_of, taken_by, taken_from, taken_set, the, times, times_in, turned_to, waiters_of, wakes_of, with_waiters, without, without_each, without_in, woken_nobody, woken_sole, writes}
 use Rattle.ns_model.proofs.Sets.{in_more, none_in}
 use Rattle.ns_queue.proofs.Inside.{told_no}
 use Rattle.ns_queue.proofs.Marking.{drop_step}
@@ -45,7 +44,8 @@ module _ {C : Type 0} where
   apart waking k lists orderly low seat here = gone_those lists k (taken_from waking k lists) orderly low (part waking k lists) seat here
 
   -- so they may be put at the back of the lock list
-  pub may_move : (waking : Waking) (k : ℕ) (lists old : Lists C) (taken : List (Waiter C)) → IsOrderly lists → k < 4 → taken ≡ taken_from waking k lists → old ≡ lists_left waking k lists → HaveSeats taken × (((seat : ℕ) → times_in seat taken ≤ 1) × ((seat : ℕ) → 1 ≤ times_in seat taken → times seat old ≡ 0))
+  pub may_move : (waking : Waking) (k : ℕ) (lists old : Lists C) (taken : List (Waiter C)) → IsOrderly lists → k < 4 → taken ≡ taken_from waking k lists → old ≡ lists_left waking k lists →
+      HaveSeats taken × (((seat : ℕ) → times_in seat taken ≤ 1) × ((seat : ℕ) → 1 ≤ times_in seat taken → times seat old ≡ 0))
   may_move waking k lists old taken orderly low is was = rw (is, was) (have_seats waking k lists orderly low, (there_once waking k lists orderly low, apart waking k lists orderly low))
 
   -- ---- how they come back
@@ -168,9 +168,6 @@ module _ {C : Type 0} where
         (takes, sym (ap (λ (ws : List (Waiter C)). held && has_some ws) takes ∙ (and-true held ∙ ap (λ p. p.1.some) pair)), sym (ap (λ p. p.1.bits) pair))
 
   -- ---- by the names of the machine's change, where this is the word last seen
-
-  pub woken_some : (waking : Waking) (k : ℕ) (last : Word) (held : Bool) (lists : Lists C) → is_held last ≡ held → moves (WakeWaiters waking k) last lists ≡ (held && has_some (taken_from waking k lists))
-  woken_some waking k last held lists is = ap (λ (b : Bool). b && has_some (taken_from waking k lists)) is
 
   -- somebody is owed a wake just where somebody was taken and nobody moved
   owes_some : (waking : Waking) (k : ℕ) (held : Bool) (lists : Lists C) → (not held && has_some (taken_from waking k lists)) ≡ has_some (owed_woken waking k held lists)

@@ -1,7 +1,6 @@
 -- The rule of a gate's table: word 0 is the lock word, the cells follow, and then each seat's flag. The slot has the queues.
 use Rattle.std.specs.Prelude.{◌≡◌, ℕ, ◌+◌, ◌<◌, ◌≤◌, nat_lt, Bool, true, false, List, [], ◌∷◌, length, replicate, None, Some, IfSome, slice_get, slice_index}
-use Rattle.ns_gate.specs.Names.{Course, Event, Every, Fault, HoldsBy, IsLawful, IsTold, Lists, LockState, OutOfMemory, SeatView, SoFar, TableState, Told, TooManySeats, Truths, ViewsOf, Word, course_from, has_queues, is_numbered, nothing_told, number_of, numbered}
-use Rattle.ns_gate.specs.Names.{one_if, tally}
+use Rattle.ns_gate.specs.Names.{Course, Event, Every, Fault, HoldsBy, IsLawful, IsTold, Lists, LockState, OutOfMemory, SeatView, SoFar, TableState, Told, TooManySeats, Truths, ViewsOf, Word, course_from, has_queues, is_numbered, nothing_told, number_of, numbered, one_if, tally}
 use mathlib.Core.Option.{some, none}
 use mathlib.Core.Option as TheOption
 

@@ -112,6 +112,7 @@ puts_last_in item None met seven = absurd met
 puts_last_in item (Some section) met seven = put_comes_last item section.row seven (grind (arith, nat_tests))
 
 -- The same of the section in hand, where its ring has an item.
-pub takes_first_in : (item : ℕ) (held : Option (Held Wish 7)) → IsMetIn Item held → InHand held (λ section. length section.row ≡ 7) → InHand held (λ section. item ≡ slice_index section.row (head_in section.row)) → InHand held (λ section. queue_in section.row ≡ item ∷ queue_in (without_first section.row))
+pub takes_first_in : (item : ℕ) (held : Option (Held Wish 7)) → IsMetIn Item held → InHand held (λ section. length section.row ≡ 7) → InHand held (λ section. item ≡ slice_index section.row (head_in section.row)) →
+    InHand held (λ section. queue_in section.row ≡ item ∷ queue_in (without_first section.row))
 takes_first_in item None met seven first = absurd met
 takes_first_in item (Some section) met seven first = rw first (taken_was_first section.row seven (grind (arith, nat_tests)))

@@ -6,9 +6,6 @@ module _ {A : Type 0} where
   pub begins_itself : (l : List A) → BeginsWith l l
   begins_itself l = ([], sym (append-nil l))
 
-  pub begins_more : (l p : List A) (x : A) → BeginsWith l p → BeginsWith (l ++ x ∷ []) p
-  begins_more l p x b = (b.0 ++ x ∷ [], ap (λ k. k ++ x ∷ []) b.1 ∙ append_assoc p b.0 (x ∷ []))
-
   pub begins_through : (l m p : List A) → BeginsWith l m → BeginsWith m p → BeginsWith l p
   begins_through l m p b c = (c.0 ++ b.0, b.1 ∙ (ap (λ k. k ++ b.0) c.1 ∙ append_assoc p c.0 b.0))
 

@@ -65,10 +65,6 @@ few_from : (now : CounterState) (events : List CounterEvent) → now.value ≤ m
 few_from now [] few legal = few
 few_from now (event ∷ events) few legal = few_from (counter_next now event) events (few_one now event few legal.0) legal.1
 
--- The value is one that 32 bits hold.
-pub holds : (start : ℕ) (history : List CounterEvent) → start ≤ most → IsLegalCounter start history → (counter_after start history).value ≤ most
-holds start history few legal = few_from (first_counter start) history few legal
-
 zero_one : (now : CounterState) (event : CounterEvent) → now.value ≡ 0 → now.waited ≡ true → IsLegalCounterEvent now event → ((counter_next now event).value ≡ 0) × ((counter_next now event).waited ≡ true)
 zero_one now (Add who delta (Ok value)) zero waited legal = let a = accepted now delta value (sym legal) in (grind (arith, ints), waited)
 zero_one now (Add who delta (Err fault)) zero waited legal = (zero, waited)

@@ -8,7 +8,8 @@ use Rattle.std.proofs.lemmas.List.Elements.{filter-append}
 use Rattle.ns_model.specs.Beginnings.{BeginsWith}
 use Rattle.ns_model.specs.declared.environment.EnvEvent.{EnvEvent}
 use Rattle.ns_model.specs.declared.environment.EnvEvent.TheVariants.{Take, New, Notify, Advance}
-use Rattle.ns_model.specs.Environments.{NoteStanding, EnvStanding, first_env, env_who, ParentFits, IsLegalEnvEvent, but_at, notified_note, made_note, env_next, env_from, IsLegalEnvFrom, IsLegalEnv, env_after, from_parent, line, line_of, is_due, is_over, notified_in, earlier, earliest, expiry_in, expiry_of, env_own, IsEnvBySeats, IsMade}
+use Rattle.ns_model.specs.Environments.{NoteStanding, EnvStanding, first_env, env_who, ParentFits, IsLegalEnvEvent, but_at, notified_note, made_note, env_next, env_from, IsLegalEnvFrom, IsLegalEnv, env_after, from_parent, line, line_of, is_due, is_over, notified_in, earlier, earliest, expiry_in}
+use Rattle.ns_model.specs.Environments.{expiry_of, env_own, IsEnvBySeats, IsMade}
 
 -- ---- a history and its parts
 
@@ -212,9 +213,6 @@ module _ (old new : EnvStanding) (s : IsSound old) (g : IsGrown old new) where
       (ap (λ (o : Option ℕ). list_any (λ m. is_over new.clock (new.notes m)) (from_parent (line k new.notes) o)) grown.parent
       ∙ any_parent k (old.notes n).parent (λ p is. any_grown k p (s.above n p is).1) t))
       (or_cases (is_over old.clock (old.notes n)) (list_any (λ m. is_over old.clock (old.notes m)) (from_parent (line k old.notes) (old.notes n).parent)) e)
-
-  pub notified_grown : (n : ℕ) → (old.notes n).made ≡ true → notified_in old n ≡ true → notified_in new n ≡ true
-  notified_grown n made e = any_grown (suc n) n made e
 
   earliest_parent : (k : ℕ) (o : Option ℕ) → ((p : ℕ) → o ≡ Some p → earliest new.notes (line k new.notes p) ≡ earliest old.notes (line k old.notes p)) → earliest new.notes (from_parent (line k new.notes) o) ≡ earliest old.notes (from_parent (line k old.notes) o)
   earliest_parent k None h = refl

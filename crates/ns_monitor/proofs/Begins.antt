@@ -2,8 +2,8 @@
 use Rattle.std.specs.Prelude.{IsSome, nat_lt}
 use Rattle.std.proofs.Common.{◌≡◌, ℕ, ◌-◌, ◌<◌, ◌≤◌, Bool, true, false, List, Option, None, Some, if◌then◌else◌, refl, sym, subst, arith, ◌∙◌}
 use Rattle.std.proofs.lemmas.Bool.{ltb-true, ltb-false}
-use Rattle.ns_monitor.specs.Prelude.{CanLeave, CanStep, CellFits, HasMode, Held, InCells, IsAtRest, IsFirst, IsFreshIn, IsQuietFor, IsSettled, IsWide, LoadCell, Mode, PlaceFits, QuietCells, QuietLast, QuietWriter, Reader, Releasing, SeatOf, StandsAt, ToTell, Truths}
-use Rattle.ns_monitor.specs.Prelude.{Walk, Write, Writer, getting, locking, mode_released, new_section, quiet_place, releasing_by, the}
+use Rattle.ns_monitor.specs.Prelude.{CanLeave, CanStep, CellFits, HasMode, Held, InCells, IsAtRest, IsFirst, IsFreshIn, IsQuietFor, IsSettled, IsWide, LoadCell, Mode, PlaceFits, QuietCells, QuietLast, QuietWriter, Reader, Releasing, SeatOf, StandsAt, ToTell, Truths, Walk, Write, Writer, getting}
+use Rattle.ns_monitor.specs.Prelude.{locking, mode_released, new_section, quiet_place, releasing_by, the}
 
 module _ {C : Type 0} {N : ℕ} (truths : Truths C) where
   has_some : (mode : Mode) (held : Option (Held C N)) → HasMode mode held → IsSome held

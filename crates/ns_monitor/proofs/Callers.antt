@@ -1,9 +1,9 @@
 -- What a call of the gate's seat tells its caller.
 use Rattle.std.proofs.Common.{◌≡◌, ℕ, Bool, Option, true, false, cond, [], ◌∷◌, ◌++◌, None, Some, Result, Ok, Err, refl, ap, sym, ◌∙◌, subst}
 use Rattle.std.proofs.lemmas.List.{append-nil}
-use Rattle.ns_monitor.specs.Prelude.{Acquire, Acquiring, AsFresh, Busy, CanStep, Cell, Done, ForLock, Get, Grows, HasAnswered, HasBegun, HasGoneBehind, HasLocked, HasReached, HasSeenMore, HasSince, HasUnlocked, InCells, InHand, InTry, IsAtPlace, IsAtRest, IsFreshIn}
-use Rattle.ns_monitor.specs.Prelude.{IsNumberOf, Known, LoadCell, LoadWord, Made, Mode, Number, On, Performed, Releasing, Saw, SeatOf, Set, SetStore, StoreCell, Succeeded, TableId, Truths, TryAcquire, TryLock, Unchanged, Walk, WantsNext, WentAtOnce, Word, asked_of}
-use Rattle.ns_monitor.specs.Prelude.{getting, going_act, gone_to, got_of, known_of, locking, may_acquire, may_go, releasing_by, row_after, section_of, setting, the, tried, trying, walk_after}
+use Rattle.ns_monitor.specs.Prelude.{Acquire, Acquiring, AsFresh, Busy, CanStep, Cell, Done, ForLock, Get, Grows, HasAnswered, HasBegun, HasGoneBehind, HasLocked, HasReached, HasSeenMore, HasSince, HasUnlocked, InCells, InHand, InTry, IsAtPlace, IsAtRest, IsFreshIn, IsNumberOf, Known, LoadCell}
+use Rattle.ns_monitor.specs.Prelude.{LoadWord, Made, Mode, Number, On, Performed, Releasing, Saw, SeatOf, Set, SetStore, StoreCell, Succeeded, TableId, Truths, TryAcquire, TryLock, Unchanged, Walk, WantsNext, WentAtOnce, Word, asked_of, getting, going_act, gone_to, got_of, known_of, locking}
+use Rattle.ns_monitor.specs.Prelude.{may_acquire, may_go, releasing_by, row_after, section_of, setting, the, tried, trying, walk_after}
 use Rattle.ns_gate.proofs.Calls.{begins, goes, since, since_then}
 use Rattle.ns_monitor.proofs.Begins.{locked_fresh}
 use Rattle.ns_monitor.proofs.Standing.{loads_first}
@@ -24,15 +24,18 @@ module _ {C : Type 0} {N : ℕ} (truths : Truths C) where
   silent first old was me now view s none = s.mine ∙ (ap (λ es. (the me.0).told.mine ++ es) (sym s.committed ∙ none) ∙ (append-nil (the me.0).told.mine ∙ ap (λ (k : Known C N). k.mine) view))
 
   -- and one that has changed nothing its section too
-  pub saw_more : (first : Walk C) (old : Known C N) (was is : TableId) (me now : SeatOf C N) → known_of was me ≡ old → is ≡ old.monitor → IsAtRest truths now → HasSince (Some first) (the me.0) (the now.0) → Unchanged (the now.0).course (the now.0).at.held → HasSeenMore truths first old (known_of is now)
+  pub saw_more : (first : Walk C) (old : Known C N) (was is : TableId) (me now : SeatOf C N) → known_of was me ≡ old → is ≡ old.monitor → IsAtRest truths now → HasSince (Some first) (the me.0) (the now.0) →
+      Unchanged (the now.0).course (the now.0).at.held → HasSeenMore truths first old (known_of is now)
   saw_more first old was is me now view same rest s kept = record { grows = grew first old was is me now view same rest s; mine = silent first old was me now view s kept.silent; held = kept.same ∙ (s.began ∙ ap (λ (k : Known C N). k.held) view) }
 
   -- one that has locked has a new section
-  pub locked : (first : Walk C) (mode : Mode) (old : Known C N) (was is : TableId) (me now : SeatOf C N) → known_of was me ≡ old → is ≡ old.monitor → IsAtRest truths now → HasSince (Some first) (the me.0) (the now.0) → TheMeanings.HasLocked (row_after (the now.0).told.seen) mode (the now.0).course (the now.0).at.held → HasLocked truths first mode old (known_of is now)
+  pub locked : (first : Walk C) (mode : Mode) (old : Known C N) (was is : TableId) (me now : SeatOf C N) → known_of was me ≡ old → is ≡ old.monitor → IsAtRest truths now → HasSince (Some first) (the me.0) (the now.0) →
+      TheMeanings.HasLocked (row_after (the now.0).told.seen) mode (the now.0).course (the now.0).at.held → HasLocked truths first mode old (known_of is now)
   locked first mode old was is me now view same rest s h = record { grows = grew first old was is me now view same rest s; mine = silent first old was me now view s h.silent; section = h.section }
 
   -- one that has released has committed its section
-  pub released : (first : Walk C) (releasing : Releasing) (old : Known C N) (was is : TableId) (me now : SeatOf C N) → known_of was me ≡ old → HasSince (Some first) (the me.0) (the now.0) → TheMeanings.HasReleased truths (the now.0).at.seat releasing (the now.0).course (the now.0).at.held → InHand old.held (λ section. (known_of is now).mine ≡ old.mine ++ section_of truths.holds old.seat section TheExit.Plain ∷ [])
+  pub released : (first : Walk C) (releasing : Releasing) (old : Known C N) (was is : TableId) (me now : SeatOf C N) → known_of was me ≡ old → HasSince (Some first) (the me.0) (the now.0) →
+      TheMeanings.HasReleased truths (the now.0).at.seat releasing (the now.0).course (the now.0).at.held → InHand old.held (λ section. (known_of is now).mine ≡ old.mine ++ section_of truths.holds old.seat section TheExit.Plain ∷ [])
   released first releasing old was is me now view s r = subst (λ (k : Known C N). InHand k.held (λ section. (the now.0).told.mine ≡ k.mine ++ section_of truths.holds k.seat section TheExit.Plain ∷ [])) view
       (subst (λ o. InHand o (λ section. (the now.0).told.mine ≡ (the me.0).told.mine ++ section_of truths.holds (the me.0).at.seat section TheExit.Plain ∷ [])) (sym r.began ∙ s.began)
       (s.mine ∙ ap (λ es. (the me.0).told.mine ++ es) (sym s.committed ∙ (r.committed ∙ (λ i. section_of truths.holds (s.seat i) r.was TheExit.Plain ∷ [])))))
@@ -86,7 +89,8 @@ module _ {C : Type 0} {N : ℕ} (truths : Truths C) where
   tries_by mode word b now may led = subst (λ (x : Bool). HasReached truths (TryLock mode) (cond x (On (InTry mode (TryAcquire word))) (Done Busy)) now) may led
 
   -- and then the exchange
-  pub is_tried : (mode : Mode) (last : Word) (r : Result Unit Word) (made : Bool) (me now : SeatOf C N) → made ≡ made_of r → IsAtPlace truths (InTry mode (TryAcquire last)) me → Performed truths None (Acquire (ForLock mode) AsFresh last) (tried r) me now → HasAnswered truths (TryLock mode) (cond made Succeeded Busy) now
+  pub is_tried : (mode : Mode) (last : Word) (r : Result Unit Word) (made : Bool) (me now : SeatOf C N) → made ≡ made_of r → IsAtPlace truths (InTry mode (TryAcquire last)) me →
+      Performed truths None (Acquire (ForLock mode) AsFresh last) (tried r) me now → HasAnswered truths (TryLock mode) (cond made Succeeded Busy) now
   is_tried mode last r made me now is at p = subst (λ b. HasAnswered truths (TryLock mode) (cond b Succeeded Busy) now) (sym is) (by_result r p) where
     by_result : (r : Result Unit Word) → Performed truths None (Acquire (ForLock mode) AsFresh last) (tried r) me now → HasAnswered truths (TryLock mode) (cond (made_of r) Succeeded Busy) now
     by_result (Ok x) p = goes truths (InTry mode (TryAcquire last)) (Acquire (ForLock mode) AsFresh last) Made (Done Succeeded) me now at refl refl refl p
@@ -112,5 +116,6 @@ module _ {C : Type 0} {N : ℕ} (truths : Truths C) where
   sets_next i value old walk me now is rest did = let p = subst (λ w. Performed truths (Some w) (LoadCell i) (Cell old) me now) is did in
       (begins truths (setting i value) (LoadCell i) (Cell old) (On (InCells (SetStore i value))) me now refl (λ _. p.carried ∙ rest.empty) p, since truths (Some (setting i value)) (LoadCell i) (Cell old) me now p)
 
-  pub is_set : (i value : ℕ) (start me now : SeatOf C N) → IsAtPlace truths (InCells (SetStore i value)) me × HasSince (Some (setting i value)) (the start.0) (the me.0) → Performed truths None (StoreCell i value) Made me now → HasAnswered truths (Set i value) Succeeded now × HasSince (Some (setting i value)) (the start.0) (the now.0)
+  pub is_set : (i value : ℕ) (start me now : SeatOf C N) → IsAtPlace truths (InCells (SetStore i value)) me × HasSince (Some (setting i value)) (the start.0) (the me.0) →
+      Performed truths None (StoreCell i value) Made me now → HasAnswered truths (Set i value) Succeeded now × HasSince (Some (setting i value)) (the start.0) (the now.0)
   is_set i value start me now at p = (goes truths (InCells (SetStore i value)) (StoreCell i value) Made (Done Succeeded) me now at.0 refl refl refl p, since_then (Some (setting i value)) _ _ _ at.1 (since truths None (StoreCell i value) Made me now p))

@@ -9,7 +9,8 @@ pub has_looked : (old new : EnvKnown) → Grows old new → new.mine ≡ old.min
 has_looked old new grows mine = record { env = grows.env; seat_count = grows.seat_count; seat = grows.seat; begins = grows.begins; mine = mine; makes = λ note. made_grows old new note grows }
 
 -- what ended a wait is what its look has shown, by its answer
-pub ended_by : (given : Option Note) (deadline number : Option ℕ) (old new : EnvKnown) (seen : List EnvEvent) (answer : Answer) → seen ≡ new.seen → IfAnswered answer (λ cause. LookShows given (record { deadline = deadline; note = number }) old new (Some cause)) → EndedBy given deadline old.seen seen answer
+pub ended_by : (given : Option Note) (deadline number : Option ℕ) (old new : EnvKnown) (seen : List EnvEvent) (answer : Answer) → seen ≡ new.seen →
+    IfAnswered answer (λ cause. LookShows given (record { deadline = deadline; note = number }) old new (Some cause)) → EndedBy given deadline old.seen seen answer
 ended_by given deadline number old new seen Met same shows = tt
 ended_by given deadline number old new seen TimedOut same shows = subst (λ (l : List EnvEvent). LookAnswers given deadline old.seen l (Some TimedOut)) (sym same) shows
 ended_by given deadline number old new seen Canceled same shows = subst (λ (l : List EnvEvent). LookAnswers given deadline old.seen l (Some Canceled)) (sym same) shows

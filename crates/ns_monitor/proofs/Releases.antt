@@ -2,9 +2,8 @@
 use Rattle.std.proofs.Common.{◌≡◌, ℕ, ◌==◌, inl, inr, Bool, true, false, not, ◌&&◌, ◌||◌, cond, subst, List, [], ◌∷◌, length, filter, map, Option, None, Some, Ok, Err, is_some, refl, ap, sym, ◌∙◌, ne_eqb, arith}
 use Rattle.std.proofs.lemmas.Bool.{cases_Bool}
 use Rattle.std.specs.List.{list_any}
-use Rattle.ns_monitor.specs.Prelude.{Bits, Carries, Changed, GateView, HasInHand, HasRow, HasUnchangedQueues, IsReady, Lists, OnCondition, OnVariables, Owed, Released, Releasing, Returning, ScansAs, SeatOf, Sought, Subject, Truths, Turned, Waited, Waiter, Walk, Word}
-use Rattle.ns_monitor.specs.Prelude.{begins_with_reader, bits_of, called_by, called_of, has_condition, has_queues, has_some, is_eligible, is_satisfied, lacks_row, left_of, lists_returned, lists_scanned, meets_at, reads, row_in, scanned_writer, seats_of, some_returned}
-use Rattle.ns_monitor.specs.Prelude.{the, waits_at, wake_told, with_lock, woken_of, writes}
+use Rattle.ns_monitor.specs.Prelude.{Bits, Carries, Changed, GateView, HasInHand, HasRow, HasUnchangedQueues, IsReady, Lists, OnCondition, OnVariables, Owed, Released, Releasing, Returning, ScansAs, SeatOf, Sought, Subject, Truths, Turned, Waited, Waiter, Walk, Word, begins_with_reader, bits_of}
+use Rattle.ns_monitor.specs.Prelude.{called_by, called_of, has_condition, has_queues, has_some, is_eligible, is_satisfied, lacks_row, left_of, lists_returned, lists_scanned, meets_at, reads, row_in, scanned_writer, seats_of, some_returned, the, waits_at, wake_told, with_lock, woken_of, writes}
 use Rattle.ns_gate.proofs.Calls.{works}
 use Rattle.ns_word.proofs.Scans.{are_called}
 

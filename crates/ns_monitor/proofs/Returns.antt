@@ -1,9 +1,9 @@
 -- The rounds of a wait for a condition: where it goes by what it tests and sees.
 use Rattle.std.proofs.Common.{⊎_elim, ◌≡◌, ◌||◌, is_some, ℕ, ◌-◌, Bool, true, false, cond, List, [], ◌∷◌, ◌++◌, append-nil, ◌⊎◌, inl, inr, option_map, Option, None, Some, refl, ap, sym, ◌∙◌, subst}
-use Rattle.ns_monitor.specs.Prelude.{Answer, Answered, Await, Canceled, Cause, CondWait, ConditionWaitMeans, Course, EnvEvent, EnvKnown, Event, Expired, ForWait, HadLooked, HasAcquired, HasAnswered, HasComeBack, HasMode, HasReached, HasRow, HasSince, HasStayed}
-use Rattle.ns_monitor.specs.Prelude.{HasTested, HasWaited, HasWaitedFor, Held, IfAnswered, InHand, InQueuing, InWait, IsAtPlace, IsFresh, IsFreshIn, IsInRange, IsWide, Known, Limits, Load, Look, LookIn, LookShows, Looked, Met, Mode, Note, Notified, On, OnCondition}
-use Rattle.ns_monitor.specs.Prelude.{OnReturn, Outcome, Part, Performed, PlaceFits, QueuesOrEnds, SeatOf, SeatView, Subject, TableId, TestCells, TestLast, Tests, TimedOut, Truths, Unchanged, Visit, Wait, WaitMeans, WaitTells, Walk, answer_of, back_with, got_queuing}
-use Rattle.ns_monitor.specs.Prelude.{held_after, held_by, is_limited, known_of, limits_of, look_or_queue, row_after, section_of, test_place, tested_by, the}
+use Rattle.ns_monitor.specs.Prelude.{Answer, Answered, Await, Canceled, Cause, CondWait, ConditionWaitMeans, Course, EnvEvent, EnvKnown, Event, Expired, ForWait, HadLooked, HasAcquired, HasAnswered, HasComeBack, HasMode, HasReached, HasRow, HasSince, HasStayed, HasTested, HasWaited, HasWaitedFor}
+use Rattle.ns_monitor.specs.Prelude.{Held, IfAnswered, InHand, InQueuing, InWait, IsAtPlace, IsFresh, IsFreshIn, IsInRange, IsWide, Known, Limits, Load, Look, LookIn, LookShows, Looked, Met, Mode, Note, Notified, On, OnCondition, OnReturn, Outcome, Part, Performed, PlaceFits, QueuesOrEnds, SeatOf}
+use Rattle.ns_monitor.specs.Prelude.{SeatView, Subject, TableId, TestCells, TestLast, Tests, TimedOut, Truths, Unchanged, Visit, Wait, WaitMeans, WaitTells, Walk, answer_of, back_with, got_queuing, held_after, held_by, is_limited, known_of, limits_of, look_or_queue, row_after, section_of}
+use Rattle.ns_monitor.specs.Prelude.{test_place, tested_by, the}
 use Rattle.ns_gate.proofs.Calls.{goes}
 use Rattle.ns_gate.proofs.Findings.{does}
 use Rattle.ns_gate.proofs.Keeps.{hand_of}
@@ -79,7 +79,8 @@ module _ {C : Type 0} {N : ℕ} (truths : Truths C) where
 
   -- ---- what it tells
 
-  tells_by : (wait : Wait C) (c : C) (answer : Answer) (old new : Known C N) (was back : Held C N) (course : Course C N) (commits : List (Event C N)) → old.held ≡ Some was → new.held ≡ Some back → was.mode ≡ wait.mode → course.began ≡ old.held → course.committed ≡ commits → new.mine ≡ old.mine ++ commits → new.seat ≡ old.seat
+  tells_by : (wait : Wait C) (c : C) (answer : Answer) (old new : Known C N) (was back : Held C N) (course : Course C N) (commits : List (Event C N)) → old.held ≡ Some was → new.held ≡ Some back → was.mode ≡ wait.mode →
+      course.began ≡ old.held → course.committed ≡ commits → new.mine ≡ old.mine ++ commits → new.seat ≡ old.seat
       → ConditionWaitMeans truths new.seat (row_after new.seen) wait.mode c wait.limits course answer back → WaitTells truths c answer was back old new
   tells_by wait c answer old new was back course commits has has' mode began committed mine seat m = record { mode = m.mode ∙ sym mode; met = m.met; how = how m.how } where
     how : Unchanged course (Some back) ⊎ HasWaited truths new.seat (row_after new.seen) wait.mode c course answer back → HasStayed old new ⊎ HasComeBack truths c answer was back old new
@@ -94,7 +95,8 @@ module _ {C : Type 0} {N : ℕ} (truths : Truths C) where
         })
 
   -- A wait for a condition that is over has told what its caller sees.
-  pub wait_tells : (first : Walk C) (wait : Wait C) (c : C) (answer : Answer) (old : Known C N) (was_table is : TableId) (me now : SeatOf C N) → known_of was_table me ≡ old → wait.on ≡ OnCondition c → HasMode wait.mode (the me.0).at.held → HasSince (Some first) (the me.0) (the now.0) → HasAnswered truths (Await wait) (Answered answer) now → HasWaitedFor truths c answer old (known_of is now)
+  pub wait_tells : (first : Walk C) (wait : Wait C) (c : C) (answer : Answer) (old : Known C N) (was_table is : TableId) (me now : SeatOf C N) → known_of was_table me ≡ old → wait.on ≡ OnCondition c →
+      HasMode wait.mode (the me.0).at.held → HasSince (Some first) (the me.0) (the now.0) → HasAnswered truths (Await wait) (Answered answer) now → HasWaitedFor truths c answer old (known_of is now)
   wait_tells first wait c answer old was_table is me now view on mode s a = subst (λ (k : Known C N). HasWaitedFor truths c answer k (known_of is now)) view (
       let v = the me.0 in let w = the now.0 in
       let before = hand_of (λ (o : Option (Held C N)). HasMode wait.mode o) v.at.held (λ e. e) mode in
@@ -108,7 +110,8 @@ pub fits_fresh : {C : Type 0} (N : ℕ) (mode : Mode) (held : Option (Held C N))
 fits_fresh N mode held fits each h = let section = hand_of (IsFreshIn N mode) held (λ e. e) h in subst fits (sym section.1) (each section.0 section.2)
 
 -- it was told the note's number, and left its section only once a look had shown nothing, to a seat that has seen this
-pub looked_by : (P : Type 0) (note : Option Note) (deadline number : Option ℕ) (old new : EnvKnown) (seen : List EnvEvent) → seen ≡ new.seen → number ≡ option_map (λ n. n.index) note → (is_limited (record { deadline = deadline; note = number }) ≡ true → P ⊎ LookShows note (record { deadline = deadline; note = number }) old new None) → is_some deadline || is_some note ≡ true → P ⊎ HadLooked note deadline old.seen seen
+pub looked_by : (P : Type 0) (note : Option Note) (deadline number : Option ℕ) (old new : EnvKnown) (seen : List EnvEvent) → seen ≡ new.seen → number ≡ option_map (λ n. n.index) note →
+    (is_limited (record { deadline = deadline; note = number }) ≡ true → P ⊎ LookShows note (record { deadline = deadline; note = number }) old new None) → is_some deadline || is_some note ≡ true → P ⊎ HadLooked note deadline old.seen seen
 looked_by P given deadline number old new seen same is before limited = ⊎_elim (λ kept. inl kept) (λ shown. inr (subst (HadLooked given deadline old.seen) (sym same) (record { none = shown }))) (before (ap (λ o. is_limited (record { deadline = deadline; note = o })) is ∙ named given limited)) where
   named : (o : Option Note) → is_some deadline || is_some o ≡ true → is_limited (limits_of deadline o) ≡ true
   named None l = l

@@ -1,8 +1,8 @@
 -- Waits for any of several condition variables: where they stand, and what they tell once they are over.
 use Rattle.std.proofs.Common.{◌≡◌, ℕ, true, false, List, [], ◌∷◌, ◌++◌, Option, None, Some, append-nil, refl, ap, sym, ◌∙◌, subst}
-use Rattle.ns_monitor.specs.Prelude.{Act, AnyWait, AnyWaitMeans, AreSome, Await, AwaitWakeInWait, BeginsWith, Cause, Course, Cvs, Flag, Found, HasAnswered, HasBegunToWait, HasComeBackFromAny, HasLeft, HasMode, HasSeenTrue, HasSince, HasStoodUnwoken, Held, InHand}
-use Rattle.ns_monitor.specs.Prelude.{InQueuing, InWait, IsByOneOf, IsFreshIn, IsSettled, IsTold, IsWaitingForAny, IsWide, Known, Load, LoadFlag, LockState, Look, Looked, MayEnd, Mode, Owed, Performed, PlaceFits, SaysWoken, SeatOf, TableId, Told, Truths, WaitKnown}
-use Rattle.ns_monitor.specs.Prelude.{WaitsOn, WaitsStill, Walk, WokenBy, any_waiting, at_will, has_some, known_of, leave_any_told, pays, row_after, section_of, the, waits_for_any}
+use Rattle.ns_monitor.specs.Prelude.{Act, AnyWait, AnyWaitMeans, AreSome, Await, AwaitWakeInWait, BeginsWith, Cause, Course, Cvs, Flag, Found, HasAnswered, HasBegunToWait, HasComeBackFromAny, HasLeft, HasMode, HasSeenTrue, HasSince, HasStoodUnwoken, Held, InHand, InQueuing, InWait, IsByOneOf}
+use Rattle.ns_monitor.specs.Prelude.{IsFreshIn, IsSettled, IsTold, IsWaitingForAny, IsWide, Known, Load, LoadFlag, LockState, Look, Looked, MayEnd, Mode, Owed, Performed, PlaceFits, SaysWoken, SeatOf, TableId, Told, Truths, WaitKnown, WaitsOn, WaitsStill, Walk, WokenBy, any_waiting, at_will}
+use Rattle.ns_monitor.specs.Prelude.{has_some, known_of, leave_any_told, pays, row_after, section_of, the, waits_for_any}
 use Rattle.ns_gate.proofs.Calls.{since, since_then}
 use Rattle.ns_gate.proofs.Stays.{effect_of}
 use Rattle.ns_monitor.proofs.Waits.{looks_out, waits_on}
@@ -116,7 +116,8 @@ module _ {C : Type 0} {N : ℕ} (truths : Truths C) where
           stands = refl;
         }
 
-    pub tells_still : (old : WaitKnown C N) (was is : TableId) (flag : ℕ) (me mid now : SeatOf C N) → record { known = known_of was me; cvs = cvs } ≡ old → is ≡ old.known.monitor → flag ≡ 1 → IsWaitingForAny truths mode cvs me → IsWaitingForAny truths mode cvs now → HasSince None (the me.0) (the now.0)
+    pub tells_still : (old : WaitKnown C N) (was is : TableId) (flag : ℕ) (me mid now : SeatOf C N) → record { known = known_of was me; cvs = cvs } ≡ old → is ≡ old.known.monitor → flag ≡ 1 →
+        IsWaitingForAny truths mode cvs me → IsWaitingForAny truths mode cvs now → HasSince None (the me.0) (the now.0)
         → Performed truths None LoadFlag (Flag flag) me mid → Performed truths None (Look at_will false) (Looked None) mid now → WaitsStill truths old (record { known = known_of is now; cvs = cvs })
     tells_still old was is flag me mid now view same set v w s loads looks = subst (λ (k : WaitKnown C N). is ≡ k.known.monitor → WaitsStill truths k (record { known = known_of is now; cvs = cvs })) view (λ same. record {
       on = goes_on_waiting was is me now same v w s;
@@ -145,7 +146,8 @@ module _ {C : Type 0} {N : ℕ} (truths : Truths C) where
     pub any_back_fresh : (by : Option ℕ) (now : SeatOf C N) → HasAnswered truths (Await (waits_for_any mode cvs)) (WokenBy by) now → IsFreshIn N mode (the now.0).at.held
     any_back_fresh by now a = fresh by (the now.0).at.seat (row_after (the now.0).told.seen) (the now.0).course (the now.0).at.held a.means a.rest.wide
 
-    pub has_come_back : (by : Option ℕ) (old : WaitKnown C N) (was is : TableId) (me now : SeatOf C N) → record { known = known_of was me; cvs = cvs } ≡ old → is ≡ old.known.monitor → IsWaitingForAny truths mode cvs me → HasSince None (the me.0) (the now.0) → HasAnswered truths (Await (waits_for_any mode cvs)) (WokenBy by) now
+    pub has_come_back : (by : Option ℕ) (old : WaitKnown C N) (was is : TableId) (me now : SeatOf C N) → record { known = known_of was me; cvs = cvs } ≡ old → is ≡ old.known.monitor →
+        IsWaitingForAny truths mode cvs me → HasSince None (the me.0) (the now.0) → HasAnswered truths (Await (waits_for_any mode cvs)) (WokenBy by) now
         → HasComeBackFromAny truths mode by old (known_of is now)
     has_come_back by old was is me now view same w s a = subst (λ (k : WaitKnown C N). is ≡ k.known.monitor → HasComeBackFromAny truths mode by k (known_of is now)) view (λ same.
         let v = the me.0 in let u = the now.0 in

@@ -1,7 +1,7 @@
 -- A call that shows, step by step, and the state that it shows.
 use Rattle.std.proofs.Common.{◌≡◌, ℕ, Bool, true, false, cond, ◌∷◌, ◌++◌, append-nil, None, Some, refl, ap, sym, ◌∙◌, subst}
-use Rattle.ns_monitor.specs.Prelude.{BeginsWith, HasReached, HasSince, HasStood, HasUnchangedQueues, Idle, InShow, IsAtPlace, IsLawful, Known, Lists, LoadWord, LockState, Made, On, Part, Performed, ReturnShown, Saw, SeatOf, ShowLoad, TableId, TakeQueues, TakeToShow}
-use Rattle.ns_monitor.specs.Prelude.{ToChange, Told, Truths, Word, known_of, own_of, show_by, showing, the, word_taken}
+use Rattle.ns_monitor.specs.Prelude.{BeginsWith, HasReached, HasSince, HasStood, HasUnchangedQueues, Idle, InShow, IsAtPlace, IsLawful, Known, Lists, LoadWord, LockState, Made, On, Part, Performed, ReturnShown, Saw, SeatOf, ShowLoad, TableId, TakeQueues, TakeToShow, ToChange, Told, Truths, Word}
+use Rattle.ns_monitor.specs.Prelude.{known_of, own_of, show_by, showing, the, word_taken}
 use Rattle.ns_gate.proofs.Calls.{goes, goes_on}
 use Rattle.ns_gate.proofs.Stays.{effect_of}
 use Rattle.ns_model.proofs.Beginnings.{begins_itself, begins_through}
@@ -31,7 +31,8 @@ module _ {C : Type 0} {N : ℕ} (truths : Truths C) where
   -- ---- the state that it found
 
   -- The exchange that took the queues compared the word of a state that is lawful, whose lists are the ones in hand since.
-  pub has_stood : (was is : TableId) (last : Word) (start me now : SeatOf C N) → HasSince (Some showing) (the start.0) (the me.0) → IsAtPlace truths (InShow (TakeToShow last)) me → Performed truths None (TakeQueues ToChange last) Made me now → HasStood truths last (the now.0).stood (known_of was start) (known_of is now)
+  pub has_stood : (was is : TableId) (last : Word) (start me now : SeatOf C N) → HasSince (Some showing) (the start.0) (the me.0) → IsAtPlace truths (InShow (TakeToShow last)) me →
+      Performed truths None (TakeQueues ToChange last) Made me now → HasStood truths last (the now.0).stood (known_of was start) (known_of is now)
   has_stood was is last start me now s at p =
       let d = p.did in let v = the me.0 in let e = effect_of truths (TakeQueues ToChange last) Made me now p in
       let mine : v.told.mine ≡ (the start.0).told.mine = s.mine ∙ (ap (λ es. (the start.0).told.mine ++ es) (sym s.committed ∙ at.so_far.silent) ∙ append-nil (the start.0).told.mine) in

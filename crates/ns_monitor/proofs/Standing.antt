@@ -1,12 +1,12 @@
 -- The loops of a call, step by step, by the place at which it stands.
 use Rattle.std.specs.Prelude.{IfErr}
 use Rattle.std.proofs.Common.{◌≡◌, ℕ, ◌<◌, Bool, true, false, cond, List, [], ◌++◌, append-nil, ◌∷◌, Option, None, Some, Result, Ok, Err, refl, ap, sym, ◌∙◌, subst}
-use Rattle.ns_monitor.specs.Prelude.{Acquire, AcquireLoad, Acquiring, Act, Bits, CameByGuess, CanStep, Carries, Change, Changed, Changing, Decides, Effect, Event, Flag, ForLock, ForWait, Found, GateView, Going, HasBegunBy, HasGoneBehind, HasInHand, HasReached, HasSince}
-use Rattle.ns_monitor.specs.Prelude.{HasStepped, HasTakenAt, Held, Idle, InAcquire, InCells, InLeaving, InQueuing, InRelease, InShow, InSignal, InTry, InWait, IsAtPlace, IsAtRest, IsFirst, IsNumberOf, IsOwedNext, IsPackable, Leave, LeaveLoad, Leaving, Lists, Load}
-use Rattle.ns_monitor.specs.Prelude.{LoadFlag, LoadWord, LockState, Made, MayGoAlone, On, Owed, OwesBelow, OwesTheWoken, Paid, Part, PayWake, Pays, Performed, PlaceFits, PutsBack, Queue, QueueToWait, Release, ReleaseLoad, ReleaseReturning, Released, Request}
-use Rattle.ns_monitor.specs.Prelude.{ReturnQueues, ReturnShown, Returning, Saw, ScanAndRelease, ScanCells, SeatOf, SeatView, SectionFits, SignalLoad, Sleeps, TakeQueues, Taking, ToChange, ToQueue, Told, Truths, Turned, WaitReturning, Waited, Walk, WantsNext, Word}
-use Rattle.ns_monitor.specs.Prelude.{act_returning, asked_of, bits_of, called_of, carried_by, changed, found_back, found_returned, going_act, going_at, going_of, gone_to, got_of, has_queues, has_some, lists_returned, may_go, meets_at, moves, owes_more, part_of}
-use Rattle.ns_monitor.specs.Prelude.{release_has_queues, rest, rest_of, returning_at, returning_of, row_in, scan_place, scanning_at, some_returned, standing_after, taken_at, taking_at, taking_for, the, view_in, walk_after, want_of, woken_of, word_taken}
+use Rattle.ns_monitor.specs.Prelude.{Acquire, AcquireLoad, Acquiring, Act, Bits, CameByGuess, CanStep, Carries, Change, Changed, Changing, Decides, Effect, Event, Flag, ForLock, ForWait, Found, GateView, Going, HasBegunBy, HasGoneBehind, HasInHand, HasReached, HasSince, HasStepped, HasTakenAt}
+use Rattle.ns_monitor.specs.Prelude.{Held, Idle, InAcquire, InLeaving, InQueuing, InRelease, InShow, InSignal, InWait, IsAtPlace, IsAtRest, IsFirst, IsNumberOf, IsOwedNext, IsPackable, Leave, LeaveLoad, Leaving, Lists, Load, LoadFlag, LoadWord, LockState, Made, MayGoAlone, On, Owed, OwesBelow}
+use Rattle.ns_monitor.specs.Prelude.{OwesTheWoken, Paid, Part, PayWake, Pays, Performed, PlaceFits, PutsBack, Queue, QueueToWait, Release, ReleaseLoad, ReleaseReturning, Released, Request, ReturnQueues, ReturnShown, Returning, Saw, ScanAndRelease, ScanCells, SeatOf, SeatView, SectionFits}
+use Rattle.ns_monitor.specs.Prelude.{SignalLoad, Sleeps, TakeQueues, Taking, ToChange, ToQueue, Told, Truths, Turned, WaitReturning, Waited, Walk, WantsNext, Word, act_returning, asked_of, bits_of, called_of, carried_by, changed, found_back, found_returned, going_act, going_at, going_of, gone_to}
+use Rattle.ns_monitor.specs.Prelude.{got_of, has_queues, has_some, lists_returned, may_go, meets_at, moves, owes_more, part_of, release_has_queues, rest, rest_of, returning_at, returning_of, row_in, scan_place, scanning_at, some_returned, standing_after, taken_at, taking_at, taking_for, the}
+use Rattle.ns_monitor.specs.Prelude.{view_in, walk_after, want_of, woken_of, word_taken}
 use Rattle.ns_gate.proofs.Calls.{begins, can_go, goes, goes_on, since, since_then}
 use Rattle.ns_gate.proofs.Findings.{does}
 use Rattle.ns_gate.proofs.Stays.{HasKeptItsQueues, stays_by}
@@ -68,17 +68,11 @@ record DecidesAt {C : Type 0} (N : ℕ) (walk : Walk C) : Type 0 where
 decides_at : {C : Type 0} (N : ℕ) (walk : Walk C) → Decides walk → DecidesAt N walk
 decides_at N (InAcquire (ForLock mode) (AcquireLoad arrival)) d = record { wants = refl; free = refl; by_word = λ word. refl; goes = λ last may. record { wants = refl; free = refl; missed = λ word. refl; made = refl; asked = refl }; takes = λ last. record { wants = refl; free = refl; missed = λ word. refl; made = refl; has = refl; asked = refl } }
 decides_at N (InAcquire (ForWait wait outcome) (AcquireLoad arrival)) d = record { wants = refl; free = refl; by_word = λ word. refl; goes = λ last may. record { wants = refl; free = refl; missed = λ word. refl; made = refl; asked = refl }; takes = λ last. record { wants = refl; free = refl; missed = λ word. refl; made = refl; has = refl; asked = refl } }
-decides_at N (InAcquire aim place) d = absurd d
 decides_at N (InRelease releasing ReleaseLoad) d = record { wants = refl; free = refl; by_word = λ word. refl; goes = λ last may. record { wants = refl; free = refl; missed = λ word. refl; made = refl; asked = refl }; takes = λ last. record { wants = refl; free = refl; missed = λ word. refl; made = refl; has = scanning_has N (word_taken ToChange last); asked = refl } }
-decides_at N (InRelease releasing place) d = absurd d
 decides_at N (InWait wait (InQueuing again Load)) d = record { wants = refl; free = refl; by_word = λ word. refl; goes = λ last may. absurd (cc); takes = λ last. record { wants = refl; free = refl; missed = λ word. refl; made = refl; has = refl; asked = refl } }
 decides_at N (InWait wait (InLeaving cause LeaveLoad)) d = record { wants = refl; free = refl; by_word = λ word. refl; goes = λ last may. absurd (cc); takes = λ last. record { wants = refl; free = refl; missed = λ word. refl; made = refl; has = refl; asked = refl } }
-decides_at N (InWait wait place) d = absurd d
 decides_at N (InSignal waking k SignalLoad) d = record { wants = refl; free = refl; by_word = λ word. refl; goes = λ last may. absurd (cc); takes = λ last. record { wants = refl; free = refl; missed = λ word. refl; made = refl; has = refl; asked = refl } }
-decides_at N (InSignal waking k place) d = absurd d
-decides_at N (InTry mode place) d = absurd d
-decides_at N (InCells place) d = absurd d
-decides_at N (InShow place) d = absurd d
+decides_at N other d = absurd d
 
 -- one that its word lets go may go without the queues
 pub goes_alone : {C : Type 0} (going : Going C) (word : Word) → may_go going word ≡ true → MayGoAlone going
@@ -105,23 +99,16 @@ record PutsAt {C : Type 0} (N : ℕ) (walk : Walk C) (last : Word) : Type 1 wher
 module _ {C : Type 0} where
   puts_at : (N : ℕ) (walk : Walk C) (last : Word) → PutsBack walk → PutsAt N walk last
   puts_at N (InAcquire aim (Queue arrival other)) last puts = record { wants = refl; has = λ word. refl; missed = λ word. refl; made = λ truths seat row stood. refl; same = λ truths first seat row stood. refl; empties = λ truths seat row stood now slots. refl; asked = refl }
-  puts_at N (InAcquire aim place) last puts = absurd puts
   puts_at N (InRelease releasing (ScanAndRelease other)) last puts = record { wants = refl; has = λ word. refl; missed = λ word. refl; made = λ truths seat row stood. refl; same = λ truths first seat row stood. refl; empties = λ truths seat row stood now slots. refl; asked = refl }
-  puts_at N (InRelease releasing place) last puts = absurd puts
   puts_at N (InWait wait (InQueuing again (QueueToWait other))) last puts = record { wants = refl; has = λ word. refl; missed = λ word. refl; made = λ truths seat row stood. refl; same = λ truths first seat row stood. refl; empties = λ truths seat row stood now slots. refl; asked = refl }
   puts_at N (InWait wait (InLeaving cause (Leave other))) last puts = record { wants = refl; has = λ word. refl; missed = λ word. refl; made = λ truths seat row stood. refl; same = λ truths first seat row stood. refl; empties = λ truths seat row stood now slots. refl; asked = refl }
-  puts_at N (InWait wait place) last puts = absurd puts
-  puts_at N (InSignal waking k place) last puts = absurd puts
-  puts_at N (InTry mode place) last puts = absurd puts
-  puts_at N (InCells place) last puts = absurd puts
   puts_at N (InShow (ReturnShown other)) last puts = record { wants = refl; has = λ word. refl; missed = λ word. refl; made = λ truths seat row stood. refl; same = λ truths first seat row stood. refl; empties = λ truths seat row stood now slots. refl; asked = refl }
-  puts_at N (InShow place) last puts = absurd puts
+  puts_at N other last puts = absurd puts
 
   -- the slot stays as it was where another word was found
   saw_slots : (returning : Returning C) (last word : Word) (now : Lists C) (slots : List (ℕ × Lists C)) → carried_by (act_returning returning last) (Saw word) now slots ≡ slots
   saw_slots (Changed change) last word now slots = refl
-  saw_slots (Released releasing) last word now slots = refl
-  saw_slots (Waited wait again) last word now slots = refl
+  saw_slots other last word now slots = refl
 
 same_owed : {C : Type 0} {N : ℕ} (truths : Truths C) (returning : Returning C) (start me : SeatOf C N) (owed : List Owed) → HasKeptItsQueues start me → OwesTheWoken truths returning me owed → OwesTheWoken truths returning start owed
 same_owed truths (Changed change) start me owed s is = tt
@@ -161,7 +148,8 @@ module _ {C : Type 0} {N : ℕ} (truths : Truths C) where
   same_number calls number me now n s = (n.0 ∙ sym s.seat, n.1)
 
   -- the word last seen decides where it goes
-  pub decided : (walk : Walk C) (word : Word) (may spin : Bool) (me : SeatOf C N) → Decides walk → may_go (going_of walk) word ≡ may → word.spin ≡ spin → HasReached truths (asked_of walk) (got_of N walk (Saw word)) me → HasReached truths (asked_of walk) (cond may (On (going_at walk word)) (cond spin (Idle walk) (On (taking_at walk word)))) me
+  pub decided : (walk : Walk C) (word : Word) (may spin : Bool) (me : SeatOf C N) → Decides walk → may_go (going_of walk) word ≡ may → word.spin ≡ spin → HasReached truths (asked_of walk) (got_of N walk (Saw word)) me →
+      HasReached truths (asked_of walk) (cond may (On (going_at walk word)) (cond spin (Idle walk) (On (taking_at walk word)))) me
   decided walk word may spin me d may_is spin_is led = subst (λ (b : Bool × Bool). HasReached truths (asked_of walk) (cond b.0 (On (going_at walk word)) (cond b.1 (Idle walk) (On (taking_at walk word)))) me) (λ i. (may_is i, spin_is i)) (subst (λ next. HasReached truths (asked_of walk) next me) ((decides_at N walk d).by_word word) led)
 
   pub can_load : (walk : Walk C) (me : SeatOf C N) → Decides walk → IsAtPlace truths walk me → CanStep truths None LoadWord me
@@ -203,7 +191,8 @@ module _ {C : Type 0} {N : ℕ} (truths : Truths C) where
   began_by walk going guess (Err word) me now may packs came = (packs, came.1)
 
   -- it has gone right behind the load with which it began
-  pub goes_behind : (walk : Walk C) (going : Going C) (me now : SeatOf C N) → Decides walk → going ≡ going_of walk → IsAtRest truths me → HasGoneBehind truths walk going me now → HasSince (Some walk) (the me.0) (the now.0) × MayGoAlone (going_of walk) × HasReached truths (asked_of walk) (gone_to N walk) now
+  pub goes_behind : (walk : Walk C) (going : Going C) (me now : SeatOf C N) → Decides walk → going ≡ going_of walk → IsAtRest truths me → HasGoneBehind truths walk going me now →
+      HasSince (Some walk) (the me.0) (the now.0) × MayGoAlone (going_of walk) × HasReached truths (asked_of walk) (gone_to N walk) now
   goes_behind walk going me now d is rest b =
       let word = b.word in let mid = b.both.between in
       let may : may_go (going_of walk) word ≡ true = ap (λ (x : Going C). may_go x word) (sym is) ∙ b.may in
@@ -215,7 +204,8 @@ module _ {C : Type 0} {N : ℕ} (truths : Truths C) where
       )
 
   -- another step came between
-  pub misses : (walk : Walk C) (last word : Word) (me now : SeatOf C N) → Decides walk → may_go (going_of walk) last ≡ true → IsAtPlace truths (going_at walk last) me → Performed truths None (going_act (going_of walk) last) (Saw word) me now → HasReached truths (asked_of walk) (got_of N walk (Saw word)) now
+  pub misses : (walk : Walk C) (last word : Word) (me now : SeatOf C N) → Decides walk → may_go (going_of walk) last ≡ true → IsAtPlace truths (going_at walk last) me →
+      Performed truths None (going_act (going_of walk) last) (Saw word) me now → HasReached truths (asked_of walk) (got_of N walk (Saw word)) now
   misses walk last word me now d may at p = let g = (decides_at N walk d).goes last may in
       subst (λ r. HasReached truths r (got_of N walk (Saw word)) now) g.asked (goes truths (going_at walk last) (going_act (going_of walk) last) (Saw word) (got_of N walk (Saw word)) me now at g.free (g.missed word) (keeps_slots (going_of walk) last (Saw word) (the now.0).stood me.1 may) p)
 
@@ -266,7 +256,8 @@ module _ {C : Type 0} {N : ℕ} (truths : Truths C) where
   }
 
   -- what was made of the queues in hand by one that puts itself in or takes itself out
-  pub hand_by : (change : Change) (number : ℕ) (bits : Bits) (me now : SeatOf C N) → number ≡ (the me.0).at.seat → now.0 ≡ me.0 → ((last : Word) → moves change last (the me.0).stood ≡ false) → ((last : Word) → Carries (changed number change last (the me.0).stood) now) → ((last : Word) → bits ≡ bits_of (changed number change last (the me.0).stood).lock)
+  pub hand_by : (change : Change) (number : ℕ) (bits : Bits) (me now : SeatOf C N) → number ≡ (the me.0).at.seat → now.0 ≡ me.0 → ((last : Word) → moves change last (the me.0).stood ≡ false) →
+      ((last : Word) → Carries (changed number change last (the me.0).stood) now) → ((last : Word) → bits ≡ bits_of (changed number change last (the me.0).stood).lock)
       → HasInHand truths (Changed change) (record { some = false; bits = bits }) now
   hand_by change number bits me now is same still lists tells = record {
     carries = λ last. lists last ∙ (λ i. (0, changed (seat i) change last (the (sym same i)).stood) ∷ []);
@@ -292,7 +283,8 @@ module _ {C : Type 0} {N : ℕ} (truths : Truths C) where
         stays_by truths act (Saw word) me now p (ap has_queues at.walks ∙ r.has last) (p.carried ∙ saw_slots (returning_of walk) last word (the now.0).stood me.1) (ap (λ (q : Part C N). q.lists) e ∙ ap (λ (s : LockState C N). s.lists) p.did.made.begins) (ap (λ (q : Part C N). q.held) e),
       )
 
-  by_effect : (found : Found) (me now : SeatOf C N) (d : HasStepped truths None found (the me.0) (the now.0)) → has_queues (the me.0).at.walk ≡ true → (held : Held C N) → (the me.0).at.held ≡ Some held → d.made.step.owed ≡ called_of (woken_of (meets_at truths d.made.between.row) d.made.between.lists.lock) → (the now.0).at.owed ≡ called_of (woken_of (meets_at truths (row_in (the me.0).at.held)) (the me.0).stood.lock)
+  by_effect : (found : Found) (me now : SeatOf C N) (d : HasStepped truths None found (the me.0) (the now.0)) → has_queues (the me.0).at.walk ≡ true → (held : Held C N) → (the me.0).at.held ≡ Some held →
+      d.made.step.owed ≡ called_of (woken_of (meets_at truths d.made.between.row) d.made.between.lists.lock) → (the now.0).at.owed ≡ called_of (woken_of (meets_at truths (row_in (the me.0).at.held)) (the me.0).stood.lock)
   by_effect found me now d has held there owed =
       let row : d.made.between.row ≡ row_in (the me.0).at.held = sym (row_at found (the me.0) (the now.0) d held there) in
       let stood : d.made.between.lists ≡ (the me.0).stood = ap (λ (s : LockState C N). s.lists) d.made.begins ∙ sym (d.stood_was has) in

@@ -3,9 +3,9 @@ use Rattle.std.proofs.Common.{◌≡◌, ℕ, ◌+◌, ◌-◌, ◌<◌, ◌≤�
 use Rattle.std.proofs.lemmas.Bool.{cases_Bool, cases_eq, cond-false, cond-true, cond_both, le-ltb, lt-ltb}
 use Rattle.std.proofs.lemmas.Grind.{same_number_lists}
 use Rattle.std.proofs.lemmas.List.{get_or-set_same, get_or-set_other}
-use Rattle.ns_monitor.specs.Prelude.{Act, AreRead, Await, CanStep, Cell, Found, GateView, HasAnswered, HasGone, HasLoaded, HasMode, HasReached, HasSince, HasTested, HasUnchangedQueues, Held, InCells, InQueuing, InRelease, InWait, Is, IsAtPlace, IsQuiet, IsSettled}
-use Rattle.ns_monitor.specs.Prelude.{IsWide, JudgeMet, JudgeQuiet, Lists, LoadCell, LoadToScan, LockState, Next, On, OnEntry, Part, Performed, PlaceFits, QueueToWait, Quiet, QuietCells, QuietLast, ScanAndRelease, ScanCells, SeatOf, StandsAt, TestCells, Tested, Tests}
-use Rattle.ns_monitor.specs.Prelude.{ToTell, Truths, Visit, Wait, Walk, asked_of, before_in, carried_by, got_of, has_queues, judging, loading, loading_at, release_has_queues, row_in, tested_by, the, view_in, wait_has_queues, walk_after, want_of}
+use Rattle.ns_monitor.specs.Prelude.{Act, AreRead, Await, CanStep, Cell, Found, GateView, HasAnswered, HasGone, HasLoaded, HasMode, HasReached, HasSince, HasTested, HasUnchangedQueues, Held, InCells, InQueuing, InRelease, InWait, Is, IsAtPlace, IsQuiet, IsSettled, IsWide, JudgeMet, JudgeQuiet}
+use Rattle.ns_monitor.specs.Prelude.{Lists, LoadCell, LoadToScan, LockState, Next, On, OnEntry, Part, Performed, PlaceFits, QueueToWait, Quiet, QuietCells, QuietLast, ScanAndRelease, ScanCells, SeatOf, StandsAt, TestCells, Tested, Tests, ToTell, Truths, Visit, Wait, Walk, asked_of, before_in}
+use Rattle.ns_monitor.specs.Prelude.{carried_by, got_of, has_queues, judging, loading, loading_at, release_has_queues, row_in, tested_by, the, view_in, wait_has_queues, walk_after, want_of}
 use Rattle.ns_monitor.proofs.Standing.{commits_none, held_in, same_held}
 use Rattle.ns_gate.proofs.Calls.{begins, goes_on, since, since_itself, since_then}
 use Rattle.ns_gate.proofs.Findings.{cell_in_hand, does}

@@ -1,7 +1,7 @@
 -- A wait for a condition variable that is over: what its caller sees.
 use Rattle.std.proofs.Common.{◌≡◌, ℕ, ◌<◌, true, false, List, ◌∷◌, ◌++◌, Option, None, Some, refl, ap, sym, ◌∙◌, subst}
-use Rattle.ns_monitor.specs.Prelude.{Answer, Answered, Await, Cause, Course, CvWait, Ended, Event, Expired, HasAnswered, HasComeBackFrom, HasMode, HasSince, HasTakenAt, HasWaitedForVariable, Held, IfAnswered, IfEnded, InHand, InQueuing, InWait, IsFreshIn, IsSettled}
-use Rattle.ns_monitor.specs.Prelude.{IsWide, Known, Limits, Load, Mode, Notified, Outcome, PlaceFits, SeatOf, TableId, Truths, VariableWaitMeans, Walk, Woken, Word, answer_of_wait, is_met, known_of, leave_told, row_after, section_of, the, waits_for_variable}
+use Rattle.ns_monitor.specs.Prelude.{Answer, Answered, Await, Cause, Course, CvWait, Ended, Event, Expired, HasAnswered, HasComeBackFrom, HasMode, HasSince, HasTakenAt, HasWaitedForVariable, Held, IfAnswered, IfEnded, InHand, InQueuing, InWait, IsFreshIn, IsSettled, IsWide, Known, Limits, Load}
+use Rattle.ns_monitor.specs.Prelude.{Mode, Notified, Outcome, PlaceFits, SeatOf, TableId, Truths, VariableWaitMeans, Walk, Woken, Word, answer_of_wait, is_met, known_of, leave_told, row_after, section_of, the, waits_for_variable}
 use Rattle.ns_gate.proofs.Keeps.{hand_of}
 
 -- who has taken the queues has its section as it is
@@ -38,7 +38,8 @@ module _ {C : Type 0} {N : ℕ} (truths : Truths C) where
       }
 
   -- A wait for a variable that is over has told what its caller sees.
-  pub variable_wait_tells : (first : Walk C) (mode : Mode) (k : ℕ) (limits : Limits) (answer : Answer) (old : Known C N) (was_table is : TableId) (me now : SeatOf C N) → known_of was_table me ≡ old → HasSince (Some first) (the me.0) (the now.0) → HasAnswered truths (Await (waits_for_variable mode k limits)) (Answered answer) now → HasWaitedForVariable truths k answer old (known_of is now)
+  pub variable_wait_tells : (first : Walk C) (mode : Mode) (k : ℕ) (limits : Limits) (answer : Answer) (old : Known C N) (was_table is : TableId) (me now : SeatOf C N) → known_of was_table me ≡ old →
+      HasSince (Some first) (the me.0) (the now.0) → HasAnswered truths (Await (waits_for_variable mode k limits)) (Answered answer) now → HasWaitedForVariable truths k answer old (known_of is now)
   variable_wait_tells first mode k limits answer old was_table is me now view s a = subst (λ (o : Known C N). HasWaitedForVariable truths k answer o (known_of is now)) view (
       let w = the now.0 in
       let back = hand_of (λ (o : Option (Held C N)). InHand o (λ back. VariableWaitMeans truths w.at.seat (row_after w.told.seen) mode k limits w.course answer back)) w.at.held (λ e. e) a.means in

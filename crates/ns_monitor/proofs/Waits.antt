@@ -1,9 +1,9 @@
 -- A wait outside, step by step: it queues, waits to be woken or ended, and may leave its list.
 use Rattle.std.proofs.Common.{◌≡◌, ◌≢◌, ℕ, Bool, true, false, cond, ne_eqb, Option, None, Some, refl, ap, sym, ◌∙◌, subst}
 use Rattle.std.proofs.lemmas.Bool.{cond_both}
-use Rattle.ns_monitor.specs.Prelude.{AcquireLoad, ArmFlag, ArmToWait, Arrival, AsFresh, Await, AwaitWakeInWait, AwaitWakeToLeave, Cause, Changed, Ended, Flag, ForWait, HasReached, HasTakenAt, Home, Idle, IfEnded, InAcquire, InLeaving, InQueuing, InWait, IsAtPlace}
-use Rattle.ns_monitor.specs.Prelude.{Leave, LeaveLoad, LeaveSelf, Load, LoadFlag, LoadToScan, Look, LookOut, Looked, Made, On, OnCondition, OnVariables, Outcome, Performed, QueueToWait, SeatOf, Subject, Truths, Wait, Word, armed_place, arrival_of, found_back, got_of}
-use Rattle.ns_monitor.specs.Prelude.{home_of, is_limited, lacks_row, load_place, outcome_taken, rest_or_look, stands_at, the, wait_has_queues, woken_by}
+use Rattle.ns_monitor.specs.Prelude.{AcquireLoad, ArmFlag, ArmToWait, Arrival, AsFresh, Await, AwaitWakeInWait, AwaitWakeToLeave, Cause, Changed, Ended, Flag, ForWait, HasReached, HasTakenAt, Home, Idle, IfEnded, InAcquire, InLeaving, InQueuing, InWait, IsAtPlace, Leave, LeaveLoad, LeaveSelf}
+use Rattle.ns_monitor.specs.Prelude.{Load, LoadFlag, LoadToScan, Look, LookOut, Looked, Made, On, OnCondition, OnVariables, Outcome, Performed, QueueToWait, SeatOf, Subject, Truths, Wait, Word, armed_place, arrival_of, found_back, got_of, home_of, is_limited, lacks_row, load_place, outcome_taken}
+use Rattle.ns_monitor.specs.Prelude.{rest_or_look, stands_at, the, wait_has_queues, woken_by}
 use Rattle.ns_gate.proofs.Calls.{goes}
 use Rattle.ns_monitor.proofs.Locks.{HasArmed, arms}
 use Rattle.ns_monitor.proofs.Tests.{moves_in}
@@ -33,7 +33,8 @@ module _ {C : Type 0} {N : ℕ} (truths : Truths C) where
   pub arms_to_wait : (wait : Wait C) (again : Bool) (last : Word) (start me now : SeatOf C N) → HasTakenAt truths (InWait wait (InQueuing again Load)) last start me → Performed truths None ArmFlag Made me now → HasArmed truths (InWait wait (InQueuing again (armed_place N wait.on last))) me now
   arms_to_wait wait again last start me now took p = arms truths (InWait wait (InQueuing again (ArmToWait last))) (InWait wait (InQueuing again (armed_place N wait.on last))) me now refl refl (armed_has N again wait.on last) refl took.at took.taken p
 
-  pub loads_or_queues : (wait : Wait C) (again : Bool) (last : Word) (lacks : Bool) (me : SeatOf C N) → lacks ≡ lacks_row wait.on last → IsAtPlace truths (InWait wait (InQueuing again (armed_place N wait.on last))) me → IsAtPlace truths (cond lacks (InWait wait (InQueuing again (load_place N last 0))) (InWait wait (InQueuing again (QueueToWait last)))) me
+  pub loads_or_queues : (wait : Wait C) (again : Bool) (last : Word) (lacks : Bool) (me : SeatOf C N) → lacks ≡ lacks_row wait.on last → IsAtPlace truths (InWait wait (InQueuing again (armed_place N wait.on last))) me →
+      IsAtPlace truths (cond lacks (InWait wait (InQueuing again (load_place N last 0))) (InWait wait (InQueuing again (QueueToWait last)))) me
   loads_or_queues wait again last lacks me is at = subst (λ w. IsAtPlace truths w me) (ap (λ place. InWait wait (InQueuing again place)) (armed_at N wait.on last ∙ ap (λ b. cond b (load_place N last 0) (QueueToWait last)) (sym is)) ∙ moves_in (λ place. InWait wait (InQueuing again place)) lacks (load_place N last 0) (QueueToWait last)) at
 
   -- ---- it leaves its list
@@ -46,7 +47,8 @@ module _ {C : Type 0} {N : ℕ} (truths : Truths C) where
       ((λ i. stands_at (the (same i)).at.seat home (the (same i)).stood) ∙ (ap (λ who. stands_at who home (the me.0).stood) (sym is) ∙ (sym tells ∙ so)))
 
   -- one that was taken before is woken, and comes back
-  pub taken_next : (wait : Wait C) (cause : Cause) (flag : ℕ) (outcome : Outcome) (arrival : Arrival) (me : SeatOf C N) → flag ≢ 1 → outcome ≡ outcome_taken wait.on cause flag → arrival ≡ arrival_of 0 flag → HasReached truths (Await wait) (got_of N (InWait wait (InLeaving cause AwaitWakeToLeave)) (Flag flag)) me
+  pub taken_next : (wait : Wait C) (cause : Cause) (flag : ℕ) (outcome : Outcome) (arrival : Arrival) (me : SeatOf C N) → flag ≢ 1 → outcome ≡ outcome_taken wait.on cause flag → arrival ≡ arrival_of 0 flag →
+      HasReached truths (Await wait) (got_of N (InWait wait (InLeaving cause AwaitWakeToLeave)) (Flag flag)) me
       → IsAtPlace truths (InAcquire (ForWait wait outcome) (AcquireLoad arrival)) me
   taken_next wait cause flag outcome arrival me clear is how led =
       subst (λ (x : Outcome × Arrival). IsAtPlace truths (InAcquire (ForWait wait x.0) (AcquireLoad x.1)) me) (λ i. (sym is i, sym how i))

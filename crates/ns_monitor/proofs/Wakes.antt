@@ -1,8 +1,8 @@
 -- A call that wakes, step by step: what it has in hand, and what it owes once the queues are back.
 use Rattle.std.proofs.Common.{◌≡◌, ℕ, Bool, true, false, cond, if◌then◌else◌, not, ◌&&◌, [], ◌∷◌, ◌++◌, List, None, Some, refl, ap, sym, ◌∙◌, subst}
-use Rattle.ns_monitor.specs.Prelude.{Broadcasting, CanStep, Carries, Event, HasAnswered, HasReached, HasReturnedWoken, HasSince, HasTakenAt, HasUnchangedQueues, HasWoken, HasWokenInHand, InSignal, IsAtPlace, IsOrderly, Known, Lists, LockState, On, Owed, Part, Performed}
-use Rattle.ns_monitor.specs.Prelude.{ReturnQueues, Saw, SeatOf, SignalLoad, Signaling, Succeeded, TableId, Truths, Turned, Waiter, WakeAndReturn, WakeWaiters, Waking, Walk, Woke, Word, bits_of, change_found, has_queues, has_some, is_held, is_held_by_one, known_of}
-use Rattle.ns_monitor.specs.Prelude.{lists_woken, owed_woken, part_of, pay_woken, rest, taken_by, taken_from, taken_set, the, wake_by, wake_event, wake_of, wakes_of, woken_nobody}
+use Rattle.ns_monitor.specs.Prelude.{Broadcasting, CanStep, Carries, Event, HasAnswered, HasReached, HasReturnedWoken, HasSince, HasTakenAt, HasUnchangedQueues, HasWoken, HasWokenInHand, InSignal, IsAtPlace, IsOrderly, Known, Lists, LockState, On, Owed, Part, Performed, ReturnQueues, Saw, SeatOf}
+use Rattle.ns_monitor.specs.Prelude.{SignalLoad, Signaling, Succeeded, TableId, Truths, Turned, Waiter, WakeAndReturn, WakeWaiters, Waking, Walk, Woke, Word, bits_of, change_found, has_queues, has_some, is_held, is_held_by_one, known_of, lists_woken, owed_woken, part_of, pay_woken, rest, taken_by}
+use Rattle.ns_monitor.specs.Prelude.{taken_from, taken_set, the, wake_by, wake_event, wake_of, wakes_of, woken_nobody}
 use Rattle.ns_gate.proofs.Calls.{can_go, goes_on, works}
 use Rattle.ns_gate.proofs.Findings.{does}
 use Rattle.ns_gate.proofs.Stays.{HasKeptItsQueues, stays_by}
@@ -39,7 +39,8 @@ module _ {C : Type 0} {N : ℕ} where
   }
 
   -- and is what the hand has just made
-  pub hand_made : (waking : Waking) (k : ℕ) (held : Bool) (turned : Turned) (me now : SeatOf C N) → now.0 ≡ me.0 → Carries (lists_woken waking k held (the me.0).stood) now → turned.some ≡ (held && has_some (taken_from waking k (the me.0).stood)) → turned.bits ≡ bits_of (lists_woken waking k held (the me.0).stood).lock → HasWokenInHand waking k held turned now
+  pub hand_made : (waking : Waking) (k : ℕ) (held : Bool) (turned : Turned) (me now : SeatOf C N) → now.0 ≡ me.0 → Carries (lists_woken waking k held (the me.0).stood) now →
+      turned.some ≡ (held && has_some (taken_from waking k (the me.0).stood)) → turned.bits ≡ bits_of (lists_woken waking k held (the me.0).stood).lock → HasWokenInHand waking k held turned now
   hand_made waking k held turned me now same carries some bits = record {
     carries = carries ∙ (λ i. (0, lists_woken waking k held (the (sym same i)).stood) ∷ []);
     some = some ∙ (λ i. held && has_some (taken_from waking k (the (sym same i)).stood));
@@ -87,7 +88,8 @@ module _ {C : Type 0} {N : ℕ} (truths : Truths C) where
   can_return waking k last me at = can_go truths (InSignal waking k (WakeAndReturn last)) (ReturnQueues (WakeWaiters waking k) last) me refl at
 
   -- another step came between
-  pub misses_return : (waking : Waking) (k : ℕ) (last word : Word) (me now : SeatOf C N) → IsAtPlace truths (InSignal waking k (WakeAndReturn last)) me → Performed truths None (ReturnQueues (WakeWaiters waking k) last) (Saw word) me now → IsAtPlace truths (InSignal waking k (WakeAndReturn word)) now × HasKeptItsQueues me now
+  pub misses_return : (waking : Waking) (k : ℕ) (last word : Word) (me now : SeatOf C N) → IsAtPlace truths (InSignal waking k (WakeAndReturn last)) me →
+      Performed truths None (ReturnQueues (WakeWaiters waking k) last) (Saw word) me now → IsAtPlace truths (InSignal waking k (WakeAndReturn word)) now × HasKeptItsQueues me now
   misses_return waking k last word me now at p =
       let act = ReturnQueues (WakeWaiters waking k) last in
       let e = saw_keeps truths (the me.0).at.seat act (part_of p.did.made.between (the me.0).at.held (the me.0).at.owed) (part_of p.did.new p.did.made.step.held p.did.made.step.owed) word p.did.commits (does truths None act (Saw word) me now p) in (

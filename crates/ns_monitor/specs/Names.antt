@@ -63,8 +63,8 @@ pub use Rattle.ns_word.specs.Places.{CanLeave, CellFits, HasMode, IsInRange, IsS
 pub use Rattle.ns_word.specs.Steps.{Effect, LockState, MayShow, Part, change_found, changed, entry_of, held_after, held_by, meets_at, moves, part_of, section_of, taken_by, waits_at, wake_of, with_lock}
 pub use Rattle.ns_word.specs.Told.{IsTold, Told}
 pub use Rattle.ns_word.specs.Waits.{answer_of, answer_of_wait, arrival_of, home_of, mode_for, outcome_taken, variable_in, woken_by}
-pub use Rattle.ns_word.specs.Walks.{acquire_by, acquired_for, armed_place, awaits, back_with, got_of, got_queuing, has_queues, judge_of, load_place, look_or_queue, pay_releasing, pay_waiting, pay_woken, pays, quiet_first, quiet_place, release_by, release_has_queues}
-pub use Rattle.ns_word.specs.Walks.{rest_or_look, scan_place, show_by, test_place, unmet_by, wait_first, wait_has_queues, walk_after, want_of}
+pub use Rattle.ns_word.specs.Walks.{acquire_by, acquired_for, armed_place, awaits, back_with, got_of, got_queuing, has_queues, judge_of, load_place, look_or_queue, pay_releasing, pay_waiting, pay_woken, pays, quiet_first, quiet_place, release_by, release_has_queues, rest_or_look, scan_place}
+pub use Rattle.ns_word.specs.Walks.{show_by, test_place, unmet_by, wait_first, wait_has_queues, walk_after, want_of}
 pub use Rattle.ns_word.specs.Words.{is_held, may_acquire, mode_released, needs_scan, word_taken}
 pub use Rattle.ns_word.specs.declared.acquire_walk.AcquirePlace.TheVariants.{AcquireExchange, AcquireLoad, Arm, AwaitWake, Queue, TakeToQueue}
 pub use Rattle.ns_word.specs.declared.act.Act.{Act}

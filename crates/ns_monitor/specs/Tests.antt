@@ -1,8 +1,7 @@
 -- How a call loads the cells of the row one after another, and what the test of a wait tells.
 use Rattle.std.specs.Prelude.{◌≡◌, ℕ, ◌-◌, ◌<◌, if◌then◌else◌, List, length, slice_index, Bool, false, Option, None, Some}
-use Rattle.ns_monitor.specs.Names.{Answered, Await, Done, GateView, HasMode, HasReached, HasSince, HasUnchangedQueues, InCells, InQueuing, InRelease, InWait, IsAtPlace, IsAtRest, IsFirst, LoadToScan, Met, Next, OnCondition, OnEntry, OnVariables, PlaceFits, QueueToWait}
-use Rattle.ns_monitor.specs.Names.{QuietCells, QuietLast, ScanAndRelease, ScanCells, SeatOf, Subject, TestCells, TestLast, Truths, Visit, Wait, Waiter, Walk, Word, left_of, load_place, meets_at, quiet_place, row_in, scan_place, test_place, the, unmet_by, wait_first}
-use Rattle.ns_monitor.specs.Names.{woken_of}
+use Rattle.ns_monitor.specs.Names.{Answered, Await, Done, GateView, HasMode, HasReached, HasSince, HasUnchangedQueues, InCells, InQueuing, InRelease, InWait, IsAtPlace, IsAtRest, IsFirst, LoadToScan, Met, Next, OnCondition, OnEntry, OnVariables, PlaceFits, QueueToWait, QuietCells, QuietLast}
+use Rattle.ns_monitor.specs.Names.{ScanAndRelease, ScanCells, SeatOf, Subject, TestCells, TestLast, Truths, Visit, Wait, Waiter, Walk, Word, left_of, load_place, meets_at, quiet_place, row_in, scan_place, test_place, the, unmet_by, wait_first, woken_of}
 
 -- ---- cells one after another
 

@@ -1,7 +1,7 @@
 -- The first place of each call of a monitor, by which a caller's calls are told.
 use Rattle.std.specs.Prelude.{ℕ, Option, option_map}
-use Rattle.ns_monitor.specs.Names.{AcquireLoad, AsFresh, ForLock, GetLoad, InAcquire, InCells, InRelease, InShow, InSignal, InTry, Limits, Mode, Note, OnCondition, OnVariables, Only, ReleaseLoad, Releasing, SetLoad, ShowLoad, SignalLoad, ToTell, TryLoad, Wait, Waking}
-use Rattle.ns_monitor.specs.Names.{Walk, quiet_first, wait_first}
+use Rattle.ns_monitor.specs.Names.{AcquireLoad, AsFresh, ForLock, GetLoad, InAcquire, InCells, InRelease, InShow, InSignal, InTry, Limits, Mode, Note, OnCondition, OnVariables, Only, ReleaseLoad, Releasing, SetLoad, ShowLoad, SignalLoad, ToTell, TryLoad, Wait, Waking, Walk, quiet_first}
+use Rattle.ns_monitor.specs.Names.{wait_first}
 
 -- a try for this mode
 abbrev pub trying : {C : Type 0} → Mode → Walk C

@@ -1,8 +1,7 @@
 -- The steps, as the table asks for them.
 use Rattle.std.proofs.Common.{◌≡◌, ◌≢◌, ℕ, ◌+◌, ◌-◌, ◌%◌, ◌^◌, ◌<◌, ◌≤◌, max, List, [], ◌∷◌, ◌++◌, set, slice_index, Option, sym, refl, ap, ◌∙◌, subst, arith, eq-eqb, bit_or}
-use Rattle.ns_note.specs.Prelude.{Adding, Allows, CanAct, EnvAct, EnvEvent, EnvPlain, EnvView, Every, FoundWord, Holds, IsLawful, IsMade, IsNoteWord, IsOne, IsRuled, IsWordAt, LoadClock, LoadNext, LoadNote, Me, MoveClock, NoteStanding, Nothing, NotifyNote, OneActs}
-use Rattle.ns_note.specs.Prelude.{OneMakes, ParentFits, StoreNote, TakeNext, Taken, ViewFits, Views, WordFits, acted, adds, env_after, events_of, is_adding, is_seat, keeps, made_note, note_of, note_stored, notified_note, one_if, outcome, state_of, tally, the, total}
-use Rattle.ns_note.specs.Prelude.{word_at, word_of}
+use Rattle.ns_note.specs.Prelude.{Adding, Allows, CanAct, EnvAct, EnvEvent, EnvPlain, EnvView, Every, FoundWord, Holds, IsLawful, IsMade, IsNoteWord, IsOne, IsRuled, IsWordAt, LoadClock, LoadNext, LoadNote, Me, MoveClock, NoteStanding, Nothing, NotifyNote, OneActs, OneMakes, ParentFits, StoreNote}
+use Rattle.ns_note.specs.Prelude.{TakeNext, Taken, ViewFits, Views, WordFits, acted, adds, env_after, events_of, is_adding, is_seat, keeps, made_note, note_of, note_stored, notified_note, one_if, outcome, state_of, tally, the, total, word_at, word_of}
 use mathlib.Core.Option.{some}
 use lib.ListN.{get_elem?}
 use Rattle.atomic_table.proofs.Lists.{set_again}

@@ -1,7 +1,7 @@
 -- Seats of a new environment, and seats that meet.
 use Rattle.std.proofs.Common.{◌≡◌, ℕ, zero, suc, ◌+◌, ◌≤◌, eqb, List, [], ◌∷◌, replicate, sym, refl, ◌∙◌, subst, arith, append-nil}
-use Rattle.ns_note.specs.Prelude.{Adds, Allows, ArePair, EnvEvent, EnvView, Every, HasSight, HaveLearned, Holds, IsBySums, IsEnvBySeats, IsLawful, IsLegalEnv, IsRuled, Learned, Making, Me, TableId, ViewFits, adds, env_own, fresh, fresh_plain, fresh_seat, is_adding}
-use Rattle.ns_note.specs.Prelude.{known_of, one_if, sight_of, tally, total}
+use Rattle.ns_note.specs.Prelude.{Adds, Allows, ArePair, EnvEvent, EnvView, Every, HasSight, HaveLearned, Holds, IsBySums, IsEnvBySeats, IsLawful, IsLegalEnv, IsRuled, Learned, Making, Me, TableId, ViewFits, adds, env_own, fresh, fresh_plain, fresh_seat, is_adding, known_of, one_if, sight_of}
+use Rattle.ns_note.specs.Prelude.{tally, total}
 use Rattle.ns_model.proofs.Beginnings.{begins_itself}
 use Rattle.ns_model.proofs.Environments.{env_own-append}
 use Rattle.ns_env.proofs.Begins.{new_lawful}

@@ -1,8 +1,8 @@
 -- The steps, as the table asks for them.
 use Rattle.std.proofs.Common.{◌≡◌, ◌≢◌, ℕ, ◌+◌, ◌-◌, ◌<◌, ◌≤◌, Bool, true, false, cond, ℤ, Result, Ok, Err, List, [], ◌∷◌, ◌++◌, set, slice_index, sym, refl, ap, ◌∙◌, subst, arith, eq-eqb}
 use Rattle.std.specs.Prelude.{◌==◌, ◌^◌, bit_or}
-use Rattle.ns_objects.specs.Prelude.{Add, Adding, Allows, Began, BeginOnce, CanAct, CounterFault, CounterState, EndOnce, Every, ExchangeToAdd, Free, HasActed, Holds, IsCounterWord, IsOne, IsRuled, LoadToAdd, LookOnce, MarkWait, Me, ObjectAct, ObjectEvent, ObjectView}
-use Rattle.ns_objects.specs.Prelude.{OnCounter, OnOnce, OneActs, OneEnds, Running, Setup, ViewFits, Views, acted, counter_of, counter_word, events_of, is_seat, judged, keeps, looked, most, one_if, outcome, the, total, tried, value_of, word_at}
+use Rattle.ns_objects.specs.Prelude.{Add, Adding, Allows, Began, BeginOnce, CanAct, CounterFault, CounterState, EndOnce, Every, ExchangeToAdd, Free, HasActed, Holds, IsCounterWord, IsOne, IsRuled, LoadToAdd, LookOnce, MarkWait, Me, ObjectAct, ObjectEvent, ObjectView, OnCounter, OnOnce, OneActs}
+use Rattle.ns_objects.specs.Prelude.{OneEnds, Running, Setup, ViewFits, Views, acted, counter_of, counter_word, events_of, is_seat, judged, keeps, looked, most, one_if, outcome, the, total, tried, value_of, word_at}
 use mathlib.Core.Option.{some}
 use prog.Atomic.{either}
 use lib.ListN.{get_elem?}
@@ -83,10 +83,12 @@ tried_word : (who counter : ℕ) (delta : ℤ) (n : ℕ) (reply : Result ℕ Cou
 tried_word who counter delta n (Ok value) = refl
 tried_word who counter delta n (Err fault) = refl
 
-pub loads_to_change : (S : Type 0) (setup : Setup) (slots id : ℕ) (me : Me S (List ObjectView)) (counter : ℕ) (delta : ℤ) → IsOne me.0 → counter < (the me.0).setup.counters → (the me.0).place ≡ Free → Allows (Holds setup) slots id me counter (λ n. n) (λ found now. OneActs (LoadToAdd counter delta) found me now)
+pub loads_to_change : (S : Type 0) (setup : Setup) (slots id : ℕ) (me : Me S (List ObjectView)) (counter : ℕ) (delta : ℤ) → IsOne me.0 → counter < (the me.0).setup.counters → (the me.0).place ≡ Free →
+    Allows (Holds setup) slots id me counter (λ n. n) (λ found now. OneActs (LoadToAdd counter delta) found me now)
 loads_to_change S setup slots id me counter delta one there free = allows S setup slots id me (LoadToAdd counter delta) (λ n. n) one (there, free) (λ n. tried_word (the me.0).seat counter delta n (judged (counter_of n) delta))
 
-pub exchanges : (S : Type 0) (setup : Setup) (slots id : ℕ) (me : Me S (List ObjectView)) (counter : ℕ) (delta : ℤ) (seen : CounterState) (value old new : ℕ) → IsOne me.0 → counter < (the me.0).setup.counters → (the me.0).place ≡ Adding counter delta → judged seen delta ≡ Ok value → seen.value ≤ most
+pub exchanges : (S : Type 0) (setup : Setup) (slots id : ℕ) (me : Me S (List ObjectView)) (counter : ℕ) (delta : ℤ) (seen : CounterState) (value old new : ℕ) → IsOne me.0 → counter < (the me.0).setup.counters →
+    (the me.0).place ≡ Adding counter delta → judged seen delta ≡ Ok value → seen.value ≤ most
     → old ≡ counter_word seen → new ≡ counter_word (record { value = value; waited = seen.waited }) → Allows (Holds setup) slots id me counter (λ n. either (n == old) new n) (λ found now. OneActs (ExchangeToAdd counter delta seen value) found me now)
 exchanges S setup slots id me counter delta seen value old new one there place fits few was becomes =
     subst (λ (z : ℕ × ℕ). Allows (Holds setup) slots id me counter (λ n. either (n == z.0) z.1 n) (λ found now. OneActs (ExchangeToAdd counter delta seen value) found me now)) (λ i. (sym was i, sym becomes i))
@@ -101,7 +103,8 @@ pub value_made : (value new : ℕ) (waited : Bool) → value ≤ most → new �
 value_made value new waited few is = ap value_of is ∙ ap (λ (z : CounterState). z.value) (counter_of-counter_word (record { value = value; waited = waited }) few)
 
 -- the same, as the table names them by words
-pub exchanges_word : (S : Type 0) (setup : Setup) (slots id : ℕ) (me : Me S (List ObjectView)) (word counter : ℕ) (delta : ℤ) (value old new : ℕ) → word ≡ counter → IsOne me.0 → counter < (the me.0).setup.counters → (the me.0).place ≡ Adding counter delta → judged (counter_of old) delta ≡ Ok value → IsCounterWord old
+pub exchanges_word : (S : Type 0) (setup : Setup) (slots id : ℕ) (me : Me S (List ObjectView)) (word counter : ℕ) (delta : ℤ) (value old new : ℕ) → word ≡ counter → IsOne me.0 → counter < (the me.0).setup.counters →
+    (the me.0).place ≡ Adding counter delta → judged (counter_of old) delta ≡ Ok value → IsCounterWord old
     → new ≡ counter_word (record { value = value; waited = (counter_of old).waited }) → Allows (Holds setup) slots id me word (λ n. either (n == old) new n) (λ found now. OneActs (ExchangeToAdd word delta (counter_of old) (value_of new)) found me now)
 exchanges_word S setup slots id me word counter delta value old new is one there place fits coded becomes =
     subst (λ (z : ℕ × ℕ). Allows (Holds setup) slots id me z.0 (λ n. either (n == old) new n) (λ found now. OneActs (ExchangeToAdd z.0 delta (counter_of old) z.1) found me now)) (λ i. (sym is i, sym (value_made value new (counter_of old).waited (accepted (counter_of old) delta value fits).1 becomes) i))
@@ -119,7 +122,8 @@ begins_once S setup slots id me once old new one there free unused running =
       by n false = refl
 
 -- a step that tells less
-tells_less : {S : Type 0} (setup : Setup) (slots id : ℕ) (me : Me S (List ObjectView)) (i : ℕ) (f : ℕ → ℕ) (P Q : ℕ → Me S (List ObjectView) → Type 0) → ((found : ℕ) (now : Me S (List ObjectView)) → P found now → Q found now) → Allows (Holds setup) slots id me i f P → Allows (Holds setup) slots id me i f Q
+tells_less : {S : Type 0} (setup : Setup) (slots id : ℕ) (me : Me S (List ObjectView)) (i : ℕ) (f : ℕ → ℕ) (P Q : ℕ → Me S (List ObjectView) → Type 0) →
+    ((found : ℕ) (now : Me S (List ObjectView)) → P found now → Q found now) → Allows (Holds setup) slots id me i f P → Allows (Holds setup) slots id me i f Q
 tells_less setup slots id me i f P Q less may s holds homes at bound = let r = may s holds homes at bound in (r.0, r.1, r.2, r.3, less _ _ r.4)
 
 pub ends_once : (S : Type 0) (setup : Setup) (slots id : ℕ) (me : Me S (List ObjectView)) (once new : ℕ) → IsOne me.0 → (the me.0).place ≡ Running once → new ≡ 2
@@ -130,5 +134,6 @@ ends_once S setup slots id me once new one runs done =
 
 -- ---- waits for a counter
 
-pub marks_wait : (S : Type 0) (setup : Setup) (slots id : ℕ) (me : Me S (List ObjectView)) (counter : ℕ) → IsOne me.0 → counter < (the me.0).setup.counters → (the me.0).place ≡ Free → Allows (Holds setup) slots id me counter (λ n. bit_or n (2 ^ 32)) (λ found now. OneActs (MarkWait counter) found me now)
+pub marks_wait : (S : Type 0) (setup : Setup) (slots id : ℕ) (me : Me S (List ObjectView)) (counter : ℕ) → IsOne me.0 → counter < (the me.0).setup.counters → (the me.0).place ≡ Free →
+    Allows (Holds setup) slots id me counter (λ n. bit_or n (2 ^ 32)) (λ found now. OneActs (MarkWait counter) found me now)
 marks_wait S setup slots id me counter one there free = allows S setup slots id me (MarkWait counter) (λ n. bit_or n (2 ^ 32)) one (there, free) (λ n. refl)

@@ -1,7 +1,6 @@
 -- How a change of a counter comes to its end.
-use Rattle.std.proofs.Common.{◌≡◌, ◌≢◌, ℕ, ℤ, ◌≤◌, List, [], ◌∷◌, Bool, eqb, cond, Result, Ok, Err, sym, ap, ◌∙◌, subst, eq-eqb, ne_eqb}
-use Rattle.ns_objects.specs.Prelude.{Add, Adding, CounterFault, CounterState, ExchangeToAdd, Free, HasCome, HasJudged, IsCounterWord, Me, ObjectView, OnCounter, OneActs, OneComes, Outcome, change_in_hand, counter_of, counter_word, judged, judging, most, outcome, the}
-use Rattle.ns_objects.specs.Prelude.{tried}
+use Rattle.std.proofs.Common.{◌≡◌, ◌≢◌, ℕ, ℤ, ◌≤◌, List, [], ◌∷◌, Bool, eqb, cond, Result, Ok, sym, ap, ◌∙◌, subst, ne_eqb}
+use Rattle.ns_objects.specs.Prelude.{Add, Adding, CounterFault, CounterState, ExchangeToAdd, Free, HasCome, HasJudged, IsCounterWord, Me, ObjectView, OnCounter, OneActs, OneComes, Outcome, change_in_hand, counter_of, counter_word, judged, judging, most, outcome, the, tried}
 use Rattle.ns_counters.proofs.Words.{counter_of-counter_word}
 use Rattle.ns_objects.proofs.Rests.{came, came_through}
 
@@ -13,11 +12,7 @@ module _ {S : Type 0} (counter : ℕ) (delta : ℤ) (me now : Me S (List ObjectV
   comes_by : (word : ℕ) (reply : Result ℕ CounterFault) → judged (counter_of word) delta ≡ reply → HasJudged counter delta word me now → OneComes {S = S} (tried who counter delta word reply).events (tried who counter delta word reply).place me now
   comes_by word reply is judges = subst (λ (r : Result ℕ CounterFault). OneComes {S = S} (tried who counter delta word r).events (tried who counter delta word r).place me now) is judges
 
-  -- a change that was refused is over,
-  pub refused : (word : ℕ) (fault : CounterFault) → judged (counter_of word) delta ≡ Err fault → HasJudged counter delta word me now → OneComes {S = S} (OnCounter counter (Add who delta (Err fault)) ∷ []) Free me now
-  refused word fault is judges = comes_by word (Err fault) is judges
-
-  -- and one that wasn't is to be made
+  -- a change that is accepted is to be made
   pub goes_on : (word value : ℕ) → judged (counter_of word) delta ≡ Ok value → HasJudged counter delta word me now → OneComes {S = S} [] (Adding counter delta) me now
   goes_on word value is judges = comes_by word (Ok value) is judges
 
@@ -36,11 +31,7 @@ module _ {S : Type 0} (counter : ℕ) (delta : ℤ) (me now next : Me S (List Ob
       let named = subst (λ (z : ℕ × ℤ). HasCome (outcome z.0 (ExchangeToAdd counter z.1 (counter_of word) value) (the now.0).place found).events (outcome z.0 (ExchangeToAdd counter z.1 (counter_of word) value) (the now.0).place found).place (the now.0) (the next.0)) (λ i. (goes.2.seat i, d i)) here in
       (acts.0, acts.1 ∙ goes.1, came_through [] _ (Adding counter delta) _ (the me.0) (the now.0) (the next.0) goes.2 named)
 
-  -- the change is made where the word is the one seen,
-  pub made : found ≡ word → OneComes {S = S} (OnCounter counter (Add caller delta (Ok value)) ∷ []) Free me next
-  made is = subst (λ (b : Bool). OneComes {S = S} (left_by b).events (left_by b).place me next) (eq-eqb found (counter_word (counter_of word)) (is ∙ coded.0)) comes
-
-  -- and else it is judged anew, by the word found
+  -- where the word is not the one seen the change is judged anew, by the word found
   pub judged_anew : found ≢ word → HasJudged counter delta found me next
   judged_anew apart = subst (λ (b : Bool). OneComes {S = S} (left_by b).events (left_by b).place me next) (ne_eqb found (counter_word (counter_of word)) (λ is. apart (is ∙ sym coded.0))) comes
 

@@ -1,7 +1,7 @@
 -- A seat after a step.
 use Rattle.std.proofs.Common.{◌≡◌, ℕ, ℤ, List, [], ◌∷◌, ◌++◌, sym, refl, ap, ◌∙◌, subst, append_assoc}
-use Rattle.ns_objects.specs.Prelude.{AreObjectsBySeats, CounterState, EnvGrows, EnvKnown, EnvTrue, ExchangeToAdd, Grows, HasActed, HasCome, HasJudged, HasWords, IsLegalObjects, IsTrueToHistory, LoadToAdd, Me, ObjectAct, ObjectEvent, ObjectView, ObjectsKnown, OneActs}
-use Rattle.ns_objects.specs.Prelude.{OneComes, Place, Setup, TableId, events_of, known_of, outcome, the}
+use Rattle.ns_objects.specs.Prelude.{AreObjectsBySeats, CounterState, EnvGrows, EnvKnown, EnvTrue, ExchangeToAdd, Grows, HasActed, HasCome, HasJudged, HasWords, IsLegalObjects, IsTrueToHistory, LoadToAdd, Me, ObjectAct, ObjectEvent, ObjectView, ObjectsKnown, OneActs, OneComes, Place, Setup}
+use Rattle.ns_objects.specs.Prelude.{TableId, events_of, known_of, outcome, the}
 use Rattle.ns_model.proofs.Beginnings.{begins_itself, begins_through}
 
 -- a step brings its caller further
@@ -53,7 +53,8 @@ pub has_judged : {S : Type 0} (counter word : ℕ) (delta told : ℤ) (found : �
 has_judged {S} counter word delta told found me now is same one = subst (λ (z : ℕ × ℤ). HasJudged {S = S} z.0 z.1 found me now) (λ i. (is i, same i)) (one.0, one.1, came (LoadToAdd word told) found (the me.0) (the now.0) one.2)
 
 -- an exchange that the table names by words
-pub has_exchanged : {S : Type 0} (counter word : ℕ) (delta : ℤ) (seen : CounterState) (value named found : ℕ) (me now : Me S (List ObjectView)) → word ≡ counter → named ≡ value → OneActs (ExchangeToAdd word delta seen named) found me now → OneActs (ExchangeToAdd counter delta seen value) found me now
+pub has_exchanged : {S : Type 0} (counter word : ℕ) (delta : ℤ) (seen : CounterState) (value named found : ℕ) (me now : Me S (List ObjectView)) → word ≡ counter → named ≡ value →
+    OneActs (ExchangeToAdd word delta seen named) found me now → OneActs (ExchangeToAdd counter delta seen value) found me now
 has_exchanged {S} counter word delta seen value named found me now is same one = subst (λ (z : ℕ × ℕ). OneActs {S = S} (ExchangeToAdd z.0 delta seen z.1) found me now) (λ i. (is i, same i)) one
 
 -- ---- one after the other

@@ -1,8 +1,7 @@
 -- What a caller has seen, look by look.
 use Rattle.std.proofs.Common.{◌≡◌, ℕ, zero, suc, ◌<◌, ◌≤◌, Bool, false, eqb, List, [], ◌∷◌, length, take, Option, get_or, sym, ap, ◌∙◌, subst, arith}
 use Rattle.std.proofs.lemmas.List.{take_all}
-use Rattle.ns_objects.specs.Prelude.{AnyItem, BothKnown, Counter, Cv, EnvEvent, EnvGrows, EnvKnown, Every, Grows, HasShownNone, InTurn, IsBetween, IsLater, IsNamed, Note, NoteOf, ObjectsKnown, Setup, WasReady, WasReadyIn, clock_of, is_due, is_notified, objects_after}
-use Rattle.ns_objects.specs.Prelude.{past_of, standing_of}
+use Rattle.ns_objects.specs.Prelude.{AnyItem, BothKnown, Counter, Cv, EnvEvent, EnvGrows, EnvKnown, Every, Grows, HasShownNone, InTurn, IsBetween, IsLater, IsNamed, Note, NoteOf, ObjectsKnown, Setup, WasReady, WasReadyIn, clock_of, is_due, is_notified, objects_after, past_of, standing_of}
 use Rattle.ns_model.proofs.Beginnings.{begins_itself}
 use Rattle.ns_model.proofs.Tallies.{every_map}
 use Rattle.ns_note.proofs.Rests.{made_grows}

@@ -1,7 +1,6 @@
 -- Seats of new objects, and seats that meet.
 use Rattle.std.proofs.Common.{ℕ, zero, suc, ◌+◌, ◌≤◌, eqb, List, [], ◌∷◌, sym, refl, subst, arith, ◌∙◌}
-use Rattle.ns_objects.specs.Prelude.{Allows, AreObjectsBySeats, ArePair, Every, HasSight, HasWords, HaveMet, Holds, IsBySums, IsLawful, IsLegalObjects, IsRuled, Learned, Me, ObjectEvent, ObjectView, Setup, TableId, ViewFits, fresh, fresh_seat, known_of, no_setup}
-use Rattle.ns_objects.specs.Prelude.{objects_own, one_if, sight_of}
+use Rattle.ns_objects.specs.Prelude.{Allows, AreObjectsBySeats, ArePair, Every, HasSight, HasWords, HaveMet, Holds, IsBySums, IsLawful, IsLegalObjects, IsRuled, Learned, Me, ObjectEvent, ObjectView, Setup, TableId, ViewFits, fresh, fresh_seat, known_of, no_setup, objects_own, one_if, sight_of}
 use Rattle.ns_model.proofs.Beginnings.{begins_itself}
 use Rattle.ns_counters.proofs.Objects.{own-append}
 use Rattle.ns_seats.proofs.Meetings.{learns as joined_learn}

@@ -6,8 +6,7 @@ pub use Rattle.ns_objects.specs.Known.{AreNew, AreOfOneHistory, Grows, IsAtRest,
 pub use Rattle.ns_objects.specs.Law.{Holds, IsRuled, Views, fresh, fresh_seat, is_seat}
 pub use Rattle.ns_objects.specs.Told.{HasCome, HasJudged, HaveMet, IsCounterWord, Learned, OneActs, OneComes, OneEnds, change_in_hand, judging, value_of}
 pub use Rattle.ns_objects.specs.Waiting.{WaitHasBegun}
-pub use Rattle.ns_objects.specs.Names.{Add, Adding, Allows, AnyItem, AnyWait, AreObjectsBySeats, ArePair, AreSome, Began, BeginOnce, CanAct, Counter, CounterFault, CounterState, Cv, Cvs, EndOnce, EnvEvent, EnvGrows, EnvKnown, EnvTrue, Every, ExchangeToAdd, Free}
-pub use Rattle.ns_objects.specs.Names.{HasActed, HasBegunToWait, HasComeBackFromAny, HasShownNone, HasSight, HasWords, HaveShownNothing, Held, InHand, InTurn, IsBetween, IsByOneOf, IsBySums, IsLater, IsLawful, IsLegalObjects, IsOne, Known, KnowsTruly, LoadToAdd}
-pub use Rattle.ns_objects.specs.Names.{LookCounter, LookOnce, MarkWait, Me, Mode, Note, NoteOf, ObjectAct, ObjectEvent, ObjectView, OnCounter, OnOnce, Outcome, Past, Place, Ran, Running, Setup, TableId, Truths, ViewFits, WaitKnown, WaitsOn, acted, clock_of, counter_of}
-pub use Rattle.ns_objects.specs.Names.{counter_word, events_of, first_of, first_words, is_due, is_in, judged, keeps, leave_any_told, looked, most, objects_after, objects_own, one_if, outcome, padded, rest_of, room, room_enough, section_of, setup_of, stage, total, tried}
-pub use Rattle.ns_objects.specs.Names.{word_at}
+pub use Rattle.ns_objects.specs.Names.{Add, Adding, Allows, AnyItem, AnyWait, AreObjectsBySeats, ArePair, AreSome, Began, BeginOnce, CanAct, Counter, CounterFault, CounterState, Cv, Cvs, EndOnce, EnvEvent, EnvGrows, EnvKnown, EnvTrue, Every, ExchangeToAdd, Free, HasActed, HasBegunToWait}
+pub use Rattle.ns_objects.specs.Names.{HasComeBackFromAny, HasShownNone, HasSight, HasWords, HaveShownNothing, Held, InHand, InTurn, IsBetween, IsByOneOf, IsBySums, IsLater, IsLawful, IsLegalObjects, IsOne, Known, KnowsTruly, LoadToAdd, LookCounter, LookOnce, MarkWait, Me, Mode, Note, NoteOf}
+pub use Rattle.ns_objects.specs.Names.{ObjectAct, ObjectEvent, ObjectView, OnCounter, OnOnce, Outcome, Past, Place, Ran, Running, Setup, TableId, Truths, ViewFits, WaitKnown, WaitsOn, acted, clock_of, counter_of, counter_word, events_of, first_of, first_words, is_due, is_in, judged, keeps}
+pub use Rattle.ns_objects.specs.Names.{leave_any_told, looked, most, objects_after, objects_own, one_if, outcome, padded, rest_of, room, room_enough, section_of, setup_of, stage, total, tried, word_at}

@@ -1,7 +1,6 @@
 -- What each step of a seat tells its caller.
 use Rattle.std.specs.Prelude.{◌≡◌, ℕ, ◌-◌, ℤ, pos, List, [], ◌∷◌, ◌++◌}
-use Rattle.ns_objects.specs.Names.{Adding, AreObjectsBySeats, BeginsWith, CounterState, EndOnce, Free, HasActed, HaveLearnedBy, IsLegalObjects, IsOne, IsWordOf, Me, ObjectAct, ObjectEvent, ObjectView, Outcome, Place, Running, TableId, counter_of, judged, objects_own}
-use Rattle.ns_objects.specs.Names.{tried}
+use Rattle.ns_objects.specs.Names.{Adding, AreObjectsBySeats, BeginsWith, CounterState, EndOnce, Free, HasActed, HaveLearnedBy, IsLegalObjects, IsOne, IsWordOf, Me, ObjectAct, ObjectEvent, ObjectView, Outcome, Place, Running, TableId, counter_of, judged, objects_own, tried}
 use Rattle.ns_objects.specs.Known.{known_of, the, no_setup, Grows, AreOfOneHistory}
 use Rattle.ns_objects.specs.Law.{fresh_seat}
 

@@ -4,13 +4,13 @@ use Rattle.std.specs.List.{sum_by}
 use Rattle.std.proofs.lemmas.Bool.{cases_eq, cases_lt, lt-ltb, ne_eqb}
 use Rattle.std.proofs.lemmas.List.{get_or-map, length-map}
 use Rattle.std.proofs.lemmas.List.Sums.{get_or-le-sum_by, sum_by-append, sum_by-cons, sum_by-take-drop}
-use Rattle.ns_queue.specs.Prelude.{Anybody, ArrayVec, Cv, HaveSeats, IsOrderly, Lists, Seats, Waiter, cvs_without, is_in, marked, one_if, outside, signal_marks, signaled_of, taken_set, times, times_in, unmarked, unsignaled_of, waiters_of, with_waiters, without_in}
+use Rattle.ns_queue.specs.Prelude.{Anybody, ArrayVec, Cv, HaveSeats, IsOrderly, Lists, Seats, Waiter, cvs_without, is_in, marked, one_if, outside, signal_marks, signaled_of, taken_set, times, times_in, unmarked, unsignaled_of, waiters_of, without_in}
 use Rattle.ns_queue.proofs.Inside.{shape, times_in-filter}
 use Rattle.ns_queue.proofs.Marking.{drop_step}
 use Rattle.ns_queue.proofs.Meaning.{signal_leaves, signal_takes}
 use Rattle.ns_queue.proofs.Orders.{orderly_less}
 use Rattle.ns_queue.proofs.Seats.{own_times, times_in-cons}
-use Rattle.ns_queue.proofs.Taken.{in_list, in_stands, in_taken, times_parted}
+use Rattle.ns_queue.proofs.Taken.{in_list, in_taken, times_parted}
 
 -- a seat that stands somewhere is below 64
 pub low_of : (n seat : ℕ) → (64 ≤ seat → n ≡ 0) → 0 < n → seat < 64
@@ -152,11 +152,3 @@ module _ {C : Type 0} where
       let low : k < length lists = omega (arith, within) in
       rw (none_outside out ws (λ seat is. let part = get_or-le-sum_by (times_in seat) lists k [] low in omega (arith, most seat, stand seat is, part, sum_by-cons (times_in seat) ws lists)))
       (ap (λ (vs : List (List (Waiter C))). ws ∷ vs) (one_each out k lists kept low (λ seat. omega (arith, most seat, sum_by-cons (times_in seat) ws lists)) stand left))
-
-  -- those who are taken from a variable's list are out of that one alone
-  pub taken_alone : (lists : Lists C) (k : ℕ) (taken kept : List (Waiter C)) → length lists.cvs ≡ 4 → k < 4 → ((seat : ℕ) → times seat lists ≤ 1) → ((seat : ℕ) → times_in seat taken ≤ times_in seat (waiters_of lists (Cv k))) →
-      outside (taken_set taken) (waiters_of lists (Cv k)) ≡ kept → cvs_without (taken_set taken) lists ≡ with_waiters lists (Cv k) kept
-  taken_alone lists k taken kept four low once part left =
-      let stand : (seat : ℕ) → is_in (taken_set taken) seat ≡ true → 1 ≤ times_in seat (waiters_of lists (Cv k)) = λ seat is. let here = in_stands taken seat is in omega (arith, here, part seat) in
-      let cvs = one_each (taken_set taken) k lists.cvs kept (omega (arith, four, low)) (λ seat. omega (arith, once seat)) stand left in
-      λ i. record { lock = lists.lock; cvs = cvs i }

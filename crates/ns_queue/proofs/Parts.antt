@@ -6,7 +6,7 @@ use Rattle.std.proofs.lemmas.List.Sums.{sum_by-cons, get_or-le-sum_by}
 use Rattle.ns_queue.specs.Prelude.{Cv, Cvs, HaveSeats, IsList, IsOrderly, Lists, Lock, Waiter, Which, beside, named_for, times, times_in, waiters_of, with_each, with_waiters, without, without_in}
 use Rattle.ns_model.specs.Cvs.{is_in}
 use Rattle.ns_queue.proofs.Seats.{none_without}
-use Rattle.ns_queue.proofs.Orders.{times_set, lock_times, cv_times}
+use Rattle.ns_queue.proofs.Orders.{lock_times, cv_times}
 
 module _ {C : Type 0} where
   -- ---- a list that was put
@@ -26,12 +26,6 @@ module _ {C : Type 0} where
   four_kept lists (Cv k) ws = length-set lists.cvs k ws
 
   -- ---- how often a seat stands there
-
-  -- a list in place of another
-  pub times_with : (lists : Lists C) (which : Which) (ws : List (Waiter C)) (seat : ℕ) → length lists.cvs ≡ 4 → IsList which →
-      times seat (with_waiters lists which ws) + times_in seat (waiters_of lists which) ≡ times seat lists + times_in seat ws
-  times_with lists Lock ws seat four low = omega arith
-  times_with lists (Cv k) ws seat four low = times_set lists k ws seat (omega (arith, four, low))
 
   -- a seat stands in no list more often than in all of them
   pub times_at_most : (lists : Lists C) (which : Which) (seat : ℕ) → length lists.cvs ≡ 4 → IsList which → times_in seat (waiters_of lists which) ≤ times seat lists

@@ -3,8 +3,8 @@ use Rattle.std.proofs.Common.{◌≡◌, ℕ, zero, suc, ◌+◌, ◌≤◌, ◌
 use Rattle.std.specs.Prelude.{unwrap_or}
 use Rattle.std.proofs.lemmas.Bool.{cases_Bool}
 use Rattle.std.proofs.lemmas.List.{append-nil, length-append, length-drop, take-append-drop}
-use Rattle.ns_queue.specs.Prelude.{IsRow, Reader, Sought, Waiter, Writer, asked_for, asking, begins_with_reader, behind, first_seat, foremost_of, from, in_front, is_alike, is_eligible, left_by_writer, left_of, needs, reads, seated, seats_of, sought_of, sought_seat}
-use Rattle.ns_queue.specs.Prelude.{stage_next, tests_from, tests_of, tests_seeking, without_all, without_in, woken_of, writes}
+use Rattle.ns_queue.specs.Prelude.{IsRow, Reader, Sought, Waiter, Writer, asked_for, asking, begins_with_reader, behind, first_seat, foremost_of, from, in_front, is_alike, is_eligible, left_by_writer, left_of, needs, reads, seated, seats_of, sought_of, sought_seat, stage_next, tests_from}
+use Rattle.ns_queue.specs.Prelude.{tests_of, tests_seeking, without_all, without_in, woken_of, writes}
 use Rattle.ns_queue.specs.declared.scan.Foremost.TheVariants.{Nobody}
 use Rattle.ns_queue.proofs.Asking.{Enters, Knows, asking_most, knows_asked, knows_entered, met_entered, taken_asked}
 use Rattle.ns_queue.proofs.RunCounts.{tests_is}

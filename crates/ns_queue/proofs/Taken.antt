@@ -45,10 +45,6 @@ module _ {C : Type 0} (P : Waiter C → Type 0) where
   pub every_signaled : (ws : List (Waiter C)) → Every P ws → Every P (signaled_of ws)
   every_signaled ws p = rw (← signal_takes ws) (every_marked P (signal_marks Anybody ws) ws p)
 
-  -- and of those whom it leaves
-  pub every_unsignaled : (ws : List (Waiter C)) → Every P ws → Every P (unsignaled_of ws)
-  every_unsignaled ws p = rw (← signal_leaves ws) (every_unmarked P (signal_marks Anybody ws) ws p)
-
 -- ---- the set of those taken
 
 same_either : (a b : ℕ) → eqb a b ≡ eqb b a

@@ -3,8 +3,8 @@ use Rattle.std.proofs.Common.{◌≡◌, ℕ, ◌+◌, ◌≤◌, ◌<◌, min, 
 use Rattle.std.specs.Bool.{beq}
 use Rattle.std.specs.List.{filter}
 use Rattle.std.proofs.lemmas.Bool.{cases_eq, cases_lt, eqb-true, ne_eqb}
-use Rattle.ns_queue.specs.Prelude.{AreWaiting, Cond, HaveSeats, Idle, IsLegalBroadcast, IsLegalSignal, Left, Mode, Phase, WaitFor, Waiter, Waiting, WaitsAmong, Woken, has, is_in, is_waiting, is_waiting_as, one_if, readers_and_a_writer, reads, seats_of, signaled_of}
-use Rattle.ns_queue.specs.Prelude.{taken_set, times_in, total, waiting_as, woken_as, woken_strangers, writes}
+use Rattle.ns_queue.specs.Prelude.{AreWaiting, Cond, HaveSeats, Idle, IsLegalBroadcast, IsLegalSignal, Left, Mode, Phase, WaitFor, Waiter, Waiting, WaitsAmong, Woken, has, is_in, is_waiting, is_waiting_as, one_if, readers_and_a_writer, reads, seats_of, signaled_of, taken_set, times_in, total}
+use Rattle.ns_queue.specs.Prelude.{waiting_as, woken_as, woken_strangers, writes}
 use Rattle.ns_model.proofs.Counts.{count_same, count_never, count_split, count_only}
 use Rattle.ns_model.proofs.Sets.{none_in, in_more}
 use Rattle.ns_queue.proofs.Seats.{own_times, times_in-cons}

@@ -9,5 +9,5 @@ pub use Rattle.ns_queue.specs.Signals.{readers_and_a_writer, signaled_of, sole_o
 pub use Rattle.ns_queue.specs.Stages.{Ended, Reading, Seeking, Stage, asked_for, asking, in_front, needs, stage_after, stage_next, tests_from, tests_seeking}
 pub use Rattle.ns_queue.specs.Waiters.{HaveSeats, has_condition, is_long, is_of, outside, reads, seats_of, shown_of, times_in, without_in, writes}
 pub use Rattle.ns_queue.specs.Wakes.{AreWaiting, WaitFor, WaitsAmong}
-pub use Rattle.ns_queue.specs.Names.{Anybody, ArrayVec, Cond, Counts, Cv, Cvs, Every, Idle, IsLegalBroadcast, IsLegalSignal, Left, Lock, Mode, Nobody, Phase, Reader, Readers, ReadersAndWriter, Seats, Shown, Sought, Waiter, Waiting, Wanted, Which, Woken, Writer, has}
-pub use Rattle.ns_queue.specs.Names.{is_in, is_waiting, is_waiting_as, one_if, total, waiting_as, woken_as, woken_strangers}
+pub use Rattle.ns_queue.specs.Names.{Anybody, ArrayVec, Cond, Counts, Cv, Cvs, Every, Idle, IsLegalBroadcast, IsLegalSignal, Left, Lock, Mode, Nobody, Phase, Reader, Readers, ReadersAndWriter, Seats, Shown, Sought, Waiter, Waiting, Wanted, Which, Woken, Writer, has, is_in, is_waiting}
+pub use Rattle.ns_queue.specs.Names.{is_waiting_as, one_if, total, waiting_as, woken_as, woken_strangers}

@@ -17,9 +17,6 @@ from_iff (Ok x) false P v h to from = let e = from h.0 in absurd cc
 from_iff (Err e) true P v h to from = absurd (h (to refl))
 from_iff (Err e) false P v h to from = refl
 
-IsPlain : List ℕ → Type 0
-IsPlain w = (all_ascii_digits w ≡ true) × (0 < length w) × (digits_value 10 w < 2 ^ 64)
-
 tested : (d : Bool) (n first v : ℕ) → ((n ≡ 1) ⊎ (first ≢ 48)) → (d ≡ true) × (0 < n) × (v < 2 ^ 64) → (d && nat_lt 0 n && (n == 1 || not (first == 48)) && nat_lt v (2 ^ 64)) ≡ true
 tested d n first v h p = grind (arith, nat_tests)
 

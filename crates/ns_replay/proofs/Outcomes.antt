@@ -3,7 +3,7 @@ use Rattle.std.proofs.Common.{◌≡◌, ℕ, ◌<◌, ◌≤◌, true, false, L
 use Rattle.std.specs.Prelude.{nat_lt}
 use Rattle.std.proofs.KnownBytes.{Keeps-refl}
 use Rattle.std.proofs.lemmas.Bool.Decides.{nat_tests}
-use Rattle.ns_replay.specs.Prelude.{Answers, BadScript, Collects, Counts, Ended, Fails, Fault, Gave, IsEnough, IsRefused, IsRunFault, NotJson, OutOfMemory, Plan, Read, StepLimit, TooMany, WasRead, Write, max_bytes, plan_from, script_of}
+use Rattle.ns_replay.specs.Prelude.{Answers, BadScript, Collects, Counts, Ended, Fails, Fault, Gave, IsEnough, IsRefused, IsRunFault, NotJson, OutOfMemory, Plan, Read, StepLimit, TooMany, WasRead, max_bytes, plan_from, script_of}
 use Rattle.ns_replay.specs.declared.path.ScriptPath.TheVariants as at
 
 -- ---- bytes that are not too many
@@ -19,21 +19,15 @@ plan_read bytes plan few read = rw (plan_few bytes few) read
 
 pub script_refused : (limit : ℕ) (bytes : List ℕ) (fault : Fault) → length bytes ≤ max_bytes → Fails fault (script_of bytes) → IsRefused limit bytes fault
 script_refused limit bytes OutOfMemory few h = tt
-script_refused limit bytes StepLimit few h = absurd h
-script_refused limit bytes Read few h = absurd h
-script_refused limit bytes Write few h = absurd h
 script_refused limit bytes NotJson few h = rw (plan_few bytes few) h
 script_refused limit bytes (BadScript path) few h = rw (plan_few bytes few) h
 script_refused limit bytes (TooMany path) few h = rw (plan_few bytes few) h
+script_refused limit bytes other few h = absurd h
 
 pub run_refused : (limit : ℕ) (bytes : List ℕ) (plan : Plan) (fault : Fault) → plan_from bytes ≡ Ok plan → IsRunFault limit plan fault → IsRefused limit bytes fault
 run_refused limit bytes plan OutOfMemory read h = tt
 run_refused limit bytes plan StepLimit read h = record { plan = plan; read = read; needs = h }
-run_refused limit bytes plan Read read h = absurd h
-run_refused limit bytes plan Write read h = absurd h
-run_refused limit bytes plan NotJson read h = absurd h
-run_refused limit bytes plan (BadScript path) read h = absurd h
-run_refused limit bytes plan (TooMany path) read h = absurd h
+run_refused limit bytes plan other read h = absurd h
 
 -- ---- bytes that are too many
 
@@ -57,10 +51,7 @@ not_collected taken left IsSuch limit bytes (TooMany (at.Thread t)) h = absurd h
 not_collected taken left IsSuch limit bytes (TooMany (at.Call t c)) h = absurd h
 not_collected taken left IsSuch limit bytes (TooMany at.Schedule) h = absurd h
 not_collected taken left IsSuch limit bytes (TooMany (at.Word i)) h = absurd h
-not_collected taken left IsSuch limit bytes NotJson h = absurd h
-not_collected taken left IsSuch limit bytes (BadScript path) h = absurd h
-not_collected taken left IsSuch limit bytes StepLimit h = absurd h
-not_collected taken left IsSuch limit bytes Write h = absurd h
+not_collected taken left IsSuch limit bytes other h = absurd h
 
 -- ---- what was read
 
@@ -79,10 +70,7 @@ read_part bytes left (TooMany (at.Thread t)) h = absurd h
 read_part bytes left (TooMany (at.Call t c)) h = absurd h
 read_part bytes left (TooMany at.Schedule) h = absurd h
 read_part bytes left (TooMany (at.Word i)) h = absurd h
-read_part bytes left NotJson h = absurd h
-read_part bytes left (BadScript path) h = absurd h
-read_part bytes left StepLimit h = absurd h
-read_part bytes left Write h = absurd h
+read_part bytes left other h = absurd h
 
 pub unread : (old new taken : Option (List ℕ)) (last : ℕ) (IsSuch : List ℕ → List ℕ → Type 0) (limit : ℕ) (fault : Fault) → Gave old new (λ bytes. IsEnough bytes last × Collects bytes new (Err fault))
     → Gave old new (λ bytes. IsEnough bytes last × WasRead bytes new (Err fault) × Answers taken taken IsSuch limit bytes (Err fault))
@@ -105,10 +93,7 @@ ended_part bytes left before after (TooMany (at.Thread t)) h count = absurd h
 ended_part bytes left before after (TooMany (at.Call t c)) h count = absurd h
 ended_part bytes left before after (TooMany at.Schedule) h count = absurd h
 ended_part bytes left before after (TooMany (at.Word i)) h count = absurd h
-ended_part bytes left before after NotJson h count = absurd h
-ended_part bytes left before after (BadScript path) h count = absurd h
-ended_part bytes left before after StepLimit h count = absurd h
-ended_part bytes left before after Write h count = absurd h
+ended_part bytes left before after other h count = absurd h
 
 pub unended : (old new : Option (List ℕ)) (last before after : ℕ) (fault : Fault) → Gave old new (λ bytes. IsEnough bytes last × Collects bytes new (Err fault)) → Counts before after 0 → Ended before after (Err fault)
 unended old new last before after fault (bytes, consumed, (enough, h)) count = ended_part bytes new before after fault h count

@@ -5,11 +5,10 @@ use Rattle.std.proofs.lemmas.Bool.Decides.{nat_tests}
 use Rattle.std.specs.Global.{Vec}
 use Rattle.std.proofs.lemmas.List.{length-map}
 use Rattle.std.proofs.lemmas.List.Elements.{All-nil, All-cons}
-use Rattle.ns_replay.specs.Prelude.{Add, Advance, Broadcast, Call, CallInRange, CounterWait, CvWait, Data, Declared, Done, Expiry, Fault, Get, IsMoment, IsNoteNumber, IsNotified, IsRunnable, IsShort, IsVariable, Item, Items, Limits, Lock, NewNote, NoteWait, Notify}
-use Rattle.ns_replay.specs.Prelude.{Once, Plan, RLock, RUnlock, ScriptCondition, ScriptPath, Set, Signal, TryLock, TryRLock, Turn, Unlock, UnlockQuiet, Value, Wait, WaitAny, actor_of, add_of, any_variables, any_wait_of, as_array, as_number, as_str, as_u64, at_most}
-use Rattle.ns_replay.specs.Prelude.{below, brief_call_of, call_at, call_of, calls_at, change_of, condition_of, counter_at, counters_of, each_from, get, item_of, items_behind, items_in, json_of, limits_of, list_in, list_of, long_call_of, members_of, moment_of}
-use Rattle.ns_replay.specs.Prelude.{moment_or_none_of, need, no_items, note_limit_of, note_or_none_of, number_of, onces_of, one_more, parts, plain_call_of, plan_in, schedule_of, script_of, short_call_of, threads_of, turn_at, turn_of, variable_wait_of, variables_of}
-use Rattle.ns_replay.specs.Prelude.{version_of, wait_of, with_item, words_of, ◌>>=◌}
+use Rattle.ns_replay.specs.Prelude.{Add, Advance, Broadcast, Call, CallInRange, CounterWait, CvWait, Data, Declared, Done, Expiry, Fault, Get, IsMoment, IsNoteNumber, IsNotified, IsRunnable, IsShort, IsVariable, Item, Items, Limits, Lock, NewNote, NoteWait, Notify, Once, Plan, RLock, RUnlock}
+use Rattle.ns_replay.specs.Prelude.{ScriptCondition, ScriptPath, Set, Signal, TryLock, TryRLock, Turn, Unlock, UnlockQuiet, Value, Wait, WaitAny, actor_of, add_of, any_variables, any_wait_of, as_array, as_number, as_str, as_u64, at_most, below, brief_call_of, call_at, call_of, calls_at, change_of}
+use Rattle.ns_replay.specs.Prelude.{condition_of, counter_at, counters_of, each_from, get, item_of, items_behind, items_in, json_of, limits_of, list_in, list_of, long_call_of, members_of, moment_of, moment_or_none_of, need, no_items, note_limit_of, note_or_none_of, number_of, onces_of, one_more}
+use Rattle.ns_replay.specs.Prelude.{parts, plain_call_of, plan_in, schedule_of, script_of, short_call_of, threads_of, turn_at, turn_of, variable_wait_of, variables_of, version_of, wait_of, with_item, words_of, ◌>>=◌}
 use Rattle.ns_replay.specs.declared.path.ScriptPath.TheVariants as at
 
 -- ---- what a reading that succeeded went through

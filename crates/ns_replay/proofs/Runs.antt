@@ -5,9 +5,8 @@ use Rattle.std.specs.List.{AllByRecursion}
 use Rattle.std.specs.Global.{Vec}
 use Rattle.std.proofs.lemmas.List.{length-set, length-map}
 use Rattle.std.proofs.lemmas.List.Elements.{All-nil, All-append, All-replicate, All-from_recursion, recursion_from_All}
-use Rattle.ns_replay.specs.Prelude.{Ask, Call, Finished, GoesOnOrBegins, Idle, IsRunFault, IsRunnable, IsShort, Line, ListFits, Nothing, Now, OnLock, OnObjects, Plan, Progress, RunFault, Runs, RunsTo, Script, ScriptCondition, SeatView, Start, Step, StopsFor, Turn}
-use Rattle.ns_replay.specs.Prelude.{TurnOf, Turned, TurnsOf, Went, Whole, WorldFault, begun_at, fault_of_world, fresh_views, fresh_whole, is_asking, is_busy, is_end, is_walking, mode_of, plan_of, progressed, rest_of, script_truths, start, start_of, whole_busy}
-use Rattle.ns_replay.specs.Prelude.{world_for}
+use Rattle.ns_replay.specs.Prelude.{Ask, Call, GoesOnOrBegins, IsRunFault, IsRunnable, IsShort, Line, ListFits, Now, OnLock, OnObjects, Plan, Progress, RunFault, Runs, RunsTo, Script, ScriptCondition, SeatView, Start, Step, StopsFor, Turn, TurnOf, Turned, TurnsOf, Went, Whole, WorldFault}
+use Rattle.ns_replay.specs.Prelude.{begun_at, fault_of_world, fresh_views, fresh_whole, is_asking, is_busy, is_end, is_walking, mode_of, plan_of, progressed, rest_of, script_truths, start, start_of, whole_busy, world_for}
 use Rattle.ns_world.proofs.Turns.{step_stays}
 use Rattle.ns_world.proofs.Walks.{none_stand}
 use Rattle.ns_world.specs.Runs.{Item, items_of}
@@ -33,9 +32,7 @@ module _ {C : Type 0} {N : ℕ} where
 
   progressed_world : (p : Progress C N) (seat : ℕ) (step : Step) (now : Whole C N) → (progressed p seat step now).world ≡ now
   progressed_world p seat Went now = refl
-  progressed_world p seat Idle now = refl
-  progressed_world p seat (Finished reply) now = refl
-  progressed_world p seat Nothing now = refl
+  progressed_world p seat other now = refl
 
   turn_keeps : (lists : List (List (Call C))) (p : Progress C N) (seat : ℕ) (step : Step) (q : Progress C N) → TurnOf lists p seat step q → seats_of q.world ≡ seats_of p.world
   turn_keeps lists p seat step q (inl m) =

@@ -1,8 +1,8 @@
 -- The text of a run, by its parts.
 use Rattle.std.specs.Prelude.{ℕ, List, [], ◌∷◌, ◌++◌, Bool, true, false, ◌&&◌, ◌==◌, if◌then◌else◌, Option, Some, None, option_and_then, codes, decimal, flat_map, map, filter, count_by, slice_get, length, nat_lt, ◌+◌}
 use Rattle.std.specs.List.{range_with_len}
-use Rattle.ns_replay.specs.Names.{AfterAny, AfterCv, AfterWait, Already, Answer, Answered, AnyWait, Busy, Call, Canceled, CondWait, CounterFault, Cvs, Entry, Event, Exit, Is, Leave, LeaveAny, Line, Met, Misuse, Mode, Noisy, NotesFull, Number, Options, Over, Plain}
-use Rattle.ns_replay.specs.Names.{RUnlock, Ran, Refused, Reply, ScriptCondition, Seats, Section, Shown, Succeeded, TimedOut, Under, Unlock, UnlockQuiet, Waited, Whole, Word, is_in, lists_shown, shown_of, wakes_owed, whole_busy}
+use Rattle.ns_replay.specs.Names.{AfterAny, AfterCv, AfterWait, Already, Answer, Answered, AnyWait, Busy, Call, Canceled, CondWait, CounterFault, Cvs, Entry, Event, Exit, Is, Leave, LeaveAny, Line, Met, Misuse, Mode, Noisy, NotesFull, Number, Options, Over, Plain, RUnlock, Ran, Refused, Reply}
+use Rattle.ns_replay.specs.Names.{ScriptCondition, Seats, Section, Shown, Succeeded, TimedOut, Under, Unlock, UnlockQuiet, Waited, Whole, Word, is_in, lists_shown, shown_of, wakes_owed, whole_busy}
 use Rattle.ns_model.specs.declared.event.Exit.TheVariants.{CvWait}
 use Rattle.ns_model.specs.declared.event.Event.TheVariants.{Signal, Broadcast}
 use Rattle.ns_world.specs.declared.reply.Reply.TheVariants.{Expiry}

@@ -1,12 +1,10 @@
 -- The act that a lawful place wants may be made.
-use Rattle.std.proofs.Common.{◌≡◌, ℕ, ◌+◌, ◌<◌, ◌≤◌, Bool, true, false, List, [], ◌∷◌, ◌++◌, sum_by, Option, None, Some, IsSome, refl, ap, ◌∙◌, subst, arith, eq-eqb}
-use Rattle.ns_word.specs.Prelude.{AcquireExchange, AcquireLoad, ActFits, AreApart, Arm, ArmToWait, AwaitWake, AwaitWakeInWait, AwaitWakeToLeave, CanWait, EachFits, Event, GetLoad, HasList, Held, InAcquire, InCells, InLeaving, InQueuing, InRelease, InShow, InSignal}
-use Rattle.ns_word.specs.Prelude.{InTry, InWait, IsForCondition, IsInRange, IsLawful, IsUnmet, Leave, LeaveLoad, Load, LoadToScan, LockState, LookIn, LookOut, OnCondition, OnVariables, Owed, OwesOne, Pay, PayInWait, PayTheWoken, PlaceFits, Queue, QueueToWait}
-use Rattle.ns_word.specs.Prelude.{QuietCells, QuietLast, ReleaseExchange, ReleaseLoad, ReturnShown, ScanAndRelease, ScanCells, SeatView, SetLoad, SetStore, ShowLoad, SignalLoad, Subject, Take, TakeToLeave, TakeToQueue, TakeToScan, TakeToShow, TakeToWake, TestCells}
-use Rattle.ns_word.specs.Prelude.{TestLast, Truths, TryAcquire, TryLoad, ViewFits, Wait, WaitFits, WaitPlace, WakeAndReturn, Walk, awaits, has_some, judge_of, left_of, part_of, pays, standing_after, times, times_among, times_in, walk_at, want_of, want_waiting}
-use Rattle.ns_word.specs.Prelude.{with_lock}
+use Rattle.std.proofs.Common.{◌≡◌, ℕ, ◌+◌, ◌<◌, ◌≤◌, Bool, true, false, List, [], ◌∷◌, ◌++◌, Option, None, Some, IsSome, refl, ap, ◌∙◌, subst, arith, eq-eqb}
+use Rattle.ns_word.specs.Prelude.{AcquireExchange, AcquireLoad, ActFits, AreApart, Arm, ArmToWait, AwaitWake, AwaitWakeInWait, AwaitWakeToLeave, CanWait, EachFits, Event, GetLoad, HasList, Held, InAcquire, InCells, InLeaving, InQueuing, InRelease, InShow, InSignal, InTry, InWait, IsForCondition}
+use Rattle.ns_word.specs.Prelude.{IsInRange, IsLawful, IsUnmet, Leave, LeaveLoad, Load, LoadToScan, LockState, LookIn, LookOut, OnCondition, OnVariables, Owed, OwesOne, Pay, PayInWait, PayTheWoken, PlaceFits, Queue, QueueToWait, QuietCells, QuietLast, ReleaseExchange, ReleaseLoad, ReturnShown}
+use Rattle.ns_word.specs.Prelude.{ScanAndRelease, ScanCells, SeatView, SetLoad, SetStore, ShowLoad, SignalLoad, Subject, Take, TakeToLeave, TakeToQueue, TakeToScan, TakeToShow, TakeToWake, TestCells, TestLast, Truths, TryAcquire, TryLoad, ViewFits, Wait, WaitFits, WaitPlace, WakeAndReturn, Walk}
+use Rattle.ns_word.specs.Prelude.{awaits, has_some, judge_of, part_of, pays, standing_after, times, times_among, walk_at, want_of, want_waiting}
 use Rattle.ns_word.proofs.Views.{walk_here, apart_parts, each_parts}
-use Rattle.ns_word.proofs.Scans.{times_scan}
 use Rattle.ns_word.proofs.Keeps.{none_of}
 use Rattle.ns_word.proofs.Leads.{tests_some}
 use Rattle.ns_word.proofs.Ranges.{else_not, owed_below, readers_fewer}
@@ -31,19 +29,13 @@ module _ {C : Type 0} {N : ℕ} (truths : Truths C) where
   wait_in_range wait (TestCells visit i) held p = condition_in_range wait.on p.2
   wait_in_range wait (TestLast visit i) held p = condition_in_range wait.on p.2
   wait_in_range wait (InQueuing again place) held p = can_in_range wait again held p.0
-  wait_in_range wait PayInWait held p = p.1
-  wait_in_range wait AwaitWakeInWait held p = p.1
-  wait_in_range wait LookOut held p = p.1
   wait_in_range wait (InLeaving cause place) held p = p.2
+  wait_in_range wait other held p = p.1
 
   list_there : (walk : Walk C) (held : Option (Held C N)) → PlaceFits truths (Some walk) held → HasList walk
-  list_there (InTry mode place) held p = tt
-  list_there (InAcquire aim place) held p = tt
-  list_there (InRelease releasing place) held p = tt
-  list_there (InCells place) held p = tt
   list_there (InWait wait place) held p = wait_in_range wait place held p.0
   list_there (InSignal waking k place) held p = p.1
-  list_there (InShow place) held p = tt
+  list_there other held p = tt
 
 -- ---- each act
 
@@ -58,10 +50,6 @@ module _ {C : Type 0} {N : ℕ} (truths : Truths C) (seats : ℕ) (few : seats �
   -- a seat that doesn't wait stands nowhere
   pub stands_nowhere : awaits view.walk ≡ false → times view.seat s.lists ≡ 0
   stands_nowhere a = (else_not s.lists s.flags s.views view.seat p.waiters_placed (ap awaits walk_is ∙ a)).0
-
-  -- nor where the lock list is what a scan leaves of it
-  pub stays_nowhere : (meets : C → Bool) → awaits view.walk ≡ false → times view.seat (with_lock s.lists (left_of meets s.lists.lock)) ≡ 0
-  stays_nowhere meets a = let none : times_in view.seat s.lists.lock + sum_by (times_in view.seat) s.lists.cvs ≡ 0 = stands_nowhere a in omega (arith, times_scan view.seat meets s.lists.lock, none)
 
   -- a seat that pays owes a wake, to a seat
   owes_one : (owed : List Owed) → view.owed ≡ owed → has_some owed ≡ true → OwesOne seats owed

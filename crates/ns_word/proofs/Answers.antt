@@ -1,13 +1,12 @@
 -- What a wait answers is what its section is committed with.
 use Rattle.std.proofs.Common.{◌≡◌, ◌≢◌, ℕ, Bool, true, false, cond, eqb, List, Option, None, Some, slice_set, refl, ap, sym, ◌∙◌, subst}
-use Rattle.ns_word.specs.Prelude.{Acquire, AcquireExchange, AcquireLoad, AcquirePlace, Act, Aim, Answer, Answered, Any, Arm, ArmFlag, ArmToWait, Arrival, AwaitWake, AwaitWakeInWait, AwaitWakeToLeave, CameBack, CanWait, Cause, Cell, CellPlace, ComesBack, Done, EachFits}
-use Rattle.ns_word.specs.Prelude.{Effect, Ended, Event, Expired, Flag, ForWait, Found, GetLoad, Held, InAcquire, InCells, InLeaving, InQueuing, InRelease, InShow, InSignal, InTry, InWait, IsForCondition, IsLawful, IsSaidBy, IsUnmet, JudgeMet, JudgeQuiet, Leave}
-use Rattle.ns_word.specs.Prelude.{LeaveLoad, LeavePlace, Left, Limits, Load, LoadCell, LoadFlag, LoadToScan, LoadWord, LockState, Look, LookIn, LookOut, Looked, Made, MayWait, Met, Mode, Next, Notified, On, OnCondition, OnEntry, OnReturn, OnVariables, Only, Outcome}
-use Rattle.ns_word.specs.Prelude.{Paid, Part, Pay, PayInWait, PayTheWoken, PayWake, PlaceFits, Queue, QueueToWait, Quiet, QuietCells, QuietLast, Release, ReleaseExchange, ReleaseLoad, ReleasePlace, ReleaseReturning, Releasing, Reply, ReturnQueues, ReturnShown, Saw}
-use Rattle.ns_word.specs.Prelude.{ScanAndRelease, ScanCells, Scanned, SeatView, SetLoad, SetStore, ShowLoad, ShowPlace, SignalLoad, SignalPlace, Step, StoreCell, Subject, Take, TakeQueues, TakeToLeave, TakeToQueue, TakeToScan, TakeToShow, TakeToWake, TestCells}
-use Rattle.ns_word.specs.Prelude.{TestLast, Tested, Tests, Truths, TryAcquire, TryLoad, TryPlace, Variables, Visit, Wait, WaitFits, WaitPlace, WaitReturning, Waited, WakeAndReturn, Waking, Walk, Woke, Woken, Word, acquire_by, answer_of, back_with, comes_back, entry_for}
-use Rattle.ns_word.specs.Prelude.{entry_of, got_acquiring, got_of, got_waiting, has_come_back, held_after, is_limited, is_met, judge_of, look_or_queue, may_acquire, mode_for, newly_held, opening_by, part_of, place_has_come_back, reply_for, reply_of, standing_after}
-use Rattle.ns_word.specs.Prelude.{unmet_by, want_acquiring, want_in_cells, want_leaving, want_of, want_releasing, want_showing, want_signaling, want_trying, want_waiting}
+use Rattle.ns_word.specs.Prelude.{Acquire, AcquireExchange, AcquireLoad, AcquirePlace, Act, Aim, Answer, Answered, Any, Arm, ArmFlag, ArmToWait, Arrival, AwaitWake, AwaitWakeInWait, AwaitWakeToLeave, CameBack, CanWait, Cause, Cell, CellPlace, ComesBack, Done, EachFits, Effect, Ended, Event}
+use Rattle.ns_word.specs.Prelude.{Expired, Flag, ForWait, Found, GetLoad, Held, InAcquire, InCells, InLeaving, InQueuing, InRelease, InShow, InSignal, InTry, InWait, IsForCondition, IsLawful, IsSaidBy, IsUnmet, JudgeMet, JudgeQuiet, Leave, LeaveLoad, LeavePlace, Left, Limits, Load, LoadCell}
+use Rattle.ns_word.specs.Prelude.{LoadFlag, LoadToScan, LoadWord, LockState, Look, LookIn, LookOut, Looked, Made, MayWait, Met, Mode, Next, Notified, On, OnCondition, OnEntry, OnReturn, OnVariables, Only, Outcome, Paid, Part, PayInWait, PayWake, PlaceFits, Queue, QueueToWait, Quiet, Release}
+use Rattle.ns_word.specs.Prelude.{ReleaseLoad, ReleasePlace, ReleaseReturning, Releasing, Reply, ReturnQueues, Saw, Scanned, SeatView, ShowLoad, ShowPlace, SignalLoad, SignalPlace, Step, StoreCell, Subject, Take, TakeQueues, TakeToLeave, TakeToQueue, TestCells, TestLast, Tested, Tests, Truths}
+use Rattle.ns_word.specs.Prelude.{TryAcquire, TryLoad, TryPlace, Variables, Visit, Wait, WaitFits, WaitPlace, WaitReturning, Waited, Waking, Walk, Woke, Woken, Word, acquire_by, answer_of, back_with, comes_back, entry_for, entry_of, got_acquiring, got_of, got_waiting, has_come_back, held_after}
+use Rattle.ns_word.specs.Prelude.{is_limited, is_met, judge_of, look_or_queue, may_acquire, mode_for, newly_held, opening_by, part_of, place_has_come_back, reply_for, reply_of, standing_after, unmet_by, want_acquiring, want_in_cells, want_leaving, want_of, want_releasing, want_showing}
+use Rattle.ns_word.specs.Prelude.{want_signaling, want_trying, want_waiting}
 use Rattle.ns_word.proofs.Views.{each_parts}
 
 -- ---- where a wait answers nothing
@@ -231,32 +230,19 @@ try_looks_not C mode (TryAcquire last) = refl
 
 pub acquire_looks_not : {C : Type 0} (aim : Aim C) (place : AcquirePlace) → look_of_act (want_acquiring aim place) ≡ None
 acquire_looks_not aim (AcquireLoad arrival) = refl
-acquire_looks_not aim (AcquireExchange arrival last) = refl
-acquire_looks_not aim (TakeToQueue arrival last) = refl
-acquire_looks_not aim (Arm arrival last) = refl
-acquire_looks_not aim (Queue arrival last) = refl
-acquire_looks_not aim (AwaitWake tries) = refl
+acquire_looks_not aim other = refl
 
 pub release_looks_not : (C : Type 0) (releasing : Releasing) (place : ReleasePlace) → look_of_act {C = C} (want_releasing releasing place) ≡ None
 release_looks_not C releasing ReleaseLoad = refl
-release_looks_not C releasing (ReleaseExchange last) = refl
-release_looks_not C releasing (TakeToScan last) = refl
-release_looks_not C releasing (ScanCells last i) = refl
-release_looks_not C releasing (ScanAndRelease last) = refl
-release_looks_not C releasing Pay = refl
+release_looks_not C releasing other = refl
 
 pub cells_look_not : (C : Type 0) (place : CellPlace) → look_of_act {C = C} (want_in_cells place) ≡ None
 cells_look_not C (GetLoad i) = refl
-cells_look_not C (SetLoad i v) = refl
-cells_look_not C (SetStore i v) = refl
-cells_look_not C (QuietCells judging i) = refl
-cells_look_not C (QuietLast judging i) = refl
+cells_look_not C other = refl
 
 pub leaver_looks_not : {C : Type 0} (wait : Wait C) (place : LeavePlace) → look_of_act (want_leaving wait place) ≡ None
 leaver_looks_not wait LeaveLoad = refl
-leaver_looks_not wait (TakeToLeave last) = refl
-leaver_looks_not wait (Leave last) = refl
-leaver_looks_not wait AwaitWakeToLeave = refl
+leaver_looks_not wait other = refl
 
 pub judge_looks_not : {C : Type 0} (on : Subject C) (i : ℕ) → look_of_act (judge_of on i) ≡ None
 judge_looks_not (OnCondition c) i = refl
@@ -264,21 +250,17 @@ judge_looks_not (OnVariables variables) i = refl
 
 pub signal_looks_not : (C : Type 0) (waking : Waking) (k : ℕ) (place : SignalPlace) → look_of_act {C = C} (want_signaling waking k place) ≡ None
 signal_looks_not C waking k SignalLoad = refl
-signal_looks_not C waking k (TakeToWake last) = refl
-signal_looks_not C waking k (WakeAndReturn last) = refl
-signal_looks_not C waking k PayTheWoken = refl
+signal_looks_not C waking k other = refl
 
 pub show_looks_not : (C : Type 0) (place : ShowPlace) → look_of_act {C = C} (want_showing place) ≡ None
 show_looks_not C ShowLoad = refl
-show_looks_not C (TakeToShow last) = refl
-show_looks_not C (ReturnShown last) = refl
+show_looks_not C other = refl
 
 looks_none : {C : Type 0} (act : Act C) → look_of_act act ≡ None → looks_again act ≡ false
 looks_none (Look limits again) e = absurd (cc)
 looks_none act e = refl
 
 looks_at : {C : Type 0} (wait : Wait C) (place : WaitPlace) → place_has_come_back place ≡ false → looks_again (want_waiting wait place) ≡ false
-looks_at wait (TestCells visit i) e = refl
 looks_at wait (TestLast visit i) e = looks_none (judge_of wait.on i) (judge_looks_not wait.on i)
 looks_at wait (InQueuing again LookIn) e = e
 looks_at wait (InQueuing again Load) e = refl
@@ -286,10 +268,8 @@ looks_at wait (InQueuing again (Take last)) e = refl
 looks_at wait (InQueuing again (ArmToWait last)) e = refl
 looks_at wait (InQueuing again (LoadToScan last i)) e = refl
 looks_at wait (InQueuing again (QueueToWait last)) e = refl
-looks_at wait PayInWait e = refl
-looks_at wait AwaitWakeInWait e = refl
-looks_at wait LookOut e = refl
 looks_at wait (InLeaving cause place) e = looks_none (want_leaving wait place) (leaver_looks_not wait place)
+looks_at wait other e = refl
 
 looks_by : {C : Type 0} (walk : Walk C) → has_come_back walk ≡ false → looks_again (want_of walk) ≡ false
 looks_by {C} (InTry mode place) e = looks_none (want_trying mode place) (try_looks_not C mode place)

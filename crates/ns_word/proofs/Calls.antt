@@ -3,15 +3,14 @@ use Rattle.std.specs.Prelude.{slice_get}
 use Rattle.std.proofs.Common.{◌≡◌, ◌⊎◌, inl, inr, ℕ, ◌-◌, ◌≤◌, ◌<◌, arith, Bool, true, false, not, ◌||◌, cond, eqb, ltb, ◌+◌, suc, take, drop, List, [], ◌∷◌, length, None, Some, refl, ap, sym, ◌∙◌, subst}
 use Rattle.std.proofs.lemmas.Bool.{cases_eq, ltb-true, ne_eqb}
 use Rattle.std.proofs.lemmas.List.{get_or-map}
-use Rattle.ns_word.specs.Prelude.{AcquireExchange, AcquireLoad, AcquirePlace, Act, Aim, Answered, Arm, ArmToWait, Arrival, AsFresh, AsWoken, Await, AwaitWake, AwaitWakeInWait, AwaitWakeToLeave, Broadcasting, Busy, Cause, Cell, CellPlace, Cv, Done, EachFits, Effect}
-use Rattle.ns_word.specs.Prelude.{Ended, Event, Every, Flag, ForLock, ForWait, Found, GetLoad, Idle, InAcquire, InCells, InLeaving, InQueuing, InRelease, InShow, InSignal, InTry, InWait, IsLawful, Judging, Leave, LeaveLoad, LeavePlace, Left, Limits, Lists, Load}
-use Rattle.ns_word.specs.Prelude.{LoadFlag, LoadToScan, LockState, Look, LookIn, LookOut, Looked, Made, Met, Mode, Next, Noisy, On, OnCondition, OnEntry, OnReturn, OnVariables, Paid, Part, Pay, PayInWait, PayTheWoken, PlaceFits, Queue, QueuePlace, QueueToWait, Quiet}
-use Rattle.ns_word.specs.Prelude.{QuietCells, QuietLast, QuietWriter, ReleaseExchange, ReleaseLoad, ReleasePlace, Releasing, ReturnShown, Saw, ScanAndRelease, ScanCells, Scanned, SeatView, SetLoad, SetStore, ShowLoad, ShowPlace, SignalLoad, SignalPlace, Signaling, Step}
-use Rattle.ns_word.specs.Prelude.{Subject, Succeeded, Take, TakeToLeave, TakeToQueue, TakeToScan, TakeToShow, TakeToWake, Tells, TestCells, TestLast, Tested, ToRelease, ToTell, Truths, TryAcquire, TryLoad, TryPlace, Visit, Wait, WaitPlace, Waiter, Wake, WakeAndReturn}
-use Rattle.ns_word.specs.Prelude.{WakeWaiters, Waking, Walk, Woke, Woken, Word, acquire_by, acquired_for, arrival_of, asked_in_cells, asked_of, asked_to_judge, back_with, calls_from_lock, changed, cvs_without, got_acquiring, got_in_cells, got_leaving, got_of}
-use Rattle.ns_word.specs.Prelude.{got_queuing, got_releasing, got_showing, got_signaling, got_trying, got_waiting, has_come_back, is_arrival_woken, is_from_lock, is_held, is_limited, is_met, is_woken, judge_of, kept_by, look_or_queue, may_acquire, mode_for, moved_to}
-use Rattle.ns_word.specs.Prelude.{needs_scan, outcome_taken, outside, part_of, pays, release_by, rest_or_look, standing_after, taken_by, taken_set, test_place, times_in, unmet_by, waiters_of, wake_of, walk_after, want_acquiring, want_in_cells, want_leaving, want_of}
-use Rattle.ns_word.specs.Prelude.{want_releasing, want_showing, want_signaling, want_trying, want_waiting, was_woken, woken_by}
+use Rattle.ns_word.specs.Prelude.{AcquireExchange, AcquireLoad, AcquirePlace, Act, Aim, Answered, Arm, ArmToWait, Arrival, AsFresh, AsWoken, Await, AwaitWake, AwaitWakeInWait, AwaitWakeToLeave, Broadcasting, Busy, Cause, Cell, CellPlace, Cv, Done, EachFits, Effect, Ended, Event, Every, Flag}
+use Rattle.ns_word.specs.Prelude.{ForLock, ForWait, Found, GetLoad, Idle, InAcquire, InCells, InLeaving, InQueuing, InRelease, InShow, InSignal, InTry, InWait, IsLawful, Judging, Leave, LeaveLoad, LeavePlace, Left, Limits, Lists, Load, LoadFlag, LoadToScan, LockState, Look, LookIn, LookOut}
+use Rattle.ns_word.specs.Prelude.{Looked, Made, Met, Mode, Next, Noisy, On, OnCondition, OnEntry, OnReturn, OnVariables, Paid, Part, Pay, PayInWait, PayTheWoken, PlaceFits, Queue, QueuePlace, QueueToWait, Quiet, QuietCells, QuietLast, QuietWriter, ReleaseExchange, ReleaseLoad, ReleasePlace}
+use Rattle.ns_word.specs.Prelude.{Releasing, ReturnShown, Saw, ScanAndRelease, ScanCells, Scanned, SeatView, SetLoad, SetStore, ShowLoad, ShowPlace, SignalLoad, SignalPlace, Signaling, Step, Subject, Succeeded, Take, TakeToLeave, TakeToQueue, TakeToScan, TakeToShow, TakeToWake, Tells, TestCells}
+use Rattle.ns_word.specs.Prelude.{TestLast, Tested, ToRelease, ToTell, Truths, TryAcquire, TryLoad, TryPlace, Visit, Wait, WaitPlace, Waiter, Wake, WakeAndReturn, WakeWaiters, Waking, Walk, Woke, Woken, Word, acquire_by, acquired_for, arrival_of, asked_in_cells, asked_of, asked_to_judge}
+use Rattle.ns_word.specs.Prelude.{back_with, calls_from_lock, changed, cvs_without, got_acquiring, got_in_cells, got_leaving, got_of, got_queuing, got_releasing, got_showing, got_signaling, got_trying, got_waiting, has_come_back, is_arrival_woken, is_from_lock, is_held, is_limited, is_met}
+use Rattle.ns_word.specs.Prelude.{is_woken, judge_of, kept_by, look_or_queue, may_acquire, mode_for, moved_to, needs_scan, outcome_taken, outside, part_of, pays, release_by, rest_or_look, standing_after, taken_by, taken_set, test_place, times_in, unmet_by, waiters_of, wake_of, walk_after}
+use Rattle.ns_word.specs.Prelude.{want_acquiring, want_in_cells, want_leaving, want_of, want_releasing, want_showing, want_signaling, want_trying, want_waiting, was_woken, woken_by}
 use Rattle.ns_queue.proofs.Outside.{broadcast_outside, signal_outside}
 use Rattle.ns_word.proofs.CountsIn.{OnceInEach}
 use Rattle.ns_word.proofs.Answers.{acquire_looks_not, cells_look_not, judge_looks_not, leaver_looks_not, look_of_act, release_looks_not, signal_looks_not, show_looks_not, try_looks_not}
@@ -95,7 +94,8 @@ module _ (C : Type 0) (N : ℕ) (truths : Truths C) (seat : ℕ) (waking : Wakin
   wakes_by (InShow place) found old new commits asked fits four e = absurd (cc)
 
 -- A step of a call that wakes commits whom the rule takes, or nothing.
-pub wakes_by_rule : {C : Type 0} {N : ℕ} (truths : Truths C) (seats : ℕ) (h : List (Event C N)) (old new : LockState C N) (view : SeatView C N) (found : Found) (commits : List (Event C N)) (waking : Waking) (k : ℕ) → (step : Step truths old view found new commits) → IsLawful truths seats h old → asked_of step.walk ≡ Wake waking k →
+pub wakes_by_rule : {C : Type 0} {N : ℕ} (truths : Truths C) (seats : ℕ) (h : List (Event C N)) (old new : LockState C N) (view : SeatView C N) (found : Found) (commits : List (Event C N)) (waking : Waking) (k : ℕ) →
+    (step : Step truths old view found new commits) → IsLawful truths seats h old → asked_of step.walk ≡ Wake waking k →
     WakesBy C N truths view.seat waking k (part_of old view.held view.owed) (part_of new step.held step.owed) commits
 wakes_by_rule {C} {N} truths seats h old new view found commits waking k step lawful asked =
     let fits = (each_parts truths seats (standing_after h) old.row step.front view step.back (subst (λ vs. EachFits truths seats (standing_after h) old.row vs) step.was lawful.one_history.each)).1 in

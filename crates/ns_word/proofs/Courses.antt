@@ -1,19 +1,18 @@
 -- Each step takes its call on: it goes on as it was asked, or its answer means what it says.
 use Rattle.std.proofs.Common.{◌≡◌, ◌&&◌, ◌||◌, inl, inr, ℕ, ◌+◌, ◌-◌, Bool, true, false, not, cond, eqb, ltb, List, [], ◌∷◌, ◌++◌, Option, None, Some, IsSome, slice_index, refl, ap, sym, ◌∙◌, subst}
 use Rattle.std.proofs.lemmas.List.{append-nil}
-use Rattle.ns_word.specs.Prelude.{Acquire, AcquireExchange, AcquireLoad, AcquirePlace, AcquireSoFar, Aim, AimFits, Answer, Answered, Any, AnyWait, AnyWaitMeans, Arm, ArmToWait, Arrival, AsFresh, AtVariables, Await, AwaitWake, AwaitWakeInWait, AwaitWakeToLeave, Busy}
-use Rattle.ns_word.specs.Prelude.{CallGoes, CameBack, CanLeave, CanWait, Cause, Cell, CellFits, CellPlace, ComesBack, ConditionWaitMeans, Course, Cv, CvWait, Cvs, Done, EachFits, Effect, Ended, Event, Expired, Flag, ForLock, ForWait, Found, Get, GetLoad, HasLeft}
-use Rattle.ns_word.specs.Prelude.{HasLocked, HasLookedFor, HasReleased, HasWoken, Held, HeldFits, Idle, InAcquire, InCells, InHand, InLeaving, InQueuing, InRelease, InShow, InSignal, InTry, InWait, Is, IsComing, IsFirst, IsForCondition, IsForVariables, IsLawful, IsLeft}
-use Rattle.ns_word.specs.Prelude.{IsQuiet, IsQuietSection, KeptFits, Leave, LeaveLoad, LeavePlace, LeaveSelf, Left, Limits, Load, LoadToScan, LockState, Look, LookIn, LookOut, Looked, Made, MayAnswer, MayEnd, MayShow, MayWait, Means, Met, Mode, Next, Noisy, Notified}
-use Rattle.ns_word.specs.Prelude.{Number, On, OnCondition, OnEntry, OnReturn, OnVariables, Only, Outcome, OutcomeFits, Paid, Part, Pay, PayInWait, PayTheWoken, PlaceFits, Plain, Queue, QueueFits, QueuePlace, QueueToWait, QueuesAfter, QueuesSoFar, Quiet, QuietCells}
-use Rattle.ns_word.specs.Prelude.{QuietLast, QuietWriter, Read, Release, ReleaseExchange, ReleaseFits, ReleaseLoad, ReleasePlace, ReleaseSoFar, Releasing, Request, ReturnQueues, ReturnShown, Saw, ScanAndRelease, ScanCells, Scanned, SeatView, SectionFits, Set, SetLoad}
-use Rattle.ns_word.specs.Prelude.{SetStore, Show, ShowLoad, ShowPlace, SignalLoad, SignalPlace, SignalSoFar, SoFar, Step, Subject, Succeeded, Take, TakeToLeave, TakeToQueue, TakeToScan, TakeToShow, TakeToWake, TestCells, TestLast, Tested, Tests, TestsSoFar, ToChange}
-use Rattle.ns_word.specs.Prelude.{ToQueue, ToRelease, ToTell, Truths, TryAcquire, TryLoad, TryLock, TryPlace, Unchanged, VariableWaitMeans, Variables, ViewFits, Visit, Wait, WaitFits, WaitPlace, WaitReturning, WaitSoFar, Waited, Wake, WakeAndReturn, Waking, Walk, Woke}
-use Rattle.ns_word.specs.Prelude.{Woken, WokenBy, Word, Write, acquire_by, acquired_for, answer_of, answer_of_wait, armed_place, arrival_of, asked_in_cells, asked_of, asked_to_judge, back_with, cause_by, cause_in, course_after, course_from, entry_of, exit_for}
-use Rattle.ns_word.specs.Prelude.{got_acquiring, got_in_cells, got_leaving, got_of, got_queuing, got_releasing, got_showing, got_signaling, got_trying, got_waiting, has_some, held_after, held_by, home_of, is_held, is_limited, is_met, is_woken, judge_of, leave_any_told}
-use Rattle.ns_word.specs.Prelude.{leave_by, leave_of, leave_told, left_by, load_place, look_or_queue, looked_after, may_acquire, mode_for, mode_released, needs_scan, new_section, newly_held, opening_by, outcome_taken, part_of, pay_releasing, pay_waiting, pay_woken}
-use Rattle.ns_word.specs.Prelude.{place_cause_kept, queue_by, quiet_place, release_by, rest_or_look, row_after, scan_place, section_of, show_by, signal_by, standing_after, stands_at, taken_by, test_place, tries_of, unmet_by, variable_in, waiters_of, wake_of}
-use Rattle.ns_word.specs.Prelude.{want_acquiring, want_in_cells, want_leaving, want_of, want_queuing, want_releasing, want_showing, want_signaling, want_trying, want_waiting, woken_by, word_taken}
+use Rattle.ns_word.specs.Prelude.{Acquire, AcquireExchange, AcquireLoad, AcquirePlace, AcquireSoFar, Aim, AimFits, Answer, Answered, Any, AnyWait, AnyWaitMeans, Arm, ArmToWait, Arrival, AsFresh, AtVariables, Await, AwaitWake, AwaitWakeInWait, AwaitWakeToLeave, Busy, CallGoes, CameBack, CanLeave}
+use Rattle.ns_word.specs.Prelude.{CanWait, Cause, Cell, CellFits, CellPlace, ComesBack, ConditionWaitMeans, Course, Cv, CvWait, Cvs, Done, EachFits, Effect, Ended, Event, Expired, Flag, ForLock, ForWait, Found, Get, GetLoad, HasLeft, HasLocked, HasLookedFor, HasReleased, HasWoken, Held, HeldFits}
+use Rattle.ns_word.specs.Prelude.{Idle, InAcquire, InCells, InHand, InLeaving, InQueuing, InRelease, InShow, InSignal, InTry, InWait, Is, IsComing, IsFirst, IsForCondition, IsForVariables, IsLawful, IsLeft, IsQuiet, IsQuietSection, KeptFits, Leave, LeaveLoad, LeavePlace, LeaveSelf, Left, Limits}
+use Rattle.ns_word.specs.Prelude.{Load, LoadToScan, LockState, Look, LookIn, LookOut, Looked, Made, MayAnswer, MayEnd, MayShow, MayWait, Means, Met, Mode, Next, Noisy, Notified, Number, On, OnCondition, OnEntry, OnReturn, OnVariables, Only, Outcome, OutcomeFits, Paid, Part, Pay, PayInWait}
+use Rattle.ns_word.specs.Prelude.{PayTheWoken, PlaceFits, Plain, Queue, QueueFits, QueuePlace, QueueToWait, QueuesAfter, QueuesSoFar, Quiet, QuietCells, QuietLast, QuietWriter, Read, Release, ReleaseExchange, ReleaseFits, ReleaseLoad, ReleasePlace, ReleaseSoFar, Releasing, Request, ReturnQueues}
+use Rattle.ns_word.specs.Prelude.{ReturnShown, Saw, ScanAndRelease, ScanCells, Scanned, SeatView, SectionFits, Set, SetLoad, SetStore, Show, ShowLoad, ShowPlace, SignalLoad, SignalPlace, SignalSoFar, SoFar, Step, Subject, Succeeded, Take, TakeToLeave, TakeToQueue, TakeToScan, TakeToShow}
+use Rattle.ns_word.specs.Prelude.{TakeToWake, TestCells, TestLast, Tested, Tests, TestsSoFar, ToChange, ToQueue, ToRelease, ToTell, Truths, TryAcquire, TryLoad, TryLock, TryPlace, Unchanged, VariableWaitMeans, Variables, ViewFits, Visit, Wait, WaitFits, WaitPlace, WaitReturning, WaitSoFar, Waited}
+use Rattle.ns_word.specs.Prelude.{Wake, WakeAndReturn, Waking, Walk, Woke, Woken, WokenBy, Word, Write, acquire_by, acquired_for, answer_of, answer_of_wait, armed_place, arrival_of, asked_in_cells, asked_of, asked_to_judge, back_with, cause_by, cause_in, course_after, course_from, entry_of}
+use Rattle.ns_word.specs.Prelude.{exit_for, got_acquiring, got_in_cells, got_leaving, got_of, got_queuing, got_releasing, got_showing, got_signaling, got_trying, got_waiting, has_some, held_after, held_by, home_of, is_held, is_limited, is_met, is_woken, judge_of, leave_any_told, leave_by}
+use Rattle.ns_word.specs.Prelude.{leave_of, leave_told, left_by, load_place, look_or_queue, looked_after, may_acquire, mode_for, mode_released, needs_scan, new_section, newly_held, opening_by, outcome_taken, part_of, pay_releasing, pay_waiting, pay_woken, place_cause_kept, queue_by, quiet_place}
+use Rattle.ns_word.specs.Prelude.{release_by, rest_or_look, row_after, scan_place, section_of, show_by, signal_by, standing_after, stands_at, taken_by, test_place, tries_of, unmet_by, variable_in, waiters_of, wake_of, want_acquiring, want_in_cells, want_leaving, want_of, want_queuing}
+use Rattle.ns_word.specs.Prelude.{want_releasing, want_showing, want_signaling, want_trying, want_waiting, woken_by, word_taken}
 use Rattle.ns_word.proofs.Leaving.{not_left}
 use Rattle.ns_word.proofs.Asked.{Asks, asks_on}
 use Rattle.ns_word.specs.declared.request.Request.TheVariants.{Release}
@@ -128,13 +127,15 @@ module _ (C : Type 0) (N : ℕ) (truths : Truths C) (seat : ℕ) (row : List ℕ
   queue_comes request course held wait again word so_far = either request course held word.spin (Idle (InWait wait (InQueuing again Load))) (On (InWait wait (InQueuing again (Take word)))) (λ b. so_far) (λ b. so_far)
 
   -- of one that loads cells for its scan
-  load_so_far : (course : Course C N) (held : Option (Held C N)) (wait : Wait C) (again : Bool) (last : Word) (loaded : ℕ) → QueuesSoFar truths seat wait again course held × HasLookedFor wait.on wait.limits course.looked → SoFar truths seat course (InWait wait (InQueuing again (load_place N last loaded))) held
+  load_so_far : (course : Course C N) (held : Option (Held C N)) (wait : Wait C) (again : Bool) (last : Word) (loaded : ℕ) →
+      QueuesSoFar truths seat wait again course held × HasLookedFor wait.on wait.limits course.looked → SoFar truths seat course (InWait wait (InQueuing again (load_place N last loaded))) held
   load_so_far course held wait again last loaded so_far = go (ltb loaded N) where
     go : (b : Bool) → SoFar truths seat course (InWait wait (InQueuing again (cond b (LoadToScan last loaded) (QueueToWait last)))) held
     go true = so_far
     go false = so_far
 
-  armed_so_far : (course : Course C N) (held : Option (Held C N)) (wait : Wait C) (again : Bool) (on : Subject C) (last : Word) → QueuesSoFar truths seat wait again course held × HasLookedFor wait.on wait.limits course.looked → SoFar truths seat course (InWait wait (InQueuing again (armed_place N on last))) held
+  armed_so_far : (course : Course C N) (held : Option (Held C N)) (wait : Wait C) (again : Bool) (on : Subject C) (last : Word) →
+      QueuesSoFar truths seat wait again course held × HasLookedFor wait.on wait.limits course.looked → SoFar truths seat course (InWait wait (InQueuing again (armed_place N on last))) held
   armed_so_far course held wait again (OnCondition c) last so_far = so_far
   armed_so_far course held wait again (OnVariables variables) last so_far = go last.cond where
     go : (b : Bool) → SoFar truths seat course (InWait wait (InQueuing again (cond b (load_place N last 0) (QueueToWait last)))) held
@@ -297,7 +298,8 @@ module _ (C : Type 0) (N : ℕ) (truths : Truths C) (seat : ℕ) (row : List ℕ
         answers_back course held section (cause_in outcome) Met e tested.0 starts cells (sym holding) tt says so_far.left
 
     -- its condition was tested, and is false: it goes on waiting, or was ended early and answers that
-    unmet_comes : (visit : Visit) (course : Course C N) (held : Option (Held C N)) (section : Held C N) → held ≡ Some section → truths.holds c section.row ≡ false → Tests truths asked visit held → MayShow limits (cause_by visit) → section.before ≡ row → TestsSoFar truths seat asked visit course held →
+    unmet_comes : (visit : Visit) (course : Course C N) (held : Option (Held C N)) (section : Held C N) → held ≡ Some section → truths.holds c section.row ≡ false → Tests truths asked visit held →
+        MayShow limits (cause_by visit) → section.before ≡ row → TestsSoFar truths seat asked visit course held →
         Comes (Await asked) course (unmet_by asked visit) held
     unmet_comes OnEntry course held section e failing tests given starts so_far = look_comes (Await asked) course held asked false so_far
     unmet_comes (OnReturn (Woken by)) course held section e failing tests given starts so_far = look_comes (Await asked) course held asked true so_far.left
@@ -308,7 +310,8 @@ module _ (C : Type 0) (N : ℕ) (truths : Truths C) (seat : ℕ) (row : List ℕ
         answers_back course held section (Some cause) (answer_of cause) e tested.0 starts cells (not_met cause ∙ sym failing) (may_answer limits course.looked (Ended cause) given so_far.shown) says so_far.left
 
     -- a look has shown what ends it, before it queued
-    shown_comes : (again : Bool) (cause : Cause) (course : Course C N) (old new : Option (Held C N)) (section : Held C N) → old ≡ Some section → new ≡ held_after again (Some cause) old → MayWait truths asked again section → MayShow limits (Some cause) → section.before ≡ row → course.looked ≡ Some (Some cause) →
+    shown_comes : (again : Bool) (cause : Cause) (course : Course C N) (old new : Option (Held C N)) (section : Held C N) → old ≡ Some section → new ≡ held_after again (Some cause) old →
+        MayWait truths asked again section → MayShow limits (Some cause) → section.before ≡ row → course.looked ≡ Some (Some cause) →
         QueuesSoFar truths seat asked again course old → Means truths seat row (Await asked) course (Answered (answer_of cause)) new
     shown_comes false cause course old new section e same may given starts shown so_far =
         answers_on_entry course new section (answer_of cause) (same ∙ e) may.mode (not_met cause ∙ sym may.unmet) (may_answer limits course.looked (Ended cause) given shown) (subst (λ h. Unchanged course h) (sym same) so_far)

@@ -3,17 +3,16 @@ use Rattle.std.proofs.Common.{◌≡◌, ◌≢◌, ◌⊎◌, inl, inr, ℕ, ze
 use Rattle.std.proofs.lemmas.Bool.{ltb-true, both_ways}
 use Rattle.std.specs.List.{sum_by}
 use Rattle.std.proofs.lemmas.List.{append-nil}
-use Rattle.ns_word.specs.Prelude.{AcquireExchange, AcquireLoad, Aim, AimFits, AreWaiting, Arm, ArmToWait, Arrival, AsFresh, AsWoken, AtVariables, AwaitWake, AwaitWakeInWait, AwaitWakeToLeave, Broadcasting, CanLeave, CanWait, Cause, Cell, Cond, CondWait, Cv, Effect}
-use Rattle.ns_word.specs.Prelude.{Ended, Event, Every, Exit, Flag, ForLock, ForWait, Found, GetLoad, HasMode, HasNumber, Held, Idle, InAcquire, InCells, InLeaving, InQueuing, InRelease, InShow, InSignal, InTry, InWait, IsExpected, IsInRange, IsLawful, IsLeft}
-use Rattle.ns_word.specs.Prelude.{IsLegalEvent, IsSettled, IsSettledBy, IsToldSo, Leave, LeaveLoad, Left, Limits, Load, LoadToScan, LockState, LookIn, LookOut, Looked, Made, MayShow, MayWait, Mode, Next, NoneIs, On, OnCondition, OnVariables, Outcome, OutcomeFits, Owed}
-use Rattle.ns_word.specs.Prelude.{Paid, Part, Pay, PayInWait, PayTheWoken, Phase, PlaceFits, Plain, Queue, QueueToWait, Quiet, QuietCells, QuietKeeps, QuietLast, QuietWriter, Read, ReleaseExchange, ReleaseLoad, Releasing, ReturnQueues, ReturnShown, Saw, ScanAndRelease}
-use Rattle.ns_word.specs.Prelude.{ScanCells, Scanned, SeatView, SetLoad, SetStore, ShowLoad, ShowPlace, SignalLoad, SignalPlace, Signaling, Step, Subject, Take, TakeToLeave, TakeToQueue, TakeToScan, TakeToShow, TakeToWake, Taking, Tells, TestCells, TestLast, Tested}
-use Rattle.ns_word.specs.Prelude.{ToChange, ToQueue, ToldOn, Truths, TryAcquire, TryLoad, VariableWaiterFits, Visit, Wait, WaitPlace, WaitReturning, Waiter, Waiting, WakeAndReturn, WakeWaiters, Waking, Walk, Woke, Word, Write, acquired_for, armed_place, arrival_of}
-use Rattle.ns_word.specs.Prelude.{awaits, bits_of, called_of, calls_from_lock, cause_in, change_found, changed, counts_in, cvs_without, exit_for, expected_for, flags_with, got_leaving, got_of, got_showing, got_signaling, got_waiting, has, has_armed, has_queues}
-use Rattle.ns_word.specs.Prelude.{has_some, held_after, home_of, is_from_lock, is_held, is_on_way, is_queuing, is_woken, judge_of, kept_by, leave_of, left_of, may_acquire, meets_at, mode_for, mode_released, moved_to, moves, needs_scan, newly_held, opening_for}
-use Rattle.ns_word.specs.Prelude.{outcome_taken, owed_after, pay_releasing, pay_waiting, pay_woken, pays, phase_before, phase_by, phase_for, phase_kept, place_awaits, queued, releasing_of, rest_or_look, row_in, section_of, standing_after, standing_next, stands_at}
-use Rattle.ns_word.specs.Prelude.{taken_by, taken_set, times_among, times_in, tries_of, variable_told, wait_has_queues, waited_in, waiters_of, waits_in, wake_of, wakes_of, walk_after, want_of, want_showing, want_signaling, want_waiting, was_woken, who_of, with_lock}
-use Rattle.ns_word.specs.Prelude.{without, without_in, woken_by, woken_of, woken_phases, word_acquired, word_released, word_released_returning, word_returned, word_seen, word_taken}
+use Rattle.ns_word.specs.Prelude.{AcquireExchange, AcquireLoad, Aim, AimFits, AreWaiting, Arm, ArmToWait, Arrival, AsFresh, AsWoken, AtVariables, AwaitWake, AwaitWakeInWait, AwaitWakeToLeave, Broadcasting, CanLeave, CanWait, Cause, Cell, Cond, CondWait, Cv, Effect, Ended, Event, Every, Exit, Flag}
+use Rattle.ns_word.specs.Prelude.{ForLock, ForWait, Found, GetLoad, HasMode, HasNumber, Held, Idle, InAcquire, InCells, InLeaving, InQueuing, InRelease, InShow, InSignal, InTry, InWait, IsExpected, IsInRange, IsLawful, IsLeft, IsLegalEvent, IsSettled, IsSettledBy, IsToldSo, Leave, LeaveLoad, Left}
+use Rattle.ns_word.specs.Prelude.{Limits, Load, LoadToScan, LockState, LookIn, LookOut, Looked, Made, MayShow, MayWait, Mode, Next, NoneIs, On, OnCondition, OnVariables, Outcome, OutcomeFits, Owed, Paid, Part, Pay, PayInWait, PayTheWoken, Phase, PlaceFits, Plain, Queue, QueueToWait, Quiet}
+use Rattle.ns_word.specs.Prelude.{QuietCells, QuietKeeps, QuietLast, QuietWriter, Read, ReleaseExchange, ReleaseLoad, Releasing, ReturnQueues, ReturnShown, Saw, ScanAndRelease, ScanCells, Scanned, SeatView, SetLoad, SetStore, ShowLoad, ShowPlace, SignalLoad, SignalPlace, Signaling, Step, Subject}
+use Rattle.ns_word.specs.Prelude.{Take, TakeToLeave, TakeToQueue, TakeToScan, TakeToShow, TakeToWake, Taking, Tells, TestCells, TestLast, Tested, ToChange, ToQueue, ToldOn, Truths, TryAcquire, TryLoad, VariableWaiterFits, Visit, Wait, WaitPlace, WaitReturning, Waiter, Waiting, WakeAndReturn}
+use Rattle.ns_word.specs.Prelude.{WakeWaiters, Waking, Walk, Woke, Word, Write, acquired_for, armed_place, arrival_of, awaits, bits_of, called_of, calls_from_lock, cause_in, change_found, changed, counts_in, cvs_without, exit_for, expected_for, flags_with, got_leaving, got_of, got_showing}
+use Rattle.ns_word.specs.Prelude.{got_signaling, got_waiting, has, has_armed, has_queues, has_some, held_after, home_of, is_from_lock, is_held, is_on_way, is_queuing, is_woken, judge_of, kept_by, leave_of, left_of, may_acquire, meets_at, mode_for, mode_released, moved_to, moves, needs_scan}
+use Rattle.ns_word.specs.Prelude.{newly_held, opening_for, outcome_taken, owed_after, pay_releasing, pay_waiting, pay_woken, pays, phase_before, phase_by, phase_for, phase_kept, place_awaits, queued, releasing_of, rest_or_look, row_in, section_of, standing_after, standing_next, stands_at}
+use Rattle.ns_word.specs.Prelude.{taken_by, taken_set, times_among, times_in, tries_of, variable_told, wait_has_queues, waited_in, waiters_of, waits_in, wake_of, wakes_of, walk_after, want_of, want_showing, want_signaling, want_waiting, was_woken, who_of, with_lock, without, without_in, woken_by}
+use Rattle.ns_word.specs.Prelude.{woken_of, woken_phases, word_acquired, word_released, word_released_returning, word_returned, word_seen, word_taken}
 use Rattle.ns_model.specs.declared.phase.Phase.TheVariants.{Woken}
 use Rattle.ns_model.proofs.Tallies.{every_parts, every_join}
 use Rattle.ns_queue.proofs.Taken.{times_signaled, every_signaled}
@@ -30,8 +29,8 @@ use Rattle.ns_word.proofs.Safes.{section, same_section}
 use Rattle.ns_word.proofs.Seen.{packable, found_fits, seen_next}
 use Rattle.ns_word.proofs.Scans.{some_wakes}
 use Rattle.ns_word.proofs.Keeps.{Same, Stays, none_of, rests, acquires, stores, releases, takes, arms, enqueues, withdraws, returns, leaves as leaves_variable, scans, waits, waits_on, waits_for, wakes, sees, wakes_waiters}
-use Rattle.ns_word.proofs.Leads.{Leads, none_settled, shown_settled, try_leads, acquire_leads, acquired_leads, test_leads, met_leads, shown_section, queue_leads, leave_leads, rest_leads, pay_waiting_leads, release_leads, scan_leads, taken_leads, quiet_leads}
-use Rattle.ns_word.proofs.Leads.{judged_leads, pay_leads, calm_release, load_leads, armed_leads, signal_leads, pay_woken_leads, show_leads}
+use Rattle.ns_word.proofs.Leads.{Leads, none_settled, shown_settled, try_leads, acquire_leads, acquired_leads, test_leads, met_leads, shown_section, queue_leads, leave_leads, rest_leads, pay_waiting_leads, release_leads, scan_leads, taken_leads, quiet_leads, judged_leads, pay_leads, calm_release}
+use Rattle.ns_word.proofs.Leads.{load_leads, armed_leads, signal_leads, pay_woken_leads, show_leads}
 
 -- whether one that leaves found itself in the list
 abbrev stood_in : Found → Bool

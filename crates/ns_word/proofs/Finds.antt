@@ -1,8 +1,8 @@
 -- What a step finds is what the one word says that it loads or compares.
 use Rattle.std.proofs.Common.{◌≡◌, ◌≢◌, ◌≤◌, ℕ, Bool, false, cond, eqb, List, Option, None, Some, refl, ap, sym, ◌∙◌, eq-eqb}
 use Rattle.std.proofs.lemmas.Bool.{ne_eqb}
-use Rattle.ns_word.specs.Prelude.{Acquire, Act, ArmFlag, Cell, Effect, Event, Flag, Found, Held, IsLawful, IsLook, JudgeMet, JudgeQuiet, Left, LoadCell, LoadFlag, LoadWord, LockState, Look, Made, Paid, Part, PayWake, Quiet, Release, ReleaseReturning, ReturnQueues, Saw}
-use Rattle.ns_word.specs.Prelude.{Scanned, SeatView, SectionFits, Step, StoreCell, TakeQueues, Tested, Truths, WaitReturning, Walk, Woke, Word, before_in, content_at, exchanged, found_of, number_of, owes_more, part_of, row_in, scanned, standing_after, want_of, word_of}
+use Rattle.ns_word.specs.Prelude.{Acquire, Act, ArmFlag, Cell, Effect, Event, Flag, Found, Held, IsLawful, IsLook, JudgeMet, JudgeQuiet, Left, LoadCell, LoadFlag, LoadWord, LockState, Look, Made, Paid, Part, PayWake, Quiet, Release, ReleaseReturning, ReturnQueues, Saw, Scanned, SeatView}
+use Rattle.ns_word.specs.Prelude.{SectionFits, Step, StoreCell, TakeQueues, Tested, Truths, WaitReturning, Walk, Woke, Word, before_in, content_at, exchanged, found_of, number_of, owes_more, part_of, row_in, scanned, standing_after, want_of, word_of}
 use Rattle.ns_word.proofs.Codes.{decoded}
 use Rattle.ns_word.proofs.Acts.{view_fits}
 
@@ -55,7 +55,8 @@ row_fits : {C : Type 0} {N : ℕ} (truths : Truths C) (seats : ℕ) (h : List (E
 row_fits truths seats h old view walk None e p = λ held is. let never : None ≡ Some held = sym e ∙ is in absurd (cc)
 row_fits truths seats h old view walk (Some was) e p = λ held is. let one : Some was ≡ Some held = sym e ∙ is in let same : was ≡ held = cc in ap (λ x. x.row) (sym same) ∙ p.cells
 
-pub step_finds : {C : Type 0} {N : ℕ} (truths : Truths C) (seats : ℕ) (h : List (Event C N)) (old : LockState C N) (view : SeatView C N) (found : Found) (new : LockState C N) (commits : List (Event C N)) → seats ≤ 64 → (step : Step truths old view found new commits) → IsLawful truths seats h old → (IsLook (want_of step.walk) → ⊥) →
+pub step_finds : {C : Type 0} {N : ℕ} (truths : Truths C) (seats : ℕ) (h : List (Event C N)) (old : LockState C N) (view : SeatView C N) (found : Found) (new : LockState C N) (commits : List (Event C N)) → seats ≤ 64 →
+    (step : Step truths old view found new commits) → IsLawful truths seats h old → (IsLook (want_of step.walk) → ⊥) →
     found ≡ found_of truths (want_of step.walk) view old.lists (content_at view.seat (want_of step.walk) old)
 step_finds truths seats h old view found new commits few step p other =
     let fits = view_fits truths seats few h old step.front view step.back step.was p in

@@ -3,12 +3,11 @@ use Rattle.std.proofs.Common.{◌≡◌, ◌≢◌, ◌⊎◌, inl, inr, ℕ, �
 use Rattle.std.specs.List.{sum_by}
 use Rattle.std.proofs.lemmas.List.{length-map}
 use Rattle.std.proofs.lemmas.Bool.{ne_eqb, eqb-true, and_parts, not-true, both_ways}
-use Rattle.ns_word.specs.Prelude.{Any, AreVariables, Arrival, Cond, CondWait, Cv, Event, Every, Exit, ExitFits, Held, IsExpected, IsLegalEvent, IsNamed, IsSettledBy, Lists, LockState, Mode, NoneIs, OnCondition, OnVariables, Only, Opening, Owed, OwesAs, Phase, PlaceFits}
-use Rattle.ns_word.specs.Prelude.{Plain, QuietWriter, Read, Reader, Releasing, SeatView, Stance, Standing, Subject, TakenTold, Taking, Tells, ToChange, ToQueue, Truths, VariableWaiterFits, Variables, VariablesTell, ViewFits, Waiter, WaiterNames, WaitersOwn}
-use Rattle.ns_word.specs.Prelude.{WaitersPlaced, Waiting, Walk, Word, Write, Writer, awaits, bits_in, bits_of, called_of, called_to, calls_from_lock, counts_in, cvs_without, exit_for, first_standing, flags_with, has_armed, has_eligible, has_queues, has_some, is_armed}
-use Rattle.ns_word.specs.Prelude.{is_held, is_in, is_of, is_on_way, is_queuing, is_unwoken, is_woken, left_of, left_phase, lock_stance, may_acquire, meets_at, mode_released, needs_scan, one_if, outside, owed_to, pays, phase_after, phase_before, phase_by, queued}
-use Rattle.ns_word.specs.Prelude.{section_of, standing_after, standing_next, taken_set, times, times_among, times_in, tries_of, waiters_of, waits_at, waits_in, wakes_of, walk_at, was_woken, who_of, with_lock, without_in, woken_of, woken_phase, woken_phases}
-use Rattle.ns_word.specs.Prelude.{word_acquired, word_released, word_released_returning, word_returned, word_taken}
+use Rattle.ns_word.specs.Prelude.{Any, AreVariables, Arrival, Cond, CondWait, Cv, Event, Every, Exit, ExitFits, Held, IsExpected, IsLegalEvent, IsNamed, IsSettledBy, Lists, LockState, Mode, NoneIs, OnCondition, OnVariables, Only, Opening, Owed, OwesAs, Phase, PlaceFits, Plain, QuietWriter, Read}
+use Rattle.ns_word.specs.Prelude.{Reader, Releasing, SeatView, Stance, Standing, Subject, TakenTold, Taking, Tells, ToChange, ToQueue, Truths, VariableWaiterFits, Variables, VariablesTell, ViewFits, Waiter, WaiterNames, WaitersOwn, WaitersPlaced, Waiting, Walk, Word, Write, Writer, awaits}
+use Rattle.ns_word.specs.Prelude.{bits_in, bits_of, called_of, called_to, calls_from_lock, counts_in, cvs_without, exit_for, first_standing, flags_with, has_armed, has_eligible, has_queues, has_some, is_armed, is_held, is_in, is_of, is_on_way, is_queuing, is_unwoken, is_woken, left_of, left_phase}
+use Rattle.ns_word.specs.Prelude.{lock_stance, may_acquire, meets_at, mode_released, needs_scan, one_if, outside, owed_to, pays, phase_after, phase_before, phase_by, queued, section_of, standing_after, standing_next, taken_set, times, times_among, times_in, tries_of, waiters_of, waits_at}
+use Rattle.ns_word.specs.Prelude.{waits_in, wakes_of, walk_at, was_woken, who_of, with_lock, without_in, woken_of, woken_phase, woken_phases, word_acquired, word_released, word_released_returning, word_returned, word_taken}
 use Rattle.ns_model.specs.declared.phase.Phase.TheVariants.{Idle, Left}
 use Rattle.ns_model.proofs.Tallies.{one_most}
 use Rattle.ns_model.proofs.Histories.{standing_from-append}
@@ -17,8 +16,8 @@ use Rattle.ns_queue.proofs.Taken.{in_stands}
 use Rattle.ns_queue.proofs.Wakes.{stands_waits}
 use Rattle.ns_queue.proofs.Parts.{times_at_most}
 use Rattle.ns_word.proofs.Groups.{Safe, Homed, Known, Groups}
-use Rattle.ns_word.proofs.Knows.{bool_cases, is_loud, due_flag, nothing_called, rests as known_rests, acquires as known_acquires, arms as known_arms, puts, withdraws as known_withdraws, moves_in as known_moves, releases as known_releases, scans as known_scans}
-use Rattle.ns_word.proofs.Knows.{pays_one as known_pays, sees_wake as known_sees}
+use Rattle.ns_word.proofs.Knows.{bool_cases, is_loud, due_flag, nothing_called, rests as known_rests, acquires as known_acquires, arms as known_arms, puts, withdraws as known_withdraws, moves_in as known_moves, releases as known_releases, scans as known_scans, pays_one as known_pays}
+use Rattle.ns_word.proofs.Knows.{sees_wake as known_sees}
 use Rattle.ns_word.proofs.Views.{view_of, apart_parts, each_parts, called_most, walk_here}
 use Rattle.ns_word.proofs.Waits.{not_due, cleared, placed_here, rested, armed, taken, entered, withdraws as withdrawn, woke, seen}
 use Rattle.ns_word.proofs.Owns.{own_stays, own_same, nowhere, own_queued, own_scanned, own_waited, own_without, own_moved}
@@ -67,8 +66,7 @@ taken_spin (ToQueue mode arrival) word = refl
 
 released_queues : (releasing : Releasing) (word : Word) → ((word_released releasing word).spin ≡ word.spin) × (bits_in (word_released releasing word) ≡ bits_in word)
 released_queues Writer word = (refl, refl)
-released_queues QuietWriter word = (refl, refl)
-released_queues Reader word = (refl, refl)
+released_queues other word = (refl, refl)
 
 released_write : (releasing : Releasing) (word : Word) → mode_released releasing ≡ Write → (word_released releasing word).write ≡ false
 released_write Writer word e = refl
@@ -170,7 +168,8 @@ module _ {C : Type 0} {N : ℕ} (truths : Truths C) (seats : ℕ) (h : List (Eve
   lock_nowhere lists none = omega (arith, none)
 
   -- what the taken are told, where the seat waits as before, and where it waits no more, or did not
-  taken_still : (held held' : Option (Held C N)) (owed : List Owed) (phases : ℕ → Phase C) (flags : ℕ → ℕ) (lock : List (Waiter C)) → NoneIs who front → waits_in walk' ≡ waits_in walk → TakenTold phases flags lock (front ++ view_of who walk held owed ∷ back) → TakenTold phases flags lock (front ++ view_of who walk' held' owed ∷ back)
+  taken_still : (held held' : Option (Held C N)) (owed : List Owed) (phases : ℕ → Phase C) (flags : ℕ → ℕ) (lock : List (Waiter C)) → NoneIs who front → waits_in walk' ≡ waits_in walk →
+      TakenTold phases flags lock (front ++ view_of who walk held owed ∷ back) → TakenTold phases flags lock (front ++ view_of who walk' held' owed ∷ back)
   taken_still held held' owed phases flags lock apart same p = told_stays front who walk held owed walk' held' owed back phases phases flags lock lock (same_stays front who walk held owed walk' held' owed back phases apart same) (λ due listed. due) (λ listed. listed) p
 
   taken_gone : (held held' : Option (Held C N)) (owed : List Owed) (phases phases' : ℕ → Phase C) (flags : ℕ → ℕ) (lock : List (Waiter C)) → NoneIs who front → waits_in walk' ≡ None → ((seat : ℕ) → who ≢ seat → phases' seat ≡ phases seat) →
@@ -407,7 +406,8 @@ module _ {C : Type 0} {N : ℕ} (truths : Truths C) (seats : ℕ) (h : List (Eve
       }
 
   -- a seat that leaves takes itself out of the lists of variables, and commits that
-  pub leaves : (variables : Variables) (mode : Mode) (word : Word) (row : List ℕ) (lists : Lists C) (flags : ℕ → ℕ) (owed : List Owed) → seats ≤ 64 → pays walk ≡ false → 1 ≤ sum_by (times_in who) lists.cvs → waits_in walk ≡ Some (record { mode = mode; on = Some (OnVariables variables); tries = 0 }) →
+  pub leaves : (variables : Variables) (mode : Mode) (word : Word) (row : List ℕ) (lists : Lists C) (flags : ℕ → ℕ) (owed : List Owed) → seats ≤ 64 → pays walk ≡ false → 1 ≤ sum_by (times_in who) lists.cvs →
+      waits_in walk ≡ Some (record { mode = mode; on = Some (OnVariables variables); tries = 0 }) →
       PlaceFits {C = C} {N = N} truths walk' None → pays walk' ≡ pays walk → has_queues walk ≡ true → has_queues walk' ≡ false → has_armed walk' ≡ false → is_queuing walk ≡ false → is_queuing walk' ≡ false → awaits walk' ≡ false → is_on_way walk 1 0 ≡ false → IsExpected (phase_by walk') (Left variables mode) →
       let lists' = cvs_left who lists in
       Groups truths seats h (st walk word row lists flags None owed) → Groups truths seats (h ++ left_event who variables ∷ []) (st walk' (word_returned false (bits_of lists.lock) word) row lists' flags None owed)

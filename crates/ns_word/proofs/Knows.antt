@@ -2,9 +2,9 @@
 use Rattle.std.proofs.Common.{◌≡◌, ◌≢◌, ℕ, ◌+◌, ◌≤◌, Bool, true, false, ◌&&◌, ◌||◌, not, cond, eqb, ltb, ◌⊎◌, inl, inr, List, [], ◌∷◌, ◌++◌, Option, Some, refl, ap, sym, ◌∙◌, subst, arith, eq-eqb}
 use Rattle.std.specs.List.{list_any}
 use Rattle.std.proofs.lemmas.Bool.{ne_eqb, eqb-true, cases_eq, and_parts, or_cases, or_parts, both_ways, not-false, not-true, and_cases, ltb-true, lt-ltb}
-use Rattle.ns_word.specs.Prelude.{Arrival, Held, InAcquire, Lists, Mode, NobodyCouldGoOn, NoneIs, Owed, QuietWriter, Read, Reader, Releasing, SeatView, ToQueue, Waiter, WaitersPlaced, Walk, Word, Write, Writer, awaits, bits_of, called_of, called_to, calls_from_lock}
-use Rattle.ns_word.specs.Prelude.{counts_in, flags_with, has_eligible, has_queues, has_some, is_armed, is_from_lock, is_held, is_long, is_on_way, is_queuing, is_unwoken, is_woken, left_of, may_acquire, needs_scan, one_if, owed_to, queued, queuers, takers, times_among}
-use Rattle.ns_word.specs.Prelude.{times_in, walk_at, was_woken, woken_of, word_acquired, word_released, word_released_returning, word_returned, word_taken}
+use Rattle.ns_word.specs.Prelude.{Arrival, Held, InAcquire, Lists, Mode, NobodyCouldGoOn, NoneIs, Owed, QuietWriter, Read, Reader, Releasing, SeatView, ToQueue, Waiter, WaitersPlaced, Walk, Word, Write, Writer, awaits, bits_of, called_of, called_to, calls_from_lock, counts_in, flags_with}
+use Rattle.ns_word.specs.Prelude.{has_eligible, has_queues, has_some, is_armed, is_from_lock, is_held, is_long, is_on_way, is_queuing, is_unwoken, is_woken, left_of, may_acquire, needs_scan, one_if, owed_to, queued, queuers, takers, times_among, times_in, walk_at, was_woken, woken_of}
+use Rattle.ns_word.specs.Prelude.{word_acquired, word_released, word_released_returning, word_returned, word_taken}
 use Rattle.ns_word.proofs.Groups.{Homed, Known}
 use Rattle.ns_word.proofs.Scans.{times_scan, times_seats, some_queued, writer_eligible, none_eligible, woken_none, woken_some}
 use Rattle.ns_model.proofs.Tallies.{one_most}
@@ -172,7 +172,8 @@ module _ {C : Type 0} {N : ℕ} (holds : C → List ℕ → Bool) (front : List 
       }
 
   -- an acquire
-  pub acquires : (mode : Mode) (arrival : Arrival) (word : Word) (now : List ℕ) (lock : List (Waiter C)) (flags : ℕ → ℕ) → NoneIs who front → ((seat : ℕ) → called walk' owed' seat ≡ called walk owed seat) → is_queuing walk' ≡ is_queuing walk → ((flag n : ℕ) → is_woken arrival ≡ false → is_on_way walk flag n ≡ true → is_on_way walk' flag n ≡ true) →
+  pub acquires : (mode : Mode) (arrival : Arrival) (word : Word) (now : List ℕ) (lock : List (Waiter C)) (flags : ℕ → ℕ) → NoneIs who front → ((seat : ℕ) → called walk' owed' seat ≡ called walk owed seat) →
+      is_queuing walk' ≡ is_queuing walk → ((flag n : ℕ) → is_woken arrival ≡ false → is_on_way walk flag n ≡ true → is_on_way walk' flag n ≡ true) →
       Known holds word now lock flags olds → Known holds (word_acquired mode arrival word) now lock flags news
   acquires Write arrival word now lock flags apart c q o p =
       let same = same_queuers q in
@@ -192,7 +193,8 @@ module _ {C : Type 0} {N : ℕ} (holds : C → List ℕ → Bool) (front : List 
       }
 
   -- the queues are taken to queue
-  pub takes : (mode : Mode) (arrival : Arrival) (word : Word) (now : List ℕ) (lock : List (Waiter C)) (flags : ℕ → ℕ) → NoneIs who front → ((seat : ℕ) → called walk' owed' seat ≡ called walk owed seat) → may_acquire mode arrival word ≡ false → word.spin ≡ false → Homed word lock olds → (list_any is_long lock ≡ true → has_eligible (λ c. holds c now) lock ≡ true) →
+  pub takes : (mode : Mode) (arrival : Arrival) (word : Word) (now : List ℕ) (lock : List (Waiter C)) (flags : ℕ → ℕ) → NoneIs who front → ((seat : ℕ) → called walk' owed' seat ≡ called walk owed seat) →
+      may_acquire mode arrival word ≡ false → word.spin ≡ false → Homed word lock olds → (list_any is_long lock ≡ true → has_eligible (λ c. holds c now) lock ≡ true) →
       ((flag n : ℕ) → is_woken arrival ≡ false → is_on_way walk flag n ≡ true → is_on_way walk' flag n ≡ true) →
       Known holds word now lock flags olds → Known holds (word_taken (ToQueue mode arrival) word) now lock flags news
   takes mode arrival word now lock flags apart c shut clear homed long_can o p = record {
@@ -374,7 +376,8 @@ module _ {C : Type 0} {N : ℕ} (holds : C → List ℕ → Bool) (front : List 
       }
 
   -- a seat sees its flag cleared
-  pub sees_wake : (word : Word) (now : List ℕ) (lists : Lists C) (flags : ℕ → ℕ) → NoneIs who front → ((seat : ℕ) → called walk' owed' seat ≡ called walk owed seat) → is_queuing walk' ≡ is_queuing walk → flags who ≢ 1 → (is_on_way walk (flags who) 0 ≡ true → is_on_way walk' (flags who) 0 ≡ true) → WaitersPlaced lists flags olds →
+  pub sees_wake : (word : Word) (now : List ℕ) (lists : Lists C) (flags : ℕ → ℕ) → NoneIs who front → ((seat : ℕ) → called walk' owed' seat ≡ called walk owed seat) → is_queuing walk' ≡ is_queuing walk → flags who ≢ 1 →
+      (is_on_way walk (flags who) 0 ≡ true → is_on_way walk' (flags who) 0 ≡ true) → WaitersPlaced lists flags olds →
       Known holds word now lists.lock flags olds → Known holds word now lists.lock flags news
   sees_wake word now lists flags apart calls q clear o placed p =
       let same = same_queuers q in

@@ -1,13 +1,12 @@
 -- Where a decision leads: the place goes with the section in hand, and tells the same as the place before.
 use Rattle.std.proofs.Common.{◌≡◌, ℕ, ◌-◌, ◌<◌, Bool, true, false, not, cond, ltb, List, length, Option, None, Some, IsSome, refl, ap, sym, ◌∙◌, subst, arith}
 use Rattle.std.proofs.lemmas.Bool.{ltb-true}
-use Rattle.ns_word.specs.Prelude.{AcquireExchange, AcquireLoad, Aim, AimFits, Answered, Arrival, AsFresh, AwaitWakeInWait, Busy, CameBack, CanLeave, CanWait, Cause, ComesBack, Done, Ended, ForLock, ForWait, HasMode, Held, Idle, InAcquire, InCells, InLeaving, InQueuing}
-use Rattle.ns_word.specs.Prelude.{InRelease, InShow, InSignal, InTry, InWait, IsExpected, IsForCondition, IsInRange, IsLeft, IsSettled, IsSettledBy, IsUnmet, IsWokenBy, Judging, LeaveLoad, Load, LoadToScan, LookIn, LookOut, MayShow, Met, Mode, On, OnCondition, OnEntry}
-use Rattle.ns_word.specs.Prelude.{OnReturn, OnVariables, Opening, Outcome, OutcomeFits, PlaceFits, QueueToWait, QuietCells, QuietKeeps, QuietLast, QuietWriter, Read, Reader, ReleaseExchange, ReleaseLoad, Releasing, ScanAndRelease, ScanCells, ShowLoad, SignalLoad}
-use Rattle.ns_word.specs.Prelude.{Subject, Take, TakeToLeave, TakeToQueue, TakeToScan, TakeToShow, TakeToWake, TestCells, TestLast, Tests, ToRelease, ToTell, Truths, TryAcquire, Visit, Wait, Waiter, Waking, Walk, Woken, Word, Write, Writer, acquire_by, acquired_for}
-use Rattle.ns_word.specs.Prelude.{after_judging, armed_place, back_with, calls_from_lock, cause_by, expected_for, has_armed, has_eligible, has_queues, held_after, is_limited, is_queuing, leave_by, load_place, may_acquire, meets_at, mode_for, mode_released, needs_scan}
-use Rattle.ns_word.specs.Prelude.{newly_held, opening_by, pay_releasing, pay_waiting, pay_woken, pays, phase_before, phase_by, phase_kept, queue_by, quiet_place, release_by, rest_or_look, row_in, scan_place, show_by, signal_by, test_place, unmet_by, waits_in}
-use Rattle.ns_word.specs.Prelude.{walk_after, was_woken}
+use Rattle.ns_word.specs.Prelude.{AcquireExchange, AcquireLoad, Aim, AimFits, Answered, Arrival, AsFresh, AwaitWakeInWait, Busy, CameBack, CanLeave, CanWait, Cause, ComesBack, Done, Ended, ForLock, ForWait, HasMode, Held, Idle, InAcquire, InCells, InLeaving, InQueuing, InRelease, InShow, InSignal}
+use Rattle.ns_word.specs.Prelude.{InTry, InWait, IsExpected, IsForCondition, IsInRange, IsLeft, IsSettled, IsSettledBy, IsUnmet, IsWokenBy, Judging, LeaveLoad, Load, LoadToScan, LookIn, LookOut, MayShow, Met, Mode, On, OnCondition, OnEntry, OnReturn, OnVariables, Opening, Outcome, OutcomeFits}
+use Rattle.ns_word.specs.Prelude.{PlaceFits, QueueToWait, QuietCells, QuietKeeps, QuietLast, QuietWriter, Read, Reader, ReleaseExchange, ReleaseLoad, Releasing, ScanAndRelease, ScanCells, ShowLoad, SignalLoad, Subject, Take, TakeToLeave, TakeToQueue, TakeToScan, TakeToShow, TakeToWake, TestCells}
+use Rattle.ns_word.specs.Prelude.{TestLast, Tests, ToRelease, ToTell, Truths, TryAcquire, Visit, Wait, Waiter, Waking, Walk, Woken, Word, Write, Writer, acquire_by, acquired_for, after_judging, armed_place, back_with, calls_from_lock, cause_by, expected_for, has_armed, has_eligible, has_queues}
+use Rattle.ns_word.specs.Prelude.{held_after, is_limited, is_queuing, leave_by, load_place, may_acquire, meets_at, mode_for, mode_released, needs_scan, newly_held, opening_by, pay_releasing, pay_waiting, pay_woken, pays, phase_before, phase_by, phase_kept, queue_by, quiet_place, release_by}
+use Rattle.ns_word.specs.Prelude.{rest_or_look, row_in, scan_place, show_by, signal_by, test_place, unmet_by, waits_in, walk_after, was_woken}
 use Rattle.ns_word.proofs.Scans.{quiet_eligible}
 use Rattle.ns_word.proofs.Knows.{is_loud}
 use Rattle.ns_word.proofs.Keeps.{Same, Way, Stays}
@@ -44,11 +43,6 @@ module _ {C : Type 0} {N : ℕ} (truths : Truths C) where
   -- where nothing is in hand, nothing is open
   pub none_settled : (held : Option (Held C N)) → held ≡ None → IsSettled truths held
   none_settled held e = subst (λ x. IsSettled truths x) (sym e) tt
-
-  -- and so where a section may be left
-  pub leave_settled : (releasing : Releasing) (held : Option (Held C N)) → CanLeave truths releasing held → IsSettled truths held
-  leave_settled releasing None p = absurd p
-  leave_settled releasing (Some held) p = p.2
 
   pub try_leads : (mode : Mode) (word : Word) (held : Option (Held C N)) (b : Bool) → may_acquire mode AsFresh word ≡ b → held ≡ None →
       Leads None (walk_after (cond b (On (InTry mode (TryAcquire word))) (Done Busy))) held

@@ -3,8 +3,8 @@ use Rattle.std.proofs.Common.{◌≡◌, ℕ, ◌≤◌, ◌<◌, inl, inr, Bool
 use Rattle.std.specs.List.{sum_by}
 use Rattle.std.proofs.lemmas.Bool.{ltb-true, ltb-false}
 use Rattle.std.proofs.lemmas.List.Sums.{get_or-le-sum_by}
-use Rattle.ns_word.specs.Prelude.{AreApart, Cause, Cv, EachFits, Event, InLeaving, InWait, IsExpected, IsFoundLeaving, IsLawful, Leave, Left, Lists, LockState, Mode, OnCondition, OnVariables, Phase, PlaceFits, SeatView, SectionFits, Step, Truths, VariableWaiterFits}
-use Rattle.ns_word.specs.Prelude.{Variables, VariablesTell, ViewFits, Wait, Waiting, Word, expected_for, home_of, phase_by, standing_after, stands_at, times, times_in, waiters_of, waits_in, walk_at, without, without_in}
+use Rattle.ns_word.specs.Prelude.{AreApart, Cause, Cv, EachFits, Event, InLeaving, InWait, IsExpected, IsFoundLeaving, IsLawful, Leave, Left, Lists, LockState, Mode, OnCondition, OnVariables, Phase, PlaceFits, SeatView, SectionFits, Step, Truths, VariableWaiterFits, Variables, VariablesTell}
+use Rattle.ns_word.specs.Prelude.{ViewFits, Wait, Waiting, Word, expected_for, home_of, phase_by, standing_after, stands_at, times, times_in, waiters_of, waits_in, walk_at, without, without_in}
 use Rattle.ns_word.proofs.CountsIn.{gone_from, left_at, some_list}
 use Rattle.ns_word.proofs.Keeps.{stance_mode, stance_variables}
 use Rattle.ns_word.proofs.Scans.{times_without}
@@ -76,7 +76,8 @@ module _ {C : Type 0} {N : ℕ} (truths : Truths C) (old new : LockState C N) (v
   is_gone is = ap (λ l. times view.seat l) (lists_left is) ∙ omega (arith, times_without view.seat old.lists.lock, gone_from view.seat old.lists.cvs)
 
 -- who stays behind one that leaves
-pub stays_behind_leaver : {C : Type 0} {N : ℕ} (truths : Truths C) (seats : ℕ) (h : List (Event C N)) (old new : LockState C N) (view : SeatView C N) (commits : List (Event C N)) (wait : Wait C) (cause : Cause) (last : Word) (j : ℕ) → (step : Step truths old view (Left true) new commits) → step.walk ≡ InWait wait (InLeaving cause (Leave last)) → IsLawful truths seats h old → j < 4 →
+pub stays_behind_leaver : {C : Type 0} {N : ℕ} (truths : Truths C) (seats : ℕ) (h : List (Event C N)) (old new : LockState C N) (view : SeatView C N) (commits : List (Event C N)) (wait : Wait C) (cause : Cause) (last : Word) (j : ℕ) →
+    (step : Step truths old view (Left true) new commits) → step.walk ≡ InWait wait (InLeaving cause (Leave last)) → IsLawful truths seats h old → j < 4 →
     (new.lists.lock ≡ without_in view.seat old.lists.lock) × (waiters_of new.lists (Cv j) ≡ without_in view.seat (waiters_of old.lists (Cv j)))
 stays_behind_leaver truths seats h old new view commits wait cause last j step walks lawful low =
     let out = lists_left truths old new view commits wait cause last true step walks refl in

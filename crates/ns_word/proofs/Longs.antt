@@ -1,12 +1,10 @@
 -- While one waits long, only those acquire who were woken.
 use Rattle.std.proofs.Common.{◌≡◌, ℕ, Bool, true, false, not, eqb, inl, inr, refl, List, Option, None, Some, ap, sym, subst, ◌∙◌}
 use Rattle.std.proofs.lemmas.Bool.{and_parts, both_ways, or_cases, not-true}
-use Rattle.ns_word.specs.Prelude.{Acquire, AcquireExchange, AcquireLoad, Act, Arm, ArmFlag, ArmToWait, Arrival, AsFresh, AwaitWake, AwaitWakeInWait, AwaitWakeToLeave, Cause, Cell, CellPlace, Effect, Event, Flag, Found, GetLoad, Held, InAcquire, InCells, InLeaving}
-use Rattle.ns_word.specs.Prelude.{InQueuing, InRelease, InShow, InSignal, InTry, InWait, JudgeMet, JudgeQuiet, Leave, LeaveLoad, LeavePlace, Left, Load, LoadCell, LoadFlag, LoadToScan, LoadWord, LockState, Look, LookIn, LookOut, Looked, Made, Mode, OnCondition}
-use Rattle.ns_word.specs.Prelude.{OnVariables, Paid, Part, Pay, PayInWait, PayTheWoken, PayWake, Queue, QueuePlace, QueueToWait, Quiet, QuietCells, QuietLast, Read, Release, ReleaseExchange, ReleaseLoad, ReleasePlace, ReleaseReturning, Releasing, ReturnQueues}
-use Rattle.ns_word.specs.Prelude.{ReturnShown, Saw, ScanAndRelease, ScanCells, Scanned, SeatView, SetLoad, SetStore, ShowLoad, ShowPlace, SignalLoad, SignalPlace, Step, StoreCell, Subject, Take, TakeQueues, TakeToLeave, TakeToQueue, TakeToScan, TakeToShow, TakeToWake}
-use Rattle.ns_word.specs.Prelude.{TestCells, TestLast, Tested, Truths, TryAcquire, TryLoad, Wait, WaitPlace, WaitReturning, WakeAndReturn, Waking, Walk, Woke, Word, Write, held_after, is_woken, judge_of, may_acquire, mode_for, newly_held, part_of, want_in_cells}
-use Rattle.ns_word.specs.Prelude.{want_leaving, want_of, want_queuing, want_releasing, want_showing, want_signaling, want_waiting, was_woken}
+use Rattle.ns_word.specs.Prelude.{Acquire, AcquireExchange, AcquireLoad, Act, Arm, ArmFlag, Arrival, AsFresh, AwaitWake, Cause, Cell, CellPlace, Effect, Event, Flag, Found, GetLoad, Held, InAcquire, InCells, InLeaving, InQueuing, InRelease, InShow, InSignal, InTry, InWait, JudgeMet, JudgeQuiet}
+use Rattle.ns_word.specs.Prelude.{LeaveLoad, LeavePlace, Left, LoadCell, LoadFlag, LoadWord, LockState, Look, LookIn, Looked, Made, Mode, OnCondition, OnVariables, Paid, Part, PayWake, Queue, QueuePlace, Quiet, Read, Release, ReleaseLoad, ReleasePlace, ReleaseReturning, Releasing, ReturnQueues}
+use Rattle.ns_word.specs.Prelude.{Saw, Scanned, SeatView, ShowLoad, ShowPlace, SignalLoad, SignalPlace, Step, StoreCell, Subject, TakeQueues, TakeToQueue, TestLast, Tested, Truths, TryAcquire, TryLoad, Wait, WaitPlace, WaitReturning, Waking, Walk, Woke, Word, Write, held_after, is_woken, judge_of}
+use Rattle.ns_word.specs.Prelude.{may_acquire, mode_for, newly_held, part_of, want_in_cells, want_leaving, want_of, want_queuing, want_releasing, want_showing, want_signaling, want_waiting, was_woken}
 
 -- such a word is acquired by one that was woken alone
 long_shuts : (mode : Mode) (arrival : Arrival) (word : Word) → word.long ≡ true → may_acquire mode arrival word ≡ true → is_woken arrival ≡ true
@@ -77,52 +75,33 @@ module _ (C : Type 0) where
 
   release_gains_not : (releasing : Releasing) (place : ReleasePlace) (word : Word) → Gains (want_releasing {C = C} releasing place) word → ⊥
   release_gains_not releasing ReleaseLoad word g = g
-  release_gains_not releasing (ReleaseExchange last) word g = g
-  release_gains_not releasing (TakeToScan last) word g = g
-  release_gains_not releasing (ScanCells last i) word g = g
-  release_gains_not releasing (ScanAndRelease last) word g = g
-  release_gains_not releasing Pay word g = g
+  release_gains_not releasing other word g = g
 
   cell_gains_not : (place : CellPlace) (word : Word) → Gains (want_in_cells {C = C} place) word → ⊥
   cell_gains_not (GetLoad i) word g = g
-  cell_gains_not (SetLoad i v) word g = g
-  cell_gains_not (SetStore i v) word g = g
-  cell_gains_not (QuietCells judging i) word g = g
-  cell_gains_not (QuietLast judging i) word g = g
+  cell_gains_not other word g = g
 
   queue_gains_not : (wait : Wait C) (again : Bool) (place : QueuePlace) (word : Word) → Gains (want_queuing wait again place) word → ⊥
   queue_gains_not wait again LookIn word g = g
-  queue_gains_not wait again Load word g = g
-  queue_gains_not wait again (Take last) word g = g
-  queue_gains_not wait again (ArmToWait last) word g = g
-  queue_gains_not wait again (LoadToScan last i) word g = g
-  queue_gains_not wait again (QueueToWait last) word g = g
+  queue_gains_not wait again other word g = g
 
   leave_gains_not : (wait : Wait C) (place : LeavePlace) (word : Word) → Gains (want_leaving wait place) word → ⊥
   leave_gains_not wait LeaveLoad word g = g
-  leave_gains_not wait (TakeToLeave last) word g = g
-  leave_gains_not wait (Leave last) word g = g
-  leave_gains_not wait AwaitWakeToLeave word g = g
+  leave_gains_not wait other word g = g
 
   wait_gains_not : (wait : Wait C) (place : WaitPlace) (word : Word) → Gains (want_waiting wait place) word → ⊥
-  wait_gains_not wait (TestCells visit i) word g = g
   wait_gains_not wait (TestLast visit i) word g = judge_gains_not wait.on i word g
   wait_gains_not wait (InQueuing again place) word g = queue_gains_not wait again place word g
-  wait_gains_not wait PayInWait word g = g
-  wait_gains_not wait AwaitWakeInWait word g = g
-  wait_gains_not wait LookOut word g = g
   wait_gains_not wait (InLeaving cause place) word g = leave_gains_not wait place word g
+  wait_gains_not wait other word g = g
 
   signal_gains_not : (waking : Waking) (k : ℕ) (place : SignalPlace) (word : Word) → Gains (want_signaling {C = C} waking k place) word → ⊥
   signal_gains_not waking k SignalLoad word g = g
-  signal_gains_not waking k (TakeToWake last) word g = g
-  signal_gains_not waking k (WakeAndReturn last) word g = g
-  signal_gains_not waking k PayTheWoken word g = g
+  signal_gains_not waking k other word g = g
 
   show_gains_not : (place : ShowPlace) (word : Word) → Gains (want_showing {C = C} place) word → ⊥
   show_gains_not ShowLoad word g = g
-  show_gains_not (TakeToShow last) word g = g
-  show_gains_not (ReturnShown last) word g = g
+  show_gains_not other word g = g
 
   passes : (walk : Walk C) (word : Word) → word.long ≡ true → Gains (want_of walk) word → was_woken (Some walk) ≡ true
   passes (InTry mode TryLoad) word long g = absurd g
@@ -155,18 +134,21 @@ module _ (C : Type 0) where
   reads_past (InSignal waking k place) word waits g reads = absurd (signal_gains_not waking k place word g)
   reads_past (InShow place) word waits g reads = absurd (show_gains_not place word g)
 
-pub woken_pass : {C : Type 0} {N : ℕ} (truths : Truths C) (old : LockState C N) (view : SeatView C N) (found : Found) (new : LockState C N) (commits : List (Event C N)) (held : Held C N) → (step : Step truths old view found new commits) → old.word.long ≡ true → view.held ≡ None → step.held ≡ Some held → was_woken (Some step.walk) ≡ true
+pub woken_pass : {C : Type 0} {N : ℕ} (truths : Truths C) (old : LockState C N) (view : SeatView C N) (found : Found) (new : LockState C N) (commits : List (Event C N)) (held : Held C N) →
+    (step : Step truths old view found new commits) → old.word.long ≡ true → view.held ≡ None → step.held ≡ Some held → was_woken (Some step.walk) ≡ true
 woken_pass truths old view found new commits held step long none some =
     passes _ step.walk old.word long (gained truths view.seat (want_of step.walk) (part_of old view.held view.owed) found (part_of new step.held step.owed) commits held step.effect none some)
 
 -- what an acquire brings to hand is in the mode that it acquires in
-reads_by : {C : Type 0} {N : ℕ} (truths : Truths C) (seat : ℕ) (act : Act C) (old : Part C N) (found : Found) (new : Part C N) (commits : List (Event C N)) (held : Held C N) → Effect truths seat act old found new commits → Gains act old.word → old.held ≡ None → new.held ≡ Some held → held.mode ≡ Read → Reads act
+reads_by : {C : Type 0} {N : ℕ} (truths : Truths C) (seat : ℕ) (act : Act C) (old : Part C N) (found : Found) (new : Part C N) (commits : List (Event C N)) (held : Held C N) →
+    Effect truths seat act old found new commits → Gains act old.word → old.held ≡ None → new.held ≡ Some held → held.mode ≡ Read → Reads act
 reads_by truths seat (Acquire aim arrival last) old Made new commits held e gains none some reads = let same : newly_held aim old.row ≡ held = let is = sym (ap (λ p. p.held) e.3) ∙ some in cc in ap (λ h. h.mode) same ∙ reads
 reads_by truths seat (Acquire aim arrival last) old (Saw word) new commits held e gains none some reads = absurd (none_yet old.held new.held held (ap (λ p. p.held) e.2) none some)
 reads_by truths seat (Acquire aim arrival last) old found new commits held e gains none some reads = absurd e
 reads_by truths seat act old found new commits held e gains none some reads = absurd gains
 
-pub readers_stand_behind : {C : Type 0} {N : ℕ} (truths : Truths C) (old : LockState C N) (view : SeatView C N) (found : Found) (new : LockState C N) (commits : List (Event C N)) (held : Held C N) → (step : Step truths old view found new commits) → old.word.writer_waits ≡ true → view.held ≡ None → step.held ≡ Some held → held.mode ≡ Read → was_woken (Some step.walk) ≡ true
+pub readers_stand_behind : {C : Type 0} {N : ℕ} (truths : Truths C) (old : LockState C N) (view : SeatView C N) (found : Found) (new : LockState C N) (commits : List (Event C N)) (held : Held C N) →
+    (step : Step truths old view found new commits) → old.word.writer_waits ≡ true → view.held ≡ None → step.held ≡ Some held → held.mode ≡ Read → was_woken (Some step.walk) ≡ true
 readers_stand_behind truths old view found new commits held step waits none some reads =
     let before = part_of old view.held view.owed in
     let after = part_of new step.held step.owed in

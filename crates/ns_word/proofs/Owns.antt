@@ -2,8 +2,8 @@
 use Rattle.std.proofs.Common.{◌≡◌, ◌≢◌, ℕ, ◌+◌, Bool, true, false, not, ◌&&◌, ◌||◌, cond, eqb, suc, inl, inr, List, [], ◌∷◌, ◌++◌, Option, None, Some, refl, ap, sym, ◌∙◌, subst, arith, eq-eqb}
 use Rattle.std.specs.List.{filter, list_any}
 use Rattle.std.proofs.lemmas.Bool.{cases_eq, eqb-true, or_right}
-use Rattle.ns_word.specs.Prelude.{AwaitWake, Every, Held, InAcquire, InWait, Lists, Mode, NoneIs, Owed, Phase, SeatView, VariableWaiterFits, Waiter, WaiterFits, WaitersOwn, WaitersPlaced, Walk, counts_in, has_eligible, is_eligible, is_long, is_of, is_unwoken, left_of}
-use Rattle.ns_word.specs.Prelude.{lock_stance, one_if, owed_to, place_awaits, queued, reads, times, times_in, waits_in, walk_at, without_in, writes}
+use Rattle.ns_word.specs.Prelude.{AwaitWake, Every, Held, InAcquire, InWait, Lists, Mode, NoneIs, Owed, Phase, SeatView, VariableWaiterFits, Waiter, WaiterFits, WaitersOwn, WaitersPlaced, Walk, counts_in, has_eligible, is_eligible, is_long, is_of, is_unwoken, left_of, lock_stance, one_if, owed_to}
+use Rattle.ns_word.specs.Prelude.{place_awaits, queued, reads, times, times_in, waits_in, walk_at, without_in, writes}
 use Rattle.ns_queue.proofs.Seats.{times_in-cons}
 use Rattle.ns_word.proofs.CountsIn.{counts_none}
 use Rattle.ns_word.proofs.Views.{view_of, walk_here, walk_there}

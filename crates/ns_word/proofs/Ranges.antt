@@ -1,8 +1,8 @@
 -- Which seats the law speaks of, and how many: those that wait or are owed a wake are seats, each stands once, and not all of 64 read while one asks to.
 use Rattle.std.proofs.Common.{◌≡◌, ℕ, ◌+◌, ◌<◌, ◌≤◌, true, false, cond, eqb, inl, inr, List, [], ◌∷◌, ◌++◌, length, None, refl, ap, sym, ◌∙◌, subst, arith}
 use Rattle.std.proofs.lemmas.Bool.{ne_eqb, cases_eq}
-use Rattle.ns_word.specs.Prelude.{AreApart, Cv, EachFits, Event, IsLawful, IsOrderly, Lists, LockState, NoneIs, Read, SeatView, Standing, Truths, Waiter, WaitersPlaced, awaits, beside, counts_in, is_reading, is_unwoken, one_if, owed_to, readers, standing_after, times}
-use Rattle.ns_word.specs.Prelude.{times_among, times_in, waiters_of, walk_at}
+use Rattle.ns_word.specs.Prelude.{AreApart, Cv, EachFits, Event, IsLawful, IsOrderly, Lists, LockState, NoneIs, Read, SeatView, Standing, Truths, Waiter, WaitersPlaced, awaits, beside, counts_in, is_reading, is_unwoken, one_if, owed_to, readers, standing_after, times, times_among, times_in}
+use Rattle.ns_word.specs.Prelude.{waiters_of, walk_at}
 use Rattle.ns_queue.proofs.Seats.{times_in-cons, few, room_for}
 use Rattle.ns_model.proofs.Tallies.{one_most}
 use Rattle.ns_word.proofs.CountsIn.{counts_none, counts_there}

@@ -2,9 +2,9 @@
 use Rattle.std.proofs.Common.{◌≡◌, ◌≢◌, ℕ, ◌+◌, ◌-◌, ◌<◌, ◌≤◌, Bool, true, false, cond, inl, inr, List, [], ◌∷◌, ◌++◌, length, Option, None, Some, slice_set, refl, ap, sym, ◌∙◌, subst, arith, eq-eqb}
 use Rattle.std.proofs.lemmas.List.{length-set}
 use Rattle.std.proofs.lemmas.Bool.{eqb-true, ne_eqb, both_ways}
-use Rattle.ns_word.specs.Prelude.{Any, CameBack, Cause, Ended, EntryFits, Event, Exit, ExitFits, Expired, Held, HeldFits, IsBySeats, IsExpected, IsLegal, IsLegalEvent, IsSettledBy, Locked, Met, Mode, ModeFits, Notified, OnCondition, OnVariables, Only, Opening, Owed}
-use Rattle.ns_word.specs.Prelude.{OwesAs, Phase, PlaceFits, Read, SeatView, SectionFits, Standing, Truths, Variables, Waiting, Walk, Woken, Word, Write, answer_of, entry_of, first_standing, is_met, is_reading, is_writing, left_phase, phase_after, phase_before, phase_by}
-use Rattle.ns_word.specs.Prelude.{readers, section_of, standing_after, standing_next, who_of, writers}
+use Rattle.ns_word.specs.Prelude.{Any, CameBack, Cause, Ended, EntryFits, Event, Exit, ExitFits, Expired, Held, HeldFits, IsBySeats, IsExpected, IsLegal, IsLegalEvent, IsSettledBy, Locked, Met, Mode, ModeFits, Notified, OnCondition, OnVariables, Only, Opening, Owed, OwesAs, Phase, PlaceFits, Read}
+use Rattle.ns_word.specs.Prelude.{SeatView, SectionFits, Standing, Truths, Variables, Waiting, Walk, Woken, Word, Write, answer_of, entry_of, first_standing, is_met, is_reading, is_writing, left_phase, phase_after, phase_before, phase_by, readers, section_of, standing_after, standing_next, who_of}
+use Rattle.ns_word.specs.Prelude.{writers}
 use Rattle.ns_model.specs.declared.phase.Phase.TheVariants.{Left}
 use Rattle.ns_model.proofs.Histories.{legal_append, standing_from-append}
 use Rattle.ns_word.proofs.Leaving.{left_event, left_is_legal, left_next_here, left_next_there, left_row, left_who}
@@ -279,7 +279,8 @@ module _ {C : Type 0} {N : ℕ} (truths : Truths C) (seats : ℕ) (h : List (Eve
   keeps_row Write before row e = tt
   keeps_row Read before row e = e refl
 
-  commits : (who : ℕ) (row : List ℕ) (held : Held C N) (exit : Exit C) → who < 64 → IsSettledBy truths.holds held.before held.entry → ExitFits truths.holds held.row exit → HeldFits (standing_after h) row who held → IsLegal truths.holds h → IsLegal truths.holds (h ++ section_of truths.holds who held exit ∷ [])
+  commits : (who : ℕ) (row : List ℕ) (held : Held C N) (exit : Exit C) → who < 64 → IsSettledBy truths.holds held.before held.entry → ExitFits truths.holds held.row exit → HeldFits (standing_after h) row who held →
+      IsLegal truths.holds h → IsLegal truths.holds (h ++ section_of truths.holds who held exit ∷ [])
   commits who row held exit few settled leaves fits legal =
       legal_append truths.holds (first_standing N) h (section_of truths.holds who held exit ∷ []) legal (
         (

@@ -3,8 +3,7 @@ use Rattle.std.proofs.Common.{◌≡◌, ◌≢◌, ℕ, ◌+◌, ◌<◌, ◌�
 use Rattle.std.specs.List.{filter, list_any}
 use Rattle.std.proofs.lemmas.Bool.{ne_eqb, or_parts, both_ways, cases_Bool, cases_eq, false_from_ne_true, le-ltb, lt-ltb, ltb-true}
 use Rattle.std.proofs.lemmas.List.{length-map}
-use Rattle.ns_word.specs.Prelude.{Every, Mode, Owed, Tells, Waiter, bits_of, called_by, called_of, has_condition, has_eligible, has_some, is_eligible, is_from_lock, is_long, is_satisfied, left_of, one_if, queued, reads, seats_of, times_among, times_in, value_of}
-use Rattle.ns_word.specs.Prelude.{wakes_of, without_in, woken_of, writes}
+use Rattle.ns_word.specs.Prelude.{Every, Mode, Owed, Tells, Waiter, called_by, called_of, has_condition, has_eligible, has_some, is_eligible, is_from_lock, is_satisfied, left_of, one_if, queued, reads, seats_of, times_among, times_in, value_of, wakes_of, without_in, woken_of, writes}
 use Rattle.ns_queue.proofs.Seats.{times_in-cons, times_in-append}
 
 -- what a wake from the lock list tells is 0, or of 6 to 9
@@ -15,19 +14,7 @@ value_tells (Some k) = elim (cases_Bool (ltb k 4)) [
   | inr high ↦ inl (ap (λ b. cond b (6 + k) 0) high)
 ]
 
--- whether a list has somebody, by its length
-pub some_length : {A : Type 0} (xs : List A) (b : Bool) → (b ≡ true → 0 < length xs) → (0 < length xs → b ≡ true) → b ≡ has_some xs
-some_length [] true is has = absurd (let less = is refl in omega (arith, less))
-some_length [] false is has = refl
-some_length (x ∷ xs) b is has = has (omega arith)
-
 module _ {C : Type 0} where
-  -- what a list's bits are, by what was told of it
-  pub bits_told : (lock : List (Waiter C)) (waiting conditional writer_waits long : Bool) → (waiting ≡ true → 0 < length lock) → (0 < length lock → waiting ≡ true) →
-      conditional ≡ list_any has_condition lock → writer_waits ≡ list_any (λ w. writes w && not (has_condition w)) lock → long ≡ list_any is_long lock →
-      record { waiting = waiting; conditional = conditional; writer_waits = writer_waits; long = long } ≡ bits_of lock
-  bits_told lock waiting conditional writer_waits long is has b c d = λ i. record { waiting = some_length lock waiting is has i; conditional = b i; writer_waits = c i; long = d i }
-
   pub times_seats : (seat : ℕ) (ws : List (Waiter C)) → times_among seat (called_of ws) ≡ times_in seat ws
   times_seats seat [] = refl
   times_seats seat (w ∷ ws) = let rest = times_seats seat ws in omega (arith, rest, times_in-cons seat w ws)

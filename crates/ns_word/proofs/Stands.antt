@@ -2,9 +2,9 @@
 use Rattle.std.specs.Prelude.{min}
 use Rattle.std.proofs.Common.{◌≡◌, ℕ, ◌+◌, ◌<◌, inl, inr, Bool, true, false, cond, ltb, List, [], ◌∷◌, ◌++◌, length, Option, None, Some, refl, ap, sym, ◌∙◌, subst, arith}
 use Rattle.std.proofs.lemmas.Bool.{cases_Bool, ltb-true, ltb-false}
-use Rattle.ns_word.specs.Prelude.{Aim, AreCalled, Arrival, AsFresh, AsWoken, CanWait, Cv, EachFits, Effect, Event, Found, Held, InAcquire, InQueuing, InSignal, InWait, IsInRange, IsLawful, IsUnmet, Lists, LockState, Made, Mode, OnCondition, OnVariables, PlaceFits}
-use Rattle.ns_word.specs.Prelude.{Queue, QueueSelf, QueueToWait, QueuesFor, Scanned, SeatView, Step, Subject, Truths, Wait, Waiter, WaitsFor, WakeAndReturn, WakeWaiters, Waking, Walk, Woke, Word, changed, cvs_without, has, is_held, is_woken, left_of, meets_at, mode_for}
-use Rattle.ns_word.specs.Prelude.{moved_to, outside, part_of, queued, standing_after, taken_by, taken_set, tries_of, waiter, waiters_of, waits_at, wakes_of, want_of, with_lock}
+use Rattle.ns_word.specs.Prelude.{Aim, AreCalled, Arrival, AsFresh, AsWoken, CanWait, Cv, EachFits, Effect, Event, Found, Held, InAcquire, InQueuing, InSignal, InWait, IsInRange, IsLawful, IsUnmet, Lists, LockState, Made, Mode, OnCondition, OnVariables, PlaceFits, Queue, QueueSelf, QueueToWait}
+use Rattle.ns_word.specs.Prelude.{QueuesFor, Scanned, SeatView, Step, Subject, Truths, Wait, Waiter, WaitsFor, WakeAndReturn, WakeWaiters, Waking, Walk, Woke, Word, changed, cvs_without, has, is_held, is_woken, left_of, meets_at, mode_for, moved_to, outside, part_of, queued, standing_after}
+use Rattle.ns_word.specs.Prelude.{taken_by, taken_set, tries_of, waiter, waiters_of, waits_at, wakes_of, want_of, with_lock}
 use Rattle.ns_word.proofs.Enters.{entered_at}
 use Rattle.ns_word.proofs.CountsIn.{taken_at}
 use Rattle.ns_word.proofs.Views.{each_parts}
@@ -39,7 +39,8 @@ module _ (C : Type 0) (N : ℕ) (truths : Truths C) (seat : ℕ) where
   are_called waking k false lists = (refl, refl)
 
 -- the effect of a step whose walk is known
-pub effect_at : {C : Type 0} {N : ℕ} (truths : Truths C) (old new : LockState C N) (view : SeatView C N) (found : Found) (commits : List (Event C N)) (walk : Walk C) → (step : Step truths old view found new commits) → step.walk ≡ walk → Effect truths view.seat (want_of walk) (part_of old view.held view.owed) found (part_of new step.held step.owed) commits
+pub effect_at : {C : Type 0} {N : ℕ} (truths : Truths C) (old new : LockState C N) (view : SeatView C N) (found : Found) (commits : List (Event C N)) (walk : Walk C) → (step : Step truths old view found new commits) →
+    step.walk ≡ walk → Effect truths view.seat (want_of walk) (part_of old view.held view.owed) found (part_of new step.held step.owed) commits
 effect_at truths old new view found commits walk step e = subst (λ w. Effect truths view.seat (want_of w) (part_of old view.held view.owed) found (part_of new step.held step.owed) commits) e step.effect
 
 pub queues_in_place : {C : Type 0} {N : ℕ} (truths : Truths C) (old new : LockState C N) (view : SeatView C N) (commits : List (Event C N)) (aim : Aim C) (arrival : Arrival) (last : Word) → (step : Step truths old view Made new commits) → step.walk ≡ InAcquire aim (Queue arrival last) →
@@ -67,7 +68,8 @@ waits_in_place {C} {N} truths seats h old new view commits wait again last owes 
     can_range wait again (Some held) p = in_range wait.on held.row p.unmet
 
 -- who stays in a variable's list behind a wake
-pub stays_behind_wake : {C : Type 0} {N : ℕ} (truths : Truths C) (seats : ℕ) (h : List (Event C N)) (old new : LockState C N) (view : SeatView C N) (commits : List (Event C N)) (waking : Waking) (k : ℕ) (last : Word) (owes : Bool) (j : ℕ) → (step : Step truths old view (Woke owes) new commits) → step.walk ≡ InSignal waking k (WakeAndReturn last) →
+pub stays_behind_wake : {C : Type 0} {N : ℕ} (truths : Truths C) (seats : ℕ) (h : List (Event C N)) (old new : LockState C N) (view : SeatView C N) (commits : List (Event C N)) (waking : Waking) (k : ℕ) (last : Word) (owes : Bool) (j : ℕ) →
+    (step : Step truths old view (Woke owes) new commits) → step.walk ≡ InSignal waking k (WakeAndReturn last) →
     IsLawful truths seats h old → j < 4 → waiters_of new.lists (Cv j) ≡ outside (taken_set (taken_by waking (waiters_of old.lists (Cv k)))) (waiters_of old.lists (Cv j))
 stays_behind_wake {C} {N} truths seats h old new view commits waking k last owes j step walks lawful low =
     let e = effect_at truths old new view (Woke owes) commits (InSignal waking k (WakeAndReturn last)) step walks in
@@ -78,7 +80,8 @@ stays_behind_wake {C} {N} truths seats h old new view commits waking k last owes
     moved_at true taken lists = refl
     moved_at false taken lists = refl
 
-pub taken_called : {C : Type 0} {N : ℕ} (truths : Truths C) (old new : LockState C N) (view : SeatView C N) (commits : List (Event C N)) (waking : Waking) (k : ℕ) (last : Word) (owes : Bool) → (step : Step truths old view (Woke owes) new commits) → step.walk ≡ InSignal waking k (WakeAndReturn last) →
+pub taken_called : {C : Type 0} {N : ℕ} (truths : Truths C) (old new : LockState C N) (view : SeatView C N) (commits : List (Event C N)) (waking : Waking) (k : ℕ) (last : Word) (owes : Bool) →
+    (step : Step truths old view (Woke owes) new commits) → step.walk ≡ InSignal waking k (WakeAndReturn last) →
     AreCalled (is_held last) k (taken_by waking (waiters_of old.lists (Cv k))) old.lists.lock new.lists.lock step.owed
 taken_called {C} {N} truths old new view commits waking k last owes step walks =
     let e = effect_at truths old new view (Woke owes) commits (InSignal waking k (WakeAndReturn last)) step walks in

@@ -1,8 +1,8 @@
 -- What the taken are told stays so, by each kind of step.
 use Rattle.std.proofs.Common.{◌≡◌, ◌≢◌, ◌⊎◌, inl, inr, ℕ, ◌+◌, ◌<◌, ◌≤◌, Bool, true, false, not, cond, eqb, List, [], ◌∷◌, ◌++◌, Option, None, Some, refl, ap, sym, ◌∙◌, subst, arith, eq-eqb, append_assoc}
 use Rattle.std.proofs.lemmas.Bool.{cases_eq, cases_Bool, lt-ltb, ne_eqb}
-use Rattle.ns_word.specs.Prelude.{Every, Held, IsNamed, IsToldSo, Mode, NamesOn, NoneIs, OnCondition, OnVariables, Owed, Phase, SeatView, Stance, Subject, TakenTold, ToldOn, VariableWaiterFits, Variables, Waiter, WaiterNames, Waiting, WaitsAmong, WakeTells, Walk}
-use Rattle.ns_word.specs.Prelude.{called_of, flags_with, has, is_eligible, is_in, is_of, left_of, one_if, owed_in, owed_to, queued, taken_set, times_among, times_in, value_of, waits_in, wakes_of, walk_at, without_in, woken_of, woken_phase, woken_phases, writes}
+use Rattle.ns_word.specs.Prelude.{Every, Held, IsNamed, IsToldSo, Mode, NamesOn, NoneIs, OnCondition, OnVariables, Owed, Phase, SeatView, Stance, Subject, TakenTold, ToldOn, VariableWaiterFits, Variables, Waiter, WaiterNames, Waiting, WaitsAmong, WakeTells, Walk, called_of, flags_with, has}
+use Rattle.ns_word.specs.Prelude.{is_eligible, is_in, is_of, left_of, one_if, owed_in, owed_to, queued, taken_set, times_among, times_in, value_of, waits_in, wakes_of, walk_at, without_in, woken_of, woken_phase, woken_phases, writes}
 use Rattle.ns_model.specs.declared.phase.Phase.TheVariants.{Woken}
 use Rattle.ns_model.proofs.Tallies.{every_map}
 use Rattle.ns_queue.proofs.Seeking.{goes_along}
@@ -170,7 +170,8 @@ module _ {C : Type 0} {N : ℕ} where
           told flags lock' (λ seat clear. (stay seat).0 (flags seat) (p.flag seat clear)) (every_stay stay (owed_in olds) p.owed) (λ own. due own kept) (listed kept)
 
       -- a seat that stood in no list and was owed no wake, and whose flag is set, waits from now on
-      pub told_enters : (flags : ℕ → ℕ) (lock lock' : List (Waiter C)) → ((seat : ℕ) → who ≢ seat → phases' seat ≡ phases seat) → times_in who lock ≡ 0 → owed_to who olds ≡ 0 → flags who ≡ 1 → (Every Is owed → Every Named lock → Every Is owed') → (Every Named lock → Every Named lock') → TakenTold phases flags lock olds → TakenTold phases' flags lock' news
+      pub told_enters : (flags : ℕ → ℕ) (lock lock' : List (Waiter C)) → ((seat : ℕ) → who ≢ seat → phases' seat ≡ phases seat) → times_in who lock ≡ 0 → owed_to who olds ≡ 0 → flags who ≡ 1 →
+          (Every Is owed → Every Named lock → Every Is owed') → (Every Named lock → Every Named lock') → TakenTold phases flags lock olds → TakenTold phases' flags lock' news
       told_enters flags lock lock' others out unowed set due listed p =
           let stay : (seat : ℕ) → who ≢ seat → Stay seat = λ seat ne. stay_same seat (there seat ne) (others seat ne) in
           let kept = every_apart (WaiterNames phases olds) Named who lock out (λ w ne. (stay w.seat ne).1 w.via) p.listed in

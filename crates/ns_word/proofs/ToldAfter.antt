@@ -4,9 +4,9 @@ use Rattle.std.proofs.Common.{◌≡◌, ◌≢◌, ℕ, ◌<◌, ◌≤◌, Boo
 use Rattle.std.proofs.lemmas.List.{append-nil}
 use Rattle.std.proofs.lemmas.List.Elements.{All-nil, All-push, All-append, filter-append}
 use Rattle.std.proofs.lemmas.Bool.{ne_eqb}
-use Rattle.ns_word.specs.Prelude.{Acquire, Act, Any, AreBy, ArmFlag, AtLock, AtVariables, BeginsIf, BeginsWith, Broadcasting, Cell, Change, Effect, Event, Flag, Found, Home, IsBySeats, IsFirst, IsLawful, IsLed, IsLegal, IsTold, JudgeMet, JudgeQuiet, LeaveSelf, LedBy}
-use Rattle.ns_word.specs.Prelude.{Left, Lists, LoadCell, LoadFlag, LoadWord, LockState, Look, Looked, Made, Nothing, Only, Paid, Part, PayWake, QueueSelf, Quiet, QuietKeeps, Release, ReleaseReturning, ReturnQueues, Saw, Scanned, SeatStep, SeatView, Signaling, Step}
-use Rattle.ns_word.specs.Prelude.{StoreCell, TakeQueues, Tested, Told, Truths, WaitReturning, Waiter, WakeWaiters, Waking, Walk, Woke, calls_of, change_commits, got_of, leave_of, nothing_told, own, told_after, view_in, wake_of, walk_after, walk_over, want_of, who_of}
+use Rattle.ns_word.specs.Prelude.{Acquire, Act, Any, AreBy, ArmFlag, AtLock, AtVariables, BeginsIf, BeginsWith, Broadcasting, Cell, Change, Effect, Event, Flag, Found, Home, IsBySeats, IsFirst, IsLawful, IsLed, IsLegal, IsTold, JudgeMet, JudgeQuiet, LeaveSelf, LedBy, Left, Lists, LoadCell}
+use Rattle.ns_word.specs.Prelude.{LoadFlag, LoadWord, LockState, Look, Looked, Made, Nothing, Only, Paid, Part, PayWake, QueueSelf, Quiet, QuietKeeps, Release, ReleaseReturning, ReturnQueues, Saw, Scanned, SeatStep, SeatView, Signaling, Step, StoreCell, TakeQueues, Tested, Told, Truths}
+use Rattle.ns_word.specs.Prelude.{WaitReturning, Waiter, WakeWaiters, Waking, Walk, Woke, calls_of, change_commits, got_of, leave_of, nothing_told, own, told_after, view_in, wake_of, walk_after, walk_over, want_of, who_of}
 use Rattle.ns_word.proofs.Starts.{begins}
 use Rattle.ns_word.proofs.Dispatch.{keeps}
 

@@ -1,11 +1,11 @@
 -- A view among the views: what holds of all of them, by the views before it, itself, and those behind it.
 use Rattle.std.proofs.Common.{◌≡◌, ◌≢◌, ℕ, ◌+◌, ◌≤◌, Bool, true, false, not, cond, ◌⊎◌, inl, inr, List, [], ◌∷◌, ◌++◌, Option, None, Some, eqb, refl, ap, sym, ◌∙◌, subst, arith, eq-eqb}
 use Rattle.std.proofs.lemmas.Bool.{ne_eqb}
-use Rattle.ns_word.specs.Prelude.{Aim, AreApart, CameBack, Cond, EachFits, ForLock, ForWait, Held, InAcquire, InCells, InRelease, InShow, InSignal, InTry, InWait, IsEither, IsExpected, Locked, Mode, NoneIs, OnCondition, OnVariables, Opening, Outcome, Owed, Phase}
-use Rattle.ns_word.specs.Prelude.{SeatView, SectionFits, Standing, Subject, Truths, Variables, ViewFits, Waiting, Walk, called_to, calls_from_lock, expected_for, has_queues, is_queuing, is_reading, is_waiting, is_write, is_writing, one_if, owed_to, phase_before}
-use Rattle.ns_word.specs.Prelude.{phase_by, phase_by_wake, phase_for, phase_kept, queuers, readers, takers, times_among, variable_in, walk_at, woken_phase, writers}
+use Rattle.ns_word.specs.Prelude.{Aim, AreApart, CameBack, Cond, EachFits, ForLock, ForWait, Held, InAcquire, InCells, InRelease, InShow, InSignal, InTry, InWait, IsEither, IsExpected, Locked, Mode, NoneIs, OnCondition, OnVariables, Opening, Outcome, Owed, Phase, SeatView, SectionFits, Standing}
+use Rattle.ns_word.specs.Prelude.{Subject, Truths, Variables, ViewFits, Waiting, Walk, called_to, calls_from_lock, expected_for, has_queues, is_queuing, is_reading, is_waiting, is_write, is_writing, one_if, owed_to, phase_before, phase_by, phase_by_wake, phase_for, phase_kept, queuers, readers}
+use Rattle.ns_word.specs.Prelude.{takers, times_among, variable_in, walk_at, woken_phase, writers}
 use Rattle.ns_model.proofs.Tallies.{total_amid, every_parts, every_join}
-use Rattle.ns_model.specs.declared.phase.Phase.TheVariants.{Idle, Woken, Left}
+use Rattle.ns_model.specs.declared.phase.Phase.TheVariants.{Idle}
 use Rattle.ns_word.specs.declared.wait.Outcome.TheVariants as TheOutcome
 
 -- a seat with this place, this section and these wakes to pay
@@ -161,10 +161,7 @@ module _ {C : Type 0} (k : ℕ) where
 
   woken_twice : (j : ℕ) (phase : Phase C) → is_waiting j phase ≡ true → woken_phase k (woken_phase j phase) ≡ woken_phase j phase
   woken_twice j Idle e = refl
-  woken_twice j (Cond c mode) e = refl
-  woken_twice j (Waiting variables mode) e = refl
-  woken_twice j (Woken i mode) e = refl
-  woken_twice j (Left variables mode) e = refl
+  woken_twice j other e = refl
 
   either_woken : (b : Bool) (phase now : Phase C) → (b ≡ false → woken_phase k phase ≡ phase) → is_waiting k now ≡ true → IsEither b phase now → IsEither b phase (woken_phase k now)
   either_woken false phase now steady waits p = ap (woken_phase k) p ∙ steady refl

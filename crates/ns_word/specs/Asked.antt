@@ -1,6 +1,5 @@
 -- What a call was asked to do, by its place.
-use Rattle.ns_word.specs.Names.{Aim, Await, CellPlace, ForLock, ForWait, Get, GetLoad, InAcquire, InCells, InRelease, InShow, InSignal, InTry, InWait, IsQuiet, Judging, QuietCells, QuietLast, QuietWriter, Request, Set, SetLoad, SetStore, Show, ToRelease, ToTell}
-use Rattle.ns_word.specs.Names.{TryLock, Wake, Walk}
+use Rattle.ns_word.specs.Names.{Aim, Await, CellPlace, ForLock, ForWait, Get, GetLoad, InAcquire, InCells, InRelease, InShow, InSignal, InTry, InWait, IsQuiet, Judging, QuietCells, QuietLast, QuietWriter, Request, Set, SetLoad, SetStore, Show, ToRelease, ToTell, TryLock, Wake, Walk}
 use Rattle.ns_word.specs.declared.request.Request.TheVariants.{Lock, Release}
 
 -- what a call was asked that judges the section

@@ -2,9 +2,9 @@
 use Rattle.std.proofs.Common.{◌≡◌, ◌≢◌, ℕ, suc, ◌<◌, List, ◌++◌, Bool, true, false, cond, Option, None, Some, IsSome, is_some, length, take, drop, slice_get, slice_set, refl, ap, sym, ◌∙◌, subst, arith, inl}
 use Rattle.std.proofs.lemmas.List.{append-nil, length-set}
 use Rattle.std.proofs.lemmas.Option.{slice_get_within}
-use Rattle.ns_world.specs.Prelude.{Act, Acts, AnyWait, AreAmong, AreThere, Await, BeginsToWait, EndsLook, EnvPlain, FirstClock, Found, HasLedTo, HasOperated, HaveLedTo, Idle, InRound, IsLawfulWhole, IsLawfulWorld, Limits, LooksWhere, Now, ObjectEvent, ObjectWalk}
-use Rattle.ns_world.specs.Prelude.{Objects, OnLock, Past, PlaceFits, Round, SeatView, Setup, StandsBy, Step, WaitSteps, WaitsOnLock, Walk, Whole, asked_of, asks_for_any, cause_of, got_of, is_alone, items_of, look_of, looks_at, mode_of, mode_waited, object_after}
-use Rattle.ns_world.specs.Prelude.{object_got, round_due, shown_by, stood_at, wait_first, wait_in, waited_after, waits_for_any, walk_after, walk_in, want_of}
+use Rattle.ns_world.specs.Prelude.{Act, Acts, AnyWait, AreAmong, AreThere, Await, BeginsToWait, EndsLook, EnvPlain, FirstClock, Found, HasLedTo, HasOperated, HaveLedTo, Idle, InRound, IsLawfulWhole, IsLawfulWorld, Limits, LooksWhere, Now, ObjectEvent, ObjectWalk, Objects, OnLock, Past, PlaceFits}
+use Rattle.ns_world.specs.Prelude.{Round, SeatView, Setup, StandsBy, Step, WaitSteps, WaitsOnLock, Walk, Whole, asked_of, asks_for_any, cause_of, got_of, is_alone, items_of, look_of, looks_at, mode_of, mode_waited, object_after, object_got, round_due, shown_by, stood_at, wait_first, wait_in}
+use Rattle.ns_world.specs.Prelude.{waited_after, waits_for_any, walk_after, walk_in, want_of}
 use Rattle.ns_env.proofs.Asks.{set_here}
 use Rattle.ns_word.proofs.Acts.{view_fits}
 use Rattle.ns_word.proofs.Asked.{asked_stays}

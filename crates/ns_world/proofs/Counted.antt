@@ -5,9 +5,9 @@ use Rattle.std.proofs.lemmas.Bool.{cases_eq}
 use Rattle.std.proofs.lemmas.List.{length-set, get_or-set_same, get_or-set_other}
 use Rattle.std.proofs.lemmas.List.Elements.{All-head, All-tail, All-nil}
 use Rattle.std.proofs.lemmas.Option.{slice_get_within}
-use Rattle.ns_world.specs.Prelude.{Acts, AnyWait, Awaits, Call, CallInRange, Counts, EnvNext, Finished, Go, Goes, GoesOnOrBegins, HasOperated, Idle, InRound, IsCounted, Line, ListFits, LookGoes, LookOver, Moves, Next, Nothing, Now, ObjectNext, ObjectWalk, Objects, On}
-use Rattle.ns_world.specs.Prelude.{OnLock, Progress, Reply, Step, TurnOf, Walk, Went, Whole, WholeMoves, calls_of, env_got_of, env_step_of, env_walk_after, got_of, is_asking, is_busy, is_for_lock, is_walking, look_of, mode_of, mode_waited, object_after, object_got}
-use Rattle.ns_world.specs.Prelude.{object_start, object_step_of, objects_begun, progress, progressed, round_due, shown_by, start_of, step_of, step_told, stood_at, wait_first, wait_in, waited_after, waits_for_any, walk_after, walk_in, whole_busy}
+use Rattle.ns_world.specs.Prelude.{Acts, AnyWait, Awaits, Call, CallInRange, Counts, EnvNext, Finished, Go, Goes, GoesOnOrBegins, HasOperated, Idle, InRound, IsCounted, Line, ListFits, LookGoes, LookOver, Moves, Next, Nothing, Now, ObjectNext, ObjectWalk, Objects, On, OnLock, Progress, Reply}
+use Rattle.ns_world.specs.Prelude.{Step, TurnOf, Walk, Went, Whole, WholeMoves, calls_of, env_got_of, env_step_of, env_walk_after, got_of, is_asking, is_busy, is_for_lock, is_walking, look_of, mode_of, mode_waited, object_after, object_got, object_start, object_step_of, objects_begun, progress}
+use Rattle.ns_world.specs.Prelude.{progressed, round_due, shown_by, start_of, step_of, step_told, stood_at, wait_first, wait_in, waited_after, waits_for_any, walk_after, walk_in, whole_busy}
 use Rattle.ns_word.specs.declared.walk.Next.TheVariants.{Done}
 use Rattle.ns_env.specs.declared.walk.EnvNext.TheVariants.{Repeat, Over}
 use Rattle.ns_world.proofs.Busy.{both, walking_at, walking_set_same, walking_set_other, asking_set_same, asking_set_other, asking_set_none}
@@ -157,7 +157,8 @@ module _ {C : Type 0} {N : ℕ} where
   whole_others old new seat step (inr (inr p)) other ne = awaits_others old new seat step p other ne
 
   -- a wait on the lock that is over
-  waited_over : (old new : Whole C N) (seat : ℕ) (reply : Reply) (wait : AnyWait) (told : Step) (acts : Acts old.lock new.lock seat told) → new.objects ≡ waited_after old.objects seat wait (walk_after (got_of N acts.goes.makes.walk acts.goes.found)) → Finished reply ≡ step_told wait told → whole_busy new seat ≡ false
+  waited_over : (old new : Whole C N) (seat : ℕ) (reply : Reply) (wait : AnyWait) (told : Step) (acts : Acts old.lock new.lock seat told) →
+      new.objects ≡ waited_after old.objects seat wait (walk_after (got_of N acts.goes.makes.walk acts.goes.found)) → Finished reply ≡ step_told wait told → whole_busy new seat ≡ false
   waited_over old new seat reply wait (Finished answer) acts becomes told =
       let over = over_idle (got_of N acts.goes.makes.walk acts.goes.found) answer acts.goes.answers in
       (λ i. goes_over old.lock new.lock seat answer acts.goes i || is_some ((ap (λ (o : Objects). walk_in o.walks seat) (becomes ∙ ap (waited_after old.objects seat wait) over) ∙ put_none old.objects.walks seat) i))
@@ -249,10 +250,8 @@ module _ {C : Type 0} {N : ℕ} where
 
   counts_now : (world new : Whole C N) (over over' : List ℕ) (lines lines' : List Line) (seat : ℕ) (step : Step) → Counts over lines seat step (slice_index new.lock.tests seat) over' lines' →
       progress new over' lines' ≡ progressed (progress world over lines) seat step new
-  counts_now world new over over' lines lines' seat Went e = ap (λ o. progress new o lines') e.0 ∙ ap (λ l. progress new over l) e.1
-  counts_now world new over over' lines lines' seat Idle e = ap (λ o. progress new o lines') e.0 ∙ ap (λ l. progress new over l) e.1
-  counts_now world new over over' lines lines' seat Nothing e = ap (λ o. progress new o lines') e.0 ∙ ap (λ l. progress new over l) e.1
   counts_now world new over over' lines lines' seat (Finished reply) e = ap (λ o. progress new o lines') e.0 ∙ ap (λ l. progress new (slice_set over seat (slice_index over seat + 1)) l) e.1
+  counts_now world new over over' lines lines' seat other e = ap (λ o. progress new o lines') e.0 ∙ ap (λ l. progress new over l) e.1
 
   -- what was counted, with the count of tests of the world after, is what the turn leaves
   pub counts_progress : (world new : Whole C N) (over over' : List ℕ) (lines lines' : List Line) (seat tests : ℕ) (step : Step) → tests ≡ slice_index new.lock.tests seat → Counts over lines seat step tests over' lines' →

@@ -2,8 +2,8 @@
 use Rattle.std.proofs.Common.{ℕ, ◌<◌, inl, inr, List, [], ◌++◌, Some, None, length, slice_set, refl, sym, ◌∙◌, subst}
 use Rattle.std.proofs.lemmas.List.{append-nil}
 use Rattle.std.proofs.lemmas.Option.{slice_get_within}
-use Rattle.ns_world.specs.Prelude.{Acts, AreEnvBy, Asks, EnvAct, EnvEffect, EnvEvent, EnvFound, EnvNext, EnvPlain, Go, Goes, IfMade, IsLawfulEnv, IsLawfulWorld, LedTo, LookGoes, LookOver, Looks, Moves, Now, Step, env_done, env_got_of, env_state, env_walk_after}
-use Rattle.ns_world.specs.Prelude.{env_want_of, got_of, look_of, note_in, walk_after}
+use Rattle.ns_world.specs.Prelude.{Acts, AreEnvBy, Asks, EnvAct, EnvEffect, EnvEvent, EnvFound, EnvNext, EnvPlain, Go, Goes, IfMade, IsLawfulEnv, IsLawfulWorld, LedTo, LookGoes, LookOver, Looks, Moves, Now, Step, env_done, env_got_of, env_state, env_walk_after, env_want_of, got_of, look_of}
+use Rattle.ns_world.specs.Prelude.{note_in, walk_after}
 use Rattle.ns_env.proofs.Asks.{set_here, keeps_env}
 use Rattle.ns_env.proofs.Keeps.{outcome_by}
 use Rattle.ns_world.proofs.Looking.{first_if, noted}

@@ -16,7 +16,8 @@ idle_ask (Some walk) (Some ask) e = absurd (cc)
 
 module _ {C : Type 0} {N : ℕ} (truths : Truths C) (word : Word) (row : List ℕ) (queues : Lists C) (flags : List ℕ) (env : Environment) (seats : List (Seat C N)) (history : List (Event C N)) (i : ℕ) (seat : Seat C N) (within : i < length seats) where
   -- one that is busy stands in one
-  busy_by : (walk : Option (Walk C)) (asking : Option EnvWalk) → seat.walk ≡ walk → seat.asking ≡ asking → slice_get (map view_of seats) i ≡ Some (view_of seat) → slice_get (map (λ s. s.asking) seats) i ≡ Some seat.asking → (is_some walk || is_some asking) ≡ true → IsBusy (now_with truths word row queues flags env seats history) i
+  busy_by : (walk : Option (Walk C)) (asking : Option EnvWalk) → seat.walk ≡ walk → seat.asking ≡ asking → slice_get (map view_of seats) i ≡ Some (view_of seat) →
+      slice_get (map (λ s. s.asking) seats) i ≡ Some seat.asking → (is_some walk || is_some asking) ≡ true → IsBusy (now_with truths word row queues flags env seats history) i
   busy_by (Some walk) asking e f at asks busy = inl (record { view = view_of seat; at = at; walk = walk; walks = e })
   busy_by None (Some ask) e f at asks busy = inr (record { walk = ask; walks = asks ∙ ap Some f })
   busy_by None None e f at asks busy = absurd (cc)

@@ -1,10 +1,9 @@
 -- Where calls begin, and what acts may be made.
 use Rattle.std.proofs.Common.{◌≡◌, ℕ, ◌-◌, ◌<◌, ◌≤◌, Bool, true, false, cond, Option, Some, None, List, [], ◌∷◌, refl, arith, nat_lt}
 use Rattle.std.proofs.lemmas.Bool.Decides.{nat_tests}
-use Rattle.ns_world.specs.Prelude.{Acquire, Act, ActFits, Add, Advance, ArmFlag, Ask, Broadcast, Call, CallFits, CallInRange, CanLeave, CounterWait, CvWait, Done, Expiry, Get, HasMode, Held, IfMade, InCells, InQueuing, InWait, IsFirst, IsFirstAsk, IsNotified, IsSettled}
-use Rattle.ns_world.specs.Prelude.{JudgeMet, JudgeQuiet, Limits, Load, LoadCell, LoadFlag, LoadWord, Lock, Look, MayWait, Mode, NewNote, NoteStanding, NoteWait, Notify, OnCondition, OnEntry, OnLock, OnObjects, OnVariables, Once, Only, Owed, OwesOne, Part, PayWake}
-use Rattle.ns_world.specs.Prelude.{PlaceFits, QuietCells, QuietLast, RLock, RUnlock, Read, Reader, Release, ReleaseReturning, ReturnQueues, Set, Setup, Signal, Start, StoreCell, Subject, TakeQueues, TestCells, TestLast, ToRelease, Truths, TryLock, TryRLock, Unlock}
-use Rattle.ns_world.specs.Prelude.{UnlockQuiet, Value, Wait, WaitAny, WaitFor, WaitReturning, Write, Writer, looks_at, mode_of, note_in, start_of, want_of}
+use Rattle.ns_world.specs.Prelude.{Act, ActFits, ArmFlag, Ask, Broadcast, Call, CallFits, CallInRange, CanLeave, CvWait, Expiry, Get, HasMode, Held, IfMade, InCells, InQueuing, InWait, IsFirst, IsFirstAsk, IsNotified, IsSettled, Limits, Load, LoadFlag, Lock, MayWait, Mode, NewNote, NoteStanding}
+use Rattle.ns_world.specs.Prelude.{NoteWait, Notify, OnCondition, OnEntry, OnLock, OnObjects, OnVariables, Only, Owed, OwesOne, Part, PayWake, PlaceFits, QuietCells, QuietLast, RLock, RUnlock, Read, Reader, ReturnQueues, Set, Setup, Signal, Start, Subject, TestCells, TestLast, ToRelease, Truths}
+use Rattle.ns_world.specs.Prelude.{TryLock, TryRLock, Unlock, UnlockQuiet, Wait, WaitFor, WaitReturning, Write, Writer, looks_at, mode_of, note_in, start_of, want_of}
 
 -- the first place of a call goes with the seat and the notes
 abbrev pub StartFits : {C : Type 0} {N : ℕ} → Truths C → (ℕ → NoteStanding) → Start C → Option (Held C N) → Type 0
@@ -73,32 +72,17 @@ module _ {C : Type 0} {N : ℕ} (truths : Truths C) (notes : ℕ → NoteStandin
   start_fits setup (Broadcast k) held some range fits settled = (tt, (tt, range, settled), tt, refl)
   start_fits setup (NewNote parent deadline) held some range fits settled = fits
   start_fits setup (Notify note) held some range fits settled = fits
-  start_fits setup (Advance moment) held some range fits settled = tt
   start_fits setup (IsNotified note) held some range fits settled = fits
   start_fits setup (Expiry note) held some range fits settled = (refl, refl, fits)
   start_fits setup (NoteWait note deadline) held some range fits settled = fits
-  start_fits setup (Add counter delta) held some range fits settled = tt
-  start_fits setup (Value counter) held some range fits settled = tt
-  start_fits setup (CounterWait counter deadline) held some range fits settled = tt
-  start_fits setup (Once once) held some range fits settled = tt
-  start_fits setup (Done once) held some range fits settled = tt
-  start_fits setup (WaitAny items deadline) held some range fits settled = tt
+  start_fits setup other held some range fits settled = tt
 
 module _ {C : Type 0} {N : ℕ} (truths : Truths C) where
   -- what may be made by one of few seats may be by one of more
   pub fits_more : (few many seat : ℕ) (act : Act C) (part : Part C N) → few ≤ many → ActFits truths few seat act part → ActFits truths many seat act part
-  fits_more few many seat LoadWord part le p = p
-  fits_more few many seat (Acquire aim arrival last) part le p = p
-  fits_more few many seat (TakeQueues taking last) part le p = p
   fits_more few many seat (ReturnQueues change last) part le p = (omega (arith, le, p.0), p.1)
-  fits_more few many seat (Release releasing last) part le p = p
-  fits_more few many seat (ReleaseReturning releasing last) part le p = p
   fits_more few many seat (WaitReturning wait again last) part le p = (p.0, p.1, omega (arith, le, p.2), p.3)
-  fits_more few many seat (LoadCell i) part le p = p
-  fits_more few many seat (JudgeQuiet i) part le p = p
-  fits_more few many seat (JudgeMet i c) part le p = p
-  fits_more few many seat (StoreCell i v) part le p = p
   fits_more few many seat ArmFlag part le p = omega (arith, le, p)
   fits_more few many seat PayWake part le p = owes_more few many part.owed le p
   fits_more few many seat LoadFlag part le p = omega (arith, le, p)
-  fits_more few many seat (Look limits again) part le p = p
+  fits_more few many seat other part le p = p

@@ -3,8 +3,8 @@ use Rattle.std.proofs.Common.{◌≡◌, ◌≢◌, ℕ, Bool, true, not, List, 
 use Rattle.std.specs.Prelude.{IfSome, ◌==◌}
 use Rattle.std.proofs.lemmas.List.{append-nil}
 use Rattle.std.proofs.lemmas.Bool.{ne_eqb}
-use Rattle.ns_world.specs.Prelude.{Bits, CanLeave, Event, Held, Lists, Made, Makes, Owed, Plain, Release, ReleaseReturning, Releasing, Saw, Scanned, Truths, Waiter, Word, bits_of, called_of, has_some, left_of, meets_at, part, section_of, tests_of, with_waiters}
-use Rattle.ns_world.specs.Prelude.{woken_of, word_released, word_released_returning}
+use Rattle.ns_world.specs.Prelude.{Bits, CanLeave, Event, Held, Lists, Made, Makes, Owed, Plain, Release, ReleaseReturning, Releasing, Saw, Scanned, Truths, Waiter, Word, bits_of, called_of, has_some, left_of, meets_at, part, section_of, tests_of, with_waiters, woken_of, word_released}
+use Rattle.ns_world.specs.Prelude.{word_released_returning}
 use Rattle.ns_queue.specs.declared.waiter.Which.TheVariants.{Lock}
 
 -- a list that isn't empty has somebody

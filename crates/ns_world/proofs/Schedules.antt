@@ -113,21 +113,16 @@ module _ {C : Type 0} {N : ℕ} (lists : List (List (Call C))) where
     stops_for_more world made turns [] more NoSuchSeat p = absurd p
     stops_for_more world made turns [] more StepLimit p = absurd p
     stops_for_more world made turns [] more TooManySeats p = absurd p
-    stops_for_more world made turns (item ∷ left) more OutOfMemory p = p
-    stops_for_more world made turns (item ∷ left) more NoSuchSeat p = p
-    stops_for_more world made turns (item ∷ left) more StepLimit p = p
-    stops_for_more world made turns (item ∷ left) more TooManySeats p = p
+    stops_for_more world made turns (item ∷ left) more other p = p
 
     -- turns before
     stops_for_after : (world : Whole C N) (made : ℕ) (front turns : List Turned) (left : List Item) (fault : Fault) → StopsFor limit world made turns left fault → StopsFor limit world made (front ++ turns) left fault
     stops_for_after world made front turns left OutOfMemory (inl p) = inl p
     stops_for_after world made front turns left OutOfMemory (inr p) = inr (ends_after front turns p)
-    stops_for_after world made front turns [] NoSuchSeat p = absurd p
-    stops_for_after world made front turns [] StepLimit p = absurd p
-    stops_for_after world made front turns [] TooManySeats p = absurd p
     stops_for_after world made front turns (item ∷ left) NoSuchSeat p = p
     stops_for_after world made front turns (item ∷ left) StepLimit p = p
     stops_for_after world made front turns (item ∷ left) TooManySeats p = p
+    stops_for_after world made front turns [] other p = absurd p
 
     -- at once
     pub stops_now : (p : Progress C N) (before : ℕ) (items : List Item) (fault : Fault) → before ≤ limit → StopsFor limit p.world before [] items fault → Stops lists limit p before items p.world fault

@@ -4,11 +4,10 @@ use Rattle.std.proofs.Common.{◌≡◌, ℕ, ◌<◌, ◌≤◌, not, Bool, tru
 use Rattle.std.proofs.lemmas.Bool.{ltb-true}
 use Rattle.std.proofs.lemmas.List.{append-nil, length-map}
 use Rattle.std.proofs.lemmas.Option.{slice_get_within}
-use Rattle.ns_world.specs.Prelude.{Acts, Any, AnyWait, AreVariables, AsksFor, Await, BeginsToWait, CanTell, Cvs, Effect, EndsLook, EnvPlain, Environment, Event, Every, Finished, HasOperated, HasTold, Held, Idle, InRound, InWait, IsFew, IsLawfulWhole, IsLawfulWorld}
-use Rattle.ns_world.specs.Prelude.{IsLow, IsSettled, Item, Lists, Looked, LooksNot, LooksWhere, MayShow, MayWait, MayWaitOnLock, Mode, Moves, Next, NoteStanding, Nothing, Now, ObjectStanding, ObjectWalk, Objects, On, OnCounter, OnLock, OnNote, OnVariable, Performs}
-use Rattle.ns_world.specs.Prelude.{QuietKeeps, Seat, SeatView, Sees, Setup, StandsAlone, StandsBy, Step, StepOf, Truths, WaitSteps, WaitsOnLock, Walk, WalkFits, Went, Whole, WholeMoves, WholeStep, Word, asked_of, asks_for_any, at_will, cause_of, got_of, is_alone}
-use Rattle.ns_world.specs.Prelude.{is_for_lock, is_there, items_of, looks_at, mode_of, mode_waited, now_with, objects_after, plain_of, seat_part, shown_by, step_of, step_told, view_of, wait_first, wait_in, waited_after, waits_among, waits_for_any, walk_in, want_of}
-use Rattle.ns_world.specs.Prelude.{whole, whole_with}
+use Rattle.ns_world.specs.Prelude.{Acts, Any, AnyWait, AreVariables, AsksFor, Await, BeginsToWait, CanTell, Cvs, Effect, EndsLook, EnvPlain, Environment, Event, Every, Finished, HasOperated, HasTold, Held, Idle, InRound, InWait, IsFew, IsLawfulWhole, IsLawfulWorld, IsLow, IsSettled, Item, Lists}
+use Rattle.ns_world.specs.Prelude.{Looked, LooksNot, LooksWhere, MayShow, MayWait, MayWaitOnLock, Mode, Moves, Next, NoteStanding, Nothing, Now, ObjectStanding, ObjectWalk, Objects, On, OnCounter, OnLock, OnNote, OnVariable, Performs, QuietKeeps, Seat, SeatView, Sees, Setup, StandsAlone, StandsBy}
+use Rattle.ns_world.specs.Prelude.{Step, StepOf, Truths, WaitSteps, WaitsOnLock, Walk, WalkFits, Went, Whole, WholeMoves, WholeStep, Word, asked_of, asks_for_any, at_will, cause_of, got_of, is_alone, is_for_lock, is_there, items_of, looks_at, mode_of, mode_waited, now_with, objects_after}
+use Rattle.ns_world.specs.Prelude.{plain_of, seat_part, shown_by, step_of, step_told, view_of, wait_first, wait_in, waited_after, waits_among, waits_for_any, walk_in, want_of, whole, whole_with}
 use Rattle.ns_word.specs.declared.wait.Wait.{Wait}
 use Rattle.ns_word.specs.declared.walk.Next.TheVariants.{Done}
 use Rattle.ns_world.proofs.AnyLooks.{LooksOut}
@@ -31,15 +30,14 @@ pub few_here : {C : Type 0} {N : ℕ} (old : Whole C N) → IsLawfulWhole old �
 few_here old lawful seat walk stands = few_if old.objects.setup (objects_after old.objects.setup lawful.events) old.lock.env.notes seat walk (lawful.objects_lawful.each seat walk stands)
 
 -- a step on the objects changes no wait, so that what it tells is for the lock if it was
-pub as_it_was : (env : EnvPlain) (seat : ℕ) (walk : ObjectWalk) (objects then : Objects) (told : Step) (wait : Option AnyWait) (b : Bool) → HasOperated env seat walk objects then told → wait ≡ wait_in then.waits seat → is_for_lock wait walk told ≡ b → is_for_lock (wait_in objects.waits seat) walk told ≡ b
+pub as_it_was : (env : EnvPlain) (seat : ℕ) (walk : ObjectWalk) (objects then : Objects) (told : Step) (wait : Option AnyWait) (b : Bool) → HasOperated env seat walk objects then told → wait ≡ wait_in then.waits seat →
+    is_for_lock wait walk told ≡ b → is_for_lock (wait_in objects.waits seat) walk told ≡ b
 as_it_was env seat walk objects then told wait b q is for_lock = ap (λ w. is_for_lock w walk told) (sym (is ∙ ap (λ (o : Objects). wait_in o.waits seat) q.becomes)) ∙ for_lock
 
 -- a step that was made is one of those that a step can be
 pub made_step : {C : Type 0} {N : ℕ} (old new : Whole C N) (seat : ℕ) (step : Step) → (Nothing ≡ step → ⊥) → WholeMoves old new seat step → WholeStep old new seat step
 made_step old new seat Nothing some p = absurd (some refl)
-made_step old new seat Went some p = p
-made_step old new seat Idle some p = p
-made_step old new seat (Finished reply) some p = p
+made_step old new seat other some p = p
 
 -- ---- what a seat may tell
 
@@ -75,7 +73,8 @@ pub of_views : {C : Type 0} {N : ℕ} (seats : List (Seat C N)) (i : ℕ) → i 
 of_views seats i low = omega (arith, low, length-map seats view_of)
 
 -- a seat in a call on the objects is one of those that there are
-pub seat_within : {C : Type 0} {N : ℕ} (truths : Truths C) (word : Word) (row : List ℕ) (queues : Lists C) (flags : List ℕ) (env : Environment) (seats : List (Seat C N)) (history : List (Event C N)) (objects : Objects) → IsLawfulWhole (whole_with truths word row queues flags env seats history objects) → (i : ℕ) (walk : ObjectWalk) → walk_in objects.walks i ≡ Some walk → i < length seats
+pub seat_within : {C : Type 0} {N : ℕ} (truths : Truths C) (word : Word) (row : List ℕ) (queues : Lists C) (flags : List ℕ) (env : Environment) (seats : List (Seat C N)) (history : List (Event C N)) (objects : Objects) →
+    IsLawfulWhole (whole_with truths word row queues flags env seats history objects) → (i : ℕ) (walk : ObjectWalk) → walk_in objects.walks i ≡ Some walk → i < length seats
 seat_within truths word row queues flags env seats history objects lawful i walk stands = let low = lawful.objects_lawful.within i walk stands in let is = lawful.seats in omega (arith, low, is, length-map seats view_of)
 
 module _ {C : Type 0} {N : ℕ} (truths : Truths C) (some : 0 < N) (quiet : QuietKeeps N truths) (word : Word) (row : List ℕ) (queues : Lists C) (flags : List ℕ) (env : Environment) (seats : List (Seat C N)) (history : List (Event C N)) (objects : Objects) (lawful : IsLawfulWhole (whole_with truths word row queues flags env seats history objects)) (i : ℕ) (d : Seat C N) (within : i < length seats) where
@@ -175,7 +174,8 @@ module _ {C : Type 0} {N : ℕ} (truths : Truths C) (some : 0 < N) (quiet : Quie
     -- what it is in the world, which is lawful after it
     pub told_here : (wait : Option AnyWait) → wait_in then.waits i ≡ wait → is_for_lock wait walk told ≡ true → HasTold (get_or seats i d) then i wait walk told next objects' step → WholeStep old new i step × IsLawfulWhole new
     told_here wait waits for_lock p = by wait (sym (ap (λ (o : Objects). wait_in o.waits i) q.becomes) ∙ waits) walk stands told q for_lock p where
-      by : (wait : Option AnyWait) → wait_in objects.waits i ≡ wait → (walk : ObjectWalk) → walk_in objects.walks i ≡ Some walk → (told : Step) → HasOperated (plain_of env) i walk objects then told → is_for_lock wait walk told ≡ true → HasTold (get_or seats i d) then i wait walk told next objects' step → WholeStep old new i step × IsLawfulWhole new
+      by : (wait : Option AnyWait) → wait_in objects.waits i ≡ wait → (walk : ObjectWalk) → walk_in objects.walks i ≡ Some walk → (told : Step) → HasOperated (plain_of env) i walk objects then told →
+          is_for_lock wait walk told ≡ true → HasTold (get_or seats i d) then i wait walk told next objects' step → WholeStep old new i step × IsLawfulWhole new
       by (Some wait) waits walk stands told q for_lock p =
           let acts = sees_acts wait waits walk stands (shown_by told) p.0 p.1 next step p.2 in
           let ends : EndsLook old new i step = record { wait = wait; waits = waits; walk = walk; walks = stands; told = told; for_lock = for_lock; then = then; operated = q; acts = acts.0; looked = acts.1; becomes = p.3 } in (

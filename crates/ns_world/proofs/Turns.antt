@@ -1,13 +1,12 @@
 -- A turn of a run, by what beginning a call and a step promise.
-use Rattle.std.proofs.Common.{◌≡◌, ℕ, ◌-◌, ◌≤◌, nat_lt, inl, inr, ◌≢◌, ◌||◌, Bool, true, false, cond, List, Option, None, Some, is_some, length, slice_get, refl, ap, sym, ◌∙◌, subst, arith, Result, Ok, Err}
+use Rattle.std.proofs.Common.{◌≡◌, ℕ, ◌-◌, nat_lt, inl, inr, ◌≢◌, ◌||◌, Bool, true, false, cond, List, Option, None, Some, is_some, length, slice_get, refl, ap, sym, ◌∙◌, subst, arith, Result, Ok, Err}
 use Rattle.std.specs.Prelude.{IfOk, IfErr}
 use Rattle.std.proofs.lemmas.List.{length-set}
 use Rattle.std.proofs.lemmas.Option.{slice_get_within}
-use Rattle.ns_world.specs.Prelude.{Add, Advance, Ask, BeginFault, Broadcast, Call, Commits, CounterWait, CvWait, Done, EnvNext, Expiry, Fault, Finished, Get, Go, GoesOnOrBegins, Idle, InCells, InRound, InWait, IsBusy, IsIdle, IsNotified, IsWalking, Limits, Lists, Lock}
-use Rattle.ns_world.specs.Prelude.{LookGoes, LookOver, Misuse, Mode, Moves, NewNote, NoSuchSeat, NoteWait, Nothing, Notify, Now, ObjectWalk, OnCondition, OnEntry, OnLock, OnObjects, Once, OutOfMemory, Progress, QuietCells, QuietLast, RLock, RUnlock, SeatView, Set}
-use Rattle.ns_world.specs.Prelude.{Setup, Signal, Start, Starts, Step, StepFault, StepLimit, TestCells, TestLast, ToRelease, TooManySeats, TryLock, TryRLock, TurnFault, TurnOf, TurnsWith, Unlock, UnlockQuiet, Value, Wait, WaitAny, Went, Whole, WholeBegins, WholeCommits}
-use Rattle.ns_world.specs.Prelude.{WholeFault, WholeIsBusy, WholeIsIdle, WholeMoves, WholeStarts, WholeStep, Word, begun_at, env_got_of, finished, is_asking, is_busy, is_walking, mode_of, mode_waited, object_start, progress, progressed, start_of, walk_in, want_of}
-use Rattle.ns_world.specs.Prelude.{whole_busy}
+use Rattle.ns_world.specs.Prelude.{Add, Advance, Ask, Broadcast, Call, Commits, CounterWait, CvWait, Done, EnvNext, Expiry, Fault, Finished, Get, Go, GoesOnOrBegins, Idle, InCells, InRound, InWait, IsBusy, IsIdle, IsNotified, IsWalking, Limits, Lists, Lock, LookGoes, LookOver, Mode, Moves}
+use Rattle.ns_world.specs.Prelude.{NewNote, NoSuchSeat, NoteWait, Nothing, Notify, Now, ObjectWalk, OnCondition, OnEntry, OnLock, OnObjects, Once, OutOfMemory, Progress, QuietCells, QuietLast, RLock, RUnlock, SeatView, Set, Setup, Signal, Start, Starts, Step, StepFault, StepLimit, TestCells}
+use Rattle.ns_world.specs.Prelude.{TestLast, ToRelease, TooManySeats, TryLock, TryRLock, TurnOf, TurnsWith, Unlock, UnlockQuiet, Value, Wait, WaitAny, Went, Whole, WholeFault, WholeIsBusy, WholeIsIdle, WholeMoves, WholeStarts, WholeStep, Word, begun_at, env_got_of, is_asking, is_busy, is_walking}
+use Rattle.ns_world.specs.Prelude.{mode_of, mode_waited, object_start, progress, progressed, start_of, walk_in, want_of, whole_busy}
 use Rattle.ns_env.specs.declared.walk.EnvNext.TheVariants.{Repeat, Over}
 use Rattle.ns_world.proofs.Busy.{or_true, both, walking_at, walking_set_same, walking_set_other, asking_at, asking_set_same, asking_set_other}
 use Rattle.ns_env.proofs.Asks.{set_here}
@@ -65,30 +64,7 @@ Pairs start place = ⊥
 
 pub pairs : {C : Type 0} (N : ℕ) (mode : Option Mode) (call : Call C) → Pairs (start_of N mode call) (object_start call)
 pairs N mode Lock = tt
-pairs N mode RLock = tt
-pairs N mode TryLock = tt
-pairs N mode TryRLock = tt
-pairs N mode Unlock = tt
-pairs N mode RUnlock = tt
-pairs N mode UnlockQuiet = tt
-pairs N mode (Get i) = tt
-pairs N mode (Set i v) = tt
-pairs N mode (Wait c limits) = tt
-pairs N mode (CvWait k limits) = tt
-pairs N mode (Signal k) = tt
-pairs N mode (Broadcast k) = tt
-pairs N mode (NewNote parent deadline) = tt
-pairs N mode (Notify note) = tt
-pairs N mode (Advance moment) = tt
-pairs N mode (IsNotified note) = tt
-pairs N mode (Expiry note) = tt
-pairs N mode (NoteWait note deadline) = tt
-pairs N mode (Add counter delta) = tt
-pairs N mode (Value counter) = tt
-pairs N mode (CounterWait counter deadline) = tt
-pairs N mode (Once once) = tt
-pairs N mode (Done once) = tt
-pairs N mode (WaitAny items deadline) = tt
+pairs N mode other = tt
 
 -- what holds of an answer's value, and of its fault, as something else
 pub map_ok : {X E : Type 0} {P Q : X → Type 0} (r : Result X E) → ((x : X) → P x → Q x) → IfOk r P → IfOk r Q
@@ -174,11 +150,6 @@ module _ {C : Type 0} {N : ℕ} where
       inl (record { begun = old; leads = inl (whole_busy_of old new seat (Finished reply) p, refl); world = new; steps = p; goes = not; after = refl })
   turns_going next old new seat Nothing not p = absurd (not refl)
 
-  -- the call was refused
-  pub turns_misused : (old new : Whole C N) (seat : ℕ) (call : Call C) → WholeBegins old new seat call Misuse → TurnsWith (Some call) old seat (Finished TheReply.Misuse) new
-  turns_misused old new seat call p = λ lists over lines e.
-      inr (inl (record { call = call; next = e; refused = (refl, p.1, p.2); answer = refl; after = ap (λ world. finished (progress old over lines) seat TheReply.Misuse world) p.0 }))
-
   -- the call began, and made its first step
   pub turns_started : (old begun new : Whole C N) (seat : ℕ) (call : Call C) (step : Step) → WholeStarts old begun seat call → WholeStep begun new seat step → TurnsWith (Some call) old seat step new
   turns_started old begun new seat call Went s p = λ lists over lines e.
@@ -205,7 +176,8 @@ module _ {C : Type 0} {N : ℕ} where
       absurd (cc)
 
   -- a seat at the first place of a call is about to make no release
-  begun_steps : (old begun : Now C N) (seat : ℕ) (view : SeatView C N) (start : Start C) → slice_get old.state.views seat ≡ Some view → view.walk ≡ None → begun ≡ begun_at old seat view start → (w : IsWalking begun seat) → Commits seat (want_of w.walk) begun.state.word begun.state.lists → StartCommits seat start begun.state.word begun.state.lists
+  begun_steps : (old begun : Now C N) (seat : ℕ) (view : SeatView C N) (start : Start C) → slice_get old.state.views seat ≡ Some view → view.walk ≡ None → begun ≡ begun_at old seat view start →
+      (w : IsWalking begun seat) → Commits seat (want_of w.walk) begun.state.word begun.state.lists → StartCommits seat start begun.state.word begun.state.lists
   begun_steps old begun seat view (OnLock walk) at idle begins w p =
       let next : SeatView C N = record view { walk = Some walk } in
       let here : slice_get begun.state.views seat ≡ Some next = ap (λ (world : Now C N). slice_get world.state.views seat) begins ∙ set_here old.state.views seat next (slice_get_within old.state.views seat view at) in
@@ -272,9 +244,7 @@ module _ {C : Type 0} {N : ℕ} where
   -- the world that a turn leaves
   pub progressed_world : (p : Progress C N) (seat : ℕ) (step : Step) (new : Whole C N) → (progressed p seat step new).world ≡ new
   progressed_world p seat Went new = refl
-  progressed_world p seat Idle new = refl
-  progressed_world p seat Nothing new = refl
-  progressed_world p seat (Finished reply) new = refl
+  progressed_world p seat other new = refl
 
   turn_stays : (lists : List (List (Call C))) (p q : Progress C N) (seat : ℕ) (step : Step) → TurnOf lists p seat step q → length q.world.lock.state.views ≡ length p.world.lock.state.views
   turn_stays lists p q seat step (inl t) =
@@ -288,15 +258,3 @@ module _ {C : Type 0} {N : ℕ} where
       length new.lock.state.views ≡ length p.world.lock.state.views
   seats_stay lists p seat step new turn =
       ap (λ (world : Whole C N). length world.lock.state.views) (sym (progressed_world p seat step new)) ∙ turn_stays lists p (progressed p seat step new) seat step turn
-
-  pub turn_fault : (old begun : Whole C N) (seat : ℕ) (fault : Fault) → begun ≡ old → WholeFault begun seat fault → TurnFault old seat fault
-  turn_fault old begun seat OutOfMemory e p = subst (λ (world : Whole C N). WholeCommits world seat) e p
-  turn_fault old begun seat NoSuchSeat e p = subst (λ (world : Whole C N). length world.lock.state.views ≤ seat) e p
-  turn_fault old begun seat TooManySeats e p = p
-  turn_fault old begun seat StepLimit e p = p
-
-  pub begin_fault : (world : Whole C N) (seat : ℕ) (fault : Fault) → BeginFault world.lock seat fault → TurnFault world seat fault
-  begin_fault world seat OutOfMemory p = absurd p
-  begin_fault world seat NoSuchSeat p = p
-  begin_fault world seat TooManySeats p = p
-  begin_fault world seat StepLimit p = p

@@ -3,12 +3,11 @@ use Rattle.std.specs.Prelude.{slice_get}
 use Rattle.std.proofs.Common.{◌≡◌, ◌≢◌, inl, inr, ℕ, List, [], ◌++◌, Option, None, Some, slice_set, refl, ap, sym, ◌∙◌, subst, Bool, true, false, length}
 use Rattle.std.proofs.lemmas.List.{append-nil, append_assoc}
 use Rattle.std.proofs.lemmas.Option.{slice_get_within}
-use Rattle.ns_world.specs.Prelude.{Acquire, Act, Acts, Add, Advance, AnswersOfLock, AnswersOfNotes, Any, AreBy, ArmFlag, Ask, Asked, Asks, AsksFor, AtSomePoint, BeginsWith, Broadcast, Call, CallFits, CallGoes, Cause, ClockLoad, CounterWait, Course, CvWait, Done, Effect}
-use Rattle.ns_world.specs.Prelude.{EnvCourse, EnvEvent, EnvGoes, EnvGoesOn, EnvNext, EnvPlain, EnvRequest, EnvSoFar, EnvWalk, Event, Expiry, Finished, ForLook, Found, Get, Go, Goes, GoesOn, Held, Idle, IfMade, InAcquire, InCells, InRelease, InShow, InSignal, InTry}
-use Rattle.ns_world.specs.Prelude.{InWait, IsFirst, IsFirstAsk, IsLawfulWorld, IsNotified, JudgeMet, JudgeQuiet, LedTo, Limits, LoadCell, LoadFlag, LoadWord, Lock, Look, LookFits, LookGoes, LookMeans, LookOver, Looked, Means, Mode, Moves, NewNote, Next, NoteLoad}
-use Rattle.ns_world.specs.Prelude.{NoteStanding, NoteWait, Nothing, Notify, Now, OfLock, OfNotes, OfObjects, On, OnCondition, OnEntry, OnLock, OnObjects, OnVariables, Once, Only, Owed, Part, PayWake, RLock, RUnlock, Release, ReleaseReturning, Reply, Request}
-use Rattle.ns_world.specs.Prelude.{ReturnQueues, SeatView, Set, Setup, Shows, Signal, SoFar, Start, Starts, Step, StoreCell, Subject, TakeQueues, ToRelease, Truths, TryLock, TryRLock, Unlock, UnlockQuiet, Value, Wait, WaitAny, WaitReturning, Walk, WasShown, Went}
-use Rattle.ns_world.specs.Prelude.{asked_of, asks_of, begun_at, course_after, course_from, env_asked_of, env_course_after, env_course_at, env_done, env_got_of, env_own, env_state, env_step_of, env_walk_after, env_want_of, got_of, held_at, held_in, is_for_any}
+use Rattle.ns_world.specs.Prelude.{Acquire, Act, Acts, Add, Advance, AnswersOfLock, AnswersOfNotes, Any, AreBy, ArmFlag, Ask, Asked, Asks, AsksFor, AtSomePoint, BeginsWith, Call, CallFits, CallGoes, Cause, ClockLoad, CounterWait, Course, CvWait, Done, Effect, EnvCourse, EnvEvent, EnvGoes}
+use Rattle.ns_world.specs.Prelude.{EnvGoesOn, EnvNext, EnvPlain, EnvRequest, EnvSoFar, EnvWalk, Event, Expiry, Finished, ForLook, Found, Go, Goes, GoesOn, Held, Idle, IfMade, InAcquire, InCells, InRelease, InShow, InSignal, InTry, InWait, IsFirst, IsFirstAsk, IsLawfulWorld, IsNotified, JudgeMet}
+use Rattle.ns_world.specs.Prelude.{JudgeQuiet, LedTo, Limits, LoadCell, LoadFlag, LoadWord, Lock, Look, LookFits, LookGoes, LookMeans, LookOver, Looked, Means, Mode, Moves, NewNote, Next, NoteLoad, NoteStanding, NoteWait, Notify, Now, OfLock, OfNotes, OfObjects, On, OnCondition, OnEntry, OnLock}
+use Rattle.ns_world.specs.Prelude.{OnObjects, OnVariables, Once, Only, Owed, Part, PayWake, RLock, Release, ReleaseReturning, Reply, Request, ReturnQueues, SeatView, Setup, Shows, SoFar, Start, Starts, Step, StoreCell, Subject, TakeQueues, ToRelease, Truths, UnlockQuiet, Value, Wait, WaitAny}
+use Rattle.ns_world.specs.Prelude.{WaitReturning, Walk, WasShown, asked_of, asks_of, begun_at, course_after, course_from, env_asked_of, env_course_after, env_course_at, env_done, env_got_of, env_own, env_state, env_step_of, env_walk_after, env_want_of, got_of, held_at, held_in, is_for_any}
 use Rattle.ns_world.specs.Prelude.{limits_for, limits_of, look_of, looked_after, looks_at, mode_of, mode_waited, note_in, own, part_of, row_after, start_of, step_of, waits_among, walk_after, want_of}
 use Rattle.ns_model.proofs.Beginnings.{begins_through, begins_itself}
 use Rattle.ns_model.proofs.Environments.{env_own-append}
@@ -162,9 +161,7 @@ module _ (C : Type 0) (N : ℕ) (before : Now C N) (earlier : List EnvEvent) (se
   -- what the last look has shown of a call that has come so far, or is over
   abbrev pub HasLooked : (request : Request C) (step : Step) (events : List EnvEvent) (world : Now C N) → Outcome (OfLock request) step events world → Option (Option Cause) → Type 0
   HasLooked request (Finished reply) events world o looked = o.course.looked ≡ looked
-  HasLooked request Went events world o looked = o.course.looked ≡ looked
-  HasLooked request Idle events world o looked = o.course.looked ≡ looked
-  HasLooked request Nothing events world o looked = o.course.looked ≡ looked
+  HasLooked request other events world o looked = o.course.looked ≡ looked
 
   -- this holds of what the last look has shown of a call on the lock
   abbrev pub LooksAs : (P : Option (Option Cause) → Type 0) (asked : Asked C) (events : List EnvEvent) (world : Now C N) → Underway asked events world → Type 0
@@ -175,8 +172,7 @@ module _ (C : Type 0) (N : ℕ) (before : Now C N) (earlier : List EnvEvent) (se
   -- what says nothing holds
   pub looks_any : (asked : Asked C) (events : List EnvEvent) (world : Now C N) (u : Underway asked events world) → LooksAs (λ looked. Unit {0}) asked events world u
   looks_any (OfLock request) events world u = tt
-  looks_any (OfNotes request) events world u = tt
-  looks_any (OfObjects asked) events world u = tt
+  looks_any other events world u = tt
 
   -- the call is one on the lock, or on the clock and the notes
   abbrev pub IsOfLock : Asked C → Type 0
@@ -236,7 +232,8 @@ module _ (C : Type 0) (N : ℕ) (before : Now C N) (earlier : List EnvEvent) (se
   rests (OfNotes request) events more old new same own_same u = notes_rest request events more old new same own_same u
   rests (OfObjects asked) events more old new same own_same u = elsewhere_rests events more old new same own_same u
 
-  pub rests_look : (P : Option (Option Cause) → Type 0) (asked : Asked C) (events more : List EnvEvent) (old new : Now C N) (same : Untouched old new) (own_same : env_own (events ++ more) seat ≡ env_own events seat) (u : Underway asked events old) → LooksAs P asked events old u → LooksAs P asked (events ++ more) new (rests asked events more old new same own_same u)
+  pub rests_look : (P : Option (Option Cause) → Type 0) (asked : Asked C) (events more : List EnvEvent) (old new : Now C N) (same : Untouched old new) (own_same : env_own (events ++ more) seat ≡ env_own events seat) (u : Underway asked events old) →
+      LooksAs P asked events old u → LooksAs P asked (events ++ more) new (rests asked events more old new same own_same u)
   unfolding rests lock_rests
   rests_look P (OfLock request) events more old new same own_same u looks = looks
   rests_look P (OfNotes request) events more old new same own_same u looks = tt
@@ -279,21 +276,8 @@ module _ (C : Type 0) (N : ℕ) (before : Now C N) (earlier : List EnvEvent) (se
 
   -- a step that is no look shows nothing
   shows_not : (truths : Truths C) (act : Act C) (old : Part C N) (shown : Option Cause) (new : Part C N) (commits : List (Event C N)) → looks_at act ≡ None → Effect truths seat act old (Looked shown) new commits → ⊥
-  shows_not truths LoadWord old shown new commits none e = e
-  shows_not truths (Acquire aim arrival last) old shown new commits none e = e
-  shows_not truths (TakeQueues taking last) old shown new commits none e = e
-  shows_not truths (ReturnQueues change last) old shown new commits none e = e
-  shows_not truths (Release releasing last) old shown new commits none e = e
-  shows_not truths (ReleaseReturning releasing last) old shown new commits none e = e
-  shows_not truths (WaitReturning wait again last) old shown new commits none e = e
-  shows_not truths (LoadCell i) old shown new commits none e = e
-  shows_not truths (JudgeQuiet i) old shown new commits none e = e
-  shows_not truths (JudgeMet i c) old shown new commits none e = e
-  shows_not truths (StoreCell i v) old shown new commits none e = e
-  shows_not truths ArmFlag old shown new commits none e = e
-  shows_not truths PayWake old shown new commits none e = e
-  shows_not truths LoadFlag old shown new commits none e = e
   shows_not truths (Look limits again) old shown new commits none e = absurd (cc)
+  shows_not truths other old shown new commits none e = e
 
   still_looked : (truths : Truths C) (act : Act C) (old : Part C N) (found : Found) (new : Part C N) (commits : List (Event C N)) (looked : Option (Option Cause)) → looks_at act ≡ None → Effect truths seat act old found new commits → looked_after found looked ≡ looked
   still_looked truths act old (Looked shown) new commits looked none e = absurd (shows_not truths act old shown new commits none e)
@@ -408,7 +392,8 @@ module _ (C : Type 0) (N : ℕ) (before : Now C N) (earlier : List EnvEvent) (se
 
   module _ (request : Request C) (events : List EnvEvent) (old new : Now C N) (step : Step) (lawful : IsLawfulWorld old) (since : BeginsWith events earlier) (u : LockUnderway request events old) where
     -- the look goes on, or the wait goes on with what it has shown
-    look_goes : (walk : Walk C) (view : SeatView C N) (look : EnvCourse) (asked : EnvRequest) (limits : Limits) (next : EnvNext) → Says (limits_of request) limits → asked ≡ TheEnvRequest.Look limits → BeginsWith look.before earlier → EnvGoes events seat asked look next → LookGoes next old new seat step → Outcome (OfLock request) step events new
+    look_goes : (walk : Walk C) (view : SeatView C N) (look : EnvCourse) (asked : EnvRequest) (limits : Limits) (next : EnvNext) → Says (limits_of request) limits → asked ≡ TheEnvRequest.Look limits →
+        BeginsWith look.before earlier → EnvGoes events seat asked look next → LookGoes next old new seat step → Outcome (OfLock request) step events new
     look_goes walk view look asked limits (Go place) given is after goes p =
         subst (λ s. Outcome (OfLock request) s events new) (sym p.1) (subst (λ world. LockUnderway request events world) (sym p.0) (record {
           view = u.view;
@@ -587,19 +572,8 @@ module _ (C : Type 0) (N : ℕ) (before : Now C N) (earlier : List EnvEvent) (se
   IsAskedAt asked start = ⊥
 
   asked_at : (mode : Option Mode) (call : Call C) → IsAskedAt (asks_of mode call) (start_of N mode call)
-  asked_at mode Lock = refl
-  asked_at mode RLock = refl
-  asked_at mode TryLock = refl
-  asked_at mode TryRLock = refl
-  asked_at mode Unlock = refl
-  asked_at mode RUnlock = refl
   asked_at mode UnlockQuiet = quiet_asks C N ToRelease 0
-  asked_at mode (Get i) = refl
-  asked_at mode (Set i value) = refl
   asked_at mode (Wait c limits) = test_asks C N (record { mode = mode_waited mode; on = OnCondition c; limits = limits }) OnEntry 0
-  asked_at mode (CvWait k limits) = refl
-  asked_at mode (Signal k) = refl
-  asked_at mode (Broadcast k) = refl
   asked_at mode (NewNote parent deadline) = (refl, tt)
   asked_at mode (Notify note) = (refl, tt)
   asked_at mode (Advance moment) = (refl, tt)
@@ -612,6 +586,7 @@ module _ (C : Type 0) (N : ℕ) (before : Now C N) (earlier : List EnvEvent) (se
   asked_at mode (Once once) = tt
   asked_at mode (Done once) = tt
   asked_at mode (WaitAny items deadline) = tt
+  asked_at mode other = refl
 
   -- it is a first place
   abbrev IsFirstAt : (ℕ → NoteStanding) → Start C → Type 0
@@ -622,29 +597,15 @@ module _ (C : Type 0) (N : ℕ) (before : Now C N) (earlier : List EnvEvent) (se
   first_at : (setup : Setup) (notes : ℕ → NoteStanding) (mode : Option Mode) (call : Call C) → CallFits setup notes call mode → IsFirstAt notes (start_of N mode call)
   first_at setup notes mode Lock fits = refl
   first_at setup notes mode RLock fits = refl
-  first_at setup notes mode TryLock fits = tt
-  first_at setup notes mode TryRLock fits = tt
-  first_at setup notes mode Unlock fits = tt
-  first_at setup notes mode RUnlock fits = tt
   first_at setup notes mode UnlockQuiet fits = quiet_is_first C N ToRelease
-  first_at setup notes mode (Get i) fits = tt
-  first_at setup notes mode (Set i value) fits = tt
   first_at setup notes mode (Wait c limits) fits = wait_is_first N (record { mode = mode_waited mode; on = OnCondition c; limits = limits })
   first_at setup notes mode (CvWait k limits) fits = wait_is_first {C = C} N (record { mode = mode_waited mode; on = OnVariables (Only k); limits = limits })
-  first_at setup notes mode (Signal k) fits = tt
-  first_at setup notes mode (Broadcast k) fits = tt
   first_at setup notes mode (NewNote parent deadline) fits = fits
   first_at setup notes mode (Notify note) fits = fits
-  first_at setup notes mode (Advance moment) fits = tt
   first_at setup notes mode (IsNotified note) fits = fits
   first_at setup notes mode (Expiry note) fits = (refl, refl, fits)
   first_at setup notes mode (NoteWait note deadline) fits = fits
-  first_at setup notes mode (Add counter delta) fits = tt
-  first_at setup notes mode (Value counter) fits = tt
-  first_at setup notes mode (CounterWait counter deadline) fits = tt
-  first_at setup notes mode (Once once) fits = tt
-  first_at setup notes mode (Done once) fits = tt
-  first_at setup notes mode (WaitAny items deadline) fits = tt
+  first_at setup notes mode other fits = tt
 
   -- what has led to a world has led to it when a call has begun
   begins_led : (events : List EnvEvent) (old : Now C N) (who : ℕ) (view : SeatView C N) (start : Start C) → slice_get old.asking who ≡ Some None → IsFirstAt old.env.notes start → LedTo events old → LedTo events (begun_at old who view start)
@@ -696,7 +657,8 @@ module _ (C : Type 0) (N : ℕ) (before : Now C N) (earlier : List EnvEvent) (se
   -- ---- from the beginning to the answer
 
   -- a call that is elsewhere goes on as one on the lock, from the section in hand
-  pub goes_to_lock : (request : Request C) (events : List EnvEvent) (old new : Now C N) (view : SeatView C N) (walk : Walk C) → asked_of walk ≡ request → IsFirst N walk → slice_get old.state.views seat ≡ Some view → slice_get old.asking seat ≡ Some None → new ≡ begun_at old seat view (OnLock walk) → Elsewhere events old →
+  pub goes_to_lock : (request : Request C) (events : List EnvEvent) (old new : Now C N) (view : SeatView C N) (walk : Walk C) → asked_of walk ≡ request → IsFirst N walk → slice_get old.state.views seat ≡ Some view →
+      slice_get old.asking seat ≡ Some None → new ≡ begun_at old seat view (OnLock walk) → Elsewhere events old →
       (u : LockUnderway request (events ++ []) new) × (u.course.looked ≡ None)
   goes_to_lock request events old new view walk asked first at unasked is u =
       let views : Some u.view ≡ Some view = sym u.at ∙ at in

@@ -4,9 +4,9 @@ use Rattle.std.specs.Prelude.{IfSome, IfOk, OnErr, if◌then◌else◌}
 use Rattle.std.specs.declared.result.Result.{Result}
 use Rattle.std.specs.declared.result.Result.TheVariants.{Ok, Err}
 use Rattle.std.proofs.lemmas.List.{append-nil}
-use Rattle.ns_world.specs.Prelude.{Any, Arrival, AtLock, AtVariables, Bits, Broadcasting, CanWait, Change, ChangeFits, Cv, Effect, Event, Held, Home, IsInRange, IsUnmet, LeaveSelf, Left, Lists, Made, Makes, Mode, OnCondition, OnVariables, Only, Owed, QueueSelf}
-use Rattle.ns_world.specs.Prelude.{ReturnQueues, Saw, Scanned, Signaling, Subject, Truths, WaitReturning, Waiter, WakeWaiters, Waking, Woke, Word, bits_of, called_of, change_commits, changed, cvs_without, exit_for, has_some, is_held, leave_of, meets_at, moved_to, part}
-use Rattle.ns_world.specs.Prelude.{releasing_of, section_of, stands_at, taken_by, taken_set, tests_of, waited_in, waiters_of, wakes_of, woken_of, word_released_returning, word_returned}
+use Rattle.ns_world.specs.Prelude.{Any, Arrival, AtLock, AtVariables, Bits, Broadcasting, CanWait, Change, ChangeFits, Cv, Effect, Event, Held, Home, IsInRange, IsUnmet, LeaveSelf, Left, Lists, Made, Makes, Mode, OnCondition, OnVariables, Only, Owed, QueueSelf, ReturnQueues, Saw, Scanned}
+use Rattle.ns_world.specs.Prelude.{Signaling, Subject, Truths, WaitReturning, Waiter, WakeWaiters, Waking, Woke, Word, bits_of, called_of, change_commits, changed, cvs_without, exit_for, has_some, is_held, leave_of, meets_at, moved_to, part, releasing_of, section_of, stands_at, taken_by}
+use Rattle.ns_world.specs.Prelude.{taken_set, tests_of, waited_in, waiters_of, wakes_of, woken_of, word_released_returning, word_returned}
 use Rattle.ns_word.specs.declared.wait.Wait.{Wait}
 use Rattle.ns_word.specs.declared.act.Change.TheVariants.{Nothing}
 use Rattle.ns_word.proofs.Scans.{some_seats}
@@ -67,11 +67,10 @@ module _ {C : Type 0} {N : ℕ} (truths : Truths C) (seat : ℕ) (last word : Wo
   change_missed change owed held queues other = record { commits = []; effect = (refl, other, refl, refl); grows = sym (append-nil h) }
 
 -- what a change needs is of the lists alone
-pub fits_there : {C : Type 0} {N : ℕ} (seat : ℕ) (change : Change) (word : Word) (row row' flags flags' : List ℕ) (held : Option (Held C N)) (owed : List Owed) (queues : Lists C) → ChangeFits seat change (part word row queues flags held owed) → ChangeFits seat change (part word row' queues flags' held owed)
+pub fits_there : {C : Type 0} {N : ℕ} (seat : ℕ) (change : Change) (word : Word) (row row' flags flags' : List ℕ) (held : Option (Held C N)) (owed : List Owed) (queues : Lists C) →
+    ChangeFits seat change (part word row queues flags held owed) → ChangeFits seat change (part word row' queues flags' held owed)
 fits_there seat (QueueSelf mode arrival) word row row' flags flags' held owed queues p = p
-fits_there seat (LeaveSelf home) word row row' flags flags' held owed queues p = p
-fits_there seat (WakeWaiters waking k) word row row' flags flags' held owed queues p = p
-fits_there seat Nothing word row row' flags flags' held owed queues p = p
+fits_there seat other word row row' flags flags' held owed queues p = p
 
 -- ---- one that queues
 

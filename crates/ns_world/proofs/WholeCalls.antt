@@ -3,22 +3,19 @@ use Rattle.std.proofs.Common.{◌≡◌, ◌≢◌, ℕ, zero, suc, List, [], �
 use Rattle.std.proofs.lemmas.Bool.{cases_eq}
 use Rattle.std.proofs.lemmas.List.{append-nil, append_assoc}
 use Rattle.std.specs.Prelude.{unwrap_or}
-use Rattle.ns_world.specs.Prelude.{Acts, Add, Advance, Answer, AnswersCall, AnswersOfLock, AnswersTo, Any, AnyAnswers, AnyMeans, AnyWait, AreAmong, AreObjectsBy, AreThere, Asked, BeginsToWait, BeginsWith, Broadcast, Call, CallFits, Cause, CounterWait, CvWait, Cvs, Done}
-use Rattle.ns_world.specs.Prelude.{EndsLook, EnvEvent, Expiry, Finished, FirstClock, Found, Get, Happens, HasLedTo, HasOperated, HaveLedTo, HaveShownNothing, Held, Idle, InHand, InRound, IsIdle, IsLater, IsLawful, IsLawfulWhole, IsNotified, IsReady, IsUnfinished, Lock}
-use Rattle.ns_world.specs.Prelude.{LockSteps, LooksWhere, MayEnd, Means, Meanwhile, Mode, NewNote, Next, NoteWait, Nothing, Notify, Now, Number, ObjectEvent, ObjectGoes, ObjectNext, ObjectSoFar, ObjectWalk, Objects, OfLock, OfNotes, OfObjects, On, OnVariables, Once}
-use Rattle.ns_world.specs.Prelude.{Operates, Over, Past, PlaceBy, RLock, RUnlock, Repeat, Reply, Request, Round, RoundGo, RoundNext, RoundOver, RoundPlace, RoundShows, RoundSoFar, SeatView, Set, Signal, Started, Step, TryLock, TryRLock, Unlock, UnlockQuiet, Value, Wait}
-use Rattle.ns_world.specs.Prelude.{WaitAny, WaitMeans, WaitSteps, Walk, WalkFits, WalkReply, Went, WereThere, Whole, WholeBegins, WholeMoves, WholeStarts, WholeStep, asked_of, asks_of, at_will, by_round, cause_of, done_by, done_in, env_after, env_done, env_state}
-use Rattle.ns_world.specs.Prelude.{got_of, happened, held_at, held_in, is_among, is_for_lock, items_of, looked_after, looks_at, mode_of, mode_waited, notes_done, nothing_done, object_after, object_asked, object_got, object_start, object_step_of, objects_after}
-use Rattle.ns_world.specs.Prelude.{objects_begun, objects_done, objects_own, past_and, place_in, place_told, reply_of_lock, reply_told, round_due, round_got, row_after, shown_by, step_of, step_told, stood_at, wait_first, wait_in, waited_after, waits_for_any, walk_after}
-use Rattle.ns_world.specs.Prelude.{walk_in, want_of, woken_by}
+use Rattle.ns_world.specs.Prelude.{Acts, Add, Answer, AnswersCall, AnswersOfLock, AnswersTo, Any, AnyAnswers, AnyMeans, AnyWait, AreAmong, AreObjectsBy, AreThere, Asked, BeginsToWait, BeginsWith, Call, CallFits, Cause, CounterWait, Cvs, Done, EndsLook, EnvEvent, Finished, FirstClock, Found}
+use Rattle.ns_world.specs.Prelude.{Happens, HasLedTo, HasOperated, HaveLedTo, HaveShownNothing, Held, Idle, InHand, InRound, IsIdle, IsLater, IsLawful, IsLawfulWhole, IsReady, IsUnfinished, LockSteps, LooksWhere, MayEnd, Means, Meanwhile, Mode, Next, Nothing, Now, Number, ObjectEvent, ObjectGoes}
+use Rattle.ns_world.specs.Prelude.{ObjectNext, ObjectSoFar, ObjectWalk, Objects, OfLock, OfNotes, OfObjects, On, OnVariables, Once, Operates, Over, Past, PlaceBy, Repeat, Reply, Request, Round, RoundGo, RoundNext, RoundOver, RoundPlace, RoundShows, RoundSoFar, SeatView, Started, Step, Value}
+use Rattle.ns_world.specs.Prelude.{WaitAny, WaitMeans, WaitSteps, Walk, WalkFits, WalkReply, Went, WereThere, Whole, WholeBegins, WholeMoves, WholeStarts, WholeStep, asked_of, asks_of, at_will, by_round, cause_of, done_by, done_in, env_after, env_done, env_state, got_of, happened, held_at}
+use Rattle.ns_world.specs.Prelude.{held_in, is_among, is_for_lock, items_of, looked_after, looks_at, mode_of, mode_waited, notes_done, nothing_done, object_after, object_asked, object_got, object_start, object_step_of, objects_after, objects_begun, objects_done, objects_own, past_and, place_in}
+use Rattle.ns_world.specs.Prelude.{place_told, reply_of_lock, reply_told, round_due, round_got, row_after, shown_by, step_of, step_told, stood_at, wait_first, wait_in, waited_after, waits_for_any, walk_after, walk_in, want_of, woken_by}
 use Rattle.ns_env.proofs.Asks.{set_there}
 use Rattle.ns_model.proofs.Beginnings.{begins_itself}
 use Rattle.ns_model.proofs.Environments.{made_begins}
 use Rattle.ns_counters.proofs.Objects.{own-append, own_all, own_none}
 use Rattle.ns_counters.proofs.Rounds.{last_nothing, later_itself, later_through}
 use Rattle.ns_counters.specs.declared.walk.ObjectNext.TheVariants.{Go}
-use Rattle.ns_world.proofs.Underway.{IsOfLock, IsUnderway, Outcome, Underway, Untouched, begin_away, begins_on, begins_underway, moves_away, moves_on, no_more as no_more_notes, not_idle, rests, stays_underway, HasLooked, LockUnderway, acts_on, acts_show_not}
-use Rattle.ns_world.proofs.Underway.{goes_to_lock, looks_any, rests_look}
+use Rattle.ns_world.proofs.Underway.{IsOfLock, IsUnderway, Outcome, Underway, Untouched, begin_away, begins_on, begins_underway, moves_away, moves_on, no_more as no_more_notes, not_idle, rests, stays_underway, HasLooked, LockUnderway, acts_on, acts_show_not, goes_to_lock, looks_any, rests_look}
 use Rattle.ns_world.proofs.Walks.{wait_there}
 use Rattle.ns_world.proofs.WholeLed.{lock_led, operated_led, begins_to_wait_led, ends_look_led, wait_steps_led, starts_led}
 use Rattle.ns_word.specs.declared.walk.Next.TheVariants.{Done}
@@ -158,7 +155,8 @@ module _ (C : Type 0) (N : ℕ) (before : Whole C N) (earlier : Past) (seat : �
   until_rests mid past more until = later_through mid past (past_and past more) until (later_and past more)
 
   -- nothing of the seat has changed of counters and once cells
-  objects_rest : (phase : Phase) (past more : Past) (old new : Whole C N) → walk_in new.objects.walks seat ≡ walk_in old.objects.walks seat → wait_in new.objects.waits seat ≡ wait_in old.objects.waits seat → objects_own (past.objects ++ more.objects) seat ≡ objects_own past.objects seat → OnObjects phase past old →
+  objects_rest : (phase : Phase) (past more : Past) (old new : Whole C N) → walk_in new.objects.walks seat ≡ walk_in old.objects.walks seat → wait_in new.objects.waits seat ≡ wait_in old.objects.waits seat →
+      objects_own (past.objects ++ more.objects) seat ≡ objects_own past.objects seat → OnObjects phase past old →
       OnObjects phase (past_and past more) new
   objects_rest (inl (OfLock request)) past more old new same waits own_same u = record { nowhere = same ∙ u.nowhere; waits_not = waits ∙ u.waits_not; untouched = own_same ∙ u.untouched }
   objects_rest (inl (OfNotes request)) past more old new same waits own_same u = record { nowhere = same ∙ u.nowhere; waits_not = waits ∙ u.waits_not; untouched = own_same ∙ u.untouched }
@@ -348,7 +346,8 @@ module _ (C : Type 0) (N : ℕ) (before : Whole C N) (earlier : Past) (seat : �
 
   -- of a call on counters and once cells
   module _ (asked : ObjectWalk) (past : Past) (old new : Whole C N) (lawful : IsLawfulWhole old) (u : UnderwayIn (inl (OfObjects asked)) past old) where
-    objects_settle : (walk : ObjectWalk) (next : ObjectNext) (done more : List ObjectEvent) → walk_in old.objects.walks seat ≡ Some walk → new.lock ≡ old.lock → new.objects.setup ≡ old.objects.setup → new.objects.waits ≡ old.objects.waits → new.objects.walks ≡ slice_set old.objects.walks seat (object_after next) →
+    objects_settle : (walk : ObjectWalk) (next : ObjectNext) (done more : List ObjectEvent) → walk_in old.objects.walks seat ≡ Some walk → new.lock ≡ old.lock → new.objects.setup ≡ old.objects.setup →
+        new.objects.waits ≡ old.objects.waits → new.objects.walks ≡ slice_set old.objects.walks seat (object_after next) →
         HasLedTo (past_and past (record { notes = []; objects = more })) new → objects_own (past.objects ++ more) seat ≡ objects_own earlier.objects seat ++ done → ObjectGoes before.objects.setup earlier (past_and past (record { notes = []; objects = more })) seat asked done next →
         OutcomeIn (OfObjects asked) (object_step_of next) (past_and past (record { notes = []; objects = more })) new
     objects_settle walk next done more stood same setup waits walks led added goes = by next walks goes where
@@ -376,7 +375,8 @@ module _ (C : Type 0) (N : ℕ) (before : Whole C N) (earlier : Past) (seat : �
         };
       }
 
-      by : (next : ObjectNext) → new.objects.walks ≡ slice_set old.objects.walks seat (object_after next) → ObjectGoes before.objects.setup earlier (past_and past (record { notes = []; objects = more })) seat asked done next → OutcomeIn (OfObjects asked) (object_step_of next) (past_and past (record { notes = []; objects = more })) new
+      by : (next : ObjectNext) → new.objects.walks ≡ slice_set old.objects.walks seat (object_after next) →
+          ObjectGoes before.objects.setup earlier (past_and past (record { notes = []; objects = more })) seat asked done next → OutcomeIn (OfObjects asked) (object_step_of next) (past_and past (record { notes = []; objects = more })) new
       by (Go place) at goes = (inl (OfObjects asked), refl, on place at goes)
       by (Repeat place) at goes = (inl (OfObjects asked), refl, on place at goes)
       by (Over reply) at goes = let rest = inner.underway in inl (record {
@@ -390,7 +390,8 @@ module _ (C : Type 0) (N : ℕ) (before : Whole C N) (earlier : Past) (seat : �
         silent = rest.silent;
       })
 
-  operates_here : (asked : ObjectWalk) (past : Past) (old new : Whole C N) (step : Step) → IsLawfulWhole old → (p : Operates old new seat step) → (u : UnderwayIn (inl (OfObjects asked)) past old) → LedToOutcome (OfObjects asked) step (past_and past (record { notes = []; objects = p.operated.events })) new
+  operates_here : (asked : ObjectWalk) (past : Past) (old new : Whole C N) (step : Step) → IsLawfulWhole old → (p : Operates old new seat step) → (u : UnderwayIn (inl (OfObjects asked)) past old) →
+      LedToOutcome (OfObjects asked) step (past_and past (record { notes = []; objects = p.operated.events })) new
   operates_here asked past old new step lawful p u =
       let q = p.operated in
       let o = u.objects in
@@ -424,7 +425,8 @@ module _ (C : Type 0) (N : ℕ) (before : Whole C N) (earlier : Past) (seat : �
         )
 
   -- Where a round has found nothing the call goes on to wait.
-  begins_to_wait_here : (asked : ObjectWalk) (past : Past) (old new : Whole C N) (step : Step) → IsLawfulWhole old → (p : BeginsToWait old new seat step) → UnderwayIn (inl (OfObjects asked)) past old → LedToOutcome (OfObjects asked) step (past_and past (record { notes = []; objects = p.operated.events })) new
+  begins_to_wait_here : (asked : ObjectWalk) (past : Past) (old new : Whole C N) (step : Step) → IsLawfulWhole old → (p : BeginsToWait old new seat step) → UnderwayIn (inl (OfObjects asked)) past old →
+      LedToOutcome (OfObjects asked) step (past_and past (record { notes = []; objects = p.operated.events })) new
   begins_to_wait_here asked past old new step lawful p u =
       let q = p.operated in
       let o = u.objects in
@@ -465,7 +467,8 @@ module _ (C : Type 0) (N : ℕ) (before : Whole C N) (earlier : Past) (seat : �
             let since = begins_on earlier.notes past.notes [] u.lock.since in
             there_more before.objects.setup (env_after earlier.notes).notes (env_after now.notes).notes (λ note made. made_begins now.notes earlier.notes note led.0.lawful.meets.legal since made) p.round.items there
 
-        by : (next : RoundNext) → Idle ≡ object_step_of (by_round p.round next) → RoundGoes before.objects.setup earlier now p.round next → WereThere before.objects.setup earlier p.round.items → objects_own (past.objects ++ p.operated.events) seat ≡ objects_own earlier.objects seat → HasLedTo now new → UnderwayIn (inr w) now new
+        by : (next : RoundNext) → Idle ≡ object_step_of (by_round p.round next) → RoundGoes before.objects.setup earlier now p.round next → WereThere before.objects.setup earlier p.round.items →
+            objects_own (past.objects ++ p.operated.events) seat ≡ objects_own earlier.objects seat → HasLedTo now new → UnderwayIn (inr w) now new
         by (RoundGo place) answers goes there untouched led = absurd (cc)
         by (RoundOver (Some at)) answers goes there untouched led = absurd (cc)
         by (RoundOver None) answers goes there untouched led =
@@ -551,7 +554,8 @@ module _ (C : Type 0) (N : ℕ) (before : Whole C N) (earlier : Past) (seat : �
         let led = operated_led past old new seat step lawful (u.lock.led, u.led) p in
         let not : is_for_lock (Some waiting) p.walk step ≡ false = ap (λ x. is_for_lock x p.walk step) (sym u.objects.waits) ∙ p.not_for_lock in
         (led.1, by p.walk (subst (RoundOn w.round u.objects.mid past) p.walks u.objects.round) p.walks p.operated not led.1) where
-          by : (walk : ObjectWalk) → RoundOn w.round u.objects.mid past (Some walk) → walk_in old.objects.walks seat ≡ Some walk → (q : HasOperated old.lock.env seat walk old.objects new.objects step) → is_for_lock (Some waiting) walk step ≡ false → HasLedTo (past_and past (record { notes = []; objects = q.events })) new →
+          by : (walk : ObjectWalk) → RoundOn w.round u.objects.mid past (Some walk) → walk_in old.objects.walks seat ≡ Some walk → (q : HasOperated old.lock.env seat walk old.objects new.objects step) →
+              is_for_lock (Some waiting) walk step ≡ false → HasLedTo (past_and past (record { notes = []; objects = q.events })) new →
               OutcomeIn (OfObjects (InRound w.round FirstClock)) step (past_and past (record { notes = []; objects = q.events })) new
           by (InRound round place) on stands q not led =
               let shows = round_shows (inr w) past old u u.objects.mid round place stands new.objects step q (looks_there round place on) (looks_by round place on) in
@@ -571,7 +575,8 @@ module _ (C : Type 0) (N : ℕ) (before : Whole C N) (earlier : Past) (seat : �
       abbrev now_there : Past
       now_there = past_and past (record { notes = []; objects = more })
 
-      wait_goes_on : (shown : Option ℕ) (looked : Option (Option Cause)) → AsShown shown looked → Awaiting (shown_now shown) now_there new → (step : Step) → IsUnfinished step → (o : Outcome C N before.lock earlier.notes seat (OfLock (wait_for w.cvs)) step (past.notes ++ []) new.lock) → HasLooked C N before.lock earlier.notes seat (wait_for w.cvs) step (past.notes ++ []) new.lock o looked →
+      wait_goes_on : (shown : Option ℕ) (looked : Option (Option Cause)) → AsShown shown looked → Awaiting (shown_now shown) now_there new → (step : Step) → IsUnfinished step →
+          (o : Outcome C N before.lock earlier.notes seat (OfLock (wait_for w.cvs)) step (past.notes ++ []) new.lock) → HasLooked C N before.lock earlier.notes seat (wait_for w.cvs) step (past.notes ++ []) new.lock o looked →
           OutcomeIn (OfObjects (InRound w.round FirstClock)) step now_there new
       wait_goes_on shown looked so objects step unfinished o looks = by step unfinished o looks where
         on : (under : LockUnderway C N before.lock earlier.notes seat (wait_for w.cvs) (past.notes ++ []) new.lock) → under.course.looked ≡ looked → UnderwayIn (inr (shown_now shown)) now_there new
@@ -583,7 +588,8 @@ module _ (C : Type 0) (N : ℕ) (before : Whole C N) (earlier : Past) (seat : �
           objects = objects;
         }
 
-        by : (step : Step) → IsUnfinished step → (o : Outcome C N before.lock earlier.notes seat (OfLock (wait_for w.cvs)) step (past.notes ++ []) new.lock) → HasLooked C N before.lock earlier.notes seat (wait_for w.cvs) step (past.notes ++ []) new.lock o looked → OutcomeIn (OfObjects (InRound w.round FirstClock)) step now_there new
+        by : (step : Step) → IsUnfinished step → (o : Outcome C N before.lock earlier.notes seat (OfLock (wait_for w.cvs)) step (past.notes ++ []) new.lock) →
+            HasLooked C N before.lock earlier.notes seat (wait_for w.cvs) step (past.notes ++ []) new.lock o looked → OutcomeIn (OfObjects (InRound w.round FirstClock)) step now_there new
         by Went unfinished o looks = (inr (shown_now shown), refl, on o looks)
         by Idle unfinished o looks = (inr (shown_now shown), refl, on o looks)
         by Nothing unfinished o looks = (inr (shown_now shown), refl, on o looks)
@@ -632,7 +638,8 @@ module _ (C : Type 0) (N : ℕ) (before : Whole C N) (earlier : Past) (seat : �
             so (RoundOver None) goes = (suc goes.0, goes.1)
             so (RoundOver (Some place)) goes = goes
 
-          by : (walk : ObjectWalk) → RoundOn w.round u.objects.mid past (Some walk) → walk_in old.objects.walks seat ≡ Some walk → (then : Objects) (told : Step) (q : HasOperated old.lock.env seat walk old.objects then told) → ShownOn w.round u.objects.mid (past_and past (record { notes = []; objects = q.events })) (shown_by told) × (q.events ≡ [])
+          by : (walk : ObjectWalk) → RoundOn w.round u.objects.mid past (Some walk) → walk_in old.objects.walks seat ≡ Some walk →
+              (then : Objects) (told : Step) (q : HasOperated old.lock.env seat walk old.objects then told) → ShownOn w.round u.objects.mid (past_and past (record { notes = []; objects = q.events })) (shown_by told) × (q.events ≡ [])
           by (InRound round place) on stands then told q =
               let shows = round_shows (inr w) past old u u.objects.mid round place stands then told q (looks_there round place on) (looks_by round place on) in
               (shown round on.0 told q.events (round_got round place q.found) q.answers shows.0, shows.1)
@@ -670,7 +677,8 @@ module _ (C : Type 0) (N : ℕ) (before : Whole C N) (earlier : Past) (seat : �
           acts_show_not C N before.lock earlier.notes seat old.lock new.lock told acts u.lock.underway.course.looked (ap (λ x. looks_at (want_of x)) (same_walk old new seat lawful wait waits told acts) ∙ none)
 
       -- where it goes on
-      goes_on_there : (told : Step) (acts : Acts old.lock new.lock seat told) → new.objects ≡ waited_after old.objects seat wait (walk_after (got_of N acts.goes.makes.walk acts.goes.found)) → HasLedTo here_now new → IsUnfinished told → OutcomeIn (OfObjects (InRound w.round FirstClock)) told here_now new
+      goes_on_there : (told : Step) (acts : Acts old.lock new.lock seat told) → new.objects ≡ waited_after old.objects seat wait (walk_after (got_of N acts.goes.makes.walk acts.goes.found)) → HasLedTo here_now new →
+          IsUnfinished told → OutcomeIn (OfObjects (InRound w.round FirstClock)) told here_now new
       goes_on_there told acts becomes led unfinished =
           let after = goes_after (got_of N acts.goes.makes.walk acts.goes.found) (subst IsUnfinished acts.goes.answers unfinished) in
           let at = round_due wait after.0 in
@@ -731,11 +739,7 @@ module _ (C : Type 0) (N : ℕ) (before : Whole C N) (earlier : Past) (seat : �
           untouched = none_done [] refl;
         })
         answered (TheWalk.Answered answer) tells means = absurd (no_answer answer (held_at new.lock seat) means)
-        answered TheWalk.Succeeded tells means = absurd means
-        answered TheWalk.Busy tells means = absurd means
-        answered TheWalk.Noisy tells means = absurd means
-        answered (TheWalk.Number number) tells means = absurd means
-        answered (TheWalk.Is so) tells means = absurd means
+        answered other tells means = absurd means
 
       steps_there : (told : Step) (acts : Acts old.lock new.lock seat told) → new.objects ≡ waited_after old.objects seat wait (walk_after (got_of N acts.goes.makes.walk acts.goes.found)) → HasLedTo here_now new → OutcomeIn (OfObjects (InRound w.round FirstClock)) (step_told wait told) here_now new
       steps_there Went acts becomes led = goes_on_there Went acts becomes led tt
@@ -805,26 +809,8 @@ module _ (C : Type 0) (N : ℕ) (before : Whole C N) (earlier : Past) (seat : �
   -- ---- from the beginning to the answer
 
   -- where a call stands on counters and once cells as it begins
-  objects_begin : (begun : Whole C N) (mode : Option Mode) (call : Call C) → before.lock.env.notes ≡ (env_after earlier.notes).notes → CallFits before.objects.setup before.lock.env.notes call mode → walk_in begun.objects.walks seat ≡ object_start call → wait_in begun.objects.waits seat ≡ None → OnObjects (inl (asks_of mode call)) earlier begun
-  objects_begin begun mode Lock notes fits stands waits = record { nowhere = stands; waits_not = waits; untouched = refl }
-  objects_begin begun mode RLock notes fits stands waits = record { nowhere = stands; waits_not = waits; untouched = refl }
-  objects_begin begun mode TryLock notes fits stands waits = record { nowhere = stands; waits_not = waits; untouched = refl }
-  objects_begin begun mode TryRLock notes fits stands waits = record { nowhere = stands; waits_not = waits; untouched = refl }
-  objects_begin begun mode Unlock notes fits stands waits = record { nowhere = stands; waits_not = waits; untouched = refl }
-  objects_begin begun mode RUnlock notes fits stands waits = record { nowhere = stands; waits_not = waits; untouched = refl }
-  objects_begin begun mode UnlockQuiet notes fits stands waits = record { nowhere = stands; waits_not = waits; untouched = refl }
-  objects_begin begun mode (Get i) notes fits stands waits = record { nowhere = stands; waits_not = waits; untouched = refl }
-  objects_begin begun mode (Set i value) notes fits stands waits = record { nowhere = stands; waits_not = waits; untouched = refl }
-  objects_begin begun mode (Wait c limits) notes fits stands waits = record { nowhere = stands; waits_not = waits; untouched = refl }
-  objects_begin begun mode (CvWait k limits) notes fits stands waits = record { nowhere = stands; waits_not = waits; untouched = refl }
-  objects_begin begun mode (Signal k) notes fits stands waits = record { nowhere = stands; waits_not = waits; untouched = refl }
-  objects_begin begun mode (Broadcast k) notes fits stands waits = record { nowhere = stands; waits_not = waits; untouched = refl }
-  objects_begin begun mode (NewNote parent deadline) notes fits stands waits = record { nowhere = stands; waits_not = waits; untouched = refl }
-  objects_begin begun mode (Notify note) notes fits stands waits = record { nowhere = stands; waits_not = waits; untouched = refl }
-  objects_begin begun mode (Advance moment) notes fits stands waits = record { nowhere = stands; waits_not = waits; untouched = refl }
-  objects_begin begun mode (IsNotified note) notes fits stands waits = record { nowhere = stands; waits_not = waits; untouched = refl }
-  objects_begin begun mode (Expiry note) notes fits stands waits = record { nowhere = stands; waits_not = waits; untouched = refl }
-  objects_begin begun mode (NoteWait note deadline) notes fits stands waits = record { nowhere = stands; waits_not = waits; untouched = refl }
+  objects_begin : (begun : Whole C N) (mode : Option Mode) (call : Call C) → before.lock.env.notes ≡ (env_after earlier.notes).notes → CallFits before.objects.setup before.lock.env.notes call mode →
+      walk_in begun.objects.walks seat ≡ object_start call → wait_in begun.objects.waits seat ≡ None → OnObjects (inl (asks_of mode call)) earlier begun
   objects_begin begun mode (Add counter delta) notes fits stands waits = record { walk = _; walks = stands; waits_not = waits; is_asked = refl; events = []; added = sym (append-nil (objects_own earlier.objects seat)); so_far = refl }
   objects_begin begun mode (Value counter) notes fits stands waits = record { walk = _; walks = stands; waits_not = waits; is_asked = refl; events = []; added = sym (append-nil (objects_own earlier.objects seat)); so_far = refl }
   objects_begin begun mode (CounterWait counter deadline) notes fits stands waits = record { walk = _; walks = stands; waits_not = waits; is_asked = refl; events = []; added = sym (append-nil (objects_own earlier.objects seat)); so_far = refl }
@@ -839,6 +825,7 @@ module _ (C : Type 0) (N : ℕ) (before : Whole C N) (earlier : Past) (seat : �
     added = sym (append-nil (objects_own earlier.objects seat));
     so_far = (refl, subst (λ now. AreThere before.objects.setup now items) notes fits.0, (0, later_itself earlier));
   }
+  objects_begin begun mode other notes fits stands waits = record { nowhere = stands; waits_not = waits; untouched = refl }
 
   begins_in : (begun : Whole C N) (call : Call C) → IsLawfulWhole before → IsLawfulWhole begun → HasLedTo earlier before → WholeStarts before begun seat call → UnderwayIn (inl (asks_of (mode_of (held_at before.lock seat)) call)) earlier begun
   begins_in begun call lawful now_lawful led p =
@@ -854,10 +841,8 @@ module _ (C : Type 0) (N : ℕ) (before : Whole C N) (earlier : Past) (seat : �
 
   -- what isn't finished is under way
   unfinished : (asked : Asked C) (step : Step) (past : Past) (world : Whole C N) → IsUnfinished step → OutcomeIn asked step past world → UnderwayAs asked past world
-  unfinished asked Went past world goes p = p
-  unfinished asked Idle past world goes p = p
-  unfinished asked Nothing past world goes p = p
   unfinished asked (Finished reply) past world goes p = absurd goes
+  unfinished asked other past world goes p = p
 
   -- a step of the seat itself
   step_in : (phase : Phase) (past : Past) (old new : Whole C N) (step : Step) → IsLawfulWhole old → (p : WholeStep old new seat step) → UnderwayIn phase past old → LedToOutcome (asked_in phase) step (past_and past (done_in old new seat step p)) new

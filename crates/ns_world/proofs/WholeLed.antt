@@ -2,9 +2,9 @@
 use Rattle.std.proofs.Common.{◌≡◌, ℕ, List, [], ◌++◌, Bool, true, false, cond, ◌<◌, length, Option, None, Some, is_some, arith, refl, sym, subst, inl, inr}
 use Rattle.std.proofs.lemmas.List.{append-nil, length-set}
 use Rattle.std.proofs.lemmas.Option.{slice_get_within}
-use Rattle.ns_world.specs.Prelude.{objects_state, AnyWait, AreEnvBy, AreLedTo, AreObjectsBy, AreThere, BeginsToWait, Call, EndsLook, EnvPlain, Finished, FirstClock, HasLedTo, HasOperated, HaveLedTo, Idle, InRound, IsLawfulWhole, LedTo, LockSteps, Nothing, Now, ObjectEvent, ObjectWalk}
-use Rattle.ns_world.specs.Prelude.{Objects, Operates, Past, StandsBy, Step, WaitSteps, WaitsOnLock, Walk, Went, Whole, WholeMoves, WholeStarts, WholeStep, done_in, env_done, got_of, looks_at, notes_done, nothing_done, object_start, objects_after, objects_done, past_and}
-use Rattle.ns_world.specs.Prelude.{round_due, shown_by, stood_at, waited_after, walk_after, walk_in, want_of}
+use Rattle.ns_world.specs.Prelude.{objects_state, AnyWait, AreEnvBy, AreLedTo, AreObjectsBy, AreThere, BeginsToWait, Call, EndsLook, EnvPlain, Finished, FirstClock, HasLedTo, HasOperated, HaveLedTo, Idle, InRound, IsLawfulWhole, LedTo, LockSteps, Nothing, Now, ObjectEvent, ObjectWalk, Objects}
+use Rattle.ns_world.specs.Prelude.{Operates, Past, StandsBy, Step, WaitSteps, WaitsOnLock, Walk, Went, Whole, WholeMoves, WholeStarts, WholeStep, done_in, env_done, got_of, looks_at, notes_done, nothing_done, object_start, objects_after, objects_done, past_and, round_due, shown_by, stood_at}
+use Rattle.ns_world.specs.Prelude.{waited_after, walk_after, walk_in, want_of}
 use Rattle.ns_world.proofs.EnvGrows.{moves_led}
 use Rattle.ns_world.proofs.Wholes.{begun_led, led_stood, moves_make}
 use Rattle.ns_counters.proofs.Placed.{Fit, led_more, stands_within}

@@ -1,24 +1,16 @@
 -- The law of a whole world: how it begins, and that calls that begin and steps keep it.
-use Rattle.std.specs.List.{list_all}
-use Rattle.std.proofs.Common.{◌≡◌, ◌≢◌, ℕ, ℤ, cond, eqb, nat_lt, ◌<◌, ◌≤◌, Bool, true, false, not, List, [], ◌∷◌, ◌++◌, Option, None, Some, IsSome, is_some, length, replicate, slice_get, slice_set, slice_index, refl, ap, sym, ◌∙◌, subst, arith, inl, inr, Result, Ok}
-use Rattle.std.proofs.Common.{Err}
-use Rattle.std.specs.Prelude.{IfOk, IfErr}
+use Rattle.std.proofs.Common.{◌≡◌, ◌≢◌, ℕ, ◌<◌, ◌≤◌, true, false, not, List, [], ◌++◌, Option, None, Some, IsSome, is_some, length, replicate, slice_get, slice_set, slice_index, refl, ap, sym, ◌∙◌, subst, arith, inl, inr}
 use Rattle.std.proofs.lemmas.Bool.{cases_eq}
 use Rattle.std.proofs.lemmas.List.{length-replicate, length-set}
 use Rattle.std.proofs.lemmas.Option.{slice_get_within}
-use Rattle.ns_world.specs.Prelude.{objects_state, Act, Add, AddExchange, AddLoad, Advance, AnyWait, AreLedTo, AreThere, Ask, AtCounter, AtNote, BeginAnswers, Begun, Broadcast, Busy, Call, CallFits, Clock, CounterFault, CounterState, CounterWait, CvWait, Done, DoneLoad, Env, EnvNext}
-use Rattle.ns_world.specs.Prelude.{EnvPlain, Expiry, Fault, Finished, FirstClock, Found, Get, Goes, HasOperated, Held, Idle, InRound, IsIdle, IsInBounds, IsLawfulWhole, IsLawfulWorld, IsNotified, Item, Items, Lock, LookGoes, LooksWhere, Meets, Misuse, Mode, Moves}
-use Rattle.ns_world.specs.Prelude.{NewNote, NoSuchSeat, NoteStanding, NoteWait, Nothing, Notify, Now, Number, ObjectAct, ObjectEvent, ObjectFound, ObjectNext, ObjectStanding, ObjectWalk, Objects, OnCondition, OnCounter, OnEntry, OnLock, OnNote, OnObjects, OnVariable}
-use Rattle.ns_world.specs.Prelude.{OnWord, Once, OnceBegin, OnceEnd, OnceLoad, Operates, OutOfMemory, Over, RLock, RUnlock, Repeat, Round, RoundFits, RoundGo, RoundNext, RoundOver, RoundPlace, SeatView, Set, Setup, Signal, Stage, StandsAlone, StandsBy, Start, Started}
-use Rattle.ns_world.specs.Prelude.{Starts, Step, StepFault, StepFits, StepLimit, StepOf, ToRelease, TooManySeats, Truths, TryLock, TryRLock, Unlock, UnlockQuiet, Value, ValueLoad, Wait, WaitAny, WaitClock, WaitLoad, WaitMark, Walk, WalkFits, WantFits, Went, Whole}
-use Rattle.ns_world.specs.Prelude.{WholeBegins, WholeFault, WholeIsBusy, WholeStarts, WholeStep, asks_for_any, begun_at, by_answer, by_begun, by_deadline, by_judging, by_round, by_stage, counter_of, counter_word, env_got_of, env_want_of, fresh_whole, got_of, is_alone}
-use Rattle.ns_world.specs.Prelude.{is_for_lock, is_there, items_of, judged, mode_of, mode_waited, most, object_after, object_asked, object_got, object_start, object_step_of, object_want, objects_after, objects_begun, put_at, round_got, stage_of, start_of, stood_at}
-use Rattle.ns_world.specs.Prelude.{wait_in, walk_after, walk_in, want_of, whole}
-use Rattle.ns_model.proofs.Environments.{made_below}
+use Rattle.ns_world.specs.Prelude.{objects_state, Act, Add, Advance, AnyWait, AreLedTo, AreThere, Ask, BeginAnswers, Begun, Broadcast, Busy, Call, CallFits, CounterWait, CvWait, Done, EnvNext, EnvPlain, Expiry, Fault, Finished, Found, Get, Goes, HasOperated, Held, Idle, InRound, IsIdle}
+use Rattle.ns_world.specs.Prelude.{IsLawfulWhole, IsLawfulWorld, IsNotified, Lock, LookGoes, LooksWhere, Meets, Misuse, Mode, Moves, NewNote, NoSuchSeat, NoteStanding, NoteWait, Nothing, Notify, Now, ObjectEvent, ObjectFound, ObjectNext, ObjectStanding, ObjectWalk, Objects, OnCondition, OnEntry}
+use Rattle.ns_world.specs.Prelude.{OnLock, OnObjects, Once, Operates, OutOfMemory, Over, RLock, RUnlock, Repeat, Round, SeatView, Set, Setup, Signal, StandsAlone, StandsBy, Start, Started, Starts, Step, StepFault, StepFits, StepLimit, StepOf, ToRelease, TooManySeats, Truths, TryLock, TryRLock}
+use Rattle.ns_world.specs.Prelude.{Unlock, UnlockQuiet, Value, Wait, WaitAny, Walk, WalkFits, Went, Whole, WholeBegins, WholeFault, WholeIsBusy, WholeStarts, WholeStep, asks_for_any, begun_at, env_got_of, env_want_of, fresh_whole, got_of, is_alone, is_for_lock, items_of, mode_of, mode_waited}
+use Rattle.ns_world.specs.Prelude.{most, object_after, object_asked, object_got, object_start, object_step_of, objects_after, objects_begun, put_at, start_of, stood_at, wait_in, walk_after, walk_in, want_of, whole}
 use Rattle.ns_counters.proofs.NewObjects.{new_lawful}
 use Rattle.ns_env.proofs.Asks.{if_made_stays, set_here, set_there}
 use Rattle.ns_counters.specs.declared.walk.ObjectNext.TheVariants.{Go}
-use Rattle.ns_counters.specs.declared.round.ObjectFound.TheVariants.{Word}
 use Rattle.ns_word.proofs.Asked.{asked_stays, quiet_asks, test_asks}
 use Rattle.ns_world.specs.Whole.{MayWait}
 use Rattle.ns_world.proofs.Fresh.{lawful_new, length_views, no_walk}
@@ -66,25 +58,7 @@ first_fits setup now notes mode seat (CounterWait counter deadline) fits = fits
 first_fits setup now notes mode seat (Once once) fits = fits
 first_fits setup now notes mode seat (Done once) fits = fits
 first_fits setup now notes mode seat (WaitAny items deadline) fits = (fits.0, tt)
-first_fits setup now notes mode seat Lock fits = tt
-first_fits setup now notes mode seat RLock fits = tt
-first_fits setup now notes mode seat TryLock fits = tt
-first_fits setup now notes mode seat TryRLock fits = tt
-first_fits setup now notes mode seat Unlock fits = tt
-first_fits setup now notes mode seat RUnlock fits = tt
-first_fits setup now notes mode seat UnlockQuiet fits = tt
-first_fits setup now notes mode seat (Get i) fits = tt
-first_fits setup now notes mode seat (Set i v) fits = tt
-first_fits setup now notes mode seat (Wait c limits) fits = tt
-first_fits setup now notes mode seat (CvWait k limits) fits = tt
-first_fits setup now notes mode seat (Signal k) fits = tt
-first_fits setup now notes mode seat (Broadcast k) fits = tt
-first_fits setup now notes mode seat (NewNote parent deadline) fits = tt
-first_fits setup now notes mode seat (Notify note) fits = tt
-first_fits setup now notes mode seat (Advance moment) fits = tt
-first_fits setup now notes mode seat (IsNotified note) fits = tt
-first_fits setup now notes mode seat (Expiry note) fits = tt
-first_fits setup now notes mode seat (NoteWait note deadline) fits = tt
+first_fits setup now notes mode seat other fits = tt
 
 -- ---- who waits for no set of variables goes on so
 
@@ -134,30 +108,7 @@ some_held (Some section) some = refl
 -- a call that may go on to wait for condition variables begins with a section in hand
 start_may : {C : Type 0} {N : ℕ} (setup : Setup) (notes : ℕ → NoteStanding) (call : Call C) (held : Option (Held C N)) → CallFits setup notes call (mode_of held) → MayWait (object_start call) held
 start_may setup notes (WaitAny items deadline) held fits = λ named. let one = some_among (items_of items) named in some_held held (fits.1 one.0 one.1)
-start_may setup notes Lock held fits = tt
-start_may setup notes RLock held fits = tt
-start_may setup notes TryLock held fits = tt
-start_may setup notes TryRLock held fits = tt
-start_may setup notes Unlock held fits = tt
-start_may setup notes RUnlock held fits = tt
-start_may setup notes UnlockQuiet held fits = tt
-start_may setup notes (Get i) held fits = tt
-start_may setup notes (Set i v) held fits = tt
-start_may setup notes (Wait c limits) held fits = tt
-start_may setup notes (CvWait k limits) held fits = tt
-start_may setup notes (Signal k) held fits = tt
-start_may setup notes (Broadcast k) held fits = tt
-start_may setup notes (NewNote parent deadline) held fits = tt
-start_may setup notes (Notify note) held fits = tt
-start_may setup notes (Advance moment) held fits = tt
-start_may setup notes (IsNotified note) held fits = tt
-start_may setup notes (Expiry note) held fits = tt
-start_may setup notes (NoteWait note deadline) held fits = tt
-start_may setup notes (Add counter delta) held fits = tt
-start_may setup notes (Value counter) held fits = tt
-start_may setup notes (CounterWait counter deadline) held fits = tt
-start_may setup notes (Once once) held fits = tt
-start_may setup notes (Done once) held fits = tt
+start_may setup notes other held fits = tt
 
 -- whether a round may wait, or looks for a wait on the lock, is told by what was asked
 may_asked : {C : Type 0} {N : ℕ} (walk : ObjectWalk) (held : Option (Held C N)) → MayWait (Some walk) held → MayWait (Some (object_asked walk)) held
@@ -226,7 +177,8 @@ module _ {C : Type 0} {N : ℕ} where
   begun_rests old seat view (OnObjects walk) other ne = record { views = refl; asking = refl }
 
   -- a seat stands as it stood in a world that differs in nothing of its own, and in which more notes may be made
-  pub stands_on : (old new : Whole C N) (other : ℕ) → Rests old.lock new.lock other → walk_in new.objects.walks other ≡ walk_in old.objects.walks other → new.objects.setup ≡ old.objects.setup → ((n : ℕ) → (old.lock.env.notes n).made ≡ true → (new.lock.env.notes n).made ≡ true) → (wait : Option AnyWait) → StandsBy old other wait → StandsBy new other wait
+  pub stands_on : (old new : Whole C N) (other : ℕ) → Rests old.lock new.lock other → walk_in new.objects.walks other ≡ walk_in old.objects.walks other → new.objects.setup ≡ old.objects.setup →
+      ((n : ℕ) → (old.lock.env.notes n).made ≡ true → (new.lock.env.notes n).made ≡ true) → (wait : Option AnyWait) → StandsBy old other wait → StandsBy new other wait
   stands_on old new other rests walks setup more None s = record {
     alone = λ view at. s.alone view (sym rests.views ∙ at);
     apart = λ walk at. idle_on old.lock new.lock other rests (s.apart walk (sym walks ∙ at));
@@ -282,7 +234,8 @@ module _ {C : Type 0} {N : ℕ} where
   }
 
   -- how each seat stands, by how this one does
-  pub each_stands : (world : Whole C N) (seat : ℕ) (wait : Option AnyWait) → wait_in world.objects.waits seat ≡ wait → StandsBy world seat wait → ((other : ℕ) → other ≢ seat → StandsBy world other (wait_in world.objects.waits other)) → (other : ℕ) → StandsBy world other (wait_in world.objects.waits other)
+  pub each_stands : (world : Whole C N) (seat : ℕ) (wait : Option AnyWait) → wait_in world.objects.waits seat ≡ wait → StandsBy world seat wait →
+      ((other : ℕ) → other ≢ seat → StandsBy world other (wait_in world.objects.waits other)) → (other : ℕ) → StandsBy world other (wait_in world.objects.waits other)
   each_stands world seat wait is here there other = elim (cases_eq other seat) [
     | inl e ↦ subst (λ n. StandsBy world n (wait_in world.objects.waits n)) (sym e) (subst (StandsBy world seat) (sym is) here)
     | inr ne ↦ there other ne
@@ -293,8 +246,7 @@ module _ {C : Type 0} {N : ℕ} where
   -- what a call that begins changes of the lock leaves the notes, and how many seats there are
   begun_notes : (old : Now C N) (seat : ℕ) (view : SeatView C N) (start : Start C) → (begun_at old seat view start).env ≡ old.env
   begun_notes old seat view (OnLock walk) = refl
-  begun_notes old seat view (Ask walk) = refl
-  begun_notes old seat view (OnObjects walk) = refl
+  begun_notes old seat view other = refl
 
   -- nor does one on counters and once cells change its seat's view
   begun_view : (old : Now C N) (seat : ℕ) (view : SeatView C N) (start : Start C) (place : ObjectWalk) → Pairs start (Some place) → slice_get (begun_at old seat view start).state.views seat ≡ slice_get old.state.views seat
@@ -523,16 +475,12 @@ module _ {C : Type 0} {N : ℕ} where
     nothing (Go walk) e = absurd (cc)
     nothing (Repeat walk) e = absurd (cc)
     nothing (Over reply) e = absurd (cc)
-  operated_step old new seat Went p = inr (inl p)
-  operated_step old new seat Idle p = inr (inl p)
-  operated_step old new seat (Finished reply) p = inr (inl p)
+  operated_step old new seat other p = inr (inl p)
 
   -- a step by the lock, of a seat that is in no call on counters and once cells
   pub lock_step : (old : Whole C N) (new : Now C N) (seat : ℕ) (step : Step) → walk_in old.objects.walks seat ≡ None → wait_in old.objects.waits seat ≡ None → StepOf old.lock new seat step → WholeStep old (whole new old.objects) seat step
   lock_step old new seat Nothing elsewhere waits_not p = (ap (λ (world : Now C N). whole world old.objects) p.0, (p.1, elsewhere))
-  lock_step old new seat Went elsewhere waits_not p = inl (record { moves = p; same = refl; elsewhere = elsewhere; waits_not = waits_not })
-  lock_step old new seat Idle elsewhere waits_not p = inl (record { moves = p; same = refl; elsewhere = elsewhere; waits_not = waits_not })
-  lock_step old new seat (Finished reply) elsewhere waits_not p = inl (record { moves = p; same = refl; elsewhere = elsewhere; waits_not = waits_not })
+  lock_step old new seat other elsewhere waits_not p = inl (record { moves = p; same = refl; elsewhere = elsewhere; waits_not = waits_not })
 
   -- and it keeps the law
   pub lock_step_keeps : (old : Whole C N) (new : Now C N) (seat : ℕ) (step : Step) → IsLawfulWhole old → walk_in old.objects.walks seat ≡ None → wait_in old.objects.waits seat ≡ None → IsLawfulWorld new → StepOf old.lock new seat step → IsLawfulWhole (whole new old.objects)
@@ -544,11 +492,6 @@ module _ {C : Type 0} {N : ℕ} where
   -- a refused step leaves the world as it was
   pub same_keeps : (old : Whole C N) (new : Now C N) → IsLawfulWhole old → new ≡ old.lock → IsLawfulWhole (whole new old.objects)
   same_keeps old new lawful same = subst (λ (world : Now C N). IsLawfulWhole (whole world old.objects)) (sym same) lawful
-
-  -- so a step keeps the law, whether it was refused or not
-  pub lock_result_keeps : (old : Whole C N) (new : Now C N) (seat : ℕ) (result : Result Step Fault) → IsLawfulWhole old → walk_in old.objects.walks seat ≡ None → wait_in old.objects.waits seat ≡ None → IsLawfulWorld new → IfOk result (λ step. StepOf old.lock new seat step) → IfErr result (λ fault. (new ≡ old.lock) × StepFault old.lock seat fault) → IsLawfulWhole (whole new old.objects)
-  lock_result_keeps old new seat (Ok step) lawful elsewhere waits_not now_lawful ok err = lock_step_keeps old new seat step lawful elsewhere waits_not now_lawful ok
-  lock_result_keeps old new seat (Err fault) lawful elsewhere waits_not now_lawful ok err = same_keeps old new lawful err.0
 
   pub lock_fault : (old : Whole C N) (new : Now C N) (seat : ℕ) (fault : Fault) → (new ≡ old.lock) × StepFault old.lock seat fault → (whole new old.objects ≡ old) × WholeFault old seat fault
   lock_fault old new seat OutOfMemory p = (ap (λ (world : Now C N). whole world old.objects) p.0, p.1)

@@ -3,10 +3,9 @@ use Rattle.std.proofs.Common.{false, ◌≡◌, ℕ, suc, inl, inr, ◌<◌, ◌
 use Rattle.std.proofs.lemmas.Option.{slice_get-get_or}
 use Rattle.std.proofs.lemmas.Bool.{cases_eq}
 use Rattle.std.proofs.lemmas.List.{append-nil, set-get_or, length-set, length-map}
-use Rattle.ns_world.specs.Prelude.{ActFits, Acts, Ask, Asks, AsksFor, Cause, Effect, EnvActFits, EnvBegins, EnvEffect, EnvEvent, EnvMoves, EnvNext, EnvPlain, EnvStep, EnvWalk, Environment, Event, Finished, Found, Go, Goes, Idle, IfMade, IsFirst, IsFirstAsk, IsLawfulEnv}
-use Rattle.ns_world.specs.Prelude.{IsLawfulWorld, IsSettled, Lists, LockState, LookFits, LookGoes, LookOver, LookStep, Looks, MayShow, Moves, MovesFrom, Next, NoteStanding, NotesMade, Nothing, Now, ObjectWalk, On, OnLock, OnObjects, Performs, PlaceFits, QuietKeeps}
-use Rattle.ns_world.specs.Prelude.{Seat, SeatLooks, SeatView, Sees, StandRight, Start, Step, StepOf, Truths, Walk, Went, Word, env_got_of, env_state, env_step_of, env_walk_after, env_want_of, got_of, look_of, looks_at, note_in, now_with, outcome, placed, plain_of}
-use Rattle.ns_world.specs.Prelude.{seat_part, step_of, tests_after, view_of, waits_among, walk_after, want_of}
+use Rattle.ns_world.specs.Prelude.{ActFits, Acts, Ask, Asks, AsksFor, Cause, Effect, EnvActFits, EnvBegins, EnvEffect, EnvEvent, EnvMoves, EnvNext, EnvPlain, EnvStep, EnvWalk, Environment, Event, Finished, Found, Go, Goes, Idle, IfMade, IsFirst, IsFirstAsk, IsLawfulEnv, IsLawfulWorld, IsSettled}
+use Rattle.ns_world.specs.Prelude.{Lists, LockState, LookFits, LookGoes, LookOver, LookStep, Looks, MayShow, Moves, MovesFrom, Next, NoteStanding, NotesMade, Nothing, Now, ObjectWalk, On, OnLock, OnObjects, Performs, PlaceFits, QuietKeeps, Seat, SeatLooks, SeatView, Sees, StandRight, Start, Step}
+use Rattle.ns_world.specs.Prelude.{StepOf, Truths, Walk, Went, Word, env_got_of, env_state, env_step_of, env_walk_after, env_want_of, got_of, look_of, looks_at, note_in, now_with, outcome, placed, plain_of, seat_part, step_of, tests_after, view_of, waits_among, walk_after, want_of}
 use Rattle.ns_word.specs.declared.walk.Next.TheVariants.{Done}
 use Rattle.ns_env.specs.declared.walk.EnvNext.TheVariants.{Repeat, Over}
 use Rattle.ns_word.specs.Lawful.{IsLawful}
@@ -94,7 +93,8 @@ env_begins events plain askings i None at first p = subst (λ xs. IsLawfulEnv ev
 env_begins events plain askings i (Some walk) at first p = begins_env events (env_state plain askings) (env_state plain (slice_set askings i (Some walk))) i walk (record { over = at; first = first; becomes = refl }) p
 
 -- a world that differs from a lawful one in its clock, its notes and the calls on these
-lawful_env : {C : Type 0} {N : ℕ} (old : Now C N) (env : EnvPlain) (askings : List (Option EnvWalk)) (tests : List ℕ) (events : List EnvEvent) → length askings ≡ length old.asking → StandRight old.state.views askings → NotesMade old.state.views env.notes → IsLawfulEnv events (env_state env askings) → IsLawfulWorld old →
+lawful_env : {C : Type 0} {N : ℕ} (old : Now C N) (env : EnvPlain) (askings : List (Option EnvWalk)) (tests : List ℕ) (events : List EnvEvent) → length askings ≡ length old.asking → StandRight old.state.views askings →
+    NotesMade old.state.views env.notes → IsLawfulEnv events (env_state env askings) → IsLawfulWorld old →
     IsLawfulWorld (record old { env = env; asking = askings; tests = tests })
 lawful_env old env askings tests events same right noted keeps lawful = record {
   few = lawful.few;

@@ -1,11 +1,9 @@
 -- Where a call begins, and the section that it needs.
 use Rattle.std.specs.Prelude.{◌≡◌, ℕ, nat_lt, ◌<◌, ◌≤◌, ◌^◌, Bool, true, not, ◌&&◌, ◌||◌, Option, Some, None, IsSome, IfSome, is_some, length}
 use Rattle.std.specs.List.{list_all}
-use Rattle.ns_world.specs.Names.{AcquireLoad, Add, AddLoad, Advance, Advancing, AsFresh, Ask, Broadcast, Broadcasting, Call, ClockLoad, CounterWait, CvWait, Done, DoneLoad, Expiry, ExpiryLoad, FirstClock, ForIsNotified, ForLock, ForNoteWait, Get, GetLoad, Held, IfMade}
-use Rattle.ns_world.specs.Names.{InAcquire, InCells, InRelease, InRound, InSignal, InTry, IsNotified, Lock, Mode, NewNote, NextLoad, NoteStanding, NoteWait, Notify, Notifying, ObjectWalk, OnCondition, OnLock, OnObjects, OnVariables, Once, OnceLoad, Only, RLock, RUnlock}
-use Rattle.ns_world.specs.Names.{Read, Reader, ReleaseLoad, Set, SetLoad, Setup, Signal, SignalLoad, Signaling, Start, ToRelease, TryLoad, TryLock, TryRLock, Unlock, UnlockQuiet, Value, ValueLoad, Wait, WaitAny, WaitMark, Write, Writer, quiet_first, wait_first}
-use Rattle.ns_world.specs.Names.{have_variable, is_among, items_of}
-use Rattle.ns_world.specs.Names.{AreThere, is_there}
+use Rattle.ns_world.specs.Names.{AcquireLoad, Add, AddLoad, Advance, Advancing, AsFresh, Ask, Broadcast, Broadcasting, Call, ClockLoad, CounterWait, CvWait, Done, DoneLoad, Expiry, ExpiryLoad, FirstClock, ForIsNotified, ForLock, ForNoteWait, Get, GetLoad, Held, IfMade, InAcquire, InCells}
+use Rattle.ns_world.specs.Names.{InRelease, InRound, InSignal, InTry, IsNotified, Lock, Mode, NewNote, NextLoad, NoteStanding, NoteWait, Notify, Notifying, ObjectWalk, OnCondition, OnLock, OnObjects, OnVariables, Once, OnceLoad, Only, RLock, RUnlock, Read, Reader, ReleaseLoad, Set, SetLoad, Setup}
+use Rattle.ns_world.specs.Names.{Signal, SignalLoad, Signaling, Start, ToRelease, TryLoad, TryLock, TryRLock, Unlock, UnlockQuiet, Value, ValueLoad, Wait, WaitAny, WaitMark, Write, Writer, quiet_first, wait_first, have_variable, is_among, items_of, AreThere, is_there}
 
 -- the mode of the section that a wait leaves
 abbrev pub mode_waited : Option Mode → Mode

@@ -1,14 +1,12 @@
 -- What the answer of a call in a world means, whatever others do while it is in progress.
 use Rattle.std.specs.Prelude.{◌≡◌, ℕ, zero, suc, ◌<◌, ◌⊎◌, true, List, ◌++◌, Option, None, Some, slice_get}
 use Rattle.std.proofs.Common.{inl, inr, []}
-use Rattle.ns_world.specs.Names.{Add, AddLoad, Advance, Any, Asked, AtSomePoint, Broadcast, Broadcasting, Call, Cause, CounterWait, Course, CvWait, Cvs, Done, DoneLoad, EnvCourse, EnvEvent, EnvMeans, EnvReply, EnvRequest, Expiry, Finished, FirstClock, Get, Held}
-use Rattle.ns_world.specs.Names.{InRound, IsLater, IsNotified, Limits, Lock, Means, Mode, NewNote, NoteWait, Notify, Number, ObjectEvent, ObjectReply, ObjectWalk, OfLock, OfNotes, OfObjects, OnCondition, OnVariable, OnVariables, Once, OnceLoad, Only, Past, QuietWriter, RLock}
-use Rattle.ns_world.specs.Names.{RUnlock, Read, Reader, Reply, Request, Round, RoundShows, SeatView, Set, Setup, Shows, Signal, Signaling, Started, Step, Subject, TryLock, TryRLock, Unlock, UnlockQuiet, Value, ValueLoad, Wait, WaitAny, WaitMark, WalkReply, WokenBy}
-use Rattle.ns_world.specs.Names.{Write, Writer, env_own, objects_own, own, row_after}
+use Rattle.ns_world.specs.Names.{Add, AddLoad, Advance, Any, Asked, AtSomePoint, Broadcast, Broadcasting, Call, Cause, CounterWait, Course, CvWait, Cvs, Done, DoneLoad, EnvCourse, EnvEvent, EnvMeans, EnvReply, EnvRequest, Expiry, Finished, FirstClock, Get, Held, InRound, IsLater, IsNotified}
+use Rattle.ns_world.specs.Names.{Limits, Lock, Means, Mode, NewNote, NoteWait, Notify, Number, ObjectEvent, ObjectReply, ObjectWalk, OfLock, OfNotes, OfObjects, OnCondition, OnVariable, OnVariables, Once, OnceLoad, Only, Past, QuietWriter, RLock, RUnlock, Read, Reader, Reply, Request, Round}
+use Rattle.ns_world.specs.Names.{RoundShows, SeatView, Set, Setup, Shows, Signal, Signaling, Started, Step, Subject, TryLock, TryRLock, Unlock, UnlockQuiet, Value, ValueLoad, Wait, WaitAny, WaitMark, WalkReply, WokenBy, Write, Writer, env_own, objects_own, own, row_after}
 use Rattle.ns_world.specs.Calls.{mode_of, mode_waited}
 use Rattle.ns_world.specs.Among.{waits_for_any}
-use Rattle.ns_world.specs.Names.{AreAmong, is_among, item_at, items_of}
-use Rattle.ns_world.specs.Names.{AnyAnswers, IsReady, ObjectMeans, past_and}
+use Rattle.ns_world.specs.Names.{AreAmong, is_among, item_at, items_of, AnyAnswers, IsReady, ObjectMeans, past_and}
 use Rattle.ns_world.specs.Replies.{told, env_told, object_told}
 use Rattle.ns_world.specs.Whole.{Whole, HaveLedTo, IsLawfulWhole, WholeBegins, WholeStep, notes_by, objects_by}
 use Rattle.ns_world.specs.World.{Now, LedTo}

@@ -1,25 +1,22 @@
 -- The names of crates below and of this crate's own types, passed on from one place. Declares nothing.
-pub use Rattle.ns_counters.specs.Asks.{AreThere, IsLawfulObjects, IsLoad, ObjectEffect, ObjectState, RoundFits, StepFits, WalkFits, WantFits, is_there, walk_in, word_left}
-pub use Rattle.ns_counters.specs.Items.{AreAmong, IsLow, have_variable, is_among, is_this, is_variable, item_at, items_of, place_in}
-pub use Rattle.ns_counters.specs.Lawful.{IsLawful, ViewFits}
+pub use Rattle.ns_counters.specs.Asks.{AreThere, IsLawfulObjects, IsLoad, ObjectEffect, ObjectState, StepFits, WalkFits, is_there, walk_in}
+pub use Rattle.ns_counters.specs.Items.{AreAmong, IsLow, have_variable, is_among, item_at, items_of, place_in}
+pub use Rattle.ns_counters.specs.Lawful.{IsLawful}
 pub use Rattle.ns_counters.specs.Made.{first_words, padded, setup_of}
-pub use Rattle.ns_counters.specs.Meanings.{AnyAnswers, AtSomeMoment, HadValue, HasLookedUpTo, IsReady, ObjectGoes, ObjectMeans, ObjectSoFar, RoundSoFar, WereThere, object_asked, past_and}
-pub use Rattle.ns_counters.specs.Objects.{ObjectStanding, first_objects, object_next, object_who, objects_after, objects_own}
-pub use Rattle.ns_counters.specs.RoundWalks.{IsInList, by_chain, chain_from, from_items, from_place, round_got, round_want}
-pub use Rattle.ns_counters.specs.Rounds.{AnswersByRounds, HasShownNone, HaveShownNothing, InTurn, IsLater, Past, RoundShows}
-pub use Rattle.ns_counters.specs.Steps.{CanAct, Outcome, tried, word_at, word_of_once}
-pub use Rattle.ns_counters.specs.Walks.{IsInBounds, by_answer, by_begun, by_deadline, by_judging, by_round, by_stage, has_run, object_after, object_got, object_place, object_want, waited_next}
-pub use Rattle.ns_counters.specs.Words.{counter_of, counter_word, stage, stage_of}
+pub use Rattle.ns_counters.specs.Meanings.{AnyAnswers, IsReady, ObjectGoes, ObjectMeans, ObjectSoFar, RoundSoFar, WereThere, object_asked, past_and}
+pub use Rattle.ns_counters.specs.Objects.{ObjectStanding, object_who, objects_after, objects_own}
+pub use Rattle.ns_counters.specs.RoundWalks.{round_got}
+pub use Rattle.ns_counters.specs.Rounds.{HaveShownNothing, IsLater, Past, RoundShows}
+pub use Rattle.ns_counters.specs.Steps.{word_at}
+pub use Rattle.ns_counters.specs.Walks.{IsInBounds, by_round, object_after, object_got, object_place, object_want}
+pub use Rattle.ns_counters.specs.Words.{counter_word}
 pub use Rattle.ns_counters.specs.declared.act.ObjectAct.{ObjectAct}
-pub use Rattle.ns_counters.specs.declared.act.ObjectAct.TheVariants.{BeginOnce, EndOnce, ExchangeToAdd, LoadToAdd, LookCounter, LookOnce, MarkWait}
+pub use Rattle.ns_counters.specs.declared.act.ObjectAct.TheVariants.{BeginOnce, EndOnce, ExchangeToAdd, MarkWait}
 pub use Rattle.ns_counters.specs.declared.items.Item.{Item}
-pub use Rattle.ns_counters.specs.declared.items.Item.TheVariants.{OnCounter, OnCounter as OnCounterItem, OnNote, OnVariable}
+pub use Rattle.ns_counters.specs.declared.items.Item.TheVariants.{OnCounter, OnNote, OnVariable}
 pub use Rattle.ns_counters.specs.declared.items.Items.{Items}
 pub use Rattle.ns_counters.specs.declared.object.ObjectEvent.{ObjectEvent}
-pub use Rattle.ns_counters.specs.declared.object.ObjectEvent.TheVariants.{OnOnce}
-pub use Rattle.ns_counters.specs.declared.object.ObjectView.{ObjectView}
 pub use Rattle.ns_counters.specs.declared.object.Place.{Place}
-pub use Rattle.ns_counters.specs.declared.object.Place.TheVariants.{Adding, Free, Running}
 pub use Rattle.ns_counters.specs.declared.object.Setup.{Setup}
 pub use Rattle.ns_counters.specs.declared.reply.ObjectReply.{ObjectReply}
 pub use Rattle.ns_counters.specs.declared.round.ObjectFound.{ObjectFound}
@@ -35,43 +32,33 @@ pub use Rattle.ns_counters.specs.declared.walk.ObjectNext.{ObjectNext}
 pub use Rattle.ns_counters.specs.declared.walk.ObjectNext.TheVariants.{Over, Repeat}
 pub use Rattle.ns_counters.specs.declared.walk.ObjectWalk.{ObjectWalk}
 pub use Rattle.ns_counters.specs.declared.walk.ObjectWalk.TheVariants.{AddExchange, AddLoad, DoneLoad, InRound, OnceBegin, OnceEnd, OnceLoad, ValueLoad, WaitClock, WaitLoad, WaitMark}
-pub use Rattle.ns_counters.specs.declared.word.Stage.{Stage}
 pub use Rattle.ns_env.specs.Asks.{EnvActFits, EnvBegins, EnvEffect, EnvState, EnvStep, IfMade, IsFirstAsk, IsLawfulEnv}
-pub use Rattle.ns_env.specs.Chains.{ChainFits}
 pub use Rattle.ns_env.specs.Lawful.{Meets}
 pub use Rattle.ns_env.specs.Meanings.{AtSomePoint, EnvCourse, EnvGoes, EnvGoesOn, EnvMeans, EnvSoFar, LookMeans, Shows, env_asked_of, env_course_after, env_course_at}
 pub use Rattle.ns_env.specs.Notes.{standing_of, state_of}
 pub use Rattle.ns_env.specs.Steps.{EnvPlain, fresh_plain, outcome}
 pub use Rattle.ns_env.specs.Walks.{env_got_of, env_walk_after, env_want_of, passed, stopped, up_to}
 pub use Rattle.ns_env.specs.declared.act.EnvAct.{EnvAct}
-pub use Rattle.ns_env.specs.declared.act.EnvAct.TheVariants.{LoadClock, LoadNote}
 pub use Rattle.ns_env.specs.declared.act.EnvFound.{EnvFound}
-pub use Rattle.ns_env.specs.declared.act.EnvFound.TheVariants.{Clock, Note}
 pub use Rattle.ns_env.specs.declared.limits.Cause.{Cause}
 pub use Rattle.ns_env.specs.declared.limits.Cause.TheVariants.{Expired}
 pub use Rattle.ns_env.specs.declared.limits.Limits.{Limits}
 pub use Rattle.ns_env.specs.declared.note.NoteWord.{NoteWord}
 pub use Rattle.ns_env.specs.declared.reply.EnvReply.{EnvReply}
-pub use Rattle.ns_env.specs.declared.reply.EnvReply.TheVariants.{Is as IsSo}
 pub use Rattle.ns_env.specs.declared.request.EnvRequest.{EnvRequest}
 pub use Rattle.ns_env.specs.declared.walk.Chain.TheVariants.{ForIsNotified, ForLook, ForNoteWait}
 pub use Rattle.ns_env.specs.declared.walk.EnvNext.{EnvNext}
 pub use Rattle.ns_env.specs.declared.walk.EnvNext.TheVariants.{Go, LookOver}
 pub use Rattle.ns_env.specs.declared.walk.EnvWalk.{EnvWalk}
 pub use Rattle.ns_env.specs.declared.walk.EnvWalk.TheVariants.{Advancing, ClockLoad, ExpiryLoad, NextLoad, NoteLoad, Notifying}
-pub use Rattle.ns_model.specs.Beginnings.{BeginsWith, IsBetween}
-pub use Rattle.ns_model.specs.Counters.{is_ready, judged, most}
-pub use Rattle.ns_model.specs.Environments.{IsLegalEnv, NoteStanding, clock_of, env_after, env_own, env_who, is_due, is_over, no_note}
-unfoldable pub use Rattle.ns_model.specs.Environments.{is_notified}
+pub use Rattle.ns_model.specs.Beginnings.{BeginsWith}
+pub use Rattle.ns_model.specs.Counters.{judged, most}
+pub use Rattle.ns_model.specs.Environments.{NoteStanding, env_after, env_own, env_who, is_due, is_over, no_note}
 pub use Rattle.ns_model.specs.Histories.{own, row_after}
-pub use Rattle.ns_model.specs.Lines.{IsLeftAt}
-pub use Rattle.ns_model.specs.Onces.{is_done}
 pub use Rattle.ns_model.specs.Room.{HasRoom, room, room_enough}
 pub use Rattle.ns_model.specs.Seats.{is_in}
 pub use Rattle.ns_model.specs.Tallies.{Every}
 pub use Rattle.ns_model.specs.Truths.{QuietKeeps, Truths}
-pub use Rattle.ns_model.specs.declared.counter.CounterFault.{CounterFault}
-pub use Rattle.ns_model.specs.declared.counter.CounterState.{CounterState}
 pub use Rattle.ns_model.specs.declared.cvs.Cvs.{Cvs}
 pub use Rattle.ns_model.specs.declared.cvs.Variables.TheVariants.{Any, Only}
 pub use Rattle.ns_model.specs.declared.environment.EnvEvent.{EnvEvent}
@@ -80,8 +67,6 @@ pub use Rattle.ns_model.specs.declared.event.Event.{Event}
 pub use Rattle.ns_model.specs.declared.event.Exit.TheVariants.{Plain}
 pub use Rattle.ns_model.specs.declared.event.Mode.{Mode}
 pub use Rattle.ns_model.specs.declared.event.Mode.TheVariants.{Read, Write}
-pub use Rattle.ns_model.specs.declared.once.OnceEvent.TheVariants.{Began}
-pub use Rattle.ns_model.specs.declared.once.OnceState.{OnceState}
 pub use Rattle.ns_queue.specs.Queues.{Lists, cvs_without, times, waiters_of, with_waiters}
 pub use Rattle.ns_queue.specs.Scans.{left_of, tests_of, woken_of}
 pub use Rattle.ns_queue.specs.Signals.{taken_set}

@@ -1,8 +1,8 @@
 -- A world as a contract sees it: the lock with its row, the clock and the notes, and beside them counters and once cells; and a seat's step in it.
 use Rattle.std.specs.Prelude.{◌≡◌, ℕ, ◌⊎◌, Bool, true, false, not, ◌||◌, ◌<◌, ◌≤◌, List, [], Option, Some, None, IsSome, is_some, length, slice_get}
 use Rattle.std.proofs.Common.{inl, inr}
-use Rattle.ns_world.specs.Names.{Act, AnyWait, Begun, Busy, Call, Cvs, EnvEvent, Environment, Event, Every, Fault, Finished, Held, Idle, InRound, Lists, Looked, Misuse, Mode, NoSuchSeat, Nothing, ObjectEvent, ObjectWalk, Objects, OnLock, OutOfMemory, Round, RoundPlace}
-use Rattle.ns_world.specs.Names.{Seat, SeatView, Started, Step, StepLimit, TooManySeats, Truths, Walk, Went, Word, asked_of, got_of, object_who, wait_first, walk_after, want_of}
+use Rattle.ns_world.specs.Names.{Act, AnyWait, Begun, Busy, Call, Cvs, EnvEvent, Environment, Event, Every, Fault, Finished, Held, Idle, InRound, Lists, Looked, Misuse, Mode, NoSuchSeat, Nothing, ObjectEvent, ObjectWalk, Objects, OnLock, OutOfMemory, Round, RoundPlace, Seat, SeatView, Started}
+use Rattle.ns_world.specs.Names.{Step, StepLimit, TooManySeats, Truths, Walk, Went, Word, asked_of, got_of, object_who, wait_first, walk_after, want_of}
 use Rattle.ns_world.specs.Among.{asks_for_any, cause_of, is_for_lock, shown_by, step_told, waited_after, waits_for_any}
 use Rattle.ns_world.specs.Begins.{Starts, Misuses, begun_at}
 use Rattle.ns_world.specs.Calls.{mode_of, mode_waited, object_start}

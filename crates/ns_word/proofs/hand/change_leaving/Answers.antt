@@ -1,13 +1,11 @@
 use Rattle.std.proofs.Common.{◌≡◌, ℕ, [], refl}
-use Rattle.ns_word.specs.Prelude.{AwaitWakeToLeave, Cause, InLeaving, Leave, LeaveLoad, LeavePlace, Lists, TakeToLeave, Truths, Wait, Word, wait_hand}
+use Rattle.ns_word.specs.Prelude.{Cause, InLeaving, Leave, LeavePlace, Lists, Truths, Wait, Word, wait_hand}
 use Rattle.ns_word.proofs.hand.change_leaving.Goals as goal
 
 -- at no other place does it change the lists
 left_there : {C : Type 0} (truths : Truths C) (seat : ℕ) (wait : Wait C) (cause : Cause) (place : LeavePlace) (lists : Lists C) → ((last : Word) → place ≡ Leave last → ⊥) → lists ≡ wait_hand truths seat wait (InLeaving cause place) [] lists
-left_there truths seat wait cause LeaveLoad lists other = refl
-left_there truths seat wait cause (TakeToLeave last) lists other = refl
 left_there truths seat wait cause (Leave last) lists other = absurd (other last refl)
-left_there truths seat wait cause AwaitWakeToLeave lists other = refl
+left_there truths seat wait cause any lists other = refl
 
 pub returns-in-Leave : goal.returns-in-Leave
 returns-in-Leave g c = rw c.in-Leave.is (rw c.home.ensures at (c.leave_self.ensures.left c.in-Leave.field-0))

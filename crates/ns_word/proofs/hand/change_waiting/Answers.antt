@@ -1,5 +1,5 @@
 use Rattle.std.proofs.Common.{rules, refl, ◌≡◌, ◌∙◌, ℕ, List, []}
-use Rattle.ns_word.specs.Prelude.{AwaitWakeToLeave, Cause, InLeaving, Leave, LeaveLoad, LeavePlace, Lists, TakeToLeave, Truths, Wait, wait_hand}
+use Rattle.ns_word.specs.Prelude.{Cause, InLeaving, Leave, LeavePlace, Lists, Truths, Wait, wait_hand}
 use Rattle.ns_word.proofs.hand.change_waiting.Goals as goal
 
 pub change_queuing-requires : goal.change_queuing-requires
@@ -11,9 +11,7 @@ returns-in-InQueuing g c = rw c.in-InQueuing.is c.change_queuing.ensures
 -- who leaves needs no row
 at_any_row : {C : Type 0} (truths : Truths C) (seat : ℕ) (wait : Wait C) (cause : Cause) (place : LeavePlace) (row : List ℕ) (lists : Lists C) → wait_hand truths seat wait (InLeaving cause place) [] lists ≡ wait_hand truths seat wait (InLeaving cause place) row lists
 at_any_row truths seat wait cause (Leave last) row lists = refl
-at_any_row truths seat wait cause LeaveLoad row lists = refl
-at_any_row truths seat wait cause AwaitWakeToLeave row lists = refl
-at_any_row truths seat wait cause (TakeToLeave last) row lists = refl
+at_any_row truths seat wait cause other row lists = refl
 
 pub returns-in-InLeaving : goal.returns-in-InLeaving
 returns-in-InLeaving g c = let here = c.in-InLeaving in

@@ -1,6 +1,6 @@
 use Rattle.std.proofs.Common.{◌∙◌, sym, subst, ap, refl, arith, false, Some, None}
-use Rattle.ns_monitor.specs.Prelude.{AcquireLoad, Await, AwaitWakeInWait, CanStep, Flag, ForWait, HasAcquired, HasAnswered, HasSince, InAcquire, InWait, IsAtPlace, IsWaitingForAny, Limits, LoadFlag, Look, LookOut, Looked, Performed, TableId, Wait, WaitKnown, Woken}
-use Rattle.ns_monitor.specs.Prelude.{WokenBy, at_will, got_of, the, waits_for_any}
+use Rattle.ns_monitor.specs.Prelude.{AcquireLoad, Await, AwaitWakeInWait, CanStep, Flag, ForWait, HasAcquired, HasAnswered, HasSince, InAcquire, InWait, IsAtPlace, IsWaitingForAny, Limits, LoadFlag, Look, LookOut, Looked, Performed, TableId, Wait, WaitKnown, Woken, WokenBy, at_will, got_of, the}
+use Rattle.ns_monitor.specs.Prelude.{waits_for_any}
 use Rattle.ns_gate.proofs.Calls.{can_go, goes, since, since_then}
 use Rattle.ns_gate.proofs.Room.{queues_fit}
 use Rattle.ns_monitor.proofs.SeveralWaits.{has_come_back, still_waits, tells_still}

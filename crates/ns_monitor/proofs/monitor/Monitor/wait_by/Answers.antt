@@ -26,7 +26,8 @@ grown : (g : Over) (c : After-test g) (table : TableId) (now : SeatOf g.row.C.De
 grown g c table now same rest s = let s0 = c.held.inside.seat in subst (λ m. Grows g.C.Condition.means (wait_first g.row.N (waits_by m c.args.condition c.args.limits)) c.args.held (known_of table now)) c.mode-mode.ensures
     (grew g.C.Condition.means (wait_first g.row.N (waits_by c.mode-mode.result c.args.condition c.args.limits)) c.args.held s0.table_id table s0.me now c.held.view_is (◌∙◌ {A = TableId} same (sym c.requires.of)) rest s)
 
-waited : (g : Over) (c : After-test g) (answer : Answer) (table : TableId) (now : SeatOf g.row.C.Denot g.row.N) → HasSince (Some (wait_first g.row.N (waits_by c.mode-mode.result c.args.condition c.args.limits))) (the c.held.inside.seat.me.0) (the now.0) → HasAnswered g.C.Condition.means (Await (waits_by c.mode-mode.result c.args.condition c.args.limits)) (Answered answer) now
+waited : (g : Over) (c : After-test g) (answer : Answer) (table : TableId) (now : SeatOf g.row.C.Denot g.row.N) →
+    HasSince (Some (wait_first g.row.N (waits_by c.mode-mode.result c.args.condition c.args.limits))) (the c.held.inside.seat.me.0) (the now.0) → HasAnswered g.C.Condition.means (Await (waits_by c.mode-mode.result c.args.condition c.args.limits)) (Answered answer) now
     → HasWaitedFor g.C.Condition.means c.args.condition answer c.args.held (known_of table now)
 waited g c answer table now s a = let s0 = c.held.inside.seat in let wait = waits_by c.mode-mode.result c.args.condition c.args.limits in
     wait_tells g.C.Condition.means (wait_first g.row.N wait) wait c.args.condition answer c.args.held s0.table_id table s0.me now c.held.view_is refl (subst (λ m. HasMode m (the s0.me.0).at.held) (sym c.mode-mode.ensures) (g.met.H.Section.in_mode c.held.inside.hand (the s0.me.0).at.held c.held.invariant.2)) s a
@@ -55,7 +56,8 @@ looked : (g : Over) (c : After-look_before g) → HasSince (Some (wait_first g.r
 looked g c = since_then (Some (wait_first g.row.N (waits_by c.mode-mode.result c.args.condition c.args.limits))) _ _ _ (subst (λ w. HasSince (Some w) (the c.held.inside.seat.me.0) (the c.test.new.seat.me.0)) c.wait.ensures.first c.test.ensures.since) c.look_before.ensures.since
 
 -- and shown what ends the wait
-ended : (g : Over) (c : After-look_before g) (cause : Cause) → c.look_before.result ≡ Some cause → HasAnswered g.C.Condition.means (Await (waits_by c.mode-mode.result c.args.condition c.args.limits)) (Answered (answer_of cause)) c.look_before.new.seat.me × ((the c.look_before.new.seat.me.0).at.held ≡ (the c.held.inside.seat.me.0).at.held)
+ended : (g : Over) (c : After-look_before g) (cause : Cause) → c.look_before.result ≡ Some cause →
+    HasAnswered g.C.Condition.means (Await (waits_by c.mode-mode.result c.args.condition c.args.limits)) (Answered (answer_of cause)) c.look_before.new.seat.me × ((the c.look_before.new.seat.me.0).at.held ≡ (the c.held.inside.seat.me.0).at.held)
 ended g c cause is = let led = subst (λ o. QueuesOrEnds g.C.Condition.means (waits_by c.mode-mode.result c.args.condition c.args.limits) false o c.test.new.seat.me c.look_before.new.seat.me) is c.look_before.ensures.leads in (led.0, led.1 refl ∙ c.test.ensures.tested.held)
 
 pub invariant_of-back-in-Some : goal.invariant_of-back-in-Some

@@ -5,7 +5,8 @@ use Rattle.ns_world.specs.Prelude.{Advance, Advancing, Ask, Call, CallFits, Cloc
 use Rattle.ns_world.proofs.call.Call.start_others.Goals as goal
 
 -- a call that begins where a test says that its need is met
-asked : {C : Type 0} (n : ℕ) (setup : Setup) (notes : ℕ → NoteStanding) (call : Call C) (mode : Option Mode) (met : Bool) (start : Start C) (r : Option (Start C)) → r ≡ cond met (Some start) None → start ≡ start_of n mode call → (met ≡ true → CallFits setup notes call mode) → (CallFits setup notes call mode → met ≡ true) →
+asked : {C : Type 0} (n : ℕ) (setup : Setup) (notes : ℕ → NoteStanding) (call : Call C) (mode : Option Mode) (met : Bool) (start : Start C) (r : Option (Start C)) → r ≡ cond met (Some start) None →
+    start ≡ start_of n mode call → (met ≡ true → CallFits setup notes call mode) → (CallFits setup notes call mode → met ≡ true) →
     MatchOption r (CallFits setup notes call mode → ⊥) (λ s. (s ≡ start_of n mode call) × CallFits setup notes call mode)
 asked n setup notes call mode true start r e is fits needs = subst (λ o. MatchOption o (CallFits setup notes call mode → ⊥) (λ s. (s ≡ start_of n mode call) × CallFits setup notes call mode)) (sym e) (is, fits refl)
 asked n setup notes call mode false start r e is fits needs = subst (λ o. MatchOption o (CallFits setup notes call mode → ⊥) (λ s. (s ≡ start_of n mode call) × CallFits setup notes call mode)) (sym e) (λ p. let no = needs p in absurd (cc))
