@@ -1,5 +1,5 @@
 -- What stands at a place of a list of objects, and behind it.
-use Rattle.std.proofs.Common.{◌≡◌, ℕ, zero, suc, ◌<◌, nat_lt, ◌||◌, Bool, true, false, cond, List, [], ◌∷◌, take, drop, Option, Some, None, slice_get, refl, sym, ◌∙◌, ap, subst, arith, inl, inr, eq-eqb, ◌&&◌}
+use Rattle.std.proofs.Common.{length, map, get_or, ◌≡◌, ℕ, zero, suc, ◌<◌, nat_lt, ◌||◌, Bool, true, false, cond, List, [], ◌∷◌, take, drop, Option, Some, None, slice_get, refl, sym, ◌∙◌, ap, subst, arith, inl, inr, eq-eqb, ◌&&◌}
 use Rattle.std.proofs.lemmas.Bool.{eqb-true, ltb-true, ltb-false, or_cases}
 use Rattle.std.specs.List.{list_any}
 use Rattle.ns_counters.specs.Prelude.{Every, IsLow, Item, Items, OnNote, OnVariable, is_among, is_this, is_variable, item_at, items_of, place_in}
@@ -132,3 +132,9 @@ first_of_all false c e = absurd (cc)
 pub rest_of_all : (b c : Bool) → (b && c) ≡ true → c ≡ true
 rest_of_all true c e = e
 rest_of_all false c e = absurd (cc)
+
+-- an item of a list whose variables are each one of four
+pub low_at : {A : Type 0} (item : A → Item) (things : List A) (i : ℕ) (d : A) → i < length things → Every IsLow (map item things) → IsLow (item (get_or things i d))
+low_at item [] i d within low = absurd (omega (arith, within))
+low_at item (x ∷ things) zero d within low = low.0
+low_at item (x ∷ things) (suc i) d within low = low_at item things i d (omega (arith, within)) low.1

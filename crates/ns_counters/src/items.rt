@@ -1,6 +1,6 @@
 //! What a wait for any of several objects is for.
 
-ghost use Rattle.std.specs.Prelude.{◌≡◌, ◌<◌, ◌≤◌, ◌++◌, [], ◌∷◌};
+ghost use Rattle.std.specs.Prelude.{map, ◌≡◌, ◌<◌, ◌≤◌, ◌++◌, [], ◌∷◌};
 ghost use Rattle.std.specs.List.{list_any};
 ghost use Rattle.ns_model.specs.Tallies.{Every};
 ghost use Rattle.ns_counters.specs.Items.{AreAmong, IsLow, have_variable, is_variable, item_at, items_of, no_items, place_in, with_item};
@@ -18,6 +18,27 @@ pub enum Item {
     OnVariable(u8),
 }
 
+/// What a wait for any of several looks at, as the item that it is.
+pub trait AsItem: Copy {
+    ghost use Rattle.ns_counters.specs.declared.items.Item.{Item as ItemOf};
+
+    /// Which item it is.
+    ghost item: { Self → ItemOf };
+
+    /// Which item it is.
+    fn item(self) -> Item
+        ensures { result ≡ item self };
+}
+
+impl AsItem for Item {
+    ghost item = { λ item. item };
+
+    #[inline(always)]
+    fn item(self) -> Item {
+        self
+    }
+}
+
 /// Whether a condition variable is among the items.
 fn has_variable(items: &[Item]) -> bool
     ensures { result ≡ list_any is_variable items.now }
@@ -30,15 +51,15 @@ fn has_variable(items: &[Item]) -> bool
     false
 }
 
-/// The condition variables among the items.
-fn variables_in(items: &[Item]) -> Cvs
-    requires { Every IsLow items.now }
-    ensures among { AreAmong result items.now }
+/// The condition variables among the items. Needs variables below 4.
+pub fn variables_in<T: AsItem>(items: &[T]) -> Cvs
+    requires { Every IsLow (map T.item items.now) }
+    ensures among { AreAmong result (map T.item items.now) }
     ensures byte { result.0 < 256 }
 {
     let mut cvs = Cvs::none();
     for item in items {
-        if let Item::OnVariable(k) = *item {
+        if let Item::OnVariable(k) = item.item() {
             cvs = cvs.with(k);
         }
     }
@@ -46,11 +67,11 @@ fn variables_in(items: &[Item]) -> Cvs
 }
 
 /// The place of the first item that is this condition variable, or how many items there are where none is.
-fn place_of(items: &[Item], k: u64) -> usize
-    ensures { result ≡ place_in k items.now }
+pub fn place_of<T: AsItem>(items: &[T], k: u64) -> usize
+    ensures { result ≡ place_in k (map T.item items.now) }
 {
     for (i, item) in items.iter().enumerate() {
-        if let Item::OnVariable(j) = *item {
+        if let Item::OnVariable(j) = item.item() {
             if j as u64 == k {
                 return i;
             }

@@ -1,34 +1,23 @@
 -- Waits for condition variables among notes and counters: which variables those are, and what the parts of such a wait tell together.
-use Rattle.std.proofs.Common.{Bool, false, cond, ◌||◌, zero, suc, slice_get, ap, refl, eq-eqb, ◌≡◌, inl, inr, ℕ, ◌+◌, ◌-◌, ◌%◌, ◌^◌, ◌<◌, ◌≤◌, max, true, List, [], ◌∷◌, ◌++◌, append_assoc, Option, None, Some, sym, ◌∙◌, subst, arith}
+use Rattle.std.proofs.Common.{map, Bool, false, cond, ◌||◌, zero, suc, slice_get, ap, refl, eq-eqb, ◌≡◌, inl, inr, ℕ, ◌+◌, ◌-◌, ◌%◌, ◌^◌, ◌<◌, ◌≤◌, max, true, List, [], ◌∷◌, ◌++◌, append_assoc, Option, None, Some, sym, ◌∙◌, subst, arith}
 use Rattle.std.proofs.lemmas.Bool.{eqb-true, false≢true, or_cases}
-use Rattle.ns_objects.specs.Prelude.{AnyItem, AnyWait, AreAmong, AreSome, BothKnown, Counter, Cv, Cvs, Every, HasBegunToWait, HasComeBackFromAny, HasWaitedForAny, Held, InHand, IsByOneOf, IsLow, IsNamed, Known, KnowsTruly, Mode, Note, Past, PlaceBy, Setup, Truths, WaitKnown, WaitsOn, is_among}
+use Rattle.ns_objects.specs.Prelude.{PlainItem, is_this, item_of, AnyItem, AnyWait, AreAmong, AreSome, BothKnown, Counter, Cv, Cvs, Every, HasBegunToWait, HasComeBackFromAny, HasWaitedForAny, Held, InHand, IsByOneOf, IsLow, IsNamed, Known, KnowsTruly, Mode, Note, Past, PlaceBy, Setup, Truths, WaitKnown, WaitsOn, is_among}
 use Rattle.ns_objects.specs.Prelude.{is_variable, leave_any_told, place_in, room, room_enough, section_of}
 use prog.Memory.{align, size, up}
 use mir.Syntax.{Ty}
 use Rattle.ns_model.proofs.Beginnings.{begins_itself, begins_through}
-use Rattle.ns_model.proofs.Tallies.{every_map}
+use Rattle.ns_counters.proofs.Listed.{low_if_among}
 use Rattle.ns_word.proofs.Enters.{are_some}
 
 -- an item that is named is no variable above 3
-low_too : (now : BothKnown) (item : AnyItem) → IsNamed now.0 now.1 item → IsLow item
+low_too : (now : BothKnown) (item : AnyItem) → IsNamed now.0 now.1 item → IsLow (item_of item)
 low_too now (Note note) named = tt
 low_too now (Counter counter) named = tt
 low_too now (Cv k) named = named
 
-low_if_is : (item : AnyItem) (k : ℕ) → IsLow item → is_variable k item ≡ true → k < 4
-low_if_is (Note note) k low is = absurd (false≢true is)
-low_if_is (Counter counter) k low is = absurd (false≢true is)
-low_if_is (Cv j) k low is = let same : j ≡ k = eqb-true j k is in subst (λ n. n < 4) same low
-
-low_if_among : (items : List AnyItem) (k : ℕ) → Every IsLow items → is_among k items ≡ true → k < 4
-low_if_among [] k low is = absurd (false≢true is)
-low_if_among (item ∷ items) k low is = elim (or_cases (is_variable k item) (is_among k items) is) [
-  | inl here ↦ low_if_is item k low.0 here
-  | inr there ↦ low_if_among items k low.1 there
-]
-
-pub all_low : (items : List AnyItem) (now : BothKnown) → Every (IsNamed now.0 now.1) items → Every IsLow items
-all_low items now named = every_map (IsNamed now.0 now.1) IsLow (low_too now) items named
+pub all_low : (items : List AnyItem) (now : BothKnown) → Every (IsNamed now.0 now.1) items → Every IsLow (map item_of items)
+all_low [] now named = tt
+all_low (item ∷ items) now named = (low_too now item named.0, all_low items now named.1)
 
 module _ {C : Type 0} {N : ℕ} where
   pub waits_on_itself : (truths : Truths C) (a : WaitKnown C N) → KnowsTruly truths a.known → a.known.owed ≡ [] → a.known.carries ≡ [] → WaitsOn truths a a
@@ -123,34 +112,34 @@ pub hand_fits : (τ : Ty) → room τ < 2 ^ 40 → up (max 1 (max 1 (max 1 (max 
 hand_fits τ few = beside_small (align τ) (size τ) 2 (max 1 (max 1 (max 1 (max (align τ) 1)))) (omega arith) (omega arith) (small_by τ few)
 
 -- the wait is for variables that there are, where one is among the items
-pub some_wait : (cvs : Cvs) (items : List AnyItem) (k : ℕ) → cvs.0 < 256 → AreAmong cvs items → Every IsLow items → is_among k items ≡ true → AreSome cvs
+pub some_wait : (cvs : Cvs) (items : List PlainItem) (k : ℕ) → cvs.0 < 256 → AreAmong cvs items → Every IsLow items → is_among k items ≡ true → AreSome cvs
 some_wait cvs items k byte are low one = are_some cvs k byte (are k ∙ one) (λ j is. low_if_among items j low (sym (are j) ∙ is))
 
-this_is : (k : ℕ) (item : AnyItem) → is_variable k item ≡ true → item ≡ Cv k
+this_is : (k : ℕ) (item : AnyItem) → is_this k (item_of item) ≡ true → item ≡ Cv k
 this_is k (Note note) is = absurd (false≢true is)
 this_is k (Counter counter) is = absurd (false≢true is)
 this_is k (Cv j) is = ap Cv (eqb-true j k is)
 
 -- at the place of a variable it stands
-stands_at : (k : ℕ) (items : List AnyItem) → is_among k items ≡ true → slice_get items (place_in k items) ≡ Some (Cv k)
+stands_at : (k : ℕ) (items : List AnyItem) → is_among k (map item_of items) ≡ true → slice_get items (place_in k (map item_of items)) ≡ Some (Cv k)
 stands_at k [] is = absurd (false≢true is)
-stands_at k (item ∷ items) is = by (is_variable k item) refl (λ some. stands_at k items some) is where
-  by : (b : Bool) → is_variable k item ≡ b → (is_among k items ≡ true → slice_get items (place_in k items) ≡ Some (Cv k)) → (b || is_among k items) ≡ true → slice_get (item ∷ items) (cond b 0 (suc (place_in k items))) ≡ Some (Cv k)
+stands_at k (item ∷ items) is = by (is_this k (item_of item)) refl (λ some. stands_at k items some) is where
+  by : (b : Bool) → is_this k (item_of item) ≡ b → (is_among k (map item_of items) ≡ true → slice_get items (place_in k (map item_of items)) ≡ Some (Cv k)) → (b || is_among k (map item_of items)) ≡ true → slice_get (item ∷ items) (cond b 0 (suc (place_in k (map item_of items)))) ≡ Some (Cv k)
   by true this rest some = ap Some (this_is k item this)
   by false this rest some = rest some
 
 -- and nowhere before
-stands_first : (k : ℕ) (items : List AnyItem) (i : ℕ) → i < place_in k items → slice_get items i ≡ Some (Cv k) → ⊥
+stands_first : (k : ℕ) (items : List AnyItem) (i : ℕ) → i < place_in k (map item_of items) → slice_get items i ≡ Some (Cv k) → ⊥
 stands_first k [] i low is = absurd (omega (arith, low))
-stands_first k (item ∷ items) i low is = by (is_variable k item) refl (λ j below there. stands_first k items j below there) i low is where
-  by : (b : Bool) → is_variable k item ≡ b → ((j : ℕ) → j < place_in k items → slice_get items j ≡ Some (Cv k) → ⊥) → (i : ℕ) → i < cond b 0 (suc (place_in k items)) → slice_get (item ∷ items) i ≡ Some (Cv k) → ⊥
+stands_first k (item ∷ items) i low is = by (is_this k (item_of item)) refl (λ j below there. stands_first k items j below there) i low is where
+  by : (b : Bool) → is_this k (item_of item) ≡ b → ((j : ℕ) → j < place_in k (map item_of items) → slice_get items j ≡ Some (Cv k) → ⊥) → (i : ℕ) → i < cond b 0 (suc (place_in k (map item_of items))) → slice_get (item ∷ items) i ≡ Some (Cv k) → ⊥
   by true this rest i low is = absurd (omega (arith, low))
   by false this rest zero low is =
       let same : Some item ≡ Some (Cv k) = is in
       let here : item ≡ Cv k = cc in
-      false≢true (sym this ∙ ap (is_variable k) here ∙ eq-eqb k k refl)
+      false≢true (sym this ∙ ap (λ (x : AnyItem). is_this k (item_of x)) here ∙ eq-eqb k k refl)
   by false this rest (suc i) low is = rest i (omega (arith, low)) is
 
 -- the place of the variable that has woken a wait
-pub place_by : (setup : Setup) (items : List AnyItem) (deadline : Option ℕ) (from to : Past) (cvs : Cvs) (k place : ℕ) → AreAmong cvs items → IsByOneOf cvs (Some k) → place ≡ place_in k items → PlaceBy setup items deadline from to (Some k) place
+pub place_by : (setup : Setup) (items : List AnyItem) (deadline : Option ℕ) (from to : Past) (cvs : Cvs) (k place : ℕ) → AreAmong cvs (map item_of items) → IsByOneOf cvs (Some k) → place ≡ place_in k (map item_of items) → PlaceBy setup items deadline from to (Some k) place
 place_by setup items deadline from to cvs k place are by at = subst (λ p. PlaceBy setup items deadline from to (Some k) p) (sym at) (stands_at k items (sym (are k) ∙ by), stands_first k items)

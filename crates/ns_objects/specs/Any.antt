@@ -1,6 +1,6 @@
 -- What a wait for any of several notes and counters answers, by what the caller had seen of the objects and of the environment, and has seen then.
 use Rattle.std.specs.Prelude.{◌≡◌, ℕ, ◌<◌, Bool, true, false, List, Option}
-use Rattle.ns_objects.specs.Names.{AnswersByRounds, AnyItem, Counter, Cv, EnvKnown, IsLater, IsMade, Item, Note, Past, RoundShows, Setup, is_notified, is_ready, objects_after}
+use Rattle.ns_objects.specs.Names.{AnswersByRounds, AnyItem, Counter, Cv, EnvKnown, IsLater, IsMade, IsReady, Item, Note, OnCounterItem, OnNote, OnVariable, Past, PlainItem, RoundShows, Setup}
 use Rattle.ns_objects.specs.Known.{ObjectsKnown}
 use Rattle.ns_objects.specs.declared.any.Item.TheVariants as TheItem
 
@@ -27,12 +27,15 @@ IsNamed seat watch (Cv k) = k < 4
 abbrev pub IsKnown : ObjectsKnown → EnvKnown → Item → Type 0
 IsKnown seat watch item = IsNamed seat watch (any_of item)
 
--- At a point the item was ready, or wasn't: a note that is notified, and a counter whose value is 0. A variable never is: it is passed over.
+-- the item that it is for a round, which knows a note by its number
+abbrev pub item_of : AnyItem → PlainItem
+item_of (Note note) = OnNote note.index
+item_of (Counter counter) = OnCounterItem counter
+item_of (Cv k) = OnVariable k
+
+-- at a point the item was ready, or wasn't
 abbrev pub WasReady : Setup → Bool → Past → AnyItem → Type 0
-WasReady setup so point (Note note) = is_notified point.notes note.index ≡ so
-WasReady setup so point (Counter counter) = is_ready ((objects_after setup point.objects).counters counter) ≡ so
-WasReady setup true point (Cv k) = ⊥
-WasReady setup false point (Cv k) = Unit {0}
+WasReady setup so point item = IsReady setup so point (item_of item)
 
 -- So it was at some point of a call, or of a part of one.
 abbrev pub WasReadyIn : Bool → BothKnown → BothKnown → AnyItem → Type 0

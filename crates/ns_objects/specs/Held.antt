@@ -1,32 +1,8 @@
 -- What a wait for condition variables among notes and counters answers, which is called with a section in hand.
-use Rattle.std.specs.Prelude.{◌≡◌, ◌⊎◌, ℕ, suc, ◌<◌, ◌==◌, Bool, false, if◌then◌else◌, List, [], ◌∷◌, ◌++◌, Option, None, Some, slice_get}
-use Rattle.std.specs.List.{list_any}
-use Rattle.ns_objects.specs.Names.{AnyItem, AnyWait, Cv, Cvs, HasComeBackFromAny, InHand, IsByOneOf, IsLater, Known, Mode, Past, SaysWoken, Setup, Truths, WaitKnown, any_waiting, is_in, leave_any_told, row_after, section_of}
+use Rattle.std.specs.Prelude.{◌≡◌, ◌⊎◌, ℕ, ◌<◌, List, [], ◌∷◌, ◌++◌, Option, None, Some, map, slice_get}
+use Rattle.ns_objects.specs.Names.{AnyItem, AnyWait, AreAmong, Cv, Cvs, HasComeBackFromAny, InHand, IsByOneOf, IsLater, Known, Mode, Past, SaysWoken, Setup, Truths, WaitKnown, any_waiting, leave_any_told, row_after, section_of}
 use Rattle.ns_monitor.specs.Known.{Grows}
-use Rattle.ns_objects.specs.Any.{BothKnown, RoundAnswers, RoundsAnswer, past_of}
-
--- whether an item is this variable
-abbrev pub is_variable : ℕ → AnyItem → Bool
-is_variable k (Cv j) = j == k
-is_variable k item = false
-
--- a variable is one of four
-abbrev pub IsLow : AnyItem → Type 0
-IsLow (Cv k) = k < 4
-IsLow item = Unit {0}
-
--- whether the variable is among the items
-abbrev pub is_among : ℕ → List AnyItem → Bool
-is_among k items = list_any (is_variable k) items
-
--- the place of the first item that is this variable, or the number of items where none is
-abbrev pub place_in : ℕ → List AnyItem → ℕ
-place_in k [] = 0
-place_in k (item ∷ items) = if is_variable k item then 0 else suc (place_in k items)
-
--- the variables of the set are just those among the items
-abbrev pub AreAmong : Cvs → List AnyItem → Type 0
-AreAmong cvs items = (k : ℕ) → is_in cvs k ≡ is_among k items
+use Rattle.ns_objects.specs.Any.{BothKnown, item_of, RoundAnswers, RoundsAnswer, past_of}
 
 -- The place that is answered: where a variable has woken the wait, one at which this variable stands, and before which it stands nowhere; else what rounds answer, of looks at the notes and counters alone.
 abbrev pub PlaceBy : Setup → List AnyItem → Option ℕ → Past → Past → Option ℕ → ℕ → Type 0
@@ -51,7 +27,7 @@ pub record HasLeftToWait {C : Type 0} {N : ℕ} (truths : Truths C) (mode : Mode
   pub until : IsLater mid (past_of new.1)
   pub cvs : Cvs
   pub low : cvs.0 < 16
-  pub among : AreAmong cvs items
+  pub among : AreAmong cvs (map item_of items)
   pub by : Option ℕ
   pub waited : HasWaitedForAny truths mode cvs by old.0 new.0
   pub place_by : PlaceBy old.1.0.setup items deadline mid (past_of new.1) by place

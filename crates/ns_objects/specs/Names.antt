@@ -2,14 +2,18 @@
 pub use Rattle.atomic_table.specs.Seated.{TableId}
 pub use Rattle.atomic_table.specs.Table.{Allows, Me, State as TableState, keeps}
 pub use Rattle.ns_counters.specs.Acted.{HasActed, acted, events_of}
+pub use Rattle.ns_counters.specs.Items.{AreAmong, IsLow, is_among, is_this, place_in}
 pub use Rattle.ns_counters.specs.Lawful.{HasWords, IsLawful, IsWordOf, ViewFits}
 pub use Rattle.ns_counters.specs.Made.{first_words, padded, setup_of}
+pub use Rattle.ns_counters.specs.Meanings.{IsReady}
 pub use Rattle.ns_counters.specs.Objects.{AreObjectsBySeats, IsLegalObjects, ObjectStanding, objects_after, objects_own}
 pub use Rattle.ns_counters.specs.Rounds.{AnswersByRounds, HasShownNone, HaveShownNothing, InTurn, IsLater, Past, RoundShows}
 pub use Rattle.ns_counters.specs.Steps.{CanAct, Outcome, looked, outcome, tried, word_at}
 pub use Rattle.ns_counters.specs.Words.{counter_of, counter_word, stage}
 pub use Rattle.ns_counters.specs.declared.act.ObjectAct.{ObjectAct}
 pub use Rattle.ns_counters.specs.declared.act.ObjectAct.TheVariants.{BeginOnce, EndOnce, ExchangeToAdd, LoadToAdd, LookCounter, LookOnce, MarkWait}
+pub use Rattle.ns_counters.specs.declared.items.Item.{Item as PlainItem}
+pub use Rattle.ns_counters.specs.declared.items.Item.TheVariants.{OnCounter as OnCounterItem, OnNote, OnVariable}
 pub use Rattle.ns_counters.specs.declared.object.ObjectEvent.{ObjectEvent}
 pub use Rattle.ns_counters.specs.declared.object.ObjectEvent.TheVariants.{OnCounter, OnOnce}
 pub use Rattle.ns_counters.specs.declared.object.ObjectView.{ObjectView}

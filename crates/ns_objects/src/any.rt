@@ -3,12 +3,13 @@
 ghost use Rattle.std.specs.Prelude.{◌≡◌, ◌≤◌, length};
 ghost use Rattle.ns_model.specs.Tallies.{Every};
 ghost use Rattle.ns_note.specs.Known.{Grows as EnvGrows, IsTrueToHistory as EnvTrue};
-ghost use Rattle.ns_objects.specs.Any.{AnyAnswers, IsKnown, IsNamed, RoundAnswers, WasReadyIn, any_of, past_of};
+ghost use Rattle.ns_objects.specs.Any.{AnyAnswers, IsKnown, IsNamed, RoundAnswers, WasReadyIn, any_of, item_of, past_of};
 ghost use Rattle.ns_objects.specs.declared.any.AnyItem.{AnyItem as AnyItemOf};
 ghost use Rattle.ns_objects.specs.Known.{Grows, IsTrueToHistory};
 
 use crate::objects::Objects;
 use crate::seat::ObjSeat;
+use ns_counters::items::{AsItem, Item as PlainItem};
 use ns_note::env::Env;
 use ns_note::note::Note;
 use ns_note::pause::Pause;
@@ -64,6 +65,19 @@ impl Looked for AnyItem {
     #[inline(always)]
     fn any(self) -> AnyItem {
         self
+    }
+}
+
+impl AsItem for AnyItem {
+    ghost item = { item_of };
+
+    #[inline(always)]
+    fn item(self) -> PlainItem {
+        match self {
+            AnyItem::Note(note) => PlainItem::OnNote(note.index),
+            AnyItem::Counter(counter) => PlainItem::OnCounter(counter),
+            AnyItem::Cv(k) => PlainItem::OnVariable(k),
+        }
     }
 }
 

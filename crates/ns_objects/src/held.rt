@@ -1,18 +1,19 @@
 //! Waits for condition variables of a monitor among notes and counters, from a section.
 
-ghost use Rattle.std.specs.Prelude.{◌≡◌, ◌≤◌, ◌<◌, ℕ, [], length, true};
+ghost use Rattle.std.specs.Prelude.{◌≡◌, ◌≤◌, ◌<◌, ℕ, [], length, map, true};
 ghost use Rattle.ns_model.specs.Tallies.{Every};
 ghost use Rattle.ns_monitor.specs.Several.{KnowsTruly};
 ghost use Rattle.ns_note.specs.Known.{Grows as EnvGrows, IsTrueToHistory as EnvTrue};
-ghost use Rattle.ns_objects.specs.Any.{IsNamed};
-ghost use Rattle.ns_objects.specs.Held.{AreAmong, HeldAnswers, IsLow, WaitAnswers, is_among, place_in};
+ghost use Rattle.ns_objects.specs.Any.{IsNamed, item_of};
+ghost use Rattle.ns_counters.specs.Items.{AreAmong, is_among};
+ghost use Rattle.ns_objects.specs.Held.{HeldAnswers, WaitAnswers};
 ghost use Rattle.ns_objects.specs.Known.{Grows, IsTrueToHistory};
 
 use crate::any::AnyItem;
 use crate::objects::Objects;
 use crate::seat::ObjSeat;
+use ns_counters::items::{place_of, variables_in};
 use ns_model::condition::Condition;
-use ns_model::cvs::Cvs;
 use ns_monitor::caller::{Caller, Compact, Renewed};
 use ns_monitor::monitor::Monitor;
 use ns_monitor::several::{AnyPoll, AnyWaiting};
@@ -20,35 +21,6 @@ use ns_note::env::Env;
 use ns_note::pause::Pause;
 use ns_note::seat::EnvSeat;
 use std::sync::Wait;
-
-/// The variables among the items.
-fn variables_in(items: &[AnyItem]) -> Cvs
-    requires { Every IsLow items.now }
-    ensures among { AreAmong result items.now }
-    ensures byte { result.0 < 256 }
-{
-    let mut cvs = Cvs::none();
-    for item in items {
-        if let AnyItem::Cv(k) = *item {
-            cvs = cvs.with(k);
-        }
-    }
-    cvs
-}
-
-/// The place of the first item that is this variable, or the number of items where none is.
-fn place_of(items: &[AnyItem], k: u8) -> usize
-    ensures { result ≡ place_in k items.now }
-{
-    for (i, item) in items.iter().enumerate() {
-        if let AnyItem::Cv(j) = *item {
-            if j == k {
-                return i;
-            }
-        }
-    }
-    items.len()
-}
 
 impl Objects {
     /// Goes round between a wait for variables that was begun and the notes and counters among the items,
@@ -72,7 +44,7 @@ impl Objects {
         requires monitor { waiting.known.monitor ≡ monitor.now }
         requires idle { (waiting.known.owed ≡ []) × (waiting.known.carries ≡ []) }
         requires seen { KnowsTruly C.means waiting.known }
-        requires variables { AreAmong waiting.cvs items.now }
+        requires variables { AreAmong waiting.cvs (map item_of items.now) }
         requires env { watch.old.env ≡ env.now }
         requires named { Every (IsNamed seat.old watch.old) items.now }
         requires true_to { IsTrueToHistory seat.old }
@@ -87,13 +59,13 @@ impl Objects {
         let mut waiting = waiting;
         for _ in rt.forever() {
             waiting = match monitor.any_poll(rt, waiting) {
-                AnyPoll::Woken(held, k) => return (held, place_of(items, k)),
+                AnyPoll::Woken(held, k) => return (held, place_of(items, k as u64)),
                 AnyPoll::Still(waiting) => waiting,
             };
             if let Some(place) = self.look_at_any(seat, items, deadline, env, watch) {
                 let (held, by) = monitor.any_leave(rt, waiting);
                 return match by {
-                    Some(k) => (held, place_of(items, k)),
+                    Some(k) => (held, place_of(items, k as u64)),
                     None => (held, place),
                 };
             }
@@ -133,7 +105,7 @@ impl Objects {
         requires env { watch.old.env ≡ env.now }
         requires few { length items.now ≤ 16 }
         requires named { Every (IsNamed seat.old watch.old) items.now }
-        requires variable { (k : ℕ) × (is_among k items.now ≡ true) }
+        requires variable { (k : ℕ) × (is_among k (map item_of items.now) ≡ true) }
         ensures grows { Grows seat.old seat.new }
         ensures mine { seat.new.mine ≡ seat.old.mine }
         ensures watch { EnvGrows watch.old watch.new }

@@ -1,6 +1,6 @@
-use Rattle.std.proofs.Common.{◌≡◌, ◌<◌, ◌||◌, ℕ, drop}
+use Rattle.std.proofs.Common.{◌≡◌, ◌<◌, ◌||◌, ℕ, drop, map}
 use Rattle.ns_counters.specs.Prelude.{is_among, is_in}
 use Rattle.ns_counters.proofs.items.variables_in.Given as goal
 
 abbrev pub invariant-loop-item : goal.invariant-loop-item
-invariant-loop-item l = (l.cvs.0 < 256) × ((k : ℕ) → (is_in l.cvs k || is_among k (drop l.item-index l.fn.items)) ≡ is_among k l.fn.items)
+invariant-loop-item g l = (l.cvs.0 < 256) × ((k : ℕ) → (is_in l.cvs k || is_among k (map g.T.AsItem.item (drop l.item-index l.fn.items))) ≡ is_among k (map g.T.AsItem.item l.fn.items))

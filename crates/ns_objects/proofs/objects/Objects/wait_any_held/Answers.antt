@@ -1,5 +1,5 @@
-use Rattle.std.proofs.Common.{◌≡◌, ◌∙◌, inr, sym, subst, arith}
-use Rattle.ns_objects.specs.Prelude.{BothKnown, Cvs, PlaceBy, RoundAnswers, Setup, is_among, is_in, past_of}
+use Rattle.std.proofs.Common.{map, ◌≡◌, ◌∙◌, inr, sym, subst, arith}
+use Rattle.ns_objects.specs.Prelude.{item_of, BothKnown, Cvs, PlaceBy, RoundAnswers, Setup, is_among, is_in, past_of}
 use denote.Param.{layout}
 use Rattle.ns_objects.proofs.HeldWaits.{all_low, some_wait, waited, hand_fits}
 use Rattle.ns_objects.proofs.Rounds.{all_known_later, further}
@@ -14,7 +14,7 @@ any_begin-waiting-requires g c = (
       hand_fits (layout g.row.H) (g.met.H.Compact.has_room g.met.C.Condition.has_room.1),
       (
         c.requires.monitor,
-        some_wait c.variables_in.result c.args.items.now c.requires.variable.0 c.variables_in.ensures.byte c.variables_in.ensures.among (all_low c.args.items.now (c.args.seat.now, c.args.watch.now) c.requires.named) c.requires.variable.1,
+        some_wait c.variables_in.result (map item_of c.args.items.now) c.requires.variable.0 c.variables_in.ensures.byte c.variables_in.ensures.among (all_low c.args.items.now (c.args.seat.now, c.args.watch.now) c.requires.named) c.requires.variable.1,
       ),
     ),
   ),
@@ -36,7 +36,7 @@ await_any-requires g c = let look = c.look_at_any.ensures in let begun = c.any_b
             (
               begun.true_to,
               (
-                λ k. subst (λ (cvs : Cvs). is_in cvs k ≡ is_among k c.args.items.now) (sym begun.variables) (c.variables_in.ensures.among k),
+                λ k. subst (λ (cvs : Cvs). is_in cvs k ≡ is_among k (map item_of c.args.items.now)) (sym begun.variables) (c.variables_in.ensures.among k),
                 (look.watch.env ∙ c.requires.env, (all_known_later (λ item. item) c.args.items.now (c.args.seat.now, c.args.watch.now) (c.look_at_any.new.seat, c.look_at_any.new.watch) (look.grows, look.watch) c.requires.named, (look.grows.true_to, look.watch.true_to))),
               ),
             ),
@@ -56,7 +56,7 @@ returns-clause-answers g c =
       nothing = subst (RoundAnswers (λ item. item) first.0.setup c.args.items.now c.args.deadline (past_of first) (past_of old)) c.in_default.is look.answers;
       until = further old (c.await_any.new.seat, c.await_any.new.watch) (e.grows, e.watch);
       cvs = cvs;
-      low = (some_wait cvs c.args.items.now c.requires.variable.0 c.variables_in.ensures.byte c.variables_in.ensures.among (all_low c.args.items.now first c.requires.named) c.requires.variable.1).1;
+      low = (some_wait cvs (map item_of c.args.items.now) c.requires.variable.0 c.variables_in.ensures.byte c.variables_in.ensures.among (all_low c.args.items.now first c.requires.named) c.requires.variable.1).1;
       among = c.variables_in.ensures.among;
       by = e.answers.0;
       waited = waited g.C.Condition.means g.H.Section.mode e.answers.0 cvs c.args.held c.any_begin-waiting.result c.await_any.result.0 c.any_begin-waiting.ensures e.answers.1;

@@ -1,6 +1,0 @@
-use Rattle.std.proofs.Common.{◌≡◌, ◌+◌, drop}
-use Rattle.ns_objects.specs.Prelude.{place_in}
-use Rattle.ns_objects.proofs.held.place_of.Given as goal
-
-abbrev pub invariant-loop-i : goal.invariant-loop-i
-invariant-loop-i l = place_in l.fn.k l.fn.items ≡ l.i + place_in l.fn.k (drop l.i l.fn.items)

@@ -1,6 +1,0 @@
-use Rattle.std.proofs.Common.{◌≡◌, ◌<◌, ◌||◌, ℕ, drop}
-use Rattle.ns_objects.specs.Prelude.{is_among, is_in}
-use Rattle.ns_objects.proofs.held.variables_in.Given as goal
-
-abbrev pub invariant-loop-item : goal.invariant-loop-item
-invariant-loop-item l = (l.cvs.0 < 256) × ((k : ℕ) → (is_in l.cvs k || is_among k (drop l.item-index l.fn.items)) ≡ is_among k l.fn.items)
