@@ -1,1 +1,2 @@
+mod Inert
 mod Written

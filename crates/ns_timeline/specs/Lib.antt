@@ -1,1 +1,3 @@
+pub mod Elements
+pub mod Escapes
 pub mod Pictures

@@ -5,15 +5,16 @@ ghost use Rattle.ns_replay.specs.Transfer.{Gave, IsAskedEnough, IsEnough, IsFine
 ghost use Rattle.ns_replay.specs.Replaying.{Answers, Ended, IsRefused, WasRead};
 ghost use Rattle.ns_replay.specs.Runnable.{IsRunnable};
 ghost use Rattle.ns_replay.specs.Script.{plan_of};
-ghost use Rattle.ns_timeline.specs.Pictures.{IsPicture, RunsIn};
+ghost use Rattle.ns_timeline.specs.Pictures.{IsDocument, IsDrawing, IsPicture, RunsIn};
 
 use crate::columns::busiest;
-use crate::line::push_head;
-use crate::sight::Sight;
+use crate::document::document_of;
+use crate::line::Lines;
+use crate::paper::Paper;
+use crate::record::Record;
 use crate::stepping::{Drawing, draw_schedule};
 use ns_model::seats::Seats;
 use ns_replay::{Fault, Run, Script, Sink, Source, collect_bytes, run_bytes, write_all};
-use ns_word::word::Word;
 use ns_world::schedule::Line;
 use ns_world::world::World;
 use std::alloc::{AllocError, Global};
@@ -34,29 +35,23 @@ fn begun(run: &Run) -> [usize; 64] {
     calls
 }
 
-/// The head of a picture in which these threads have a column, and no turn yet.
-fn headed(alloc: Global, shown: Seats, is_all: bool) -> Result<Drawing, AllocError> {
-    let mut picture = Vec::new(alloc);
-    let mut line = String::new(alloc);
-    push_head(&mut picture, &mut line, shown, is_all)?;
-    Ok(Drawing {
-        picture,
-        line,
-        shown,
-        sight: Sight::new(),
-        word: Word::FREE,
-        over: [0; 64],
-        turns: 0,
-    })
+/// The threads of the script that are shown, where it has had this run.
+fn shown_in(script: &Script, run: &Run) -> Seats
+    requires { IsRunnable (plan_of script.now) }
+{
+    busiest(&begun(run), script.threads.len() as u8)
 }
 
-/// The picture of a script that has had this run.
-fn picture_of(alloc: Global, script: &Script, run: &Run, limit: u32) -> Result<Vec<u8>, AllocError>
+/// The paper on which the run of a script is drawn.
+fn drawn_on<P: Paper + Drop>(
+    alloc: Global,
+    script: &Script,
+    paper: P,
+    limit: u32,
+) -> Result<P, AllocError>
     requires { IsRunnable (plan_of script.now) }
 {
     let threads = script.threads.as_slice();
-    let shown = busiest(&begun(run), threads.len() as u8);
-    let mut drawing = headed(alloc, shown, threads.len() <= 16)?;
     // There are no more threads than seats, so that only memory can be refused.
     let Ok(mut world) = World::new(
         alloc,
@@ -66,8 +61,9 @@ fn picture_of(alloc: Global, script: &Script, run: &Run, limit: u32) -> Result<V
     ) else {
         return Err(AllocError);
     };
+    let mut drawing = Drawing::new(paper);
     draw_schedule(&mut drawing, &mut world, threads, &script.schedule, limit)?;
-    Ok(drawing.picture)
+    Ok(drawing.paper)
 }
 
 /// The picture of a run of the script that the bytes give.
@@ -77,7 +73,20 @@ fn picture_for(alloc: Global, bytes: &[u8], limit: u32) -> Result<Vec<u8>, Fault
     ensures err { IfErr result (λ fault. IsRefused limit bytes.now fault) }
 {
     let (script, run) = run_bytes(alloc, bytes, limit)?;
-    Ok(picture_of(alloc, &script, &run, limit)?)
+    let paper = Lines::headed(alloc, shown_in(&script, &run), script.threads.len() <= 16)?;
+    Ok(drawn_on(alloc, &script, paper, limit)?.picture)
+}
+
+/// The drawing of a run of the script that the bytes give.
+fn drawing_for(alloc: Global, bytes: &[u8], limit: u32) -> Result<Vec<u8>, Fault>
+    requires { length bytes.now ≤ 1048576 }
+    ensures ok { IfOk result (λ document. IsDrawing limit bytes.now document.items) }
+    ensures err { IfErr result (λ fault. IsRefused limit bytes.now fault) }
+{
+    let (script, run) = run_bytes(alloc, bytes, limit)?;
+    let record = drawn_on(alloc, &script, Record::new(alloc), limit)?;
+    let is_all = script.threads.len() <= 16;
+    Ok(document_of(alloc, &record, shown_in(&script, &run), is_all)?)
 }
 
 /// Reads a script to its end, runs it in a new world, and then writes a picture of the run.
@@ -116,4 +125,41 @@ pub fn timeline<S: Source, W: Sink>(
     let bytes = collect_bytes(alloc, source)?;
     let picture = picture_for(alloc, &bytes, limit)?;
     write_all(sink, &picture)
+}
+
+/// Reads a script to its end, runs it in a new world, and then writes a drawing of the run: one SVG document.
+///
+/// The document has a lane for each thread, or for the sixteen with the most calls, and a line across for each
+/// turn that changed something, at most 2,000; docs/SCRIPTS.md says what stands in it. It is the same for the
+/// same script. Returns `Ok` when all of it was taken. It refuses what [`timeline`] refuses, in the same order
+/// and at the same places, and leaves the same.
+///
+/// Needs a source and a sink that have not failed. What it says of bytes it says of streams
+/// that know theirs.
+pub fn svg<S: Source, W: Sink>(
+    alloc: Global,
+    source: &mut S,
+    sink: &mut W,
+    limit: u32,
+) -> Result<(), Fault>
+    requires source { S.has_failed source.old ≡ false }
+    requires sink { W.has_failed sink.old ≡ false }
+    // Where a drawing is written, the script that was read has a run; each refusal is a replay's.
+    ensures answers { Gave (S.to_come source.old) (S.to_come source.new) (λ bytes.
+        IsEnough bytes (S.last source.new) × WasRead bytes (S.to_come source.new) result × Answers (W.taken sink.old) (W.taken sink.new) (IsDrawing limit) limit bytes result) }
+    // Nothing is written before the whole drawing is made.
+    ensures untouched { IfErr result (λ fault. fault ≢ Fault.Write → sink.new ≡ sink.old) }
+    // The source is asked no more often than it may be, and never after its end.
+    ensures asked { IsAskedEnough (S.asked source.old) (S.asked source.new) }
+    ensures ended { Ended (S.ends source.old) (S.ends source.new) result }
+    ensures read_fault { IsErrOf result Fault.Read → IsReadFault (S.has_failed source.new) (S.asked source.old) (S.asked source.new) }
+    // A read or a write that failed is answered, and not tried again.
+    ensures failed_read { S.has_failed source.new ≡ true → IsErrOf result Fault.Read }
+    ensures failed_write { W.has_failed sink.new ≡ true → IsErrOf result Fault.Write }
+    ensures fine { OnOk result (IsFine (W.has_failed sink.new) (W.stuck sink.old) (W.stuck sink.new)) }
+    ensures write_fault { IsErrOf result Fault.Write → IsWriteFault (W.has_failed sink.new) (W.stuck sink.old) (W.stuck sink.new) }
+{
+    let bytes = collect_bytes(alloc, source)?;
+    let document = drawing_for(alloc, &bytes, limit)?;
+    write_all(sink, &document)
 }

@@ -17,12 +17,23 @@
 //! ```
 #![tactic(auto)]
 
+mod arrows;
+mod bars;
 mod call;
 mod changes;
 mod columns;
+mod document;
 mod drawing;
+mod escaped;
+mod labels;
+mod layout;
+mod legend;
 mod line;
+mod page;
+mod paper;
+mod record;
 mod sight;
 mod stepping;
+mod style;
 
-pub use drawing::timeline;
+pub use drawing::{svg, timeline};

@@ -1,14 +1,13 @@
-//! A line of the picture.
+//! The picture as lines of text.
 
 use crate::call::{name, push_call};
 use crate::changes::push_changes;
 use crate::columns::{push_columns, push_numbers};
-use crate::sight::{Sight, both, only};
+use crate::paper::{Drawn, Paper};
+use crate::sight::{both, only};
 use ns_model::seats::Seats;
-use ns_replay::{ScriptCondition, push_reply};
-use ns_world::call::Call;
-use ns_world::reply::Reply;
-use std::alloc::AllocError;
+use ns_replay::push_reply;
+use std::alloc::{AllocError, Global};
 
 /// How many characters a line may have.
 const WIDTH: usize = 100;
@@ -21,23 +20,6 @@ const LEGEND: [&str; 2] = [
     "#  writes   :  reads   @  has the queues   .  is in a call   !  is to be woken",
     "z  waits for the lock or a condition   0-3  waits for that condition variable",
 ];
-
-/// A turn, as it is drawn.
-#[derive(Clone, Copy)]
-pub struct Drawn<'a> {
-    /// Which turn it is, from 1.
-    pub turn: u32,
-    /// Whose it is.
-    pub thread: u8,
-    /// The call that the thread is in.
-    pub call: Call<ScriptCondition>,
-    /// What was seen before it.
-    pub before: &'a Sight,
-    /// What is seen after it.
-    pub after: &'a Sight,
-    /// What the call has answered, if it is over.
-    pub reply: Option<Reply>,
-}
 
 /// Adds a line, and cuts what doesn't fit.
 fn push_cut(picture: &mut Vec<u8>, line: &str) -> Result<(), AllocError> {
@@ -53,7 +35,7 @@ fn push_cut(picture: &mut Vec<u8>, line: &str) -> Result<(), AllocError> {
 }
 
 /// The lines above the turns: what the marks mean, and the numbers of those who have a column.
-pub fn push_head(
+fn push_head(
     picture: &mut Vec<u8>,
     line: &mut String,
     shown: Seats,
@@ -101,7 +83,7 @@ fn set_turn(
 
 /// The line of a turn. Where it is too long, a call that has begun before stands by its name alone, so that
 /// what it has done is not cut.
-pub fn push_turn(
+fn push_turn(
     picture: &mut Vec<u8>,
     line: &mut String,
     shown: Seats,
@@ -112,4 +94,35 @@ pub fn push_turn(
         set_turn(line, shown, drawn, false)?;
     }
     push_cut(picture, line)
+}
+
+/// A picture as lines of text.
+#[derive(Drop)]
+pub struct Lines {
+    /// What is drawn.
+    pub picture: Vec<u8>,
+    /// Where a line is put together.
+    line: String,
+    /// Who has a column.
+    shown: Seats,
+}
+
+impl Lines {
+    /// The head of a picture in which these threads have a column, and no turn yet.
+    pub fn headed(alloc: Global, shown: Seats, is_all: bool) -> Result<Lines, AllocError> {
+        let mut picture = Vec::new(alloc);
+        let mut line = String::new(alloc);
+        push_head(&mut picture, &mut line, shown, is_all)?;
+        Ok(Lines {
+            picture,
+            line,
+            shown,
+        })
+    }
+}
+
+impl Paper for Lines {
+    fn take(&mut self, drawn: &Drawn<'_>) -> Result<(), AllocError> {
+        push_turn(&mut self.picture, &mut self.line, self.shown, drawn)
+    }
 }

@@ -33,6 +33,11 @@ pub fn only(thread: u8) -> Seats {
     Seats(1u64.wrapping_shl(u32::from(thread)))
 }
 
+/// Whether the thread is in the set.
+pub fn has(some: Seats, thread: u8) -> bool {
+    both(some, only(thread)) != Seats::none()
+}
+
 /// Those of the first set who aren't in the second.
 pub fn without(some: Seats, others: Seats) -> Seats {
     Seats(some.0 & !others.0)

@@ -1,9 +1,9 @@
-//! The run once more, turn by turn, with a line for each turn that changed something.
+//! The run once more, turn by turn, in which each turn that changed something is drawn.
 
 ghost use Rattle.std.specs.Prelude.{◌≡◌, ◌≤◌, ◌<◌, All};
 ghost use Rattle.ns_world.specs.Runs.{ListFits};
 
-use crate::line::{Drawn, push_turn};
+use crate::paper::{Drawn, Paper};
 use crate::sight::{Sight, both, only};
 use ns_model::seats::Seats;
 use ns_replay::ScriptCondition;
@@ -17,13 +17,9 @@ use std::alloc::AllocError;
 
 /// How far the drawing has come.
 #[derive(Drop)]
-pub struct Drawing {
-    /// What is drawn.
-    pub picture: Vec<u8>,
-    /// Where a line is put together.
-    pub line: String,
-    /// Who has a column.
-    pub shown: Seats,
+pub struct Drawing<P> {
+    /// Where it is drawn.
+    pub paper: P,
     /// What is seen.
     pub sight: Sight,
     /// The lock word when that was seen.
@@ -32,6 +28,19 @@ pub struct Drawing {
     pub over: [u16; 64],
     /// How many turns were made.
     pub turns: u32,
+}
+
+impl<P> Drawing<P> {
+    /// A drawing on this paper, of which no turn is made.
+    pub fn new(paper: P) -> Drawing<P> {
+        Drawing {
+            paper,
+            sight: Sight::new(),
+            word: Word::FREE,
+            over: [0; 64],
+            turns: 0,
+        }
+    }
 }
 
 /// Whether the thread's call was in progress before this step, and has to wait: such a step has only loaded,
@@ -45,7 +54,7 @@ fn is_waiting(seen: &Sight, thread: u8, step: Step) -> bool {
 /// run that waits: the thread's call was in progress before and still is, the lock word is the same, nobody has
 /// the waiter queues in hand, and nobody is owed a wake. So who holds the lock and who stands in which list is
 /// as before, since a list changes only with the queues in a hand.
-fn is_as_seen(drawing: &Drawing, word: Word, thread: u8, step: Step) -> bool {
+fn is_as_seen<P>(drawing: &Drawing<P>, word: Word, thread: u8, step: Step) -> bool {
     let sight = &drawing.sight;
     matches!(step, Step::Went)
         && both(sight.busy, only(thread)) != Seats::none()
@@ -55,8 +64,8 @@ fn is_as_seen(drawing: &Drawing, word: Word, thread: u8, step: Step) -> bool {
 }
 
 /// Draws a step of the thread's call, if it changed something, or the call is over.
-fn draw(
-    drawing: &mut Drawing,
+fn draw<P: Paper>(
+    drawing: &mut Drawing<P>,
     world: &World<ScriptCondition, 8>,
     thread: u8,
     call: Call<ScriptCondition>,
@@ -67,7 +76,8 @@ fn draw(
         return Ok(());
     }
     drawing.word = word;
-    let after = drawing.sight.after(&world.state(), thread);
+    let state = world.state();
+    let after = drawing.sight.after(&state, thread);
     let reply = match step {
         Step::Finished(reply) => Some(reply),
         Step::Went | Step::Idle | Step::Nothing => None,
@@ -80,22 +90,18 @@ fn draw(
             call,
             before: &before,
             after: &after,
+            row: state.row,
             reply,
         };
-        push_turn(
-            &mut drawing.picture,
-            &mut drawing.line,
-            drawing.shown,
-            &drawn,
-        )?;
+        drawing.paper.take(&drawn)?;
     }
     drawing.sight = after;
     Ok(())
 }
 
 /// Makes a turn of the thread, and draws it.
-fn drawn_turn(
-    drawing: &mut Drawing,
+fn drawn_turn<P: Paper>(
+    drawing: &mut Drawing<P>,
     world: &mut World<ScriptCondition, 8>,
     threads: &[Vec<Call<ScriptCondition>>],
     thread: u8,
@@ -120,8 +126,8 @@ fn drawn_turn(
 }
 
 /// Draws an item of the thread. No run has more turns than the limit.
-fn draw_item(
-    drawing: &mut Drawing,
+fn draw_item<P: Paper>(
+    drawing: &mut Drawing<P>,
     world: &mut World<ScriptCondition, 8>,
     threads: &[Vec<Call<ScriptCondition>>],
     thread: u8,
@@ -141,8 +147,8 @@ fn draw_item(
 }
 
 /// Draws the items of a word of the schedule.
-fn draw_word(
-    drawing: &mut Drawing,
+fn draw_word<P: Paper>(
+    drawing: &mut Drawing<P>,
     world: &mut World<ScriptCondition, 8>,
     threads: &[Vec<Call<ScriptCondition>>],
     word: &Turn,
@@ -161,8 +167,8 @@ fn draw_word(
 }
 
 /// Draws the run of the schedule in a new world.
-pub fn draw_schedule(
-    drawing: &mut Drawing,
+pub fn draw_schedule<P: Paper>(
+    drawing: &mut Drawing<P>,
     world: &mut World<ScriptCondition, 8>,
     threads: &[Vec<Call<ScriptCondition>>],
     schedule: &[Turn],
