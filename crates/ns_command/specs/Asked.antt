@@ -8,7 +8,7 @@ use Rattle.std.specs.Str.Parse.{digits_value, without_leading_plus}
 use Rattle.clap.specs.Words.{Row, Text, one_of, subcommand_of}
 use Rattle.ns_replay.specs.declared.options.Options.{Options}
 use Rattle.ns_command.specs.declared.wanted.Wanted.{Wanted}
-use Rattle.ns_command.specs.declared.wanted.Wanted.TheVariants.{Live, Replay, Timeline}
+use Rattle.ns_command.specs.declared.wanted.Wanted.TheVariants.{Drawing, Live, Replay, Timeline}
 use Rattle.ns_command.specs.Words.{application}
 
 -- the flag of this name was given
@@ -39,13 +39,17 @@ options_in rows = record {
   limit = limit_in rows;
 }
 
+-- the picture by the matches of `timeline`: a drawing by its flag, and else text
+abbrev pub picture_in : List Row → Wanted
+picture_in rows = if is_set (codes "svg") rows then Drawing (limit_in rows) else Timeline (limit_in rows)
+
 -- what is asked for by the subcommand of this name with these matches
 abbrev pub asked_in : Text × List Row → Wanted
 asked_in entered =
     if bytes_eq entered.0 (codes "live") then Live (items_in entered.1)
-    else if bytes_eq entered.0 (codes "timeline") then Timeline (limit_in entered.1)
+    else if bytes_eq entered.0 (codes "timeline") then picture_in entered.1
     else Replay (options_in entered.1)
 
--- what the words ask for: a replay by their options, a picture by their limit, or live threads with so many items
+-- what the words ask for: a replay by their options, a picture or a drawing by their limit, or live threads with so many items
 unfoldable pub asked_by : List Text → Wanted
 asked_by words = option_map_or asked_in (subcommand_of application words) (Replay (options_in []))

@@ -22,9 +22,9 @@ abbrev pub replay_app : App
 replay_app = with_rule (with_rule (with_rule (with_rule (new_app (codes "replay"))
     (flag_rule (codes "history"))) (flag_rule (codes "tests"))) (flag_rule (codes "state"))) limit_rule
 
--- `timeline [--limit N]`
+-- `timeline [--svg] [--limit N]`
 abbrev pub timeline_app : App
-timeline_app = with_rule (new_app (codes "timeline")) limit_rule
+timeline_app = with_rule (with_rule (new_app (codes "timeline")) (flag_rule (codes "svg"))) limit_rule
 
 -- `--items N`, with N from 1 to 100,000, which has to be given
 abbrev pub items_rule : Rule
@@ -53,6 +53,6 @@ script_app = with_subcommand (with_subcommand bare_app replay_app.top) timeline_
 abbrev pub application : App
 application = with_subcommand script_app live_app.top
 
--- the kinds of what clap has to say of the words: none, where they ask for a replay, a picture or live threads
+-- the kinds of what clap has to say of the words: none, where they ask for a replay, a picture, a drawing or live threads
 unfoldable pub kinds_of : List Text → Kinds
 kinds_of words = fault_of application words

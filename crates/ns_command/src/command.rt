@@ -4,7 +4,7 @@ ghost use Rattle.std.specs.Prelude.{◌≡◌, [], map, false, IfOk, IfErr, stri
 ghost use Rattle.clap.specs.Words.{HasKind, app_of, found_of, rows_of, rule_of};
 ghost use Rattle.clap.specs.declared.builder.command.Command.TheViews.{out-Command};
 ghost use Rattle.ns_command.specs.Words.{application, flag_rule, items_rule, kinds_of, limit_rule, live_app, replay_app, script_app, timeline_app};
-ghost use Rattle.ns_command.specs.Asked.{asked_by, asked_in, is_set as is_given, items_in, limit_in, options_in};
+ghost use Rattle.ns_command.specs.Asked.{asked_by, asked_in, is_set as is_given, items_in, limit_in, options_in, picture_in};
 
 use crate::wanted::Wanted;
 use clap::builder::Command;
@@ -67,15 +67,21 @@ fn replay_command<'a>(alloc: Global) -> Result<Command<'a>, AllocError>
         .arg(limit(alloc))
 }
 
-/// `timeline [--limit N]`
+/// `timeline [--svg] [--limit N]`
 fn timeline_command<'a>(alloc: Global) -> Result<Command<'a>, AllocError>
     ensures { IfOk result (λ command. (app_of command ≡ timeline_app)
         × ((out-Command command).has_globals ≡ false)) }
 {
+    let svg = flag(
+        alloc,
+        "svg",
+        "Draw it as one SVG document, as: ns_cli timeline --svg < SCRIPT > run.svg",
+    );
     Command::new(alloc, "timeline")
         .about(
             "Draw a run of a script from standard input: ns_cli timeline < examples/first_path.json",
         )
+        .arg(svg)?
         .arg(limit(alloc))
 }
 
@@ -163,6 +169,18 @@ fn items_of(matches: &ArgMatches) -> u32
     matches.get_one::<u32>("items").unwrap_or(0)
 }
 
+/// Which picture to draw, by the words that were given.
+fn picture(matches: &ArgMatches) -> Wanted
+    ensures { result ≡ picture_in (rows_of (found_of matches.now)) }
+{
+    let limit = limit_of(matches);
+    if is_set(matches, "svg") {
+        Wanted::Drawing(limit)
+    } else {
+        Wanted::Timeline(limit)
+    }
+}
+
 /// What the subcommand of this name asks for.
 fn wanted(name: &str, matches: &ArgMatches) -> Wanted
     ensures { result ≡ asked_in (name.now, rows_of (found_of matches.now)) }
@@ -170,7 +188,7 @@ fn wanted(name: &str, matches: &ArgMatches) -> Wanted
     if name == "live" {
         Wanted::Live(items_of(matches))
     } else if name == "timeline" {
-        Wanted::Timeline(limit_of(matches))
+        picture(matches)
     } else {
         Wanted::Replay(options(matches))
     }

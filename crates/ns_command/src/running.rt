@@ -5,7 +5,7 @@ ghost use Rattle.std.specs.Prelude.{◌≡◌, ◌≢◌, ◌⊎◌, [], ℕ, ma
 ghost use Rattle.clap.specs.Words.{kind_of};
 ghost use Rattle.ns_replay.specs.Transfer.{Gave, IsReadFault, IsWriteFault};
 ghost use Rattle.ns_replay.specs.Replaying.{Answers, IsText, WasRead};
-ghost use Rattle.ns_timeline.specs.Pictures.{IsPicture};
+ghost use Rattle.ns_timeline.specs.Pictures.{IsDrawing, IsPicture};
 ghost use Rattle.ns_command.specs.Words.{kinds_of};
 ghost use Rattle.ns_command.specs.Answers.{ByAnswer};
 ghost use Rattle.ns_command.specs.Asked.{asked_by};
@@ -22,7 +22,7 @@ use crate::wanted::Wanted;
 use clap::Error;
 use clap::error::ErrorKind;
 use ns_replay::{Fault, Sink, Source, replay};
-use ns_timeline::timeline;
+use ns_timeline::{svg, timeline};
 use std::alloc::Global;
 
 /// Ends a run whose words ask for nothing else, by what clap says of them.
@@ -48,8 +48,8 @@ fn answered<P: Prints>(printer: &mut P, answer: Error) -> Ending
 }
 
 /// Runs the program: replays the script that the source gives by the words, the first of which is
-/// the program's name, and writes the text of its run to the sink, or a picture of it where the words ask
-/// for that.
+/// the program's name, and writes the text of its run to the sink, or a picture or a drawing of it where the
+/// words ask for that.
 ///
 /// Where the words ask for live threads, it answers that, with the number of items, for the caller to make
 /// them. Where they are wrong, or ask for help, clap answers them. In both cases the source and the sink
@@ -85,6 +85,13 @@ pub fn run<S: Source, W: Sink, P: Prints>(
         WasRead bytes (S.to_come source.new) (outcome_of ending)
         × Answers (W.taken sink.old) (W.taken sink.new) (IsPicture limit) limit bytes (outcome_of ending)))
         (λ items. ⊥) }
+    // And so is a drawing made.
+    ensures marked { (limit : ℕ) → kinds_of (map string_bytes words.now) ≡ []
+        → asked_by (map string_bytes words.now) ≡ TheWanted.Drawing limit
+        → ByAnswer result (λ ending. Gave (S.to_come source.old) (S.to_come source.new) (λ bytes.
+        WasRead bytes (S.to_come source.new) (outcome_of ending)
+        × Answers (W.taken sink.old) (W.taken sink.new) (IsDrawing limit) limit bytes (outcome_of ending)))
+        (λ items. ⊥) }
     // Live threads are left to the caller, by the number of items that the words give.
     ensures live { (items : ℕ) → kinds_of (map string_bytes words.now) ≡ []
         → asked_by (map string_bytes words.now) ≡ TheWanted.Live items
@@ -116,6 +123,10 @@ pub fn run<S: Source, W: Sink, P: Prints>(
         }
         Ok(Wanted::Timeline(limit)) => {
             let outcome = timeline(alloc, source, sink, limit);
+            Answer::Ended(finish(printer, outcome))
+        }
+        Ok(Wanted::Drawing(limit)) => {
+            let outcome = svg(alloc, source, sink, limit);
             Answer::Ended(finish(printer, outcome))
         }
         Err(answer) => Answer::Ended(answered(printer, answer)),

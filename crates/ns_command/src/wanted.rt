@@ -7,8 +7,10 @@ use ns_replay::Options;
 pub enum Wanted {
     /// A replay by these options.
     Replay(Options),
-    /// A picture of a run of at most so many turns.
+    /// A picture of a run of at most so many turns, as text.
     Timeline(u32),
+    /// A drawing of a run of at most so many turns, as one SVG document.
+    Drawing(u32),
     /// Live threads, and so many items.
     Live(u32),
 }
