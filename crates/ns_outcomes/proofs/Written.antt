@@ -1,0 +1,113 @@
+-- What a fault leaves, and what a write of a whole text answers.
+use Rattle.std.proofs.Common.{◌≡◌, ℕ, List, [], Option, Result, Ok, Err, sym, subst, inl}
+use Rattle.std.specs.Prelude.{⊤, IfErr, OnErr, OnOk}
+use Rattle.std.specs.Io.KnownBytes.{Appends, IsAtEnd}
+use Rattle.std.proofs.lemmas.List.{append-nil}
+use Rattle.ns_world.specs.declared.schedule.Turn.{Turn}
+use Rattle.ns_replay.specs.declared.fault.Fault.{Fault}
+use Rattle.ns_replay.specs.declared.fault.Fault.TheVariants.{OutOfMemory, NotJson, BadScript, TooMany, StepLimit, Read, Write}
+use Rattle.ns_replay.specs.declared.path.ScriptPath.TheVariants as at
+use Rattle.ns_replay.specs.Replaying.{Answers as ReplayAnswers, IsRefused, NeedsMore, WasRead, plan_from}
+use Rattle.ns_replay.specs.Script.{Plan}
+use Rattle.ns_replay.specs.Transfer.{Gave, IsEnough, WritesFront}
+use Rattle.ns_outcomes.specs.Answers.{Answers, IsUndrawn, IsUnscheduled}
+use Rattle.ns_outcomes.specs.Outcomes.{IsDrawFault}
+
+-- ---- refusals
+
+-- what a replay refuses gives no outcomes either
+pub refused : (limit : ℕ) (bytes : List ℕ) (fault : Fault) → IsRefused limit bytes fault → IsUndrawn limit bytes fault
+refused limit bytes OutOfMemory h = tt
+refused limit bytes StepLimit h = record { plan = h.plan; read = h.read; words = []; needs = subst (λ (s : List Turn). NeedsMore limit (record h.plan { schedule = s })) (sym (append-nil h.plan.schedule)) h.needs }
+refused limit bytes NotJson h = h
+refused limit bytes (BadScript path) h = h
+refused limit bytes (TooMany path) h = h
+refused limit bytes Read h = h
+refused limit bytes Write h = h
+
+-- nor does a script with no run
+pub no_run : (limit : ℕ) (bytes : List ℕ) (plan : Plan) (fault : Fault) → plan_from bytes ≡ Ok plan → IsDrawFault limit plan fault → IsUndrawn limit bytes fault
+no_run limit bytes plan OutOfMemory read h = tt
+no_run limit bytes plan StepLimit read (words, needs) = record { plan = plan; read = read; words = words; needs = needs }
+no_run limit bytes plan NotJson read h = absurd h
+no_run limit bytes plan (BadScript path) read h = absurd h
+no_run limit bytes plan (TooMany path) read h = absurd h
+no_run limit bytes plan Read read h = absurd h
+no_run limit bytes plan Write read h = absurd h
+
+-- what gives no outcomes gives no schedule
+pub unscheduled : (limit : ℕ) (bytes : List ℕ) (fault : Fault) → IsUndrawn limit bytes fault → IsUnscheduled limit bytes fault
+unscheduled limit bytes OutOfMemory h = h
+unscheduled limit bytes StepLimit h = h
+unscheduled limit bytes NotJson h = h
+unscheduled limit bytes Read h = h
+unscheduled limit bytes Write h = h
+unscheduled limit bytes (BadScript at.Schedule) h = inl h
+unscheduled limit bytes (BadScript at.Root) h = h
+unscheduled limit bytes (BadScript at.Version) h = h
+unscheduled limit bytes (BadScript at.Counters) h = h
+unscheduled limit bytes (BadScript (at.Counter i)) h = h
+unscheduled limit bytes (BadScript at.Onces) h = h
+unscheduled limit bytes (BadScript at.Variables) h = h
+unscheduled limit bytes (BadScript at.Threads) h = h
+unscheduled limit bytes (BadScript (at.Thread t)) h = h
+unscheduled limit bytes (BadScript (at.Call t c)) h = h
+unscheduled limit bytes (BadScript (at.Word i)) h = h
+unscheduled limit bytes (TooMany at.Schedule) h = inl h
+unscheduled limit bytes (TooMany at.Root) h = h
+unscheduled limit bytes (TooMany at.Version) h = h
+unscheduled limit bytes (TooMany at.Counters) h = h
+unscheduled limit bytes (TooMany (at.Counter i)) h = h
+unscheduled limit bytes (TooMany at.Onces) h = h
+unscheduled limit bytes (TooMany at.Variables) h = h
+unscheduled limit bytes (TooMany at.Threads) h = h
+unscheduled limit bytes (TooMany (at.Thread t)) h = h
+unscheduled limit bytes (TooMany (at.Call t c)) h = h
+unscheduled limit bytes (TooMany (at.Word i)) h = h
+
+-- ---- what was not read
+
+answers_by : (old : Option (List ℕ)) (IsSuch : List ℕ → List ℕ → Type 0) (IsWhy : List ℕ → Fault → Type 0) (limit : ℕ) (bytes : List ℕ) (fault : Fault) → ((f : Fault) → IsRefused limit bytes f → IsWhy bytes f)
+    → ReplayAnswers old old IsSuch limit bytes (Err fault) → Answers old old IsSuch IsWhy bytes (Err fault)
+answers_by old IsSuch IsWhy limit bytes OutOfMemory why h = (why OutOfMemory h.0, h.1)
+answers_by old IsSuch IsWhy limit bytes StepLimit why h = (why StepLimit h.0, h.1)
+answers_by old IsSuch IsWhy limit bytes NotJson why h = (why NotJson h.0, h.1)
+answers_by old IsSuch IsWhy limit bytes (BadScript path) why h = (why (BadScript path) h.0, h.1)
+answers_by old IsSuch IsWhy limit bytes (TooMany path) why h = (why (TooMany path) h.0, h.1)
+answers_by old IsSuch IsWhy limit bytes Read why h = h
+answers_by old IsSuch IsWhy limit bytes Write why h = h
+
+-- Where not all could be read, what a replay answers is answered.
+pub unread_by : (old new taken : Option (List ℕ)) (last : ℕ) (IsSuch : List ℕ → List ℕ → Type 0) (IsWhy : List ℕ → Fault → Type 0) (limit : ℕ) (fault : Fault) → ((bytes : List ℕ) (f : Fault) → IsRefused limit bytes f → IsWhy bytes f)
+    → Gave old new (λ bytes. IsEnough bytes last × WasRead bytes new (Err fault) × ReplayAnswers taken taken IsSuch limit bytes (Err fault))
+    → Gave old new (λ bytes. IsEnough bytes last × WasRead bytes new (Err fault) × Answers taken taken IsSuch IsWhy bytes (Err fault))
+unread_by old new taken last IsSuch IsWhy limit fault why (bytes, consumed, (enough, was, answers)) = (bytes, consumed, (enough, was, answers_by taken IsSuch IsWhy limit bytes fault (why bytes) answers))
+
+-- ---- what was written
+
+-- Of a text that the bytes may give, all or a front was written.
+pub written : (old new : Option (List ℕ)) (IsSuch : List ℕ → List ℕ → Type 0) (IsWhy : List ℕ → Fault → Type 0) (bytes text : List ℕ) (result : Result ⊤ Fault) → IsSuch bytes text
+    → OnOk result (Appends old new text) → OnErr result (WritesFront old new text) → IfErr result (λ fault. fault ≡ Write) → Answers old new IsSuch IsWhy bytes result
+written old new IsSuch IsWhy bytes text (Ok done) such all front is = (text, such, all)
+written old new IsSuch IsWhy bytes text (Err Write) such all (front, rest, whole, more, appends) is = (front, rest, subst (IsSuch bytes) whole such, more, appends)
+written old new IsSuch IsWhy bytes text (Err OutOfMemory) such all front is = absurd cc
+written old new IsSuch IsWhy bytes text (Err NotJson) such all front is = absurd cc
+written old new IsSuch IsWhy bytes text (Err (BadScript path)) such all front is = absurd cc
+written old new IsSuch IsWhy bytes text (Err (TooMany path)) such all front is = absurd cc
+written old new IsSuch IsWhy bytes text (Err StepLimit) such all front is = absurd cc
+written old new IsSuch IsWhy bytes text (Err Read) such all front is = absurd cc
+
+-- Who only can fail to write has read all.
+pub read_all : (bytes : List ℕ) (left : Option (List ℕ)) (result : Result ⊤ Fault) → IsAtEnd left → IfErr result (λ fault. fault ≡ Write) → WasRead bytes left result
+read_all bytes left (Ok done) end is = end
+read_all bytes left (Err Write) end is = end
+read_all bytes left (Err OutOfMemory) end is = absurd cc
+read_all bytes left (Err NotJson) end is = absurd cc
+read_all bytes left (Err (BadScript path)) end is = absurd cc
+read_all bytes left (Err (TooMany path)) end is = absurd cc
+read_all bytes left (Err StepLimit) end is = absurd cc
+read_all bytes left (Err Read) end is = absurd cc
+
+pub only_write : (P : Type 0) (result : Result ⊤ Fault) → IfErr result (λ fault. (fault ≡ Write) × P) → IfErr result (λ fault. fault ≡ Write)
+only_write P (Ok done) h = tt
+only_write P (Err fault) h = h.0

@@ -1,0 +1,24 @@
+use Rattle.std.proofs.lemmas.Result.{err_from_is_err_and}
+use Rattle.ns_replay.specs.Script.{plan_of}
+use Rattle.ns_outcomes.proofs.Written.{no_run, refused}
+use Rattle.ns_outcomes.proofs.report.report_for.Goals as goal
+
+pub returns-in_err-script-clause-err : goal.returns-in_err-script-clause-err
+returns-in_err-script-clause-err g c =
+    let p = err_from_is_err_and c.from_residual.result c.from_residual.ensures.1 in
+    rw (p.1, p.2) (refused c.args.seeds.limit c.args.bytes.now c.in_err-script.field-0.0 c.in_err-script.ensures.err)
+
+pub returns-in_err-counted-clause-err : goal.returns-in_err-counted-clause-err
+returns-in_err-counted-clause-err g c =
+    let p = err_from_is_err_and c.from_residual-in_err-counted.result c.from_residual-in_err-counted.ensures.1 in
+    rw (p.1, p.2) (no_run c.args.seeds.limit c.args.bytes.now (plan_of c.in_ok-script.script) c.in_err-counted.field-0.0 c.in_ok-script.ensures.ok.read c.in_err-counted.ensures.err)
+
+pub returns-clause-ok : goal.returns-clause-ok
+returns-clause-ok g c = record {
+  plan = plan_of c.in_ok-script.script;
+  read = c.in_ok-script.ensures.ok.read;
+  found = c.in_ok-counted.counted.found.items;
+  each = c.in_ok-counted.ensures.ok;
+  turns = c.in_ok-counted.counted.turns;
+  is = c.in_ok-report.ensures;
+}

@@ -1,0 +1,6 @@
+use Rattle.std.proofs.Common.{◌≡◌, ◌++◌, take, drop, map}
+use Rattle.ns_outcomes.specs.Standings.{stirred}
+use Rattle.ns_outcomes.proofs.standing.stir.Given as goal
+
+abbrev pub invariant-loop-standing : goal.invariant-loop-standing
+invariant-loop-standing l = l.standings ≡ map stirred (take l.standing-index l.fn.standings) ++ drop l.standing-index l.fn.standings

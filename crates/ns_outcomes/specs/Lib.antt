@@ -1,0 +1,4 @@
+pub mod Answers
+pub mod Outcomes
+pub mod Standings
+pub mod Tallies

@@ -1,0 +1,151 @@
+//! A script with the schedule of a seed's run in it.
+
+ghost use Rattle.std.specs.Prelude.{◌≡◌, ◌≢◌, ◌≤◌, length, IfOk, IfErr, IsErrOf, OnOk, true, false, string_bytes};
+ghost use Rattle.ns_replay.specs.Transfer.{Gave, IsAskedEnough, IsEnough, IsFine, IsReadFault, IsWriteFault};
+ghost use Rattle.ns_replay.specs.Replaying.{Ended, WasRead};
+ghost use Rattle.ns_outcomes.specs.Answers.{Answers, ComesTo, IsScheduled, IsUnscheduled};
+
+use crate::outcome::{SeedRun, outcome_of, run_seed};
+use ns_replay::{Fault, Script, ScriptPath, Sink, Source, collect_bytes, run_bytes, write_all};
+use ns_world::schedule::Turn;
+use serde_json::Value;
+use std::alloc::{AllocError, Global};
+
+/// How many words a schedule may have.
+const MAX_WORDS: usize = 4096;
+
+/// How many bytes a script may have.
+const MAX_BYTES: usize = 1_048_576;
+
+/// The members of a script before its schedule, in the order in which they are checked.
+const MEMBERS: [&str; 5] = ["version", "counters", "onces", "cvs", "threads"];
+
+/// A word of a schedule.
+fn push_word(out: &mut String, word: &Turn) -> Result<(), AllocError> {
+    let Turn {
+        thread,
+        whole,
+        times,
+    } = *word;
+    write!(out, "{thread}")?;
+    if whole {
+        out.push_str("!")?;
+    }
+    if times != 1 {
+        write!(out, "*{times}")?;
+    }
+    Ok(())
+}
+
+/// The words of a schedule, parted by one space.
+fn push_words(out: &mut String, words: &[Turn]) -> Result<(), AllocError> {
+    for (before, word) in words.iter().enumerate() {
+        if before > 0 {
+            out.push_str(" ")?;
+        }
+        push_word(out, word)?;
+    }
+    Ok(())
+}
+
+/// The members before the schedule, as the script has them.
+fn push_members(alloc: Global, out: &mut String, value: &Value) -> Result<(), AllocError> {
+    for name in MEMBERS {
+        if let Some(member) = value.get(name) {
+            let text = member.to_string(alloc)?;
+            write!(out, "\"{name}\":{text},")?;
+        }
+    }
+    Ok(())
+}
+
+/// A script with this schedule in place of its own, if its bytes are JSON.
+fn script_with(alloc: Global, bytes: &[u8], words: &[Turn]) -> Result<String, AllocError> {
+    let Ok(value) = Value::from_slice(alloc, bytes) else {
+        return Err(AllocError);
+    };
+    let mut out = String::new(alloc);
+    out.push_str("{")?;
+    push_members(alloc, &mut out, &value)?;
+    out.push_str("\"schedule\":\"")?;
+    push_words(&mut out, words)?;
+    out.push_str("\"}\n")?;
+    Ok(out)
+}
+
+/// Whether a replay of the text has just this schedule, and comes to just this outcome.
+fn comes_to(alloc: Global, text: &str, wanted: &SeedRun, limit: u32) -> Result<bool, AllocError>
+    requires { length text.now ≤ 1048576 }
+    ensures { IfOk result (λ same. same ≡ true → ComesTo limit text.now wanted.now.schedule.items (string_bytes wanted.now.text)) }
+{
+    let (script, run) = match run_bytes(alloc, text.as_bytes(), limit) {
+        Ok(ran) => ran,
+        Err(Fault::OutOfMemory) => return Err(AllocError),
+        Err(_) => return Ok(false),
+    };
+    let outcome = outcome_of(alloc, &run, script.threads.len() as u8)?;
+    if script.schedule != wanted.schedule {
+        return Ok(false);
+    }
+    Ok(outcome == wanted.text)
+}
+
+/// The script that the bytes give, with the schedule of a seed's run.
+fn script_for(alloc: Global, bytes: &[u8], seed: u64, limit: u32) -> Result<String, Fault>
+    requires { length bytes.now ≤ 1048576 }
+    ensures ok { IfOk result (λ text. IsScheduled limit bytes.now (string_bytes text)) }
+    ensures err { IfErr result (λ fault. IsUnscheduled limit bytes.now fault) }
+{
+    let (script, _) = run_bytes(alloc, bytes, limit)?;
+    let run = run_seed(alloc, &script, seed, limit)?;
+    if run.schedule.len() > MAX_WORDS {
+        return Err(Fault::TooMany(ScriptPath::Schedule));
+    }
+    let text = script_with(alloc, bytes, &run.schedule)?;
+    if text.len() > MAX_BYTES {
+        return Err(Fault::TooMany(ScriptPath::Schedule));
+    }
+    if !comes_to(alloc, &text, &run, limit)? {
+        return Err(Fault::BadScript(ScriptPath::Schedule));
+    }
+    Ok(text)
+}
+
+/// Reads a script to its end, and writes it with the schedule of a seed's run in place of its own.
+///
+/// The run is that of the seed in [`outcomes`](crate::outcomes): a replay of the text comes to its outcome. The
+/// text has one line, with the members in the order in which a script is checked. Returns `Ok` when all of it was
+/// taken. It refuses what a replay refuses, in the same order and at the same places; a run that needs more
+/// turns than the limit (`StepLimit`); and a schedule of more than 4,096 words, or one that makes the text longer
+/// than 1 MiB (`TooMany`, at `/schedule`). After `Write` the sink has a front of the text, and after any other
+/// fault nothing was written.
+///
+/// Needs a source and a sink that have not failed. What it says of bytes it says of streams that know theirs.
+pub fn schedule<S: Source, W: Sink>(
+    alloc: Global,
+    source: &mut S,
+    sink: &mut W,
+    seed: u64,
+    limit: u32,
+) -> Result<(), Fault>
+    requires source { S.has_failed source.old ≡ false }
+    requires sink { W.has_failed sink.old ≡ false }
+    // What was read gives what was answered and written: a script that comes to an outcome of the one read.
+    ensures answers { Gave (S.to_come source.old) (S.to_come source.new) (λ bytes.
+        IsEnough bytes (S.last source.new) × WasRead bytes (S.to_come source.new) result × Answers (W.taken sink.old) (W.taken sink.new) (IsScheduled limit) (IsUnscheduled limit) bytes result) }
+    // Nothing is written before the whole text is made, and read back.
+    ensures untouched { IfErr result (λ fault. fault ≢ Fault.Write → sink.new ≡ sink.old) }
+    // The source is asked no more often than it may be, and never after its end.
+    ensures asked { IsAskedEnough (S.asked source.old) (S.asked source.new) }
+    ensures ended { Ended (S.ends source.old) (S.ends source.new) result }
+    ensures read_fault { IsErrOf result Fault.Read → IsReadFault (S.has_failed source.new) (S.asked source.old) (S.asked source.new) }
+    // A read or a write that failed is answered, and not tried again.
+    ensures failed_read { S.has_failed source.new ≡ true → IsErrOf result Fault.Read }
+    ensures failed_write { W.has_failed sink.new ≡ true → IsErrOf result Fault.Write }
+    ensures fine { OnOk result (IsFine (W.has_failed sink.new) (W.stuck sink.old) (W.stuck sink.new)) }
+    ensures write_fault { IsErrOf result Fault.Write → IsWriteFault (W.has_failed sink.new) (W.stuck sink.old) (W.stuck sink.new) }
+{
+    let bytes = collect_bytes(alloc, source)?;
+    let text = script_for(alloc, &bytes, seed, limit)?;
+    write_all(sink, text.as_bytes())
+}

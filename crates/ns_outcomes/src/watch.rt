@@ -1,0 +1,18 @@
+//! Who is told how far the runs have come.
+
+/// Who is told of each run before it is made, to show how far they have come, and to name the seed of a run that
+/// was refused.
+pub trait Watch {
+    /// The run of this seed is made next, after so many others.
+    fn begins(&mut self, number: u32, seed: u64);
+}
+
+/// Keeps the seed of the run that was made last.
+#[derive(Clone, Copy, Debug, Drop, PartialEq, Eq)]
+pub struct LastSeed(pub Option<u64>);
+
+impl Watch for LastSeed {
+    fn begins(&mut self, _number: u32, seed: u64) {
+        self.0 = Some(seed);
+    }
+}
