@@ -2,7 +2,7 @@
 use Rattle.std.proofs.Common.{map, Bool, false, cond, ◌||◌, zero, suc, slice_get, ap, refl, eq-eqb, ◌≡◌, inl, inr, ℕ, ◌+◌, ◌-◌, ◌%◌, ◌^◌, ◌<◌, ◌≤◌, max, true, List, [], ◌∷◌, ◌++◌, append_assoc, Option, None, Some, sym, ◌∙◌, subst, arith}
 use Rattle.std.proofs.lemmas.Bool.{eqb-true, false≢true, or_cases}
 use Rattle.ns_objects.specs.Prelude.{PlainItem, is_this, item_of, AnyItem, AnyWait, AreAmong, AreSome, BothKnown, Counter, Cv, Cvs, Every, HasBegunToWait, HasComeBackFromAny, HasWaitedForAny, Held, InHand, IsByOneOf, IsLow, IsNamed, Known, KnowsTruly, Mode, Note, Past, PlaceBy, Setup, Truths, WaitKnown, WaitsOn, is_among}
-use Rattle.ns_objects.specs.Prelude.{is_variable, leave_any_told, place_in, room, room_enough, section_of}
+use Rattle.ns_objects.specs.Prelude.{leave_any_told, place_in, room, room_enough, section_of}
 use prog.Memory.{align, size, up}
 use mir.Syntax.{Ty}
 use Rattle.ns_model.proofs.Beginnings.{begins_itself, begins_through}

@@ -5,6 +5,9 @@ use Rattle.ns_objects.proofs.HeldWaits.{all_low, some_wait, waited, hand_fits}
 use Rattle.ns_objects.proofs.Rounds.{all_known_later, further}
 use Rattle.ns_objects.proofs.objects.Objects.wait_any_held.Goals as goal
 
+pub variables_in-requires : goal.variables_in-requires
+variables_in-requires g c = all_low c.args.items.now (c.args.seat.now, c.args.watch.now) c.requires.named
+
 pub any_begin-waiting-requires : goal.any_begin-waiting-requires
 any_begin-waiting-requires g c = (
   omega arith,
