@@ -1,11 +1,11 @@
-//! A picture, from the bytes of a script to the bytes of its lines.
+//! Pictures, from the bytes of a script to the bytes of lines, or of an SVG document.
 
 ghost use Rattle.std.specs.Prelude.{◌≡◌, ◌≢◌, ◌≤◌, length, IfOk, IfErr, IsErrOf, OnOk, true, false};
 ghost use Rattle.ns_replay.specs.Transfer.{Gave, IsAskedEnough, IsEnough, IsFine, IsReadFault, IsWriteFault};
 ghost use Rattle.ns_replay.specs.Replaying.{Answers, Ended, IsRefused, WasRead};
 ghost use Rattle.ns_replay.specs.Runnable.{IsRunnable};
 ghost use Rattle.ns_replay.specs.Script.{plan_of};
-ghost use Rattle.ns_timeline.specs.Pictures.{IsDocument, IsDrawing, IsPicture, RunsIn};
+ghost use Rattle.ns_timeline.specs.Pictures.{IsDrawing, IsPicture, RunsIn};
 
 use crate::columns::busiest;
 use crate::document::document_of;

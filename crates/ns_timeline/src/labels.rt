@@ -98,8 +98,8 @@ fn push_cut(out: &mut String, text: &str, room: usize) -> Result<(), AllocError>
     out.push_str(CUT)
 }
 
-/// Adds the words for which there is room: what was done is left out before the call, and that before what
-/// the call has answered.
+/// Adds the words for which there is room: what was done is left out before the call, and that is cut before
+/// what the call has answered.
 fn push_label(out: &mut String, words: &Words, room: usize) -> Result<(), AllocError> {
     let Words { call, done, answer } = words;
     let done = if call.is_empty() {
@@ -119,7 +119,7 @@ fn push_label(out: &mut String, words: &Words, room: usize) -> Result<(), AllocE
     } else {
         push_cut(out, call, room.saturating_sub(answer.len()))?;
     }
-    out.push_str(answer)
+    push_cut(out, answer, room)
 }
 
 /// What a browser shows of a change where a pointer rests on its mark.

@@ -1,9 +1,10 @@
-//! A picture of a run, as text: a column for each thread, and a row for each turn that changed something.
+//! Pictures of a run: a column for each thread, and a row for each turn that changed something.
 //!
 //! [`timeline`] reads the same scripts as `ns_replay::replay`, refuses what that refuses, and draws who holds
 //! the lock, who waits, who has the waiter queues and who is to be woken, turn by turn, with what the turn did
-//! beside it. No line is longer than 100 characters. ns_command calls it; scripts are read by ns_replay, and
-//! run in a world of ns_world.
+//! beside it. No line is longer than 100 characters. [`svg`] draws the same as one SVG document, with arrows
+//! from who wakes or signals; no text of a script gets into that but with entities. ns_command calls both;
+//! scripts are read by ns_replay, and run in a world of ns_world.
 //!
 //! ```rust
 //! let script = b"{\"version\":1,\"threads\":[[\"trylock\",\"unlock\"]],\"schedule\":\"0!*2\"}";
