@@ -10,6 +10,7 @@ use crate::choosing::pick;
 use crate::standing::{Made, Standing, stand};
 use ns_replay::{Script, ScriptCondition};
 use ns_world::call::Call;
+use ns_world::fault::Fault;
 use ns_world::run::{is_end, next_call, turn};
 use ns_world::schedule::Turn;
 use ns_world::step::Step;
@@ -73,6 +74,30 @@ fn start(alloc: Global, script: &Script) -> Result<Drawing, AllocError>
     })
 }
 
+/// Makes a step of the call that is in progress, or else of the next one. Only where none is in progress is the
+/// next one looked for.
+fn step_or_begin(
+    world: &mut World<ScriptCondition, 8>,
+    threads: &[Vec<Call<ScriptCondition>>],
+    thread: u8,
+    over: u16,
+) -> Result<Step, Fault>
+    requires lists { All (λ calls. ListFits 8 calls.items) threads.now }
+{
+    match world.step(thread)? {
+        Step::Nothing => turn(world, next_call(threads, thread, over), thread),
+        step => Ok(step),
+    }
+}
+
+/// Whether the thread has a call after so many.
+fn has_call(threads: &[Vec<Call<ScriptCondition>>], thread: u8, over: u16) -> bool {
+    match threads.get(thread as usize) {
+        Some(calls) => (over as usize) < calls.len(),
+        None => false,
+    }
+}
+
 /// Makes a turn of the thread, and tells where the threads stand after it.
 fn make_turn(
     drawing: &mut Drawing,
@@ -84,9 +109,8 @@ fn make_turn(
 {
     let over = drawing.over[thread as usize];
     let word = drawing.world.word();
-    let next = next_call(threads, thread, over);
     // Every thread has a seat, so that only memory can be refused.
-    let Ok(step) = turn(&mut drawing.world, next, thread) else {
+    let Ok(step) = step_or_begin(&mut drawing.world, threads, thread, over) else {
         return Err(AllocError);
     };
     drawing.turns = drawing.turns.saturating_add(1);
@@ -96,7 +120,7 @@ fn make_turn(
     let made = Made {
         step,
         changed: drawing.world.word() != word,
-        more: next_call(threads, thread, drawing.over[thread as usize]).is_some(),
+        more: has_call(threads, thread, drawing.over[thread as usize]),
     };
     stand(&mut drawing.standings, thread as usize, made);
     Ok(step)
