@@ -65,7 +65,7 @@ weaker : (E : Type 0) (P Q : Text → Result ℕ E → Type 0) → ((t : Text) (
 weaker E P Q step text (Some n) h = step text (Ok n) h
 weaker E P Q step text None h = (h.0, step text (Err h.0) h.1)
 
-number_is : (E : Type 0) (gives : Text → Result ℕ E → Type 0) (f : Found) (name : Text) (other : ℕ) (r : Option ℕ) → ((t : Text) (o : Result ℕ E) → gives t o → ParsesUnsigned 32 10 t o)
+pub number_is : (E : Type 0) (gives : Text → Result ℕ E → Type 0) (f : Found) (name : Text) (other : ℕ) (r : Option ℕ) → ((t : Text) (o : Result ℕ E) → gives t o → ParsesUnsigned 32 10 t o)
     → (one_text f name ≡ None → r ≡ None) → ((t : Text) → one_text f name ≡ Some t → ReadsOne gives t r)
     → unwrap_or r other ≡ option_map_or (number_in other) (one_of name (rows_of f)) other
 number_is E gives f name other r parses none value =

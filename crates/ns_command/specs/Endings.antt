@@ -1,5 +1,5 @@
 -- How a run ends, and what is said of it.
-use Rattle.std.specs.Prelude.{◌≡◌, ◌⊎◌, ℕ, ⊤, List, [], ◌++◌, Bool, true, false, Option, Result, Ok, Err, codes}
+use Rattle.std.specs.Prelude.{◌≡◌, ◌⊎◌, ℕ, ⊤, List, [], ◌++◌, Bool, true, false, Option, Some, Result, Ok, Err, codes, decimal}
 use Rattle.std.specs.List.{list_any}
 use Rattle.std.specs.Io.KnownBytes.{Appends, Keeps}
 use Rattle.clap.specs.Words.{Kinds}
@@ -9,7 +9,7 @@ use Rattle.ns_replay.specs.declared.fault.Fault.{Fault}
 use Rattle.ns_replay.specs.declared.fault.Fault.TheVariants.{OutOfMemory, NotJson, BadScript, TooMany, StepLimit, Read, Write}
 use Rattle.ns_replay.specs.Faults.{fault_text}
 use Rattle.ns_command.specs.declared.ending.Ending.{Ending}
-use Rattle.ns_command.specs.declared.ending.Ending.TheVariants.{Replayed, Lived, NoThread, Failed, HelpShown, Misused}
+use Rattle.ns_command.specs.declared.ending.Ending.TheVariants.{Replayed, Lived, NoThread, PastLimit, Failed, HelpShown, Misused}
 use Rattle.ns_command.specs.Printing.{PrintsSome, is_mistake, is_request}
 
 -- 4 where a stream is at fault, and else 3
@@ -32,6 +32,7 @@ abbrev pub status_of : Ending → ℕ
 status_of Replayed = 0
 status_of Lived = 0
 status_of NoThread = 3
+status_of (PastLimit seed) = 3
 status_of (Failed fault) = fault_status fault
 status_of HelpShown = 0
 status_of Misused = 2
@@ -49,6 +50,15 @@ fault_line fault = fault_text fault ++ codes "\n"
 abbrev pub no_thread_line : List ℕ
 no_thread_line = codes "refused 12: no thread\n"
 
+-- the line on the error side where the run of a seed needs more turns than the limit
+abbrev pub past_limit_line : ℕ → List ℕ
+past_limit_line seed = codes "refused 9: step limit by seed " ++ decimal seed ++ codes "\n"
+
+-- the ending by what the runs of some seeds came to, and the seed of the last one
+abbrev pub ending_by_seeds : Result ⊤ Fault → Option ℕ → Ending
+ending_by_seeds (Err StepLimit) (Some seed) = PastLimit seed
+ending_by_seeds result last = ending_of result
+
 -- What was printed on the error side: the line of a fault, a text on wrong words, and else
 -- nothing. Where printing failed, nothing is said.
 abbrev pub Says : Bool → Option (List ℕ) → Option (List ℕ) → Ending → Type 0
@@ -56,6 +66,7 @@ Says true old new ending = Unit {0}
 Says false old new Replayed = Keeps old new
 Says false old new Lived = Keeps old new
 Says false old new NoThread = Appends old new no_thread_line
+Says false old new (PastLimit seed) = Appends old new (past_limit_line seed)
 Says false old new (Failed fault) = Appends old new (fault_line fault)
 Says false old new HelpShown = Keeps old new
 Says false old new Misused = PrintsSome old new
@@ -66,6 +77,7 @@ abbrev pub Shows : Option (List ℕ) → Option (List ℕ) → Ending → Type 0
 Shows old new Replayed = Keeps old new
 Shows old new Lived = Keeps old new
 Shows old new NoThread = Keeps old new
+Shows old new (PastLimit seed) = Keeps old new
 Shows old new (Failed Write) = PrintsSome old new
 Shows old new (Failed fault) = Keeps old new
 Shows old new HelpShown = PrintsSome old new
@@ -76,6 +88,7 @@ abbrev pub EndsFor : ErrorKind → Ending → Type 0
 EndsFor what Replayed = ⊥
 EndsFor what Lived = ⊥
 EndsFor what NoThread = ⊥
+EndsFor what (PastLimit seed) = ⊥
 EndsFor what (Failed OutOfMemory) = what ≡ kind.OutOfMemory
 EndsFor what (Failed Write) = is_request what ≡ true
 EndsFor what (Failed fault) = ⊥
@@ -88,6 +101,7 @@ abbrev pub EndsForOneOf : Kinds → Ending → Type 0
 EndsForOneOf kinds Replayed = kinds ≡ []
 EndsForOneOf kinds Lived = ⊥
 EndsForOneOf kinds NoThread = ⊥
+EndsForOneOf kinds (PastLimit seed) = kinds ≡ []
 EndsForOneOf kinds (Failed OutOfMemory) = Unit {0}
 EndsForOneOf kinds (Failed Write) = (kinds ≡ []) ⊎ (list_any is_request kinds ≡ true)
 EndsForOneOf kinds (Failed fault) = kinds ≡ []
@@ -97,4 +111,5 @@ EndsForOneOf kinds Misused = list_any is_mistake kinds ≡ true
 -- what a replay answered, where there was one
 abbrev pub outcome_of : Ending → Result ⊤ Fault
 outcome_of (Failed fault) = Err fault
+outcome_of (PastLimit seed) = Err StepLimit
 outcome_of ending = Ok tt

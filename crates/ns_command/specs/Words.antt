@@ -26,6 +26,41 @@ replay_app = with_rule (with_rule (with_rule (with_rule (new_app (codes "replay"
 abbrev pub timeline_app : App
 timeline_app = with_rule (with_rule (new_app (codes "timeline")) (flag_rule (codes "svg"))) limit_rule
 
+-- `--seeds N`, with N from 1 to 1,000,000, and 1,000 if it isn't given
+abbrev pub seeds_rule : Rule
+seeds_rule = record (new_rule (codes "seeds")) {
+  long = Some (codes "seeds");
+  value_names = 1;
+  parser = Some (Signed (pos 1) (pos 1000000));
+  defaults = codes "1000" ∷ [];
+}
+
+-- `--from S`, with S from 0 to 4,000,000,000, and 1 if it isn't given
+abbrev pub from_rule : Rule
+from_rule = record (new_rule (codes "from")) {
+  long = Some (codes "from");
+  value_names = 1;
+  parser = Some (Signed (pos 0) (pos 4000000000));
+  defaults = codes "1" ∷ [];
+}
+
+-- `--seed S`, with S from 0 to 4,294,967,295, which has to be given
+abbrev pub seed_rule : Rule
+seed_rule = record (new_rule (codes "seed")) {
+  long = Some (codes "seed");
+  value_names = 1;
+  parser = Some (Signed (pos 0) (pos 4294967295));
+  required = true;
+}
+
+-- `outcomes [--seeds N] [--from S] [--limit N]`
+abbrev pub outcomes_app : App
+outcomes_app = with_rule (with_rule (with_rule (new_app (codes "outcomes")) seeds_rule) from_rule) limit_rule
+
+-- `schedule --seed S [--limit N]`
+abbrev pub schedule_app : App
+schedule_app = with_rule (with_rule (new_app (codes "schedule")) seed_rule) limit_rule
+
 -- `--items N`, with N from 1 to 100,000, which has to be given
 abbrev pub items_rule : Rule
 items_rule = record (new_rule (codes "items")) {
@@ -49,10 +84,14 @@ bare_app = record (new_app (codes "ns_cli")) {
 abbrev pub script_app : App
 script_app = with_subcommand (with_subcommand bare_app replay_app.top) timeline_app.top
 
+-- the program, with what it draws of a script, too
+abbrev pub drawn_app : App
+drawn_app = with_subcommand (with_subcommand script_app outcomes_app.top) schedule_app.top
+
 -- the command that the program reads its words by
 abbrev pub application : App
-application = with_subcommand script_app live_app.top
+application = with_subcommand drawn_app live_app.top
 
--- the kinds of what clap has to say of the words: none, where they ask for a replay, a picture, a drawing or live threads
+-- the kinds of what clap has to say of the words: none, where they ask for a replay, a picture, a drawing, outcomes, a schedule or live threads
 unfoldable pub kinds_of : List Text → Kinds
 kinds_of words = fault_of application words

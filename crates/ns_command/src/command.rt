@@ -3,12 +3,13 @@
 ghost use Rattle.std.specs.Prelude.{◌≡◌, [], map, false, IfOk, IfErr, string_bytes};
 ghost use Rattle.clap.specs.Words.{HasKind, app_of, found_of, rows_of, rule_of};
 ghost use Rattle.clap.specs.declared.builder.command.Command.TheViews.{out-Command};
-ghost use Rattle.ns_command.specs.Words.{application, flag_rule, items_rule, kinds_of, limit_rule, live_app, replay_app, script_app, timeline_app};
-ghost use Rattle.ns_command.specs.Asked.{asked_by, asked_in, is_set as is_given, items_in, limit_in, options_in, picture_in};
+ghost use Rattle.ns_command.specs.Words.{application, drawn_app, flag_rule, from_rule, items_rule, kinds_of, limit_rule, live_app, outcomes_app, replay_app, schedule_app, script_app, seed_rule, seeds_rule, timeline_app};
+ghost use Rattle.ns_command.specs.Asked.{asked_by, asked_in, is_set as is_given, items_in, limit_in, number_at, options_in, picture_in, seeds_in};
 
 use crate::wanted::Wanted;
 use clap::builder::Command;
 use clap::{Arg, ArgAction, ArgMatches, Error, value_parser};
+use ns_outcomes::Seeds;
 use ns_replay::Options;
 use std::alloc::{AllocError, Global};
 
@@ -85,6 +86,72 @@ fn timeline_command<'a>(alloc: Global) -> Result<Command<'a>, AllocError>
         .arg(limit(alloc))
 }
 
+/// How many seeds there are.
+fn seeds<'a>(alloc: Global) -> Arg<'a>
+    ensures rule { rule_of result ≡ seeds_rule }
+    ensures local { result.global ≡ false }
+{
+    Arg::new(alloc, "seeds")
+        .long("seeds")
+        .value_name("N")
+        .help("Run the script once for each of N seeds, from 1 to 1000000, as: --seeds 10000")
+        .value_parser(value_parser!(u32).range(1..=1_000_000))
+        .default_value("1000")
+}
+
+/// The first seed.
+fn from<'a>(alloc: Global) -> Arg<'a>
+    ensures rule { rule_of result ≡ from_rule }
+    ensures local { result.global ≡ false }
+{
+    Arg::new(alloc, "from")
+        .long("from")
+        .value_name("S")
+        .help("Begin with the seed S, from 0 to 4000000000, as: --from 57")
+        .value_parser(value_parser!(u32).range(0..=4_000_000_000))
+        .default_value("1")
+}
+
+/// The seed of a run.
+fn seed<'a>(alloc: Global) -> Arg<'a>
+    ensures rule { rule_of result ≡ seed_rule }
+    ensures local { result.global ≡ false }
+{
+    Arg::new(alloc, "seed")
+        .long("seed")
+        .value_name("S")
+        .help("Print the schedule that the seed S draws, from 0 to 4294967295, as: --seed 57")
+        .value_parser(value_parser!(u32).range(0..=4_294_967_295))
+        .required(true)
+}
+
+/// `outcomes [--seeds N] [--from S] [--limit N]`
+fn outcomes_command<'a>(alloc: Global) -> Result<Command<'a>, AllocError>
+    ensures { IfOk result (λ command. (app_of command ≡ outcomes_app)
+        × ((out-Command command).has_globals ≡ false)) }
+{
+    Command::new(alloc, "outcomes")
+        .about(
+            "Draw schedules of a script at random, and print what it comes to: ns_cli outcomes < examples/lost_wakeup.json",
+        )
+        .arg(seeds(alloc))?
+        .arg(from(alloc))?
+        .arg(limit(alloc))
+}
+
+/// `schedule --seed S [--limit N]`
+fn schedule_command<'a>(alloc: Global) -> Result<Command<'a>, AllocError>
+    ensures { IfOk result (λ command. (app_of command ≡ schedule_app)
+        × ((out-Command command).has_globals ≡ false)) }
+{
+    Command::new(alloc, "schedule")
+        .about(
+            "Print a script with the schedule that a seed draws: ns_cli schedule --seed 57 < examples/lost_wakeup.json",
+        )
+        .arg(seed(alloc))?
+        .arg(limit(alloc))
+}
+
 /// How many items go through the ring.
 fn items<'a>(alloc: Global) -> Arg<'a>
     ensures rule { rule_of result ≡ items_rule }
@@ -124,6 +191,17 @@ fn script_commands<'a>(alloc: Global) -> Result<Command<'a>, AllocError>
         .subcommand(timeline)
 }
 
+/// The program, with what it draws of a script, too.
+fn drawn_commands<'a>(alloc: Global) -> Result<Command<'a>, AllocError>
+    ensures { IfOk result (λ command. app_of command ≡ drawn_app) }
+{
+    let outcomes = outcomes_command(alloc)?;
+    let schedule = schedule_command(alloc)?;
+    script_commands(alloc)?
+        .subcommand(outcomes)?
+        .subcommand(schedule)
+}
+
 /// The words that the program takes.
 ///
 /// They are written down twice, as clap's builder and as a definition (`application`), and the
@@ -133,7 +211,7 @@ fn command<'a>(alloc: Global) -> Result<Command<'a>, AllocError>
     ensures { IfOk result (λ command. app_of command ≡ application) }
 {
     let live = live_command(alloc)?;
-    script_commands(alloc)?.subcommand(live)
+    drawn_commands(alloc)?.subcommand(live)
 }
 
 /// Whether a flag was given. (`get_flag` says the same, but its contract says less.)
@@ -181,6 +259,24 @@ fn picture(matches: &ArgMatches) -> Wanted
     }
 }
 
+/// The number of this name, by the words that were given, and else another one.
+fn number_of(matches: &ArgMatches, name: &str, other: u32) -> u32
+    ensures { result ≡ number_at name.now other (rows_of (found_of matches.now)) }
+{
+    matches.get_one::<u32>(name).unwrap_or(other)
+}
+
+/// Which seeds there are, by the words that were given.
+fn seeds_of(matches: &ArgMatches) -> Seeds
+    ensures { result ≡ seeds_in (rows_of (found_of matches.now)) }
+{
+    Seeds {
+        count: number_of(matches, "seeds", 1000),
+        from: u64::from(number_of(matches, "from", 1)),
+        limit: limit_of(matches),
+    }
+}
+
 /// What the subcommand of this name asks for.
 fn wanted(name: &str, matches: &ArgMatches) -> Wanted
     ensures { result ≡ asked_in (name.now, rows_of (found_of matches.now)) }
@@ -189,6 +285,10 @@ fn wanted(name: &str, matches: &ArgMatches) -> Wanted
         Wanted::Live(items_of(matches))
     } else if name == "timeline" {
         picture(matches)
+    } else if name == "outcomes" {
+        Wanted::Outcomes(seeds_of(matches))
+    } else if name == "schedule" {
+        Wanted::Schedule(number_of(matches, "seed", 1), limit_of(matches))
     } else {
         Wanted::Replay(options(matches))
     }

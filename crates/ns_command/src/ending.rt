@@ -15,6 +15,8 @@ pub enum Ending {
     Lived,
     /// A live thread could not be made, and a line on the error side says so.
     NoThread,
+    /// The run that this seed draws needs more turns than the limit, and a line on the error side says so.
+    PastLimit(u64),
     /// There was a fault, and its line stands on the error side.
     Failed(Fault),
     /// Help or the version was asked for, and stands on the output side.
@@ -47,7 +49,7 @@ impl Ending {
         match self {
             Ending::Replayed | Ending::Lived | Ending::HelpShown => 0,
             Ending::Misused => 2,
-            Ending::NoThread => 3,
+            Ending::NoThread | Ending::PastLimit(_) => 3,
             Ending::Failed(fault) => exit_status(&Err(fault)),
         }
     }

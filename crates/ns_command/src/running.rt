@@ -6,6 +6,8 @@ ghost use Rattle.clap.specs.Words.{kind_of};
 ghost use Rattle.ns_replay.specs.Transfer.{Gave, IsReadFault, IsWriteFault};
 ghost use Rattle.ns_replay.specs.Replaying.{Answers, IsText, WasRead};
 ghost use Rattle.ns_timeline.specs.Pictures.{IsDrawing, IsPicture};
+ghost use Rattle.ns_outcomes.specs.Answers.{Answers as AnswersBy, IsReport, IsScheduled, IsUndrawn, IsUnscheduled};
+ghost use Rattle.ns_outcomes.specs.declared.seeds.Seeds.{Seeds};
 ghost use Rattle.ns_command.specs.Words.{kinds_of};
 ghost use Rattle.ns_command.specs.Answers.{ByAnswer};
 ghost use Rattle.ns_command.specs.Asked.{asked_by};
@@ -16,11 +18,12 @@ ghost use Rattle.ns_command.specs.Endings.{Says, Shows, EndsFor, EndsForOneOf, o
 use crate::answer::Answer;
 use crate::command::asked;
 use crate::ending::Ending;
-use crate::finishing::finish;
+use crate::finishing::{finish, finish_seeds};
 use crate::prints::Prints;
 use crate::wanted::Wanted;
 use clap::Error;
 use clap::error::ErrorKind;
+use ns_outcomes::{LastSeed, outcomes, schedule};
 use ns_replay::{Fault, Sink, Source, replay};
 use ns_timeline::{svg, timeline};
 use std::alloc::Global;
@@ -92,6 +95,20 @@ pub fn run<S: Source, W: Sink, P: Prints>(
         WasRead bytes (S.to_come source.new) (outcome_of ending)
         × Answers (W.taken sink.old) (W.taken sink.new) (IsDrawing limit) limit bytes (outcome_of ending)))
         (λ items. ⊥) }
+    // Outcomes are those of runs of the script that was read, by the seeds that the words give.
+    ensures drawn_outcomes { (seeds : Seeds) → kinds_of (map string_bytes words.now) ≡ []
+        → asked_by (map string_bytes words.now) ≡ TheWanted.Outcomes seeds
+        → ByAnswer result (λ ending. Gave (S.to_come source.old) (S.to_come source.new) (λ bytes.
+        WasRead bytes (S.to_come source.new) (outcome_of ending)
+        × AnswersBy (W.taken sink.old) (W.taken sink.new) (IsReport seeds) (IsUndrawn seeds.limit) bytes (outcome_of ending)))
+        (λ items. ⊥) }
+    // A script is written with a schedule by which it comes to an outcome.
+    ensures drawn_schedule { (seed limit : ℕ) → kinds_of (map string_bytes words.now) ≡ []
+        → asked_by (map string_bytes words.now) ≡ TheWanted.Schedule seed limit
+        → ByAnswer result (λ ending. Gave (S.to_come source.old) (S.to_come source.new) (λ bytes.
+        WasRead bytes (S.to_come source.new) (outcome_of ending)
+        × AnswersBy (W.taken sink.old) (W.taken sink.new) (IsScheduled limit) (IsUnscheduled limit) bytes (outcome_of ending)))
+        (λ items. ⊥) }
     // Live threads are left to the caller, by the number of items that the words give.
     ensures live { (items : ℕ) → kinds_of (map string_bytes words.now) ≡ []
         → asked_by (map string_bytes words.now) ≡ TheWanted.Live items
@@ -127,6 +144,15 @@ pub fn run<S: Source, W: Sink, P: Prints>(
         }
         Ok(Wanted::Drawing(limit)) => {
             let outcome = svg(alloc, source, sink, limit);
+            Answer::Ended(finish(printer, outcome))
+        }
+        Ok(Wanted::Outcomes(seeds)) => {
+            let mut last = LastSeed(None);
+            let outcome = outcomes(alloc, source, sink, seeds, &mut last);
+            Answer::Ended(finish_seeds(printer, outcome, last.0))
+        }
+        Ok(Wanted::Schedule(seed, limit)) => {
+            let outcome = schedule(alloc, source, sink, u64::from(seed), limit);
             Answer::Ended(finish(printer, outcome))
         }
         Err(answer) => Answer::Ended(answered(printer, answer)),

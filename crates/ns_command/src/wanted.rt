@@ -1,5 +1,6 @@
 //! What the words of the program ask for.
 
+use ns_outcomes::Seeds;
 use ns_replay::Options;
 
 /// What right words ask for.
@@ -11,6 +12,10 @@ pub enum Wanted {
     Timeline(u32),
     /// A drawing of a run of at most so many turns, as one SVG document.
     Drawing(u32),
+    /// The outcomes of a script under schedules that these seeds draw.
+    Outcomes(Seeds),
+    /// A script with the schedule that this seed draws, whose run has at most so many turns.
+    Schedule(u32, u32),
     /// Live threads, and so many items.
     Live(u32),
 }
