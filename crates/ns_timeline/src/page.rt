@@ -65,6 +65,15 @@ pub struct Page {
     tag: String,
 }
 
+/// The head of an arrow that goes across from here to there.
+fn head(from: usize, to: usize) -> &'static str {
+    if from < to {
+        "m-6 -4l6 4l-6 4"
+    } else {
+        "m6 -4l-6 4l6 4"
+    }
+}
+
 /// Adds the element of a shape.
 fn push_shape(out: &mut String, class: &str, shape: Shape) -> Result<(), AllocError> {
     match shape {
@@ -81,11 +90,7 @@ fn push_shape(out: &mut String, class: &str, shape: Shape) -> Result<(), AllocEr
             write!(out, "<path class=\"{class}\" d=\"M{x} {from}V{to}\"/>")
         }
         Shape::Across { from, to, y } => {
-            let head = if from < to {
-                "m-6 -4l6 4l-6 4"
-            } else {
-                "m6 -4l-6 4l6 4"
-            };
+            let head = head(from, to);
             write!(
                 out,
                 "<path class=\"{class}\" d=\"M{from} {y}v{BELOW}H{to}{head}\"/>"
