@@ -5,8 +5,8 @@
 //! make. It is generic over its streams and over where it prints, so that its contract can speak of what was
 //! read, written and printed.
 //!
-//! ns_cli calls it as the program, and ns_tests for each of its rows. It rests on ns_replay and ns_timeline
-//! for scripts, on clap for the words, and on no crate between threads.
+//! ns_cli calls it as the program, and ns_tests for each of its rows. It rests on ns_replay, ns_timeline and
+//! ns_outcomes for scripts, on clap for the words, and on no crate between threads.
 #![tactic(auto)]
 
 mod answer;

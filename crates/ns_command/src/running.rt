@@ -95,7 +95,7 @@ pub fn run<S: Source, W: Sink, P: Prints>(
         WasRead bytes (S.to_come source.new) (outcome_of ending)
         × Answers (W.taken sink.old) (W.taken sink.new) (IsDrawing limit) limit bytes (outcome_of ending)))
         (λ items. ⊥) }
-    // Outcomes are those of runs of the script that was read, by the seeds that the words give.
+    // Each outcome shown is that of a run of the script that was read, within the limit that the words give.
     ensures drawn_outcomes { (seeds : Seeds) → kinds_of (map string_bytes words.now) ≡ []
         → asked_by (map string_bytes words.now) ≡ TheWanted.Outcomes seeds
         → ByAnswer result (λ ending. Gave (S.to_come source.old) (S.to_come source.new) (λ bytes.

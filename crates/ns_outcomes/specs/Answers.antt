@@ -15,7 +15,7 @@ use Rattle.ns_outcomes.specs.Tallies.{report_text, texts_of}
 use Rattle.ns_outcomes.specs.declared.seeds.Seeds.{Seeds}
 use Rattle.ns_outcomes.specs.declared.tallying.Found.{Found}
 
--- The text shows outcomes of the script that the bytes give, each that of a run under some schedule that begins with the script's own.
+-- The text shows outcomes of the script that the bytes give, each that of a run under some schedule that begins with the script's own. That none is left out, and how they are counted, is shown by tests alone.
 pub record IsReport (seeds : Seeds) (bytes text : List ℕ) : Type 0 where
   pub plan : Plan
   pub read : plan_from bytes ≡ Ok plan
@@ -54,7 +54,7 @@ abbrev pub IsUndrawn : ℕ → List ℕ → Fault → Type 0
 IsUndrawn limit bytes StepLimit = IsPast limit bytes
 IsUndrawn limit bytes fault = IsRefused limit bytes fault
 
--- The bytes give a script, but it with a longer schedule isn't one: it has too many words, or too many bytes.
+-- The bytes give a script. That it is too long with the schedule drawn is shown by tests alone.
 pub record IsTooLong (bytes : List ℕ) : Type 0 where
   pub plan : Plan
   pub read : plan_from bytes ≡ Ok plan

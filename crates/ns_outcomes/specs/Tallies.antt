@@ -6,7 +6,7 @@ use Rattle.ns_outcomes.specs.declared.tallying.Found.{Found}
 abbrev pub texts_of : List Found → List (List ℕ)
 texts_of found = map (λ f. string_bytes f.text) found
 
--- An outcome more was counted: it is one of those there were, or the last.
+-- An outcome more was counted: the texts are those there were, or it stands behind them. Counts and first seeds are shown by tests alone.
 abbrev pub IsCounted : List (List ℕ) → List ℕ → List (List ℕ) → Type 0
 IsCounted old text new = (new ≡ old) ⊎ (new ≡ old ++ text ∷ [])
 

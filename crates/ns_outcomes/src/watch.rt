@@ -1,7 +1,6 @@
 //! Who is told how far the runs have come.
 
-/// Who is told of each run before it is made, to show how far they have come, and to name the seed of a run that
-/// was refused.
+/// Who is told of each run before it is made, so that the seed of a run that was refused can be named.
 pub trait Watch {
     /// The run of this seed is made next, after so many others.
     fn begins(&mut self, number: u32, seed: u64);

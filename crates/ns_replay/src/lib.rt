@@ -3,8 +3,8 @@
 //! A script is a JSON object with the calls of some threads and a schedule of their steps.
 //! [`replay`] reads one from a [`Source`], runs it in a plain world of `ns_world`, and writes
 //! every answer to a [`Sink`]. Its contract says that what was written is the text of a run of
-//! the script that was read, and when each refusal comes. ns_command calls it, and ns_timeline
-//! reads and runs scripts by it; the JSON is read by the kit's serde_json.
+//! the script that was read, and when each refusal comes. ns_command calls it, and ns_timeline and
+//! ns_outcomes read and run scripts by it; the JSON is read by the kit's serde_json.
 //!
 //! ```rust
 //! let script = b"{\"version\":1,\"threads\":[[\"trylock\",\"unlock\"]],\"schedule\":\"0!*2\"}";

@@ -4,7 +4,7 @@
 //! A world steps the call machine of `ns_word` on plain data, one atomic step at a time, in
 //! whatever order it is told to. It keeps the machine's law as its own invariant: see
 //! [`world::World`]. The steps on clock and notes are ns_env's, those on counters and once cells
-//! ns_counters', and the waiter lists ns_queue's. ns_replay and ns_timeline call it, to run scripts.
+//! ns_counters', and the waiter lists ns_queue's. ns_replay, ns_timeline and ns_outcomes call it, to run scripts.
 //!
 //! ```rust
 //! let mut world = World::<Never, 8>::new(rt.alloc(), 2, &[], 0)?; // `Never` is any `Condition<8>`
