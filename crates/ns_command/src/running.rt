@@ -107,7 +107,7 @@ pub fn run<S: Source, W: Sink, P: Prints>(
         → asked_by (map string_bytes words.now) ≡ TheWanted.Schedule seed limit
         → ByAnswer result (λ ending. Gave (S.to_come source.old) (S.to_come source.new) (λ bytes.
         WasRead bytes (S.to_come source.new) (outcome_of ending)
-        × AnswersBy (W.taken sink.old) (W.taken sink.new) (IsScheduled limit) (IsUnscheduled limit) bytes (outcome_of ending)))
+        × AnswersBy (W.taken sink.old) (W.taken sink.new) (IsScheduled limit seed) (IsUnscheduled limit seed) bytes (outcome_of ending)))
         (λ items. ⊥) }
     // Live threads are left to the caller, by the number of items that the words give.
     ensures live { (items : ℕ) → kinds_of (map string_bytes words.now) ≡ []

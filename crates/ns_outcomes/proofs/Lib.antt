@@ -1,3 +1,6 @@
+pub mod Begun
+pub mod Draws
 pub mod Runs
 pub mod Tallies
+pub mod Words
 pub mod Written

@@ -1,13 +1,223 @@
--- What was counted before stays, and the blocks of one outcome more.
-use Rattle.std.proofs.Common.{◌≡◌, ℕ, suc, ◌+◌, ◌<◌, ◌≤◌, add-one, take, List, [], ◌∷◌, ◌++◌, length, get_or, slice_set, string_bytes, refl, ap, ◌∙◌, append_assoc, arith}
-use Rattle.std.proofs.Math.Seq.{map-set_same, take-suc}
-use Rattle.std.proofs.lemmas.List.{append-nil, length-take-le}
-use Rattle.ns_outcomes.specs.Tallies.{block_text, blocks_text, texts_of}
+-- What is counted after one run more, what the counts give as a list, and the blocks of one outcome more.
+use Rattle.std.proofs.Common.{◌≡◌, ℕ, suc, ◌+◌, ◌^◌, ◌<◌, ◌≤◌, ◌⊎◌, inl, inr, Bool, true, false, cond, add-one, add-zero, zero-add, take, List, [], ◌∷◌, ◌++◌, length, get_or, map, Option, Some, None, String, string_bytes, refl, sym, ap, ◌∙◌, subst, append_assoc, arith, below_more}
+use Rattle.std.specs.Prelude.{All, AllPairs, Contains, IsPermutation, IsSortedBy, IfSome, bytes_eq, count_by, option_map, position, slice_get, string_cmp}
+use Rattle.std.specs.BTreeMap.{IsOrdered, get_by_text, is_at}
+use Rattle.std.specs.Cmp.{back_total, nat_cmp_total, on_total, then_total}
+use Rattle.std.specs.Cmp.Lexicographic.{bytes_decides, nat_list_eq_equiv, slice_cmp}
+use Rattle.std.specs.List.{AllByRecursion, IsDistinct, position_from}
+use Rattle.std.specs.Map.{keys_of, lookup}
+use Rattle.std.specs.Option.{option_or}
+use Rattle.std.specs.Ordering.{eq_by_cmp, is_lt, nat_cmp, ordering_then}
+use Rattle.std.specs.String.{string_cmp_total}
+use Rattle.std.specs.declared.alloc.Global.{Global}
+use Rattle.std.proofs.Math.Seq.{take-suc}
+use Rattle.std.proofs.lemmas.Bool.{cases_lt, cases_order, eq-eqb, le-ltb, lt-ltb}
+use Rattle.std.proofs.lemmas.Iterator.Adapters.{position_from-zero}
+use Rattle.std.proofs.lemmas.List.{append-nil, get_or_append_left, get_or_push, length-take-le, length_push}
+use Rattle.std.proofs.lemmas.List.Elements.{All-map, All-weaker}
+use Rattle.std.proofs.lemmas.List.Sorted.{All-permutation, Contains-permutation, IsPermutation-map, ranks_by, sorted_far}
+use Rattle.std.proofs.lemmas.List.Sums.{count_by-le-length, get_or-le-sum_by, sum_by-cons, sum_by_push}
+use Rattle.std.proofs.lemmas.Map.Entries.{place_from_lookup}
+use Rattle.std.proofs.lemmas.Map.Keys.{IsDistinct-IsPermutation, IsDistinct-cons, IsDistinct-from_apart, IsDistinct-from_sorted, IsDistinct-head, IsDistinct-tail}
+use Rattle.std.proofs.lemmas.Map.Made.{AllPairs-from_IsDistinct}
+use Rattle.std.proofs.lemmas.Map.Text.{is_eq-slice_cmp}
+use Rattle.std.proofs.lemmas.Map.Views.{All-found}
+use Rattle.std.proofs.lemmas.Option.{get_or_from_slice_get, same_Some, slice_get-map, slice_get_within}
+use Rattle.ns_replay.specs.Script.{Plan}
+use Rattle.ns_outcomes.specs.Outcomes.{IsOutcomeOf}
+use Rattle.ns_outcomes.specs.Tallies.{AreRuns, CountsOnceMore, HasCounted, IsBefore, IsFound, IsTally, block_text, blocks_text, counted, counted_at, found_of, once_more, seed_at, texts_of, times}
+use Rattle.ns_outcomes.specs.declared.tallying.Count.{Count}
 use Rattle.ns_outcomes.specs.declared.tallying.Found.{Found}
+use Rattle.ns_outcomes.specs.declared.tallying.Tally.{Tally}
 
--- a count more leaves the texts
-pub texts_kept : (found : List Found) (place : ℕ) (one : Found) (count : ℕ) → one ≡ get_or found place one → texts_of (slice_set found place (record { text = one.text; count = count; first = one.first })) ≡ texts_of found
-texts_kept found place one count is = map-set_same (λ (f : Found). string_bytes f.text) found place (record { text = one.text; count = count; first = one.first }) one (ap (λ (f : Found). string_bytes f.text) is)
+-- ---- the first place that passes, and how many pass
+
+module _ {X : Type 0} (p : X → Bool) where
+  -- an element more is the first that passes, if none did before
+  seek_push : (i : ℕ) (xs : List X) (y : X) → position_from p i (xs ++ y ∷ []) ≡ option_or (position_from p i xs) (cond (p y) (Some (i + length xs)) None)
+  seek_push i [] y = ap (λ (n : ℕ). cond (p y) (Some n) None) (sym (add-zero i))
+  seek_push i (x ∷ xs) y =
+      let next : i + 1 + length xs ≡ i + length (x ∷ xs) = omega arith in
+      let more = seek_push (i + 1) xs y ∙ ap (λ (n : ℕ). option_or (position_from p (i + 1) xs) (cond (p y) (Some n) None)) next in
+      elim (p x) as (λ b. cond b (Some i) (position_from p (i + 1) (xs ++ y ∷ [])) ≡ option_or (cond b (Some i) (position_from p (i + 1) xs)) (cond (p y) (Some (i + length (x ∷ xs))) None)) [
+        | true ↦ refl
+        | false ↦ more
+      ]
+
+  position_push : (xs : List X) (y : X) → position p (xs ++ y ∷ []) ≡ option_or (position p xs) (cond (p y) (Some (length xs)) None)
+  position_push xs y =
+      rw (position_from-zero p (xs ++ y ∷ []), position_from-zero p xs)
+      (seek_push 0 xs y ∙ ap (λ (n : ℕ). option_or (position_from p 0 xs) (cond (p y) (Some n) None)) (zero-add (length xs)))
+
+  -- where none is found, none passes
+  none_from : (i : ℕ) (xs : List X) → position_from p i xs ≡ None → count_by p xs ≡ 0
+  none_from i [] none = refl
+  none_from i (x ∷ xs) none =
+      let more = none_from (i + 1) xs in
+      sum_by-cons (λ y. cond (p y) 1 0) x xs
+      ∙ elim (p x) as (λ b. cond b (Some i) (position_from p (i + 1) xs) ≡ None → cond b 1 0 + count_by p xs ≡ 0) [
+        | true ↦ λ h. absurd cc
+        | false ↦ λ h. zero-add (count_by p xs) ∙ more h
+      ] none
+
+  none_passes : (xs : List X) → position p xs ≡ None → count_by p xs ≡ 0
+  none_passes xs none = none_from 0 xs (sym (position_from-zero p xs) ∙ none)
+
+  -- where an element passes, one is found
+  is_there : (xs : List X) (k : ℕ) (d : X) → k < length xs → p (get_or xs k d) ≡ true → (o : Option ℕ) → position p xs ≡ o → (place : ℕ) × (position p xs ≡ Some place)
+  is_there xs k d lt passes None none =
+      let least : cond (p (get_or xs k d)) 1 0 ≤ count_by p xs = get_or-le-sum_by (λ y. cond (p y) 1 0) xs k d lt in
+      let one : 1 ≤ count_by p xs = rw passes at least in
+      absurd (omega (arith, one, none_passes xs none))
+  is_there xs k d lt passes (Some place) here = (place, here)
+
+-- a text is itself
+own_text : (text : List ℕ) → bytes_eq text text ≡ true
+own_text text = (bytes_decides text text).1 refl
+
+-- ---- one run more
+
+joined : (from n m : ℕ) (o : Option ℕ) → (o ≡ None → n ≡ 0) → option_map (counted_at from (n + 1)) (option_or o (Some m)) ≡ Some (once_more (option_map (counted_at from n) o) (seed_at from m))
+joined from n m None none = rw (none refl) refl
+joined from n m (Some place) none = refl
+
+or_none : (o : Option ℕ) → option_or o None ≡ o
+or_none None = refl
+or_none (Some place) = refl
+
+-- of the text that the run came to
+more_same : (from : ℕ) (runs : List (List ℕ)) (run : List ℕ) → counted from (runs ++ run ∷ []) run ≡ Some (once_more (counted from runs run) (seed_at from (length runs)))
+more_same from runs run =
+    let place : position (bytes_eq run) (runs ++ run ∷ []) ≡ option_or (position (bytes_eq run) runs) (Some (length runs)) = rw (own_text run) at (position_push (bytes_eq run) runs run) in
+    let count : times (runs ++ run ∷ []) run ≡ times runs run + 1 = rw (own_text run) at (sum_by_push (λ r. cond (bytes_eq run r) 1 0) runs run) in
+    rw (place, count) (joined from (times runs run) (length runs) (position (bytes_eq run) runs) (none_passes (bytes_eq run) runs))
+
+-- of another
+more_other : (from : ℕ) (runs : List (List ℕ)) (run text : List ℕ) → bytes_eq run text ≡ false → counted from (runs ++ run ∷ []) text ≡ counted from runs text
+more_other from runs run text apart =
+    let not_it : bytes_eq text run ≡ false = nat_list_eq_equiv.symm text run ∙ apart in
+    let place : position (bytes_eq text) (runs ++ run ∷ []) ≡ option_or (position (bytes_eq text) runs) None = rw not_it at (position_push (bytes_eq text) runs run) in
+    let count : times (runs ++ run ∷ []) text ≡ times runs text + 0 = rw not_it at (sum_by_push (λ r. cond (bytes_eq text r) 1 0) runs run) in
+    rw (place ∙ or_none (position (bytes_eq text) runs), count ∙ add-zero (times runs text)) refl
+
+counted_more : (from : ℕ) (runs : List (List ℕ)) (run text : List ℕ) (b : Bool) → bytes_eq run text ≡ b → counted from (runs ++ run ∷ []) text ≡ cond b (Some (once_more (counted from runs run) (seed_at from (length runs)))) (counted from runs text)
+counted_more from runs run text true same = rw (← ((bytes_decides run text).0 same)) (more_same from runs run)
+counted_more from runs run text false apart = more_other from runs run text apart
+
+-- a tally that counts one run more has counted it
+has_counted_more : (from : ℕ) (runs : List (List ℕ)) (run : List ℕ) (old new : Tally) → HasCounted from runs old → CountsOnceMore old run (seed_at from (length runs)) new → HasCounted from (runs ++ run ∷ []) new
+has_counted_more from runs run old new has more = λ text. more text ∙ rw (has run, has text) (sym (counted_more from runs run text (bytes_eq run text) refl))
+
+room_at : (from n : ℕ) (o : Option ℕ) → n + 1 < 2 ^ 32 → IfSome (option_map (counted_at from n) o) (λ before. before.count + 1 < 2 ^ 32)
+room_at from n None few = tt
+room_at from n (Some place) few = few
+
+-- there is room for a run more, where there are few enough
+pub has_room : (from : ℕ) (runs : List (List ℕ)) (tally : Tally) (text : List ℕ) → HasCounted from runs tally → length runs + 1 < 2 ^ 32 → IfSome (get_by_text tally.counts text) (λ before. before.count + 1 < 2 ^ 32)
+has_room from runs tally text has few =
+    let most : times runs text ≤ length runs = count_by-le-length (bytes_eq text) runs in
+    rw (has text) (room_at from (times runs text) (position (bytes_eq text) runs) (omega (arith, most)))
+
+-- the outcomes of one run more
+runs_more : (limit from count : ℕ) (plan : Plan) (runs : List (List ℕ)) (text : List ℕ) → AreRuns limit from count plan runs → IsOutcomeOf limit plan (seed_at from count) text → AreRuns limit from (count + 1) plan (runs ++ text ∷ [])
+runs_more limit from count plan runs text made comes =
+    let many = made.many in
+    record {
+      many = length_push runs text ∙ ap (λ (n : ℕ). n + 1) many;
+      each = below_more _ _
+          (λ k lt. let within : k < length runs = omega arith in subst (IsOutcomeOf limit plan (seed_at from k)) (sym (get_or_append_left runs (text ∷ []) [] k within)) (made.each k lt))
+          (subst (IsOutcomeOf limit plan (seed_at from count)) (sym (get_or_push runs text [] count many)) comes);
+    }
+
+-- a run more, and its count
+pub one_more : (limit from number seed : ℕ) (plan : Plan) (runs : List (List ℕ)) (run : List ℕ) (old new : Tally) → seed ≡ seed_at from number → AreRuns limit from number plan runs → HasCounted from runs old → IsOutcomeOf limit plan seed run → CountsOnceMore old run seed new →
+    (all : List (List ℕ)) × AreRuns limit from (number + 1) plan all × HasCounted from all new
+one_more limit from number seed plan runs run old new is made has comes more =
+    let by : seed ≡ seed_at from (length runs) = is ∙ ap (seed_at from) (sym made.many) in (
+      runs ++ run ∷ [],
+      runs_more limit from number plan runs run made (subst (λ (s : ℕ). IsOutcomeOf limit plan s run) is comes),
+      has_counted_more from runs run old new has (subst (λ (s : ℕ). CountsOnceMore old run s new) by more),
+    )
+
+-- ---- the list of what was counted
+
+parts : (from n : ℕ) (o : Option ℕ) (here : Count) → option_map (counted_at from n) o ≡ Some here → (here.count ≡ n) × (option_map (seed_at from) o ≡ Some here.first)
+parts from n None here is = absurd cc
+parts from n (Some place) here is =
+    let same = same_Some _ _ is in
+    (ap (λ (c : Count). c.count) (sym same), ap (λ (c : Count). Some c.first) same)
+
+each_found : (from : ℕ) (runs : List (List ℕ)) (tally : Tally) → IsOrdered string_cmp tally.counts → HasCounted from runs tally → All (IsFound from runs) (map found_of tally.counts.entries)
+each_found from runs tally ordered has =
+    All-map (IsFound from runs) found_of tally.counts.entries
+    (All-weaker _ (λ e. IsFound from runs (found_of e))
+    (λ e here.
+    let p = parts from (times runs (string_bytes e.0)) (position (bytes_eq (string_bytes e.0)) runs) e.1 (sym (has (string_bytes e.0)) ∙ here) in
+    record { count = p.0; first = p.1 })
+    tally.counts.entries (All-found string_cmp_total tally.counts ordered))
+
+-- a text of which something is counted is in the list
+text_listed : (es : List (String Global × Count)) (text : List ℕ) (here : Count) → lookup (is_at (λ k. slice_cmp nat_cmp text (string_bytes k))) es ≡ Some here → Contains (texts_of (map found_of es)) text
+text_listed es text here is =
+    let at = place_from_lookup _ es here is in
+    let got : slice_get (texts_of (map found_of es)) at.0 ≡ Some (string_bytes at.1) =
+    slice_get-map (λ (f : Found). string_bytes f.text) (map found_of es) at.0 ∙ ap (option_map (λ (f : Found). string_bytes f.text)) (slice_get-map found_of es at.0 ∙ ap (option_map found_of) at.2) in
+    let same : text ≡ string_bytes at.1 = (bytes_decides text (string_bytes at.1)).0 (sym (is_eq-slice_cmp text (string_bytes at.1)) ∙ at.3) in
+    (at.0, slice_get_within _ at.0 _ got, get_or_from_slice_get _ at.0 _ text got ∙ sym same)
+
+all_listed : (from : ℕ) (runs : List (List ℕ)) (tally : Tally) → HasCounted from runs tally → All (Contains (texts_of (map found_of tally.counts.entries))) runs
+all_listed from runs tally has k d lt =
+    let run = get_or runs k d in
+    let there = is_there (bytes_eq run) runs k d lt (own_text run) (position (bytes_eq run) runs) refl in
+    text_listed tally.counts.entries run (counted_at from (times runs run) there.0) (has run ∙ ap (option_map (counted_at from (times runs run))) there.1)
+
+apart_texts : (key : String Global) (es : List (String Global × Count)) → AllByRecursion (λ y. eq_by_cmp string_cmp key y ≡ false) (keys_of es) → AllByRecursion (λ y. bytes_eq (string_bytes key) y ≡ false) (texts_of (map found_of es))
+apart_texts key [] h = tt
+apart_texts key (e ∷ es) (apart, more) = (sym (is_eq-slice_cmp (string_bytes key) (string_bytes e.0)) ∙ apart, apart_texts key es more)
+
+distinct_texts : (es : List (String Global × Count)) → IsDistinct (eq_by_cmp string_cmp) (keys_of es) → IsDistinct bytes_eq (texts_of (map found_of es))
+distinct_texts [] h = IsDistinct-from_apart bytes_eq [] (λ i j d lt within. absurd (omega arith))
+distinct_texts (e ∷ es) h =
+    IsDistinct-cons bytes_eq (string_bytes e.0) (texts_of (map found_of es)) (apart_texts e.0 es (IsDistinct-head (eq_by_cmp string_cmp) e.0 (keys_of es) h))
+    (distinct_texts es (IsDistinct-tail (eq_by_cmp string_cmp) e.0 (keys_of es) h))
+
+-- ---- their order
+
+no_higher : (s t : ℕ) → is_lt (nat_cmp t s) ≡ false → s ≤ t
+no_higher s t h =
+    elim (cases_lt t s) [
+      | inl lt ↦ let never = rw (lt-ltb t s lt) at h in absurd cc
+      | inr le ↦ le
+    ]
+
+before_from : (m n s t : ℕ) → is_lt (ordering_then (nat_cmp m n) (nat_cmp t s)) ≡ false → (n < m) ⊎ ((m ≡ n) × (s ≤ t))
+before_from m n s t h =
+    elim (cases_order m n) [
+      | inl same ↦ let le : n ≤ m = omega arith in inr (same, no_higher s t (rw (le-ltb m n le, eq-eqb m n same) at h))
+      | inr (inl lt) ↦ let never = rw (lt-ltb m n lt) at h in absurd cc
+      | inr (inr more) ↦ inl more
+    ]
+
+-- what the sort leaves
+pub in_order : (found : List Found) → IsSortedBy (λ x y. is_lt (ordering_then (nat_cmp y.count x.count) (nat_cmp x.first y.first))) found → AllPairs IsBefore found
+in_order found sorted i j d lt within =
+    let total = then_total (on_total (λ (f : Found). f.count) (back_total nat_cmp_total)) (on_total (λ (f : Found). f.first) nat_cmp_total) in
+    before_from (get_or found i d).count (get_or found j d).count (get_or found i d).first (get_or found j d).first (sorted_far _ (ranks_by total (λ (f : Found). f)) found sorted i j d (omega arith) within)
+
+-- a list of what was counted, in this order, is the tally of the runs
+pub tallied : (tally : Tally) (found : List Found) → IsOrdered string_cmp tally.counts → IsPermutation (map found_of tally.counts.entries) found → AllPairs IsBefore found → (from : ℕ) (runs : List (List ℕ)) → HasCounted from runs tally → IsTally from runs found
+tallied tally found ordered moved order from runs has =
+    let listed = map found_of tally.counts.entries in
+    let texts : IsPermutation (texts_of listed) (texts_of found) = IsPermutation-map (λ (f : Found). string_bytes f.text) listed found moved in
+    record {
+      each = All-permutation (IsFound from runs) listed found moved (each_found from runs tally ordered has);
+      complete = λ k d lt. Contains-permutation (texts_of listed) (texts_of found) _ texts (all_listed from runs tally has k d lt);
+      distinct = AllPairs-from_IsDistinct bytes_decides (texts_of found)
+          (IsDistinct-IsPermutation bytes_eq nat_list_eq_equiv.symm (texts_of listed) (texts_of found) texts (distinct_texts tally.counts.entries (IsDistinct-from_sorted string_cmp (keys_of tally.counts.entries) ordered)));
+      order = order;
+    }
+
+-- ---- the text
 
 -- what grew twice grew by both
 pub grows : (old mid new xs ys : List ℕ) → mid ≡ old ++ xs → new ≡ mid ++ ys → new ≡ old ++ (xs ++ ys)

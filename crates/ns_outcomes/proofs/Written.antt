@@ -36,34 +36,34 @@ no_run limit bytes plan Read read h = absurd h
 no_run limit bytes plan Write read h = absurd h
 
 -- what gives no outcomes gives no schedule
-pub unscheduled : (limit : ℕ) (bytes : List ℕ) (fault : Fault) → IsUndrawn limit bytes fault → IsUnscheduled limit bytes fault
-unscheduled limit bytes OutOfMemory h = h
-unscheduled limit bytes StepLimit h = h
-unscheduled limit bytes NotJson h = h
-unscheduled limit bytes Read h = h
-unscheduled limit bytes Write h = h
-unscheduled limit bytes (BadScript at.Schedule) h = inl h
-unscheduled limit bytes (BadScript at.Root) h = h
-unscheduled limit bytes (BadScript at.Version) h = h
-unscheduled limit bytes (BadScript at.Counters) h = h
-unscheduled limit bytes (BadScript (at.Counter i)) h = h
-unscheduled limit bytes (BadScript at.Onces) h = h
-unscheduled limit bytes (BadScript at.Variables) h = h
-unscheduled limit bytes (BadScript at.Threads) h = h
-unscheduled limit bytes (BadScript (at.Thread t)) h = h
-unscheduled limit bytes (BadScript (at.Call t c)) h = h
-unscheduled limit bytes (BadScript (at.Word i)) h = h
-unscheduled limit bytes (TooMany at.Schedule) h = inl h
-unscheduled limit bytes (TooMany at.Root) h = h
-unscheduled limit bytes (TooMany at.Version) h = h
-unscheduled limit bytes (TooMany at.Counters) h = h
-unscheduled limit bytes (TooMany (at.Counter i)) h = h
-unscheduled limit bytes (TooMany at.Onces) h = h
-unscheduled limit bytes (TooMany at.Variables) h = h
-unscheduled limit bytes (TooMany at.Threads) h = h
-unscheduled limit bytes (TooMany (at.Thread t)) h = h
-unscheduled limit bytes (TooMany (at.Call t c)) h = h
-unscheduled limit bytes (TooMany (at.Word i)) h = h
+pub unscheduled : (limit seed : ℕ) (bytes : List ℕ) (fault : Fault) → IsUndrawn limit bytes fault → IsUnscheduled limit seed bytes fault
+unscheduled limit seed bytes OutOfMemory h = h
+unscheduled limit seed bytes StepLimit h = h
+unscheduled limit seed bytes NotJson h = h
+unscheduled limit seed bytes Read h = h
+unscheduled limit seed bytes Write h = h
+unscheduled limit seed bytes (BadScript at.Root) h = inl h
+unscheduled limit seed bytes (BadScript at.Schedule) h = h
+unscheduled limit seed bytes (BadScript at.Version) h = h
+unscheduled limit seed bytes (BadScript at.Counters) h = h
+unscheduled limit seed bytes (BadScript (at.Counter i)) h = h
+unscheduled limit seed bytes (BadScript at.Onces) h = h
+unscheduled limit seed bytes (BadScript at.Variables) h = h
+unscheduled limit seed bytes (BadScript at.Threads) h = h
+unscheduled limit seed bytes (BadScript (at.Thread t)) h = h
+unscheduled limit seed bytes (BadScript (at.Call t c)) h = h
+unscheduled limit seed bytes (BadScript (at.Word i)) h = h
+unscheduled limit seed bytes (TooMany at.Root) h = inl h
+unscheduled limit seed bytes (TooMany at.Schedule) h = inl h
+unscheduled limit seed bytes (TooMany at.Version) h = h
+unscheduled limit seed bytes (TooMany at.Counters) h = h
+unscheduled limit seed bytes (TooMany (at.Counter i)) h = h
+unscheduled limit seed bytes (TooMany at.Onces) h = h
+unscheduled limit seed bytes (TooMany at.Variables) h = h
+unscheduled limit seed bytes (TooMany at.Threads) h = h
+unscheduled limit seed bytes (TooMany (at.Thread t)) h = h
+unscheduled limit seed bytes (TooMany (at.Call t c)) h = h
+unscheduled limit seed bytes (TooMany (at.Word i)) h = h
 
 -- ---- what was not read
 

@@ -1,5 +1,5 @@
 -- What is answered and written, for the outcomes of a script, and for a script with a schedule of its own.
-use Rattle.std.specs.Prelude.{◌≡◌, ℕ, ◌<◌, ◌⊎◌, ⊤, List, ◌++◌, length, Option, Result, Ok, Err, All}
+use Rattle.std.specs.Prelude.{◌≡◌, ℕ, ◌<◌, ◌⊎◌, ⊤, List, ◌++◌, length, Option, Result, Ok, Err}
 use Rattle.std.specs.Io.KnownBytes.{Appends, Keeps}
 use Rattle.ns_world.specs.Whole.{Whole}
 use Rattle.ns_world.specs.declared.schedule.Line.{Line}
@@ -10,37 +10,50 @@ use Rattle.ns_replay.specs.declared.fault.Fault.TheVariants.{BadScript, Read, St
 use Rattle.ns_replay.specs.Replaying.{HasRun, IsRefused, NeedsMore, plan_from}
 use Rattle.ns_replay.specs.Script.{Plan}
 use Rattle.ns_replay.specs.declared.path.ScriptPath.TheVariants as at
-use Rattle.ns_outcomes.specs.Outcomes.{IsOutcome, IsSeedRun, lengthened, outcome_text}
-use Rattle.ns_outcomes.specs.Tallies.{report_text, texts_of}
+use Rattle.ns_outcomes.specs.Outcomes.{IsSeedRun, lengthened, outcome_text}
+use Rattle.ns_outcomes.specs.Tallies.{AreRuns, IsTally, report_text}
 use Rattle.ns_outcomes.specs.declared.seeds.Seeds.{Seeds}
 use Rattle.ns_outcomes.specs.declared.tallying.Found.{Found}
 
--- The text shows outcomes of the script that the bytes give, each that of a run under some schedule that begins with the script's own. That none is left out, and how they are counted, is shown by tests alone.
+-- The text shows what the script that the bytes give comes to in the runs of these seeds, each distinct outcome once, with how many of the runs came to it and the first seed of them; and how many runs and distinct outcomes there are. How many turns the last line says is shown by tests alone.
 pub record IsReport (seeds : Seeds) (bytes text : List ℕ) : Type 0 where
   pub plan : Plan
   pub read : plan_from bytes ≡ Ok plan
+  pub runs : List (List ℕ)
+  pub made : AreRuns seeds.limit seeds.from seeds.count plan runs
   pub found : List Found
-  pub each : All (IsOutcome seeds.limit plan) (texts_of found)
+  pub tally : IsTally seeds.from runs found
   pub turns : ℕ
   pub is : text ≡ report_text seeds.count found turns
 
--- The text is a script with this schedule, and a replay of it comes to this outcome.
-pub record ComesTo (limit : ℕ) (text : List ℕ) (schedule : List Turn) (outcome : List ℕ) : Type 0 where
-  pub plan : Plan
+-- Two plans declare the same, and have the same schedule. That the calls are the same too is shown by tests alone.
+pub record IsLike (one other : Plan) : Type 0 where
+  pub counters : one.counters ≡ other.counters
+  pub onces : one.onces ≡ other.onces
+  pub cvs : one.cvs ≡ other.cvs
+  pub schedule : one.schedule ≡ other.schedule
+
+-- The text is a script like this plan, and a replay of it comes to this outcome.
+pub record ComesTo (limit : ℕ) (text : List ℕ) (plan : Plan) (outcome : List ℕ) : Type 0 where
+  pub read : Plan
   pub world : Whole ScriptCondition 8
   pub lines : List Line
-  pub has_run : HasRun limit text plan world lines
-  pub has : plan.schedule ≡ schedule
-  pub is : outcome ≡ outcome_text (length plan.threads) world lines
+  pub has_run : HasRun limit text read world lines
+  pub like : IsLike read plan
+  pub is : outcome ≡ outcome_text (length read.threads) world lines
 
--- The text is a script whose schedule is that of the bytes' script and then more words, by which that one comes to an outcome. The text's own run comes to the same outcome.
-pub record IsScheduled (limit : ℕ) (bytes text : List ℕ) : Type 0 where
+-- The bytes give a script, of which a run of this seed draws these words and comes to this outcome.
+pub record HasSeedRun (limit seed : ℕ) (bytes : List ℕ) : Type 0 where
   pub plan : Plan
   pub read : plan_from bytes ≡ Ok plan
-  pub schedule : List Turn
+  pub words : List Turn
   pub outcome : List ℕ
-  pub comes : IsSeedRun limit plan schedule outcome
-  pub again : ComesTo limit text schedule outcome
+  pub comes : IsSeedRun limit plan seed words outcome
+
+-- The text is the bytes' script with the words of the seed's run behind its schedule. A replay of the text comes to the outcome of that run.
+pub record IsScheduled (limit seed : ℕ) (bytes text : List ℕ) : Type 0 where
+  pub run : HasSeedRun limit seed bytes
+  pub again : ComesTo limit text (lengthened run.plan run.words) run.outcome
 
 -- The bytes give a script, and a schedule that begins with its own needs more turns than the limit.
 pub record IsPast (limit : ℕ) (bytes : List ℕ) : Type 0 where
@@ -54,16 +67,17 @@ abbrev pub IsUndrawn : ℕ → List ℕ → Fault → Type 0
 IsUndrawn limit bytes StepLimit = IsPast limit bytes
 IsUndrawn limit bytes fault = IsRefused limit bytes fault
 
--- The bytes give a script. That it is too long with the schedule drawn is shown by tests alone.
-pub record IsTooLong (bytes : List ℕ) : Type 0 where
-  pub plan : Plan
-  pub read : plan_from bytes ≡ Ok plan
+-- The schedule of the seed's run has more words than a script may have.
+pub record HasManyWords (limit seed : ℕ) (bytes : List ℕ) : Type 0 where
+  pub run : HasSeedRun limit seed bytes
+  pub many : 4096 < length (run.plan.schedule ++ run.words)
 
--- Why the bytes give no script with a schedule of its own: the same, or that is too long. A text that isn't read back as it should be is refused too; no lemma says that this never comes.
-abbrev pub IsUnscheduled : ℕ → List ℕ → Fault → Type 0
-IsUnscheduled limit bytes (TooMany at.Schedule) = IsRefused limit bytes (TooMany at.Schedule) ⊎ IsTooLong bytes
-IsUnscheduled limit bytes (BadScript at.Schedule) = IsRefused limit bytes (BadScript at.Schedule) ⊎ IsTooLong bytes
-IsUnscheduled limit bytes fault = IsUndrawn limit bytes fault
+-- Why the bytes give no script with a schedule of its own: the same, or that is too long, or the text made of it would be too long or isn't read back as it should be. No lemma says that this last never comes.
+abbrev pub IsUnscheduled : ℕ → ℕ → List ℕ → Fault → Type 0
+IsUnscheduled limit seed bytes (TooMany at.Schedule) = IsRefused limit bytes (TooMany at.Schedule) ⊎ HasManyWords limit seed bytes
+IsUnscheduled limit seed bytes (TooMany at.Root) = IsRefused limit bytes (TooMany at.Root) ⊎ HasSeedRun limit seed bytes
+IsUnscheduled limit seed bytes (BadScript at.Root) = IsRefused limit bytes (BadScript at.Root) ⊎ HasSeedRun limit seed bytes
+IsUnscheduled limit seed bytes fault = IsUndrawn limit bytes fault
 
 -- What was written, where these bytes may give such texts, or such refusals: a whole text after Ok, a front of one after a failed write, and else nothing.
 abbrev pub Answers : Option (List ℕ) → Option (List ℕ) → (List ℕ → List ℕ → Type 0) → (List ℕ → Fault → Type 0) → List ℕ → Result ⊤ Fault → Type 0

@@ -1,4 +1,5 @@
 pub mod Answers
+pub mod Drawn
 pub mod Outcomes
 pub mod Standings
 pub mod Tallies

@@ -8,9 +8,10 @@ use Rattle.ns_world.specs.declared.schedule.Turn.{Turn}
 use Rattle.ns_replay.specs.declared.condition.ScriptCondition.{ScriptCondition}
 use Rattle.ns_replay.specs.declared.fault.Fault.{Fault}
 use Rattle.ns_replay.specs.declared.fault.Fault.TheVariants.{OutOfMemory, StepLimit}
-use Rattle.ns_replay.specs.Replaying.{IsRunFault, NeedsMore, world_for}
+use Rattle.ns_replay.specs.Replaying.{NeedsMore, world_for}
 use Rattle.ns_replay.specs.Script.{Plan}
 use Rattle.ns_replay.specs.Text.{left_text, reply_text, row_text}
+use Rattle.ns_outcomes.specs.Drawn.{IsDrawn, Stage}
 
 -- ---- the text of an outcome
 
@@ -40,26 +41,17 @@ outcome_text threads world lines = flat_map (thread_text (whole_busy world) line
 abbrev pub lengthened : Plan → List Turn → Plan
 lengthened plan words = record plan { schedule = plan.schedule ++ words }
 
--- The text is the outcome of a run of the script, under its own schedule and then these words, in at most so many turns.
-pub record IsOutcomeBy (limit : ℕ) (plan : Plan) (words : List Turn) (text : List ℕ) : Type 0 where
-  pub world : Whole ScriptCondition 8
-  pub lines : List Line
-  pub runs : Runs plan.threads (plan.schedule ++ words) limit (world_for plan) world lines
-  pub is : text ≡ outcome_text (length plan.threads) world lines
+-- The run of a seed: it draws these words behind the script's own, until nobody can go on, and a run under all of them comes to this outcome in at most so many turns.
+pub record IsSeedRun (limit : ℕ) (plan : Plan) (seed : ℕ) (words : List Turn) (text : List ℕ) : Type 0 where
+  pub end : Stage
+  pub after : ℕ
+  pub drawn : IsDrawn limit plan seed words end after
+  pub runs : Runs plan.threads (plan.schedule ++ words) limit (world_for plan) end.progress.world end.progress.lines
+  pub is : text ≡ outcome_text (length plan.threads) end.progress.world end.progress.lines
 
--- This schedule is the script's own and then more words, by which the script comes to this outcome.
-pub record IsSeedRun (limit : ℕ) (plan : Plan) (schedule : List Turn) (text : List ℕ) : Type 0 where
-  pub words : List Turn
-  pub begins : schedule ≡ plan.schedule ++ words
-  pub comes : IsOutcomeBy limit plan words text
-
--- The text is the outcome of a run of the script under some schedule that begins with its own.
-abbrev pub IsOutcome : ℕ → Plan → List ℕ → Type 0
-IsOutcome limit plan text = (words : List Turn) × IsOutcomeBy limit plan words text
-
--- Why there is no run under this schedule: want of memory, or it needs more turns than the limit.
-abbrev pub IsRunFaultUnder : ℕ → Plan → List Turn → Fault → Type 0
-IsRunFaultUnder limit plan schedule fault = IsRunFault limit (record plan { schedule = schedule }) fault
+-- the text is the outcome of the seed's run
+abbrev pub IsOutcomeOf : ℕ → Plan → ℕ → List ℕ → Type 0
+IsOutcomeOf limit plan seed text = (words : List Turn) × IsSeedRun limit plan seed words text
 
 -- Why there is no run: want of memory, or a schedule that begins with the script's own needs more turns than the limit.
 abbrev pub IsDrawFault : ℕ → Plan → Fault → Type 0

@@ -56,9 +56,18 @@ after_step Went standing made = if stirs standing made then Going else standing
 abbrev pub stands_after : Standing → Made → Standing
 stands_after standing made = after_step made.step standing made
 
--- where all stand after a turn of one
+-- where all stand after a turn of one that stood here before
 abbrev pub standings_after : List Standing → ℕ → Standing → Made → List Standing
 standings_after standings thread before made = slice_set (if stirs before made then map stirred standings else standings) thread (stands_after before made)
+
+-- the same, by where the thread stood before; a thread that isn't there leaves all as they stand
+abbrev pub stood_from : Option Standing → List Standing → ℕ → Made → List Standing
+stood_from None standings thread made = standings
+stood_from (Some before) standings thread made = standings_after standings thread before made
+
+-- where all stand after a turn of this thread
+abbrev pub stood : List Standing → ℕ → Made → List Standing
+stood standings thread made = stood_from (slice_get standings thread) standings thread made
 
 -- how many can go on
 abbrev pub going : List Standing → ℕ

@@ -1,14 +1,82 @@
--- Distinct outcomes, as they are counted.
-use Rattle.std.specs.Prelude.{◌≡◌, ℕ, ◌+◌, ◌⊎◌, List, [], ◌∷◌, ◌++◌, length, map, codes, decimal, string_bytes}
+-- Distinct outcomes, as they are counted, and the text that shows them.
+use Rattle.std.specs.Prelude.{◌≡◌, ◌≢◌, ℕ, ◌+◌, ◌%◌, ◌^◌, ◌<◌, ◌≤◌, ◌⊎◌, if◌then◌else◌, List, [], ◌∷◌, ◌++◌, length, get_or, map, All, AllPairs, Contains, count_by, position, Option, Some, None, option_map, bytes_eq, codes, decimal, String, string_bytes}
+use Rattle.std.specs.BTreeMap.{get_by_text}
+use Rattle.std.specs.declared.alloc.Global.{Global}
+use Rattle.ns_replay.specs.Script.{Plan}
+use Rattle.ns_outcomes.specs.Outcomes.{IsOutcomeOf}
+use Rattle.ns_outcomes.specs.declared.tallying.Count.{Count}
 use Rattle.ns_outcomes.specs.declared.tallying.Found.{Found}
+use Rattle.ns_outcomes.specs.declared.tallying.Tally.{Tally}
+
+-- ---- the runs of some seeds
+
+-- the seed of the k-th run, numbered from 0: after the greatest number of 64 bits comes 0
+abbrev pub seed_at : ℕ → ℕ → ℕ
+seed_at from k = (from + k) % 2 ^ 64
+
+-- These are the outcomes of so many runs, in order: each is what the run of its own seed comes to.
+pub record AreRuns (limit from count : ℕ) (plan : Plan) (runs : List (List ℕ)) : Type 0 where
+  pub many : length runs ≡ count
+  pub each : (k : ℕ) → k < count → IsOutcomeOf limit plan (seed_at from k) (get_or runs k [])
+
+-- ---- how they are counted
 
 -- the texts of outcomes
 abbrev pub texts_of : List Found → List (List ℕ)
 texts_of found = map (λ f. string_bytes f.text) found
 
--- An outcome more was counted: the texts are those there were, or it stands behind them. Counts and first seeds are shown by tests alone.
-abbrev pub IsCounted : List (List ℕ) → List ℕ → List (List ℕ) → Type 0
-IsCounted old text new = (new ≡ old) ⊎ (new ≡ old ++ text ∷ [])
+-- how many of the runs came to the text
+abbrev pub times : List (List ℕ) → List ℕ → ℕ
+times runs text = count_by (bytes_eq text) runs
+
+-- the seed of the first run that came to the text, where one did
+abbrev pub first_seed : ℕ → List (List ℕ) → List ℕ → Option ℕ
+first_seed from runs text = option_map (seed_at from) (position (bytes_eq text) runs)
+
+-- Runs came to this outcome: as many as it says, and the first of them by the seed that it says.
+pub record IsFound (from : ℕ) (runs : List (List ℕ)) (found : Found) : Type 0 where
+  pub count : found.count ≡ times runs (string_bytes found.text)
+  pub first : first_seed from runs (string_bytes found.text) ≡ Some found.first
+
+-- More runs came to the one than to the other; or as many did, and its first seed is no higher.
+abbrev pub IsBefore : Found → Found → Type 0
+IsBefore one other = (other.count < one.count) ⊎ ((one.count ≡ other.count) × (one.first ≤ other.first))
+
+-- These are the distinct outcomes of the runs, of which the first has this seed: each that a run came to, once, with its exact count and first seed, and the most frequent first.
+pub record IsTally (from : ℕ) (runs : List (List ℕ)) (found : List Found) : Type 0 where
+  pub each : All (IsFound from runs) found
+  pub complete : All (Contains (texts_of found)) runs
+  pub distinct : AllPairs (λ one other. one ≢ other) (texts_of found)
+  pub order : AllPairs IsBefore found
+
+-- ---- the tally, as a function of the text
+
+-- so many runs, of which the first stands at this place
+abbrev pub counted_at : ℕ → ℕ → ℕ → Count
+counted_at from count place = record { count = count; first = seed_at from place }
+
+-- what is counted of a text: how many of the runs came to it and the first seed, or nothing where none did
+abbrev pub counted : ℕ → List (List ℕ) → List ℕ → Option Count
+counted from runs text = option_map (counted_at from (times runs text)) (position (bytes_eq text) runs)
+
+-- the outcome of a text, with what is counted of it
+abbrev pub found_of : String Global × Count → Found
+found_of entry = record { text = entry.0; count = entry.1.count; first = entry.1.first }
+
+-- The tally has counted just these runs.
+abbrev pub HasCounted : ℕ → List (List ℕ) → Tally → Type 0
+HasCounted from runs tally = (text : List ℕ) → get_by_text tally.counts text ≡ counted from runs text
+
+-- one run more, of this seed: the count is one higher and the first seed stays, or this is the first
+abbrev pub once_more : Option Count → ℕ → Count
+once_more None seed = record { count = 1; first = seed }
+once_more (Some before) seed = record { count = before.count + 1; first = before.first }
+
+-- The new tally has one run more of the text, by this seed, and of every other text what the old one has.
+abbrev pub CountsOnceMore : Tally → List ℕ → ℕ → Tally → Type 0
+CountsOnceMore old text seed new = (other : List ℕ) → get_by_text new.counts other ≡ (if bytes_eq text other then Some (once_more (get_by_text old.counts text) seed) else get_by_text old.counts other)
+
+-- ---- the text
 
 -- the first line of an outcome's block
 unfoldable pub head_text : ℕ → ℕ → Found → List ℕ

@@ -1,10 +1,10 @@
 //! The runs of some seeds, and the distinct outcomes of them.
 
-ghost use Rattle.std.specs.Prelude.{All, IfOk, IfErr};
+ghost use Rattle.std.specs.Prelude.{ℕ, List, IfOk, IfErr};
 ghost use Rattle.ns_replay.specs.Runnable.{IsRunnable};
 ghost use Rattle.ns_replay.specs.Script.{plan_of};
-ghost use Rattle.ns_outcomes.specs.Outcomes.{IsDrawFault, IsOutcome};
-ghost use Rattle.ns_outcomes.specs.Tallies.{texts_of};
+ghost use Rattle.ns_outcomes.specs.Outcomes.{IsDrawFault};
+ghost use Rattle.ns_outcomes.specs.Tallies.{AreRuns, IsTally};
 
 use crate::outcome::run_seed;
 use crate::seeds::Seeds;
@@ -30,7 +30,7 @@ pub fn count_outcomes<P: Watch>(
     watch: &mut P,
 ) -> Result<Counted, Fault>
     requires { IsRunnable (plan_of script.now) }
-    ensures ok { IfOk result (λ counted. All (IsOutcome seeds.limit (plan_of script.now)) (texts_of counted.found.items)) }
+    ensures ok { IfOk result (λ counted. (runs : List (List ℕ)) × AreRuns seeds.limit seeds.from seeds.count (plan_of script.now) runs × IsTally seeds.from runs counted.found.items) }
     ensures err { IfErr result (λ fault. IsDrawFault seeds.limit (plan_of script.now) fault) }
 {
     let mut tally = Tally::new(alloc);
@@ -40,9 +40,8 @@ pub fn count_outcomes<P: Watch>(
         watch.begins(number, seed);
         let run = run_seed(alloc, script, seed, seeds.limit)?;
         turns = turns.saturating_add(u64::from(run.turns));
-        tally.count(alloc, run.text, seed)?;
+        tally.count(run.text, seed)?;
     }
-    let mut found = tally.found;
-    found.sort_by_key(|found| (u32::MAX - found.count, found.first))?;
+    let found = tally.found(alloc)?;
     Ok(Counted { found, turns })
 }

@@ -1,101 +1,117 @@
-//! A schedule that a seed draws, by a run of its own that tells who can go on.
+//! The run of a seed: the script's own schedule, and then turns that the seed draws, until nobody can go on.
 
-ghost use Rattle.std.specs.Prelude.{◌≡◌, ◌≤◌, ◌<◌, ◌⊎◌, All, IfOk, OnOk, false};
-ghost use Rattle.ns_world.specs.Runs.{ListFits};
+ghost use Rattle.std.specs.Prelude.{◌≡◌, ◌≢◌, ◌≤◌, ◌<◌, ◌+◌, ◌++◌, ◌∷◌, [], All, IfOk, IfErr, OnOk, ◌||◌, if◌then◌else◌, map, length, true, false};
+ghost use Rattle.ns_world.specs.Runs.{IsCounted, ListFits, Stops, items_of, progress};
+ghost use Rattle.ns_world.specs.Whole.{whole_of};
+ghost use Rattle.ns_replay.specs.Condition.{script_truths};
 ghost use Rattle.ns_replay.specs.Runnable.{IsRunnable};
 ghost use Rattle.ns_replay.specs.Script.{plan_of};
-ghost use Rattle.ns_outcomes.specs.Standings.{going};
+ghost use Rattle.ns_outcomes.specs.Drawn.{HasBegun, HasDrawn, IsDrawingFault, IsDrawn, TurnStands, drawing_fault, first_standing, first_standings, stage_of};
+ghost use Rattle.ns_outcomes.specs.Outcomes.{IsDrawFault};
+ghost use Rattle.ns_outcomes.specs.declared.standing.Standing.TheVariants.{Going, Over};
 
 use crate::choosing::pick;
 use crate::standing::{Made, Standing, stand};
-use ns_replay::{Script, ScriptCondition};
+use ns_replay::{Fault, Script, ScriptCondition};
+use ns_word::word::Word;
 use ns_world::call::Call;
-use ns_world::fault::Fault;
-use ns_world::run::{is_end, next_call, turn};
+use ns_world::fault::Fault as Refused;
+use ns_world::run::{Tally, counted_turn, follow, next_call};
 use ns_world::schedule::Turn;
 use ns_world::step::Step;
 use ns_world::world::World;
-use rand_core::{Rng, SeedableRng};
+use rand_core::SeedableRng;
+use rand_core::utils::NextWord;
 use rand_pcg::Pcg32;
 use std::alloc::{AllocError, Global};
 
 /// How far a run has come whose schedule is drawn.
 #[derive(Drop)]
-struct Drawing {
-    world: World<ScriptCondition, 8>,
-    standings: Vec<Standing>,
-    over: [u16; 64],
-    turns: u32,
-    words: Vec<Turn>,
-}
-
-/// What a seed has drawn.
-#[derive(Drop)]
-pub struct Drawn {
-    /// The words behind the script's own.
+pub struct Drawing {
+    /// The world of the run.
+    pub world: World<ScriptCondition, 8>,
+    /// Its calls that are over, and its turns.
+    pub tally: Tally,
+    /// Where its threads stand.
+    pub standings: Vec<Standing>,
+    /// The words that spell the drawn turns.
     pub words: Vec<Turn>,
-    /// How many turns the whole run has.
-    pub turns: u32,
 }
 
-/// The threads of a script before its run: those with a call have one left.
-fn standings(alloc: Global, script: &Script) -> Result<Vec<Standing>, AllocError> {
+/// Where a thread stands before a turn is drawn, by whether a call of it is in progress, and whether one is left.
+fn first_standing(is_busy: bool, has_next: bool) -> Standing
+    ensures { result ≡ (if is_busy || has_next then Going else Over) }
+{
+    if is_busy || has_next {
+        Standing::Going
+    } else {
+        Standing::Over
+    }
+}
+
+/// Where the threads stand before a turn is drawn.
+fn first_standings(
+    alloc: Global,
+    world: &World<ScriptCondition, 8>,
+    threads: &[Vec<Call<ScriptCondition>>],
+    tally: &Tally,
+) -> Result<Vec<Standing>, AllocError>
+    requires { length threads.now ≤ 64 }
+    ensures { IfOk result (λ standings. standings.items ≡ first_standings (map (λ calls. calls.items) threads.now) (progress (whole_of script_truths world.now) tally.now.over tally.now.lines.items)) }
+{
+    let busy = world.state().busy;
     let mut standings = Vec::new(alloc);
-    for calls in &script.threads {
-        let standing = if calls.is_empty() {
-            Standing::Over
-        } else {
-            Standing::Going
-        };
-        standings.push(standing)?;
+    for thread in 0..threads.len() as u8 {
+        let next = next_call(threads, thread, tally.over[thread as usize]);
+        standings.push(first_standing(busy.contains(thread), next.is_some()))?;
     }
     Ok(standings)
 }
 
-/// Before the first turn.
-fn start(alloc: Global, script: &Script) -> Result<Drawing, AllocError>
-    requires { IsRunnable (plan_of script.now) }
+/// What the fault of a run comes to. Every thread has a seat, so that but for the limit only memory can be refused.
+fn fault_of(refused: Refused) -> Fault
+    ensures { result ≡ drawing_fault refused }
 {
-    // There are no more threads than seats, so that only memory can be refused.
-    let Ok(world) = World::new(
+    match refused {
+        Refused::StepLimit => Fault::StepLimit,
+        Refused::NoSuchSeat | Refused::TooManySeats | Refused::OutOfMemory => Fault::OutOfMemory,
+    }
+}
+
+/// Makes the script's own schedule in a new world.
+fn begin(alloc: Global, script: &Script, limit: u32) -> Result<Drawing, Fault>
+    requires { IsRunnable (plan_of script.now) }
+    ensures ok { IfOk result (λ drawing. HasBegun limit (plan_of script.now) (stage_of drawing) drawing.tally.turns) }
+    ensures counted { IfOk result (λ drawing. IsCounted (whole_of script_truths drawing.world) drawing.tally.over) }
+    ensures unspelled { IfOk result (λ drawing. drawing.words.items ≡ []) }
+    ensures err { IfErr result (λ fault. IsDrawFault limit (plan_of script.now) fault) }
+{
+    let threads = script.threads.as_slice();
+    let mut world = World::new(
         alloc,
-        script.threads.len(),
+        threads.len(),
         &script.counters,
         script.onces as usize,
-    ) else {
-        return Err(AllocError);
-    };
+    )?;
+    let mut tally = Tally::new(alloc);
+    if let Err(refused) = follow(&mut world, threads, &mut tally, &script.schedule, limit) {
+        return Err(fault_of(refused));
+    }
+    let standings = first_standings(alloc, &world, threads, &tally)?;
     Ok(Drawing {
         world,
-        standings: standings(alloc, script)?,
-        over: [0; 64],
-        turns: 0,
+        tally,
+        standings,
         words: Vec::new(alloc),
     })
 }
 
-/// Makes a step of the call that is in progress, or else of the next one. Only where none is in progress is the
-/// next one looked for.
-fn step_or_begin(
-    world: &mut World<ScriptCondition, 8>,
-    threads: &[Vec<Call<ScriptCondition>>],
-    thread: u8,
-    over: u16,
-) -> Result<Step, Fault>
-    requires lists { All (λ calls. ListFits 8 calls.items) threads.now }
+/// Whether two lock words differ.
+fn differ(old: Word, new: Word) -> bool
+    ensures same { result ≡ false → new ≡ old }
+    ensures other { result ≡ true → new ≢ old }
 {
-    match world.step(thread)? {
-        Step::Nothing => turn(world, next_call(threads, thread, over), thread),
-        step => Ok(step),
-    }
-}
-
-/// Whether the thread has a call after so many.
-fn has_call(threads: &[Vec<Call<ScriptCondition>>], thread: u8, over: u16) -> bool {
-    match threads.get(thread as usize) {
-        Some(calls) => (over as usize) < calls.len(),
-        None => false,
-    }
+    old != new
 }
 
 /// Makes a turn of the thread, and tells where the threads stand after it.
@@ -103,149 +119,90 @@ fn make_turn(
     drawing: &mut Drawing,
     threads: &[Vec<Call<ScriptCondition>>],
     thread: u8,
-) -> Result<Step, AllocError>
+    limit: u32,
+) -> Result<Step, Refused>
     requires lists { All (λ calls. ListFits 8 calls.items) threads.now }
     requires thread { thread < 64 }
+    requires counted { IsCounted (whole_of script_truths drawing.old.world) drawing.old.tally.over }
+    requires turns { drawing.old.tally.turns ≤ limit }
+    ensures ok { IfOk result (λ step. TurnStands (map (λ calls. calls.items) threads.now) (stage_of drawing.old) (record { seat = thread; step = step }) (stage_of drawing.new)) }
+    ensures counted { OnOk result (IsCounted (whole_of script_truths drawing.new.world) drawing.new.tally.over) }
+    ensures turns { OnOk result ((drawing.new.tally.turns ≡ drawing.old.tally.turns + 1) × (drawing.new.tally.turns ≤ limit)) }
+    ensures unspelled { drawing.new.words ≡ drawing.old.words }
+    ensures err { IfErr result (λ fault. Stops (map (λ calls. calls.items) threads.now) limit (stage_of drawing.old).progress drawing.old.tally.turns (record { seat = thread; whole = false } ∷ []) (whole_of script_truths drawing.new.world) fault) }
 {
-    let over = drawing.over[thread as usize];
     let word = drawing.world.word();
-    // Every thread has a seat, so that only memory can be refused.
-    let Ok(step) = step_or_begin(&mut drawing.world, threads, thread, over) else {
-        return Err(AllocError);
-    };
-    drawing.turns = drawing.turns.saturating_add(1);
-    if let Step::Finished(_) = step {
-        drawing.over[thread as usize] = over.saturating_add(1);
-    }
+    let step = counted_turn(
+        &mut drawing.world,
+        threads,
+        &mut drawing.tally,
+        thread,
+        limit,
+    )?;
     let made = Made {
         step,
-        changed: drawing.world.word() != word,
-        more: has_call(threads, thread, drawing.over[thread as usize]),
+        changed: differ(word, drawing.world.word()),
+        more: next_call(threads, thread, drawing.tally.over[thread as usize]).is_some(),
     };
     stand(&mut drawing.standings, thread as usize, made);
     Ok(step)
 }
 
-/// Makes an item of the script's own schedule, in no more turns than the limit.
-fn make_item(
-    drawing: &mut Drawing,
-    threads: &[Vec<Call<ScriptCondition>>],
-    word: &Turn,
-    limit: u32,
-) -> Result<(), AllocError>
-    requires lists { All (λ calls. ListFits 8 calls.items) threads.now }
-    requires thread { word.now.thread < 64 }
-{
-    for _ in drawing.turns..limit {
-        let step = make_turn(drawing, threads, word.thread)?;
-        if is_end(word.whole, step) {
-            break;
-        }
-    }
-    Ok(())
-}
-
-/// Makes the items of a word of the script's own schedule.
-fn make_word(
-    drawing: &mut Drawing,
-    threads: &[Vec<Call<ScriptCondition>>],
-    word: &Turn,
-    limit: u32,
-) -> Result<(), AllocError>
-    requires { All (λ calls. ListFits 8 calls.items) threads.now }
-{
-    // No script has more than 64 threads.
-    if 64 <= word.thread {
-        return Ok(());
-    }
-    for _ in 0..word.times {
-        make_item(drawing, threads, word, limit)?;
-    }
-    Ok(())
-}
-
-/// Makes the script's own schedule.
-fn make_own(
-    drawing: &mut Drawing,
-    threads: &[Vec<Call<ScriptCondition>>],
-    schedule: &[Turn],
-    limit: u32,
-) -> Result<(), AllocError>
-    requires { All (λ calls. ListFits 8 calls.items) threads.now }
-{
-    for word in schedule {
-        make_word(drawing, threads, word, limit)?;
-    }
-    Ok(())
-}
-
 /// Puts a turn of the thread behind the words: one word has all turns that a thread takes in a row.
-fn push_word(words: &mut Vec<Turn>, thread: u8) -> Result<(), AllocError> {
-    if let Some(last) = words.last_mut() {
-        if last.thread == thread && last.times < 1_000_000 {
-            last.times += 1;
-            return Ok(());
+fn push_word(words: &mut Vec<Turn>, thread: u8) -> Result<(), AllocError>
+    ensures { OnOk result (items_of words.new.items ≡ items_of words.old.items ++ record { seat = thread; whole = false } ∷ []) }
+{
+    let mut times = 1;
+    if let Some(last) = words.pop() {
+        if last.thread == thread && !last.whole && last.times < 1_000_000 {
+            times = last.times + 1;
+        } else {
+            words.push(last)?;
         }
     }
     words.push(Turn {
         thread,
         whole: false,
-        times: 1,
+        times,
     })?;
     Ok(())
 }
 
-/// Draws a turn, and makes it. Answers whether there was anybody to draw.
-fn draw_turn(
-    drawing: &mut Drawing,
-    threads: &[Vec<Call<ScriptCondition>>],
-    draws: &mut Pcg32,
-) -> Result<bool, AllocError>
-    requires lists { All (λ calls. ListFits 8 calls.items) threads.now }
-    ensures { IfOk result (λ drawn. drawn ≡ false → going drawing.new.standings.items ≡ 0) }
-{
-    let Some(thread) = pick(&drawing.standings, draws.next_u32()) else {
-        return Ok(false);
-    };
-    // Every thread has a seat, so that only memory can be refused.
-    if 64 <= thread {
-        return Err(AllocError);
-    }
-    push_word(&mut drawing.words, thread as u8)?;
-    make_turn(drawing, threads, thread as u8)?;
-    Ok(true)
-}
-
-/// Draws turns until nobody can go on. Where the limit comes first, it draws one turn more, which the run of that
-/// schedule then refuses, and answers that.
+/// Draws turns and makes them, until nobody can go on.
 fn draw_turns(
     drawing: &mut Drawing,
     threads: &[Vec<Call<ScriptCondition>>],
     draws: &mut Pcg32,
     limit: u32,
-) -> Result<bool, AllocError>
+) -> Result<(), Fault>
     requires lists { All (λ calls. ListFits 8 calls.items) threads.now }
-    ensures { IfOk result (λ past. past ≡ false → going drawing.new.standings.items ≡ 0) }
+    requires counted { IsCounted (whole_of script_truths drawing.old.world) drawing.old.tally.over }
+    requires turns { drawing.old.tally.turns ≤ limit }
+    requires unspelled { drawing.old.words.items ≡ [] }
+    ensures ok { OnOk result (HasDrawn (map (λ calls. calls.items) threads.now) limit draws.old (stage_of drawing.old) drawing.old.tally.turns drawing.new.words.items (stage_of drawing.new) drawing.new.tally.turns) }
+    ensures err { IfErr result (λ fault. IsDrawingFault (map (λ calls. calls.items) threads.now) limit (stage_of drawing.old) drawing.old.tally.turns fault) }
 {
-    for _ in drawing.turns..limit {
-        if !draw_turn(drawing, threads, draws)? {
-            return Ok(false);
+    while let Some(thread) = pick(&drawing.standings, draws.next_word()) {
+        // No script has more than 64 threads.
+        if 64 <= thread {
+            return Err(Fault::OutOfMemory);
         }
+        if let Err(refused) = make_turn(drawing, threads, thread as u8, limit) {
+            return Err(fault_of(refused));
+        }
+        push_word(&mut drawing.words, thread as u8)?;
     }
-    draw_turn(drawing, threads, draws)
+    Ok(())
 }
 
-/// The words that a seed draws behind the schedule of a script.
-pub fn draw(alloc: Global, script: &Script, seed: u64, limit: u32) -> Result<Drawn, AllocError>
+/// Makes the run of a seed.
+pub fn draw(alloc: Global, script: &Script, seed: u64, limit: u32) -> Result<Drawing, Fault>
     requires { IsRunnable (plan_of script.now) }
+    ensures ok { IfOk result (λ drawing. IsDrawn limit (plan_of script.now) seed drawing.words.items (stage_of drawing) drawing.tally.turns) }
+    ensures err { IfErr result (λ fault. IsDrawFault limit (plan_of script.now) fault) }
 {
-    let threads = script.threads.as_slice();
-    let mut drawing = start(alloc, script)?;
-    make_own(&mut drawing, threads, &script.schedule, limit)?;
+    let mut drawing = begin(alloc, script, limit)?;
     let mut draws = Pcg32::seed_from_u64(seed);
-    let _is_past = draw_turns(&mut drawing, threads, &mut draws, limit)?;
-    Ok(Drawn {
-        words: drawing.words,
-        turns: drawing.turns,
-    })
+    draw_turns(&mut drawing, &script.threads, &mut draws, limit)?;
+    Ok(drawing)
 }

@@ -7,9 +7,9 @@
 //! doesn't enumerate them: of those that it hasn't drawn it claims nothing. ns_command calls both; scripts are
 //! read by ns_replay, and run in worlds of ns_world.
 //!
-//! Drawing and running are apart: a drawn schedule is a list of turns like any other, and each outcome is that
-//! of a run of ns_world under the script's own schedule and the drawn one after it, which is what the contracts
-//! say. Which words were drawn is a matter of the rule in docs/SCRIPTS.md.
+//! A run is made turn by turn by ns_world, which counts it as it counts any run; beside it stands which threads
+//! can go on. The contracts say which turns a seed draws, that the run ends just where no thread stands as one that
+//! can go on, and how outcomes are counted. The rule in words is in docs/SCRIPTS.md.
 #![tactic(auto)]
 
 mod choosing;

@@ -6,25 +6,22 @@ ghost use Rattle.ns_model.specs.Seats.{is_in};
 ghost use Rattle.ns_replay.specs.Condition.{script_truths};
 ghost use Rattle.ns_replay.specs.Runnable.{IsRunnable};
 ghost use Rattle.ns_replay.specs.Script.{plan_of};
-ghost use Rattle.ns_replay.specs.Replaying.{world_for};
 ghost use Rattle.ns_replay.specs.Text.{finished_calls, left_text, row_text};
-ghost use Rattle.ns_world.specs.Runs.{Runs};
 ghost use Rattle.ns_world.specs.Whole.{whole_of};
-ghost use Rattle.ns_outcomes.specs.Outcomes.{calls_text, call_text, thread_text, outcome_text, IsDrawFault, IsRunFaultUnder, IsSeedRun};
+ghost use Rattle.ns_outcomes.specs.Outcomes.{calls_text, call_text, thread_text, outcome_text, IsDrawFault, IsSeedRun};
 
 use crate::drawing::draw;
 use ns_model::seats::Seats;
-use ns_replay::{Fault, Run, Script, push_reply};
-use ns_world::fault::Fault as Refused;
+use ns_replay::{Fault, Script, ScriptCondition, push_reply};
 use ns_world::schedule::{Line, Turn};
 use ns_world::world::World;
 use std::alloc::{AllocError, Global};
 
-/// The run of a seed: its schedule, its outcome, and how many turns it has.
+/// The run of a seed: the drawn words, its outcome, and how many turns it has.
 #[derive(Drop)]
 pub struct SeedRun {
-    /// The script's own words, and the drawn ones.
-    pub schedule: Vec<Turn>,
+    /// The words behind the script's own.
+    pub words: Vec<Turn>,
     /// The outcome.
     pub text: String,
     /// How many turns the run has.
@@ -108,61 +105,35 @@ fn push_row(out: &mut String, row: &[u64]) -> Result<(), AllocError>
     out.push_str("\n")
 }
 
-/// The outcome of a run of a script with so many threads.
-pub fn outcome_of(alloc: Global, run: &Run, threads: u8) -> Result<String, AllocError>
+/// The outcome of a run of so many threads, which ended in this world with these lines.
+pub fn outcome_of(
+    alloc: Global,
+    world: &World<ScriptCondition, 8>,
+    lines: &[Line],
+    threads: u8,
+) -> Result<String, AllocError>
     requires { threads ≤ 64 }
-    ensures { IfOk result (λ text. string_bytes text ≡ outcome_text threads (whole_of script_truths run.now.world) run.now.lines.items) }
+    ensures { IfOk result (λ text. string_bytes text ≡ outcome_text threads (whole_of script_truths world.now) lines.now) }
 {
-    let state = run.world.state();
+    let state = world.state();
     let mut out = String::new(alloc);
-    push_threads(&mut out, state.busy, &run.lines, threads)?;
+    push_threads(&mut out, state.busy, lines, threads)?;
     push_row(&mut out, &state.row)?;
     Ok(out)
-}
-
-/// The script's own words, and then these.
-fn joined(alloc: Global, script: &Script, words: &[Turn]) -> Result<Vec<Turn>, AllocError>
-    ensures { IfOk result (λ schedule. schedule.items ≡ script.now.schedule.items ++ words.now) }
-{
-    let mut schedule = Vec::new(alloc);
-    schedule.extend_from_slice(&script.schedule)?;
-    schedule.extend_from_slice(words)?;
-    Ok(schedule)
-}
-
-/// Runs a script under this schedule in a new world.
-fn run_under(alloc: Global, script: &Script, schedule: &[Turn], limit: u32) -> Result<Run, Fault>
-    requires { IsRunnable (plan_of script.now) }
-    ensures ok { IfOk result (λ run. Runs (plan_of script.now).threads schedule.now limit (world_for (plan_of script.now)) (whole_of script_truths run.world) run.lines.items) }
-    ensures err { IfErr result (λ fault. IsRunFaultUnder limit (plan_of script.now) schedule.now fault) }
-{
-    let mut world = World::new(
-        alloc,
-        script.threads.len(),
-        &script.counters,
-        script.onces as usize,
-    )?;
-    match world.run(alloc, &script.threads, schedule, limit) {
-        Ok(lines) => Ok(Run { world, lines }),
-        Err(Refused::StepLimit) => Err(Fault::StepLimit),
-        // Every thread has a seat, so that else only memory can be refused.
-        Err(_) => Err(Fault::OutOfMemory),
-    }
 }
 
 /// The run of a script under its own schedule, and then the turns that the seed draws.
 pub fn run_seed(alloc: Global, script: &Script, seed: u64, limit: u32) -> Result<SeedRun, Fault>
     requires { IsRunnable (plan_of script.now) }
-    ensures ok { IfOk result (λ run. IsSeedRun limit (plan_of script.now) run.schedule.items (string_bytes run.text)) }
+    ensures ok { IfOk result (λ run. IsSeedRun limit (plan_of script.now) seed run.words.items (string_bytes run.text)) }
     ensures err { IfErr result (λ fault. IsDrawFault limit (plan_of script.now) fault) }
 {
-    let drawn = draw(alloc, script, seed, limit)?;
-    let schedule = joined(alloc, script, &drawn.words)?;
-    let run = run_under(alloc, script, &schedule, limit)?;
-    let text = outcome_of(alloc, &run, script.threads.len() as u8)?;
+    let drawing = draw(alloc, script, seed, limit)?;
+    let threads = script.threads.len() as u8;
+    let text = outcome_of(alloc, &drawing.world, &drawing.tally.lines, threads)?;
     Ok(SeedRun {
-        schedule,
+        words: drawing.words,
         text,
-        turns: drawn.turns,
+        turns: drawing.tally.turns,
     })
 }

@@ -111,7 +111,8 @@ pub fn outcomes<S: Source, W: Sink, P: Watch>(
 ) -> Result<(), Fault>
     requires source { S.has_failed source.old ≡ false }
     requires sink { W.has_failed sink.old ≡ false }
-    // What was read gives what was answered and written: each outcome is that of a run of the script.
+    // What was read gives what was answered and written: the distinct outcomes of the seeds' runs, each with how
+    // many came to it and the first of them.
     ensures answers { Gave (S.to_come source.old) (S.to_come source.new) (λ bytes.
         IsEnough bytes (S.last source.new) × WasRead bytes (S.to_come source.new) result × Answers (W.taken sink.old) (W.taken sink.new) (IsReport seeds) (IsUndrawn seeds.limit) bytes result) }
     // Nothing is written before all runs are made.

@@ -1,11 +1,12 @@
 //! A script with the schedule of a seed's run in it.
 
-ghost use Rattle.std.specs.Prelude.{◌≡◌, ◌≢◌, ◌≤◌, length, IfOk, IfErr, IsErrOf, OnOk, true, false, string_bytes};
+ghost use Rattle.std.specs.Prelude.{◌≡◌, ◌≢◌, ◌≤◌, ◌++◌, length, IfOk, IfErr, IsErrOf, OnOk, true, false, string_bytes};
 ghost use Rattle.ns_replay.specs.Transfer.{Gave, IsAskedEnough, IsEnough, IsFine, IsReadFault, IsWriteFault};
 ghost use Rattle.ns_replay.specs.Replaying.{Ended, WasRead};
-ghost use Rattle.ns_outcomes.specs.Answers.{Answers, ComesTo, IsScheduled, IsUnscheduled};
+ghost use Rattle.ns_replay.specs.Script.{plan_of};
+ghost use Rattle.ns_outcomes.specs.Answers.{Answers, ComesTo, IsLike, IsScheduled, IsUnscheduled};
 
-use crate::outcome::{SeedRun, outcome_of, run_seed};
+use crate::outcome::{outcome_of, run_seed};
 use ns_replay::{Fault, Script, ScriptPath, Sink, Source, collect_bytes, run_bytes, write_all};
 use ns_world::schedule::Turn;
 use serde_json::Value;
@@ -73,40 +74,75 @@ fn script_with(alloc: Global, bytes: &[u8], words: &[Turn]) -> Result<String, Al
     Ok(out)
 }
 
-/// Whether a replay of the text has just this schedule, and comes to just this outcome.
-fn comes_to(alloc: Global, text: &str, wanted: &SeedRun, limit: u32) -> Result<bool, AllocError>
+/// The script's own words, and then these.
+fn joined(alloc: Global, script: &Script, words: &[Turn]) -> Result<Vec<Turn>, AllocError>
+    ensures { IfOk result (λ schedule. schedule.items ≡ script.now.schedule.items ++ words.now) }
+{
+    let mut schedule = Vec::new(alloc);
+    schedule.extend_from_slice(&script.schedule)?;
+    schedule.extend_from_slice(words)?;
+    Ok(schedule)
+}
+
+/// Whether two scripts declare the same, and have the same schedule.
+fn are_alike(one: &Script, other: &Script) -> bool
+    ensures { result ≡ true → IsLike (plan_of one.now) (plan_of other.now) }
+{
+    if one.counters != other.counters {
+        return false;
+    }
+    if one.schedule != other.schedule {
+        return false;
+    }
+    if one.onces != other.onces {
+        return false;
+    }
+    one.cvs == other.cvs
+}
+
+/// Whether the text is read as a script like this one, and a replay of it comes to just this outcome.
+fn comes_to(
+    alloc: Global,
+    text: &str,
+    wanted: &Script,
+    outcome: &str,
+    limit: u32,
+) -> Result<bool, AllocError>
     requires { length text.now ≤ 1048576 }
-    ensures { IfOk result (λ same. same ≡ true → ComesTo limit text.now wanted.now.schedule.items (string_bytes wanted.now.text)) }
+    ensures { IfOk result (λ same. same ≡ true → ComesTo limit text.now (plan_of wanted.now) outcome.now) }
 {
     let (script, run) = match run_bytes(alloc, text.as_bytes(), limit) {
         Ok(ran) => ran,
         Err(Fault::OutOfMemory) => return Err(AllocError),
         Err(_) => return Ok(false),
     };
-    let outcome = outcome_of(alloc, &run, script.threads.len() as u8)?;
-    if script.schedule != wanted.schedule {
+    let threads = script.threads.len() as u8;
+    let made = outcome_of(alloc, &run.world, &run.lines, threads)?;
+    if !are_alike(&script, wanted) {
         return Ok(false);
     }
-    Ok(outcome == wanted.text)
+    Ok(made.as_str() == outcome)
 }
 
 /// The script that the bytes give, with the schedule of a seed's run.
 fn script_for(alloc: Global, bytes: &[u8], seed: u64, limit: u32) -> Result<String, Fault>
     requires { length bytes.now ≤ 1048576 }
-    ensures ok { IfOk result (λ text. IsScheduled limit bytes.now (string_bytes text)) }
-    ensures err { IfErr result (λ fault. IsUnscheduled limit bytes.now fault) }
+    ensures ok { IfOk result (λ text. IsScheduled limit seed bytes.now (string_bytes text)) }
+    ensures err { IfErr result (λ fault. IsUnscheduled limit seed bytes.now fault) }
 {
     let (script, _) = run_bytes(alloc, bytes, limit)?;
     let run = run_seed(alloc, &script, seed, limit)?;
-    if run.schedule.len() > MAX_WORDS {
+    let schedule = joined(alloc, &script, &run.words)?;
+    if schedule.len() > MAX_WORDS {
         return Err(Fault::TooMany(ScriptPath::Schedule));
     }
-    let text = script_with(alloc, bytes, &run.schedule)?;
+    let wanted = Script { schedule, ..script };
+    let text = script_with(alloc, bytes, &wanted.schedule)?;
     if text.len() > MAX_BYTES {
-        return Err(Fault::TooMany(ScriptPath::Schedule));
+        return Err(Fault::TooMany(ScriptPath::Root));
     }
-    if !comes_to(alloc, &text, &run, limit)? {
-        return Err(Fault::BadScript(ScriptPath::Schedule));
+    if !comes_to(alloc, &text, &wanted, &run.text, limit)? {
+        return Err(Fault::BadScript(ScriptPath::Root));
     }
     Ok(text)
 }
@@ -116,8 +152,8 @@ fn script_for(alloc: Global, bytes: &[u8], seed: u64, limit: u32) -> Result<Stri
 /// The run is that of the seed in [`outcomes`](crate::outcomes): a replay of the text comes to its outcome. The
 /// text has one line, with the members in the order in which a script is checked. Returns `Ok` when all of it was
 /// taken. It refuses what a replay refuses, in the same order and at the same places; a run that needs more
-/// turns than the limit (`StepLimit`); and a schedule of more than 4,096 words, or one that makes the text longer
-/// than 1 MiB (`TooMany`, at `/schedule`). After `Write` the sink has a front of the text, and after any other
+/// turns than the limit (`StepLimit`); a schedule of more than 4,096 words (`TooMany`, at `/schedule`); and a text
+/// of more than 1 MiB (`TooMany`, at the whole), or one that isn't read back as it should be (`BadScript`, there). After `Write` the sink has a front of the text, and after any other
 /// fault nothing was written.
 ///
 /// Needs a source and a sink that have not failed. What it says of bytes it says of streams that know theirs.
@@ -132,7 +168,7 @@ pub fn schedule<S: Source, W: Sink>(
     requires sink { W.has_failed sink.old ≡ false }
     // What was read gives what was answered and written: a script that comes to an outcome of the one read.
     ensures answers { Gave (S.to_come source.old) (S.to_come source.new) (λ bytes.
-        IsEnough bytes (S.last source.new) × WasRead bytes (S.to_come source.new) result × Answers (W.taken sink.old) (W.taken sink.new) (IsScheduled limit) (IsUnscheduled limit) bytes result) }
+        IsEnough bytes (S.last source.new) × WasRead bytes (S.to_come source.new) result × Answers (W.taken sink.old) (W.taken sink.new) (IsScheduled limit seed) (IsUnscheduled limit seed) bytes result) }
     // Nothing is written before the whole text is made, and read back.
     ensures untouched { IfErr result (λ fault. fault ≢ Fault.Write → sink.new ≡ sink.old) }
     // The source is asked no more often than it may be, and never after its end.

@@ -5,8 +5,8 @@
 //! is stuck once it has been idle twice since another last changed something: all that it looked at in between,
 //! it would find the same again. What ends a wait either ends the call, or changes the lock word next.
 
-ghost use Rattle.std.specs.Prelude.{◌≡◌, ◌≤◌, Some, None, map, slice_get};
-ghost use Rattle.ns_outcomes.specs.Standings.{can_go, stirs, stirred, stands_after, standings_after};
+ghost use Rattle.std.specs.Prelude.{◌≡◌, map};
+ghost use Rattle.ns_outcomes.specs.Standings.{can_go, stirs, stirred, stands_after, stood};
 
 use ns_world::step::Step;
 
@@ -100,8 +100,7 @@ fn stir(standings: &mut [Standing])
 
 /// Where the threads stand after a turn of one.
 pub fn stand(standings: &mut [Standing], thread: usize, made: Made)
-    ensures there { (before : _) → slice_get standings.old thread ≡ Some before → standings.new ≡ standings_after standings.old thread before made }
-    ensures beyond { slice_get standings.old thread ≡ None → standings.new ≡ standings.old }
+    ensures { standings.new ≡ stood standings.old thread made }
 {
     let Some(before) = standings.get(thread).copied() else {
         return;

@@ -1,9 +1,11 @@
 //! Distinct outcomes, and how many seeds came to each.
 
-ghost use Rattle.std.specs.Prelude.{◌≡◌, [], OnOk, string_bytes};
-ghost use Rattle.ns_outcomes.specs.Tallies.{IsCounted, texts_of};
+ghost use Rattle.std.specs.Prelude.{◌≡◌, ℕ, ◌+◌, ◌<◌, ◌^◌, List, [], map, IfOk, OnOk, IfSome, string_bytes, string_cmp};
+ghost use Rattle.std.specs.BTreeMap.{IsOrdered, get_by_text};
+ghost use Rattle.ns_outcomes.specs.Tallies.{CountsOnceMore, HasCounted, IsTally, found_of};
 
 use std::alloc::{AllocError, Global};
+use std::cmp::Reverse;
 use std::collections::BTreeMap;
 
 /// A distinct outcome.
@@ -17,43 +19,71 @@ pub struct Found {
     pub first: u64,
 }
 
-/// The distinct outcomes, in the order in which they were found, each with its place by its text.
+/// What is counted of an outcome.
+#[derive(Clone, Copy)]
+struct Count {
+    /// How many seeds came to it.
+    count: u32,
+    /// The first of them.
+    first: u64,
+}
+
+/// The distinct outcomes by their text.
 #[derive(Drop)]
 pub struct Tally {
-    /// The outcomes.
-    pub found: Vec<Found>,
-    places: BTreeMap<String, usize>,
+    counts: BTreeMap<String, Count>,
 }
 
 impl Tally {
     /// No outcome.
     pub fn new(alloc: Global) -> Tally
-        ensures { result.found.items ≡ [] }
+        ensures { (from : ℕ) → HasCounted from [] result }
     {
         Tally {
-            found: Vec::new(alloc),
-            places: BTreeMap::new(alloc),
+            counts: BTreeMap::new(alloc),
         }
     }
 
-    /// Counts the outcome of a seed.
-    pub fn count(&mut self, alloc: Global, text: String, seed: u64) -> Result<(), AllocError>
-        ensures { OnOk result (IsCounted (texts_of self.old.found.items) (string_bytes text) (texts_of self.new.found.items)) }
+    /// Counts the outcome of a seed. Needs room for one more in the count of the outcome.
+    pub fn count(&mut self, text: String, seed: u64) -> Result<(), AllocError>
+        requires { IfSome (get_by_text self.old.counts (string_bytes text)) (λ before. before.count + 1 < 2 ^ 32) }
+        ensures { OnOk result (CountsOnceMore self.old (string_bytes text) seed self.new) }
     {
-        match self.places.get(text.as_str()).copied() {
-            Some(place) if place < self.found.len() => {
-                self.found[place].count = self.found[place].count.saturating_add(1);
-            }
-            _ => {
-                let key = text.clone()?;
-                self.places.insert(key, self.found.len())?;
-                self.found.push(Found {
-                    text,
-                    count: 1,
-                    first: seed,
-                })?;
-            }
-        }
+        let counted = match self.counts.get(text.as_str()).copied() {
+            Some(before) => Count {
+                count: before.count + 1,
+                first: before.first,
+            },
+            None => Count {
+                count: 1,
+                first: seed,
+            },
+        };
+        self.counts.insert(text, counted)?;
         Ok(())
+    }
+
+    /// The outcomes, by their texts in ascending order.
+    fn listed(self, alloc: Global) -> Result<Vec<Found>, AllocError>
+        ensures ordered { IsOrdered string_cmp self.counts }
+        ensures ok { IfOk result (λ found. found.items ≡ map found_of self.counts.entries) }
+    {
+        self.counts
+            .into_iter()
+            .map(|(text, counted)| Found {
+                text,
+                count: counted.count,
+                first: counted.first,
+            })
+            .collect(alloc)
+    }
+
+    /// The outcomes, the most frequent first, and of equals the one with the lower first seed.
+    pub fn found(self, alloc: Global) -> Result<Vec<Found>, AllocError>
+        ensures { IfOk result (λ found. (from : ℕ) (runs : List (List ℕ)) → HasCounted from runs self → IsTally from runs found.items) }
+    {
+        let mut found = self.listed(alloc)?;
+        found.sort_by_key(|found| (Reverse(found.count), found.first))?;
+        Ok(found)
     }
 }

@@ -1,7 +1,7 @@
 //! A run of a schedule: items of its words one after another, each of one turn or of as many as
 //! its call takes.
 
-ghost use Rattle.std.specs.Prelude.{◌≡◌, ◌≤◌, ◌<◌, ◌+◌, ◌∷◌, [], Some, IfSome, IfOk, IfErr, OnOk, OnErr, All, map, slice_get, slice_index, MatchResult, ◌^◌, ◌++◌};
+ghost use Rattle.std.specs.Prelude.{◌≡◌, ◌≤◌, ◌<◌, ◌+◌, ◌∷◌, [], Some, IfSome, IfOk, IfErr, OnOk, OnErr, All, map, replicate, slice_get, slice_index, MatchResult, ◌^◌, ◌++◌};
 ghost use Rattle.ns_world.specs.Calls.{CallInRange};
 ghost use Rattle.ns_world.specs.Whole.{whole_of};
 ghost use Rattle.ns_world.specs.Runs.{calls_of, Counts, progress, is_end, TurnsWith, tests_told, TurnFault, TurnOf, Advances, IsFinished, Stops, Runs, RunFault, AllIdle, IsCounted, ListFits, items_of};
@@ -15,12 +15,30 @@ use crate::step::{Begun, Step};
 use crate::world::World;
 use std::alloc::{AllocError, Global};
 
-/// How far a run has come: how many calls of each seat are over, their lines, and the turns.
+/// How far a run has come, beside its world.
 #[derive(Drop)]
-struct Tally {
-    over: [u16; 64],
-    lines: Vec<Line>,
-    turns: u32,
+pub struct Tally {
+    /// How many calls of each seat are over.
+    pub over: [u16; 64],
+    /// The finished calls, in the order in which they ended.
+    pub lines: Vec<Line>,
+    /// How many turns were made.
+    pub turns: u32,
+}
+
+impl Tally {
+    /// Before the first turn.
+    pub fn new(alloc: Global) -> Tally
+        ensures over { result.over ≡ replicate 64 0 }
+        ensures lines { result.lines.items ≡ [] }
+        ensures turns { result.turns ≡ 0 }
+    {
+        Tally {
+            over: [0; 64],
+            lines: Vec::new(alloc),
+            turns: 0,
+        }
+    }
 }
 
 /// The seat's call after so many. A seat without a list has none.
@@ -128,7 +146,10 @@ fn next_turn<C: Seated<N>, const N: usize>(
 }
 
 /// One turn of the seat, counted: its step, where the run goes on.
-fn counted_turn<C: Seated<N>, const N: usize>(
+///
+/// Needs a tally that counts the calls of this world, and lists as [`World::run`]. Refuses what that refuses of a
+/// schedule's next item.
+pub fn counted_turn<C: Seated<N>, const N: usize>(
     world: &mut World<C, N>,
     lists: &[Vec<Call<C>>],
     tally: &mut Tally,
@@ -205,6 +226,31 @@ fn schedule_word<C: Seated<N>, const N: usize>(
     Ok(())
 }
 
+/// The items of the words of a schedule, in the world as it stands.
+///
+/// Needs what [`counted_turn`] needs, and refuses what [`World::run`] refuses.
+pub fn follow<C: Seated<N>, const N: usize>(
+    world: &mut World<C, N>,
+    lists: &[Vec<Call<C>>],
+    tally: &mut Tally,
+    schedule: &[Turn],
+    limit: u32,
+) -> Result<(), Fault>
+    requires lists { All (λ calls. ListFits N calls.items) lists.now }
+    requires counted { IsCounted (whole_of C.means world.old) tally.old.over }
+    requires turns { tally.old.turns ≤ limit }
+    ensures ok { OnOk result (let calls = map (λ calls. calls.items) lists.now in
+        Advances calls limit (progress (whole_of C.means world.old) tally.old.over tally.old.lines.items) tally.old.turns (items_of schedule.now) [] (progress (whole_of C.means world.new) tally.new.over tally.new.lines.items) tally.new.turns) }
+    ensures counted { OnOk result (IsCounted (whole_of C.means world.new) tally.new.over) }
+    ensures err { IfErr result (λ fault. let calls = map (λ calls. calls.items) lists.now in
+        Stops calls limit (progress (whole_of C.means world.old) tally.old.over tally.old.lines.items) tally.old.turns (items_of schedule.now) (whole_of C.means world.new) fault) }
+{
+    for word in schedule {
+        schedule_word(world, lists, tally, word, limit)?;
+    }
+    Ok(())
+}
+
 impl<C: Seated<N>, const N: usize> World<C, N> {
     /// Runs the schedule, where thread `t` makes the calls of the list `t` from seat `t`, in
     /// order. Answers the calls that finished, in the order of finishing. A call may be left in
@@ -231,14 +277,8 @@ impl<C: Seated<N>, const N: usize> World<C, N> {
         ensures { MatchResult result (λ lines. Runs (map (λ calls. calls.items) lists.now) schedule.now limit (whole_of C.means self.old) (whole_of C.means self.new) lines.items)
             (RunFault (map (λ calls. calls.items) lists.now) schedule.now limit (whole_of C.means self.old) (whole_of C.means self.new)) }
     {
-        let mut tally = Tally {
-            over: [0; 64],
-            lines: Vec::new(alloc),
-            turns: 0,
-        };
-        for word in schedule {
-            schedule_word(self, lists, &mut tally, word, limit)?;
-        }
+        let mut tally = Tally::new(alloc);
+        follow(self, lists, &mut tally, schedule, limit)?;
         Ok(tally.lines)
     }
 }

@@ -17,8 +17,10 @@ pub returns-clause-ok : goal.returns-clause-ok
 returns-clause-ok g c = record {
   plan = plan_of c.in_ok-script.script;
   read = c.in_ok-script.ensures.ok.read;
+  runs = c.in_ok-counted.ensures.ok.0;
+  made = c.in_ok-counted.ensures.ok.1;
   found = c.in_ok-counted.counted.found.items;
-  each = c.in_ok-counted.ensures.ok;
+  tally = c.in_ok-counted.ensures.ok.2;
   turns = c.in_ok-counted.counted.turns;
   is = c.in_ok-report.ensures;
 }

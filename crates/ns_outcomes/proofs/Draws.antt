@@ -1,0 +1,85 @@
+-- Turns that were drawn are turns of a run, and follow the words that spell them.
+use Rattle.std.proofs.Common.{◌≡◌, ℕ, ◌+◌, ◌≤◌, true, false, List, [], ◌∷◌, ◌++◌, Some, length-append, map, refl, sym, ap, ◌∙◌, subst, arith, eq-eqb}
+use Rattle.std.proofs.lemmas.List.{map-append}
+use Rattle.std.proofs.lemmas.List.Concat.{flat_map-append}
+use Rattle.rand_pcg.specs.Lcg.{Lcg}
+use Rattle.rand_pcg.specs.Pcg.{pcg32}
+use Rattle.ns_world.specs.Runs.{Advances, Stops, Turned, TurnsOf, items_of, is_end, rest_of, word_items}
+use Rattle.ns_world.specs.declared.schedule.Turn.{Turn}
+use Rattle.ns_world.specs.declared.step.Step.{Step}
+use Rattle.ns_world.specs.declared.step.Step.TheVariants.{Finished, Idle, Nothing, Went}
+use Rattle.ns_world.specs.Whole.{Whole}
+use Rattle.ns_world.specs.declared.fault.Fault.{Fault as WorldFault}
+use Rattle.ns_world.proofs.Schedules.{stops_both}
+use Rattle.ns_replay.specs.declared.condition.ScriptCondition.{ScriptCondition}
+use Rattle.ns_outcomes.specs.Drawn.{Draws, Drew, Lists, Stage, StopsDrawing, TurnStands, turn_item}
+use Rattle.ns_outcomes.specs.Standings.{IsPick}
+
+-- ---- words
+
+-- a word more
+pub word_more : (words : List Turn) (thread : ℕ) → items_of (words ++ record { thread = thread; whole = false; times = 1 } ∷ []) ≡ items_of words ++ record { seat = thread; whole = false } ∷ []
+word_more words thread = flat_map-append word_items words (record { thread = thread; whole = false; times = 1 } ∷ [])
+
+-- ---- turns
+
+ends_at_once : (step : Step) → is_end false step ≡ true
+ends_at_once Went = refl
+ends_at_once Idle = refl
+ends_at_once Nothing = refl
+ends_at_once (Finished reply) = refl
+
+-- turns follow the items that are made of them
+pub follow_items : (turns : List Turned) → rest_of (map turn_item turns) turns ≡ Some []
+follow_items [] = refl
+follow_items (turned ∷ turns) = rw (eq-eqb turned.seat turned.seat refl, ends_at_once turned.step) (follow_items turns)
+
+module _ (lists : Lists) where
+  -- drawn turns are turns
+  pub turns_drawn : (g h : Lcg) (p q : Stage) (turns : List Turned) → Draws lists g p turns h q → TurnsOf lists p.progress turns q.progress
+  turns_drawn g h p q [] d = ap (λ (s : Stage). s.progress) d.1
+  turns_drawn g h p q (turned ∷ turns) d = (d.0.progress, d.2.turn, turns_drawn (pcg32 g).1 h d.0 q turns d.3)
+
+  -- one more
+  pub draw_more : (g h : Lcg) (p q r : Stage) (turns : List Turned) (turned : Turned) → Draws lists g p turns h q → IsPick q.standings (pcg32 h).0 (Some turned.seat) → TurnStands lists q turned r →
+      Draws lists g p (turns ++ turned ∷ []) (pcg32 h).1 r
+  draw_more g h p q r [] turned d pick turn = (
+    r,
+    subst (λ (s : Stage). IsPick s.standings (pcg32 g).0 (Some turned.seat)) d.1 (subst (λ (x : Lcg). IsPick q.standings (pcg32 x).0 (Some turned.seat)) d.0 pick),
+    subst (λ (s : Stage). TurnStands lists s turned r) d.1 turn,
+    (ap (λ (x : Lcg). (pcg32 x).1) d.0, refl),
+  )
+  draw_more g h p q r (first ∷ turns) turned d pick turn = (d.0, d.1, d.2, draw_more (pcg32 g).1 h d.0 q r turns turned d.3 pick turn)
+
+  module _ (limit : ℕ) where
+    -- one more, by the generator's next number, and its word
+    pub drew_more : (g h next : Lcg) (number : ℕ) (p q r : Stage) (before mid behind : ℕ) (words more : List Turn) (turned : Turned) → Drew lists limit g p before words h q mid → ◌≡◌ {A = ℕ × Lcg} (number, next) (pcg32 h) →
+        IsPick q.standings number (Some turned.seat) → TurnStands lists q turned r → items_of more ≡ items_of words ++ turn_item turned ∷ [] → behind ≡ mid + 1 → behind ≤ limit →
+        Drew lists limit g p before more next r behind
+    drew_more g h next number p q r before mid behind words more turned d gives pick turn longer count within = record {
+      turns = d.turns ++ turned ∷ [];
+      draws = subst (λ (x : Lcg). Draws lists g p (d.turns ++ turned ∷ []) x r) (sym (ap (λ (x : ℕ × Lcg). x.1) gives))
+          (draw_more g h p q r d.turns turned d.draws (subst (λ (n : ℕ). IsPick q.standings n (Some turned.seat)) (ap (λ (x : ℕ × Lcg). x.0) gives) pick) turn);
+      spelled = longer ∙ ap (λ xs. xs ++ turn_item turned ∷ []) d.spelled ∙ sym (map-append turn_item d.turns (turned ∷ []));
+      count = let both = length-append d.turns (turned ∷ []) in omega (arith, count, d.count, both);
+      within = within;
+    }
+
+    -- the words are a schedule of the drawn turns
+    pub drew_advances : (g h : Lcg) (p q : Stage) (before behind : ℕ) (words : List Turn) → Drew lists limit g p before words h q behind → Advances lists limit p.progress before (items_of words) [] q.progress behind
+    drew_advances g h p q before behind words d = record {
+      turns = d.turns;
+      made = turns_drawn g h p q d.turns d.draws;
+      rest = ap (λ items. rest_of items d.turns) d.spelled ∙ follow_items d.turns;
+      count = d.count;
+      within = d.within;
+    }
+
+    -- where the next turn isn't made, nor is the run of one word more
+    pub draw_stops : (g h : Lcg) (p q : Stage) (before mid seat : ℕ) (words : List Turn) (world : Whole ScriptCondition 8) (fault : WorldFault) → Drew lists limit g p before words h q mid →
+        Stops lists limit q.progress mid (record { seat = seat; whole = false } ∷ []) world fault → StopsDrawing lists limit p before world fault
+    draw_stops g h p q before mid seat words world fault d stops = (
+      words ++ record { thread = seat; whole = false; times = 1 } ∷ [],
+      subst (λ items. Stops lists limit p.progress before items world fault) (sym (word_more words seat))
+          (stops_both lists limit p.progress q.progress before mid (items_of words) (record { seat = seat; whole = false } ∷ []) world fault (drew_advances g h p q before mid words d) stops),
+    )

@@ -1,0 +1,44 @@
+use Rattle.std.proofs.Common.{arith, rules, map, Vec, Global, length, ◌≡◌}
+use Rattle.std.proofs.Math.Seq.{take-length}
+use Rattle.std.proofs.lemmas.Result.{err_from_is_err_and}
+use Rattle.ns_world.specs.Prelude.{Call, progress, whole_of}
+use Rattle.ns_world.proofs.Schedules.{advance_none, advance_word, stops_word}
+use Rattle.ns_world.proofs.run.follow.Goals as goal
+
+pub loop-word-init : goal.loop-word-init
+loop-word-init g c =
+    let calls = map (λ (calls : Vec (Call _) Global). calls.items) c.args.lists.now in
+    let first = progress (whole_of g.C.Condition.means c.args.world.now) c.args.tally.now.over c.args.tally.now.lines.items in
+    record {
+      advances = advance_none calls c.args.limit first c.args.tally.now.turns _ c.requires.turns;
+      counted = c.requires.counted;
+    }
+
+pub schedule_word-requires : goal.schedule_word-requires
+schedule_word-requires g c = (search rules, (c.requires.lists, (c.loop-word.invariant.counted, c.loop-word.invariant.advances.within)))
+
+pub returns-in_err-schedule_word-clause-err : goal.returns-in_err-schedule_word-clause-err
+returns-in_err-schedule_word-clause-err g c =
+    let p = err_from_is_err_and c.from_residual.result c.from_residual.ensures.1 in
+    let calls = map (λ (calls : Vec (Call _) Global). calls.items) c.args.lists.now in
+    let first = progress (whole_of g.C.Condition.means c.args.world.now) c.args.tally.now.over c.args.tally.now.lines.items in
+    let now = progress (whole_of g.C.Condition.means c.loop-word.world) c.loop-word.tally.over c.loop-word.tally.lines.items in
+    rw (p.1, p.2) (stops_word calls c.args.limit first now c.args.tally.now.turns c.loop-word.tally.turns c.loop-word.word-index c.args.schedule.now _ (whole_of g.C.Condition.means c.schedule_word.new.world) c.in_err-schedule_word.field-0.0
+    c.loop-word-test.true c.loop-word.invariant.advances c.in_err-schedule_word.ensures.err)
+
+pub loop-word-preserved : goal.loop-word-preserved
+loop-word-preserved g c =
+    let calls = map (λ (calls : Vec (Call _) Global). calls.items) c.args.lists.now in
+    let first = progress (whole_of g.C.Condition.means c.args.world.now) c.args.tally.now.over c.args.tally.now.lines.items in
+    let now = progress (whole_of g.C.Condition.means c.loop-word.world) c.loop-word.tally.over c.loop-word.tally.lines.items in
+    let next = progress (whole_of g.C.Condition.means c.schedule_word.new.world) c.schedule_word.new.tally.over c.schedule_word.new.tally.lines.items in
+    record {
+      advances = advance_word calls c.args.limit first now next c.args.tally.now.turns c.loop-word.tally.turns c.schedule_word.new.tally.turns c.loop-word.word-index c.args.schedule.now _
+          c.loop-word-test.true c.loop-word.invariant.advances c.in_ok-schedule_word.ensures.ok;
+      counted = c.in_ok-schedule_word.ensures.counted;
+    }
+
+pub returns-clause-ok : goal.returns-clause-ok
+returns-clause-ok g c =
+    let all : c.loop-word.word-index ≡ length c.args.schedule.now = omega arith in
+    rw (all, take-length c.args.schedule.now) at c.loop-word.invariant.advances
