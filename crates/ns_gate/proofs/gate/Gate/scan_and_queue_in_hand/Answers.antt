@@ -1,6 +1,6 @@
-use Rattle.std.proofs.Common.{rules, ap, map, ◌∙◌}
-use Rattle.ns_gate.specs.Prelude.{Waiter, meets_at, tests_of, woken_of}
-use Rattle.ns_gate.proofs.Findings.{has_slot, was_in_hand}
+use Rattle.std.proofs.Common.{rules, ap, map, refl, ◌∙◌}
+use Rattle.ns_gate.specs.Prelude.{Waiter, bits_of, meets_at, seats_of, tests_of, the, waited_in, woken_of}
+use Rattle.ns_gate.proofs.Findings.{has_slot, now_in_hand, was_in_hand}
 use Rattle.ns_gate.proofs.gate.Gate.scan_and_queue_in_hand.Goals as goal
 
 pub slot_mut-queues-requires : goal.slot_mut-queues-requires
@@ -13,3 +13,17 @@ returns-clause-tests g c =
 pub returns-clause-vias : goal.returns-clause-vias
 returns-clause-vias g c =
     c.scan_and_queue-scan.ensures.vias ∙ ap (λ lists. map (λ (w : Waiter _). w.via) (woken_of (meets_at g.C.Condition.means c.args.row.now) lists.lock)) (was_in_hand _ _ c.args.seat.now.me.1 c.requires.has c.slot_mut-queues.ensures.value)
+
+pub returns-clause-seat : goal.returns-clause-seat
+returns-clause-seat g c = (refl, refl)
+
+pub returns-clause-woken : goal.returns-clause-woken
+returns-clause-woken g c = c.scan_and_queue-scan.ensures.woken ∙ ap (λ lists. seats_of (woken_of (meets_at g.C.Condition.means c.args.row.now) lists.lock)) (was_in_hand _ _ c.args.seat.now.me.1 c.requires.has c.slot_mut-queues.ensures.value)
+
+pub returns-clause-lists : goal.returns-clause-lists
+returns-clause-lists g c =
+    now_in_hand (the c.args.seat.now.me.0).stood c.scan_and_queue-scan.new.queues _ c.args.seat.now.me.1 c.requires.has
+    (c.scan_and_queue-scan.ensures.lists ∙ ap (waited_in g.C.Condition.means c.args.number c.args.wait c.args.again c.args.row.now) (was_in_hand _ _ c.args.seat.now.me.1 c.requires.has c.slot_mut-queues.ensures.value))
+
+pub returns-clause-bits : goal.returns-clause-bits
+returns-clause-bits g c = c.bits.ensures ∙ ap (λ lists. bits_of lists.lock) (c.scan_and_queue-scan.ensures.lists ∙ ap (waited_in g.C.Condition.means c.args.number c.args.wait c.args.again c.args.row.now) (was_in_hand _ _ c.args.seat.now.me.1 c.requires.has c.slot_mut-queues.ensures.value))

@@ -1,6 +1,28 @@
-use Rattle.std.proofs.Common.{rules}
-use Rattle.ns_gate.proofs.Findings.{has_slot}
+use Rattle.std.proofs.Common.{◌≡◌, Some, ap, false, refl, rules, sym, true, ◌∙◌}
+use Rattle.ns_gate.specs.Prelude.{Cv, bits_of, has_some, the, waiters_of}
+use Rattle.ns_gate.proofs.Findings.{has_slot, now_in_hand, was_in_hand}
 use Rattle.ns_gate.proofs.gate.Gate.wake_nobody_in_hand.Goals as goal
 
 pub slot_mut-queues-requires : goal.slot_mut-queues-requires
 slot_mut-queues-requires g c = (search rules, has_slot _ _ c.requires.has)
+
+pub returns-then-has_waiters-clause-seat : goal.returns-then-has_waiters-clause-seat
+returns-then-has_waiters-clause-seat g c = (refl, refl)
+
+pub returns-then-has_waiters-clause-has : goal.returns-then-has_waiters-clause-has
+returns-then-has_waiters-clause-has g c = now_in_hand (the c.args.seat.now.me.0).stood _ _ c.args.seat.now.me.1 c.requires.has (was_in_hand _ _ c.args.seat.now.me.1 c.requires.has c.slot_mut-queues.ensures.value)
+
+pub returns-then-has_waiters-clause-nobody : goal.returns-then-has_waiters-clause-nobody
+returns-then-has_waiters-clause-nobody g c =
+    let some : has_some (waiters_of (the c.args.seat.now.me.0).stood (Cv c.args.k)) ≡ true = ap (λ lists. has_some (waiters_of lists (Cv c.args.k))) (sym (was_in_hand _ _ c.args.seat.now.me.1 c.requires.has c.slot_mut-queues.ensures.value)) ∙ (sym c.has_waiters.ensures ∙ c.if-has_waiters.true) in rw some refl
+
+pub returns-clause-seat : goal.returns-clause-seat
+returns-clause-seat g c = (refl, refl)
+
+pub returns-clause-has : goal.returns-clause-has
+returns-clause-has g c = now_in_hand (the c.args.seat.now.me.0).stood _ _ c.args.seat.now.me.1 c.requires.has (was_in_hand _ _ c.args.seat.now.me.1 c.requires.has c.slot_mut-queues.ensures.value)
+
+pub returns-clause-nobody : goal.returns-clause-nobody
+returns-clause-nobody g c =
+    let none : has_some (waiters_of (the c.args.seat.now.me.0).stood (Cv c.args.k)) ≡ false = ap (λ lists. has_some (waiters_of lists (Cv c.args.k))) (sym (was_in_hand _ _ c.args.seat.now.me.1 c.requires.has c.slot_mut-queues.ensures.value)) ∙ (sym c.has_waiters.ensures ∙ c.if-has_waiters.false) in
+    rw none (ap (λ bits. Some (record { some = false; bits = bits })) (c.bits.ensures ∙ ap (λ lists. bits_of lists.lock) (was_in_hand _ _ c.args.seat.now.me.1 c.requires.has c.slot_mut-queues.ensures.value)))

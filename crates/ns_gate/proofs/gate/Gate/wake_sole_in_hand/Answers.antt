@@ -1,5 +1,5 @@
-use Rattle.std.proofs.Common.{◌≡◌, [], ◌∷◌, ap, sym, ◌∙◌, rules}
-use Rattle.ns_gate.specs.Prelude.{bits_of, lists_woken, the, woken_sole}
+use Rattle.std.proofs.Common.{◌≡◌, None, [], ◌∷◌, ap, refl, sym, ◌∙◌, rules}
+use Rattle.ns_gate.specs.Prelude.{Cv, bits_of, lists_woken, sole_of, the, waiters_of, woken_sole}
 use Rattle.ns_gate.proofs.Findings.{has_slot, now_in_hand, was_in_hand}
 use Rattle.ns_gate.proofs.Wakes.{left_sole, made_sole, may_move, takes_sole, woken_by_sole}
 use Rattle.ns_gate.proofs.gate.Gate.wake_sole_in_hand.Given.{Over}
@@ -29,3 +29,28 @@ pub returns-in-Some-clause-lists : goal.returns-in-Some-clause-lists
 returns-in-Some-clause-lists g c =
     now_in_hand (the c.args.seat.now.me.0).stood _ _ c.args.seat.now.me.1 c.requires.has (put g (goal.at.returns-in-Some-clause-lists g c).After-move_if
     ∙ ap (lists_woken c.args._waking c.args.k c.args.held) (was_in_hand _ _ c.args.seat.now.me.1 c.requires.has c.slot_mut-queues.ensures.value))
+
+pub returns-in-Some-clause-seat : goal.returns-in-Some-clause-seat
+returns-in-Some-clause-seat g c = (refl, refl)
+
+pub returns-in-Some-clause-orderly : goal.returns-in-Some-clause-orderly
+returns-in-Some-clause-orderly g c = rw (was_in_hand _ _ c.args.seat.now.me.1 c.requires.has c.slot_mut-queues.ensures.value) at c.take_sole.ensures.orderly
+
+pub returns-in-Some-clause-same : goal.returns-in-Some-clause-same
+returns-in-Some-clause-same g c = tt
+
+pub returns-in-None-clause-seat : goal.returns-in-None-clause-seat
+returns-in-None-clause-seat g c = (refl, refl)
+
+pub returns-in-None-clause-orderly : goal.returns-in-None-clause-orderly
+returns-in-None-clause-orderly g c = rw (was_in_hand _ _ c.args.seat.now.me.1 c.requires.has c.slot_mut-queues.ensures.value) at c.take_sole.ensures.orderly
+
+pub returns-in-None-clause-sole : goal.returns-in-None-clause-sole
+returns-in-None-clause-sole g c =
+    let none : sole_of (waiters_of (the c.args.seat.now.me.0).stood (Cv c.args.k)) ≡ None = ap (λ lists. sole_of (waiters_of lists (Cv c.args.k))) (sym (was_in_hand _ _ c.args.seat.now.me.1 c.requires.has c.slot_mut-queues.ensures.value)) ∙ sym c.in-None.ensures.sole in rw none refl
+
+pub returns-in-None-clause-lists : goal.returns-in-None-clause-lists
+returns-in-None-clause-lists g c = tt
+
+pub returns-in-None-clause-same : goal.returns-in-None-clause-same
+returns-in-None-clause-same g c = now_in_hand (the c.args.seat.now.me.0).stood _ _ c.args.seat.now.me.1 c.requires.has (c.in-None.ensures.same ∙ (was_in_hand _ _ c.args.seat.now.me.1 c.requires.has c.slot_mut-queues.ensures.value))
