@@ -7,7 +7,7 @@ acquired-requires g c = let few = c.requires.guess.few in omega (arith, few)
 
 pub returns : goal.returns
 returns g c = record {
-  seat = search rules;
-  word = search rules;
+  seat = c.exchange_guessing.ensures.seat;
+  word = c.exchange_guessing.ensures.word;
   came = c.exchange_guessing.ensures.came (Acquire c.args.aim c.args.arrival c.args.guess) c.requires.next;
 }

@@ -4,6 +4,6 @@ use Rattle.ns_gate.proofs.gate.Gate.arm_flag.Goals as goal
 
 pub returns : goal.returns
 returns g c = record {
-  seat = search rules;
+  seat = c.store_at.ensures.seat;
   did = (c.store_at.ensures.did ArmFlag c.requires.can).made;
 }

@@ -7,7 +7,7 @@ acquired-requires g c = let few = c.requires.last.few in omega (arith, few)
 
 pub returns : goal.returns
 returns g c = record {
-  seat = search rules;
-  word = search rules;
+  seat = c.exchange.ensures.seat;
+  word = c.exchange.ensures.word;
   did = c.exchange.ensures.did (Acquire c.args.aim c.args.arrival c.args.last) c.requires.can;
 }

@@ -4,7 +4,7 @@ use Rattle.ns_gate.proofs.gate.Gate.exchange_to_release.Goals as goal
 
 pub returns : goal.returns
 returns g c = record {
-  seat = search rules;
-  word = search rules;
+  seat = c.exchange.ensures.seat;
+  word = c.exchange.ensures.word;
   did = c.exchange.ensures.did (Release c.args.releasing c.args.last) c.requires.can;
 }

@@ -5,7 +5,7 @@ use Rattle.ns_gate.proofs.gate.Gate.judge_quiet.Goals as goal
 
 pub returns : goal.returns
 returns g c = record {
-  seat = search rules;
+  seat = c.load_at.ensures.seat;
   did = (c.load_at.ensures.did (JudgeQuiet c.args.i) c.requires.can).made;
   cell = quiet_cell _ _ c.args.i _ _ _ (c.load_at.ensures.did (JudgeQuiet c.args.i) c.requires.can);
 }

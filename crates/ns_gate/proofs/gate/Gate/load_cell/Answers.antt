@@ -4,6 +4,6 @@ use Rattle.ns_gate.proofs.gate.Gate.load_cell.Goals as goal
 
 pub returns : goal.returns
 returns g c = record {
-  seat = search rules;
+  seat = c.load_at.ensures.seat;
   did = (c.load_at.ensures.did (LoadCell c.args.i) c.requires.can).made;
 }

@@ -8,6 +8,6 @@ overflow_cast-result g c = let small = small_flag _ _ _ _ (c.load_at.ensures.did
 
 pub returns : goal.returns
 returns g c = record {
-  seat = search rules;
+  seat = c.load_at.ensures.seat;
   did = (c.load_at.ensures.did LoadFlag c.requires.can).made;
 }

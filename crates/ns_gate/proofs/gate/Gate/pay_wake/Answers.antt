@@ -12,6 +12,6 @@ store_at-requires g c = (omega arith, (queues_fit g.row.C g.row.N g.met.C.Condit
 
 pub returns : goal.returns
 returns g c = record {
-  seat = search rules;
+  seat = c.store_at.ensures.seat;
   did = (c.store_at.ensures.did PayWake c.requires.can).made;
 }

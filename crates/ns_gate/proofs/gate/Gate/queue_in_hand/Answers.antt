@@ -1,4 +1,4 @@
-use Rattle.std.proofs.Common.{rules, ap, ◌∙◌}
+use Rattle.std.proofs.Common.{refl, rules, ap, ◌∙◌}
 use Rattle.ns_gate.specs.Prelude.{QueueSelf, bits_of, changed, the}
 use Rattle.ns_gate.proofs.Findings.{has_slot, was_in_hand, now_in_hand}
 use Rattle.ns_gate.proofs.gate.Gate.queue_in_hand.Goals as goal
@@ -8,7 +8,7 @@ slot_mut-queues-requires g c = (search rules, has_slot _ _ c.requires.has)
 
 pub returns : goal.returns
 returns g c = record {
-  seat = search rules;
+  seat = (refl, refl);
   lists = λ last. now_in_hand (the c.args.seat.now.me.0).stood _ _ c.args.seat.now.me.1 c.requires.has (c.queue_self.ensures last ∙ ap (λ lists. changed c.args.number (QueueSelf c.args.mode c.args.arrival) last lists) (was_in_hand _ _ c.args.seat.now.me.1 c.requires.has c.slot_mut-queues.ensures.value));
   bits = λ last. c.bits.ensures ∙ ap (λ lists. bits_of lists.lock) (c.queue_self.ensures last ∙ ap (λ lists. changed c.args.number (QueueSelf c.args.mode c.args.arrival) last lists) (was_in_hand _ _ c.args.seat.now.me.1 c.requires.has c.slot_mut-queues.ensures.value));
 }

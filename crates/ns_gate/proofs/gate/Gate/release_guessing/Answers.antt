@@ -4,7 +4,7 @@ use Rattle.ns_gate.proofs.gate.Gate.release_guessing.Goals as goal
 
 pub returns : goal.returns
 returns g c = record {
-  seat = search rules;
-  word = search rules;
+  seat = c.exchange_guessing.ensures.seat;
+  word = c.exchange_guessing.ensures.word;
   came = c.exchange_guessing.ensures.came (Release c.args.releasing c.args.guess) c.requires.next;
 }

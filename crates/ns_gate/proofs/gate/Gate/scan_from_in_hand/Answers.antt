@@ -1,5 +1,5 @@
-use Rattle.std.proofs.Common.{rules, ap, map, sym, ◌∙◌}
-use Rattle.ns_gate.specs.Prelude.{Waiter, bits_of, lists_scanned, meets_at, sought_at, tests_of, the, woken_of}
+use Rattle.std.proofs.Common.{refl, rules, ap, map, sym, ◌∙◌}
+use Rattle.ns_gate.specs.Prelude.{Waiter, bits_of, lists_scanned, meets_at, seats_of, sought_at, tests_of, the, woken_of}
 use Rattle.ns_gate.proofs.Findings.{has_slot, now_in_hand, was_in_hand}
 use Rattle.ns_gate.proofs.gate.Gate.scan_from_in_hand.Goals as goal
 
@@ -26,3 +26,9 @@ returns-clause-lists g c =
 pub returns-clause-vias : goal.returns-clause-vias
 returns-clause-vias g c =
     c.scan_from-scan.ensures.vias ∙ ap (λ lists. map (λ (w : Waiter _). w.via) (woken_of (meets_at g.C.Condition.means c.args.row.now) lists.lock)) (was_in_hand _ _ c.args.seat.now.me.1 c.requires.has c.slot_mut-queues.ensures.value)
+
+pub returns-clause-seat : goal.returns-clause-seat
+returns-clause-seat g c = (refl, refl)
+
+pub returns-clause-woken : goal.returns-clause-woken
+returns-clause-woken g c = c.scan_from-scan.ensures.woken ∙ ap (λ lists. seats_of (woken_of (meets_at g.C.Condition.means c.args.row.now) lists.lock)) (was_in_hand _ _ c.args.seat.now.me.1 c.requires.has c.slot_mut-queues.ensures.value)

@@ -52,3 +52,21 @@ returns-in-Writer-clause-lists g c =
     let first = sym c.in-Writer.is ∙ c.take_writer.ensures.told in
     let left = lists_few _ t c.args.row.now _ _ c.take_writer.new.self first refl c.take_writer.ensures.left ∙ ap (lists_scanned t c.args.row.now) was in
     now_in_hand stood c.take_writer.new.self _ c.args.seat.now.me.1 c.requires.has left
+
+pub returns-in-Reader-clause-seat : goal.returns-in-Reader-clause-seat
+returns-in-Reader-clause-seat g c = (refl, refl)
+
+pub returns-in-Nobody-clause-seat : goal.returns-in-Nobody-clause-seat
+returns-in-Nobody-clause-seat g c = (refl, refl)
+
+pub returns-in-Writer-clause-seat : goal.returns-in-Writer-clause-seat
+returns-in-Writer-clause-seat g c = (refl, refl)
+
+pub returns-in-Reader-clause-lists : goal.returns-in-Reader-clause-lists
+returns-in-Reader-clause-lists g c = tt
+
+pub returns-in-Nobody-clause-still : goal.returns-in-Nobody-clause-still
+returns-in-Nobody-clause-still g c = tt
+
+pub returns-in-Writer-clause-still : goal.returns-in-Writer-clause-still
+returns-in-Writer-clause-still g c = tt

@@ -1,4 +1,4 @@
-use Rattle.std.proofs.Common.{rules, ap, ◌∙◌, subst}
+use Rattle.std.proofs.Common.{refl, rules, ap, ◌∙◌, subst}
 use Rattle.ns_gate.specs.Prelude.{ShowsLists, bits_of, the}
 use Rattle.ns_gate.proofs.Findings.{has_slot, was_in_hand, now_in_hand}
 use Rattle.ns_gate.proofs.gate.Gate.show_in_hand.Goals as goal
@@ -8,7 +8,7 @@ slot_mut-queues-requires g c = (search rules, has_slot _ _ c.requires.has)
 
 pub returns : goal.returns
 returns g c = record {
-  seat = search rules;
+  seat = (refl, refl);
   has = now_in_hand (the c.args.seat.now.me.0).stood _ _ c.args.seat.now.me.1 c.requires.has (was_in_hand _ _ c.args.seat.now.me.1 c.requires.has c.slot_mut-queues.ensures.value);
   shows = subst (λ lists. ShowsLists lists c.shown_lists.result) (was_in_hand _ _ c.args.seat.now.me.1 c.requires.has c.slot_mut-queues.ensures.value) c.shown_lists.ensures;
   bits = c.bits.ensures ∙ ap (λ lists. bits_of lists.lock) (was_in_hand _ _ c.args.seat.now.me.1 c.requires.has c.slot_mut-queues.ensures.value);
