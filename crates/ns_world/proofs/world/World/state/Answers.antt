@@ -1,4 +1,4 @@
-use Rattle.std.proofs.Common.{map, rules, refl, ap, ◌∙◌, ◌||◌, is_some}
+use Rattle.std.proofs.Common.{arith, map, rules, refl, ap, ◌∙◌, ◌||◌, is_some}
 use Rattle.ns_world.specs.Prelude.{Lists, shown_of, walk_in, word_of}
 use Rattle.ns_queue.proofs.Shown.{each_shown}
 use Rattle.ns_world.proofs.States.{listed, number_below, nowhere, few_seats, wakes_few}
@@ -54,3 +54,18 @@ returns-clause-lawful g c = rw (← c.self.view_is) c.self.invariant
 
 pub returns-clause-row : goal.returns-clause-row
 returns-clause-row g c = rw (← c.self.view_is) refl
+
+pub shown-requires : goal.shown-requires
+shown-requires g c = (g.met.C.Seated.queues_fit, tt)
+
+pub shown-requires-2 : goal.shown-requires-2
+shown-requires-2 g c = (g.met.C.Seated.queues_fit, omega arith)
+
+pub shown-requires-3 : goal.shown-requires-3
+shown-requires-3 g c = (g.met.C.Seated.queues_fit, omega arith)
+
+pub shown-requires-4 : goal.shown-requires-4
+shown-requires-4 g c = (g.met.C.Seated.queues_fit, omega arith)
+
+pub shown-requires-5 : goal.shown-requires-5
+shown-requires-5 g c = (g.met.C.Seated.queues_fit, omega arith)
