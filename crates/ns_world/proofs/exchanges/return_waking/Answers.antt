@@ -26,3 +26,21 @@ pub returns-in_err-commit_wake-clause-err : goal.returns-in_err-commit_wake-clau
 returns-in_err-commit_wake-clause-err g c =
     let p = err_from_is_err_and c.from_residual.result c.from_residual.ensures.1 in
     rw p.1 (sym (c.if-not-is_same.ensures.same refl), refl, refl, refl, c.in_err-commit_wake.ensures.err)
+
+pub bits-requires : goal.bits-requires
+bits-requires g c = g.met.C.Seated.queues_fit
+
+pub returned-requires : goal.returned-requires
+returned-requires g c = tt
+
+pub returns-then-not-is_same-clause-err : goal.returns-then-not-is_same-clause-err
+returns-then-not-is_same-clause-err g c = tt
+
+pub returns-in_err-commit_wake-clause-ok : goal.returns-in_err-commit_wake-clause-ok
+returns-in_err-commit_wake-clause-ok g c = let p = err_from_is_err_and c.from_residual.result c.from_residual.ensures.1 in rw p.1 tt
+
+pub returns-in_err-commit_wake-clause-kept : goal.returns-in_err-commit_wake-clause-kept
+returns-in_err-commit_wake-clause-kept g c = record { number = refl; walk = refl; asking = refl; tests = refl }
+
+pub returns-clause-err : goal.returns-clause-err
+returns-clause-err g c = tt

@@ -52,3 +52,33 @@ returns-clause-counted g c =
 
 pub count-requires-clause-over : goal.count-requires-clause-over
 count-requires-clause-over g c = let most = c.requires.counted.most c.args.seat in omega (arith, most)
+
+pub count-requires-clause-seat : goal.count-requires-clause-seat
+count-requires-clause-seat g c = let few = c.seats.ensures.few in let below = c.if-seat-seats.false in omega (arith, few, below)
+
+pub count-requires-clause-turns : goal.count-requires-clause-turns
+count-requires-clause-turns g c = let within = c.requires.turns in let other = c.if-tally-limit.false in let fits = c.ranges.limit.fits in omega (arith, within, other, fits)
+
+pub returns-clause-turns : goal.returns-clause-turns
+returns-clause-turns g c = let turns = c.count.ensures.turns in let within = c.requires.turns in let other = c.if-tally-limit.false in (turns, omega (arith, turns, within, other))
+
+pub returns-clause-err : goal.returns-clause-err
+returns-clause-err g c = tt
+
+pub returns-in_err-step-clause-ok : goal.returns-in_err-step-clause-ok
+returns-in_err-step-clause-ok g c = let p = err_from_is_err_and c.from_residual.result c.from_residual.ensures.1 in rw p.1 tt
+
+pub returns-in_err-step-clause-counted : goal.returns-in_err-step-clause-counted
+returns-in_err-step-clause-counted g c = let p = err_from_is_err_and c.from_residual.result c.from_residual.ensures.1 in rw p.1 tt
+
+pub returns-in_err-step-clause-turns : goal.returns-in_err-step-clause-turns
+returns-in_err-step-clause-turns g c = let p = err_from_is_err_and c.from_residual.result c.from_residual.ensures.1 in rw p.1 tt
+
+pub returns-in_err-count-clause-ok : goal.returns-in_err-count-clause-ok
+returns-in_err-count-clause-ok g c = let p = err_from_is_err_and c.from_residual-in_err-count.result c.from_residual-in_err-count.ensures.1 in rw p.1 tt
+
+pub returns-in_err-count-clause-counted : goal.returns-in_err-count-clause-counted
+returns-in_err-count-clause-counted g c = let p = err_from_is_err_and c.from_residual-in_err-count.result c.from_residual-in_err-count.ensures.1 in rw p.1 tt
+
+pub returns-in_err-count-clause-turns : goal.returns-in_err-count-clause-turns
+returns-in_err-count-clause-turns g c = let p = err_from_is_err_and c.from_residual-in_err-count.result c.from_residual-in_err-count.ensures.1 in rw p.1 tt
