@@ -34,3 +34,12 @@ pub returns-clause-stood : goal.returns-clause-stood
 returns-clause-stood g c =
     let here = told_yes c.stands_in_any.result _ c.if-not-stands_in_any.false c.stands_in_any.ensures.0 in
     rw (← c.self.view_is) (λ t. omega (arith, here), λ stands. refl)
+
+pub returns-then-remove-clause-absent : goal.returns-then-remove-clause-absent
+returns-then-remove-clause-absent g c = tt
+
+pub returns-then-not-stands_in_any-clause-removed : goal.returns-then-not-stands_in_any-clause-removed
+returns-then-not-stands_in_any-clause-removed g c = tt
+
+pub returns-clause-absent : goal.returns-clause-absent
+returns-clause-absent g c = tt

@@ -17,3 +17,9 @@ returns-in-Cv-clause-stands g c =
 
 pub returns-in-Lock-clause-stands : goal.returns-in-Lock-clause-stands
 returns-in-Lock-clause-stands g c = rw (c.in-Lock.is, ← c.self.view_is) (ltb_from_iff c.holds.ensures.stands)
+
+pub returns-in-Lock-clause-orderly : goal.returns-in-Lock-clause-orderly
+returns-in-Lock-clause-orderly g c = rw (← c.self.view_is) c.self.invariant
+
+pub returns-in-Cv-clause-orderly : goal.returns-in-Cv-clause-orderly
+returns-in-Cv-clause-orderly g c = rw (← c.self.view_is) c.self.invariant

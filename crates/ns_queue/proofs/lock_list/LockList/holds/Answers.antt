@@ -1,0 +1,7 @@
+use Rattle.ns_queue.proofs.lock_list.LockList.holds.Goals as goal
+
+pub returns-clause-stands : goal.returns-clause-stands
+returns-clause-stands g c = rw (← c.self.view_is) c.holds.ensures.stands
+
+pub returns-clause-orderly : goal.returns-clause-orderly
+returns-clause-orderly g c = rw (← c.self.view_is) c.holds.ensures.orderly
