@@ -19,3 +19,9 @@ returns-then-stands-clause-left g c = λ last. left_it c.args.queues.now c.remov
 
 pub returns-else-stands-clause-left : goal.returns-else-stands-clause-left
 returns-else-stands-clause-left g c = λ last. rw (sym c.stands_at-stands.ensures ∙ c.if-stands.false) refl
+
+pub returns-then-stands-clause-stood : goal.returns-then-stands-clause-stood
+returns-then-stands-clause-stood g c = c.stands_at-stands.ensures
+
+pub returns-else-stands-clause-stood : goal.returns-else-stands-clause-stood
+returns-else-stands-clause-stood g c = c.stands_at-stands.ensures

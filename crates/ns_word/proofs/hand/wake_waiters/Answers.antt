@@ -55,3 +55,6 @@ returns-else-held-clause-lists g c = elim c.match-waking.branch [
   | in-Signaling w ↦ rw w.in-Signaling.is (were_left c.args.held _ c.match-waking.queues _ c.if-held.false (w.queues-is ∙ w.take_signal-taken.ensures.left))
   | in-Broadcasting w ↦ rw w.in-Broadcasting.is (were_left c.args.held _ c.match-waking.queues _ c.if-held.false (w.queues-is ∙ w.take_all-taken.ensures.left))
 ]
+
+pub returns-then-held-clause-owed : goal.returns-then-held-clause-owed
+returns-then-held-clause-owed g c = rw c.if-held.true c.new.ensures
