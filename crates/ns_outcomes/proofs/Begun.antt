@@ -1,8 +1,8 @@
 -- The script's own schedule, and why a run that draws turns behind it stops.
-use Rattle.std.proofs.Common.{◌≡◌, ℕ, ◌+◌, Bool, ◌||◌, cond, List, [], ◌∷◌, ◌++◌, length, replicate, Option, is_some, refl, sym, ◌∙◌, subst, map, arith}
+use Rattle.std.proofs.Common.{◌≡◌, ℕ, ◌+◌, Bool, ◌||◌, cond, List, [], ◌∷◌, ◌++◌, length, inl, inr, replicate, Option, is_some, refl, sym, ap, ◌∙◌, subst, map, arith}
 use Rattle.std.specs.List.{range_with_len}
-use Rattle.std.proofs.lemmas.List.FromFn.{map-range_with_len_more}
-use Rattle.std.proofs.lemmas.List.{append-nil}
+use Rattle.std.proofs.lemmas.List.FromFn.{length-range_with_len, map-range_with_len_more}
+use Rattle.std.proofs.lemmas.List.{length-map}
 use Rattle.std.proofs.lemmas.List.Concat.{flat_map-append}
 use Rattle.ns_world.specs.Runs.{Advances, Progress, Runs, Stops, items_of, next_call, progress, start, word_items}
 use Rattle.ns_world.specs.declared.call.Call.{Call}
@@ -11,14 +11,14 @@ use Rattle.ns_world.specs.declared.schedule.Turn.{Turn}
 use Rattle.ns_world.specs.Whole.{Whole, whole_busy}
 use Rattle.ns_world.specs.declared.fault.Fault.{Fault as WorldFault}
 use Rattle.ns_world.specs.declared.fault.Fault.TheVariants as world
-use Rattle.ns_world.proofs.Schedules.{advance_both, stops_both}
-use Rattle.ns_replay.specs.Replaying.{world_for}
+use Rattle.ns_world.proofs.Schedules.{advance_both}
+use Rattle.ns_replay.specs.Replaying.{IsRunFault, world_for}
 use Rattle.ns_replay.specs.Script.{Plan, plan_of}
 use Rattle.ns_replay.specs.declared.condition.ScriptCondition.{ScriptCondition}
 use Rattle.ns_replay.specs.declared.fault.Fault.{Fault}
 use Rattle.ns_replay.specs.declared.fault.Fault.TheVariants.{OutOfMemory, NotJson, BadScript, TooMany, StepLimit, Read, Write}
 use Rattle.ns_replay.specs.declared.script.Script.{Script}
-use Rattle.ns_outcomes.specs.Drawn.{HasBegun, IsDrawingFault, IsDrawn, Lists, Stage, StopsDrawing, drawing_fault, first_standing}
+use Rattle.ns_outcomes.specs.Drawn.{HasBegun, IsDrawingFault, IsDrawn, Lists, Stage, drawing_fault, first_standing, first_standings, generator}
 use Rattle.ns_outcomes.specs.Outcomes.{IsDrawFault, IsSeedRun, outcome_text}
 use Rattle.ns_outcomes.specs.declared.standing.Standing.{Standing}
 use Rattle.ns_outcomes.specs.declared.standing.Standing.TheVariants.{Going, Over}
@@ -33,38 +33,31 @@ begun_own limit script old over lines turns mid q e₁ e₂ e₃ e₄ a = rw (e�
 
 -- a stop in the script's own schedule
 pub own_stops : (limit : ℕ) (script : Script) (old now : Whole ScriptCondition 8) (over : List ℕ) (lines : List Line) (turns : ℕ) (fault : WorldFault) → old ≡ world_for (plan_of script) → over ≡ replicate 64 0 → lines ≡ [] → turns ≡ 0 →
-    Stops (map (λ calls. calls.items) script.threads.items) limit (progress old over lines) turns (items_of script.schedule.items) now fault → IsDrawFault limit (plan_of script) (drawing_fault fault)
-own_stops limit script old now over lines turns world.StepLimit e₁ e₂ e₃ e₄ s =
-    let plan = plan_of script in
-    let own : Stops plan.threads limit (start (world_for plan)) 0 (items_of plan.schedule) now world.StepLimit = rw (e₁, e₂, e₃, e₄) at s in
-    ([], (now, subst (λ (schedule : List Turn). Stops plan.threads limit (start (world_for plan)) 0 (items_of schedule) now world.StepLimit) (sym (append-nil plan.schedule)) own))
+    Stops (map (λ calls. calls.items) script.threads.items) limit (progress old over lines) turns (items_of script.schedule.items) now fault → IsRunFault limit (plan_of script) (drawing_fault fault)
+own_stops limit script old now over lines turns world.StepLimit e₁ e₂ e₃ e₄ s = (now, rw (e₁, e₂, e₃, e₄) at s)
 own_stops limit script old now over lines turns world.OutOfMemory e₁ e₂ e₃ e₄ s = tt
 own_stops limit script old now over lines turns world.NoSuchSeat e₁ e₂ e₃ e₄ s = tt
 own_stops limit script old now over lines turns world.TooManySeats e₁ e₂ e₃ e₄ s = tt
 
--- a stop where turns are drawn
-pub drawing_stops : (lists : Lists) (limit : ℕ) (p : Stage) (before : ℕ) (now : Whole ScriptCondition 8) (fault : WorldFault) → StopsDrawing lists limit p before now fault → IsDrawingFault lists limit p before (drawing_fault fault)
-drawing_stops lists limit p before now world.StepLimit s = (now, s)
-drawing_stops lists limit p before now world.OutOfMemory s = tt
-drawing_stops lists limit p before now world.NoSuchSeat s = tt
-drawing_stops lists limit p before now world.TooManySeats s = tt
+-- so a seed has no run
+pub own_fault : (limit : ℕ) (plan : Plan) (seed : ℕ) (fault : Fault) → IsRunFault limit plan fault → IsDrawFault limit plan seed fault
+own_fault limit plan seed OutOfMemory h = tt
+own_fault limit plan seed StepLimit h = inl h
+own_fault limit plan seed NotJson h = absurd h
+own_fault limit plan seed (BadScript path) h = absurd h
+own_fault limit plan seed (TooMany path) h = absurd h
+own_fault limit plan seed Read h = absurd h
+own_fault limit plan seed Write h = absurd h
 
--- the same behind the script's own schedule
-pub begun_stops : (limit : ℕ) (plan : Plan) (p : Stage) (before : ℕ) (fault : Fault) → HasBegun limit plan p before → IsDrawingFault plan.threads limit p before fault → IsDrawFault limit plan fault
-begun_stops limit plan p before OutOfMemory b h = tt
-begun_stops limit plan p before StepLimit b (now, (words, stops)) = (
-  words,
-  (
-    now,
-    subst (λ items. Stops plan.threads limit (start (world_for plan)) 0 items now world.StepLimit) (sym (flat_map-append word_items plan.schedule words))
-        (stops_both plan.threads limit (start (world_for plan)) p.progress 0 before (items_of plan.schedule) (items_of words) now world.StepLimit b.own stops),
-  ),
-)
-begun_stops limit plan p before NotJson b h = absurd h
-begun_stops limit plan p before (BadScript path) b h = absurd h
-begun_stops limit plan p before (TooMany path) b h = absurd h
-begun_stops limit plan p before Read b h = absurd h
-begun_stops limit plan p before Write b h = absurd h
+-- nor where drawing stops behind it
+pub begun_stops : (limit : ℕ) (plan : Plan) (seed : ℕ) (p : Stage) (before : ℕ) (fault : Fault) → HasBegun limit plan p before → IsDrawingFault plan.threads limit (generator seed) p before fault → IsDrawFault limit plan seed fault
+begun_stops limit plan seed p before OutOfMemory b h = tt
+begun_stops limit plan seed p before StepLimit b h = inr (record { first = p; before = before; begun = b; cut = h })
+begun_stops limit plan seed p before NotJson b h = absurd h
+begun_stops limit plan seed p before (BadScript path) b h = absurd h
+begun_stops limit plan seed p before (TooMany path) b h = absurd h
+begun_stops limit plan seed p before Read b h = absurd h
+begun_stops limit plan seed p before Write b h = absurd h
 
 -- the run of a seed is a run under the script's own words and the drawn ones
 pub drawn_runs : (limit : ℕ) (plan : Plan) (seed : ℕ) (words : List Turn) (q : Stage) (after : ℕ) → IsDrawn limit plan seed words q after → Runs plan.threads (plan.schedule ++ words) limit (world_for plan) q.progress.world q.progress.lines
@@ -91,14 +84,20 @@ pub one_standing : (lists : Lists) (p : Progress ScriptCondition 8) (thread : �
 one_standing lists p thread before after standing had is more =
     more ∙ (λ i. had i ++ is i ∷ []) ∙ sym (map-range_with_len_more (first_standing lists p) 0 thread thread (omega arith))
 
+-- as many standings as threads
+pub standings_many : (lists : Lists) (p : Progress ScriptCondition 8) (standings : List Standing) → standings ≡ first_standings lists p → length standings ≡ length lists
+standings_many lists p standings is =
+    let same = ap (λ (s : List Standing). length s) is in
+    let mapped = length-map (range_with_len 0 (length lists)) (first_standing lists p) in
+    same ∙ mapped ∙ length-range_with_len 0 (length lists)
+
 -- ---- the outcome
 
 -- the run of a seed, by what was drawn and its text
 pub seed_run : (limit : ℕ) (script : Script) (seed : ℕ) (words : List Turn) (q : Stage) (after : ℕ) (now : Whole ScriptCondition 8) (lines : List Line) (text : List ℕ) (n : ℕ) → IsDrawn limit (plan_of script) seed words q after →
-    now ≡ q.progress.world → lines ≡ q.progress.lines → n ≡ length script.threads.items → text ≡ outcome_text n now lines → IsSeedRun limit (plan_of script) seed words text
+    now ≡ q.progress.world → lines ≡ q.progress.lines → n ≡ length script.threads.items → text ≡ outcome_text n now lines → IsSeedRun limit (plan_of script) seed words text after
 seed_run limit script seed words q after now lines text n drawn e₁ e₂ count is = record {
   end = q;
-  after = after;
   drawn = drawn;
   runs = drawn_runs limit (plan_of script) seed words q after drawn;
   is = is ∙ (λ i. outcome_text (threads_long script n count i) (e₁ i) (e₂ i));

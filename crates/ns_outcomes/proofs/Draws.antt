@@ -1,18 +1,18 @@
 -- Turns that were drawn are turns of a run, and follow the words that spell them.
-use Rattle.std.proofs.Common.{◌≡◌, ℕ, ◌+◌, ◌≤◌, true, false, List, [], ◌∷◌, ◌++◌, Some, length-append, map, refl, sym, ap, ◌∙◌, subst, arith, eq-eqb}
+use Rattle.std.proofs.Common.{◌≡◌, ℕ, ◌+◌, ◌≤◌, true, false, cond, eqb, List, [], ◌∷◌, ◌++◌, length, Some, None, length-append, map, refl, sym, ap, ◌∙◌, subst, arith, eq-eqb}
 use Rattle.std.proofs.lemmas.List.{map-append}
 use Rattle.std.proofs.lemmas.List.Concat.{flat_map-append}
 use Rattle.rand_pcg.specs.Lcg.{Lcg}
 use Rattle.rand_pcg.specs.Pcg.{pcg32}
-use Rattle.ns_world.specs.Runs.{Advances, Stops, Turned, TurnsOf, items_of, is_end, rest_of, word_items}
+use Rattle.ns_world.specs.Runs.{Advances, Item, Stops, StopsFor, Turned, TurnsOf, items_of, is_end, rest_of, word_items}
 use Rattle.ns_world.specs.declared.schedule.Turn.{Turn}
 use Rattle.ns_world.specs.declared.step.Step.{Step}
 use Rattle.ns_world.specs.declared.step.Step.TheVariants.{Finished, Idle, Nothing, Went}
 use Rattle.ns_world.specs.Whole.{Whole}
 use Rattle.ns_world.specs.declared.fault.Fault.{Fault as WorldFault}
-use Rattle.ns_world.proofs.Schedules.{stops_both}
+use Rattle.ns_world.specs.declared.fault.Fault.TheVariants as world
 use Rattle.ns_replay.specs.declared.condition.ScriptCondition.{ScriptCondition}
-use Rattle.ns_outcomes.specs.Drawn.{Draws, Drew, Lists, Stage, StopsDrawing, TurnStands, turn_item}
+use Rattle.ns_outcomes.specs.Drawn.{Draws, Drew, IsCutShort, IsDrawingFault, Lists, Stage, TurnStands, drawing_fault, turn_item}
 use Rattle.ns_outcomes.specs.Standings.{IsPick}
 
 -- ---- words
@@ -33,6 +33,33 @@ ends_at_once (Finished reply) = refl
 pub follow_items : (turns : List Turned) → rest_of (map turn_item turns) turns ≡ Some []
 follow_items [] = refl
 follow_items (turned ∷ turns) = rw (eq-eqb turned.seat turned.seat refl, ends_at_once turned.step) (follow_items turns)
+
+-- ---- one turn that isn't made
+
+none_left : (turns : List Turned) (item : Item) (left : List Item) → rest_of [] turns ≡ Some (item ∷ left) → ⊥
+none_left [] item left e = absurd cc
+none_left (turned ∷ turns) item left e = absurd cc
+
+-- of one item something is left only before its turn
+none_yet : (seat : ℕ) (turns : List Turned) (item : Item) (left : List Item) → rest_of (record { seat = seat; whole = false } ∷ []) turns ≡ Some (item ∷ left) → length turns ≡ 0
+none_yet seat [] item left e = refl
+none_yet seat (turned ∷ turns) item left e =
+    let ended : cond (eqb turned.seat seat) (rest_of [] turns) None ≡ Some (item ∷ left) = rw (ends_at_once turned.step) at e in
+    absurd (elim (eqb turned.seat seat) as (λ b. cond b (rest_of [] turns) None ≡ Some (item ∷ left) → ⊥) [
+      | true ↦ none_left turns item left
+      | false ↦ λ h. absurd cc
+    ] ended)
+
+-- one that the limit refuses comes after as many turns as the limit
+at_limit : (limit : ℕ) (now : Whole ScriptCondition 8) (seat mid after : ℕ) (turns : List Turned) (left : List Item) → rest_of (record { seat = seat; whole = false } ∷ []) turns ≡ Some left → after ≡ mid + length turns →
+    StopsFor limit now after turns left world.StepLimit → mid ≡ limit
+at_limit limit now seat mid after turns [] rest count why = absurd why
+at_limit limit now seat mid after turns (item ∷ left) rest count why =
+    let none = none_yet seat turns item left rest in
+    let full = why.0 in
+    omega (arith, count, none, full)
+
+-- ---- drawn turns
 
 module _ (lists : Lists) where
   -- drawn turns are turns
@@ -75,11 +102,17 @@ module _ (lists : Lists) where
       within = d.within;
     }
 
-    -- where the next turn isn't made, nor is the run of one word more
-    pub draw_stops : (g h : Lcg) (p q : Stage) (before mid seat : ℕ) (words : List Turn) (world : Whole ScriptCondition 8) (fault : WorldFault) → Drew lists limit g p before words h q mid →
-        Stops lists limit q.progress mid (record { seat = seat; whole = false } ∷ []) world fault → StopsDrawing lists limit p before world fault
-    draw_stops g h p q before mid seat words world fault d stops = (
-      words ++ record { thread = seat; whole = false; times = 1 } ∷ [],
-      subst (λ items. Stops lists limit p.progress before items world fault) (sym (word_more words seat))
-          (stops_both lists limit p.progress q.progress before mid (items_of words) (record { seat = seat; whole = false } ∷ []) world fault (drew_advances g h p q before mid words d) stops),
-    )
+    -- where the next turn would be one more than the limit, drawing is cut short
+    pub cut_short : (g h : Lcg) (number : ℕ) (p q : Stage) (before mid seat : ℕ) (words : List Turn) (now : Whole ScriptCondition 8) → Drew lists limit g p before words h q mid → IsPick q.standings number (Some seat) →
+        Stops lists limit q.progress mid (record { seat = seat; whole = false } ∷ []) now world.StepLimit → IsCutShort lists limit g p before
+    cut_short g h number p q before mid seat words now d pick stops =
+        let full = at_limit limit now seat mid stops.after stops.advances.turns stops.left stops.advances.rest stops.advances.count stops.why in
+        record { words = words; ends = h; end = q; drew = subst (λ (n : ℕ). Drew lists limit g p before words h q n) full d; left = pick.0 }
+
+    -- why drawing stops, by why the next turn isn't made
+    pub drawing_stops : (g h : Lcg) (number : ℕ) (p q : Stage) (before mid seat : ℕ) (words : List Turn) (now : Whole ScriptCondition 8) (fault : WorldFault) → Drew lists limit g p before words h q mid → IsPick q.standings number (Some seat) →
+        Stops lists limit q.progress mid (record { seat = seat; whole = false } ∷ []) now fault → IsDrawingFault lists limit g p before (drawing_fault fault)
+    drawing_stops g h number p q before mid seat words now world.StepLimit d pick stops = cut_short g h number p q before mid seat words now d pick stops
+    drawing_stops g h number p q before mid seat words now world.OutOfMemory d pick stops = tt
+    drawing_stops g h number p q before mid seat words now world.NoSuchSeat d pick stops = tt
+    drawing_stops g h number p q before mid seat words now world.TooManySeats d pick stops = tt

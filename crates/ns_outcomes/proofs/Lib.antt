@@ -2,5 +2,6 @@ pub mod Begun
 pub mod Draws
 pub mod Runs
 pub mod Tallies
+pub mod Texts
 pub mod Words
 pub mod Written

@@ -13,7 +13,7 @@ use Rattle.ns_replay.specs.Script.{Plan, plan_of}
 use Rattle.ns_replay.specs.declared.condition.ScriptCondition.{ScriptCondition}
 use Rattle.ns_replay.specs.declared.script.Script.{Script}
 use Rattle.ns_outcomes.specs.Outcomes.{outcome_text, thread_text}
-use Rattle.ns_outcomes.specs.Answers.{ComesTo, IsLike}
+use Rattle.ns_outcomes.specs.Answers.{ComesTo, EndsOtherwise, IsLike}
 use Rattle.ns_replay.specs.Replaying.{HasRun}
 use Rattle.ns_world.specs.declared.call.Call.{Call}
 
@@ -43,6 +43,17 @@ comes limit bytes read script now lines plan made wanted n same has_run like cou
   is = sym wants ∙ is ∙ ap (λ (m : ℕ). outcome_text m now lines) (threads_long script n count);
 }
 
+-- a text that was read back otherwise
+pub ends_otherwise : (limit : ℕ) (bytes read : List ℕ) (script : Script) (now : Whole ScriptCondition 8) (lines : List Line) (plan : Plan) (made wanted : List ℕ) (n : ℕ) → read ≡ bytes →
+    HasRun limit read (plan_of script) now lines → n ≡ length script.threads.items → made ≡ outcome_text n now lines → (IsLike (plan_of script) plan → made ≡ wanted → ⊥) → EndsOtherwise limit bytes plan wanted
+ends_otherwise limit bytes read script now lines plan made wanted n same has_run count is apart = record {
+  read = plan_of script;
+  world = now;
+  lines = lines;
+  has_run = subst (λ (b : List ℕ). HasRun limit b (plan_of script) now lines) same has_run;
+  other = λ like e. apart like (is ∙ ap (λ (m : ℕ). outcome_text m now lines) (threads_long script n count) ∙ sym e);
+}
+
 -- ---- lists with equal elements
 
 and_parts : (a b : Bool) → (a && b) ≡ true → (a ≡ true) × (b ≡ true)
@@ -59,6 +70,17 @@ pointwise_same E h (x ∷ xs) (y ∷ ys) e =
     let first = h x y parts.0 in
     let more = pointwise_same E h xs ys parts.1 in
     rw (first, more) refl
+
+pub pointwise_self : {X : Type 0} (E : X → X → Bool) → ((a : X) → E a a ≡ true) → (xs : List X) → pointwise E xs xs ≡ true
+pointwise_self E h [] = refl
+pointwise_self E h (x ∷ xs) = rw (h x, pointwise_self E h xs) refl
+
+-- lists that are found to differ aren't equal
+pub pointwise_other : {X : Type 0} (E : X → X → Bool) → ((a : X) → E a a ≡ true) → (xs ys : List X) → true ≡ not (pointwise E xs ys) → xs ≡ ys → ⊥
+pointwise_other E h xs ys e same =
+    let all : pointwise E xs ys ≡ true = subst (λ zs. pointwise E xs zs ≡ true) same (pointwise_self E h xs) in
+    let never : true ≡ false = rw all at e in
+    absurd cc
 
 pub not_false : (b : Bool) → false ≡ not b → b ≡ true
 not_false true e = refl

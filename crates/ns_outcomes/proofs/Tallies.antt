@@ -1,6 +1,6 @@
 -- What is counted after one run more, what the counts give as a list, and the blocks of one outcome more.
-use Rattle.std.proofs.Common.{◌≡◌, ℕ, suc, ◌+◌, ◌^◌, ◌<◌, ◌≤◌, ◌⊎◌, inl, inr, Bool, true, false, cond, add-one, add-zero, zero-add, take, List, [], ◌∷◌, ◌++◌, length, get_or, map, Option, Some, None, String, string_bytes, refl, sym, ap, ◌∙◌, subst, append_assoc, arith, below_more}
-use Rattle.std.specs.Prelude.{All, AllPairs, Contains, IsPermutation, IsSortedBy, IfSome, bytes_eq, count_by, option_map, position, slice_get, string_cmp}
+use Rattle.std.proofs.Common.{◌≡◌, ℕ, suc, ◌+◌, ◌*◌, ◌^◌, ◌<◌, ◌≤◌, ◌⊎◌, inl, inr, Bool, true, false, cond, add-one, add-zero, zero-add, take, List, [], ◌∷◌, ◌++◌, length, get_or, map, Option, Some, None, String, string_bytes, refl, sym, ap, ◌∙◌, subst, append_assoc, arith, below_more}
+use Rattle.std.specs.Prelude.{All, AllPairs, Contains, IsPermutation, IsSortedBy, IfSome, bytes_eq, count_by, option_map, position, slice_get, string_cmp, sum}
 use Rattle.std.specs.BTreeMap.{IsOrdered, get_by_text, is_at}
 use Rattle.std.specs.Cmp.{back_total, nat_cmp_total, on_total, then_total}
 use Rattle.std.specs.Cmp.Lexicographic.{bytes_decides, nat_list_eq_equiv, slice_cmp}
@@ -24,11 +24,14 @@ use Rattle.std.proofs.lemmas.Map.Text.{is_eq-slice_cmp}
 use Rattle.std.proofs.lemmas.Map.Views.{All-found}
 use Rattle.std.proofs.lemmas.Option.{get_or_from_slice_get, same_Some, slice_get-map, slice_get_within}
 use Rattle.ns_replay.specs.Script.{Plan}
-use Rattle.ns_outcomes.specs.Outcomes.{IsOutcomeOf}
-use Rattle.ns_outcomes.specs.Tallies.{AreRuns, CountsOnceMore, HasCounted, IsBefore, IsFound, IsTally, block_text, blocks_text, counted, counted_at, found_of, once_more, seed_at, texts_of, times}
+use Rattle.ns_replay.specs.declared.fault.Fault.{Fault}
+use Rattle.ns_replay.specs.declared.fault.Fault.TheVariants.{OutOfMemory, NotJson, BadScript, TooMany, StepLimit, Read, Write}
+use Rattle.ns_outcomes.specs.Outcomes.{IsDrawFault, IsOutcomeOf}
+use Rattle.ns_outcomes.specs.Tallies.{AreRuns, CountsOnceMore, HasCounted, IsBefore, IsCountFault, IsFound, IsTally, block_text, blocks_text, counted, counted_at, found_of, once_more, seed_at, texts_of, times}
+use Rattle.ns_outcomes.specs.declared.seeds.Seeds.{Seeds}
 use Rattle.ns_outcomes.specs.declared.tallying.Count.{Count}
 use Rattle.ns_outcomes.specs.declared.tallying.Found.{Found}
-use Rattle.ns_outcomes.specs.declared.tallying.Tally.{Tally}
+use Rattle.ns_outcomes.specs.declared.tallying.Counts.{Counts}
 
 -- ---- the first place that passes, and how many pass
 
@@ -105,39 +108,82 @@ counted_more from runs run text true same = rw (← ((bytes_decides run text).0 
 counted_more from runs run text false apart = more_other from runs run text apart
 
 -- a tally that counts one run more has counted it
-has_counted_more : (from : ℕ) (runs : List (List ℕ)) (run : List ℕ) (old new : Tally) → HasCounted from runs old → CountsOnceMore old run (seed_at from (length runs)) new → HasCounted from (runs ++ run ∷ []) new
+has_counted_more : (from : ℕ) (runs : List (List ℕ)) (run : List ℕ) (old new : Counts) → HasCounted from runs old → CountsOnceMore old run (seed_at from (length runs)) new → HasCounted from (runs ++ run ∷ []) new
 has_counted_more from runs run old new has more = λ text. more text ∙ rw (has run, has text) (sym (counted_more from runs run text (bytes_eq run text) refl))
 
 room_at : (from n : ℕ) (o : Option ℕ) → n + 1 < 2 ^ 32 → IfSome (option_map (counted_at from n) o) (λ before. before.count + 1 < 2 ^ 32)
 room_at from n None few = tt
 room_at from n (Some place) few = few
 
+sum_push : (ns : List ℕ) (n : ℕ) → sum (ns ++ n ∷ []) ≡ sum ns + n
+sum_push ns n = sum_by_push (λ m. m) ns n
+
 -- there is room for a run more, where there are few enough
-pub has_room : (from : ℕ) (runs : List (List ℕ)) (tally : Tally) (text : List ℕ) → HasCounted from runs tally → length runs + 1 < 2 ^ 32 → IfSome (get_by_text tally.counts text) (λ before. before.count + 1 < 2 ^ 32)
+pub has_room : (from : ℕ) (runs : List (List ℕ)) (tally : Counts) (text : List ℕ) → HasCounted from runs tally → length runs + 1 < 2 ^ 32 → IfSome (get_by_text tally.by_text text) (λ before. before.count + 1 < 2 ^ 32)
 has_room from runs tally text has few =
     let most : times runs text ≤ length runs = count_by-le-length (bytes_eq text) runs in
     rw (has text) (room_at from (times runs text) (position (bytes_eq text) runs) (omega (arith, most)))
 
--- the outcomes of one run more
-runs_more : (limit from count : ℕ) (plan : Plan) (runs : List (List ℕ)) (text : List ℕ) → AreRuns limit from count plan runs → IsOutcomeOf limit plan (seed_at from count) text → AreRuns limit from (count + 1) plan (runs ++ text ∷ [])
-runs_more limit from count plan runs text made comes =
+-- the outcomes and turns of one run more
+runs_more : (limit from count : ℕ) (plan : Plan) (runs : List (List ℕ)) (turns : List ℕ) (text : List ℕ) (n : ℕ) → AreRuns limit from count plan runs turns → IsOutcomeOf limit plan (seed_at from count) text n →
+    AreRuns limit from (count + 1) plan (runs ++ text ∷ []) (turns ++ n ∷ [])
+runs_more limit from count plan runs turns text n made comes =
     let many = made.many in
+    let counted = made.counted in
+    let outcome = λ (k : ℕ) (t : List ℕ) (m : ℕ). IsOutcomeOf limit plan (seed_at from k) t m in
     record {
-      many = length_push runs text ∙ ap (λ (n : ℕ). n + 1) many;
+      many = length_push runs text ∙ ap (λ (m : ℕ). m + 1) many;
+      counted = length_push turns n ∙ ap (λ (m : ℕ). m + 1) counted;
       each = below_more _ _
-          (λ k lt. let within : k < length runs = omega arith in subst (IsOutcomeOf limit plan (seed_at from k)) (sym (get_or_append_left runs (text ∷ []) [] k within)) (made.each k lt))
-          (subst (IsOutcomeOf limit plan (seed_at from count)) (sym (get_or_push runs text [] count many)) comes);
+          (λ k lt.
+          let first : k < length runs = omega arith in
+          let second : k < length turns = omega arith in
+          subst (λ (m : ℕ). outcome k (get_or (runs ++ text ∷ []) k []) m) (sym (get_or_append_left turns (n ∷ []) 0 k second))
+          (subst (λ (t : List ℕ). outcome k t (get_or turns k 0)) (sym (get_or_append_left runs (text ∷ []) [] k first)) (made.each k lt)))
+          (subst (λ (m : ℕ). outcome count (get_or (runs ++ text ∷ []) count []) m) (sym (get_or_push turns n 0 count counted))
+          (subst (λ (t : List ℕ). outcome count t n) (sym (get_or_push runs text [] count many)) comes));
     }
 
+-- the outcomes and turns of so many runs, their counts, and the sum of the turns, for which 64 bits have room
+pub record HaveRun (limit from number : ℕ) (plan : Plan) (counts : Counts) (all : ℕ) : Type 0 where
+  pub runs : List (List ℕ)
+  pub turns : List ℕ
+  pub made : AreRuns limit from number plan runs turns
+  pub has : HasCounted from runs counts
+  pub total : all ≡ sum turns
+  pub room : all ≤ number * 4294967295
+
+-- none is made
+pub no_runs : (limit from : ℕ) (plan : Plan) (counts : Counts) → HasCounted from [] counts → HaveRun limit from 0 plan counts 0
+no_runs limit from plan counts has = record { runs = []; turns = []; made = record { many = refl; counted = refl; each = λ k lt. absurd (omega arith) }; has = has; total = refl; room = omega arith }
+
 -- a run more, and its count
-pub one_more : (limit from number seed : ℕ) (plan : Plan) (runs : List (List ℕ)) (run : List ℕ) (old new : Tally) → seed ≡ seed_at from number → AreRuns limit from number plan runs → HasCounted from runs old → IsOutcomeOf limit plan seed run → CountsOnceMore old run seed new →
-    (all : List (List ℕ)) × AreRuns limit from (number + 1) plan all × HasCounted from all new
-one_more limit from number seed plan runs run old new is made has comes more =
-    let by : seed ≡ seed_at from (length runs) = is ∙ ap (seed_at from) (sym made.many) in (
-      runs ++ run ∷ [],
-      runs_more limit from number plan runs run made (subst (λ (s : ℕ). IsOutcomeOf limit plan s run) is comes),
-      has_counted_more from runs run old new has (subst (λ (s : ℕ). CountsOnceMore old run s new) by more),
-    )
+pub one_more : (limit from number seed : ℕ) (plan : Plan) (run : List ℕ) (n : ℕ) (old new : Counts) (all more : ℕ) → seed ≡ seed_at from number → HaveRun limit from number plan old all → IsOutcomeOf limit plan seed run n → CountsOnceMore old run seed new →
+    more ≡ all + n → n ≤ 4294967295 → HaveRun limit from (number + 1) plan new more
+one_more limit from number seed plan run n old new all more is have comes counts sums few =
+    let by : seed ≡ seed_at from (length have.runs) = is ∙ ap (seed_at from) (sym have.made.many) in
+    let total : sum (have.turns ++ n ∷ []) ≡ sum have.turns + n = sum_push have.turns n in
+    let before = have.total in
+    let room = have.room in
+    record {
+      runs = have.runs ++ run ∷ [];
+      turns = have.turns ++ n ∷ [];
+      made = runs_more limit from number plan have.runs have.turns run n have.made (subst (λ (s : ℕ). IsOutcomeOf limit plan s run n) is comes);
+      has = has_counted_more from have.runs run old new have.has (subst (λ (s : ℕ). CountsOnceMore old run s new) by counts);
+      total = omega (arith, sums, total, before);
+      room = omega (arith, sums, few, room);
+    }
+
+-- why a seed has no run, behind the runs of those before it
+pub long_run : (seeds : Seeds) (plan : Plan) (counts : Counts) (all number : ℕ) (told : Option ℕ) (fault : Fault) → number < seeds.count → HaveRun seeds.limit seeds.from number plan counts all → IsDrawFault seeds.limit plan (seed_at seeds.from number) fault →
+    told ≡ Some (seed_at seeds.from number) → IsCountFault seeds plan told fault
+long_run seeds plan counts all number told OutOfMemory lt have h named = tt
+long_run seeds plan counts all number told StepLimit lt have h named = record { earlier = number; few = lt; runs = have.runs; turns = have.turns; made = have.made; long = h; named = named }
+long_run seeds plan counts all number told NotJson lt have h named = absurd h
+long_run seeds plan counts all number told (BadScript path) lt have h named = absurd h
+long_run seeds plan counts all number told (TooMany path) lt have h named = absurd h
+long_run seeds plan counts all number told Read lt have h named = absurd h
+long_run seeds plan counts all number told Write lt have h named = absurd h
 
 -- ---- the list of what was counted
 
@@ -147,14 +193,14 @@ parts from n (Some place) here is =
     let same = same_Some _ _ is in
     (ap (λ (c : Count). c.count) (sym same), ap (λ (c : Count). Some c.first) same)
 
-each_found : (from : ℕ) (runs : List (List ℕ)) (tally : Tally) → IsOrdered string_cmp tally.counts → HasCounted from runs tally → All (IsFound from runs) (map found_of tally.counts.entries)
+each_found : (from : ℕ) (runs : List (List ℕ)) (tally : Counts) → IsOrdered string_cmp tally.by_text → HasCounted from runs tally → All (IsFound from runs) (map found_of tally.by_text.entries)
 each_found from runs tally ordered has =
-    All-map (IsFound from runs) found_of tally.counts.entries
+    All-map (IsFound from runs) found_of tally.by_text.entries
     (All-weaker _ (λ e. IsFound from runs (found_of e))
     (λ e here.
     let p = parts from (times runs (string_bytes e.0)) (position (bytes_eq (string_bytes e.0)) runs) e.1 (sym (has (string_bytes e.0)) ∙ here) in
     record { count = p.0; first = p.1 })
-    tally.counts.entries (All-found string_cmp_total tally.counts ordered))
+    tally.by_text.entries (All-found string_cmp_total tally.by_text ordered))
 
 -- a text of which something is counted is in the list
 text_listed : (es : List (String Global × Count)) (text : List ℕ) (here : Count) → lookup (is_at (λ k. slice_cmp nat_cmp text (string_bytes k))) es ≡ Some here → Contains (texts_of (map found_of es)) text
@@ -165,11 +211,11 @@ text_listed es text here is =
     let same : text ≡ string_bytes at.1 = (bytes_decides text (string_bytes at.1)).0 (sym (is_eq-slice_cmp text (string_bytes at.1)) ∙ at.3) in
     (at.0, slice_get_within _ at.0 _ got, get_or_from_slice_get _ at.0 _ text got ∙ sym same)
 
-all_listed : (from : ℕ) (runs : List (List ℕ)) (tally : Tally) → HasCounted from runs tally → All (Contains (texts_of (map found_of tally.counts.entries))) runs
+all_listed : (from : ℕ) (runs : List (List ℕ)) (tally : Counts) → HasCounted from runs tally → All (Contains (texts_of (map found_of tally.by_text.entries))) runs
 all_listed from runs tally has k d lt =
     let run = get_or runs k d in
     let there = is_there (bytes_eq run) runs k d lt (own_text run) (position (bytes_eq run) runs) refl in
-    text_listed tally.counts.entries run (counted_at from (times runs run) there.0) (has run ∙ ap (option_map (counted_at from (times runs run))) there.1)
+    text_listed tally.by_text.entries run (counted_at from (times runs run) there.0) (has run ∙ ap (option_map (counted_at from (times runs run))) there.1)
 
 apart_texts : (key : String Global) (es : List (String Global × Count)) → AllByRecursion (λ y. eq_by_cmp string_cmp key y ≡ false) (keys_of es) → AllByRecursion (λ y. bytes_eq (string_bytes key) y ≡ false) (texts_of (map found_of es))
 apart_texts key [] h = tt
@@ -205,15 +251,15 @@ in_order found sorted i j d lt within =
     before_from (get_or found i d).count (get_or found j d).count (get_or found i d).first (get_or found j d).first (sorted_far _ (ranks_by total (λ (f : Found). f)) found sorted i j d (omega arith) within)
 
 -- a list of what was counted, in this order, is the tally of the runs
-pub tallied : (tally : Tally) (found : List Found) → IsOrdered string_cmp tally.counts → IsPermutation (map found_of tally.counts.entries) found → AllPairs IsBefore found → (from : ℕ) (runs : List (List ℕ)) → HasCounted from runs tally → IsTally from runs found
+pub tallied : (tally : Counts) (found : List Found) → IsOrdered string_cmp tally.by_text → IsPermutation (map found_of tally.by_text.entries) found → AllPairs IsBefore found → (from : ℕ) (runs : List (List ℕ)) → HasCounted from runs tally → IsTally from runs found
 tallied tally found ordered moved order from runs has =
-    let listed = map found_of tally.counts.entries in
+    let listed = map found_of tally.by_text.entries in
     let texts : IsPermutation (texts_of listed) (texts_of found) = IsPermutation-map (λ (f : Found). string_bytes f.text) listed found moved in
     record {
       each = All-permutation (IsFound from runs) listed found moved (each_found from runs tally ordered has);
       complete = λ k d lt. Contains-permutation (texts_of listed) (texts_of found) _ texts (all_listed from runs tally has k d lt);
       distinct = AllPairs-from_IsDistinct bytes_decides (texts_of found)
-          (IsDistinct-IsPermutation bytes_eq nat_list_eq_equiv.symm (texts_of listed) (texts_of found) texts (distinct_texts tally.counts.entries (IsDistinct-from_sorted string_cmp (keys_of tally.counts.entries) ordered)));
+          (IsDistinct-IsPermutation bytes_eq nat_list_eq_equiv.symm (texts_of listed) (texts_of found) texts (distinct_texts tally.by_text.entries (IsDistinct-from_sorted string_cmp (keys_of tally.by_text.entries) ordered)));
       order = order;
     }
 

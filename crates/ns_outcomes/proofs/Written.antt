@@ -1,44 +1,54 @@
 -- What a fault leaves, and what a write of a whole text answers.
-use Rattle.std.proofs.Common.{◌≡◌, ℕ, List, [], Option, Result, Ok, Err, sym, subst, inl}
+use Rattle.std.proofs.Common.{◌≡◌, ℕ, List, Option, Result, Ok, Err, refl, subst, inl, inr}
 use Rattle.std.specs.Prelude.{⊤, IfErr, OnErr, OnOk}
 use Rattle.std.specs.Io.KnownBytes.{Appends, IsAtEnd}
-use Rattle.std.proofs.lemmas.List.{append-nil}
-use Rattle.ns_world.specs.declared.schedule.Turn.{Turn}
 use Rattle.ns_replay.specs.declared.fault.Fault.{Fault}
 use Rattle.ns_replay.specs.declared.fault.Fault.TheVariants.{OutOfMemory, NotJson, BadScript, TooMany, StepLimit, Read, Write}
 use Rattle.ns_replay.specs.declared.path.ScriptPath.TheVariants as at
-use Rattle.ns_replay.specs.Replaying.{Answers as ReplayAnswers, IsRefused, NeedsMore, WasRead, plan_from}
+use Rattle.ns_replay.specs.Replaying.{Answers as ReplayAnswers, IsRefused, WasRead, plan_from}
 use Rattle.ns_replay.specs.Script.{Plan}
 use Rattle.ns_replay.specs.Transfer.{Gave, IsEnough, WritesFront}
 use Rattle.ns_outcomes.specs.Answers.{Answers, IsUndrawn, IsUnscheduled}
 use Rattle.ns_outcomes.specs.Outcomes.{IsDrawFault}
+use Rattle.ns_outcomes.specs.Tallies.{IsCountFault}
+use Rattle.ns_outcomes.specs.declared.seeds.Seeds.{Seeds}
 
 -- ---- refusals
 
--- what a replay refuses gives no outcomes either
-pub refused : (limit : ℕ) (bytes : List ℕ) (fault : Fault) → IsRefused limit bytes fault → IsUndrawn limit bytes fault
-refused limit bytes OutOfMemory h = tt
-refused limit bytes StepLimit h = record { plan = h.plan; read = h.read; words = []; needs = subst (λ (s : List Turn). NeedsMore limit (record h.plan { schedule = s })) (sym (append-nil h.plan.schedule)) h.needs }
-refused limit bytes NotJson h = h
-refused limit bytes (BadScript path) h = h
-refused limit bytes (TooMany path) h = h
-refused limit bytes Read h = h
-refused limit bytes Write h = h
+-- what a replay refuses gives no outcomes either, and no seed is told
+pub refused : (seeds : Seeds) (told : Option ℕ) (bytes : List ℕ) (fault : Fault) → IsRefused seeds.limit bytes fault → IsUndrawn seeds told told bytes fault
+refused seeds told bytes OutOfMemory h = h
+refused seeds told bytes StepLimit h = inl (h, refl)
+refused seeds told bytes NotJson h = h
+refused seeds told bytes (BadScript path) h = h
+refused seeds told bytes (TooMany path) h = h
+refused seeds told bytes Read h = h
+refused seeds told bytes Write h = h
 
--- nor does a script with no run
-pub no_run : (limit : ℕ) (bytes : List ℕ) (plan : Plan) (fault : Fault) → plan_from bytes ≡ Ok plan → IsDrawFault limit plan fault → IsUndrawn limit bytes fault
-no_run limit bytes plan OutOfMemory read h = tt
-no_run limit bytes plan StepLimit read (words, needs) = record { plan = plan; read = read; words = words; needs = needs }
-no_run limit bytes plan NotJson read h = absurd h
-no_run limit bytes plan (BadScript path) read h = absurd h
-no_run limit bytes plan (TooMany path) read h = absurd h
-no_run limit bytes plan Read read h = absurd h
-no_run limit bytes plan Write read h = absurd h
+-- nor does a script whose outcomes aren't counted
+pub uncounted : (seeds : Seeds) (before told : Option ℕ) (bytes : List ℕ) (plan : Plan) (fault : Fault) → plan_from bytes ≡ Ok plan → IsCountFault seeds plan told fault → IsUndrawn seeds before told bytes fault
+uncounted seeds before told bytes plan OutOfMemory read h = tt
+uncounted seeds before told bytes plan StepLimit read h = inr (record { plan = plan; read = read; is = h })
+uncounted seeds before told bytes plan NotJson read h = absurd h
+uncounted seeds before told bytes plan (BadScript path) read h = absurd h
+uncounted seeds before told bytes plan (TooMany path) read h = absurd h
+uncounted seeds before told bytes plan Read read h = absurd h
+uncounted seeds before told bytes plan Write read h = absurd h
 
--- what gives no outcomes gives no schedule
-pub unscheduled : (limit seed : ℕ) (bytes : List ℕ) (fault : Fault) → IsUndrawn limit bytes fault → IsUnscheduled limit seed bytes fault
+-- a script in which the seed has no run gives no schedule
+pub no_run : (limit seed : ℕ) (bytes : List ℕ) (plan : Plan) (fault : Fault) → plan_from bytes ≡ Ok plan → IsDrawFault limit plan seed fault → IsUnscheduled limit seed bytes fault
+no_run limit seed bytes plan OutOfMemory read h = tt
+no_run limit seed bytes plan StepLimit read h = record { plan = plan; read = read; is = h }
+no_run limit seed bytes plan NotJson read h = absurd h
+no_run limit seed bytes plan (BadScript path) read h = absurd h
+no_run limit seed bytes plan (TooMany path) read h = absurd h
+no_run limit seed bytes plan Read read h = absurd h
+no_run limit seed bytes plan Write read h = absurd h
+
+-- nor does what a replay refuses
+pub unscheduled : (limit seed : ℕ) (bytes : List ℕ) (fault : Fault) → IsRefused limit bytes fault → IsUnscheduled limit seed bytes fault
 unscheduled limit seed bytes OutOfMemory h = h
-unscheduled limit seed bytes StepLimit h = h
+unscheduled limit seed bytes StepLimit h = record { plan = h.plan; read = h.read; is = inl h.needs }
 unscheduled limit seed bytes NotJson h = h
 unscheduled limit seed bytes Read h = h
 unscheduled limit seed bytes Write h = h

@@ -1,11 +1,11 @@
 -- Runs whose turns a generator draws.
-use Rattle.std.specs.Prelude.{◌≡◌, ◌≢◌, ℕ, ◌+◌, ◌≤◌, ◌||◌, true, false, if◌then◌else◌, List, [], ◌∷◌, length, map, Some, is_some}
+use Rattle.std.specs.Prelude.{◌≡◌, ◌≢◌, ℕ, ◌+◌, ◌<◌, ◌≤◌, ◌||◌, true, false, if◌then◌else◌, List, [], ◌∷◌, length, map, Some, is_some}
 use Rattle.std.specs.List.{range_with_len}
 use Rattle.rand_core.specs.Pcg32Seed.{pcg32_seed}
 use Rattle.rand_pcg.specs.Lcg.{Lcg}
 use Rattle.rand_pcg.specs.Pcg.{pcg32, pcg32_of_seed}
-use Rattle.ns_world.specs.Runs.{Advances, Item, Progress, Stops, TurnOf, Turned, items_of, next_call, progress, start}
-use Rattle.ns_world.specs.Whole.{Whole, whole_busy, whole_of}
+use Rattle.ns_world.specs.Runs.{Advances, Item, Progress, TurnOf, Turned, items_of, next_call, progress, start}
+use Rattle.ns_world.specs.Whole.{whole_busy, whole_of}
 use Rattle.ns_world.specs.declared.call.Call.{Call}
 use Rattle.ns_world.specs.declared.fault.Fault.{Fault as WorldFault}
 use Rattle.ns_world.specs.declared.fault.Fault.TheVariants as world
@@ -86,15 +86,19 @@ pub record HasDrawn (lists : Lists) (limit : ℕ) (g : Lcg) (p : Stage) (before 
   pub drew : Drew lists limit g p before words ends q after
   pub over : going q.standings ≡ 0
 
--- A run stops in this world: of a schedule of some words more.
-abbrev pub StopsDrawing : Lists → ℕ → Stage → ℕ → Whole ScriptCondition 8 → WorldFault → Type 0
-StopsDrawing lists limit p before world fault = (words : List Turn) × Stops lists limit p.progress before (items_of words) world fault
+-- As many turns were drawn as the limit allows, and then somebody could still go on.
+pub record IsCutShort (lists : Lists) (limit : ℕ) (g : Lcg) (p : Stage) (before : ℕ) : Type 0 where
+  pub words : List Turn
+  pub ends : Lcg
+  pub end : Stage
+  pub drew : Drew lists limit g p before words ends end limit
+  pub left : 0 < going end.standings
 
--- Why drawing stops before its end: want of memory, or the next turn is one more than the limit allows.
-abbrev pub IsDrawingFault : Lists → ℕ → Stage → ℕ → Fault → Type 0
-IsDrawingFault lists limit p before OutOfMemory = Unit {0}
-IsDrawingFault lists limit p before StepLimit = (now : Whole ScriptCondition 8) × StopsDrawing lists limit p before now world.StepLimit
-IsDrawingFault lists limit p before fault = ⊥
+-- Why drawing stops before its end: want of memory, or the limit.
+abbrev pub IsDrawingFault : Lists → ℕ → Lcg → Stage → ℕ → Fault → Type 0
+IsDrawingFault lists limit g p before OutOfMemory = Unit {0}
+IsDrawingFault lists limit g p before StepLimit = IsCutShort lists limit g p before
+IsDrawingFault lists limit g p before fault = ⊥
 
 -- what the fault of a run comes to: the limit, or else want of memory
 abbrev pub drawing_fault : WorldFault → Fault
@@ -118,3 +122,10 @@ pub record IsDrawn (limit : ℕ) (plan : Plan) (seed : ℕ) (words : List Turn) 
   pub before : ℕ
   pub begun : HasBegun limit plan first before
   pub drawn : HasDrawn plan.threads limit (generator seed) first before words q after
+
+-- The limit cuts short what the seed draws behind the script's own schedule.
+pub record IsSeedCut (limit : ℕ) (plan : Plan) (seed : ℕ) : Type 0 where
+  pub first : Stage
+  pub before : ℕ
+  pub begun : HasBegun limit plan first before
+  pub cut : IsCutShort plan.threads limit (generator seed) first before

@@ -3,3 +3,4 @@ pub mod Drawn
 pub mod Outcomes
 pub mod Standings
 pub mod Tallies
+pub mod Texts

@@ -1,5 +1,5 @@
 -- The outcome of a run, and what is an outcome of a script.
-use Rattle.std.specs.Prelude.{◌≡◌, ℕ, List, [], ◌++◌, ◌==◌, if◌then◌else◌, Bool, length, codes, decimal, flat_map}
+use Rattle.std.specs.Prelude.{◌≡◌, ℕ, ◌⊎◌, List, [], ◌++◌, ◌==◌, if◌then◌else◌, Bool, length, codes, decimal, flat_map}
 use Rattle.std.specs.List.{range_with_len}
 use Rattle.ns_world.specs.Runs.{Runs}
 use Rattle.ns_world.specs.Whole.{Whole, whole_busy}
@@ -11,7 +11,7 @@ use Rattle.ns_replay.specs.declared.fault.Fault.TheVariants.{OutOfMemory, StepLi
 use Rattle.ns_replay.specs.Replaying.{NeedsMore, world_for}
 use Rattle.ns_replay.specs.Script.{Plan}
 use Rattle.ns_replay.specs.Text.{left_text, reply_text, row_text}
-use Rattle.ns_outcomes.specs.Drawn.{IsDrawn, Stage}
+use Rattle.ns_outcomes.specs.Drawn.{IsDrawn, IsSeedCut, Stage}
 
 -- ---- the text of an outcome
 
@@ -41,20 +41,23 @@ outcome_text threads world lines = flat_map (thread_text (whole_busy world) line
 abbrev pub lengthened : Plan → List Turn → Plan
 lengthened plan words = record plan { schedule = plan.schedule ++ words }
 
--- The run of a seed: it draws these words behind the script's own, until nobody can go on, and a run under all of them comes to this outcome in at most so many turns.
-pub record IsSeedRun (limit : ℕ) (plan : Plan) (seed : ℕ) (words : List Turn) (text : List ℕ) : Type 0 where
+-- The run of a seed: it draws these words behind the script's own, until nobody can go on, and a run under all of them comes to this outcome. It has so many turns, at most the limit.
+pub record IsSeedRun (limit : ℕ) (plan : Plan) (seed : ℕ) (words : List Turn) (text : List ℕ) (turns : ℕ) : Type 0 where
   pub end : Stage
-  pub after : ℕ
-  pub drawn : IsDrawn limit plan seed words end after
+  pub drawn : IsDrawn limit plan seed words end turns
   pub runs : Runs plan.threads (plan.schedule ++ words) limit (world_for plan) end.progress.world end.progress.lines
   pub is : text ≡ outcome_text (length plan.threads) end.progress.world end.progress.lines
 
--- the text is the outcome of the seed's run
-abbrev pub IsOutcomeOf : ℕ → Plan → ℕ → List ℕ → Type 0
-IsOutcomeOf limit plan seed text = (words : List Turn) × IsSeedRun limit plan seed words text
+-- the text is the outcome of the seed's run, which has so many turns
+abbrev pub IsOutcomeOf : ℕ → Plan → ℕ → List ℕ → ℕ → Type 0
+IsOutcomeOf limit plan seed text turns = (words : List Turn) × IsSeedRun limit plan seed words text turns
 
--- Why there is no run: want of memory, or a schedule that begins with the script's own needs more turns than the limit.
-abbrev pub IsDrawFault : ℕ → Plan → Fault → Type 0
-IsDrawFault limit plan OutOfMemory = Unit {0}
-IsDrawFault limit plan StepLimit = (words : List Turn) × NeedsMore limit (lengthened plan words)
-IsDrawFault limit plan fault = ⊥
+-- The run of the seed needs more turns than the limit: the script's own schedule does, or what the seed draws behind it.
+abbrev pub IsLong : ℕ → Plan → ℕ → Type 0
+IsLong limit plan seed = NeedsMore limit plan ⊎ IsSeedCut limit plan seed
+
+-- Why a seed has no run: want of memory, or the limit.
+abbrev pub IsDrawFault : ℕ → Plan → ℕ → Fault → Type 0
+IsDrawFault limit plan seed OutOfMemory = Unit {0}
+IsDrawFault limit plan seed StepLimit = IsLong limit plan seed
+IsDrawFault limit plan seed fault = ⊥

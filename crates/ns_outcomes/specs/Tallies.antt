@@ -1,12 +1,15 @@
 -- Distinct outcomes, as they are counted, and the text that shows them.
-use Rattle.std.specs.Prelude.{◌≡◌, ◌≢◌, ℕ, ◌+◌, ◌%◌, ◌^◌, ◌<◌, ◌≤◌, ◌⊎◌, if◌then◌else◌, List, [], ◌∷◌, ◌++◌, length, get_or, map, All, AllPairs, Contains, count_by, position, Option, Some, None, option_map, bytes_eq, codes, decimal, String, string_bytes}
+use Rattle.std.specs.Prelude.{◌≡◌, ◌≢◌, ℕ, ◌+◌, ◌%◌, ◌^◌, ◌<◌, ◌≤◌, ◌⊎◌, if◌then◌else◌, List, [], ◌∷◌, ◌++◌, length, get_or, map, All, AllPairs, Contains, count_by, position, sum, Option, Some, None, option_map, bytes_eq, codes, decimal, String, string_bytes}
 use Rattle.std.specs.BTreeMap.{get_by_text}
 use Rattle.std.specs.declared.alloc.Global.{Global}
 use Rattle.ns_replay.specs.Script.{Plan}
-use Rattle.ns_outcomes.specs.Outcomes.{IsOutcomeOf}
+use Rattle.ns_replay.specs.declared.fault.Fault.{Fault}
+use Rattle.ns_replay.specs.declared.fault.Fault.TheVariants.{OutOfMemory, StepLimit}
+use Rattle.ns_outcomes.specs.Outcomes.{IsLong, IsOutcomeOf}
+use Rattle.ns_outcomes.specs.declared.seeds.Seeds.{Seeds}
 use Rattle.ns_outcomes.specs.declared.tallying.Count.{Count}
 use Rattle.ns_outcomes.specs.declared.tallying.Found.{Found}
-use Rattle.ns_outcomes.specs.declared.tallying.Tally.{Tally}
+use Rattle.ns_outcomes.specs.declared.tallying.Counts.{Counts}
 
 -- ---- the runs of some seeds
 
@@ -14,10 +17,11 @@ use Rattle.ns_outcomes.specs.declared.tallying.Tally.{Tally}
 abbrev pub seed_at : ℕ → ℕ → ℕ
 seed_at from k = (from + k) % 2 ^ 64
 
--- These are the outcomes of so many runs, in order: each is what the run of its own seed comes to.
-pub record AreRuns (limit from count : ℕ) (plan : Plan) (runs : List (List ℕ)) : Type 0 where
+-- These are the outcomes of so many runs and how many turns they have, in order: each as the run of its own seed has it.
+pub record AreRuns (limit from count : ℕ) (plan : Plan) (runs : List (List ℕ)) (turns : List ℕ) : Type 0 where
   pub many : length runs ≡ count
-  pub each : (k : ℕ) → k < count → IsOutcomeOf limit plan (seed_at from k) (get_or runs k [])
+  pub counted : length turns ≡ count
+  pub each : (k : ℕ) → k < count → IsOutcomeOf limit plan (seed_at from k) (get_or runs k []) (get_or turns k 0)
 
 -- ---- how they are counted
 
@@ -49,7 +53,33 @@ pub record IsTally (from : ℕ) (runs : List (List ℕ)) (found : List Found) : 
   pub distinct : AllPairs (λ one other. one ≢ other) (texts_of found)
   pub order : AllPairs IsBefore found
 
--- ---- the tally, as a function of the text
+-- These are the distinct outcomes of the runs of all seeds, and so many turns have the runs together.
+pub record HasMade (seeds : Seeds) (plan : Plan) (found : List Found) (all : ℕ) : Type 0 where
+  pub runs : List (List ℕ)
+  pub turns : List ℕ
+  pub made : AreRuns seeds.limit seeds.from seeds.count plan runs turns
+  pub tally : IsTally seeds.from runs found
+  pub total : all ≡ sum turns
+
+-- ---- why they aren't counted
+
+-- The run of one of the seeds needs more turns than the limit, and no earlier one does. This seed was told last.
+pub record HasLongRun (seeds : Seeds) (plan : Plan) (told : Option ℕ) : Type 0 where
+  pub earlier : ℕ
+  pub few : earlier < seeds.count
+  pub runs : List (List ℕ)
+  pub turns : List ℕ
+  pub made : AreRuns seeds.limit seeds.from earlier plan runs turns
+  pub long : IsLong seeds.limit plan (seed_at seeds.from earlier)
+  pub named : told ≡ Some (seed_at seeds.from earlier)
+
+-- Why the outcomes aren't counted: want of memory, or the limit.
+abbrev pub IsCountFault : Seeds → Plan → Option ℕ → Fault → Type 0
+IsCountFault seeds plan told OutOfMemory = Unit {0}
+IsCountFault seeds plan told StepLimit = HasLongRun seeds plan told
+IsCountFault seeds plan told fault = ⊥
+
+-- ---- the counts, as a function of the text
 
 -- so many runs, of which the first stands at this place
 abbrev pub counted_at : ℕ → ℕ → ℕ → Count
@@ -63,18 +93,18 @@ counted from runs text = option_map (counted_at from (times runs text)) (positio
 abbrev pub found_of : String Global × Count → Found
 found_of entry = record { text = entry.0; count = entry.1.count; first = entry.1.first }
 
--- The tally has counted just these runs.
-abbrev pub HasCounted : ℕ → List (List ℕ) → Tally → Type 0
-HasCounted from runs tally = (text : List ℕ) → get_by_text tally.counts text ≡ counted from runs text
+-- The counts are of just these runs.
+abbrev pub HasCounted : ℕ → List (List ℕ) → Counts → Type 0
+HasCounted from runs counts = (text : List ℕ) → get_by_text counts.by_text text ≡ counted from runs text
 
 -- one run more, of this seed: the count is one higher and the first seed stays, or this is the first
 abbrev pub once_more : Option Count → ℕ → Count
 once_more None seed = record { count = 1; first = seed }
 once_more (Some before) seed = record { count = before.count + 1; first = before.first }
 
--- The new tally has one run more of the text, by this seed, and of every other text what the old one has.
-abbrev pub CountsOnceMore : Tally → List ℕ → ℕ → Tally → Type 0
-CountsOnceMore old text seed new = (other : List ℕ) → get_by_text new.counts other ≡ (if bytes_eq text other then Some (once_more (get_by_text old.counts text) seed) else get_by_text old.counts other)
+-- The new counts have one run more of the text, by this seed, and of every other text what the old ones have.
+abbrev pub CountsOnceMore : Counts → List ℕ → ℕ → Counts → Type 0
+CountsOnceMore old text seed new = (other : List ℕ) → get_by_text new.by_text other ≡ (if bytes_eq text other then Some (once_more (get_by_text old.by_text text) seed) else get_by_text old.by_text other)
 
 -- ---- the text
 

@@ -1,14 +1,13 @@
 //! The runs of some seeds, and the distinct outcomes of them.
 
-ghost use Rattle.std.specs.Prelude.{ℕ, List, IfOk, IfErr};
+ghost use Rattle.std.specs.Prelude.{IfOk, IfErr};
 ghost use Rattle.ns_replay.specs.Runnable.{IsRunnable};
 ghost use Rattle.ns_replay.specs.Script.{plan_of};
-ghost use Rattle.ns_outcomes.specs.Outcomes.{IsDrawFault};
-ghost use Rattle.ns_outcomes.specs.Tallies.{AreRuns, IsTally};
+ghost use Rattle.ns_outcomes.specs.Tallies.{HasMade, IsCountFault};
 
 use crate::outcome::run_seed;
 use crate::seeds::Seeds;
-use crate::tallying::{Found, Tally};
+use crate::tallying::{Counts, Found};
 use crate::watch::Watch;
 use ns_replay::{Fault, Script};
 use std::alloc::Global;
@@ -30,18 +29,18 @@ pub fn count_outcomes<P: Watch>(
     watch: &mut P,
 ) -> Result<Counted, Fault>
     requires { IsRunnable (plan_of script.now) }
-    ensures ok { IfOk result (λ counted. (runs : List (List ℕ)) × AreRuns seeds.limit seeds.from seeds.count (plan_of script.now) runs × IsTally seeds.from runs counted.found.items) }
-    ensures err { IfErr result (λ fault. IsDrawFault seeds.limit (plan_of script.now) fault) }
+    ensures ok { IfOk result (λ counted. HasMade seeds (plan_of script.now) counted.found.items counted.turns) }
+    ensures err { IfErr result (IsCountFault seeds (plan_of script.now) (P.last watch.new)) }
 {
-    let mut tally = Tally::new(alloc);
+    let mut counts = Counts::new(alloc);
     let mut turns = 0u64;
     for number in 0..seeds.count {
         let seed = seeds.from.wrapping_add(u64::from(number));
         watch.begins(number, seed);
         let run = run_seed(alloc, script, seed, seeds.limit)?;
-        turns = turns.saturating_add(u64::from(run.turns));
-        tally.count(run.text, seed)?;
+        turns += u64::from(run.turns);
+        counts.count(run.text, seed)?;
     }
-    let found = tally.found(alloc)?;
+    let found = counts.found(alloc)?;
     Ok(Counted { found, turns })
 }

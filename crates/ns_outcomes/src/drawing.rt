@@ -5,6 +5,7 @@ ghost use Rattle.ns_world.specs.Runs.{IsCounted, ListFits, Stops, items_of, prog
 ghost use Rattle.ns_world.specs.Whole.{whole_of};
 ghost use Rattle.ns_replay.specs.Condition.{script_truths};
 ghost use Rattle.ns_replay.specs.Runnable.{IsRunnable};
+ghost use Rattle.ns_replay.specs.Replaying.{IsRunFault};
 ghost use Rattle.ns_replay.specs.Script.{plan_of};
 ghost use Rattle.ns_outcomes.specs.Drawn.{HasBegun, HasDrawn, IsDrawingFault, IsDrawn, TurnStands, drawing_fault, first_standing, first_standings, stage_of};
 ghost use Rattle.ns_outcomes.specs.Outcomes.{IsDrawFault};
@@ -84,7 +85,8 @@ fn begin(alloc: Global, script: &Script, limit: u32) -> Result<Drawing, Fault>
     ensures ok { IfOk result (λ drawing. HasBegun limit (plan_of script.now) (stage_of drawing) drawing.tally.turns) }
     ensures counted { IfOk result (λ drawing. IsCounted (whole_of script_truths drawing.world) drawing.tally.over) }
     ensures unspelled { IfOk result (λ drawing. drawing.words.items ≡ []) }
-    ensures err { IfErr result (λ fault. IsDrawFault limit (plan_of script.now) fault) }
+    ensures few { IfOk result (λ drawing. length drawing.standings.items ≤ 64) }
+    ensures err { IfErr result (λ fault. IsRunFault limit (plan_of script.now) fault) }
 {
     let threads = script.threads.as_slice();
     let mut world = World::new(
@@ -129,6 +131,7 @@ fn make_turn(
     ensures counted { OnOk result (IsCounted (whole_of script_truths drawing.new.world) drawing.new.tally.over) }
     ensures turns { OnOk result ((drawing.new.tally.turns ≡ drawing.old.tally.turns + 1) × (drawing.new.tally.turns ≤ limit)) }
     ensures unspelled { drawing.new.words ≡ drawing.old.words }
+    ensures many { OnOk result (length drawing.new.standings.items ≡ length drawing.old.standings.items) }
     ensures err { IfErr result (λ fault. Stops (map (λ calls. calls.items) threads.now) limit (stage_of drawing.old).progress drawing.old.tally.turns (record { seat = thread; whole = false } ∷ []) (whole_of script_truths drawing.new.world) fault) }
 {
     let word = drawing.world.word();
@@ -179,14 +182,11 @@ fn draw_turns(
     requires counted { IsCounted (whole_of script_truths drawing.old.world) drawing.old.tally.over }
     requires turns { drawing.old.tally.turns ≤ limit }
     requires unspelled { drawing.old.words.items ≡ [] }
+    requires few { length drawing.old.standings.items ≤ 64 }
     ensures ok { OnOk result (HasDrawn (map (λ calls. calls.items) threads.now) limit draws.old (stage_of drawing.old) drawing.old.tally.turns drawing.new.words.items (stage_of drawing.new) drawing.new.tally.turns) }
-    ensures err { IfErr result (λ fault. IsDrawingFault (map (λ calls. calls.items) threads.now) limit (stage_of drawing.old) drawing.old.tally.turns fault) }
+    ensures err { IfErr result (λ fault. IsDrawingFault (map (λ calls. calls.items) threads.now) limit draws.old (stage_of drawing.old) drawing.old.tally.turns fault) }
 {
     while let Some(thread) = pick(&drawing.standings, draws.next_word()) {
-        // No script has more than 64 threads.
-        if 64 <= thread {
-            return Err(Fault::OutOfMemory);
-        }
         if let Err(refused) = make_turn(drawing, threads, thread as u8, limit) {
             return Err(fault_of(refused));
         }
@@ -199,7 +199,7 @@ fn draw_turns(
 pub fn draw(alloc: Global, script: &Script, seed: u64, limit: u32) -> Result<Drawing, Fault>
     requires { IsRunnable (plan_of script.now) }
     ensures ok { IfOk result (λ drawing. IsDrawn limit (plan_of script.now) seed drawing.words.items (stage_of drawing) drawing.tally.turns) }
-    ensures err { IfErr result (λ fault. IsDrawFault limit (plan_of script.now) fault) }
+    ensures err { IfErr result (λ fault. IsDrawFault limit (plan_of script.now) seed fault) }
 {
     let mut drawing = begin(alloc, script, limit)?;
     let mut draws = Pcg32::seed_from_u64(seed);

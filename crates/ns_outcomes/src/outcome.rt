@@ -125,8 +125,8 @@ pub fn outcome_of(
 /// The run of a script under its own schedule, and then the turns that the seed draws.
 pub fn run_seed(alloc: Global, script: &Script, seed: u64, limit: u32) -> Result<SeedRun, Fault>
     requires { IsRunnable (plan_of script.now) }
-    ensures ok { IfOk result (λ run. IsSeedRun limit (plan_of script.now) seed run.words.items (string_bytes run.text)) }
-    ensures err { IfErr result (λ fault. IsDrawFault limit (plan_of script.now) fault) }
+    ensures ok { IfOk result (λ run. IsSeedRun limit (plan_of script.now) seed run.words.items (string_bytes run.text) run.turns) }
+    ensures err { IfErr result (λ fault. IsDrawFault limit (plan_of script.now) seed fault) }
 {
     let drawing = draw(alloc, script, seed, limit)?;
     let threads = script.threads.len() as u8;

@@ -85,7 +85,7 @@ fn report_for<P: Watch>(
 ) -> Result<String, Fault>
     requires { length bytes.now ≤ 1048576 }
     ensures ok { IfOk result (λ text. IsReport seeds bytes.now (string_bytes text)) }
-    ensures err { IfErr result (λ fault. IsUndrawn seeds.limit bytes.now fault) }
+    ensures err { IfErr result (IsUndrawn seeds (P.last watch.old) (P.last watch.new) bytes.now) }
 {
     let (script, _) = run_bytes(alloc, bytes, seeds.limit)?;
     let counted = count_outcomes(alloc, &script, seeds, watch)?;
@@ -112,9 +112,9 @@ pub fn outcomes<S: Source, W: Sink, P: Watch>(
     requires source { S.has_failed source.old ≡ false }
     requires sink { W.has_failed sink.old ≡ false }
     // What was read gives what was answered and written: the distinct outcomes of the seeds' runs, each with how
-    // many came to it and the first of them.
+    // many came to it and the first of them. Where the run of a seed needs more turns, that seed was told last.
     ensures answers { Gave (S.to_come source.old) (S.to_come source.new) (λ bytes.
-        IsEnough bytes (S.last source.new) × WasRead bytes (S.to_come source.new) result × Answers (W.taken sink.old) (W.taken sink.new) (IsReport seeds) (IsUndrawn seeds.limit) bytes result) }
+        IsEnough bytes (S.last source.new) × WasRead bytes (S.to_come source.new) result × Answers (W.taken sink.old) (W.taken sink.new) (IsReport seeds) (IsUndrawn seeds (P.last watch.old) (P.last watch.new)) bytes result) }
     // Nothing is written before all runs are made.
     ensures untouched { IfErr result (λ fault. fault ≢ Fault.Write → sink.new ≡ sink.old) }
     // The source is asked no more often than it may be, and never after its end.

@@ -1,10 +1,13 @@
 //! A script with the schedule of a seed's run in it.
 
-ghost use Rattle.std.specs.Prelude.{◌≡◌, ◌≢◌, ◌≤◌, ◌++◌, length, IfOk, IfErr, IsErrOf, OnOk, true, false, string_bytes};
+ghost use Rattle.std.specs.Prelude.{◌≡◌, ◌≢◌, ℕ, ◌≤◌, ◌++◌, List, flat_map, length, IfOk, IfErr, IsErrOf, OnOk, true, false, string_bytes};
+ghost use Rattle.serde_json.specs.Find.{get};
+ghost use Rattle.serde_json.specs.View.{view};
 ghost use Rattle.ns_replay.specs.Transfer.{Gave, IsAskedEnough, IsEnough, IsFine, IsReadFault, IsWriteFault};
 ghost use Rattle.ns_replay.specs.Replaying.{Ended, WasRead};
 ghost use Rattle.ns_replay.specs.Script.{plan_of};
-ghost use Rattle.ns_outcomes.specs.Answers.{Answers, ComesTo, IsLike, IsScheduled, IsUnscheduled};
+ghost use Rattle.ns_outcomes.specs.Answers.{Answers, ComesElsewhere, ComesTo, IsLike, IsScheduled, IsUnscheduled};
+ghost use Rattle.ns_outcomes.specs.Texts.{AreMembers, IsMember, IsScriptText, line_text, member_text, names_before, next_text, word_text, words_text};
 
 use crate::outcome::{outcome_of, run_seed};
 use ns_replay::{Fault, Script, ScriptPath, Sink, Source, collect_bytes, run_bytes, write_all};
@@ -18,11 +21,11 @@ const MAX_WORDS: usize = 4096;
 /// How many bytes a script may have.
 const MAX_BYTES: usize = 1_048_576;
 
-/// The members of a script before its schedule, in the order in which they are checked.
-const MEMBERS: [&str; 5] = ["version", "counters", "onces", "cvs", "threads"];
-
 /// A word of a schedule.
-fn push_word(out: &mut String, word: &Turn) -> Result<(), AllocError> {
+#[tactic(auto, unfolding(crate::specs::Texts::word_text))]
+fn push_word(out: &mut String, word: &Turn) -> Result<(), AllocError>
+    ensures { OnOk result (string_bytes out.new ≡ string_bytes out.old ++ word_text word.now) }
+{
     let Turn {
         thread,
         whole,
@@ -38,40 +41,80 @@ fn push_word(out: &mut String, word: &Turn) -> Result<(), AllocError> {
     Ok(())
 }
 
-/// The words of a schedule, parted by one space.
-fn push_words(out: &mut String, words: &[Turn]) -> Result<(), AllocError> {
-    for (before, word) in words.iter().enumerate() {
-        if before > 0 {
-            out.push_str(" ")?;
-        }
+/// Words behind another, each after one space.
+fn push_next(out: &mut String, words: &[Turn]) -> Result<(), AllocError>
+    ensures { OnOk result (string_bytes out.new ≡ string_bytes out.old ++ flat_map next_text words.now) }
+{
+    for word in words {
+        out.push_str(" ")?;
         push_word(out, word)?;
     }
     Ok(())
 }
 
-/// The members before the schedule, as the script has them.
-fn push_members(alloc: Global, out: &mut String, value: &Value) -> Result<(), AllocError> {
-    for name in MEMBERS {
-        if let Some(member) = value.get(name) {
-            let text = member.to_string(alloc)?;
-            write!(out, "\"{name}\":{text},")?;
-        }
+/// The words of a schedule, parted by one space.
+fn push_words(out: &mut String, words: &[Turn]) -> Result<(), AllocError>
+    ensures { OnOk result (string_bytes out.new ≡ string_bytes out.old ++ words_text words.now) }
+{
+    let Some((first, more)) = words.split_first() else {
+        return Ok(());
+    };
+    push_word(out, first)?;
+    push_next(out, more)
+}
+
+/// A member with its value as it is printed.
+#[tactic(auto, unfolding(crate::specs::Texts::member_text))]
+fn push_printed(out: &mut String, name: &str, printed: &str) -> Result<(), AllocError>
+    ensures { OnOk result (string_bytes out.new ≡ string_bytes out.old ++ member_text name.now printed.now) }
+{
+    write!(out, "\"{name}\":{printed},")
+}
+
+/// The member of this name, if the value has it.
+fn push_member(alloc: Global, out: &mut String, value: &Value, name: &str) -> Result<(), AllocError>
+    ensures { OnOk result ((text : List ℕ) × IsMember name.now (get name.now (view value.now)) text × (string_bytes out.new ≡ string_bytes out.old ++ text)) }
+{
+    if let Some(member) = value.get(name) {
+        let printed = member.to_string(alloc)?;
+        push_printed(out, name, &printed)?;
     }
     Ok(())
 }
 
-/// A script with this schedule in place of its own, if its bytes are JSON.
-fn script_with(alloc: Global, bytes: &[u8], words: &[Turn]) -> Result<String, AllocError> {
-    let Ok(value) = Value::from_slice(alloc, bytes) else {
-        return Err(AllocError);
-    };
+/// The members before the schedule, as the script has them.
+fn push_members(alloc: Global, out: &mut String, value: &Value) -> Result<(), AllocError>
+    ensures { OnOk result ((text : List ℕ) × AreMembers names_before (view value.now) text × (string_bytes out.new ≡ string_bytes out.old ++ text)) }
+{
+    push_member(alloc, out, value, "version")?;
+    push_member(alloc, out, value, "counters")?;
+    push_member(alloc, out, value, "onces")?;
+    push_member(alloc, out, value, "cvs")?;
+    push_member(alloc, out, value, "threads")
+}
+
+/// A script of this JSON value, with this schedule in place of its own.
+#[tactic(auto, unfolding(crate::specs::Texts::line_text))]
+fn line(alloc: Global, value: &Value, words: &[Turn]) -> Result<String, AllocError>
+    ensures { IfOk result (λ text. (members : List ℕ) × AreMembers names_before (view value.now) members × (string_bytes text ≡ line_text members words.now)) }
+{
     let mut out = String::new(alloc);
     out.push_str("{")?;
-    push_members(alloc, &mut out, &value)?;
+    push_members(alloc, &mut out, value)?;
     out.push_str("\"schedule\":\"")?;
     push_words(&mut out, words)?;
     out.push_str("\"}\n")?;
     Ok(out)
+}
+
+/// A script with this schedule in place of its own, if its bytes are JSON.
+fn script_with(alloc: Global, bytes: &[u8], words: &[Turn]) -> Result<String, AllocError>
+    ensures { IfOk result (λ text. IsScriptText bytes.now words.now (string_bytes text)) }
+{
+    let Ok(value) = Value::from_slice(alloc, bytes) else {
+        return Err(AllocError);
+    };
+    line(alloc, &value, words)
 }
 
 /// The script's own words, and then these.
@@ -86,7 +129,8 @@ fn joined(alloc: Global, script: &Script, words: &[Turn]) -> Result<Vec<Turn>, A
 
 /// Whether two scripts declare the same, and have the same schedule.
 fn are_alike(one: &Script, other: &Script) -> bool
-    ensures { result ≡ true → IsLike (plan_of one.now) (plan_of other.now) }
+    ensures same { result ≡ true → IsLike (plan_of one.now) (plan_of other.now) }
+    ensures other { result ≡ false → IsLike (plan_of one.now) (plan_of other.now) → ⊥ }
 {
     if one.counters != other.counters {
         return false;
@@ -109,7 +153,8 @@ fn comes_to(
     limit: u32,
 ) -> Result<bool, AllocError>
     requires { length text.now ≤ 1048576 }
-    ensures { IfOk result (λ same. same ≡ true → ComesTo limit text.now (plan_of wanted.now) outcome.now) }
+    ensures comes { IfOk result (λ same. same ≡ true → ComesTo limit text.now (plan_of wanted.now) outcome.now) }
+    ensures other { IfOk result (λ same. same ≡ false → ComesElsewhere limit text.now (plan_of wanted.now) outcome.now) }
 {
     let (script, run) = match run_bytes(alloc, text.as_bytes(), limit) {
         Ok(ran) => ran,
@@ -153,8 +198,8 @@ fn script_for(alloc: Global, bytes: &[u8], seed: u64, limit: u32) -> Result<Stri
 /// text has one line, with the members in the order in which a script is checked. Returns `Ok` when all of it was
 /// taken. It refuses what a replay refuses, in the same order and at the same places; a run that needs more
 /// turns than the limit (`StepLimit`); a schedule of more than 4,096 words (`TooMany`, at `/schedule`); and a text
-/// of more than 1 MiB (`TooMany`, at the whole), or one that isn't read back as it should be (`BadScript`, there). After `Write` the sink has a front of the text, and after any other
-/// fault nothing was written.
+/// of more than 1 MiB (`TooMany`, at the whole), or one that isn't read back as it should be (`BadScript`, there).
+/// After `Write` the sink has a front of the text, and after any other fault nothing was written.
 ///
 /// Needs a source and a sink that have not failed. What it says of bytes it says of streams that know theirs.
 pub fn schedule<S: Source, W: Sink>(

@@ -32,7 +32,7 @@ pub struct Made {
     pub step: Step,
     /// Whether it changed the lock word.
     pub changed: bool,
-    /// Whether a call of the thread is left, where the turn has ended one.
+    /// Whether a call of the thread is left to begin, behind the one that the turn ended or went on with.
     pub more: bool,
 }
 

@@ -28,28 +28,28 @@ struct Count {
     first: u64,
 }
 
-/// The distinct outcomes by their text.
+/// What is counted of the distinct outcomes, by their text.
 #[derive(Drop)]
-pub struct Tally {
-    counts: BTreeMap<String, Count>,
+pub struct Counts {
+    by_text: BTreeMap<String, Count>,
 }
 
-impl Tally {
+impl Counts {
     /// No outcome.
-    pub fn new(alloc: Global) -> Tally
+    pub fn new(alloc: Global) -> Counts
         ensures { (from : ℕ) → HasCounted from [] result }
     {
-        Tally {
-            counts: BTreeMap::new(alloc),
+        Counts {
+            by_text: BTreeMap::new(alloc),
         }
     }
 
     /// Counts the outcome of a seed. Needs room for one more in the count of the outcome.
     pub fn count(&mut self, text: String, seed: u64) -> Result<(), AllocError>
-        requires { IfSome (get_by_text self.old.counts (string_bytes text)) (λ before. before.count + 1 < 2 ^ 32) }
+        requires { IfSome (get_by_text self.old.by_text (string_bytes text)) (λ before. before.count + 1 < 2 ^ 32) }
         ensures { OnOk result (CountsOnceMore self.old (string_bytes text) seed self.new) }
     {
-        let counted = match self.counts.get(text.as_str()).copied() {
+        let counted = match self.by_text.get(text.as_str()).copied() {
             Some(before) => Count {
                 count: before.count + 1,
                 first: before.first,
@@ -59,16 +59,16 @@ impl Tally {
                 first: seed,
             },
         };
-        self.counts.insert(text, counted)?;
+        self.by_text.insert(text, counted)?;
         Ok(())
     }
 
     /// The outcomes, by their texts in ascending order.
     fn listed(self, alloc: Global) -> Result<Vec<Found>, AllocError>
-        ensures ordered { IsOrdered string_cmp self.counts }
-        ensures ok { IfOk result (λ found. found.items ≡ map found_of self.counts.entries) }
+        ensures ordered { IsOrdered string_cmp self.by_text }
+        ensures ok { IfOk result (λ found. found.items ≡ map found_of self.by_text.entries) }
     {
-        self.counts
+        self.by_text
             .into_iter()
             .map(|(text, counted)| Found {
                 text,

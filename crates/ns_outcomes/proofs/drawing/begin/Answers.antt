@@ -1,10 +1,10 @@
-use Rattle.std.proofs.Common.{length, rules, arith, refl}
+use Rattle.std.proofs.Common.{length, map, rules, arith, refl}
 use Rattle.ns_world.specs.Runs.{progress}
 use Rattle.ns_world.specs.Whole.{whole_of}
 use Rattle.ns_world.proofs.Counted.{start_counted}
 use Rattle.ns_replay.specs.Condition.{script_truths}
 use Rattle.ns_replay.proofs.Runs.{idle_world, lists_fit, world_is}
-use Rattle.ns_outcomes.proofs.Begun.{begun_own, own_stops}
+use Rattle.ns_outcomes.proofs.Begun.{begun_own, own_stops, standings_many}
 use Rattle.ns_outcomes.proofs.drawing.begin.Goals as goal
 
 pub follow-requires : goal.follow-requires
@@ -19,6 +19,14 @@ returns-in-Err-clause-err c =
     let first = world_is script (length script.threads.items) old refl (rw (c.as_slice-threads.ensures.value, c.deref.ensures.value) at c.in_ok-world.ensures.made.0) in
     rw c.fault_of.ensures (own_stops c.args.limit script old (whole_of script_truths c.follow.new.world) c.new-tally.result.over c.new-tally.result.lines.items c.new-tally.result.turns c.in-Err.refused
     first c.new-tally.ensures.over c.new-tally.ensures.lines c.new-tally.ensures.turns (rw (c.as_slice-threads.ensures.value, c.deref-2.ensures.value) at c.in-Err.ensures.err))
+
+pub returns-clause-few : goal.returns-clause-few
+returns-clause-few c =
+    let script = c.args.script.now in
+    let lists = map (λ calls. calls.items) script.threads.items in
+    let many = standings_many lists (progress (whole_of script_truths c.follow.new.world) c.follow.new.tally.over c.follow.new.tally.lines.items) c.in_ok-standings.standings.items (rw c.as_slice-threads.ensures.value at c.in_ok-standings.ensures) in
+    let short = c.requires.short in
+    omega (arith, many, short)
 
 pub returns-clause-ok : goal.returns-clause-ok
 returns-clause-ok c =

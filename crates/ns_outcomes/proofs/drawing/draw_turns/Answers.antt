@@ -3,8 +3,7 @@ use Rattle.ns_world.specs.Runs.{Turned}
 use Rattle.ns_world.specs.Whole.{whole_of}
 use Rattle.ns_replay.specs.Condition.{script_truths}
 use Rattle.ns_outcomes.specs.Drawn.{stage_of}
-use Rattle.ns_outcomes.proofs.Begun.{drawing_stops}
-use Rattle.ns_outcomes.proofs.Draws.{draw_stops, drew_more}
+use Rattle.ns_outcomes.proofs.Draws.{drawing_stops, drew_more}
 use Rattle.ns_outcomes.proofs.drawing.draw_turns.Goals as goal
 
 pub returns-in-Err-clause-err : goal.returns-in-Err-clause-err
@@ -13,9 +12,9 @@ returns-in-Err-clause-err c =
     let first = stage_of c.args.drawing.now in
     let now = stage_of c.loop-thread.drawing in
     let world = whole_of script_truths c.make_turn.new.drawing.world in
-    rw c.fault_of.ensures (drawing_stops lists c.args.limit first c.args.drawing.now.tally.turns world c.in-Err.refused
-    (draw_stops lists c.args.limit c.args.draws.now c.loop-thread.draws first now c.args.drawing.now.tally.turns c.loop-thread.drawing.tally.turns c.in-Some.thread c.loop-thread.drawing.words.items world c.in-Err.refused
-    c.loop-thread.invariant.drew c.in-Err.ensures.err))
+    rw c.fault_of.ensures
+    (drawing_stops lists c.args.limit c.args.draws.now c.loop-thread.draws c.next_word.result first now c.args.drawing.now.tally.turns c.loop-thread.drawing.tally.turns c.in-Some.thread c.loop-thread.drawing.words.items world c.in-Err.refused
+    c.loop-thread.invariant.drew (rw c.deref.ensures.value at c.in-Some.ensures) c.in-Err.ensures.err)
 
 pub loop-thread-preserved : goal.loop-thread-preserved
 loop-thread-preserved c =
@@ -29,4 +28,5 @@ loop-thread-preserved c =
           c.args.drawing.now.tally.turns c.loop-thread.drawing.tally.turns c.make_turn.new.drawing.tally.turns c.loop-thread.drawing.words.items c.push_word.new.words.items turned
           c.loop-thread.invariant.drew c.next_word.ensures pick c.in_default-make_turn.ensures.ok longer turns.0 turns.1;
       counted = c.in_default-make_turn.ensures.counted;
+      few = rw c.in_default-make_turn.ensures.many c.loop-thread.invariant.few;
     }

@@ -9,9 +9,10 @@ pub returns-in_err-bytes-clause-answers : goal.returns-in_err-bytes-clause-answe
 returns-in_err-bytes-clause-answers g c =
     let p = err_from_is_err_and c.from_residual.result c.from_residual.ensures.1 in
     let limit = c.args.seeds.limit in
+    let told = g.P.Watch.last c.args.watch.now in
     let such = IsReport c.args.seeds in
     rw (p.1, p.2)
-    (unread_by _ _ (g.W.Sink.taken c.args.sink.now) _ such (IsUndrawn limit) limit c.in_err-bytes.field-0.0 (λ bytes fault h. refused limit bytes fault h)
+    (unread_by _ _ (g.W.Sink.taken c.args.sink.now) _ such (IsUndrawn c.args.seeds told told) limit c.in_err-bytes.field-0.0 (λ bytes fault h. refused c.args.seeds told bytes fault h)
     (unread _ _ (g.W.Sink.taken c.args.sink.now) _ such limit c.in_err-bytes.field-0.0 c.in_err-bytes.ensures.bytes))
 
 pub returns-clause-answers : goal.returns-clause-answers
@@ -25,6 +26,6 @@ returns-clause-answers g c =
       (
         enough,
         read_all bytes _ c.write_all.result end only,
-        written (g.W.Sink.taken c.args.sink.now) (g.W.Sink.taken c.write_all.new.sink) (IsReport c.args.seeds) (IsUndrawn c.args.seeds.limit) bytes c.as_bytes.result.now c.write_all.result same c.write_all.ensures.ok c.write_all.ensures.err only,
+        written (g.W.Sink.taken c.args.sink.now) (g.W.Sink.taken c.write_all.new.sink) (IsReport c.args.seeds) (IsUndrawn c.args.seeds (g.P.Watch.last c.args.watch.now) (g.P.Watch.last c.report_for.new.watch)) bytes c.as_bytes.result.now c.write_all.result same c.write_all.ensures.ok c.write_all.ensures.err only,
       ),
     )

@@ -2,7 +2,7 @@ use Rattle.std.proofs.Common.{◌∙◌, string_bytes, subst, sym}
 use Rattle.std.proofs.lemmas.Result.{err_from_is_err_and}
 use Rattle.ns_replay.proofs.Outcomes.{unread}
 use Rattle.ns_outcomes.specs.Answers.{IsScheduled, IsUnscheduled}
-use Rattle.ns_outcomes.proofs.Written.{only_write, read_all, refused, unread_by, unscheduled, written}
+use Rattle.ns_outcomes.proofs.Written.{only_write, read_all, unread_by, unscheduled, written}
 use Rattle.ns_outcomes.proofs.scheduling.schedule.Goals as goal
 
 pub returns-in_err-bytes-clause-answers : goal.returns-in_err-bytes-clause-answers
@@ -11,7 +11,7 @@ returns-in_err-bytes-clause-answers g c =
     let limit = c.args.limit in
     let such = IsScheduled c.args.limit c.args.seed in
     rw (p.1, p.2)
-    (unread_by _ _ (g.W.Sink.taken c.args.sink.now) _ such (IsUnscheduled limit c.args.seed) limit c.in_err-bytes.field-0.0 (λ bytes fault h. unscheduled limit c.args.seed bytes fault (refused limit bytes fault h))
+    (unread_by _ _ (g.W.Sink.taken c.args.sink.now) _ such (IsUnscheduled limit c.args.seed) limit c.in_err-bytes.field-0.0 (λ bytes fault h. unscheduled limit c.args.seed bytes fault h)
     (unread _ _ (g.W.Sink.taken c.args.sink.now) _ such limit c.in_err-bytes.field-0.0 c.in_err-bytes.ensures.bytes))
 
 pub returns-clause-answers : goal.returns-clause-answers

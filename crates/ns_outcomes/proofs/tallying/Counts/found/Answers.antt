@@ -1,7 +1,7 @@
 use Rattle.std.proofs.Common.{rules}
 use Rattle.std.proofs.lemmas.List.Sorted.{answers_always}
 use Rattle.ns_outcomes.proofs.Tallies.{in_order, tallied}
-use Rattle.ns_outcomes.proofs.tallying.Tally.found.Goals as goal
+use Rattle.ns_outcomes.proofs.tallying.Counts.found.Goals as goal
 
 pub returns : goal.returns
 returns c =

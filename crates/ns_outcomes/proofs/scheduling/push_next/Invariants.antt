@@ -1,0 +1,7 @@
+use Rattle.std.proofs.Common.{◌≡◌, ◌++◌, take, string_bytes}
+use Rattle.std.specs.Prelude.{flat_map}
+use Rattle.ns_outcomes.specs.Texts.{next_text}
+use Rattle.ns_outcomes.proofs.scheduling.push_next.Given as goal
+
+abbrev pub invariant-loop-word : goal.invariant-loop-word
+invariant-loop-word l = string_bytes l.out ≡ string_bytes l.fn.out ++ flat_map next_text (take l.word-index l.words)

@@ -1,0 +1,70 @@
+-- The text of a script with a schedule of words that were drawn.
+use Rattle.std.specs.Prelude.{◌≡◌, ◌≤◌, ℕ, ◌==◌, List, [], ◌∷◌, ◌++◌, false, if◌then◌else◌, Option, Some, None, codes, decimal, flat_map}
+use Rattle.serde_json.specs.Data.{Data, depth}
+use Rattle.serde_json.specs.Find.{get}
+use Rattle.serde_json.specs.Read.{max_depth, read}
+use Rattle.serde_json.specs.Written.{IsInOrder, compact_text, has_float}
+use Rattle.ns_world.specs.declared.schedule.Turn.{Turn}
+
+-- ---- the words
+
+-- `!`, if each of its turns goes on until the call returns
+abbrev pub whole_text : Turn → List ℕ
+whole_text word = if word.whole then codes "!" else []
+
+-- `*N`, unless it is one turn
+abbrev pub times_text : Turn → List ℕ
+times_text word = if word.times == 1 then [] else codes "*" ++ decimal word.times
+
+-- a word: `A`, `A!`, `A*N` or `A!*N`
+unfoldable pub word_text : Turn → List ℕ
+word_text word = decimal word.thread ++ whole_text word ++ times_text word
+
+-- a word behind another, parted by one space
+abbrev pub next_text : Turn → List ℕ
+next_text word = codes " " ++ word_text word
+
+-- the words, parted by one space
+abbrev pub words_text : List Turn → List ℕ
+words_text [] = []
+words_text (word ∷ words) = word_text word ++ flat_map next_text words
+
+-- ---- the members
+
+-- The text is what serde_json writes for a value. Where the value has no float, that is its one compact text.
+pub record IsPrinted (value : Data) (text : List ℕ) : Type 0 where
+  pub plain : has_float value ≡ false → text ≡ compact_text value
+  pub order : IsInOrder text value
+  pub back : depth value ≤ max_depth → read text ≡ Some value
+
+-- the text of a member, with the comma behind it
+unfoldable pub member_text : List ℕ → List ℕ → List ℕ
+member_text name printed = codes "\"" ++ name ++ codes "\":" ++ printed ++ codes ","
+
+-- The text is that of the member of this name with this value; where there is none, it is empty.
+abbrev pub IsMember : List ℕ → Option Data → List ℕ → Type 0
+IsMember name None text = text ≡ []
+IsMember name (Some value) text = (printed : List ℕ) × IsPrinted value printed × (text ≡ member_text name printed)
+
+-- The text has the value's members of these names, in this order.
+abbrev pub AreMembers : List (List ℕ) → Data → List ℕ → Type 0
+AreMembers [] value text = text ≡ []
+AreMembers (name ∷ names) value text = (first : List ℕ) × (more : List ℕ) × IsMember name (get name value) first × AreMembers names value more × (text ≡ first ++ more)
+
+-- the members before the schedule, in the order in which a script is checked
+abbrev pub names_before : List (List ℕ)
+names_before = codes "version" ∷ codes "counters" ∷ codes "onces" ∷ codes "cvs" ∷ codes "threads" ∷ []
+
+-- ---- the whole
+
+-- one line, with the schedule behind the other members
+unfoldable pub line_text : List ℕ → List Turn → List ℕ
+line_text members words = codes "{" ++ members ++ codes "\"schedule\":\"" ++ words_text words ++ codes "\"}\n"
+
+-- The text is the JSON value of the bytes, with the members of a script that it has and with these words as its schedule.
+pub record IsScriptText (bytes : List ℕ) (words : List Turn) (text : List ℕ) : Type 0 where
+  pub value : Data
+  pub reads : read bytes ≡ Some value
+  pub members : List ℕ
+  pub are : AreMembers names_before value members
+  pub is : text ≡ line_text members words
