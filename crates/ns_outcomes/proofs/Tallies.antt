@@ -1,6 +1,6 @@
 -- What is counted after one run more, what the counts give as a list, and the blocks of one outcome more.
-use Rattle.std.proofs.Common.{◌≡◌, ℕ, suc, ◌+◌, ◌*◌, ◌^◌, ◌<◌, ◌≤◌, ◌⊎◌, inl, inr, Bool, true, false, cond, add-one, add-zero, zero-add, take, List, [], ◌∷◌, ◌++◌, length, get_or, map, Option, Some, None, String, string_bytes, refl, sym, ap, ◌∙◌, subst, append_assoc, arith, below_more}
-use Rattle.std.specs.Prelude.{All, AllPairs, Contains, IsPermutation, IsSortedBy, IfSome, bytes_eq, count_by, option_map, position, slice_get, string_cmp, sum}
+use Rattle.std.proofs.Common.{◌≡◌, ℕ, suc, ◌+◌, ◌*◌, ◌^◌, ◌<◌, ◌≤◌, ◌⊎◌, inl, inr, Bool, true, false, cond, add-one, add-zero, zero-add, take, List, [], ◌∷◌, ◌++◌, length, get_or, map, Option, Some, None, refl, sym, ap, ◌∙◌, subst, append_assoc, arith, below_more}
+use Rattle.std.specs.Prelude.{All, AllPairs, Contains, IsPermutation, IsSortedBy, IfSome, bytes_eq, count_by, option_map, position, slice_get, string_cmp, sum, String, string_bytes}
 use Rattle.std.specs.BTreeMap.{IsOrdered, get_by_text, is_at}
 use Rattle.std.specs.Cmp.{back_total, nat_cmp_total, on_total, then_total}
 use Rattle.std.specs.Cmp.Lexicographic.{bytes_decides, nat_list_eq_equiv, slice_cmp}

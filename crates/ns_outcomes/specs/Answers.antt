@@ -86,7 +86,7 @@ pub record HasPlan (bytes : List ℕ) (Is : Plan → Type 0) : Type 0 where
   pub read : plan_from bytes ≡ Ok plan
   pub is : Is plan
 
--- The limit is too low: for the script's own schedule, before a seed is told; or for the run of one of the seeds.
+-- The limit is too low: for the script's own schedule, and the seed that was told last is the same as before; or for the run of one of the seeds.
 abbrev pub IsPast : Seeds → Option ℕ → Option ℕ → List ℕ → Type 0
 IsPast seeds before told bytes = (IsRefused seeds.limit bytes StepLimit × (told ≡ before)) ⊎ HasPlan bytes (λ plan. HasLongRun seeds plan told)
 

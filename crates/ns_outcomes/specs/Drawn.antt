@@ -47,7 +47,7 @@ first_standings lists p = map (first_standing lists p) (range_with_len 0 (length
 
 -- ---- a turn
 
--- What a turn was: its step, whether it changed the lock word, and whether a call of its thread is left behind it.
+-- What a turn was: its step, whether it changed the lock word, and whether a call of its thread is still to end.
 pub record IsMade (lists : Lists) (p : Progress ScriptCondition 8) (turned : Turned) (q : Progress ScriptCondition 8) (made : Made) : Type 0 where
   pub step : made.step ≡ turned.step
   pub same : made.changed ≡ false → q.world.lock.state.word ≡ p.world.lock.state.word

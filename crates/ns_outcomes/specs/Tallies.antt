@@ -1,6 +1,7 @@
 -- Distinct outcomes, as they are counted, and the text that shows them.
-use Rattle.std.specs.Prelude.{◌≡◌, ◌≢◌, ℕ, ◌+◌, ◌%◌, ◌^◌, ◌<◌, ◌≤◌, ◌⊎◌, if◌then◌else◌, List, [], ◌∷◌, ◌++◌, length, get_or, map, All, AllPairs, Contains, count_by, position, sum, Option, Some, None, option_map, bytes_eq, codes, decimal, String, string_bytes}
+use Rattle.std.specs.Prelude.{◌≡◌, ◌≢◌, ℕ, ◌+◌, ◌%◌, ◌^◌, ◌<◌, ◌≤◌, ◌⊎◌, if◌then◌else◌, List, [], ◌∷◌, ◌++◌, length, get_or, map, All, AllPairs, Contains, count_by, position, Option, Some, None, option_map, bytes_eq, codes, decimal, String, string_bytes}
 use Rattle.std.specs.BTreeMap.{get_by_text}
+use Rattle.std.specs.List.{sum}
 use Rattle.std.specs.declared.alloc.Global.{Global}
 use Rattle.ns_replay.specs.Script.{Plan}
 use Rattle.ns_replay.specs.declared.fault.Fault.{Fault}

@@ -31,7 +31,7 @@ words_text (word ∷ words) = word_text word ++ flat_map next_text words
 
 -- ---- the members
 
--- The text is what serde_json writes for a value. Where the value has no float, that is its one compact text.
+-- The text prints the value: it has the items and members in order, and is read back as the value. Of a value with no float there is one such text, with no space.
 pub record IsPrinted (value : Data) (text : List ℕ) : Type 0 where
   pub plain : has_float value ≡ false → text ≡ compact_text value
   pub order : IsInOrder text value
@@ -61,7 +61,7 @@ names_before = codes "version" ∷ codes "counters" ∷ codes "onces" ∷ codes 
 unfoldable pub line_text : List ℕ → List Turn → List ℕ
 line_text members words = codes "{" ++ members ++ codes "\"schedule\":\"" ++ words_text words ++ codes "\"}\n"
 
--- The text is the JSON value of the bytes, with the members of a script that it has and with these words as its schedule.
+-- The text has those members before the schedule that the JSON value of the bytes has, each printed from it, and these words as its schedule.
 pub record IsScriptText (bytes : List ℕ) (words : List Turn) (text : List ℕ) : Type 0 where
   pub value : Data
   pub reads : read bytes ≡ Some value

@@ -32,7 +32,8 @@ pub struct Made {
     pub step: Step,
     /// Whether it changed the lock word.
     pub changed: bool,
-    /// Whether a call of the thread is left to begin, behind the one that the turn ended or went on with.
+    /// Whether a call of the thread is still to end: the one that the turn went on with, or one behind that which it
+    /// ended.
     pub more: bool,
 }
 

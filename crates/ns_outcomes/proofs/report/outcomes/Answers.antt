@@ -20,12 +20,13 @@ returns-clause-answers g c =
     let (bytes, consumed, (enough, (items, few, end))) = c.in_ok-bytes.ensures.bytes in
     let only = only_write _ c.write_all.result c.write_all.ensures.fault in
     let such = subst (λ b. IsReport c.args.seeds b (string_bytes c.in_ok-text.text)) (c.deref.ensures.value ∙ items) c.in_ok-text.ensures.ok in
-    let same = subst (λ t. IsReport c.args.seeds bytes t) (sym c.as_bytes.ensures.value) such in (
+    let same = subst (λ t. IsReport c.args.seeds bytes t) (sym c.as_bytes.ensures.value) such in
+    let why = IsUndrawn c.args.seeds (g.P.Watch.last c.args.watch.now) (g.P.Watch.last c.report_for.new.watch) in (
       bytes,
       consumed,
       (
         enough,
         read_all bytes _ c.write_all.result end only,
-        written (g.W.Sink.taken c.args.sink.now) (g.W.Sink.taken c.write_all.new.sink) (IsReport c.args.seeds) (IsUndrawn c.args.seeds (g.P.Watch.last c.args.watch.now) (g.P.Watch.last c.report_for.new.watch)) bytes c.as_bytes.result.now c.write_all.result same c.write_all.ensures.ok c.write_all.ensures.err only,
+        written (g.W.Sink.taken c.args.sink.now) (g.W.Sink.taken c.write_all.new.sink) (IsReport c.args.seeds) why bytes c.as_bytes.result.now c.write_all.result same c.write_all.ensures.ok c.write_all.ensures.err only,
       ),
     )
