@@ -1,5 +1,5 @@
 -- How a run ends, and what is said of it.
-use Rattle.std.specs.Prelude.{◌≡◌, ◌⊎◌, ℕ, ⊤, List, [], ◌++◌, Bool, true, false, Option, Some, Result, Ok, Err, codes, decimal}
+use Rattle.std.specs.Prelude.{◌≡◌, ◌⊎◌, ℕ, ⊤, List, [], ◌++◌, Bool, true, false, Option, Some, None, Result, Ok, Err, codes, decimal}
 use Rattle.std.specs.List.{list_any}
 use Rattle.std.specs.Io.KnownBytes.{Appends, Keeps}
 use Rattle.clap.specs.Words.{Kinds}
@@ -113,3 +113,8 @@ abbrev pub outcome_of : Ending → Result ⊤ Fault
 outcome_of (Failed fault) = Err fault
 outcome_of (PastLimit seed) = Err StepLimit
 outcome_of ending = Ok tt
+
+-- the seed whose run needs more turns than the limit, where the ending names one
+abbrev pub seed_of : Ending → Option ℕ
+seed_of (PastLimit seed) = Some seed
+seed_of ending = None

@@ -1,7 +1,7 @@
 //! A run of the program, from its words to its end.
 
 ghost use Rattle.std.specs.Io.KnownBytes.{Keeps};
-ghost use Rattle.std.specs.Prelude.{◌≡◌, ◌≢◌, ◌⊎◌, [], ℕ, map, true, false, string_bytes, IfErr};
+ghost use Rattle.std.specs.Prelude.{◌≡◌, ◌≢◌, ◌⊎◌, [], ℕ, map, true, false, None, string_bytes, IfErr};
 ghost use Rattle.clap.specs.Words.{kind_of};
 ghost use Rattle.ns_replay.specs.Transfer.{Gave, IsReadFault, IsWriteFault};
 ghost use Rattle.ns_replay.specs.Replaying.{Answers, IsText, WasRead};
@@ -13,7 +13,7 @@ ghost use Rattle.ns_command.specs.Answers.{ByAnswer};
 ghost use Rattle.ns_command.specs.Asked.{asked_by};
 ghost use Rattle.ns_replay.specs.declared.options.Options.{Options};
 ghost use Rattle.ns_command.specs.declared.wanted.Wanted.TheVariants as TheWanted;
-ghost use Rattle.ns_command.specs.Endings.{Says, Shows, EndsFor, EndsForOneOf, outcome_of};
+ghost use Rattle.ns_command.specs.Endings.{Says, Shows, EndsFor, EndsForOneOf, outcome_of, seed_of};
 
 use crate::answer::Answer;
 use crate::command::asked;
@@ -95,12 +95,13 @@ pub fn run<S: Source, W: Sink, P: Prints>(
         WasRead bytes (S.to_come source.new) (outcome_of ending)
         × Answers (W.taken sink.old) (W.taken sink.new) (IsDrawing limit) limit bytes (outcome_of ending)))
         (λ items. ⊥) }
-    // Each outcome shown is that of a run of the script that was read, within the limit that the words give.
+    // Each outcome shown is that of a run of the script that was read, within the limit that the words give. A seed
+    // that is named is the first whose run needs more.
     ensures drawn_outcomes { (seeds : Seeds) → kinds_of (map string_bytes words.now) ≡ []
         → asked_by (map string_bytes words.now) ≡ TheWanted.Outcomes seeds
         → ByAnswer result (λ ending. Gave (S.to_come source.old) (S.to_come source.new) (λ bytes.
         WasRead bytes (S.to_come source.new) (outcome_of ending)
-        × AnswersBy (W.taken sink.old) (W.taken sink.new) (IsReport seeds) (IsUndrawn seeds.limit) bytes (outcome_of ending)))
+        × AnswersBy (W.taken sink.old) (W.taken sink.new) (IsReport seeds) (IsUndrawn seeds None (seed_of ending)) bytes (outcome_of ending)))
         (λ items. ⊥) }
     // A script is written with a schedule by which it comes to an outcome.
     ensures drawn_schedule { (seed limit : ℕ) → kinds_of (map string_bytes words.now) ≡ []
