@@ -33,3 +33,7 @@ loop-preserved g c = (
   since_now g (goal.at.loop-preserved g c).After-load_flag-flag,
   sleeps_on g.C.Condition.means c.args._walk c.load_flag-flag.result c.loop.seat.me c.load_flag-flag.new.seat.me c.requires.sleeps c.if-flag-ne1.false c.loop.invariant.4 c.load_flag-flag.ensures.did,
 )
+
+pub park-requires : goal.park-requires
+park-requires g c = let flag = c.load_flag-flag in
+    (omega arith, (queues_fit g.row.C g.row.N g.met.C.Condition.has_room g.C.Condition, (omega arith, (◌∙◌ {A = TableId} flag.ensures.seat (◌∙◌ {A = TableId} c.loop.invariant.2 (◌∙◌ {A = TableId} c.requires.of (sym c.self.view_is))), same_number g.C.Condition.means None c.args.number c.args.seat.now.me flag.new.seat.me c.requires.number (since_now g (goal.at.park-requires g c).After-load_flag-flag)))))

@@ -1,6 +1,6 @@
-use Rattle.std.proofs.Common.{◌≡◌, ◌∙◌, sym, subst, ap, refl, arith, None, rules}
-use Rattle.ns_monitor.specs.Prelude.{Arm, Changed, InAcquire, Queue, QueueSelf, TableId, the, times}
-use Rattle.ns_gate.proofs.Calls.{since_then, works}
+use Rattle.std.proofs.Common.{◌≡◌, ◌∙◌, sym, subst, ap, refl, arith, None}
+use Rattle.ns_monitor.specs.Prelude.{Arm, ArmFlag, Changed, InAcquire, Queue, QueueSelf, TableId, the, times}
+use Rattle.ns_gate.proofs.Calls.{can_go, since_then, works}
 use Rattle.ns_gate.proofs.Room.{queues_fit}
 use Rattle.ns_monitor.proofs.Locks.{HasArmed, arms, comes_to_acquire}
 use Rattle.ns_monitor.proofs.Standing.{hand_by, still_since}
@@ -26,8 +26,11 @@ put_back-requires g c = let t = g.C.Condition.means in let me1 = c.arm_flag.new.
 
 pub returns : goal.returns
 returns g c = record {
-  seat = search rules;
+  seat = c.await_flag-flag.ensures.seat;
   since = let after = (goal.at.returns g c).After-arm_flag in
       since_then None _ _ _ (still_since g.C.Condition.means None _ c.arm_flag.new.seat.me c.queue_in_hand-bits.new.seat.me c.queue_in_hand-bits.ensures.seat.1 (armed g after).since) (since_then None _ _ _ c.put_back.ensures.since c.await_flag-flag.ensures.since);
   woken = comes_to_acquire g.C.Condition.means c.args.aim c.tries-tries.result c.await_flag-flag.result c.arrival_of.result c.await_flag-flag.new.seat.me c.await_flag-flag.ensures.cleared c.arrival_of.ensures c.await_flag-flag.ensures.woken;
 }
+
+pub arm_flag-requires : goal.arm_flag-requires
+arm_flag-requires g c = (omega arith, (queues_fit g.row.C g.row.N g.met.C.Condition.has_room g.C.Condition, (omega arith, (◌∙◌ {A = TableId} c.requires.of (sym c.self.view_is), (c.requires.number, can_go g.C.Condition.means (InAcquire c.args.aim (Arm c.args.arrival c.args.word)) ArmFlag c.args.seat.now.me refl c.requires.at)))))

@@ -1,6 +1,7 @@
-use Rattle.std.proofs.Common.{◌∙◌, true, false, Some, None, rules, sym}
-use Rattle.ns_monitor.specs.Prelude.{InShow, IsAtPlace, LoadWord, Made, Saw, TableId, TakeQueues, TakeToShow, ToChange, showing}
-use Rattle.ns_gate.proofs.Calls.{since, since_then}
+use Rattle.std.proofs.Common.{◌∙◌, arith, refl, true, false, Some, None, rules, sym}
+use Rattle.ns_monitor.specs.Prelude.{InShow, IsAtPlace, LoadWord, Made, Saw, ShowLoad, TableId, TakeQueues, TakeToShow, ToChange, showing}
+use Rattle.ns_gate.proofs.Calls.{can_go, since, since_then}
+use Rattle.ns_gate.proofs.Room.{queues_fit}
 use Rattle.ns_monitor.proofs.Shows.{has_stood, loads_to_show, misses_to_show, shows_by, takes_to_show}
 use Rattle.ns_monitor.proofs.Standing.{loads_first}
 use Rattle.ns_monitor.proofs.monitor.Monitor.take_to_show.Given.{Over}
@@ -32,3 +33,11 @@ returns-in-Ok g c = record {
 pub loop-preserved : goal.loop-preserved
 loop-preserved g c = let t = g.C.Condition.means in let inv = c.loop.invariant in let tries = c.exchange_to_take in let me = c.loop.seat.me in let now = tries.new.seat.me in let other = c.in-Err.other in
     (tt, tt, ◌∙◌ {A = TableId} tries.ensures.seat inv.2, c.in-Err.ensures.word, since_then (Some showing) _ _ _ inv.4 (since t None (TakeQueues ToChange c.loop.word) (Saw other) me now c.in-Err.ensures.did), misses_to_show t c.loop.word other me now (shows_by t c.loop.word false me (sym c.spin.ensures ∙ c.if-spin.false) inv.5) c.in-Err.ensures.did)
+
+pub load-word-requires-then-spin : goal.load-word-requires-then-spin
+load-word-requires-then-spin g c = let t = g.C.Condition.means in let inv = c.loop.invariant in let me = c.loop.seat.me in
+    (omega arith, (queues_fit g.row.C g.row.N g.met.C.Condition.has_room g.C.Condition, (omega arith, (◌∙◌ {A = TableId} inv.2 (◌∙◌ {A = TableId} c.requires.of (sym c.self.view_is)), can_go t (InShow ShowLoad) LoadWord me refl (shows_by t c.loop.word true me (sym c.spin.ensures ∙ c.if-spin.true) inv.5)))))
+
+pub exchange_to_take-requires : goal.exchange_to_take-requires
+exchange_to_take-requires g c = let t = g.C.Condition.means in let inv = c.loop.invariant in let me = c.loop.seat.me in let word = c.loop.word in
+    (omega arith, (queues_fit g.row.C g.row.N g.met.C.Condition.has_room g.C.Condition, (omega arith, (◌∙◌ {A = TableId} inv.2 (◌∙◌ {A = TableId} c.requires.of (sym c.self.view_is)), (inv.3, can_go t (InShow (TakeToShow word)) (TakeQueues ToChange word) me refl (shows_by t word false me (sym c.spin.ensures ∙ c.if-spin.false) inv.5))))))
