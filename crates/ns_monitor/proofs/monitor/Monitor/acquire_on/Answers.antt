@@ -28,3 +28,9 @@ queue-arrival-requires g c = let inv = c.loop.invariant in let came = c.in-Some-
 pub load-word-requires : goal.load-word-requires
 load-word-requires g c =
     (omega arith, (queues_fit g.row.C g.row.N g.met.C.Condition.has_room g.C.Condition, (omega arith, (◌∙◌ {A = TableId} c.queue-arrival.ensures.seat (sym c.self.view_is), can_load g.C.Condition.means (InAcquire c.args.aim (AcquireLoad c.queue-arrival.result)) c.queue-arrival.new.seat.me tt c.queue-arrival.ensures.woken))))
+
+pub go_or_take-requires : goal.go_or_take-requires
+go_or_take-requires g c = let inv = c.loop.invariant in (omega arith, (queues_fit g.row.C g.row.N g.met.C.Condition.has_room g.C.Condition, (omega arith, (◌∙◌ {A = TableId} inv.2 c.requires.of, (tt, (refl, (inv.3, inv.5)))))))
+
+pub returns-in_default-clause-seat : goal.returns-in_default-clause-seat
+returns-in_default-clause-seat g c = c.go_or_take.ensures.seat

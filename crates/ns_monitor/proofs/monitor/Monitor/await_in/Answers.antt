@@ -1,12 +1,40 @@
-use Rattle.std.proofs.Common.{rules}
+use Rattle.std.proofs.Common.{None, arith, rules}
+use Rattle.ns_gate.proofs.Calls.{since_then}
+use Rattle.ns_gate.proofs.Room.{queues_fit}
+use Rattle.ns_monitor.proofs.Standing.{same_number}
 use Rattle.ns_monitor.proofs.Waits.{woken_next}
 use Rattle.ns_monitor.proofs.monitor.Monitor.await_in.Goals as goal
 
 pub returns-then-not-is_some : goal.returns-then-not-is_some
 returns-then-not-is_some g c = record {
-  seat = search rules;
-  since = search rules;
+  seat = c.await_flag-flag.ensures.seat;
+  since = c.await_flag-flag.ensures.since;
   looked = g.W.Watch.same c.args.watch.now;
   ended = search rules;
   comes = woken_next g.C.Condition.means c.args.wait c.await_flag-flag.result c.woken_by.result c.arrival_of.result c.await_flag-flag.new.seat.me c.await_flag-flag.ensures.cleared c.woken_by.ensures c.arrival_of.ensures c.await_flag-flag.ensures.woken;
 }
+
+pub returns-in-Ok : goal.returns-in-Ok
+returns-in-Ok g c = let waits = c.await_or_end in let came = c.in-Ok.ensures.came in record {
+  seat = waits.ensures.seat;
+  since = waits.ensures.since;
+  looked = waits.ensures.looked;
+  ended = search rules;
+  comes = woken_next g.C.Condition.means c.args.wait c.in-Ok.flag c.woken_by-in-Ok.result c.arrival_of-in-Ok.result waits.new.seat.me came.0 c.woken_by-in-Ok.ensures c.arrival_of-in-Ok.ensures came.1;
+}
+
+pub returns-in-Err-clause-seat : goal.returns-in-Err-clause-seat
+returns-in-Err-clause-seat g c = c.leave.ensures.seat
+
+pub returns-in-Err-clause-since : goal.returns-in-Err-clause-since
+returns-in-Err-clause-since g c = since_then None _ _ _ c.await_or_end.ensures.since c.leave.ensures.since
+
+pub returns-in-Err-clause-looked : goal.returns-in-Err-clause-looked
+returns-in-Err-clause-looked g c = c.await_or_end.ensures.looked
+
+pub returns-in-Err-clause-comes : goal.returns-in-Err-clause-comes
+returns-in-Err-clause-comes g c = c.leave.ensures.left
+
+pub leave-requires : goal.leave-requires
+leave-requires g c = let waits = c.await_or_end in
+    (omega arith, (queues_fit g.row.C g.row.N g.met.C.Condition.has_room g.C.Condition, (omega arith, (waits.ensures.seat, (same_number g.C.Condition.means None c.args.number c.args.seat.now.me waits.new.seat.me c.requires.number waits.ensures.since, (c.requires.range, c.in-Err.ensures.came))))))
