@@ -1,4 +1,5 @@
-use Rattle.std.proofs.Common.{None, arith, rules}
+use Rattle.std.proofs.Common.{◌≡◌, ◌∙◌, None, Some, arith, rules, subst, sym, true}
+use Rattle.ns_monitor.specs.Prelude.{Cause, Ended, IfEnded, Outcome, Woken, is_limited}
 use Rattle.ns_gate.proofs.Calls.{since_then}
 use Rattle.ns_gate.proofs.Room.{queues_fit}
 use Rattle.ns_monitor.proofs.Standing.{same_number}
@@ -38,3 +39,15 @@ returns-in-Err-clause-comes g c = c.leave.ensures.left
 pub leave-requires : goal.leave-requires
 leave-requires g c = let waits = c.await_or_end in
     (omega arith, (queues_fit g.row.C g.row.N g.met.C.Condition.has_room g.C.Condition, (omega arith, (waits.ensures.seat, (same_number g.C.Condition.means None c.args.number c.args.seat.now.me waits.new.seat.me c.requires.number waits.ensures.since, (c.requires.range, c.in-Err.ensures.came))))))
+
+pub await_or_end-requires : goal.await_or_end-requires
+await_or_end-requires g c = (omega arith, (queues_fit g.row.C g.row.N g.met.C.Condition.has_room g.C.Condition, (omega arith, (c.requires.of, (c.requires.number, (sym c.is_some.ensures ∙ c.if-not-is_some.false, (c.requires.watches, c.requires.at)))))))
+
+-- what it left for is what was shown
+shown : (so : Cause → Type 0) (cause : Cause) (outcome : Outcome) → IfEnded outcome (λ other. other ≡ cause) → so cause → IfEnded outcome so
+shown so cause (Woken by) is met = tt
+shown so cause (Ended other) is met = subst so (sym is) met
+
+pub returns-in-Err-clause-ended : goal.returns-in-Err-clause-ended
+returns-in-Err-clause-ended g c = let w = c.args.watch.now in let limits = c.args.wait.limits in
+    shown (λ cause. (is_limited limits ≡ true) × g.W.Watch.shows w c.await_or_end.new.watch limits (Some cause)) c.in-Err.cause c.leave.result.1 c.leave.ensures.ended (sym c.is_some.ensures ∙ c.if-not-is_some.false, c.in-Err.ensures.ended)

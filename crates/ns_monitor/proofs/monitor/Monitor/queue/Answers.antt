@@ -1,9 +1,9 @@
 use Rattle.std.proofs.Common.{◌≡◌, ◌∙◌, sym, subst, ap, refl, arith, None}
-use Rattle.ns_monitor.specs.Prelude.{Arm, ArmFlag, Changed, InAcquire, Queue, QueueSelf, TableId, the, times}
+use Rattle.ns_monitor.specs.Prelude.{Arm, ArmFlag, AwaitWake, Changed, InAcquire, IsAtPlace, Queue, QueueSelf, TableId, the, times}
 use Rattle.ns_gate.proofs.Calls.{can_go, since_then, works}
 use Rattle.ns_gate.proofs.Room.{queues_fit}
 use Rattle.ns_monitor.proofs.Locks.{HasArmed, arms, comes_to_acquire}
-use Rattle.ns_monitor.proofs.Standing.{hand_by, still_since}
+use Rattle.ns_monitor.proofs.Standing.{hand_by, same_number, still_since}
 use Rattle.ns_monitor.proofs.monitor.Monitor.queue.Given.{Over}
 use Rattle.ns_monitor.proofs.monitor.Monitor.queue.Goals.{After-arm_flag}
 use Rattle.ns_monitor.proofs.monitor.Monitor.queue.Goals as goal
@@ -34,3 +34,12 @@ returns g c = record {
 
 pub arm_flag-requires : goal.arm_flag-requires
 arm_flag-requires g c = (omega arith, (queues_fit g.row.C g.row.N g.met.C.Condition.has_room g.C.Condition, (omega arith, (◌∙◌ {A = TableId} c.requires.of (sym c.self.view_is), (c.requires.number, can_go g.C.Condition.means (InAcquire c.args.aim (Arm c.args.arrival c.args.word)) ArmFlag c.args.seat.now.me refl c.requires.at)))))
+
+pub parts-requires : goal.parts-requires
+parts-requires g c = c.requires.word
+
+pub await_flag-flag-requires : goal.await_flag-flag-requires
+await_flag-flag-requires g c = let t = g.C.Condition.means in let back = c.put_back in let queued = c.queue_in_hand-bits in let me = back.new.seat.me in
+    let number = same_number t None c.args.number c.args.seat.now.me me c.requires.number (since_then None _ _ _ (still_since t None _ c.arm_flag.new.seat.me queued.new.seat.me queued.ensures.seat.1 (armed g (goal.at.await_flag-flag-requires g c).After-arm_flag).since) back.ensures.since) in
+    let at = subst (λ n. IsAtPlace t (InAcquire c.args.aim (AwaitWake n)) me) (sym c.tries-tries.ensures) back.ensures.returned in
+    (omega arith, (queues_fit g.row.C g.row.N g.met.C.Condition.has_room g.C.Condition, (omega arith, (back.ensures.seat, (number, (record { loads = refl; free = refl; rests = refl }, at))))))
