@@ -1,5 +1,5 @@
-use Rattle.std.proofs.Common.{◌≡◌, ◌∙◌, None, Some, arith, rules, subst, sym, true}
-use Rattle.ns_monitor.specs.Prelude.{Cause, Ended, IfEnded, Outcome, Woken, is_limited}
+use Rattle.std.proofs.Common.{◌≡◌, ◌∙◌, Bool, None, Some, ap, arith, cond, refl, rules, subst, sym, true}
+use Rattle.ns_monitor.specs.Prelude.{AwaitWakeInWait, Cause, Ended, Idle, IfEnded, InWait, LookOut, On, Outcome, Woken, is_limited}
 use Rattle.ns_gate.proofs.Calls.{since_then}
 use Rattle.ns_gate.proofs.Room.{queues_fit}
 use Rattle.ns_monitor.proofs.Standing.{same_number}
@@ -51,3 +51,8 @@ shown so cause (Ended other) is met = subst so (sym is) met
 pub returns-in-Err-clause-ended : goal.returns-in-Err-clause-ended
 returns-in-Err-clause-ended g c = let w = c.args.watch.now in let limits = c.args.wait.limits in
     shown (λ cause. (is_limited limits ≡ true) × g.W.Watch.shows w c.await_or_end.new.watch limits (Some cause)) c.in-Err.cause c.leave.result.1 c.leave.ensures.ended (sym c.is_some.ensures ∙ c.if-not-is_some.false, c.in-Err.ensures.ended)
+
+pub await_flag-flag-requires : goal.await_flag-flag-requires
+await_flag-flag-requires g c = let wait = c.args.wait in
+    let rests = ap (λ (b : Bool). cond b (On (InWait wait LookOut)) (Idle (InWait wait AwaitWakeInWait))) (sym c.is_some.ensures ∙ c.if-not-is_some.true) in
+    (omega arith, (queues_fit g.row.C g.row.N g.met.C.Condition.has_room g.C.Condition, (omega arith, (c.requires.of, (c.requires.number, (record { loads = refl; free = refl; rests = rests }, c.requires.at))))))
