@@ -14,12 +14,14 @@ returns-in-LoadCell g c = record { seat = c.load_cell.ensures.seat; did = rw c.i
 
 pub returns-in-JudgeQuiet : goal.returns-in-JudgeQuiet
 returns-in-JudgeQuiet g c = let needs = rw c.in-JudgeQuiet.is at c.requires.needs in let means = g.C.Condition.means in let held = (the c.args.seat.now.me.0).at.held in
-    let same : c.quiet.result ≡ means.quiet (before_in held) (row_in held) = rw needs.1 at (by_cell (means.quiet c.args.beside.now.before) c.args.beside.now.row (row_in held) c.in-JudgeQuiet.i c.from.result c.judge_quiet.result c.quiet.result c.quiet.ensures c.from.ensures c.judge_quiet.ensures.cell needs.2) in
+    let same : c.quiet.result ≡ means.quiet (before_in held) (row_in held) =
+    rw needs.1 at (by_cell (means.quiet c.args.beside.now.before) c.args.beside.now.row (row_in held) c.in-JudgeQuiet.i c.from.result c.judge_quiet.result c.quiet.result c.quiet.ensures c.from.ensures c.judge_quiet.ensures.cell needs.2) in
     record { seat = c.judge_quiet.ensures.seat; did = rw c.in-JudgeQuiet.is (rw same c.judge_quiet.ensures.did) }
 
 pub returns-in-JudgeMet : goal.returns-in-JudgeMet
 returns-in-JudgeMet g c = let needs = rw c.in-JudgeMet.is at c.requires.needs in let means = g.C.Condition.means in let held = (the c.args.seat.now.me.0).at.held in
-    let same : c.test.result ≡ means.holds c.in-JudgeMet.condition (row_in held) = by_cell (means.holds c.in-JudgeMet.condition) c.args.beside.now.row (row_in held) c.in-JudgeMet.i c.from-in-JudgeMet.result c.judge_met.result c.test.result c.test.ensures c.from-in-JudgeMet.ensures c.judge_met.ensures.cell needs.1 in
+    let same : c.test.result ≡ means.holds c.in-JudgeMet.condition (row_in held) =
+    by_cell (means.holds c.in-JudgeMet.condition) c.args.beside.now.row (row_in held) c.in-JudgeMet.i c.from-in-JudgeMet.result c.judge_met.result c.test.result c.test.ensures c.from-in-JudgeMet.ensures c.judge_met.ensures.cell needs.1 in
     record { seat = c.judge_met.ensures.seat; did = rw c.in-JudgeMet.is (rw same c.judge_met.ensures.did) }
 
 pub returns-in-LoadFlag : goal.returns-in-LoadFlag

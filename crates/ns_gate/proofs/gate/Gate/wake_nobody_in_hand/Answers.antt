@@ -14,7 +14,8 @@ returns-then-has_waiters-clause-has g c = now_in_hand (the c.args.seat.now.me.0)
 
 pub returns-then-has_waiters-clause-nobody : goal.returns-then-has_waiters-clause-nobody
 returns-then-has_waiters-clause-nobody g c =
-    let some : has_some (waiters_of (the c.args.seat.now.me.0).stood (Cv c.args.k)) ≡ true = ap (λ lists. has_some (waiters_of lists (Cv c.args.k))) (sym (was_in_hand _ _ c.args.seat.now.me.1 c.requires.has c.slot_mut-queues.ensures.value)) ∙ (sym c.has_waiters.ensures ∙ c.if-has_waiters.true) in rw some refl
+    let some : has_some (waiters_of (the c.args.seat.now.me.0).stood (Cv c.args.k)) ≡ true =
+    ap (λ lists. has_some (waiters_of lists (Cv c.args.k))) (sym (was_in_hand _ _ c.args.seat.now.me.1 c.requires.has c.slot_mut-queues.ensures.value)) ∙ (sym c.has_waiters.ensures ∙ c.if-has_waiters.true) in rw some refl
 
 pub returns-clause-seat : goal.returns-clause-seat
 returns-clause-seat g c = (refl, refl)
@@ -24,5 +25,6 @@ returns-clause-has g c = now_in_hand (the c.args.seat.now.me.0).stood _ _ c.args
 
 pub returns-clause-nobody : goal.returns-clause-nobody
 returns-clause-nobody g c =
-    let none : has_some (waiters_of (the c.args.seat.now.me.0).stood (Cv c.args.k)) ≡ false = ap (λ lists. has_some (waiters_of lists (Cv c.args.k))) (sym (was_in_hand _ _ c.args.seat.now.me.1 c.requires.has c.slot_mut-queues.ensures.value)) ∙ (sym c.has_waiters.ensures ∙ c.if-has_waiters.false) in
+    let none : has_some (waiters_of (the c.args.seat.now.me.0).stood (Cv c.args.k)) ≡ false =
+    ap (λ lists. has_some (waiters_of lists (Cv c.args.k))) (sym (was_in_hand _ _ c.args.seat.now.me.1 c.requires.has c.slot_mut-queues.ensures.value)) ∙ (sym c.has_waiters.ensures ∙ c.if-has_waiters.false) in
     rw none (ap (λ bits. Some (record { some = false; bits = bits })) (c.bits.ensures ∙ ap (λ lists. bits_of lists.lock) (was_in_hand _ _ c.args.seat.now.me.1 c.requires.has c.slot_mut-queues.ensures.value)))
