@@ -35,5 +35,5 @@ loop-preserved g c = (
 )
 
 pub park-requires : goal.park-requires
-park-requires g c = let flag = c.load_flag-flag in
-    (omega arith, (queues_fit g.row.C g.row.N g.met.C.Condition.has_room g.C.Condition, (omega arith, (◌∙◌ {A = TableId} flag.ensures.seat (◌∙◌ {A = TableId} c.loop.invariant.2 (◌∙◌ {A = TableId} c.requires.of (sym c.self.view_is))), same_number g.C.Condition.means None c.args.number c.args.seat.now.me flag.new.seat.me c.requires.number (since_now g (goal.at.park-requires g c).After-load_flag-flag)))))
+park-requires g c = let flag = c.load_flag-flag in let of = ◌∙◌ {A = TableId} flag.ensures.seat (◌∙◌ {A = TableId} c.loop.invariant.2 (◌∙◌ {A = TableId} c.requires.of (sym c.self.view_is))) in
+    (omega arith, (queues_fit g.row.C g.row.N g.met.C.Condition.has_room g.C.Condition, (omega arith, (of, same_number g.C.Condition.means None c.args.number c.args.seat.now.me flag.new.seat.me c.requires.number (since_now g (goal.at.park-requires g c).After-load_flag-flag)))))

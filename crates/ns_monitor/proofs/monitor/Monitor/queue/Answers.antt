@@ -33,7 +33,8 @@ returns g c = record {
 }
 
 pub arm_flag-requires : goal.arm_flag-requires
-arm_flag-requires g c = (omega arith, (queues_fit g.row.C g.row.N g.met.C.Condition.has_room g.C.Condition, (omega arith, (◌∙◌ {A = TableId} c.requires.of (sym c.self.view_is), (c.requires.number, can_go g.C.Condition.means (InAcquire c.args.aim (Arm c.args.arrival c.args.word)) ArmFlag c.args.seat.now.me refl c.requires.at)))))
+arm_flag-requires g c = let arming = InAcquire c.args.aim (Arm c.args.arrival c.args.word) in
+    (omega arith, (queues_fit g.row.C g.row.N g.met.C.Condition.has_room g.C.Condition, (omega arith, (◌∙◌ {A = TableId} c.requires.of (sym c.self.view_is), (c.requires.number, can_go g.C.Condition.means arming ArmFlag c.args.seat.now.me refl c.requires.at)))))
 
 pub parts-requires : goal.parts-requires
 parts-requires g c = c.requires.word

@@ -35,12 +35,13 @@ loop-preserved g c = let t = g.C.Condition.means in let inv = c.loop.invariant i
     (tt, tt, ◌∙◌ {A = TableId} tries.ensures.seat inv.2, c.in-Err.ensures.word, since_then (Some showing) _ _ _ inv.4 (since t None (TakeQueues ToChange c.loop.word) (Saw other) me now c.in-Err.ensures.did), misses_to_show t c.loop.word other me now (shows_by t c.loop.word false me (sym c.spin.ensures ∙ c.if-spin.false) inv.5) c.in-Err.ensures.did)
 
 pub load-word-requires-then-spin : goal.load-word-requires-then-spin
-load-word-requires-then-spin g c = let t = g.C.Condition.means in let inv = c.loop.invariant in let me = c.loop.seat.me in
-    (omega arith, (queues_fit g.row.C g.row.N g.met.C.Condition.has_room g.C.Condition, (omega arith, (◌∙◌ {A = TableId} inv.2 (◌∙◌ {A = TableId} c.requires.of (sym c.self.view_is)), can_go t (InShow ShowLoad) LoadWord me refl (shows_by t c.loop.word true me (sym c.spin.ensures ∙ c.if-spin.true) inv.5)))))
+load-word-requires-then-spin g c = let t = g.C.Condition.means in let inv = c.loop.invariant in let me = c.loop.seat.me in let of = ◌∙◌ {A = TableId} inv.2 (◌∙◌ {A = TableId} c.requires.of (sym c.self.view_is)) in
+    (omega arith, (queues_fit g.row.C g.row.N g.met.C.Condition.has_room g.C.Condition, (omega arith, (of, can_go t (InShow ShowLoad) LoadWord me refl (shows_by t c.loop.word true me (sym c.spin.ensures ∙ c.if-spin.true) inv.5)))))
 
 pub exchange_to_take-requires : goal.exchange_to_take-requires
 exchange_to_take-requires g c = let t = g.C.Condition.means in let inv = c.loop.invariant in let me = c.loop.seat.me in let word = c.loop.word in
-    (omega arith, (queues_fit g.row.C g.row.N g.met.C.Condition.has_room g.C.Condition, (omega arith, (◌∙◌ {A = TableId} inv.2 (◌∙◌ {A = TableId} c.requires.of (sym c.self.view_is)), (inv.3, can_go t (InShow (TakeToShow word)) (TakeQueues ToChange word) me refl (shows_by t word false me (sym c.spin.ensures ∙ c.if-spin.false) inv.5))))))
+    let of = ◌∙◌ {A = TableId} inv.2 (◌∙◌ {A = TableId} c.requires.of (sym c.self.view_is)) in
+    (omega arith, (queues_fit g.row.C g.row.N g.met.C.Condition.has_room g.C.Condition, (omega arith, (of, (inv.3, can_go t (InShow (TakeToShow word)) (TakeQueues ToChange word) me refl (shows_by t word false me (sym c.spin.ensures ∙ c.if-spin.false) inv.5))))))
 
 pub load-word-requires : goal.load-word-requires
 load-word-requires g c = let t = g.C.Condition.means in let me = c.args.seat.now.me in let rest = c.requires.rest in
