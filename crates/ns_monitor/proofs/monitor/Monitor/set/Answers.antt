@@ -1,5 +1,6 @@
-use Rattle.std.proofs.Common.{◌∙◌, ap, Some, rules}
-use Rattle.ns_monitor.specs.Prelude.{Known, TableId, setting, the}
+use Rattle.std.proofs.Common.{◌∙◌, ap, arith, refl, sym, Some, rules}
+use Rattle.ns_monitor.specs.Prelude.{InCells, Known, SetStore, StoreCell, TableId, setting, the}
+use Rattle.ns_gate.proofs.Calls.{can_go}
 use Rattle.ns_monitor.proofs.Saves.{saves}
 use Rattle.ns_monitor.proofs.Standing.{same_number}
 use Rattle.ns_monitor.proofs.Callers.{grew, is_set, sets_next}
@@ -23,3 +24,9 @@ returns g c = record {
   wide = search rules;
   section = search rules;
 }
+
+pub store_cell-requires : goal.store_cell-requires
+store_cell-requires g c = let t = g.C.Condition.means in let i = c.args.i in let value = c.args.value in let me = c.held.inside.seat.me in let load = c.load_cell-old in let mid = load.new.seat.me in
+    let of = ◌∙◌ {A = TableId} load.ensures.seat (◌∙◌ {A = TableId} (ap (λ (k : Known g.row.C.Denot g.row.N). k.monitor) c.held.view_is) (c.requires.of ∙ sym c.self.view_is)) in
+    let next = sets_next t i value load.result c.set.result me mid c.set.ensures.first c.held.invariant.0 load.ensures.did in
+    (omega arith, (g.met.C.Gated.queues_fit, (omega arith, (of, (search rules, can_go t (InCells (SetStore i value)) (StoreCell i value) mid refl next.0)))))
