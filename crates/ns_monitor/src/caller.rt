@@ -37,7 +37,7 @@ pub trait Renewed<C, const N: usize>: Section<C, N> + Drop {
 }
 
 /// A section in hand that takes little memory, as both do. Code that holds any of them beside much else takes
-/// this for a bound, too.
+/// this for a bound, too. It is no part of [`Renewed`], since only `wait_any_held` of ns_objects needs it.
 pub trait Compact<const N: usize> {
     /// Where a row takes less than 2^32, the section takes less than 2^40.
     ghost has_room: { TakesLittle Self.row N.row };

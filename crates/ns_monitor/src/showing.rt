@@ -33,7 +33,8 @@ pub struct DebugState {
 }
 
 impl<C: Condition<N>, const N: usize> Monitor<C, N> {
-    /// Begins to show, and takes the queues. Answers the word that the exchange compared.
+    /// Begins to show, and takes the queues. Answers the word that the exchange compared. This is a loop of its
+    /// own, since it tells of the state in which it took the queues (`HasStood`).
     fn take_to_show<R: Wait>(&self, rt: &R, seat: &mut GateSeat<C, N>) -> LockWord
         requires of { seat.old.table_id ≡ self.now }
         requires rest { IsAtRest C.means seat.old.me }

@@ -38,7 +38,7 @@ impl<C: Condition<N>, const N: usize> Monitor<C, N> {
     ///
     /// The taken are kept apart until the queues are back. To turn what is in hand is to put them at the back
     /// of the lock list there, or to take them out of it again. That needs the lists to have stood orderly,
-    /// which `wake_in_hand` tells.
+    /// which `wake_in_hand` tells. So what is in hand depends on the word, and this is a loop of its own.
     fn return_woken<R: Wait>(
         &self,
         rt: &R,

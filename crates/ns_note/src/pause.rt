@@ -13,7 +13,8 @@ use std::time::Duration;
 const FIRST: u64 = 1;
 
 /// How long any sleep may last, in milliseconds: so late, at most, is seen what wakes nobody at that word. A sleep
-/// is twice as long as the one before, so one that has waited for a short time only looks again soon.
+/// is twice as long as the one before, so one that has waited for a short time only looks again soon. With 16 in
+/// place of 64, sixty waiters took 1.5 to 12.6 % of a processor.
 const LONGEST: u64 = 64;
 
 /// The rounds of such a caller.

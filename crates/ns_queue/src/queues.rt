@@ -17,6 +17,8 @@ use std::marker::Model;
 /// The waiter lists of a lock. To its callers this is five lists: the lock's, and one for each of four condition
 /// variables. A seat stands in the lock's once, or once in any of the others. So a list has room
 /// for every waiter: seats are below 64, and each stands there at most once.
+///
+/// The bound stands at the type, since the invariant of the lock list names what `same` means.
 #[derive(Drop)]
 pub struct Queues<C: Condition<N>, const N: usize> {
     pub(crate) lock: LockList<C, N>,

@@ -15,6 +15,9 @@ pub(crate) const END: u8 = 64;
 
 /// Waiters in a row. Each lies in the entry of its seat, and links lead from the place [`END`] by
 /// their seats and back to it.
+///
+/// The arrays stand side by side, and not as one array of entries: a statement names the arrays that it
+/// reads, so a write of another needs no lemma.
 #[derive(Drop)]
 pub(crate) struct Ring<C, const N: usize> {
     held: [Option<Waiter<C>>; 64],

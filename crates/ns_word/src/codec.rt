@@ -1,6 +1,6 @@
-//! The lock word as one number, as a table of atomic words keeps it. The values stand here and in
-//! `specs/Codec.antt`, and nowhere else.
-//! The table of the bits, with the value of each, is at the head of `word.rt`.
+//! The lock word as one number, as a table of atomic words keeps it. The table of the bits, with the value of
+//! each, is at the head of `word.rt`; definitions and proofs have the values in `specs/Codec.antt`,
+//! `specs/Encoded.antt` and `specs/Bits.antt`.
 
 ghost use Rattle.std.specs.Prelude.{◌≡◌, ◌*◌, ◌/◌, ◌<◌, ◌≤◌, Ok, MatchResult};
 ghost use Rattle.ns_word.specs.Begins.{free_word};
