@@ -1,4 +1,6 @@
-use Rattle.std.proofs.Common.{refl, rules}
+use Rattle.std.proofs.Common.{refl, arith}
+use Rattle.ns_queue.specs.Sizes.{queues_fit}
+use denote.Param.{number}
 use Rattle.ns_word.proofs.hand.change_in_hand.Goals as goal
 
 pub returns-in-InTry : goal.returns-in-InTry
@@ -23,10 +25,13 @@ pub returns-in-InShow : goal.returns-in-InShow
 returns-in-InShow g c = rw c.in-InShow.is refl
 
 pub change_acquiring-requires : goal.change_acquiring-requires
-change_acquiring-requires g c = (search rules, (c.requires.below, rw c.in-InAcquire.is at c.requires.free))
+change_acquiring-requires g c = (queues_fit g.row.C (number g.row.N) g.met.C.Condition.has_room g.C.Condition, (c.requires.below, rw c.in-InAcquire.is at c.requires.free))
 
 pub change_waiting-requires : goal.change_waiting-requires
-change_waiting-requires g c = (search rules, (search rules, (rw c.in-InWait.is at c.requires.lists, (c.requires.below, rw c.in-InWait.is at c.requires.free))))
+change_waiting-requires g c = (queues_fit g.row.C (number g.row.N) g.met.C.Condition.has_room g.C.Condition, (omega arith, (rw c.in-InWait.is at c.requires.lists, (c.requires.below, rw c.in-InWait.is at c.requires.free))))
 
 pub change_signaling-requires : goal.change_signaling-requires
-change_signaling-requires g c = (search rules, rw c.in-InSignal.is at c.requires.lists)
+change_signaling-requires g c = (queues_fit g.row.C (number g.row.N) g.met.C.Condition.has_room g.C.Condition, rw c.in-InSignal.is at c.requires.lists)
+
+pub change_releasing-requires : goal.change_releasing-requires
+change_releasing-requires g c = (queues_fit g.row.C (number g.row.N) g.met.C.Condition.has_room g.C.Condition, omega arith)

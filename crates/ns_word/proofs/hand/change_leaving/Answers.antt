@@ -1,5 +1,7 @@
 use Rattle.std.proofs.Common.{◌≡◌, ℕ, [], refl}
 use Rattle.ns_word.specs.Prelude.{Cause, InLeaving, Leave, LeavePlace, Lists, Truths, Wait, Word, wait_hand}
+use Rattle.ns_queue.specs.Sizes.{queues_fit}
+use denote.Param.{number}
 use Rattle.ns_word.proofs.hand.change_leaving.Goals as goal
 
 -- at no other place does it change the lists
@@ -12,3 +14,6 @@ returns-in-Leave g c = rw c.in-Leave.is (rw c.home.ensures at (c.leave_self.ensu
 
 pub returns-in_default : goal.returns-in_default
 returns-in_default g c = left_there g.C.Condition.means c.args.seat c.args.wait c.args.cause c.args.place c.args.queues.now c.in_default.not-Leave
+
+pub leave_self-requires : goal.leave_self-requires
+leave_self-requires g c = queues_fit g.row.C (number g.row.N) g.met.C.Condition.has_room g.C.Condition

@@ -1,9 +1,11 @@
-use Rattle.std.proofs.Common.{rules, refl, ◌≡◌, ◌∙◌, ℕ, List, []}
+use Rattle.std.proofs.Common.{arith, refl, ◌≡◌, ◌∙◌, ℕ, List, []}
 use Rattle.ns_word.specs.Prelude.{Cause, InLeaving, Leave, LeavePlace, Lists, Truths, Wait, wait_hand}
+use Rattle.ns_queue.specs.Sizes.{queues_fit}
+use denote.Param.{number}
 use Rattle.ns_word.proofs.hand.change_waiting.Goals as goal
 
 pub change_queuing-requires : goal.change_queuing-requires
-change_queuing-requires g c = (search rules, (search rules, (c.requires.list, (c.requires.below, rw c.in-InQueuing.is at c.requires.free))))
+change_queuing-requires g c = (queues_fit g.row.C (number g.row.N) g.met.C.Condition.has_room g.C.Condition, (omega arith, (c.requires.list, (c.requires.below, rw c.in-InQueuing.is at c.requires.free))))
 
 pub returns-in-InQueuing : goal.returns-in-InQueuing
 returns-in-InQueuing g c = rw c.in-InQueuing.is c.change_queuing.ensures

@@ -1,4 +1,16 @@
+use Rattle.std.proofs.Common.{rules}
+use Rattle.ns_queue.specs.Sizes.{queues_fit}
+use denote.Param.{number}
 use Rattle.ns_word.proofs.hand.enter.Goals as goal
 
 pub returns-in-OnCondition : goal.returns-in-OnCondition
 returns-in-OnCondition g c = rw c.in-OnCondition.is c.queue.ensures
+
+pub queue-requires : goal.queue-requires
+queue-requires g c = (queues_fit g.row.C (number g.row.N) g.met.C.Condition.has_room g.C.Condition, (c.requires.below, c.requires.free))
+
+pub push_back-requires : goal.push_back-requires
+push_back-requires g c = (queues_fit g.row.C (number g.row.N) g.met.C.Condition.has_room g.C.Condition, (search rules, (c.requires.below, c.requires.free)))
+
+pub push_any-requires : goal.push_any-requires
+push_any-requires g c = (queues_fit g.row.C (number g.row.N) g.met.C.Condition.has_room g.C.Condition, (search rules, (c.requires.below, c.requires.free)))

@@ -2,6 +2,8 @@ use Rattle.std.proofs.Common.{◌≡◌, ℕ, ◌<◌, ◌≤◌, ◌↔◌, Boo
 use Rattle.std.specs.Bool.{OnTrue}
 use Rattle.std.proofs.lemmas.Bool.{ltb-true}
 use Rattle.ns_word.specs.Prelude.{AtLock, AtVariables, Home, Lists, stands_at, times, without}
+use Rattle.ns_queue.specs.Sizes.{queues_fit}
+use denote.Param.{number}
 use Rattle.ns_word.proofs.hand.leave_self.Goals as goal
 
 -- who stands there stands in the lists
@@ -25,3 +27,9 @@ returns-then-stands-clause-stood g c = c.stands_at-stands.ensures
 
 pub returns-else-stands-clause-stood : goal.returns-else-stands-clause-stood
 returns-else-stands-clause-stood g c = c.stands_at-stands.ensures
+
+pub stands_at-stands-requires : goal.stands_at-stands-requires
+stands_at-stands-requires g c = queues_fit g.row.C (number g.row.N) g.met.C.Condition.has_room g.C.Condition
+
+pub remove-requires : goal.remove-requires
+remove-requires g c = queues_fit g.row.C (number g.row.N) g.met.C.Condition.has_room g.C.Condition

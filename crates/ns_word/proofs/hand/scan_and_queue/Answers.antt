@@ -1,10 +1,12 @@
-use Rattle.std.proofs.Common.{ap, ◌∙◌, rules}
+use Rattle.std.proofs.Common.{ap, ◌∙◌, arith}
 use Rattle.ns_word.specs.Steps.{waits_at}
 use Rattle.ns_word.proofs.Hands.{free_scanned}
+use Rattle.ns_queue.specs.Sizes.{queues_fit}
+use denote.Param.{number}
 use Rattle.ns_word.proofs.hand.scan_and_queue.Goals as goal
 
 pub enter-requires : goal.enter-requires
-enter-requires g c = (search rules, (c.requires.list, (c.requires.below, free_scanned c.args.seat (λ x. g.C.Condition.means.holds x c.args.row.now) c.args.queues.now c.scan-scan.new.self c.scan-scan.ensures.left c.requires.free)))
+enter-requires g c = (queues_fit g.row.C (number g.row.N) g.met.C.Condition.has_room g.C.Condition, (c.requires.list, (c.requires.below, free_scanned c.args.seat (λ x. g.C.Condition.means.holds x c.args.row.now) c.args.queues.now c.scan-scan.new.self c.scan-scan.ensures.left c.requires.free)))
 
 pub returns-clause-woken : goal.returns-clause-woken
 returns-clause-woken g c = c.scan-scan.ensures.woken
@@ -17,3 +19,6 @@ returns-clause-lists g c = c.enter.ensures ∙ ap (waits_at c.args.wait.on c.arg
 
 pub returns-clause-tests : goal.returns-clause-tests
 returns-clause-tests g c = c.scan-scan.ensures.tests
+
+pub scan-scan-requires : goal.scan-scan-requires
+scan-scan-requires g c = (queues_fit g.row.C (number g.row.N) g.met.C.Condition.has_room g.C.Condition, omega arith)

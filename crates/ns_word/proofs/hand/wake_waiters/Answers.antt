@@ -1,8 +1,11 @@
-use Rattle.std.proofs.Common.{rules, ◌≡◌, ℕ, ◌<◌, ◌≤◌, ◌++◌, Bool, true, false, List, [], ap, ◌∙◌, arith, if◌then◌else◌}
+use Rattle.std.proofs.Common.{◌≡◌, ℕ, ◌<◌, ◌≤◌, ◌++◌, Bool, true, false, List, [], ap, ◌∙◌, arith, if◌then◌else◌}
 use Rattle.ns_word.specs.Prelude.{Cv, HaveSeats, IsOrderly, Lists, Lock, Owed, Waiter, cvs_without, moved_to, taken_set, times, times_in, waiters_of, wakes_of, with_waiters}
+use Rattle.ns_queue.proofs.Orders.{list_small}
 use Rattle.ns_queue.proofs.Outside.{gone_those}
 use Rattle.ns_queue.proofs.Parts.{below_in, once_in}
 use Rattle.ns_queue.proofs.Taken.{times_signaled}
+use Rattle.ns_queue.specs.Sizes.{queues_fit}
+use denote.Param.{number}
 use Rattle.ns_word.proofs.hand.wake_waiters.Goals.{in-Signaling, in-Broadcasting}
 use Rattle.ns_word.proofs.hand.wake_waiters.Goals as goal
 
@@ -17,12 +20,12 @@ may_move lists new k ws taken orderly low part is same = rw (is, same) (
 pub append-requires : goal.append-requires
 append-requires g c = elim c.match-waking.branch [
   | in-Signaling w ↦ (
-    search rules,
+    queues_fit g.row.C (number g.row.N) g.met.C.Condition.has_room g.C.Condition,
     may_move c.args.queues.now c.match-waking.queues c.args.k c.as_slice.result.now _ w.take_signal-taken.ensures.orderly c.requires (λ seat. omega (arith, times_signaled (waiters_of c.args.queues.now (Cv c.args.k)) seat))
         (w.queues-is ∙ w.take_signal-taken.ensures.left) (c.as_slice.ensures.value ∙ ap (λ v. v.items) w.taken-is ∙ w.take_signal-taken.ensures.taken),
   )
   | in-Broadcasting w ↦ (
-    search rules,
+    queues_fit g.row.C (number g.row.N) g.met.C.Condition.has_room g.C.Condition,
     may_move c.args.queues.now c.match-waking.queues c.args.k c.as_slice.result.now _ w.take_all-taken.ensures.orderly c.requires (λ seat. omega arith)
         (w.queues-is ∙ w.take_all-taken.ensures.left) (c.as_slice.ensures.value ∙ ap (λ v. v.items) w.taken-is ∙ w.take_all-taken.ensures.taken),
   )
@@ -58,3 +61,9 @@ returns-else-held-clause-lists g c = elim c.match-waking.branch [
 
 pub returns-then-held-clause-owed : goal.returns-then-held-clause-owed
 returns-then-held-clause-owed g c = rw c.if-held.true c.new.ensures
+
+pub take_signal-taken-requires : goal.take_signal-taken-requires
+take_signal-taken-requires g c = (queues_fit g.row.C (number g.row.N) g.met.C.Condition.has_room g.C.Condition, (list_small _ g.met.C.Queueable.list_fits, c.requires))
+
+pub take_all-taken-requires : goal.take_all-taken-requires
+take_all-taken-requires g c = (queues_fit g.row.C (number g.row.N) g.met.C.Condition.has_room g.C.Condition, (list_small _ g.met.C.Queueable.list_fits, c.requires))
