@@ -10,3 +10,9 @@ returns-else-stands_at_variables-clause-ok g c = let items = c.args.history.now.
     let none : leave_of {C = g.row.C.Denot} {N = g.row.N} c.args.seat c.args.home (stands_at c.args.seat c.args.home c.args.queues.now) ≡ [] =
     subst (λ home. leave_of {C = g.row.C.Denot} {N = g.row.N} c.args.seat home (stands_at c.args.seat home c.args.queues.now) ≡ []) (sym c.in-AtVariables.is) (ap (leave_of c.args.seat (AtVariables v)) (sym c.if-stands_at_variables.ensures) ∙ not_leaving c.args.seat (AtVariables v)) in
     sym (ap (λ more. items ++ more) none ∙ append-nil items)
+
+pub stands_at_variables-requires : goal.stands_at_variables-requires
+stands_at_variables-requires g c = g.met.C.Seated.queues_fit
+
+pub leaving-requires : goal.leaving-requires
+leaving-requires g c = g.met.C.Fits.event_fits

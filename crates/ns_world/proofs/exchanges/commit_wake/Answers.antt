@@ -8,3 +8,9 @@ returns-clause-ok g c = elim c.match-waking.branch [
   | in-Signaling w ↦ rw w.in-Signaling.is (c.in_ok-push.ensures.items ∙ ap (λ e. c.args.history.now.items ++ e ∷ []) (w.event-is ∙ ap (λ s. Signal c.args.seat c.args.k s) w.signaled_set.ensures))
   | in-Broadcasting w ↦ rw w.in-Broadcasting.is (c.in_ok-push.ensures.items ∙ ap (λ e. c.args.history.now.items ++ e ∷ []) (w.event-is ∙ ap (λ s. Broadcast c.args.seat c.args.k s) w.waiting_set.ensures))
 ]
+
+pub signaled_set-requires : goal.signaled_set-requires
+signaled_set-requires g c = (g.met.C.Seated.queues_fit, c.requires)
+
+pub waiting_set-requires : goal.waiting_set-requires
+waiting_set-requires g c = (g.met.C.Seated.queues_fit, c.requires)

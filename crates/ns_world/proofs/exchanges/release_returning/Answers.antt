@@ -1,4 +1,4 @@
-use Rattle.std.proofs.Common.{refl, sym, ◌∙◌, ap, not, rules}
+use Rattle.std.proofs.Common.{refl, sym, ◌∙◌, ap, not, rules, arith}
 use Rattle.std.proofs.lemmas.Result.{err_from_is_err_and}
 use Rattle.ns_world.specs.Prelude.{called_by}
 use Rattle.ns_word.proofs.Scans.{are_called, as_many, some_called}
@@ -39,10 +39,10 @@ pub returns-in_err-commit-clause-ok : goal.returns-in_err-commit-clause-ok
 returns-in_err-commit-clause-ok g c = let p = err_from_is_err_and c.from_residual.result c.from_residual.ensures.1 in rw p.1 tt
 
 pub scan-scan-requires : goal.scan-scan-requires
-scan-scan-requires g c = (search rules, search rules)
+scan-scan-requires g c = (g.met.C.Seated.queues_fit, omega arith)
 
 pub bits-requires : goal.bits-requires
-bits-requires g c = search rules
+bits-requires g c = g.met.C.Seated.queues_fit
 
 pub called-seat-requires : goal.called-seat-requires
 called-seat-requires g c = record { few = search rules; same = rw (c.as_slice.ensures.value, c.as_slice-2.ensures.value) (as_many _ _ _ c.scan-scan.ensures.woken c.scan-scan.ensures.vias) }

@@ -18,3 +18,15 @@ returns-in_err-commit_leave-clause-err g c =
     let p = err_from_is_err_and c.from_residual.result c.from_residual.ensures.1 in
     let err = c.in_err-commit_leave.ensures.err in
     rw p.1 (err.0, sym (c.if-not-is_same.ensures.same refl), refl, refl, err.1)
+
+pub commit_leave-requires : goal.commit_leave-requires
+commit_leave-requires g c = (g.met.C.Seated.queues_fit, g.met.C.Fits.event_fits)
+
+pub leave_self-stood-requires : goal.leave_self-stood-requires
+leave_self-stood-requires g c = g.met.C.Seated.queues_fit
+
+pub bits-requires : goal.bits-requires
+bits-requires g c = g.met.C.Seated.queues_fit
+
+pub returned-requires : goal.returned-requires
+returned-requires g c = tt

@@ -1,16 +1,16 @@
-use Rattle.std.proofs.Common.{rules, [], refl, sym}
+use Rattle.std.proofs.Common.{[], refl, sym}
 use Rattle.std.proofs.lemmas.List.{append-nil}
 use Rattle.ns_world.proofs.Waited.{on_ok, on_err}
 use Rattle.ns_world.proofs.exchanges.return_queues.Goals as goal
 
 pub return_queued-requires : goal.return_queued-requires
-return_queued-requires g c = let fits = rw c.in-QueueSelf.is at (c.requires.fits [] []) in (search rules, (c.requires.below, fits))
+return_queued-requires g c = let fits = rw c.in-QueueSelf.is at (c.requires.fits [] []) in (g.met.C.Seated.queues_fit, (c.requires.below, fits))
 
 pub return_left-requires : goal.return_left-requires
-return_left-requires g c = (search rules, g.met.C.Fits.event_fits)
+return_left-requires g c = (g.met.C.Seated.queues_fit, g.met.C.Fits.event_fits)
 
 pub return_waking-requires : goal.return_waking-requires
-return_waking-requires g c = let fits = rw c.in-WakeWaiters.is at (c.requires.fits [] []) in (search rules, (g.met.C.Seated.seat_fits, (g.met.C.Fits.event_fits, fits)))
+return_waking-requires g c = let fits = rw c.in-WakeWaiters.is at (c.requires.fits [] []) in (g.met.C.Seated.queues_fit, (g.met.C.Seated.seat_fits, (g.met.C.Fits.event_fits, fits)))
 
 pub returns-in-QueueSelf-clause-ok : goal.returns-in-QueueSelf-clause-ok
 returns-in-QueueSelf-clause-ok g c = rw c.in-QueueSelf.is (λ row flags. record { commits = []; effect = c.return_queued.ensures row flags c.args.seat.now.owed.items c.args.seat.now.held; grows = sym (append-nil _) })
@@ -38,3 +38,6 @@ returns-in-Nothing-clause-ok g c = rw c.in-Nothing.is (λ row flags. record { co
 
 pub returns-in-Nothing-clause-kept : goal.returns-in-Nothing-clause-kept
 returns-in-Nothing-clause-kept g c = record { number = refl; walk = refl; asking = refl; tests = refl }
+
+pub return_unchanged-requires : goal.return_unchanged-requires
+return_unchanged-requires g c = g.met.C.Seated.queues_fit

@@ -9,3 +9,9 @@ pub returns : goal.returns
 returns g c = λ seat row flags owed held.
     unchanged_back g.C.Condition.means seat c.args.last c.args.word.now c.returned.result row flags owed held c.args.queues.now c.bits.result
     (sym (c.if-not-is_same.ensures.same refl)) c.bits.ensures c.returned.ensures
+
+pub bits-requires : goal.bits-requires
+bits-requires g c = g.met.C.Seated.queues_fit
+
+pub returned-requires : goal.returned-requires
+returned-requires g c = tt

@@ -3,6 +3,7 @@ use Rattle.std.proofs.lemmas.Result.{err_from_is_err_and}
 use Rattle.ns_world.specs.Prelude.{WakeWaiters, has_some}
 use Rattle.ns_world.proofs.Released.{some_left}
 use Rattle.ns_world.proofs.Waited.{woken_back, change_missed}
+use Rattle.ns_queue.proofs.Orders.{list_small}
 use Rattle.ns_world.proofs.exchanges.return_waking.Goals as goal
 
 pub returns-then-not-is_same-clause-ok : goal.returns-then-not-is_same-clause-ok
@@ -44,3 +45,12 @@ returns-in_err-commit_wake-clause-kept g c = record { number = refl; walk = refl
 
 pub returns-clause-err : goal.returns-clause-err
 returns-clause-err g c = tt
+
+pub commit_wake-requires : goal.commit_wake-requires
+commit_wake-requires g c = (g.met.C.Seated.queues_fit, (g.met.C.Fits.event_fits, c.requires))
+
+pub waiters-requires : goal.waiters-requires
+waiters-requires g c = (g.met.C.Seated.queues_fit, (list_small _ g.met.C.Queueable.list_fits, c.requires))
+
+pub wake_waiters-seat-requires : goal.wake_waiters-seat-requires
+wake_waiters-seat-requires g c = (g.met.C.Seated.queues_fit, c.requires)

@@ -1,25 +1,25 @@
 use Rattle.std.proofs.lemmas.Result.{err_from_is_err_and}
-use Rattle.std.proofs.Common.{rules, [], refl, sym}
+use Rattle.std.proofs.Common.{arith, [], refl, sym}
 use Rattle.std.proofs.lemmas.List.{append-nil}
 use Rattle.ns_world.proofs.Waited.{can_in_range, fits_there}
 use Rattle.ns_world.proofs.perform.make.Goals as goal
 
 pub acquire-found-requires : goal.acquire-found-requires
-acquire-found-requires g c = let fits = rw c.in-Acquire.is at c.requires.fits in (search rules, (g.met.C.Fits.held_fits, (fits.0, (fits.1, fits.2))))
+acquire-found-requires g c = let fits = rw c.in-Acquire.is at c.requires.fits in (omega arith, (g.met.C.Fits.held_fits, (fits.0, (fits.1, fits.2))))
 
 pub return_queues-requires : goal.return_queues-requires
-return_queues-requires g c = let fits = rw c.in-ReturnQueues.is at c.requires.fits in (search rules, (g.met.C.Seated.seat_fits, (g.met.C.Fits.event_fits, (fits.0, λ row flags. fits_there c.args.seat.now.number c.in-ReturnQueues.change c.args.word.now c.args.row.now row c.args.flags.now flags c.args.seat.now.held c.args.seat.now.owed.items c.args.queues.now fits.1))))
+return_queues-requires g c = let fits = rw c.in-ReturnQueues.is at c.requires.fits in (g.met.C.Seated.queues_fit, (g.met.C.Seated.seat_fits, (g.met.C.Fits.event_fits, (fits.0, λ row flags. fits_there c.args.seat.now.number c.in-ReturnQueues.change c.args.word.now c.args.row.now row c.args.flags.now flags c.args.seat.now.held c.args.seat.now.owed.items c.args.queues.now fits.1))))
 
 pub release-requires : goal.release-requires
 release-requires g c = (g.met.C.Fits.held_fits, (g.met.C.Fits.event_fits, rw c.in-Release.is at c.requires.fits))
 
 pub release_returning-requires : goal.release_returning-requires
-release_returning-requires g c = (search rules, (search rules, (g.met.C.Seated.seat_fits, (g.met.C.Fits.event_fits, (rw c.in-ReleaseReturning.is at c.requires.fits).0))))
+release_returning-requires g c = (omega arith, (g.met.C.Seated.queues_fit, (g.met.C.Seated.seat_fits, (g.met.C.Fits.event_fits, (rw c.in-ReleaseReturning.is at c.requires.fits).0))))
 
 pub wait_returning-requires : goal.wait_returning-requires
 wait_returning-requires g c =
     let fits = rw c.in-WaitReturning.is at c.requires.fits in
-    (search rules, (search rules, (g.met.C.Seated.seat_fits, (g.met.C.Fits.event_fits, (fits.0, (can_in_range g.C.Condition.means c.in-WaitReturning.wait c.in-WaitReturning.again c.args.seat.now.held fits.0, (fits.2, fits.3)))))))
+    (omega arith, (g.met.C.Seated.queues_fit, (g.met.C.Seated.seat_fits, (g.met.C.Fits.event_fits, (fits.0, (can_in_range g.C.Condition.means c.in-WaitReturning.wait c.in-WaitReturning.again c.args.seat.now.held fits.0, (fits.2, fits.3)))))))
 
 pub judge-found-requires : goal.judge-found-requires
 judge-found-requires g c = (g.met.C.Fits.held_fits, (rw c.in-JudgeQuiet.is at c.requires.fits).0)
@@ -28,7 +28,7 @@ pub judge_met-found-requires : goal.judge_met-found-requires
 judge_met-found-requires g c = (g.met.C.Fits.held_fits, (rw c.in-JudgeMet.is at c.requires.fits).0)
 
 pub store-found-requires : goal.store-found-requires
-store-found-requires g c = let fits = rw c.in-StoreCell.is at c.requires.fits in (search rules, (g.met.C.Fits.held_fits, (fits.0, fits.1)))
+store-found-requires g c = let fits = rw c.in-StoreCell.is at c.requires.fits in (omega arith, (g.met.C.Fits.held_fits, (fits.0, fits.1)))
 
 pub pay_wake-found-requires : goal.pay_wake-found-requires
 pay_wake-found-requires g c = rw c.in-PayWake.is at c.requires.fits

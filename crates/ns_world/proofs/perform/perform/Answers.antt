@@ -1,9 +1,9 @@
-use Rattle.std.proofs.Common.{rules, ap, ◌∙◌}
+use Rattle.std.proofs.Common.{arith, ap, ◌∙◌}
 use Rattle.ns_world.specs.Prelude.{look_of, step_of, tests_after, walk_after}
 use Rattle.ns_world.proofs.perform.perform.Goals as goal
 
 pub make-requires : goal.make-requires
-make-requires g c = (search rules, (search rules, (g.met.C.Seated.seat_fits, (g.met.C.Fits.event_fits, (rw c.want.ensures c.requires.fits, rw c.want.ensures c.requires.inside)))))
+make-requires g c = (omega arith, (g.met.C.Seated.queues_fit, (g.met.C.Seated.seat_fits, (g.met.C.Fits.event_fits, (rw c.want.ensures c.requires.fits, rw c.want.ensures c.requires.inside)))))
 
 pub returns-clause-ok : goal.returns-clause-ok
 returns-clause-ok g c =

@@ -1,4 +1,4 @@
-use Rattle.std.proofs.Common.{◌≡◌, ◌+◌, rules, suc, Some, ap, sym, ◌∙◌, arith}
+use Rattle.std.proofs.Common.{◌≡◌, ◌+◌, suc, Some, ap, sym, ◌∙◌, arith}
 use Rattle.std.specs.Prelude.{slice_get}
 use Rattle.std.proofs.lemmas.Option.{slice_get-get_or}
 use Rattle.ns_world.proofs.Showing.{queues_here, queues_later, none_left}
@@ -7,7 +7,7 @@ use Rattle.ns_world.proofs.shows.shown_queues.Goals as goal
 pub in_hand-requires : goal.in_hand-requires
 in_hand-requires g c =
     let at : slice_get c.args.seats.now c.loop-seat.seat-index ≡ Some c.seat-item.result = slice_get-get_or c.args.seats.now c.loop-seat.seat-index c.seat-item.result c.loop-seat-test.true ∙ ap Some (sym c.seat-item.is) in
-    (search rules, (search rules, (c.requires.lists c.loop-seat.seat-index c.seat-item.result at, (c.requires.below c.loop-seat.seat-index c.seat-item.result at, c.requires.free c.loop-seat.seat-index c.seat-item.result at))))
+    (g.met.C.Seated.queues_fit, (omega arith, (c.requires.lists c.loop-seat.seat-index c.seat-item.result at, (c.requires.below c.loop-seat.seat-index c.seat-item.result at, c.requires.free c.loop-seat.seat-index c.seat-item.result at))))
 
 pub returns-then-has_queues : goal.returns-then-has_queues
 returns-then-has_queues g c =
@@ -23,3 +23,6 @@ loop-seat-preserved g c =
 pub returns : goal.returns
 returns g c =
     c.copied.ensures ∙ none_left c.args.seats.now c.loop-seat.seat-index c.loop-seat-test.false g.C.Condition.means c.args.row.now c.args.queues.now ∙ c.loop-seat.invariant
+
+pub copied-requires : goal.copied-requires
+copied-requires g c = g.met.C.Seated.queues_fit

@@ -1,4 +1,4 @@
-use Rattle.std.proofs.Common.{◌≡◌, ◌<◌, ◌≤◌, ◌∙◌, Some, length, rules, arith, refl, inl, ap, subst}
+use Rattle.std.proofs.Common.{◌≡◌, ◌<◌, ◌≤◌, ◌∙◌, Some, length, arith, refl, inl, ap, subst}
 use Rattle.std.proofs.lemmas.List.{set-get_or}
 use Rattle.ns_world.specs.Prelude.{Commits, view_of, want_of, word_of}
 use Rattle.ns_word.proofs.Codes.{decoded}
@@ -52,7 +52,7 @@ perform-requires g c =
     let act = act_here g.C.Condition.means g.met.C.Condition.has_cells.0 g.met.C.Condition.quiet_keeps (word_of c.args.word.now) c.args.row.now c.args.queues.now c.args.flags.now c.args.env.now c.args.seats.now.items c.args.history.now.items c.requires.lawful c.args.number seat within c.in-Some-walk.walk (rw c.index_mut-2.ensures.value at walks) in
     let unasked = rw (same_element c.args.seats.now.items c.args.number c.index.result.now seat within c.index.ensures c.index_mut-2.ensures.value, c.index_mut-2.ensures.value) at c.in_default.is in
     let inside = c.requires.inside (view_of c.index-2.result.now) c.in-Some-walk.walk (rw c.index-2.ensures (got-map view_of c.args.seats.now.items c.args.number c.index-2.result.now within)) c.in-Some-walk.is (asks_unasked c.args.seats.now.items c.args.number c.index.result.now within c.index.ensures c.in_default.is) in
-    (search rules, (search rules, (g.met.C.Seated.seat_fits, (g.met.C.Fits.event_fits, (walks, (rw (c.unpacked-found.ensures, c.index_mut-2.ensures.value) act, inside))))))
+    (omega arith, (g.met.C.Seated.queues_fit, (g.met.C.Seated.seat_fits, (g.met.C.Fits.event_fits, (walks, (rw (c.unpacked-found.ensures, c.index_mut-2.ensures.value) act, inside))))))
 
 pub returns-in_default-walk-clause-ok : goal.returns-in_default-walk-clause-ok
 returns-in_default-walk-clause-ok g c =
