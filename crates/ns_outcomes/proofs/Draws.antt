@@ -1,10 +1,9 @@
 -- Turns that were drawn are turns of a run, and follow the words that spell them.
-use Rattle.std.proofs.Common.{◌≡◌, ℕ, ◌+◌, ◌≤◌, true, false, cond, eqb, List, [], ◌∷◌, ◌++◌, length, Some, None, length-append, map, refl, sym, ap, ◌∙◌, subst, arith, eq-eqb}
+use Rattle.std.proofs.Common.{◌≡◌, ◌≢◌, ℕ, ◌+◌, ◌<◌, ◌≤◌, ◌⊎◌, Bool, not, true, false, cond, eqb, List, [], ◌∷◌, ◌++◌, length, Some, None, length-append, map, refl, sym, ap, ◌∙◌, subst, arith, eq-eqb}
 use Rattle.std.proofs.lemmas.List.{map-append}
-use Rattle.std.proofs.lemmas.List.Concat.{flat_map-append}
 use Rattle.rand_pcg.specs.Lcg.{Lcg}
 use Rattle.rand_pcg.specs.Pcg.{pcg32}
-use Rattle.ns_world.specs.Runs.{Advances, Item, Stops, StopsFor, Turned, TurnsOf, items_of, is_end, rest_of, word_items}
+use Rattle.ns_world.specs.Runs.{Advances, Item, Stops, StopsFor, Turned, TurnsOf, items_of, is_end, rest_of}
 use Rattle.ns_world.specs.declared.schedule.Turn.{Turn}
 use Rattle.ns_world.specs.declared.step.Step.{Step}
 use Rattle.ns_world.specs.declared.step.Step.TheVariants.{Finished, Idle, Nothing, Went}
@@ -12,14 +11,46 @@ use Rattle.ns_world.specs.Whole.{Whole}
 use Rattle.ns_world.specs.declared.fault.Fault.{Fault as WorldFault}
 use Rattle.ns_world.specs.declared.fault.Fault.TheVariants as world
 use Rattle.ns_replay.specs.declared.condition.ScriptCondition.{ScriptCondition}
-use Rattle.ns_outcomes.specs.Drawn.{Draws, Drew, IsCutShort, IsDrawingFault, Lists, Stage, TurnStands, drawing_fault, turn_item}
+use Rattle.ns_outcomes.specs.Drawn.{AreFewest, Draws, Drew, GoesBefore, IsCutShort, IsDrawingFault, IsDrawnWord, Lists, Stage, TurnStands, drawing_fault, turn_item}
 use Rattle.ns_outcomes.specs.Standings.{IsPick}
 
 -- ---- words
 
--- a word more
-pub word_more : (words : List Turn) (thread : ℕ) → items_of (words ++ record { thread = thread; whole = false; times = 1 } ∷ []) ≡ items_of words ++ record { seat = thread; whole = false } ∷ []
-word_more words thread = flat_map-append word_items words (record { thread = thread; whole = false; times = 1 } ∷ [])
+last_word : (words : List Turn) (last : Turn) → AreFewest (words ++ last ∷ []) → IsDrawnWord last
+last_word [] last h = h
+last_word (word ∷ []) last h = h.2
+last_word (word ∷ next ∷ words) last h = last_word (next ∷ words) last h.2
+
+longer_last : (words : List Turn) (last longer : Turn) → longer.thread ≡ last.thread → IsDrawnWord longer → AreFewest (words ++ last ∷ []) → AreFewest (words ++ longer ∷ [])
+longer_last [] last longer same is h = is
+longer_last (word ∷ []) last longer same is h = (h.0, subst (λ (t : ℕ). (word.thread ≢ t) ⊎ (word.times ≡ 1000000)) (sym same) h.1, is)
+longer_last (word ∷ next ∷ words) last longer same is h = (h.0, h.1, longer_last (next ∷ words) last longer same is h.2)
+
+next_last : (words : List Turn) (last next : Turn) → GoesBefore last next → IsDrawnWord next → AreFewest (words ++ last ∷ []) → AreFewest ((words ++ last ∷ []) ++ next ∷ [])
+next_last [] last next goes is h = (h, goes, is)
+next_last (word ∷ []) last next goes is h = (h.0, h.1, (h.2, goes, is))
+next_last (word ∷ other ∷ words) last next goes is h = (h.0, h.1, next_last (other ∷ words) last next goes is h.2)
+
+-- one turn more in the last word
+pub fewest_longer : (old front new : List Turn) (last longer : Turn) → old ≡ front ++ last ∷ [] → new ≡ front ++ longer ∷ [] → longer.thread ≡ last.thread → longer.whole ≡ false → longer.times ≡ last.times + 1 → last.times < 1000000 → AreFewest old →
+    AreFewest new
+fewest_longer old front new last longer e₁ e₂ same plain one few h =
+    rw e₂ (longer_last front last longer same (record { plain = plain; some = omega (arith, one); few = omega (arith, one, few) }) (rw e₁ at h))
+
+-- a word more, of one turn
+pub fewest_next : (old front new : List Turn) (last next : Turn) → old ≡ front ++ last ∷ [] → new ≡ (front ++ last ∷ []) ++ next ∷ [] → next.whole ≡ false → next.times ≡ 1 → (IsDrawnWord last → GoesBefore last next) → AreFewest old → AreFewest new
+fewest_next old front new last next e₁ e₂ plain one goes h =
+    let all = rw e₁ at h in
+    rw e₂ (next_last front last next (goes (last_word front last all)) (record { plain = plain; some = omega (arith, one); few = omega (arith, one) }) all)
+
+-- the first word
+pub fewest_first : (new front : List Turn) (first : Turn) → front ≡ [] → new ≡ front ++ first ∷ [] → first.whole ≡ false → first.times ≡ 1 → AreFewest new
+fewest_first new front first e₁ e₂ plain one = rw (e₂, e₁) (record { plain = plain; some = omega (arith, one); few = omega (arith, one) })
+
+-- a word isn't whole and plain
+pub not_whole : (whole : Bool) → not whole ≡ false → whole ≡ false → ⊥
+not_whole true e₁ e₂ = absurd cc
+not_whole false e₁ e₂ = absurd cc
 
 -- ---- turns
 
@@ -81,13 +112,14 @@ module _ (lists : Lists) where
   module _ (limit : ℕ) where
     -- one more, by the generator's next number, and its word
     pub drew_more : (g h next : Lcg) (number : ℕ) (p q r : Stage) (before mid behind : ℕ) (words more : List Turn) (turned : Turned) → Drew lists limit g p before words h q mid → ◌≡◌ {A = ℕ × Lcg} (number, next) (pcg32 h) →
-        IsPick q.standings number (Some turned.seat) → TurnStands lists q turned r → items_of more ≡ items_of words ++ turn_item turned ∷ [] → behind ≡ mid + 1 → behind ≤ limit →
+        IsPick q.standings number (Some turned.seat) → TurnStands lists q turned r → items_of more ≡ items_of words ++ turn_item turned ∷ [] → (AreFewest words → AreFewest more) → behind ≡ mid + 1 → behind ≤ limit →
         Drew lists limit g p before more next r behind
-    drew_more g h next number p q r before mid behind words more turned d gives pick turn longer count within = record {
+    drew_more g h next number p q r before mid behind words more turned d gives pick turn longer fewest count within = record {
       turns = d.turns ++ turned ∷ [];
       draws = subst (λ (x : Lcg). Draws lists g p (d.turns ++ turned ∷ []) x r) (sym (ap (λ (x : ℕ × Lcg). x.1) gives))
           (draw_more g h p q r d.turns turned d.draws (subst (λ (n : ℕ). IsPick q.standings n (Some turned.seat)) (ap (λ (x : ℕ × Lcg). x.0) gives) pick) turn);
       spelled = longer ∙ ap (λ xs. xs ++ turn_item turned ∷ []) d.spelled ∙ sym (map-append turn_item d.turns (turned ∷ []));
+      fewest = fewest d.fewest;
       count = let both = length-append d.turns (turned ∷ []) in omega (arith, count, d.count, both);
       within = within;
     }

@@ -1,5 +1,5 @@
 -- Runs whose turns a generator draws.
-use Rattle.std.specs.Prelude.{◌≡◌, ◌≢◌, ℕ, ◌+◌, ◌<◌, ◌≤◌, ◌||◌, true, false, if◌then◌else◌, List, [], ◌∷◌, length, map, Some, is_some}
+use Rattle.std.specs.Prelude.{◌≡◌, ◌≢◌, ℕ, ◌+◌, ◌<◌, ◌≤◌, ◌⊎◌, ◌||◌, true, false, if◌then◌else◌, List, [], ◌∷◌, length, map, Some, is_some}
 use Rattle.std.specs.List.{range_with_len}
 use Rattle.rand_core.specs.Pcg32Seed.{pcg32_seed}
 use Rattle.rand_pcg.specs.Lcg.{Lcg}
@@ -72,11 +72,28 @@ Draws lists g p (turned ∷ turns) h q = (r : Stage) × IsPick p.standings (pcg3
 abbrev pub turn_item : Turned → Item
 turn_item turned = record { seat = turned.seat; whole = false }
 
--- Turns were drawn from the stage p on, before which there were so many, and these words spell them.
+-- A word of drawn turns spells at least one, and at most as many as a word of a script may.
+pub record IsDrawnWord (word : Turn) : Type 0 where
+  pub plain : word.whole ≡ false
+  pub some : 0 < word.times
+  pub few : word.times ≤ 1000000
+
+-- The next word is another thread's, unless this one spells as many turns as a word may.
+abbrev pub GoesBefore : Turn → Turn → Type 0
+GoesBefore word next = (word.thread ≢ next.thread) ⊎ (word.times ≡ 1000000)
+
+-- These are words of drawn turns, and no fewer would spell the same.
+abbrev pub AreFewest : List Turn → Type 0
+AreFewest [] = Unit {0}
+AreFewest (word ∷ []) = IsDrawnWord word
+AreFewest (word ∷ next ∷ words) = IsDrawnWord word × GoesBefore word next × AreFewest (next ∷ words)
+
+-- Turns were drawn from the stage p on, before which there were so many, and just these words spell them.
 pub record Drew (lists : Lists) (limit : ℕ) (g : Lcg) (p : Stage) (before : ℕ) (words : List Turn) (h : Lcg) (q : Stage) (after : ℕ) : Type 0 where
   pub turns : List Turned
   pub draws : Draws lists g p turns h q
   pub spelled : items_of words ≡ map turn_item turns
+  pub fewest : AreFewest words
   pub count : after ≡ before + length turns
   pub within : after ≤ limit
 

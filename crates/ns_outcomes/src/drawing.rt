@@ -7,7 +7,7 @@ ghost use Rattle.ns_replay.specs.Condition.{script_truths};
 ghost use Rattle.ns_replay.specs.Runnable.{IsRunnable};
 ghost use Rattle.ns_replay.specs.Replaying.{IsRunFault};
 ghost use Rattle.ns_replay.specs.Script.{plan_of};
-ghost use Rattle.ns_outcomes.specs.Drawn.{HasBegun, HasDrawn, IsDrawingFault, IsDrawn, TurnStands, drawing_fault, first_standing, first_standings, stage_of};
+ghost use Rattle.ns_outcomes.specs.Drawn.{AreFewest, HasBegun, HasDrawn, IsDrawingFault, IsDrawn, TurnStands, drawing_fault, first_standing, first_standings, stage_of};
 ghost use Rattle.ns_outcomes.specs.Outcomes.{IsDrawFault};
 ghost use Rattle.ns_outcomes.specs.declared.standing.Standing.TheVariants.{Going, Over};
 
@@ -153,7 +153,8 @@ fn make_turn(
 
 /// Puts a turn of the thread behind the words: one word has all turns that a thread takes in a row.
 fn push_word(words: &mut Vec<Turn>, thread: u8) -> Result<(), AllocError>
-    ensures { OnOk result (items_of words.new.items ≡ items_of words.old.items ++ record { seat = thread; whole = false } ∷ []) }
+    ensures spelled { OnOk result (items_of words.new.items ≡ items_of words.old.items ++ record { seat = thread; whole = false } ∷ []) }
+    ensures fewest { OnOk result (AreFewest words.old.items → AreFewest words.new.items) }
 {
     let mut times = 1;
     if let Some(last) = words.pop() {
