@@ -1,5 +1,5 @@
 -- What is answered and written, for the outcomes of a script, and for a script with a schedule of its own.
-use Rattle.std.specs.Prelude.{◌≡◌, ◌≢◌, ℕ, ◌<◌, ◌⊎◌, ⊤, List, ◌++◌, length, Option, Result, Ok, Err}
+use Rattle.std.specs.Prelude.{◌≡◌, ◌≢◌, ℕ, ◌<◌, ◌≤◌, ◌⊎◌, ⊤, List, ◌++◌, length, Option, Result, Ok, Err}
 use Rattle.std.specs.Io.KnownBytes.{Appends, Keeps}
 use Rattle.ns_world.specs.Whole.{Whole}
 use Rattle.ns_world.specs.declared.schedule.Line.{Line}
@@ -9,6 +9,7 @@ use Rattle.ns_replay.specs.declared.fault.Fault.{Fault}
 use Rattle.ns_replay.specs.declared.fault.Fault.TheVariants.{BadScript, OutOfMemory, Read, StepLimit, TooMany, Write}
 use Rattle.ns_replay.specs.Replaying.{HasRun, IsRefused, plan_from}
 use Rattle.ns_replay.specs.Script.{Plan}
+use Rattle.ns_replay.specs.Transfer.{max_bytes}
 use Rattle.ns_replay.specs.declared.path.ScriptPath.TheVariants as at
 use Rattle.ns_outcomes.specs.Outcomes.{IsLong, IsSeedRun, lengthened, outcome_text}
 use Rattle.ns_outcomes.specs.Tallies.{HasLongRun, HasMade, report_text}
@@ -95,21 +96,28 @@ abbrev pub IsUndrawn : Seeds → Option ℕ → Option ℕ → List ℕ → Faul
 IsUndrawn seeds before told bytes StepLimit = IsPast seeds before told bytes
 IsUndrawn seeds before told bytes fault = IsRefused seeds.limit bytes fault
 
+-- a schedule has at most so many words
+abbrev pub max_words : ℕ
+max_words = 4096
+
 -- The schedule of the seed's run has more words than a script may have.
 pub record HasManyWords (limit seed : ℕ) (bytes : List ℕ) : Type 0 where
   pub run : HasSeedRun limit seed bytes
-  pub many : 4096 < length (run.plan.schedule ++ run.words)
+  pub many : max_words < length (run.plan.schedule ++ run.words)
 
--- The text would have more bytes than a script may have.
+-- The schedule has no more words than a script may have, but the text would have more bytes.
 pub record IsTooLong (limit seed : ℕ) (bytes : List ℕ) : Type 0 where
   pub text : List ℕ
   pub has : HasText limit seed bytes text
-  pub long : 1048576 < length text
+  pub few : length (has.run.plan.schedule ++ has.run.words) ≤ max_words
+  pub long : max_bytes < length text
 
--- The text isn't read back as the script with the seed's schedule and outcome. No lemma says that this never comes.
+-- The text has no more words and bytes than a script may have, but it isn't read back as the script with the seed's schedule and outcome. No lemma says that this never comes.
 pub record IsUnread (limit seed : ℕ) (bytes : List ℕ) : Type 0 where
   pub text : List ℕ
   pub has : HasText limit seed bytes text
+  pub few : length (has.run.plan.schedule ++ has.run.words) ≤ max_words
+  pub short : length text ≤ max_bytes
   pub other : ComesElsewhere limit text (lengthened has.run.plan has.run.words) has.run.outcome
 
 -- Why the bytes give no script with a schedule of its own: as a replay would say, but the limit is that of the seed's run; or the schedule or the text is too long, or the text isn't read back.

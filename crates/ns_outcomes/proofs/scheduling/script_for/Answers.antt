@@ -1,4 +1,4 @@
-use Rattle.std.proofs.Common.{◌<◌, ◌∙◌, ◌++◌, length, ap, subst, inr, string_bytes, arith}
+use Rattle.std.proofs.Common.{◌<◌, ◌≤◌, ◌∙◌, ◌++◌, length, ap, subst, inr, string_bytes, arith}
 use Rattle.std.proofs.lemmas.Result.{err_from_is_err_and}
 use Rattle.ns_replay.specs.Script.{plan_of}
 use Rattle.ns_outcomes.proofs.Texts.{has_run, has_text}
@@ -27,14 +27,16 @@ returns-then-len-gt-MAX_BYTES-clause-err c =
     let script = c.in_ok-script.script in
     let words = c.deref-2.ensures.value ∙ c.in_ok-schedule.ensures ∙ ap (λ ws. script.schedule.items ++ ws) c.deref.ensures.value in
     let has = has_text c.args.limit c.args.seed c.args.bytes.now script c.in_ok-run.run' _ (string_bytes c.in_ok-text.text) c.in_ok-script.ensures.ok.read c.in_ok-run.ensures.ok words c.in_ok-text.ensures in
-    inr (record { text = string_bytes c.in_ok-text.text; has = has; long = omega (arith, c.if-len-gt-MAX_BYTES.true, c.len-2.ensures) })
+    let few = subst (λ ws. length ws ≤ 4096) (c.in_ok-schedule.ensures ∙ ap (λ ws. script.schedule.items ++ ws) c.deref.ensures.value) (omega (arith, c.if-len-gt-MAX_WORDS.false, c.len.ensures)) in
+    inr (record { text = string_bytes c.in_ok-text.text; has = has; few = few; long = omega (arith, c.if-len-gt-MAX_BYTES.true, c.len-2.ensures) })
 
 pub returns-then-not-branch-clause-err : goal.returns-then-not-branch-clause-err
 returns-then-not-branch-clause-err c =
     let script = c.in_ok-script.script in
     let words = c.deref-2.ensures.value ∙ c.in_ok-schedule.ensures ∙ ap (λ ws. script.schedule.items ++ ws) c.deref.ensures.value in
     let has = has_text c.args.limit c.args.seed c.args.bytes.now script c.in_ok-run.run' _ (string_bytes c.in_ok-text.text) c.in_ok-script.ensures.ok.read c.in_ok-run.ensures.ok words c.in_ok-text.ensures in
-    inr (record { text = string_bytes c.in_ok-text.text; has = has; other = rw (c.deref-3.ensures, c.deref-4.ensures, c.in_ok-schedule.ensures, c.deref.ensures.value) at (c.in_ok-comes_to.ensures.other c.if-not-branch.true) })
+    let few = subst (λ ws. length ws ≤ 4096) (c.in_ok-schedule.ensures ∙ ap (λ ws. script.schedule.items ++ ws) c.deref.ensures.value) (omega (arith, c.if-len-gt-MAX_WORDS.false, c.len.ensures)) in
+    inr (record { text = string_bytes c.in_ok-text.text; has = has; few = few; short = omega (arith, c.if-len-gt-MAX_BYTES.false, c.len-2.ensures); other = rw (c.deref-3.ensures, c.deref-4.ensures, c.in_ok-schedule.ensures, c.deref.ensures.value) at (c.in_ok-comes_to.ensures.other c.if-not-branch.true) })
 
 pub returns-clause-ok : goal.returns-clause-ok
 returns-clause-ok c =
