@@ -36,7 +36,7 @@ pub fn count_outcomes<P: Watch>(
     let mut turns = 0u64;
     for number in 0..seeds.count {
         let seed = seeds.from.wrapping_add(u64::from(number));
-        watch.begins(number, seed);
+        watch.begins(seed);
         let run = run_seed(alloc, script, seed, seeds.limit)?;
         turns += u64::from(run.turns);
         counts.count(run.text, seed)?;

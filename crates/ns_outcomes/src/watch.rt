@@ -7,8 +7,8 @@ pub trait Watch {
     /// The seed that was told last, if one was.
     ghost last: { Self → Option ℕ };
 
-    /// The run of this seed is made next, after so many others.
-    fn begins(&mut self, number: u32, seed: u64)
+    /// The run of this seed is made next.
+    fn begins(&mut self, seed: u64)
         ensures { last self.new ≡ Some seed };
 }
 
@@ -19,7 +19,7 @@ pub struct LastSeed(pub Option<u64>);
 impl Watch for LastSeed {
     ghost last = { λ kept. kept.0 };
 
-    fn begins(&mut self, _number: u32, seed: u64) {
+    fn begins(&mut self, seed: u64) {
         self.0 = Some(seed);
     }
 }
