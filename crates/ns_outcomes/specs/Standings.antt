@@ -6,7 +6,7 @@ use Rattle.ns_outcomes.specs.declared.standing.Made.{Made}
 use Rattle.ns_outcomes.specs.declared.standing.Standing.{Standing}
 use Rattle.ns_outcomes.specs.declared.standing.Standing.TheVariants.{Going, Waiting, Tried, Stuck, Over}
 
--- a thread can go on, unless it has been idle twice since another last changed something, or has ended its calls
+-- a thread can go on, unless it has been idle twice since a turn last stirred, or has ended its calls
 abbrev pub can_go : Standing → Bool
 can_go Going = true
 can_go Waiting = true
@@ -14,7 +14,7 @@ can_go Tried = true
 can_go Stuck = false
 can_go Over = false
 
--- A turn may have changed something for others: it ended a call, or made a step of one that wasn't idle. Of a call that was idle before, which only looks, that is so where the step changed the lock word.
+-- A turn stirs: it ended a call, or made a step, not an idle one, of a call that wasn't waiting. A call that is waiting only looks, and its step stirs where it changed the lock word.
 abbrev pub stirs_by : Step → Standing → Bool → Bool
 stirs_by (Finished reply) standing changed = true
 stirs_by Idle standing changed = false
@@ -29,7 +29,7 @@ stirs_by Went Stuck changed = changed
 abbrev pub stirs : Standing → Made → Bool
 stirs standing made = stirs_by made.step standing made.changed
 
--- once another has changed something, a thread that was idle looks again
+-- once a turn has stirred, a thread that was idle looks again
 abbrev pub stirred : Standing → Standing
 stirred Going = Going
 stirred Waiting = Waiting
@@ -37,7 +37,7 @@ stirred Tried = Waiting
 stirred Stuck = Waiting
 stirred Over = Over
 
--- a thread that is idle again with nothing changed in between is stuck
+-- a thread that is idle again, with no turn in between that stirred, is stuck
 abbrev pub idled : Standing → Standing
 idled Going = Tried
 idled Waiting = Tried

@@ -35,8 +35,7 @@ fn nth_going(standings: &[Standing], nth: usize) -> Option<usize>
 /// Whose turn it is by a number that was drawn: of those who can go on, in ascending order, the one at the place
 /// that is the remainder of the number by how many they are. Nobody's, where nobody can.
 ///
-/// So each that can go on has its turn for as many numbers as any other, but for one in 2^32 divided by how many
-/// they are.
+/// So each that can go on has its turn for as many of the 2^32 numbers as any other, give or take one.
 pub fn pick(standings: &[Standing], drawn: u32) -> Option<usize>
     ensures { IsPick standings.now drawn result }
 {

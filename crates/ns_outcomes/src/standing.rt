@@ -1,9 +1,15 @@
 //! Where the threads of a drawn run stand: which can go on, and which have found nothing to go on with.
 //!
-//! A call that has to wait looks at one thing after another (a flag, the clock, a note), and says that it is
-//! idle where the last has shown nothing. None of these looks changes anything that another call sees. So a thread
-//! is stuck once it has been idle twice since another last changed something: all that it looked at in between,
-//! it would find the same again. What ends a wait either ends the call, or changes the lock word next.
+//! A call that has to wait looks at one thing after another (a flag, the clock, a note, a counter), and says that
+//! it is idle where the last has shown nothing. A look may leave something that another call sees: the first one of
+//! `cwait` leaves a mark at its counter. But no call waits for that.
+//!
+//! A turn stirs where it ends a call, or makes a step, not an idle one, of a call that isn't waiting. A call that
+//! was idle is waiting until a step of its own changes the lock word, and that step stirs. What ends a wait either
+//! ends the call, or changes the lock word next, so it stirs too.
+//!
+//! So a thread is stuck once it has been idle twice since a turn last stirred: all that it looked at in between, it
+//! would find the same again.
 
 ghost use Rattle.std.specs.Prelude.{◌≡◌, map};
 ghost use Rattle.ns_outcomes.specs.Standings.{can_go, stirs, stirred, stands_after, stood};
@@ -13,13 +19,13 @@ use ns_world::step::Step;
 /// Where a thread stands.
 #[derive(Clone, Copy, Debug, PartialEq, Eq)]
 pub enum Standing {
-    /// A call of it is in progress or left, and doesn't wait as far as is known.
+    /// A call of it is in progress or still to begin, and doesn't count as waiting.
     Going,
-    /// It has been idle, and another thread has changed something since, or may have.
+    /// It has been idle, but not since a turn last stirred.
     Waiting,
-    /// It has been idle once since another thread last changed something.
+    /// It has been idle once since a turn last stirred.
     Tried,
-    /// It has been idle twice since then: it can't go on before another thread changes something.
+    /// It has been idle twice since a turn last stirred. It can't go on before one stirs again.
     Stuck,
     /// It has ended its calls.
     Over,
@@ -48,7 +54,7 @@ impl Standing {
         }
     }
 
-    /// Whether the turn of a thread that stood here may have changed something for others.
+    /// Whether a turn stirs, of a thread that stood here.
     fn stirs(self, made: Made) -> bool
         ensures { result ≡ stirs self made }
     {
@@ -60,7 +66,7 @@ impl Standing {
         }
     }
 
-    /// Where a thread stands once another has changed something.
+    /// Where a thread stands once a turn has stirred.
     fn stirred(self) -> Standing
         ensures { result ≡ stirred self }
     {
@@ -90,7 +96,7 @@ impl Standing {
     }
 }
 
-/// All others may go on again.
+/// Whoever was stuck may go on again.
 fn stir(standings: &mut [Standing])
     ensures { standings.new ≡ map stirred standings.old }
 {
