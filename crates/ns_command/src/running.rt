@@ -74,24 +74,24 @@ pub fn run<S: Source, W: Sink, P: Prints>(
         ByAnswer result (EndsForOneOf kinds) (λ items. kinds ≡ []) }
     ensures unread { kinds_of (map string_bytes words.now) ≢ [] → source.new ≡ source.old }
     ensures unwritten { kinds_of (map string_bytes words.now) ≢ [] → sink.new ≡ sink.old }
-    // A replay is made by the options that the words give.
+    // A replay is made by the options that the words give. Only of outcomes may the ending name a seed.
     ensures replayed { (options : Options) → kinds_of (map string_bytes words.now) ≡ []
         → asked_by (map string_bytes words.now) ≡ TheWanted.Replay options
-        → ByAnswer result (λ ending. Gave (S.to_come source.old) (S.to_come source.new) (λ bytes.
+        → ByAnswer result (λ ending. (seed_of ending ≡ None) × Gave (S.to_come source.old) (S.to_come source.new) (λ bytes.
         WasRead bytes (S.to_come source.new) (outcome_of ending)
         × Answers (W.taken sink.old) (W.taken sink.new) (IsText options) options.limit bytes (outcome_of ending)))
         (λ items. ⊥) }
     // A picture is drawn within the limit that the words give.
     ensures drawn { (limit : ℕ) → kinds_of (map string_bytes words.now) ≡ []
         → asked_by (map string_bytes words.now) ≡ TheWanted.Timeline limit
-        → ByAnswer result (λ ending. Gave (S.to_come source.old) (S.to_come source.new) (λ bytes.
+        → ByAnswer result (λ ending. (seed_of ending ≡ None) × Gave (S.to_come source.old) (S.to_come source.new) (λ bytes.
         WasRead bytes (S.to_come source.new) (outcome_of ending)
         × Answers (W.taken sink.old) (W.taken sink.new) (IsPicture limit) limit bytes (outcome_of ending)))
         (λ items. ⊥) }
     // And so is a drawing made.
     ensures marked { (limit : ℕ) → kinds_of (map string_bytes words.now) ≡ []
         → asked_by (map string_bytes words.now) ≡ TheWanted.Drawing limit
-        → ByAnswer result (λ ending. Gave (S.to_come source.old) (S.to_come source.new) (λ bytes.
+        → ByAnswer result (λ ending. (seed_of ending ≡ None) × Gave (S.to_come source.old) (S.to_come source.new) (λ bytes.
         WasRead bytes (S.to_come source.new) (outcome_of ending)
         × Answers (W.taken sink.old) (W.taken sink.new) (IsDrawing limit) limit bytes (outcome_of ending)))
         (λ items. ⊥) }
@@ -106,7 +106,7 @@ pub fn run<S: Source, W: Sink, P: Prints>(
     // A script is written with a schedule by which it comes to an outcome.
     ensures drawn_schedule { (seed limit : ℕ) → kinds_of (map string_bytes words.now) ≡ []
         → asked_by (map string_bytes words.now) ≡ TheWanted.Schedule seed limit
-        → ByAnswer result (λ ending. Gave (S.to_come source.old) (S.to_come source.new) (λ bytes.
+        → ByAnswer result (λ ending. (seed_of ending ≡ None) × Gave (S.to_come source.old) (S.to_come source.new) (λ bytes.
         WasRead bytes (S.to_come source.new) (outcome_of ending)
         × AnswersBy (W.taken sink.old) (W.taken sink.new) (IsScheduled limit seed) (IsUnscheduled limit seed) bytes (outcome_of ending)))
         (λ items. ⊥) }
