@@ -9,7 +9,7 @@ use std::process::{ExitCode, Termination};
 /// How a run of the program ended.
 #[derive(Clone, Copy, Debug, Drop, PartialEq, Eq)]
 pub enum Ending {
-    /// The script was replayed, and its text or its picture was written.
+    /// The script was run, and what the words ask for was written.
     Replayed,
     /// Live threads have ended, and how many items they had and their sum were printed.
     Lived,

@@ -50,9 +50,10 @@ fn answered<P: Prints>(printer: &mut P, answer: Error) -> Ending
     }
 }
 
-/// Runs the program: replays the script that the source gives by the words, the first of which is
-/// the program's name, and writes the text of its run to the sink, or a picture or a drawing of it where the
-/// words ask for that.
+/// Runs the program by its words, the first of which is its name.
+///
+/// It reads a script from the source, and writes to the sink what the words ask for: the text of its run, a
+/// picture or a drawing of that, its outcomes under schedules that seeds draw, or the script with such a schedule.
 ///
 /// Where the words ask for live threads, it answers that, with the number of items, for the caller to make
 /// them. Where they are wrong, or ask for help, clap answers them. In both cases the source and the sink
@@ -69,7 +70,7 @@ pub fn run<S: Source, W: Sink, P: Prints>(
 ) -> Answer
     requires source { S.has_failed source.old ≡ false }
     requires sink { W.has_failed sink.old ≡ false }
-    // The words decide whether there is a replay, and else what is said.
+    // The words decide whether a script is run, and else what is said.
     ensures heeded { let kinds = kinds_of (map string_bytes words.now) in
         ByAnswer result (EndsForOneOf kinds) (λ items. kinds ≡ []) }
     ensures unread { kinds_of (map string_bytes words.now) ≢ [] → source.new ≡ source.old }
@@ -103,7 +104,8 @@ pub fn run<S: Source, W: Sink, P: Prints>(
         WasRead bytes (S.to_come source.new) (outcome_of ending)
         × AnswersBy (W.taken sink.old) (W.taken sink.new) (IsReport seeds) (IsUndrawn seeds None (seed_of ending)) bytes (outcome_of ending)))
         (λ items. ⊥) }
-    // A script is written with a schedule by which it comes to an outcome.
+    // The script is written with the schedule that the seed draws. A replay of what is written comes to the outcome
+    // of that seed's run.
     ensures drawn_schedule { (seed limit : ℕ) → kinds_of (map string_bytes words.now) ≡ []
         → asked_by (map string_bytes words.now) ≡ TheWanted.Schedule seed limit
         → ByAnswer result (λ ending. (seed_of ending ≡ None) × Gave (S.to_come source.old) (S.to_come source.new) (λ bytes.
