@@ -1,10 +1,50 @@
-use Rattle.std.proofs.Common.{◌≡◌, ℕ, List, Bool, slice_index, slice_set}
+use Rattle.std.proofs.Common.{◌≡◌, ℕ, List, Bool, arith, slice_index, slice_set}
 use Rattle.ns_gate.specs.Prelude.{before_in, row_in, the}
+use Rattle.ns_gate.proofs.Room.{queues_fit}
 use Rattle.ns_gate.proofs.gate.Gate.perform.Goals as goal
 
 -- what a test says of a row in which this cell was set, it says of the whole row
 by_cell : (test : List ℕ → Bool) (row whole : List ℕ) (i j cell : ℕ) (is : Bool) → is ≡ test (slice_set row j cell) → j ≡ i → cell ≡ slice_index whole i → slice_set row i (slice_index whole i) ≡ whole → is ≡ test whole
 by_cell test row whole i j cell is told place tells but = cc
+
+pub load-requires : goal.load-requires
+load-requires g c = let is = c.in-LoadWord.is in
+    (omega arith, (queues_fit g.row.C g.row.N g.met.C.Condition.has_room g.C.Condition, (omega arith, (c.requires.of, rw is at c.requires.can))))
+
+pub load_cell-requires : goal.load_cell-requires
+load_cell-requires g c = let is = c.in-LoadCell.is in let needs = rw is at c.requires.needs in
+    (omega arith, (queues_fit g.row.C g.row.N g.met.C.Condition.has_room g.C.Condition, (omega arith, (c.requires.of, (needs, rw is at c.requires.can)))))
+
+pub judge_quiet-requires : goal.judge_quiet-requires
+judge_quiet-requires g c = let is = c.in-JudgeQuiet.is in let needs = rw is at c.requires.needs in
+    (omega arith, (queues_fit g.row.C g.row.N g.met.C.Condition.has_room g.C.Condition, (omega arith, (c.requires.of, (needs.0, rw is at c.requires.can)))))
+
+pub judge_met-requires : goal.judge_met-requires
+judge_met-requires g c = let is = c.in-JudgeMet.is in let needs = rw is at c.requires.needs in
+    (omega arith, (queues_fit g.row.C g.row.N g.met.C.Condition.has_room g.C.Condition, (omega arith, (c.requires.of, (needs.0, rw is at c.requires.can)))))
+
+pub load_flag-requires : goal.load_flag-requires
+load_flag-requires g c = let is = c.in-LoadFlag.is in let needs = rw is at c.requires.needs in
+    (omega arith, (queues_fit g.row.C g.row.N g.met.C.Condition.has_room g.C.Condition, (omega arith, (c.requires.of, (needs.1, rw needs.0 at (rw is at c.requires.can))))))
+
+pub look-requires : goal.look-requires
+look-requires g c = let is = c.in-Look.is in let needs = rw is at c.requires.needs in
+    (omega arith, (queues_fit g.row.C g.row.N g.met.C.Condition.has_room g.C.Condition, (omega arith, (c.requires.of, (needs.1, (needs.2, rw needs.0 at (rw is at c.requires.can)))))))
+
+pub store_cell-requires : goal.store_cell-requires
+store_cell-requires g c = let is = c.in-StoreCell.is in let needs = rw is at c.requires.needs in
+    (omega arith, (queues_fit g.row.C g.row.N g.met.C.Condition.has_room g.C.Condition, (omega arith, (c.requires.of, (needs.1, rw needs.0 at (rw is at c.requires.can))))))
+
+pub arm_flag-requires : goal.arm_flag-requires
+arm_flag-requires g c = let is = c.in-ArmFlag.is in let needs = rw is at c.requires.needs in
+    (omega arith, (queues_fit g.row.C g.row.N g.met.C.Condition.has_room g.C.Condition, (omega arith, (c.requires.of, (needs.1, rw needs.0 at (rw is at c.requires.can))))))
+
+pub pay_wake-requires : goal.pay_wake-requires
+pay_wake-requires g c = let is = c.in-PayWake.is in let needs = rw is at c.requires.needs in
+    (omega arith, (queues_fit g.row.C g.row.N g.met.C.Condition.has_room g.C.Condition, (omega arith, (c.requires.of, ((needs.1, needs.2), rw needs.0 at (rw is at c.requires.can))))))
+
+pub parts-requires : goal.parts-requires
+parts-requires g c = c.load.ensures.word
 
 pub returns-in-LoadWord : goal.returns-in-LoadWord
 returns-in-LoadWord g c = record { seat = c.load.ensures.seat; did = rw c.in-LoadWord.is (rw c.parts.ensures c.load.ensures.did) }

@@ -1,4 +1,39 @@
+use Rattle.std.proofs.Common.{arith, rules}
+use Rattle.ns_gate.proofs.Room.{queues_fit}
 use Rattle.ns_gate.proofs.gate.Gate.perform_exchange.Goals as goal
+
+pub exchange_to_acquire-tries-requires : goal.exchange_to_acquire-tries-requires
+exchange_to_acquire-tries-requires g c = let is = c.in-Acquire.is in let needs = rw is at c.requires.needs in let word = c.new-last.ensures in
+    (omega arith, (queues_fit g.row.C g.row.N g.met.C.Condition.has_room g.C.Condition, (omega arith, (c.requires.of, (rw word needs.1, rw word (rw needs.0 at (rw is at c.requires.can)))))))
+
+pub exchange_to_take-requires : goal.exchange_to_take-requires
+exchange_to_take-requires g c = let is = c.in-TakeQueues.is in let needs = rw is at c.requires.needs in let word = c.new.ensures in
+    (omega arith, (queues_fit g.row.C g.row.N g.met.C.Condition.has_room g.C.Condition, (omega arith, (c.requires.of, (rw word needs.1, rw word (rw needs.0 at (rw is at c.requires.can)))))))
+
+pub exchange_to_release-requires : goal.exchange_to_release-requires
+exchange_to_release-requires g c = let is = c.in-Release.is in let needs = rw is at c.requires.needs in let word = c.new-in-Release.ensures in
+    (omega arith, (queues_fit g.row.C g.row.N g.met.C.Condition.has_room g.C.Condition, (omega arith, (c.requires.of, (rw word needs.1, rw word (rw needs.0 at (rw is at c.requires.can)))))))
+
+pub put_back-requires : goal.put_back-requires
+put_back-requires g c = let is = c.in-ReturnQueues.is in let needs = rw is at c.requires.needs in
+    (omega arith, (queues_fit g.row.C g.row.N g.met.C.Condition.has_room g.C.Condition, (omega arith, (search rules, (c.requires.of, (rw needs.0 at (rw is at c.requires.can), needs.1))))))
+
+pub put_back-requires-in-ReleaseReturning : goal.put_back-requires-in-ReleaseReturning
+put_back-requires-in-ReleaseReturning g c = let is = c.in-ReleaseReturning.is in let needs = rw is at c.requires.needs in
+    (omega arith, (queues_fit g.row.C g.row.N g.met.C.Condition.has_room g.C.Condition, (omega arith, (search rules, (c.requires.of, (rw needs.0 at (rw is at c.requires.can), needs.1))))))
+
+pub put_back-requires-in-WaitReturning : goal.put_back-requires-in-WaitReturning
+put_back-requires-in-WaitReturning g c = let is = c.in-WaitReturning.is in let needs = rw is at c.requires.needs in
+    (omega arith, (queues_fit g.row.C g.row.N g.met.C.Condition.has_room g.C.Condition, (omega arith, (search rules, (c.requires.of, (rw needs.0 at (rw is at c.requires.can), needs.1))))))
+
+pub found_by-requires : goal.found_by-requires
+found_by-requires g c = c.exchange_to_acquire-tries.ensures.word
+
+pub found_by-requires-in-TakeQueues : goal.found_by-requires-in-TakeQueues
+found_by-requires-in-TakeQueues g c = c.exchange_to_take.ensures.word
+
+pub found_by-requires-in-Release : goal.found_by-requires-in-Release
+found_by-requires-in-Release g c = c.exchange_to_release.ensures.word
 
 pub returns-in-Acquire : goal.returns-in-Acquire
 returns-in-Acquire g c = let needs = rw c.in-Acquire.is at c.requires.needs in record { seat = c.exchange_to_acquire-tries.ensures.seat; did = rw c.in-Acquire.is (rw needs.0 (rw c.found_by.ensures (rw c.new-last.ensures at c.exchange_to_acquire-tries.ensures.did))) }
