@@ -1,4 +1,5 @@
-use Rattle.std.proofs.Common.{rules}
+use Rattle.std.proofs.Common.{arith, sym, ◌∙◌}
+use Rattle.ns_gate.specs.Prelude.{TableId}
 use Rattle.ns_gate.proofs.Guesses.{may_guess, guess_packs, came_so}
 use Rattle.ns_gate.proofs.gate.Gate.exchange_guessing.Goals as goal
 
@@ -8,9 +9,15 @@ exchange_saying-found-requires-clause-allows g c = may_guess _ g.met.C.Condition
 pub came_to-requires : goal.came_to-requires
 came_to-requires g c = guess_packs _ c.args.first _ _ _ _ c.requires.can c.exchange_saying-found.ensures.2
 
+pub exchange_saying-found-requires-clause-of : goal.exchange_saying-found-requires-clause-of
+exchange_saying-found-requires-clause-of g c = ◌∙◌ {A = TableId} c.requires.of (sym c.self.view_is)
+
+pub exchange_saying-found-requires-clause-word : goal.exchange_saying-found-requires-clause-word
+exchange_saying-found-requires-clause-word g c = let wide = c.self.invariant.0 in omega (arith, wide)
+
 pub returns : goal.returns
 returns g c = record {
-  seat = search rules;
-  word = search rules;
+  seat = c.exchange_saying-found.ensures.0;
+  word = c.came_to.ensures.word;
   came = came_so _ c.args.first c.args.guess c.args.new _ _ _ _ _ c.number-content.ensures c.requires.may c.requires.can c.came_to.ensures.tried c.exchange_saying-found.ensures.2;
 }

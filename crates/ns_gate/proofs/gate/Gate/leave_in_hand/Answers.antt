@@ -1,10 +1,17 @@
-use Rattle.std.proofs.Common.{refl, rules, ap, ◌∙◌}
-use Rattle.ns_gate.specs.Prelude.{LeaveSelf, bits_of, changed, stands_at, the}
+use Rattle.std.proofs.Common.{refl, ap, ◌∙◌, sym}
+use Rattle.ns_gate.specs.Prelude.{LeaveSelf, TableId, bits_of, changed, stands_at, the}
 use Rattle.ns_gate.proofs.Findings.{has_slot, was_in_hand, now_in_hand}
+use Rattle.ns_gate.proofs.Room.{queues_fit}
 use Rattle.ns_gate.proofs.gate.Gate.leave_in_hand.Goals as goal
 
 pub slot_mut-queues-requires : goal.slot_mut-queues-requires
-slot_mut-queues-requires g c = (search rules, has_slot _ _ c.requires.has)
+slot_mut-queues-requires g c = (◌∙◌ {A = TableId} c.requires.of (sym c.self.view_is), has_slot _ _ c.requires.has)
+
+pub leave_self-stood-requires : goal.leave_self-stood-requires
+leave_self-stood-requires g c = queues_fit g.row.C g.row.N g.met.C.Condition.has_room g.C.Condition
+
+pub bits-requires : goal.bits-requires
+bits-requires g c = queues_fit g.row.C g.row.N g.met.C.Condition.has_room g.C.Condition
 
 pub returns : goal.returns
 returns g c = record {

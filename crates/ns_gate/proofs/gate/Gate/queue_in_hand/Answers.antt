@@ -1,10 +1,17 @@
-use Rattle.std.proofs.Common.{refl, rules, ap, ◌∙◌}
-use Rattle.ns_gate.specs.Prelude.{QueueSelf, bits_of, changed, the}
+use Rattle.std.proofs.Common.{refl, ap, ◌∙◌, sym}
+use Rattle.ns_gate.specs.Prelude.{QueueSelf, TableId, bits_of, changed, the, times}
 use Rattle.ns_gate.proofs.Findings.{has_slot, was_in_hand, now_in_hand}
+use Rattle.ns_gate.proofs.Room.{queues_fit}
 use Rattle.ns_gate.proofs.gate.Gate.queue_in_hand.Goals as goal
 
 pub slot_mut-queues-requires : goal.slot_mut-queues-requires
-slot_mut-queues-requires g c = (search rules, has_slot _ _ c.requires.has)
+slot_mut-queues-requires g c = (◌∙◌ {A = TableId} c.requires.of (sym c.self.view_is), has_slot _ _ c.requires.has)
+
+pub queue_self-requires : goal.queue_self-requires
+queue_self-requires g c = (queues_fit g.row.C g.row.N g.met.C.Condition.has_room g.C.Condition, (c.requires.below, ap (times c.args.number) (was_in_hand _ _ c.args.seat.now.me.1 c.requires.has c.slot_mut-queues.ensures.value) ∙ c.requires.free))
+
+pub bits-requires : goal.bits-requires
+bits-requires g c = queues_fit g.row.C g.row.N g.met.C.Condition.has_room g.C.Condition
 
 pub returns : goal.returns
 returns g c = record {

@@ -1,10 +1,17 @@
-use Rattle.std.proofs.Common.{rules, ap, map, refl, ◌∙◌}
-use Rattle.ns_gate.specs.Prelude.{Waiter, bits_of, meets_at, seats_of, tests_of, the, waited_in, woken_of}
+use Rattle.std.proofs.Common.{ap, map, refl, ◌∙◌, sym, arith}
+use Rattle.ns_gate.specs.Prelude.{TableId, Waiter, bits_of, meets_at, seats_of, tests_of, the, times, waited_in, woken_of}
 use Rattle.ns_gate.proofs.Findings.{has_slot, now_in_hand, was_in_hand}
+use Rattle.ns_gate.proofs.Room.{queues_fit}
 use Rattle.ns_gate.proofs.gate.Gate.scan_and_queue_in_hand.Goals as goal
 
 pub slot_mut-queues-requires : goal.slot_mut-queues-requires
-slot_mut-queues-requires g c = (search rules, has_slot _ _ c.requires.has)
+slot_mut-queues-requires g c = (◌∙◌ {A = TableId} c.requires.of (sym c.self.view_is), has_slot _ _ c.requires.has)
+
+pub scan_and_queue-scan-requires : goal.scan_and_queue-scan-requires
+scan_and_queue-scan-requires g c = (queues_fit g.row.C g.row.N g.met.C.Condition.has_room g.C.Condition, (omega (arith, g.met.C.Condition.has_cells), (c.requires.list, (c.requires.below, ap (times c.args.number) (was_in_hand _ _ c.args.seat.now.me.1 c.requires.has c.slot_mut-queues.ensures.value) ∙ c.requires.free))))
+
+pub bits-requires : goal.bits-requires
+bits-requires g c = queues_fit g.row.C g.row.N g.met.C.Condition.has_room g.C.Condition
 
 pub returns-clause-tests : goal.returns-clause-tests
 returns-clause-tests g c =

@@ -1,15 +1,19 @@
-use Rattle.std.proofs.Common.{refl, rules, ap, map, sym, ◌∙◌}
-use Rattle.ns_gate.specs.Prelude.{Waiter, bits_of, lists_scanned, meets_at, seats_of, sought_at, tests_of, the, woken_of}
+use Rattle.std.proofs.Common.{refl, ap, map, sym, ◌∙◌, arith}
+use Rattle.ns_gate.specs.Prelude.{TableId, Waiter, bits_of, lists_scanned, meets_at, seats_of, sought_at, tests_of, the, woken_of}
 use Rattle.ns_gate.proofs.Findings.{has_slot, now_in_hand, was_in_hand}
+use Rattle.ns_gate.proofs.Room.{queues_fit}
 use Rattle.ns_gate.proofs.gate.Gate.scan_from_in_hand.Goals as goal
 
 pub slot_mut-queues-requires : goal.slot_mut-queues-requires
-slot_mut-queues-requires g c = (search rules, has_slot _ _ c.requires.has)
+slot_mut-queues-requires g c = (◌∙◌ {A = TableId} c.requires.of (sym c.self.view_is), has_slot _ _ c.requires.has)
 
 pub scan_from-scan-requires : goal.scan_from-scan-requires
 scan_from-scan-requires g c =
     let was = was_in_hand _ _ c.args.seat.now.me.1 c.requires.has c.slot_mut-queues.ensures.value in
-    (search rules, (search rules, c.requires.found ∙ ap (sought_at g.C.Condition.means c.args.row.now) (sym was)))
+    (queues_fit g.row.C g.row.N g.met.C.Condition.has_room g.C.Condition, (omega (arith, g.met.C.Condition.has_cells), c.requires.found ∙ ap (sought_at g.C.Condition.means c.args.row.now) (sym was)))
+
+pub bits-requires : goal.bits-requires
+bits-requires g c = queues_fit g.row.C g.row.N g.met.C.Condition.has_room g.C.Condition
 
 pub returns-clause-bits : goal.returns-clause-bits
 returns-clause-bits g c = c.bits.ensures ∙ ap (λ lists. bits_of lists.lock) (c.scan_from-scan.ensures.left ∙ ap (λ lists. lists_scanned g.C.Condition.means c.args.row.now lists) (was_in_hand _ _ c.args.seat.now.me.1 c.requires.has c.slot_mut-queues.ensures.value))

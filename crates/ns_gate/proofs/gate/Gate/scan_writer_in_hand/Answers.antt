@@ -1,11 +1,21 @@
-use Rattle.std.proofs.Common.{rules, ap, refl, sym, ◌∙◌, None, Some, Ok}
-use Rattle.ns_gate.specs.Prelude.{Turned, bits_of, foremost_of, left_of, lists_scanned, meets_at, sought_at, the, woken_of}
+use Rattle.std.proofs.Common.{ap, refl, sym, ◌∙◌, None, Some, Ok, arith}
+use Rattle.ns_gate.specs.Prelude.{TableId, Turned, bits_of, foremost_of, left_of, lists_scanned, meets_at, sought_at, the, woken_of}
 use Rattle.ns_gate.proofs.Findings.{has_slot, now_in_hand, was_in_hand}
 use Rattle.ns_gate.proofs.Scans.{lists_few, lists_kept, told_nobody, told_reader, told_writer}
+use Rattle.ns_gate.proofs.Room.{queues_fit}
 use Rattle.ns_gate.proofs.gate.Gate.scan_writer_in_hand.Goals as goal
 
 pub slot_mut-queues-requires : goal.slot_mut-queues-requires
-slot_mut-queues-requires g c = (search rules, has_slot _ _ c.requires.has)
+slot_mut-queues-requires g c = (◌∙◌ {A = TableId} c.requires.of (sym c.self.view_is), has_slot _ _ c.requires.has)
+
+pub take_writer-requires : goal.take_writer-requires
+take_writer-requires g c = (queues_fit g.row.C g.row.N g.met.C.Condition.has_room g.C.Condition, omega (arith, g.met.C.Condition.has_cells))
+
+pub turned_with-requires : goal.turned_with-requires
+turned_with-requires g c = queues_fit g.row.C g.row.N g.met.C.Condition.has_room g.C.Condition
+
+pub turned_with-requires-in-Writer : goal.turned_with-requires-in-Writer
+turned_with-requires-in-Writer g c = queues_fit g.row.C g.row.N g.met.C.Condition.has_room g.C.Condition
 
 pub returns-in-Reader-clause-told : goal.returns-in-Reader-clause-told
 returns-in-Reader-clause-told g c =

@@ -1,14 +1,15 @@
-use Rattle.std.proofs.Common.{rules}
+use Rattle.std.proofs.Common.{arith, sym, ◌∙◌}
+use Rattle.ns_gate.specs.Prelude.{TableId}
 use Rattle.std.specs.Prelude.{None}
 use Rattle.ns_gate.proofs.Allowed.{may_store}
 use Rattle.ns_gate.proofs.Findings.{stepped}
 use Rattle.ns_gate.proofs.gate.Gate.store_at.Goals as goal
 
 pub store-requires : goal.store-requires
-store-requires g c = (search rules, search rules, may_store _ g.met.C.Condition.has_cells.0 g.met.C.Condition.quiet_keeps _ _ _ _ c.args.word c.args.content c.requires.may)
+store-requires g c = let wide = c.self.invariant.0 in let below = c.requires.below in (◌∙◌ {A = TableId} c.requires.of (sym c.self.view_is), omega (arith, wide, below), may_store _ g.met.C.Condition.has_cells.0 g.met.C.Condition.quiet_keeps _ _ _ _ c.args.word c.args.content c.requires.may)
 
 pub returns : goal.returns
 returns g c = record {
-  seat = search rules;
+  seat = c.store.ensures.0;
   did = stepped _ None _ _ _ c.store.ensures.2;
 }

@@ -1,18 +1,22 @@
-use Rattle.std.proofs.Common.{refl, rules, not, ap, ◌∙◌}
-use Rattle.ns_gate.specs.Prelude.{bits_of, lists_woken, the}
+use Rattle.std.proofs.Common.{refl, rules, not, ap, ◌∙◌, sym}
+use Rattle.ns_gate.specs.Prelude.{TableId, bits_of, lists_woken, the}
 use Rattle.ns_gate.proofs.Findings.{has_slot, was_in_hand, now_in_hand}
 use Rattle.ns_gate.proofs.Wakes.{may_turn, turned_over}
+use Rattle.ns_gate.proofs.Room.{queues_fit}
 use Rattle.ns_gate.proofs.gate.Gate.turn_in_hand.Goals as goal
 
 pub slot_mut-queues-requires : goal.slot_mut-queues-requires
-slot_mut-queues-requires g c = (search rules, has_slot _ _ c.requires.lists)
+slot_mut-queues-requires g c = (◌∙◌ {A = TableId} c.requires.of (sym c.self.view_is), has_slot _ _ c.requires.lists)
 
 pub turn-requires : goal.turn-requires
 turn-requires g c = (
-  search rules,
+  queues_fit g.row.C g.row.N g.met.C.Condition.has_room g.C.Condition,
   may_turn c.args._waking c.args._k c.args.held (the c.args.seat.now.me.0).stood c.slot_mut-queues.result.now c.args.taken.now c.requires.orderly c.requires.variable
       c.requires.taken (was_in_hand _ _ c.args.seat.now.me.1 c.requires.lists c.slot_mut-queues.ensures.value),
 )
+
+pub turned_by-requires : goal.turned_by-requires
+turned_by-requires g c = queues_fit g.row.C g.row.N g.met.C.Condition.has_room g.C.Condition
 
 pub returns : goal.returns
 returns g c = record {

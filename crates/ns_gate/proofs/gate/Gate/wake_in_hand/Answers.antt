@@ -1,17 +1,21 @@
-use Rattle.std.proofs.Common.{◌≡◌, ◌&&◌, List, ap, refl, rules, ◌∙◌}
-use Rattle.ns_gate.specs.Prelude.{bits_of, has_some, lists_woken, moved_to, taken_from, the}
+use Rattle.std.proofs.Common.{◌≡◌, ◌&&◌, List, ap, refl, ◌∙◌, sym}
+use Rattle.ns_gate.specs.Prelude.{TableId, bits_of, has_some, lists_woken, moved_to, taken_from, the}
 use Rattle.ns_gate.proofs.Findings.{has_slot, now_in_hand, was_in_hand}
 use Rattle.ns_gate.proofs.Wakes.{may_move}
+use Rattle.ns_queue.specs.Room.{list_fits}
+use Rattle.ns_queue.proofs.Orders.{list_small}
+use Rattle.ns_gate.proofs.Room.{queues_fit}
+use denote.Param.{number}
 use Rattle.ns_gate.proofs.gate.Gate.wake_in_hand.Given.{Over}
 use Rattle.ns_gate.proofs.gate.Gate.wake_in_hand.Goals.{After-move_if}
 use Rattle.ns_gate.proofs.gate.Gate.wake_in_hand.Goals as goal
 
 pub slot_mut-queues-requires : goal.slot_mut-queues-requires
-slot_mut-queues-requires g c = (search rules, has_slot _ _ c.requires.has)
+slot_mut-queues-requires g c = (◌∙◌ {A = TableId} c.requires.of (sym c.self.view_is), has_slot _ _ c.requires.has)
 
 pub move_if-requires : goal.move_if-requires
 move_if-requires g c = (
-  search rules,
+  queues_fit g.row.C g.row.N g.met.C.Condition.has_room g.C.Condition,
   may_move c.args.waking c.args.k c.slot_mut-queues.result.now c.take_waiters-taken.new.queues c.as_slice.result.now c.take_waiters-taken.ensures.orderly c.requires.variable
       (c.as_slice.ensures.value ∙ c.take_waiters-taken.ensures.taken) c.take_waiters-taken.ensures.left,
 )
@@ -23,6 +27,12 @@ was g c = was_in_hand _ _ c.args.seat.now.me.1 c.requires.has c.slot_mut-queues.
 -- and are those that are put back
 put : (g : Over) (c : After-move_if g) → c.move_if.new.queues ≡ lists_woken c.args.waking c.args.k c.args.held (the c.args.seat.now.me.0).stood
 put g c = c.move_if.ensures ∙ (λ i. moved_to c.args.held ((c.as_slice.ensures.value ∙ c.take_waiters-taken.ensures.taken) i) (c.take_waiters-taken.ensures.left i)) ∙ ap (lists_woken c.args.waking c.args.k c.args.held) (was g c)
+
+pub take_waiters-taken-requires : goal.take_waiters-taken-requires
+take_waiters-taken-requires g c = (queues_fit g.row.C g.row.N g.met.C.Condition.has_room g.C.Condition, (list_small _ (list_fits g.row.C (number g.row.N) g.met.C.Condition.has_room), c.requires.variable))
+
+pub turned_by-turned-requires : goal.turned_by-turned-requires
+turned_by-turned-requires g c = queues_fit g.row.C g.row.N g.met.C.Condition.has_room g.C.Condition
 
 pub returns-clause-seat : goal.returns-clause-seat
 returns-clause-seat g c = (refl, refl)

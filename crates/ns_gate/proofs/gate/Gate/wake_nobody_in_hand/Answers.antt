@@ -1,10 +1,17 @@
-use Rattle.std.proofs.Common.{◌≡◌, Some, ap, false, refl, rules, sym, true, ◌∙◌}
-use Rattle.ns_gate.specs.Prelude.{Cv, bits_of, has_some, the, waiters_of}
+use Rattle.std.proofs.Common.{◌≡◌, Some, ap, false, refl, sym, true, ◌∙◌}
+use Rattle.ns_gate.specs.Prelude.{Cv, TableId, bits_of, has_some, the, waiters_of}
 use Rattle.ns_gate.proofs.Findings.{has_slot, now_in_hand, was_in_hand}
+use Rattle.ns_gate.proofs.Room.{queues_fit}
 use Rattle.ns_gate.proofs.gate.Gate.wake_nobody_in_hand.Goals as goal
 
 pub slot_mut-queues-requires : goal.slot_mut-queues-requires
-slot_mut-queues-requires g c = (search rules, has_slot _ _ c.requires.has)
+slot_mut-queues-requires g c = (◌∙◌ {A = TableId} c.requires.of (sym c.self.view_is), has_slot _ _ c.requires.has)
+
+pub has_waiters-requires : goal.has_waiters-requires
+has_waiters-requires g c = (queues_fit g.row.C g.row.N g.met.C.Condition.has_room g.C.Condition, c.requires.variable)
+
+pub bits-requires : goal.bits-requires
+bits-requires g c = queues_fit g.row.C g.row.N g.met.C.Condition.has_room g.C.Condition
 
 pub returns-then-has_waiters-clause-seat : goal.returns-then-has_waiters-clause-seat
 returns-then-has_waiters-clause-seat g c = (refl, refl)

@@ -1,23 +1,30 @@
-use Rattle.std.proofs.Common.{◌≡◌, None, [], ◌∷◌, ap, refl, sym, ◌∙◌, rules}
-use Rattle.ns_gate.specs.Prelude.{Cv, bits_of, lists_woken, sole_of, the, waiters_of, woken_sole}
+use Rattle.std.proofs.Common.{◌≡◌, None, [], ◌∷◌, ap, refl, sym, ◌∙◌}
+use Rattle.ns_gate.specs.Prelude.{Cv, TableId, bits_of, lists_woken, sole_of, the, waiters_of, woken_sole}
 use Rattle.ns_gate.proofs.Findings.{has_slot, now_in_hand, was_in_hand}
 use Rattle.ns_gate.proofs.Wakes.{left_sole, made_sole, may_move, takes_sole, woken_by_sole}
+use Rattle.ns_gate.proofs.Room.{queues_fit}
 use Rattle.ns_gate.proofs.gate.Gate.wake_sole_in_hand.Given.{Over}
 use Rattle.ns_gate.proofs.gate.Gate.wake_sole_in_hand.Goals.{After-move_if}
 use Rattle.ns_gate.proofs.gate.Gate.wake_sole_in_hand.Goals as goal
 
 pub slot_mut-queues-requires : goal.slot_mut-queues-requires
-slot_mut-queues-requires g c = (search rules, has_slot _ _ c.requires.has)
+slot_mut-queues-requires g c = (◌∙◌ {A = TableId} c.requires.of (sym c.self.view_is), has_slot _ _ c.requires.has)
 
 pub move_if-requires : goal.move_if-requires
 move_if-requires g c = let waking = c.args._waking in let k = c.args.k in let lists = c.slot_mut-queues.result.now in let w = c.in-Some.waiter in let sole = sym c.in-Some.ensures.sole in (
-  search rules,
+  queues_fit g.row.C g.row.N g.met.C.Condition.has_room g.C.Condition,
   may_move waking k lists c.take_sole.new.self (w ∷ []) c.take_sole.ensures.orderly c.requires.variable (sym (takes_sole waking k lists w sole)) (c.in-Some.ensures.left ∙ left_sole waking k lists w sole),
 )
 
 -- the queues in hand are those that are put back
 put : (g : Over) (c : After-move_if g) → c.move_if.new.queues ≡ lists_woken c.args._waking c.args.k c.args.held c.slot_mut-queues.result.now
 put g c = woken_by_sole c.args._waking c.args.k c.args.held c.slot_mut-queues.result.now c.take_sole.new.self c.move_if.new.queues c.in-Some.waiter (sym c.in-Some.ensures.sole) c.in-Some.ensures.left c.move_if.ensures
+
+pub take_sole-requires : goal.take_sole-requires
+take_sole-requires g c = (queues_fit g.row.C g.row.N g.met.C.Condition.has_room g.C.Condition, c.requires.variable)
+
+pub turned_by-requires : goal.turned_by-requires
+turned_by-requires g c = queues_fit g.row.C g.row.N g.met.C.Condition.has_room g.C.Condition
 
 pub returns-in-Some-clause-sole : goal.returns-in-Some-clause-sole
 returns-in-Some-clause-sole g c = let waking = c.args._waking in let k = c.args.k in let held = c.args.held in let lists = c.slot_mut-queues.result.now in

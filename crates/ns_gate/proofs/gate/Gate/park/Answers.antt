@@ -1,0 +1,9 @@
+use Rattle.std.proofs.Common.{arith, inl}
+use Rattle.ns_gate.proofs.Room.{queues_fit}
+use Rattle.ns_gate.proofs.gate.Gate.park.Goals as goal
+
+pub flag_at-requires : goal.flag_at-requires
+flag_at-requires g c = (queues_fit g.row.C g.row.N g.met.C.Condition.has_room g.C.Condition, (omega arith, (inl c.requires.number.0, c.requires.number.1)))
+
+pub park-requires : goal.park-requires
+park-requires g c = let wide = c.self.invariant.0 in let below = c.flag_at.ensures.1 in omega (arith, wide, below)

@@ -1,0 +1,9 @@
+use Rattle.std.proofs.Common.{arith, inl}
+use Rattle.ns_gate.proofs.Room.{queues_fit}
+use Rattle.ns_gate.proofs.gate.Gate.park_timeout.Goals as goal
+
+pub flag_at-flag-requires : goal.flag_at-flag-requires
+flag_at-flag-requires g c = (queues_fit g.row.C g.row.N g.met.C.Condition.has_room g.C.Condition, (omega arith, (inl c.requires.number.0, c.requires.number.1)))
+
+pub park_timeout-requires : goal.park_timeout-requires
+park_timeout-requires g c = let wide = c.self.invariant.0 in let below = c.flag_at-flag.ensures.1 in omega (arith, wide, below)
