@@ -1,9 +1,18 @@
-use Rattle.std.proofs.Common.{refl, rules, not, ap, ◌∙◌, sym}
+use Rattle.std.proofs.Common.{refl, rules, not, ap, ◌∙◌, sym, arith}
 use Rattle.ns_gate.specs.Prelude.{TableId, bits_of, lists_woken, the}
 use Rattle.ns_gate.proofs.Findings.{has_slot, was_in_hand, now_in_hand}
 use Rattle.ns_gate.proofs.Wakes.{may_turn, turned_over}
 use Rattle.ns_gate.proofs.Room.{queues_fit}
 use Rattle.ns_gate.proofs.gate.Gate.turn_in_hand.Goals as goal
+
+pub slot_mut-queues-requires-room-P-TableRule : goal.slot_mut-queues-requires-room-P-TableRule
+slot_mut-queues-requires-room-P-TableRule g c = λ _ _. omega arith
+
+pub slot_mut-queues-requires-room-P-TableRule-2 : goal.slot_mut-queues-requires-room-P-TableRule-2
+slot_mut-queues-requires-room-P-TableRule-2 g c = λ _ _. queues_fit g.row.C g.row.N g.met.C.Condition.has_room g.C.Condition
+
+pub slot_mut-queues-requires-room-P-TableRule-3 : goal.slot_mut-queues-requires-room-P-TableRule-3
+slot_mut-queues-requires-room-P-TableRule-3 g c = λ _ _. omega arith
 
 pub slot_mut-queues-requires : goal.slot_mut-queues-requires
 slot_mut-queues-requires g c = (◌∙◌ {A = TableId} c.requires.of (sym c.self.view_is), has_slot _ _ c.requires.lists)

@@ -1,4 +1,4 @@
-use Rattle.std.proofs.Common.{◌≡◌, ◌&&◌, List, ap, refl, ◌∙◌, sym}
+use Rattle.std.proofs.Common.{◌≡◌, ◌&&◌, List, ap, refl, ◌∙◌, sym, arith}
 use Rattle.ns_gate.specs.Prelude.{TableId, bits_of, has_some, lists_woken, moved_to, taken_from, the}
 use Rattle.ns_gate.proofs.Findings.{has_slot, now_in_hand, was_in_hand}
 use Rattle.ns_gate.proofs.Wakes.{may_move}
@@ -9,6 +9,15 @@ use denote.Param.{number}
 use Rattle.ns_gate.proofs.gate.Gate.wake_in_hand.Given.{Over}
 use Rattle.ns_gate.proofs.gate.Gate.wake_in_hand.Goals.{After-move_if}
 use Rattle.ns_gate.proofs.gate.Gate.wake_in_hand.Goals as goal
+
+pub slot_mut-queues-requires-room-P-TableRule : goal.slot_mut-queues-requires-room-P-TableRule
+slot_mut-queues-requires-room-P-TableRule g c = λ _ _. omega arith
+
+pub slot_mut-queues-requires-room-P-TableRule-2 : goal.slot_mut-queues-requires-room-P-TableRule-2
+slot_mut-queues-requires-room-P-TableRule-2 g c = λ _ _. queues_fit g.row.C g.row.N g.met.C.Condition.has_room g.C.Condition
+
+pub slot_mut-queues-requires-room-P-TableRule-3 : goal.slot_mut-queues-requires-room-P-TableRule-3
+slot_mut-queues-requires-room-P-TableRule-3 g c = λ _ _. omega arith
 
 pub slot_mut-queues-requires : goal.slot_mut-queues-requires
 slot_mut-queues-requires g c = (◌∙◌ {A = TableId} c.requires.of (sym c.self.view_is), has_slot _ _ c.requires.has)
@@ -33,6 +42,12 @@ take_waiters-taken-requires g c = (queues_fit g.row.C g.row.N g.met.C.Condition.
 
 pub turned_by-turned-requires : goal.turned_by-turned-requires
 turned_by-turned-requires g c = queues_fit g.row.C g.row.N g.met.C.Condition.has_room g.C.Condition
+
+pub as_slice-requires : goal.as_slice-requires
+as_slice-requires g c = list_small _ (list_fits g.row.C (number g.row.N) g.met.C.Condition.has_room)
+
+pub as_slice-requires-2 : goal.as_slice-requires-2
+as_slice-requires-2 g c = list_small _ (list_fits g.row.C (number g.row.N) g.met.C.Condition.has_room)
 
 pub returns-clause-seat : goal.returns-clause-seat
 returns-clause-seat g c = (refl, refl)
