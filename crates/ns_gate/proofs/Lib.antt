@@ -1,4 +1,5 @@
 pub mod Calls
+pub mod Besides
 pub mod Endings
 pub mod Keeps
 pub mod Looks

@@ -1,11 +1,26 @@
-use Rattle.std.proofs.Common.{◌≡◌, ℕ, List, Bool, arith, slice_index, slice_set}
-use Rattle.ns_gate.specs.Prelude.{before_in, row_in, the}
+use Rattle.std.proofs.Common.{◌≡◌, ℕ, List, Bool, arith, refl, slice_index, slice_set}
+use Rattle.ns_gate.specs.Prelude.{Act, ArmFlag, IsOnWord, JudgeMet, JudgeQuiet, Limits, LoadCell, LoadFlag, LoadWord, Look, PayWake, StoreCell, before_in, row_in, the}
+use Rattle.ns_gate.proofs.Besides.{beside_fits}
 use Rattle.ns_gate.proofs.Room.{queues_fit}
 use Rattle.ns_gate.proofs.gate.Gate.perform.Goals as goal
 
 -- what a test says of a row in which this cell was set, it says of the whole row
 by_cell : (test : List ℕ → Bool) (row whole : List ℕ) (i j cell : ℕ) (is : Bool) → is ≡ test (slice_set row j cell) → j ≡ i → cell ≡ slice_index whole i → slice_set row i (slice_index whole i) ≡ whole → is ≡ test whole
 by_cell test row whole i j cell is told place tells but = cc
+
+-- an act that is none of the others is an exchange
+on_word : {C : Type 0} (act : Act C) → (act ≡ LoadWord → ⊥) → ((i : ℕ) → act ≡ LoadCell i → ⊥) → ((i : ℕ) → act ≡ JudgeQuiet i → ⊥) → ((i : ℕ) (condition : C) → act ≡ JudgeMet i condition → ⊥) → ((i value : ℕ) → act ≡ StoreCell i value → ⊥)
+    → (act ≡ ArmFlag → ⊥) → (act ≡ PayWake → ⊥) → (act ≡ LoadFlag → ⊥) → ((limits : Limits) (again : Bool) → act ≡ Look limits again → ⊥) → IsOnWord act
+on_word LoadWord word cell quiet met store arm pay flag look = absurd (word refl)
+on_word (LoadCell i) word cell quiet met store arm pay flag look = absurd (cell i refl)
+on_word (JudgeQuiet i) word cell quiet met store arm pay flag look = absurd (quiet i refl)
+on_word (JudgeMet i condition) word cell quiet met store arm pay flag look = absurd (met i condition refl)
+on_word (StoreCell i value) word cell quiet met store arm pay flag look = absurd (store i value refl)
+on_word ArmFlag word cell quiet met store arm pay flag look = absurd (arm refl)
+on_word PayWake word cell quiet met store arm pay flag look = absurd (pay refl)
+on_word LoadFlag word cell quiet met store arm pay flag look = absurd (flag refl)
+on_word (Look limits again) word cell quiet met store arm pay flag look = absurd (look limits again refl)
+on_word other word cell quiet met store arm pay flag look = tt
 
 pub load-requires : goal.load-requires
 load-requires g c = let is = c.in-LoadWord.is in
@@ -42,6 +57,27 @@ arm_flag-requires g c = let is = c.in-ArmFlag.is in let needs = rw is at c.requi
 pub pay_wake-requires : goal.pay_wake-requires
 pay_wake-requires g c = let is = c.in-PayWake.is in let needs = rw is at c.requires.needs in
     (omega arith, (queues_fit g.row.C g.row.N g.met.C.Condition.has_room g.C.Condition, (omega arith, (c.requires.of, ((needs.1, needs.2), rw needs.0 at (rw is at c.requires.can))))))
+
+pub offset_bounds-row-from : goal.offset_bounds-row-from
+offset_bounds-row-from g c = let needs = rw c.in-JudgeQuiet.is at c.requires.needs in let below = needs.0 in let is = c.from.ensures in let few = g.met.C.Condition.has_cells.1 in omega (arith, is, below, few)
+
+pub bounds-row-from : goal.bounds-row-from
+bounds-row-from g c = let needs = rw c.in-JudgeQuiet.is at c.requires.needs in let below = needs.0 in let is = c.from.ensures in omega (arith, is, below)
+
+pub quiet-requires : goal.quiet-requires
+quiet-requires g c = omega (arith, g.met.C.Condition.has_cells)
+
+pub offset_bounds-row-from-in-JudgeMet : goal.offset_bounds-row-from-in-JudgeMet
+offset_bounds-row-from-in-JudgeMet g c = let needs = rw c.in-JudgeMet.is at c.requires.needs in let below = needs.0 in let is = c.from-in-JudgeMet.ensures in let few = g.met.C.Condition.has_cells.1 in omega (arith, is, below, few)
+
+pub bounds-row-from-in-JudgeMet : goal.bounds-row-from-in-JudgeMet
+bounds-row-from-in-JudgeMet g c = let needs = rw c.in-JudgeMet.is at c.requires.needs in let below = needs.0 in let is = c.from-in-JudgeMet.ensures in omega (arith, is, below)
+
+pub test-requires : goal.test-requires
+test-requires g c = omega (arith, g.met.C.Condition.has_cells)
+
+pub perform_exchange-requires : goal.perform_exchange-requires
+perform_exchange-requires g c = (omega arith, (queues_fit g.row.C g.row.N g.met.C.Condition.has_room g.C.Condition, (omega arith, (beside_fits g.row.C g.row.N g.met.C.Condition.has_room, (c.requires.of, (on_word c.args.act c.in_default.not-LoadWord c.in_default.not-LoadCell c.in_default.not-JudgeQuiet c.in_default.not-JudgeMet c.in_default.not-StoreCell c.in_default.not-ArmFlag c.in_default.not-PayWake c.in_default.not-LoadFlag c.in_default.not-Look, (c.requires.can, c.requires.needs)))))))
 
 pub parts-requires : goal.parts-requires
 parts-requires g c = c.load.ensures.word

@@ -1,6 +1,20 @@
-use Rattle.std.proofs.Common.{arith, rules}
+use Rattle.std.proofs.Common.{◌≡◌, Bool, arith, refl}
+use Rattle.ns_gate.specs.Prelude.{Acquire, Act, Arrival, Change, IsOnWord, Release, ReleaseReturning, Releasing, ReturnQueues, TakeQueues, Taking, Wait, WaitReturning, Word}
+use Rattle.ns_word.specs.declared.wait.Aim.{Aim}
+use Rattle.ns_gate.proofs.Besides.{beside_fits}
 use Rattle.ns_gate.proofs.Room.{queues_fit}
 use Rattle.ns_gate.proofs.gate.Gate.perform_exchange.Goals as goal
+
+-- an exchange is one of these
+off_word : {C : Type 0} (act : Act C) → IsOnWord act → ((aim : Aim C) (arrival : Arrival) (last : Word) → act ≡ Acquire aim arrival last → ⊥) → ((taking : Taking) (last : Word) → act ≡ TakeQueues taking last → ⊥) → ((releasing : Releasing) (last : Word) → act ≡ Release releasing last → ⊥)
+    → ((change : Change) (last : Word) → act ≡ ReturnQueues change last → ⊥) → ((releasing : Releasing) (last : Word) → act ≡ ReleaseReturning releasing last → ⊥) → ((wait : Wait C) (again : Bool) (last : Word) → act ≡ WaitReturning wait again last → ⊥) → ⊥
+off_word (Acquire aim arrival last) kind acquire take release back leave wait = acquire aim arrival last refl
+off_word (TakeQueues taking last) kind acquire take release back leave wait = take taking last refl
+off_word (Release releasing last) kind acquire take release back leave wait = release releasing last refl
+off_word (ReturnQueues change last) kind acquire take release back leave wait = back change last refl
+off_word (ReleaseReturning releasing last) kind acquire take release back leave wait = leave releasing last refl
+off_word (WaitReturning waits again last) kind acquire take release back leave wait = wait waits again last refl
+off_word other kind acquire take release back leave wait = kind
 
 pub exchange_to_acquire-tries-requires : goal.exchange_to_acquire-tries-requires
 exchange_to_acquire-tries-requires g c = let is = c.in-Acquire.is in let needs = rw is at c.requires.needs in let word = c.new-last.ensures in
@@ -16,15 +30,15 @@ exchange_to_release-requires g c = let is = c.in-Release.is in let needs = rw is
 
 pub put_back-requires : goal.put_back-requires
 put_back-requires g c = let is = c.in-ReturnQueues.is in let needs = rw is at c.requires.needs in
-    (omega arith, (queues_fit g.row.C g.row.N g.met.C.Condition.has_room g.C.Condition, (omega arith, (search rules, (c.requires.of, (rw needs.0 at (rw is at c.requires.can), needs.1))))))
+    (omega arith, (queues_fit g.row.C g.row.N g.met.C.Condition.has_room g.C.Condition, (omega arith, (beside_fits g.row.C g.row.N g.met.C.Condition.has_room, (c.requires.of, (rw needs.0 at (rw is at c.requires.can), needs.1))))))
 
 pub put_back-requires-in-ReleaseReturning : goal.put_back-requires-in-ReleaseReturning
 put_back-requires-in-ReleaseReturning g c = let is = c.in-ReleaseReturning.is in let needs = rw is at c.requires.needs in
-    (omega arith, (queues_fit g.row.C g.row.N g.met.C.Condition.has_room g.C.Condition, (omega arith, (search rules, (c.requires.of, (rw needs.0 at (rw is at c.requires.can), needs.1))))))
+    (omega arith, (queues_fit g.row.C g.row.N g.met.C.Condition.has_room g.C.Condition, (omega arith, (beside_fits g.row.C g.row.N g.met.C.Condition.has_room, (c.requires.of, (rw needs.0 at (rw is at c.requires.can), needs.1))))))
 
 pub put_back-requires-in-WaitReturning : goal.put_back-requires-in-WaitReturning
 put_back-requires-in-WaitReturning g c = let is = c.in-WaitReturning.is in let needs = rw is at c.requires.needs in
-    (omega arith, (queues_fit g.row.C g.row.N g.met.C.Condition.has_room g.C.Condition, (omega arith, (search rules, (c.requires.of, (rw needs.0 at (rw is at c.requires.can), needs.1))))))
+    (omega arith, (queues_fit g.row.C g.row.N g.met.C.Condition.has_room g.C.Condition, (omega arith, (beside_fits g.row.C g.row.N g.met.C.Condition.has_room, (c.requires.of, (rw needs.0 at (rw is at c.requires.can), needs.1))))))
 
 pub found_by-requires : goal.found_by-requires
 found_by-requires g c = c.exchange_to_acquire-tries.ensures.word
@@ -52,3 +66,6 @@ returns-in-ReleaseReturning g c = let needs = rw c.in-ReleaseReturning.is at c.r
 
 pub returns-in-WaitReturning : goal.returns-in-WaitReturning
 returns-in-WaitReturning g c = let needs = rw c.in-WaitReturning.is at c.requires.needs in record { seat = c.put_back-in-WaitReturning.ensures.seat; did = rw c.in-WaitReturning.is (rw needs.0 c.put_back-in-WaitReturning.ensures.did) }
+
+pub unreachable-requires : goal.unreachable-requires
+unreachable-requires g c = off_word c.args.act c.requires.kind c.in_default.not-Acquire c.in_default.not-TakeQueues c.in_default.not-Release c.in_default.not-ReturnQueues c.in_default.not-ReleaseReturning c.in_default.not-WaitReturning
