@@ -14,3 +14,6 @@ new-requires-room-P-TableRule-3 g c = λ _ _. omega arith
 
 pub new-requires : goal.new-requires
 new-requires g c = begins_with _ _ _ _ _ _ (omega arith) (c.as_slice.ensures.value ∙ c.in_ok-words.ensures) c.in_ok-slots.ensures
+
+pub no_waiters-requires : goal.no_waiters-requires
+no_waiters-requires g c = queues_fit g.row.C g.row.N g.met.C.Condition.has_room g.C.Condition
