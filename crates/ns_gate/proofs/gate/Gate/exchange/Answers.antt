@@ -24,7 +24,8 @@ pub compare_exchange-found-requires-room-M-Play-3 : goal.compare_exchange-found-
 compare_exchange-found-requires-room-M-Play-3 g c = λ _ _. omega arith
 
 pub compare_exchange-found-requires : goal.compare_exchange-found-requires
-compare_exchange-found-requires g c = let wide = c.self.invariant.0 in (◌∙◌ {A = TableId} c.requires.of (sym c.self.view_is), omega (arith, wide), may_exchange _ g.met.C.Condition.has_cells.0 g.met.C.Condition.quiet_keeps _ _ _ _ c.args.last c.args.new _ _ c.requires.may c.number-content.ensures c.number.ensures)
+compare_exchange-found-requires g c = let wide = c.self.invariant.0 in
+    (◌∙◌ {A = TableId} c.requires.of (sym c.self.view_is), omega (arith, wide), may_exchange _ g.met.C.Condition.has_cells.0 g.met.C.Condition.quiet_keeps _ _ _ _ c.args.last c.args.new _ _ c.requires.may c.number-content.ensures c.number.ensures)
 
 pub came_to-requires : goal.came_to-requires
 came_to-requires g c = found_packs _ c.args.last c.args.new _ _ _ c.requires.last c.requires.may c.compare_exchange-found.ensures.2

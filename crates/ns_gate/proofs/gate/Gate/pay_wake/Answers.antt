@@ -17,7 +17,8 @@ pub flag_at-flag-requires : goal.flag_at-flag-requires
 flag_at-flag-requires g c = (queues_fit g.row.C g.row.N g.met.C.Condition.has_room g.C.Condition, (omega arith, (inr (c.args.wake.value, c.requires.owed.0), c.requires.owed.1)))
 
 pub store_at-requires : goal.store_at-requires
-store_at-requires g c = (omega arith, (queues_fit g.row.C g.row.N g.met.C.Condition.has_room g.C.Condition, (omega arith, (c.requires.of, (c.flag_at-flag.ensures.1, record { act = PayWake; can = c.requires.can; stores = c.from.ensures ∙ ap (λ w. w.value) (owed_next c.args.wake _ c.requires.owed.0); there = c.flag_at-flag.ensures.0 ∙ ap (λ w. w.seat + (g.row.N + 1)) (owed_next c.args.wake _ c.requires.owed.0) })))))
+store_at-requires g c = let paid = ap (λ w. w.value) (owed_next c.args.wake _ c.requires.owed.0) in
+    (omega arith, (queues_fit g.row.C g.row.N g.met.C.Condition.has_room g.C.Condition, (omega arith, (c.requires.of, (c.flag_at-flag.ensures.1, record { act = PayWake; can = c.requires.can; stores = omega (arith, paid); there = c.flag_at-flag.ensures.0 ∙ ap (λ w. w.seat + (g.row.N + 1)) (owed_next c.args.wake _ c.requires.owed.0) })))))
 
 pub wake_one-requires : goal.wake_one-requires
 wake_one-requires g c = let wide = c.self.invariant.0 in let below = c.flag_at-flag.ensures.1 in omega (arith, wide, below)

@@ -17,7 +17,8 @@ pub slot_mut-queues-requires : goal.slot_mut-queues-requires
 slot_mut-queues-requires g c = (◌∙◌ {A = TableId} c.requires.of (sym c.self.view_is), has_slot _ _ c.requires.has)
 
 pub scan_and_queue-scan-requires : goal.scan_and_queue-scan-requires
-scan_and_queue-scan-requires g c = (queues_fit g.row.C g.row.N g.met.C.Condition.has_room g.C.Condition, (omega (arith, g.met.C.Condition.has_cells), (c.requires.list, (c.requires.below, ap (times c.args.number) (was_in_hand _ _ c.args.seat.now.me.1 c.requires.has c.slot_mut-queues.ensures.value) ∙ c.requires.free))))
+scan_and_queue-scan-requires g c =
+    (queues_fit g.row.C g.row.N g.met.C.Condition.has_room g.C.Condition, (omega (arith, g.met.C.Condition.has_cells), (c.requires.list, (c.requires.below, ap (times c.args.number) (was_in_hand _ _ c.args.seat.now.me.1 c.requires.has c.slot_mut-queues.ensures.value) ∙ c.requires.free))))
 
 pub bits-requires : goal.bits-requires
 bits-requires g c = queues_fit g.row.C g.row.N g.met.C.Condition.has_room g.C.Condition
