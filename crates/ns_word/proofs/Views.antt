@@ -6,7 +6,6 @@ use Rattle.ns_word.specs.Prelude.{Subject, Truths, Variables, ViewFits, Waiting,
 use Rattle.ns_word.specs.Prelude.{takers, times_among, variable_in, walk_at, woken_phase, writers}
 use Rattle.ns_model.proofs.Tallies.{total_amid, every_parts, every_join}
 use Rattle.ns_model.specs.declared.phase.Phase.TheVariants.{Idle}
-use Rattle.ns_word.specs.declared.wait.Outcome.TheVariants as TheOutcome
 
 -- a seat with this place, this section and these wakes to pay
 abbrev pub view_of : {C : Type 0} {N : ℕ} → ℕ → Option (Walk C) → Option (Held C N) → List Owed → SeatView C N

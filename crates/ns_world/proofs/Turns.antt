@@ -10,7 +10,6 @@ use Rattle.ns_world.specs.Prelude.{mode_of, mode_waited, object_start, progress,
 use Rattle.ns_env.specs.declared.walk.EnvNext.TheVariants.{Repeat, Over}
 use Rattle.ns_world.proofs.Busy.{or_true, both, walking_at, walking_set_same, walking_set_other, asking_at, asking_set_same, asking_set_other}
 use Rattle.ns_env.proofs.Asks.{set_here}
-use Rattle.ns_world.specs.declared.reply.Reply.TheVariants as TheReply
 
 -- the first step of a call may commit an event
 abbrev StartCommits : {C : Type 0} → ℕ → Start C → Word → Lists C → Type 0

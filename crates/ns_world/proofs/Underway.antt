@@ -4,7 +4,7 @@ use Rattle.std.proofs.Common.{◌≡◌, ◌≢◌, inl, inr, ℕ, List, [], ◌
 use Rattle.std.proofs.lemmas.List.{append-nil, append_assoc}
 use Rattle.std.proofs.lemmas.Option.{slice_get_within}
 use Rattle.ns_world.specs.Prelude.{Acquire, Act, Acts, Add, Advance, AnswersOfLock, AnswersOfNotes, Any, AreBy, ArmFlag, Ask, Asked, Asks, AsksFor, AtSomePoint, BeginsWith, Call, CallFits, CallGoes, Cause, ClockLoad, CounterWait, Course, CvWait, Done, Effect, EnvCourse, EnvEvent, EnvGoes}
-use Rattle.ns_world.specs.Prelude.{EnvGoesOn, EnvNext, EnvPlain, EnvRequest, EnvSoFar, EnvWalk, Event, Expiry, Finished, ForLook, Found, Go, Goes, GoesOn, Held, Idle, IfMade, InAcquire, InCells, InRelease, InShow, InSignal, InTry, InWait, IsFirst, IsFirstAsk, IsLawfulWorld, IsNotified, JudgeMet}
+use Rattle.ns_world.specs.Prelude.{EnvGoesOn, EnvNext, EnvPlain, EnvRequest, EnvSoFar, EnvWalk, Event, Expiry, Finished, ForLook, Found, Go, Goes, GoesOn, Held, IfMade, InAcquire, InCells, InRelease, InShow, InSignal, InTry, InWait, IsFirst, IsFirstAsk, IsLawfulWorld, IsNotified, JudgeMet}
 use Rattle.ns_world.specs.Prelude.{JudgeQuiet, LedTo, Limits, LoadCell, LoadFlag, LoadWord, Lock, Look, LookFits, LookGoes, LookMeans, LookOver, Looked, Means, Mode, Moves, NewNote, Next, NoteLoad, NoteStanding, NoteWait, Notify, Now, OfLock, OfNotes, OfObjects, On, OnCondition, OnEntry, OnLock}
 use Rattle.ns_world.specs.Prelude.{OnObjects, OnVariables, Once, Only, Owed, Part, PayWake, RLock, Release, ReleaseReturning, Reply, Request, ReturnQueues, SeatView, Setup, Shows, SoFar, Start, Starts, Step, StoreCell, Subject, TakeQueues, ToRelease, Truths, UnlockQuiet, Value, Wait, WaitAny}
 use Rattle.ns_world.specs.Prelude.{WaitReturning, Walk, WasShown, asked_of, asks_of, begun_at, course_after, course_from, env_asked_of, env_course_after, env_course_at, env_done, env_got_of, env_own, env_state, env_step_of, env_walk_after, env_want_of, got_of, held_at, held_in, is_for_any}

@@ -1,5 +1,5 @@
 -- Where the seats of a world stand in calls on counters and once cells, after one of them is put elsewhere.
-use Rattle.std.proofs.Common.{◌≡◌, ◌≢◌, ℕ, zero, suc, ◌+◌, ◌<◌, Bool, true, false, ◌&&◌, ◌||◌, eqb, List, [], ◌∷◌, Option, Some, None, is_some, length, take, get_or, slice_set, replicate, refl, ap, sym, ◌∙◌, arith, inl, inr, eq-eqb}
+use Rattle.std.proofs.Common.{◌≡◌, ◌≢◌, ℕ, zero, suc, ◌+◌, ◌<◌, Bool, true, false, ◌&&◌, ◌||◌, eqb, List, [], ◌∷◌, Option, None, is_some, length, take, get_or, slice_set, replicate, refl, ap, sym, ◌∙◌, arith, inl, inr, eq-eqb}
 use Rattle.std.proofs.lemmas.Bool.{cases_eq, ne_eqb}
 use Rattle.ns_world.specs.Prelude.{AnyWait, ObjectWalk, wait_in, walk_in}
 

@@ -17,7 +17,6 @@ use Rattle.ns_world.proofs.Fresh.{lawful_new, length_views, no_walk}
 use Rattle.ns_world.proofs.Turns.{moves_stay, begun_stays, Pairs, pairs}
 use Rattle.ns_world.proofs.Walks.{none_stand, none_wait}
 use Rattle.ns_env.specs.declared.walk.EnvNext.TheVariants as TheEnv
-use Rattle.ns_counters.specs.declared.word.Stage.TheVariants as TheStage
 use Rattle.ns_counters.proofs.Listed.{some_among}
 use Rattle.ns_counters.proofs.Placed.{Fit, StaysAsked, led_more, put_here, put_keeps, put_there, stands_within, stays_asked, there_more}
 use Rattle.ns_counters.proofs.Needs.{may_step}

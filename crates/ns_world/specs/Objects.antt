@@ -1,15 +1,11 @@
 -- The counters and once cells of a world, and one step of a seat in a call on them.
-use Rattle.std.specs.Prelude.{◌≡◌, ℕ, nat_lt, ◌<◌, ◌≤◌, ◌^◌, ◌==◌, Bool, true, bit_or, if◌then◌else◌, List, [], replicate, Option, None, Some, length, slice_get, slice_index, slice_set, unwrap_or, Ok}
-use Rattle.std.specs.List.{list_all}
+use Rattle.std.specs.Prelude.{◌≡◌, ℕ, List, replicate, Option, None, Some, slice_get, slice_set, unwrap_or}
 use Rattle.ns_world.specs.Replies.{object_told}
-use Rattle.ns_world.specs.Names.{IsLawfulObjects, ObjectEffect, ObjectState, AddExchange, AddLoad, AnyWait, AtCounter, AtNote, BeginOnce, DoneLoad, EndOnce, Env, EnvActFits, EnvEffect, EnvPlain, ExchangeToAdd, Finished, FirstClock, Idle, InRound, IsLawful, Item, Items, MarkWait, NoteStanding}
-use Rattle.ns_world.specs.Names.{ObjectAct, ObjectEvent, ObjectFound, ObjectNext, ObjectStanding, ObjectWalk, ObjectWant, Objects, OnCounter, OnEnv, OnNote, OnVariable, OnWord, OnceBegin, OnceEnd, OnceLoad, Over, Place, Repeat, Round, RoundPlace, Setup, Step, ValueLoad, WaitClock, WaitLoad}
-use Rattle.ns_world.specs.Names.{WaitMark, Went, counter_word, first_words, judged, most, objects_after, padded, setup_of, word_at}
-use Rattle.ns_counters.specs.Steps.{outcome}
+use Rattle.ns_world.specs.Names.{IsLawfulObjects, ObjectEffect, ObjectState, AnyWait, EnvPlain, Finished, Idle, NoteStanding}
+use Rattle.ns_world.specs.Names.{ObjectEvent, ObjectFound, ObjectNext, ObjectWalk, Objects, Over, Repeat, Step}
+use Rattle.ns_world.specs.Names.{Went, first_words, padded, setup_of}
 use Rattle.ns_counters.specs.declared.walk.ObjectNext.TheVariants.{Go}
-use Rattle.ns_counters.specs.declared.round.ObjectFound.TheVariants.{Word}
-use Rattle.ns_world.specs.Names.{IsLoad, items_of, item_at, object_want, object_got, object_after, object_place, IsInBounds}
-use Rattle.ns_model.specs.declared.once.OnceState.TheVariants as TheOnce
+use Rattle.ns_world.specs.Names.{object_want, object_got, object_after, object_place}
 
 -- a counter for each of the values, and so many once cells, for so many seats, none of which is in a call on them
 abbrev pub fresh_objects : ℕ → List ℕ → ℕ → Objects

@@ -123,7 +123,8 @@ fn commit_leave<C: Seated<N>, const N: usize>(
     ensures err { OnErr result (IsEvent seat (Change.LeaveSelf home) queues.now × (history.new.items ≡ history.old.items)) }
 {
     if let Home::AtVariables(variables) = home {
-        if queues.stands_at_variables(seat) {
+        let stands = queues.stands_at_variables(seat);
+        if stands {
             history.push(leaving(seat, variables))?;
         }
     }

@@ -1,18 +1,17 @@
-use Rattle.std.proofs.Common.{◌≡◌, [], ◌++◌, ap, sym, ◌∙◌, subst}
+use Rattle.std.proofs.Common.{◌≡◌, ℕ, List, ◌++◌, false, rules, ap, sym, ◌∙◌, nat_lt, sum_by}
 use Rattle.std.proofs.lemmas.List.{append-nil}
-use Rattle.ns_world.specs.Prelude.{AtVariables, leave_of, stands_at}
+use Rattle.ns_word.specs.Names.{Variables}
+use Rattle.ns_world.specs.Prelude.{AtVariables, Event, Home, Lists, leave_of, stands_at, times_in}
 use Rattle.ns_world.proofs.Waited.{not_leaving}
 use Rattle.ns_world.proofs.exchanges.commit_leave.Goals as goal
 
 -- who stands in no list of a variable leaves none
-pub returns-else-stands_at_variables-clause-ok : goal.returns-else-stands_at_variables-clause-ok
-returns-else-stands_at_variables-clause-ok g c = let items = c.args.history.now.items in let v = c.in-AtVariables.variables in
-    let none : leave_of {C = g.row.C.Denot} {N = g.row.N} c.args.seat c.args.home (stands_at c.args.seat c.args.home c.args.queues.now) ≡ [] =
-    subst (λ home. leave_of {C = g.row.C.Denot} {N = g.row.N} c.args.seat home (stands_at c.args.seat home c.args.queues.now) ≡ []) (sym c.in-AtVariables.is) (ap (leave_of c.args.seat (AtVariables v)) (sym c.if-stands_at_variables.ensures) ∙ not_leaving c.args.seat (AtVariables v)) in
-    sym (ap (λ more. items ++ more) none ∙ append-nil items)
+leaves_none : {C : Type 0} {N : ℕ} (seat : ℕ) (home : Home) (v : Variables) (lists : Lists C) (items : List (Event C N)) → home ≡ AtVariables v → nat_lt 0 (sum_by (times_in seat) lists.cvs) ≡ false → items ≡ items ++ leave_of {C = C} {N = N} seat home (stands_at seat home lists)
+leaves_none seat home v lists items is none = rw (is, none) (sym (ap (λ more. items ++ more) (not_leaving seat (AtVariables v)) ∙ append-nil items))
 
-pub stands_at_variables-requires : goal.stands_at_variables-requires
-stands_at_variables-requires g c = g.met.C.Seated.queues_fit
+-- found by what the call of the condition answers, whichever call that is
+pub returns-else-stands-clause-ok : goal.returns-else-stands-clause-ok
+returns-else-stands-clause-ok g c = leaves_none {C = g.row.C.Denot} {N = g.row.N} c.args.seat c.args.home c.in-AtVariables.variables c.args.queues.now c.args.history.now.items c.in-AtVariables.is (grind rules)
 
 pub leaving-requires : goal.leaving-requires
 leaving-requires g c = g.met.C.Fits.event_fits
