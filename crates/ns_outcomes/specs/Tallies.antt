@@ -64,7 +64,7 @@ pub record HasMade (seeds : Seeds) (plan : Plan) (found : List Found) (all : ℕ
 
 -- ---- why they aren't counted
 
--- The run of one of the seeds needs more turns than the limit, and no earlier one does. This seed was told last.
+-- The run of one of the seeds needs more turns than the limit, and no earlier one does. This seed was told last. (That no seed is told where the own schedule needs more is shown by a row.)
 pub record HasLongRun (seeds : Seeds) (plan : Plan) (told : Option ℕ) : Type 0 where
   pub earlier : ℕ
   pub few : earlier < seeds.count
