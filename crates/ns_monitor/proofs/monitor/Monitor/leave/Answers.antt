@@ -42,3 +42,6 @@ returns g c = record {
   left = let t = g.C.Condition.means in let flag = c.await_flag-flag.result in
       taken_next t c.args.wait c.args.cause flag c.outcome_taken.result c.arrival_of.result c.await_flag-flag.new.seat.me c.await_flag-flag.ensures.cleared c.outcome_taken.ensures c.arrival_of.ensures c.await_flag-flag.ensures.woken;
 }
+
+pub take-word-requires : goal.take-word-requires
+take-word-requires g c = (omega arith, (queues_fit g.row.C g.row.N g.met.C.Condition.has_room g.C.Condition, (omega arith, (c.requires.of, (tt, (refl, c.requires.at))))))

@@ -56,3 +56,6 @@ returns g c = record {
 
 pub called-owed-requires : goal.called-owed-requires
 called-owed-requires g c = record { few = search rules; same = rw (c.as_slice.ensures.value, c.as_slice-2.ensures.value) (as_many _ _ _ c.scan_and_queue_in_hand-scan.ensures.woken c.scan_and_queue_in_hand-scan.ensures.vias) }
+
+pub arm_flag-requires : goal.arm_flag-requires
+arm_flag-requires g c = (omega arith, (queues_fit g.row.C g.row.N g.met.C.Condition.has_room g.C.Condition, (omega arith, (◌∙◌ {A = TableId} c.requires.of (sym c.self.view_is), (c.requires.number, search rules)))))

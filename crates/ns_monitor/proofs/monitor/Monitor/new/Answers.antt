@@ -29,3 +29,9 @@ returns g c = record {
   seats = all_new (new_seat {C = g.row.C.Denot} {N = g.row.N} c.in_ok-gate.gate c.args.seats) (λ (seat : Known g.row.C.Denot g.row.N). seat.monitor ≡ c.in_ok-gate.gate) (λ seat. refl) 0 c.loop-number.given.items (subst (λ (t : TableId). AreNew c.args.seats t 0 c.loop-number.given.items) c.in_ok-gate.ensures.0 c.loop-number.invariant.3);
   refused = search rules;
 }
+
+pub new-requires : goal.new-requires
+new-requires g c = (omega arith, (queues_fit g.row.C g.row.N g.met.C.Condition.has_room g.C.Condition, (omega arith, c.requires)))
+
+pub part-seat-requires : goal.part-seat-requires
+part-seat-requires g c = (omega arith, (queues_fit g.row.C g.row.N g.met.C.Condition.has_room g.C.Condition, (omega arith, ◌∙◌ {A = TableId} c.loop-number.invariant.0 c.in_ok-gate.ensures.0)))
