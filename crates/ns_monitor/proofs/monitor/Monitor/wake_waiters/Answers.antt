@@ -60,3 +60,6 @@ returns g c = record {
       since_then None _ _ _ (since_then None _ _ _ (still_since g.C.Condition.means None (the me.0) me made.new.seat.me made.ensures.seat.1 (since_itself (the me.0))) c.return_woken-moved.ensures.since) c.pay.ensures.since;
   woke = search rules;
 }
+
+pub wake_in_hand-taken-requires : goal.wake_in_hand-taken-requires
+wake_in_hand-taken-requires g c = (omega arith, (queues_fit g.row.C g.row.N g.met.C.Condition.has_room g.C.Condition, (omega arith, (search rules, (◌∙◌ {A = TableId} c.requires.of (sym c.self.view_is), (c.requires.taken.taken, c.requires.variable))))))
