@@ -1,24 +1,28 @@
 //! A lock round a row of numbers, shared between threads: sections as values that move.
 //!
-//! A caller has a seat. To acquire it gives its seat and gets a section, and to release it gives the
-//! section and gets its seat back:
+//! A thread has a handle of the lock. To acquire it gives up the handle and gets a section, and to release it
+//! gives up the section and gets its handle back:
 //!
 //! ```rust
-//! let (monitor, mut seats) = Monitor::<Plain, 2>::new(rt.alloc(), 2)?; // `Plain` is any `Condition<2>`
-//! let Some(mut seat) = seats.pop() else { return Ok(()) }; // a seat for each thread
+//! let (monitor, seats) = Monitor::<Plain, 2>::new(rt.alloc(), 2)?; // `Plain` is any `Condition<2>`
+//! let Some((mut lock, _other)) = monitor.handles(seats).pair() else {
+//!     return Ok(());
+//! }; // a handle for each thread
 //!
-//! let mut held = monitor.lock(&rt, seat); // waits while somebody else holds the lock
-//! let value = monitor.get(&mut held, 0);
-//! monitor.set(&mut held, 0, value.wrapping_add(1));
-//! seat = monitor.unlock(&rt, held);
+//! let mut held = lock.lock(&rt); // waits while somebody else holds the lock
+//! let value = held.get(0);
+//! held.set(0, value.wrapping_add(1));
+//! lock = held.unlock(&rt);
 //!
-//! seat = match monitor.try_rlock(seat) {
-//!     Ok(held) => monitor.runlock(&rt, held),
-//!     Err(seat) => seat, // somebody else writes or waits to, or has just changed the lock's word
+//! lock = match lock.try_rlock() {
+//!     Ok(held) => held.runlock(&rt),
+//!     Err(lock) => lock, // somebody else writes or waits to, or has just changed the lock's word
 //! };
-//! let closed = monitor.close(seat);
-//! assert!(rt; closed.free);
 //! ```
+//!
+//! A [`Handle`] is a seat of a [`Monitor`] together with the monitor, and its calls are the monitor's. They stand
+//! beside each other, and promise the same: the monitor's take its caller's seat or section, which has to be of
+//! that monitor, and by a handle it is.
 //!
 //! So a second acquire by one seat, a section used after its release or its wait, a write through a
 //! read section and a release in the wrong mode don't compile. Many readers may hold the lock beside
@@ -51,6 +55,9 @@ mod acquiring;
 pub mod caller;
 mod cells;
 mod going;
+pub mod handle;
+pub mod handle_waits;
+pub mod handles;
 mod loops;
 pub mod monitor;
 mod releasing;
@@ -64,6 +71,9 @@ mod waking;
 mod watching;
 
 pub use caller::{Caller, Compact, Hand, ReadHeld, Renewed, Seat, Section, WriteHeld};
+pub use handle::{Acting, Handle, Reading, Writing};
+pub use handle_waits::Waiting;
+pub use handles::Handles;
 pub use monitor::Monitor;
 pub use ns_gate::closed::Closed;
 pub use ns_gate::fault::Fault;

@@ -188,7 +188,7 @@ impl<C: Gated<N>, const N: usize> Monitor<C, N> {
     /// it as cold. Else a program with many calls keeps them apart, and hands the word, and the section, from
     /// one to the other in memory.
     #[inline(always)]
-    fn begin_lock(&self, seat: Seat<C, N>, mode: Mode) -> Begun<C, N>
+    pub(crate) fn begin_lock(&self, seat: Seat<C, N>, mode: Mode) -> Begun<C, N>
         requires { seat.monitor ≡ self.now }
         ensures of { result.seat.table_id ≡ self.now }
         ensures begun { HasBegun (locking mode) seat result.seat.table_id result.number result.seat.me }
@@ -370,7 +370,7 @@ impl<C: Gated<N>, const N: usize> Monitor<C, N> {
     /// Begins to release the section in hand, and does it at once where the word lets it: the section is
     /// committed as it is then, and the caller's events have it as their last.
     #[inline(always)]
-    fn begin_unlock<H: Section<C, N> + Drop>(
+    pub(crate) fn begin_unlock<H: Section<C, N> + Drop>(
         &self,
         held: Caller<H, C, N>,
         releasing: Releasing,

@@ -5,21 +5,26 @@
 //! to learn that it should give up:
 //!
 //! ```rust
-//! let (env, mut seats) = Env::new(rt.alloc(), 2)?; // a seat for each thread
-//! let (Some(mut theirs), Some(mut mine)) = (seats.pop(), seats.pop()) else {
+//! let (env, seats) = Env::new(rt.alloc(), 2)?; // a seat for each thread
+//! let mut watchers = env.watchers(seats);
+//! let (Some(mut theirs), Some(mut mine)) = (watchers.next(), watchers.next()) else {
 //!     return Ok(());
 //! };
 //!
 //! // the one that may call it off:
-//! let stop = env.note_new(&mut mine, None, Some(1_000))?; // notified at 1,000 ticks, or
-//! env.notify(&mut mine, stop); // before, by this call
+//! let stop = mine.note_new(None, Some(1_000))?; // notified at 1,000 ticks, or
+//! mine.notify(stop); // before, by this call
 //!
 //! // the other, which has been handed `stop`:
-//! if env.knows(&mut theirs, stop) {
-//!     let notified = env.note_wait(&rt, &mut theirs, stop, None);
+//! if theirs.knows(stop) {
+//!     let notified = theirs.note_wait(&rt, stop, None);
 //!     assert!(rt; notified);
 //! }
 //! ```
+//!
+//! A [`watcher::Watcher`] is a seat together with the environment that it is of. Its calls are those of
+//! [`env::Env`], by the same names and with the same promises. That the seat is of this environment is an
+//! invariant of its type, so no clause and no loop of a program says it.
 //!
 //! The clock begins at 0 and only callers move it, forward, in ticks below 2^54.
 //!
@@ -52,3 +57,4 @@ mod plays;
 pub mod seat;
 mod table_words;
 mod view;
+pub mod watcher;

@@ -1,0 +1,24 @@
+use Rattle.std.proofs.Common.{Some, arith, subst, sym}
+use Rattle.ns_monitor.specs.Prelude.{HasLocked, Write, locking}
+use Rattle.ns_gate.proofs.Calls.{since_then}
+use Rattle.ns_gate.proofs.Room.{queues_fit}
+use Rattle.ns_monitor.proofs.Callers.{CameSo, came_at_once, locked_so}
+use Rattle.ns_monitor.proofs.handle.Acting+Free+C+N.lock.Given.{Over}
+use Rattle.ns_monitor.proofs.handle.Acting+Free+C+N.lock.Goals.{Joined-last, in-Some, in-None}
+use Rattle.ns_monitor.proofs.handle.Acting+Free+C+N.lock.Goals as goal
+
+-- the lock was acquired, at once or behind a wait
+came : (g : Over) (c : Joined-last g) → CameSo g.C.Condition.means (locking Write) c.self.inside.monitor.now c.begin_lock-seat.ensures.begun.was (c.match-last.seat.table_id, c.match-last.seat.me)
+came g c = let t = g.C.Condition.means in let b = c.begin_lock-seat.ensures in let at = c.begin_lock-seat.result in let so = CameSo t (locking Write) c.self.inside.monitor.now b.begun.was in
+    elim c.match-last.branch [
+      | in-None w ↦ subst so (λ i. ((sym w.seat-is i).table_id, (sym w.seat-is i).me)) (came_at_once t (locking Write) c.self.inside.caller c.self.inside.monitor.now at.seat.table_id at.number at.last at.seat.me w.in-None.is b.of b.begun b.went)
+      | in-Some w ↦ let then = w.lock_slow-seat.ensures in subst so (λ i. ((sym w.seat-is i).table_id, (sym w.seat-is i).me)) (then.seat, since_then (Some (locking Write)) _ _ _ b.begun.since then.since, then.acquired)
+    ]
+
+pub holding-caller-requires : goal.holding-caller-requires
+holding-caller-requires g c = let so = locked_so g.C.Condition.means Write c.self.inside.caller c.self.inside.monitor.now c.begin_lock-seat.result.seat.table_id c.begin_lock-seat.result.number c.begin_lock-seat.result.seat.me (c.match-last.seat.table_id, c.match-last.seat.me) c.self.invariant c.begin_lock-seat.ensures.begun (came g (goal.at.holding-caller-requires g c).Joined-last) in
+    (queues_fit g.row.C g.row.N g.met.C.Condition.has_room g.C.Condition, (omega arith, (omega arith, (so.0, so.1))))
+
+pub returns : goal.returns
+returns g c = let so = locked_so g.C.Condition.means Write c.self.inside.caller c.self.inside.monitor.now c.begin_lock-seat.result.seat.table_id c.begin_lock-seat.result.number c.begin_lock-seat.result.seat.me (c.match-last.seat.table_id, c.match-last.seat.me) c.self.invariant c.begin_lock-seat.ensures.begun (came g (goal.at.returns g c).Joined-last) in
+    rw (← c.self.view_is) (subst (HasLocked g.C.Condition.means (locking Write) Write c.self.inside.caller) (sym c.holding-caller.ensures) so.2)

@@ -1,0 +1,24 @@
+use Rattle.std.proofs.Common.{Some, arith, subst, sym}
+use Rattle.ns_monitor.specs.Prelude.{HasUnlocked, QuietWriter, releasing_by}
+use Rattle.ns_gate.proofs.Calls.{since_then}
+use Rattle.ns_gate.proofs.Room.{queues_fit}
+use Rattle.ns_monitor.proofs.Callers.{CameSo, came_at_once, released_so}
+use Rattle.ns_monitor.proofs.handle.Acting+Writes+N+C+N.unlock_without_wakeup.Given.{Over}
+use Rattle.ns_monitor.proofs.handle.Acting+Writes+N+C+N.unlock_without_wakeup.Goals.{Joined-last, in-Some, in-None}
+use Rattle.ns_monitor.proofs.handle.Acting+Writes+N+C+N.unlock_without_wakeup.Goals as goal
+
+-- the section was released, at once or behind a scan
+came : (g : Over) (c : Joined-last g) → CameSo g.C.Condition.means (releasing_by QuietWriter) c.self.inside.monitor.now c.begin_unlock-seat.ensures.begun.was (c.match-last.seat.table_id, c.match-last.seat.me)
+came g c = let t = g.C.Condition.means in let b = c.begin_unlock-seat.ensures in let at = c.begin_unlock-seat.result in let so = CameSo t (releasing_by QuietWriter) c.self.inside.monitor.now b.begun.was in
+    elim c.match-last.branch [
+      | in-None w ↦ subst so (λ i. ((sym w.seat-is i).table_id, (sym w.seat-is i).me)) (came_at_once t (releasing_by QuietWriter) c.self.inside.caller c.self.inside.monitor.now at.seat.table_id at.number at.last at.seat.me w.in-None.is b.of b.begun b.went)
+      | in-Some w ↦ let then = w.unlock_slow-seat.ensures in subst so (λ i. ((sym w.seat-is i).table_id, (sym w.seat-is i).me)) (then.seat, since_then (Some (releasing_by QuietWriter)) _ _ _ b.begun.since then.since, then.released)
+    ]
+
+pub seated-caller-requires : goal.seated-caller-requires
+seated-caller-requires g c = let so = released_so g.C.Condition.means QuietWriter c.self.inside.caller c.self.inside.monitor.now c.begin_unlock-seat.result.seat.table_id c.begin_unlock-seat.result.number c.begin_unlock-seat.result.seat.me (c.match-last.seat.table_id, c.match-last.seat.me) c.self.invariant c.begin_unlock-seat.ensures.begun (came g (goal.at.seated-caller-requires g c).Joined-last) in
+    (queues_fit g.row.C g.row.N g.met.C.Condition.has_room g.C.Condition, (omega arith, (omega arith, so.0)))
+
+pub returns : goal.returns
+returns g c = let so = released_so g.C.Condition.means QuietWriter c.self.inside.caller c.self.inside.monitor.now c.begin_unlock-seat.result.seat.table_id c.begin_unlock-seat.result.number c.begin_unlock-seat.result.seat.me (c.match-last.seat.table_id, c.match-last.seat.me) c.self.invariant c.begin_unlock-seat.ensures.begun (came g (goal.at.returns g c).Joined-last) in
+    let over = subst (HasUnlocked g.C.Condition.means QuietWriter c.self.inside.caller) (sym c.seated-caller.ensures) so.1 in rw (← c.self.view_is) record { grows = over.grows; mine = over.mine }
