@@ -1,5 +1,7 @@
 //! How much is done, and what came of it.
 
+ghost use Rattle.std.specs.Prelude.{◌<◌, IfSome};
+
 /// How many operations there are in all, and how many threads share them.
 #[derive(Clone, Copy)]
 pub struct Amount {
@@ -10,6 +12,13 @@ pub struct Amount {
 }
 
 impl Amount {
+    /// A seat for each thread, and one for what is done beside them; nothing for more than can be counted.
+    pub fn seats(self) -> Option<usize>
+        ensures { IfSome result (λ seats. 0 < seats) }
+    {
+        usize::try_from(self.threads).ok()?.checked_add(1)
+    }
+
     /// How many operations the thread of this number makes: no more than one more than any other.
     pub fn share(self, number: u64) -> u64 {
         let least = self.operations.checked_div(self.threads).unwrap_or(0);
@@ -19,6 +28,17 @@ impl Amount {
         } else {
             least
         }
+    }
+
+    /// Whether the thread of this number is of the first half, and how many operations it makes, where one half
+    /// makes as many as the other.
+    pub fn half(self, number: u64) -> (bool, u64) {
+        let half = Amount {
+            threads: self.threads / 2,
+            operations: self.operations,
+        };
+        let times = half.share(number.checked_rem(half.threads).unwrap_or(0));
+        (number < half.threads, times)
     }
 }
 

@@ -3,9 +3,7 @@
 ghost use Rattle.std.specs.Prelude.{◌≡◌, ◌==◌, ◌&&◌, bit_and, nat_le, slice_index};
 ghost use Rattle.ns_model.specs.Truths.{truths};
 
-use ns_model::condition::Condition;
-use ns_monitor::caller::{Seat, WriteHeld};
-use ns_monitor::monitor::Monitor;
+use ns_monitor::{Condition, Handle, Monitor, Writing};
 
 /// The cell with a mark for each waiter, a bit.
 pub const MARKS: usize = 0;
@@ -36,11 +34,11 @@ pub struct Awaited {
 /// A monitor of six cells, at which threads wait for one another.
 pub type SixCells = Monitor<Awaited, 6>;
 
-/// A seat of it.
-pub type SixSeat = Seat<Awaited, 6>;
+/// A handle on it.
+pub type SixHandle<'m> = Handle<'m, Awaited, 6>;
 
 /// A section of it that writes.
-pub type SixHeld = WriteHeld<Awaited, 6>;
+pub type SixWriting<'m> = Writing<'m, Awaited, 6>;
 
 impl Awaited {
     /// Cell 0 is within these bounds.

@@ -1,16 +1,16 @@
 //! The workloads on a row of one cell, for whose threads nobody waits: how they are run.
 
-ghost use Rattle.std.specs.Prelude.{◌≡◌};
 ghost use Rattle.std.specs.Thread.{IsSync};
 
 use crate::amount::{Amount, Count};
 use crate::mixed::mix;
-use crate::never::{Never, OneCell};
-use crate::running::{Job, begin, crew, play, repeat};
+use crate::never::{OneCell, OneHandle};
+use crate::running::{Job, jobs, last_row, play};
 use crate::sections::{
-    add_one, compete, lock, read_lock, read_one, signal, try_lock, try_read_lock, work_long,
+    add_one, compete, lock, lock_and_work, lock_long, read_lock, read_one, signal, try_lock,
+    try_read_lock,
 };
-use crate::steps::{LONG, Steps};
+use crate::steps::Steps;
 use std::alloc::Global;
 use std::sync::Wait;
 use std::thread::Threads;
@@ -42,49 +42,36 @@ pub enum Contending {
 }
 
 impl Contending {
-    /// The row that it begins with.
-    fn first_row(self) -> [u64; 1] {
+    /// The value that the cell begins with.
+    fn first(self) -> u64 {
         match self {
-            Contending::ReadLock | Contending::TryReadLock => [SEVEN],
-            _ => [0],
+            Contending::ReadLock | Contending::TryReadLock => SEVEN,
+            _ => 0,
         }
     }
 
     /// Does what a thread does.
-    fn work<R: Wait>(self, rt: &R, monitor: &OneCell, job: Job<Never, 1>, amount: Amount) -> Count
-        requires { job.seat.monitor ≡ monitor.now }
-    {
-        let Job { number, seat } = job;
+    fn work<R: Wait>(self, rt: &R, job: Job<OneHandle<'_>>, amount: Amount) -> Count {
+        let (number, handle) = (job.number, job.own);
         let times = amount.share(number);
         let steps = Steps::of_run(amount.operations);
         match self {
-            Contending::Lock => lock(rt, monitor, seat, times),
-            Contending::TryLock => try_lock(rt, monitor, seat, times),
-            Contending::ReadLock => read_lock(rt, monitor, seat, times),
-            Contending::TryReadLock => try_read_lock(rt, monitor, seat, times),
-            Contending::LockLong => {
-                repeat(times, seat, |seat| work_long(rt, monitor, seat, steps));
-                Count::of_writes(times)
-            }
-            Contending::LockAndWork => {
-                let (_, sum) = repeat(times, (seat, 0), |(seat, sum)| {
-                    (add_one(rt, monitor, seat), steps.walk(sum, LONG))
-                });
-                Count { writes: times, sum }
-            }
-            Contending::Compete => compete(rt, monitor, seat, amount.operations, steps).1,
-            Contending::Mix(percent) => {
-                let (_, count) = mix(
-                    number,
-                    times,
-                    percent,
-                    seat,
-                    |seat| read_one(rt, monitor, seat),
-                    |seat| add_one(rt, monitor, seat),
-                );
-                count
-            }
-            Contending::Signal => signal(rt, monitor, seat, times),
+            Contending::Lock => lock(rt, handle, times),
+            Contending::TryLock => try_lock(rt, handle, times),
+            Contending::ReadLock => read_lock(rt, handle, times),
+            Contending::TryReadLock => try_read_lock(rt, handle, times),
+            Contending::LockLong => lock_long(rt, handle, times, steps),
+            Contending::LockAndWork => lock_and_work(rt, handle, times, steps),
+            Contending::Compete => compete(rt, handle, amount.operations, steps),
+            Contending::Mix(percent) => mix(
+                number,
+                times,
+                percent,
+                handle,
+                |handle| read_one(rt, handle),
+                |handle| add_one(rt, handle),
+            ),
+            Contending::Signal => signal(rt, handle, times),
         }
     }
 
@@ -110,18 +97,19 @@ pub fn run<R: Threads + Wait + Sync>(
     what: Contending,
     amount: Amount,
 ) -> Option<bool> {
-    let (monitor, jobs, seat) = crew::<Never, 1>(alloc, amount.threads)?;
-    let seat = begin(rt, &monitor, seat, &what.first_row());
-    let cell = &monitor;
-    let (total, seat) = play(
+    let (monitor, seats) = OneCell::new(alloc, amount.seats()?).ok()?;
+    let mut handles = monitor.handles(seats);
+    let mut held = handles.next()?.lock(rt);
+    held.set(0, what.first());
+    let handle = held.unlock(rt);
+    let (total, handle) = play(
         rt,
-        jobs,
-        seat,
-        &|job: Job<Never, 1>| -> Count
-            requires { IsSync R.row × (job.seat.monitor ≡ cell.now) }
-        { what.work(rt, cell, job, amount) },
-        |seat| seat,
+        jobs(alloc, amount.threads, || handles.next())?,
+        handle,
+        &|job: Job<OneHandle>| -> Count
+            requires { IsSync R.row }
+        { what.work(rt, job, amount) },
+        |handle| handle,
     )?;
-    let closed = monitor.close(seat);
-    Some(closed.free && what.is_right(closed.row[0], total, amount))
+    Some(last_row(handle).is_some_and(|row| what.is_right(row[0], total, amount)))
 }

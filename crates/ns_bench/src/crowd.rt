@@ -1,9 +1,9 @@
 //! Waiters, each in a thread of its own, and one who works beside them.
 
-ghost use Rattle.std.specs.Prelude.{◌≡◌, ◌<◌};
+ghost use Rattle.std.specs.Prelude.{◌<◌};
 
-use crate::amount::Amount;
-use crate::conditions::{ANSWER, ARRIVED, Awaited, MARKS, STOP, SixCells, SixHeld, SixSeat, TICK};
+use crate::amount::{Amount, Count};
+use crate::conditions::{ANSWER, ARRIVED, Awaited, MARKS, STOP, SixHandle, SixWriting, TICK};
 use std::sync::Wait;
 
 /// The mark of a number.
@@ -21,165 +21,125 @@ pub fn marks_below(threads: u64) -> u64 {
 }
 
 /// Adds 1 to a cell of the section in hand.
-pub fn add(monitor: &SixCells, held: &mut SixHeld, i: usize)
-    requires { (held.old.monitor ≡ monitor.now) × (i < 6) }
-    ensures { held.new.monitor ≡ held.old.monitor }
+pub fn add(held: &mut SixWriting<'_>, i: usize)
+    requires { i < 6 }
 {
-    let value = monitor.get(held, i);
-    monitor.set(held, i, value.wrapping_add(1));
+    let value = held.get(i);
+    held.set(i, value.wrapping_add(1));
 }
 
-/// Comes, waits for a mark, and leaves.
-pub fn wait_once<R: Wait>(rt: &R, monitor: &SixCells, seat: SixSeat, mask: u64)
-    requires { seat.monitor ≡ monitor.now }
-{
-    let mut held = monitor.lock(rt, seat);
-    add(monitor, &mut held, ARRIVED);
-    let held = monitor.wait(rt, held, Awaited::marked(mask));
-    monitor.unlock(rt, held);
+/// Comes, waits for a mark, and leaves. Counts nothing.
+pub fn wait_once<R: Wait>(rt: &R, handle: SixHandle<'_>, mask: u64) -> Count {
+    let mut held = handle.lock(rt);
+    add(&mut held, ARRIVED);
+    held.wait(rt, Awaited::marked(mask)).unlock(rt);
+    Count::new()
 }
 
 /// Waits until so many have come.
-pub fn wait_for_all<R: Wait>(rt: &R, monitor: &SixCells, seat: SixSeat, threads: u64) -> SixSeat
-    requires { seat.monitor ≡ monitor.now }
-    ensures { result.monitor ≡ monitor.now }
-{
-    let held = monitor.lock(rt, seat);
-    let held = monitor.wait(rt, held, Awaited::arrived(threads));
-    monitor.unlock(rt, held)
+pub fn wait_for_all<'m, R: Wait>(rt: &R, handle: SixHandle<'m>, threads: u64) -> SixHandle<'m> {
+    let held = handle.lock(rt).wait(rt, Awaited::arrived(threads));
+    held.unlock(rt)
 }
 
 /// Tells all waiters to go on and to leave.
-pub fn dismiss<R: Wait>(rt: &R, monitor: &SixCells, seat: SixSeat, threads: u64) -> SixSeat
-    requires { seat.monitor ≡ monitor.now }
-    ensures { result.monitor ≡ monitor.now }
-{
-    let mut held = monitor.lock(rt, seat);
-    monitor.set(&mut held, STOP, 1);
-    monitor.set(&mut held, MARKS, marks_below(threads));
-    monitor.unlock(rt, held)
+pub fn dismiss<'m, R: Wait>(rt: &R, handle: SixHandle<'m>, threads: u64) -> SixHandle<'m> {
+    let mut held = handle.lock(rt);
+    held.set(STOP, 1);
+    held.set(MARKS, marks_below(threads));
+    held.unlock(rt)
 }
 
 /// Adds 1 to a cell in a section of its own.
-pub fn add_one_at<R: Wait>(rt: &R, monitor: &SixCells, seat: SixSeat, i: usize) -> SixSeat
-    requires { (seat.monitor ≡ monitor.now) × (i < 6) }
-    ensures { result.monitor ≡ monitor.now }
+pub fn add_one_at<'m, R: Wait>(rt: &R, handle: SixHandle<'m>, i: usize) -> SixHandle<'m>
+    requires { i < 6 }
 {
-    let mut held = monitor.lock(rt, seat);
-    add(monitor, &mut held, i);
-    monitor.unlock(rt, held)
+    let mut held = handle.lock(rt);
+    add(&mut held, i);
+    held.unlock(rt)
 }
 
 /// Adds 1 to the cell for which nobody waits, in each of so many sections whose release looks for whom to
 /// wake.
-pub fn tick<R: Wait>(rt: &R, monitor: &SixCells, seat: SixSeat, times: u64) -> SixSeat
-    requires { seat.monitor ≡ monitor.now }
-    ensures { result.monitor ≡ monitor.now }
-{
-    let mut seat = seat;
+pub fn tick<'m, R: Wait>(rt: &R, mut handle: SixHandle<'m>, times: u64) -> SixHandle<'m> {
     for _ in 0..times {
-        let mut held = monitor.lock(rt, seat);
-        let value = monitor.get(&mut held, TICK);
-        monitor.set(&mut held, TICK, value.wrapping_add(1));
-        seat = monitor.unlock(rt, held);
+        let mut held = handle.lock(rt);
+        let value = held.get(TICK);
+        held.set(TICK, value.wrapping_add(1));
+        handle = held.unlock(rt);
     }
-    seat
+    handle
 }
 
-/// Adds 1 to the cell for which nobody waits, in a section that wakes nobody as long as it is quiet.
-fn tick_once_quietly<R: Wait>(rt: &R, monitor: &SixCells, seat: SixSeat) -> SixSeat
-    requires { seat.monitor ≡ monitor.now }
-    ensures { result.monitor ≡ monitor.now }
-{
-    let mut held = monitor.lock(rt, seat);
-    add(monitor, &mut held, TICK);
-    if monitor.is_quiet(&mut held) {
-        monitor.unlock_without_wakeup(rt, held)
-    } else {
-        monitor.unlock(rt, held)
-    }
-}
-
-/// Adds 1 to the cell for which nobody waits, in each of so many sections that wake nobody.
-pub fn tick_quietly<R: Wait>(rt: &R, monitor: &SixCells, seat: SixSeat, times: u64) -> SixSeat
-    requires { seat.monitor ≡ monitor.now }
-    ensures { result.monitor ≡ monitor.now }
-{
-    let mut seat = seat;
+/// Adds 1 to the cell for which nobody waits, in each of so many sections, which wake nobody as long as they
+/// are quiet.
+pub fn tick_quietly<'m, R: Wait>(rt: &R, mut handle: SixHandle<'m>, times: u64) -> SixHandle<'m> {
     for _ in 0..times {
-        seat = tick_once_quietly(rt, monitor, seat);
+        let mut held = handle.lock(rt);
+        add(&mut held, TICK);
+        handle = if held.is_quiet() {
+            held.unlock_without_wakeup(rt)
+        } else {
+            held.unlock(rt)
+        };
     }
-    seat
+    handle
 }
 
 /// Reads how many have come, in each of so many sections, and puts the sum into the cell for which nobody
 /// waits.
-pub fn read_beside<R: Wait>(rt: &R, monitor: &SixCells, seat: SixSeat, times: u64) -> SixSeat
-    requires { seat.monitor ≡ monitor.now }
-    ensures { result.monitor ≡ monitor.now }
-{
-    let mut seat = seat;
+pub fn read_beside<'m, R: Wait>(rt: &R, mut handle: SixHandle<'m>, times: u64) -> SixHandle<'m> {
     let mut sum = 0u64;
     for _ in 0..times {
-        let mut held = monitor.rlock(rt, seat);
-        sum = sum.wrapping_add(monitor.get(&mut held, ARRIVED));
-        seat = monitor.runlock(rt, held);
+        let mut held = handle.rlock(rt);
+        sum = sum.wrapping_add(held.get(ARRIVED));
+        handle = held.runlock(rt);
     }
-    let mut held = monitor.lock(rt, seat);
-    monitor.set(&mut held, TICK, sum);
-    monitor.unlock(rt, held)
+    let mut held = handle.lock(rt);
+    held.set(TICK, sum);
+    held.unlock(rt)
 }
 
 /// Comes, and waits for a mark, takes it off and answers, so many times at most, until it is told to
-/// leave.
-pub fn wait_and_answer<R: Wait>(rt: &R, monitor: &SixCells, seat: SixSeat, mask: u64, times: u64)
-    requires { seat.monitor ≡ monitor.now }
-{
-    let mut held = monitor.lock(rt, seat);
-    add(monitor, &mut held, ARRIVED);
+/// leave. Counts nothing.
+pub fn wait_and_answer<R: Wait>(rt: &R, handle: SixHandle<'_>, mask: u64, times: u64) -> Count {
+    let mut held = handle.lock(rt);
+    add(&mut held, ARRIVED);
     for _ in 0..times {
-        held = monitor.wait(rt, held, Awaited::marked(mask));
-        if monitor.get(&mut held, STOP) == 1 {
+        held = held.wait(rt, Awaited::marked(mask));
+        if held.get(STOP) == 1 {
             break;
         }
-        let marks = monitor.get(&mut held, MARKS);
-        monitor.set(&mut held, MARKS, marks & !mask);
-        monitor.set(&mut held, ANSWER, 1);
-        let seat = monitor.unlock(rt, held);
-        held = monitor.lock(rt, seat);
+        let marks = held.get(MARKS);
+        held.set(MARKS, marks & !mask);
+        held.set(ANSWER, 1);
+        held = held.unlock(rt).lock(rt);
     }
-    monitor.unlock(rt, held);
+    held.unlock(rt);
+    Count::new()
 }
 
 /// Marks one and waits for the answer.
-fn ask<R: Wait>(rt: &R, monitor: &SixCells, seat: SixSeat, mask: u64) -> SixSeat
-    requires { seat.monitor ≡ monitor.now }
-    ensures { result.monitor ≡ monitor.now }
-{
-    let mut held = monitor.lock(rt, seat);
-    monitor.set(&mut held, MARKS, mask);
-    let mut held = monitor.wait(rt, held, Awaited::answered());
-    monitor.set(&mut held, ANSWER, 0);
-    add(monitor, &mut held, TICK);
-    monitor.unlock(rt, held)
+fn ask<'m, R: Wait>(rt: &R, handle: SixHandle<'m>, mask: u64) -> SixHandle<'m> {
+    let mut held = handle.lock(rt);
+    held.set(MARKS, mask);
+    let mut held = held.wait(rt, Awaited::answered());
+    held.set(ANSWER, 0);
+    add(&mut held, TICK);
+    held.unlock(rt)
 }
 
 /// Marks one and waits for the answer, in each of the operations: always the first, or each in turn.
-pub fn ask_often<R: Wait>(
+pub fn ask_often<'m, R: Wait>(
     rt: &R,
-    monitor: &SixCells,
-    seat: SixSeat,
+    mut handle: SixHandle<'m>,
     amount: Amount,
     is_each: bool,
-) -> SixSeat
-    requires { seat.monitor ≡ monitor.now }
-    ensures { result.monitor ≡ monitor.now }
-{
-    let mut seat = seat;
+) -> SixHandle<'m> {
     for k in 0..amount.operations {
         let number = k.checked_rem(amount.threads).unwrap_or(0);
         let number = if is_each { number } else { 0 };
-        seat = ask(rt, monitor, seat, mark_of(number));
+        handle = ask(rt, handle, mark_of(number));
     }
-    seat
+    handle
 }

@@ -1,17 +1,15 @@
 //! Two threads that hand a turn to and fro.
 
-ghost use Rattle.std.specs.Prelude.{◌≡◌};
-
-use crate::conditions::{Awaited, SixCells, SixSeat};
+use crate::amount::Count;
+use crate::conditions::{Awaited, SixHandle};
 use std::sync::Wait;
 
-/// Waits for its turn, and hands it to the other of two threads.
-pub fn take_turn<R: Wait>(rt: &R, monitor: &SixCells, seat: SixSeat, number: u64) -> SixSeat
-    requires { seat.monitor ≡ monitor.now }
-    ensures { result.monitor ≡ monitor.now }
-{
-    let held = monitor.lock(rt, seat);
-    let mut held = monitor.wait(rt, held, Awaited::within(number, number));
-    monitor.set(&mut held, 0, 1u64.saturating_sub(number));
-    monitor.unlock(rt, held)
+/// Waits for its turn, and hands it to the other of two threads, so many times.
+pub fn take_turns<R: Wait>(rt: &R, mut handle: SixHandle<'_>, number: u64, times: u64) -> Count {
+    for _ in 0..times {
+        let mut held = handle.lock(rt).wait(rt, Awaited::within(number, number));
+        held.set(0, 1u64.saturating_sub(number));
+        handle = held.unlock(rt);
+    }
+    Count::of_writes(times)
 }

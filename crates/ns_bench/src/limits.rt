@@ -1,17 +1,13 @@
 //! Waits that end at once, since their deadline has come or their note is notified.
 
-ghost use Rattle.std.specs.Prelude.{◌≡◌, IfSome};
 ghost use Rattle.std.specs.Thread.{IsSync};
-ghost use Rattle.ns_model.specs.Environments.{IsMade};
 
-use crate::never::{Never, OneCell, OneSeat};
-use crate::notes::{alone as alone_at_notes, notified};
-use crate::pairs::alone;
-use ns_model::event::Answer;
-use ns_monitor::caller::WriteHeld;
+use crate::never::{OneCell, OneHandle};
+use crate::notes::{Looks, Watched};
+use ns_fixtures::Never;
+use ns_monitor::Answer;
 use ns_note::env::Env;
-use ns_note::note::Note;
-use ns_note::seat::EnvSeat;
+use ns_note::watcher::Watcher;
 use std::alloc::Global;
 use std::sync::Wait;
 use std::thread::{Threads, join};
@@ -27,150 +23,99 @@ pub enum EarlyEnd {
     Note,
 }
 
-/// Waits until the deadline or for the note, whichever is given, and answers whether that has ended it.
-fn is_ended<R: Wait>(
+/// Waits so many times in one section, and counts how often a deadline that has come has ended it.
+fn count_late<'m, R: Wait>(
     rt: &R,
-    monitor: &OneCell,
-    held: WriteHeld<Never, 1>,
-    env: &Env,
-    env_seat: &mut EnvSeat,
-    deadline: Option<u64>,
-    note: Option<Note>,
-) -> (WriteHeld<Never, 1>, bool)
-    requires of { (held.monitor ≡ monitor.now) × (env_seat.old.env ≡ env.now) }
-    requires made { IfSome note (λ n. IsMade env_seat.old.seen n.index) }
-    ensures of { (result.0.monitor ≡ monitor.now) × (env_seat.new.env ≡ env_seat.old.env) }
-    ensures made { IfSome note (λ n. IsMade env_seat.new.seen n.index) }
-{
-    let (held, answer) = monitor.wait_with_deadline(rt, held, Never, deadline, note, env, env_seat);
-    (held, answer != Answer::Met)
-}
-
-/// Waits so many times in one section, and counts how often the deadline or the note has ended it.
-fn count_ended<R: Wait>(
-    rt: &R,
-    monitor: &OneCell,
-    seat: OneSeat,
-    env: &Env,
-    env_seat: &mut EnvSeat,
-    deadline: Option<u64>,
-    note: Option<Note>,
+    handle: OneHandle<'m>,
+    mut watcher: Watcher<'_>,
     times: u64,
-) -> (OneSeat, u64)
-    requires of { (seat.monitor ≡ monitor.now) × (env_seat.old.env ≡ env.now) }
-    requires made { IfSome note (λ n. IsMade env_seat.old.seen n.index) }
-    ensures { result.0.monitor ≡ monitor.now }
-{
-    let mut held = monitor.lock(rt, seat);
+) -> (OneHandle<'m>, u64) {
+    let mut held = handle.lock(rt);
     let mut count = 0u64;
     for _ in 0..times {
-        let (back, ended) = is_ended(rt, monitor, held, env, env_seat, deadline, note);
+        let (back, answer) = held.wait_with_deadline(rt, Never, Some(0), None, &mut watcher);
         held = back;
-        if ended {
+        if answer != Answer::Met {
             count = count.wrapping_add(1);
         }
     }
-    (monitor.unlock(rt, held), count)
+    (held.unlock(rt), count)
+}
+
+/// Waits so many times in one section, and counts how often a note that is notified has ended it.
+fn count_canceled<'m, R: Wait>(
+    rt: &R,
+    handle: OneHandle<'m>,
+    mut watched: Watched<'_>,
+    times: u64,
+) -> (OneHandle<'m>, u64) {
+    let mut held = handle.lock(rt);
+    let mut count = 0u64;
+    for _ in 0..times {
+        let (back, answer) = watched.wait(rt, held);
+        held = back;
+        if answer != Answer::Met {
+            count = count.wrapping_add(1);
+        }
+    }
+    (held.unlock(rt), count)
 }
 
 /// Waits for a variable so many times in one section, and counts how often a deadline that has come has ended it.
-fn count_timed_out<R: Wait>(
+fn count_late_at_variable<'m, R: Wait>(
     rt: &R,
-    monitor: &OneCell,
-    seat: OneSeat,
-    env: &Env,
-    env_seat: &mut EnvSeat,
+    handle: OneHandle<'m>,
+    mut watcher: Watcher<'_>,
     times: u64,
-) -> (OneSeat, u64)
-    requires { (seat.monitor ≡ monitor.now) × (env_seat.old.env ≡ env.now) }
-    ensures { result.0.monitor ≡ monitor.now }
-{
-    let mut held = monitor.lock(rt, seat);
+) -> (OneHandle<'m>, u64) {
+    let mut held = handle.lock(rt);
     let mut count = 0u64;
     for _ in 0..times {
-        let (back, answer) = monitor.cv_wait_with_deadline(
-            rt,
-            held,
-            0,
-            Some(0),
-            None,
-            env,
-            env_seat,
-        );
+        let (back, answer) = held.cv_wait_with_deadline(rt, 0, Some(0), None, &mut watcher);
         held = back;
         if answer == Answer::TimedOut {
             count = count.wrapping_add(1);
         }
     }
-    (monitor.unlock(rt, held), count)
+    (held.unlock(rt), count)
 }
 
 /// Waits so many times, and counts how often the deadline or the note has ended it.
-fn count_waits<R: Wait>(
+fn count_waits<'m, R: Wait>(
     rt: &R,
-    monitor: &OneCell,
-    seat: OneSeat,
-    env: &Env,
-    env_seat: &mut EnvSeat,
+    handle: OneHandle<'m>,
+    watcher: Watcher<'_>,
     early_end: EarlyEnd,
     times: u64,
-) -> (OneSeat, u64)
-    requires { (seat.monitor ≡ monitor.now) × (env_seat.old.env ≡ env.now) }
-    ensures { result.0.monitor ≡ monitor.now }
-{
+) -> (OneHandle<'m>, u64) {
     match early_end {
-        EarlyEnd::Deadline => {
-            return count_ended(rt, monitor, seat, env, env_seat, Some(0), None, times);
-        }
-        EarlyEnd::DeadlineAtVariable => {
-            return count_timed_out(rt, monitor, seat, env, env_seat, times);
-        }
-        EarlyEnd::Note => (),
+        EarlyEnd::Deadline => count_late(rt, handle, watcher, times),
+        EarlyEnd::DeadlineAtVariable => count_late_at_variable(rt, handle, watcher, times),
+        EarlyEnd::Note => match Watched::new(watcher, Looks::Notified) {
+            Some(watched) => count_canceled(rt, handle, watched, times),
+            None => (handle, 0),
+        },
     }
-    let Some(note) = notified(env, env_seat) else {
-        return (seat, 0);
-    };
-    if !env.knows(env_seat, note) {
-        return (seat, 0);
-    }
-    count_ended(rt, monitor, seat, env, env_seat, None, Some(note), times)
 }
 
-/// Waits so many times in a thread of its own.
-fn count_in_thread<R: Threads + Wait + Sync>(
-    rt: &R,
-    monitor: &OneCell,
-    seat: OneSeat,
-    env: &Env,
-    mut env_seat: EnvSeat,
-    early_end: EarlyEnd,
-    times: u64,
-) -> (OneSeat, u64)
-    requires { (seat.monitor ≡ monitor.now) × (env_seat.env ≡ env.now) }
-    ensures { result.0.monitor ≡ monitor.now }
-{
-    let (counted, ()) = join(
-        rt,
-        move || -> (OneSeat, u64)
-            requires { IsSync R.row × (seat.monitor ≡ monitor.now) × (env_seat.env ≡ env.now) }
-            ensures { result.0.monitor ≡ monitor.entry.now }
-        { count_waits(rt, monitor, seat, env, &mut env_seat, early_end, times) },
-        || (),
-    );
-    counted
-}
-
-/// Whether the deadline or the note ends each of so many waits, and the lock is free in the end; nothing where it could
-/// not be begun.
+/// Whether the deadline or the note ends each of so many waits, by a thread of its own, and the lock is free in
+/// the end; nothing where it could not be begun.
 pub fn run<R: Threads + Wait + Sync>(
     rt: &R,
     alloc: Global,
     early_end: EarlyEnd,
     times: u64,
 ) -> Option<bool> {
-    let (monitor, seat) = alone(alloc)?;
-    let (env, env_seat) = alone_at_notes(alloc)?;
-    let (seat, count) = count_in_thread(rt, &monitor, seat, &env, env_seat, early_end, times);
-    let closed = monitor.close(seat);
-    Some(closed.free && count == times)
+    let (monitor, seats) = OneCell::new(alloc, 1).ok()?;
+    let (env, env_seats) = Env::new(alloc, 1).ok()?;
+    let handle = monitor.handles(seats).next()?;
+    let watcher = env.watchers(env_seats).next()?;
+    let ((handle, count), ()) = join(
+        rt,
+        move || -> (OneHandle, u64)
+            requires { IsSync R.row }
+        { count_waits(rt, handle, watcher, early_end, times) },
+        || (),
+    );
+    Some(handle.try_lock().is_ok() && count == times)
 }

@@ -1,9 +1,7 @@
 //! Threads of which some make long sections that read.
 
-ghost use Rattle.std.specs.Prelude.{◌≡◌};
-
 use crate::amount::Count;
-use crate::conditions::{STOP, SixCells, SixSeat};
+use crate::conditions::{STOP, SixHandle};
 use crate::crowd::add_one_at;
 use crate::steps::{LONG, Steps};
 use std::sync::Wait;
@@ -15,64 +13,45 @@ const WORK: usize = 5;
 const MOST_READS: u64 = 4_000_000;
 
 /// Makes a long section that reads, and answers what it found and whether it is to leave.
-pub fn read_long<R: Wait>(
+pub fn read_long<'m, R: Wait>(
     rt: &R,
-    monitor: &SixCells,
-    seat: SixSeat,
+    handle: SixHandle<'m>,
     steps: Steps,
-) -> (SixSeat, u64, bool)
-    requires { seat.monitor ≡ monitor.now }
-    ensures { result.0.monitor ≡ monitor.now }
-{
-    let mut held = monitor.rlock(rt, seat);
-    let stops = monitor.get(&mut held, STOP) == 1;
-    let value = monitor.get(&mut held, 0);
+) -> (SixHandle<'m>, u64, bool) {
+    let mut held = handle.rlock(rt);
+    let stops = held.get(STOP) == 1;
+    let value = held.get(0);
     let value = steps.walk(value, LONG);
-    (monitor.runlock(rt, held), value, stops)
+    (held.runlock(rt), value, stops)
 }
 
 /// Makes a long section that writes.
-pub fn write_long<R: Wait>(rt: &R, monitor: &SixCells, seat: SixSeat, steps: Steps) -> SixSeat
-    requires { seat.monitor ≡ monitor.now }
-    ensures { result.monitor ≡ monitor.now }
-{
-    let mut held = monitor.lock(rt, seat);
-    let value = monitor.get(&mut held, WORK);
-    monitor.set(&mut held, WORK, steps.walk(value, LONG));
-    let count = monitor.get(&mut held, 0);
-    monitor.set(&mut held, 0, count.wrapping_add(1));
-    monitor.unlock(rt, held)
+pub fn write_long<'m, R: Wait>(rt: &R, handle: SixHandle<'m>, steps: Steps) -> SixHandle<'m> {
+    let mut held = handle.lock(rt);
+    let value = held.get(WORK);
+    held.set(WORK, steps.walk(value, LONG));
+    let count = held.get(0);
+    held.set(0, count.wrapping_add(1));
+    held.unlock(rt)
 }
 
 /// Makes so many short sections that write, with work between them, and then tells the readers to leave.
-pub fn write_beside<R: Wait>(
-    rt: &R,
-    monitor: &SixCells,
-    seat: SixSeat,
-    times: u64,
-    steps: Steps,
-) -> Count
-    requires { seat.monitor ≡ monitor.now }
-{
-    let mut seat = seat;
+pub fn write_beside<R: Wait>(rt: &R, mut handle: SixHandle<'_>, times: u64, steps: Steps) -> Count {
     let mut sum = 0;
     for _ in 0..times {
-        seat = add_one_at(rt, monitor, seat, 0);
+        handle = add_one_at(rt, handle, 0);
         sum = steps.walk(sum, LONG);
     }
-    add_one_at(rt, monitor, seat, STOP);
+    add_one_at(rt, handle, STOP);
     Count { writes: times, sum }
 }
 
 /// Makes long sections that read until it is told to leave.
-pub fn read_until_told<R: Wait>(rt: &R, monitor: &SixCells, seat: SixSeat, steps: Steps) -> Count
-    requires { seat.monitor ≡ monitor.now }
-{
-    let mut seat = seat;
+pub fn read_until_told<R: Wait>(rt: &R, mut handle: SixHandle<'_>, steps: Steps) -> Count {
     let mut count = Count::new();
     for _ in 0..MOST_READS {
-        let (back, value, stops) = read_long(rt, monitor, seat, steps);
-        seat = back;
+        let (back, value, stops) = read_long(rt, handle, steps);
+        handle = back;
         count = count.with(value);
         if stops {
             break;

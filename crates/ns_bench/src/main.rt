@@ -1,5 +1,5 @@
 //! The program `ns_bench`: times a monitor. It calls ns_monitor, ns_note and ns_objects as any program
-//! does, and takes its ring from ns_live.
+//! does, and takes its ring from ns_fixtures.
 //!
 //!     ns_bench WORKLOAD THREADS OPERATIONS
 //!
@@ -38,7 +38,6 @@ mod asked;
 mod conditions;
 mod contending;
 mod crowd;
-mod env_crew;
 mod hand_over;
 mod idle;
 mod limits;

@@ -1,12 +1,14 @@
 //! Looks at a note, by one thread.
 
-ghost use Rattle.std.specs.Prelude.{◌≡◌, IfSome};
 ghost use Rattle.std.specs.Thread.{IsSync};
 ghost use Rattle.ns_model.specs.Environments.{IsMade};
 
+use crate::never::OneWriting;
+use ns_fixtures::Never;
+use ns_monitor::Answer;
 use ns_note::env::Env;
 use ns_note::note::Note;
-use ns_note::seat::EnvSeat;
+use ns_note::watcher::Watcher;
 use std::alloc::Global;
 use std::sync::Wait;
 use std::thread::{Threads, join};
@@ -24,107 +26,71 @@ pub enum Looks {
     TimedOut,
 }
 
-/// An environment and its only seat.
-pub fn alone(alloc: Global) -> Option<(Env, EnvSeat)>
-    ensures { IfSome result (λ r. r.1.env ≡ r.0) }
-{
-    let (env, mut seats) = Env::new(alloc, 1).ok()?;
-    let seat = seats.pop()?;
-    Some((env, seat))
+/// A note, and who has seen it made.
+#[derive(Drop)]
+pub struct Watched<'e> {
+    watcher: Watcher<'e>,
+    note: Note,
+    ghost made: { IsMade watcher.seen note.index },
 }
 
-/// A new note below this one, if one is given; nothing where the seat doesn't know that one.
-fn below(env: &Env, seat: &mut EnvSeat, parent: Option<Note>) -> Option<Note>
-    requires { seat.old.env ≡ env.now }
-    ensures { seat.new.env ≡ seat.old.env }
-{
-    if let Some(parent) = parent {
-        if !env.knows(seat, parent) {
-            return None;
+impl<'e> Watched<'e> {
+    /// A new note that is looked at so.
+    pub fn new(mut watcher: Watcher<'e>, looks: Looks) -> Option<Self> {
+        let root = watcher.note_new(None, None).ok()?;
+        let note = match looks {
+            Looks::Not | Looks::TimedOut => root,
+            Looks::Notified => {
+                watcher.notify(root);
+                root
+            }
+            Looks::Child => {
+                let middle = watcher.note_new(Some(root), None).ok()?;
+                watcher.note_new(Some(middle), None).ok()?
+            }
+        };
+        if watcher.knows(note) {
+            Some(Watched { watcher, note })
+        } else {
+            None
         }
     }
-    env.note_new(seat, parent, None).ok()
-}
 
-/// Notifies a note, where the seat knows it.
-fn notify(env: &Env, seat: &mut EnvSeat, note: Note)
-    requires { seat.old.env ≡ env.now }
-    ensures { seat.new.env ≡ seat.old.env }
-{
-    if env.knows(seat, note) {
-        env.notify(seat, note);
+    /// Whether the note is notified.
+    #[tactic(auto, using(ns_note::proofs::Rests::made_grows))]
+    fn is_notified(&mut self) -> bool {
+        self.watcher.is_notified(self.note)
     }
-}
 
-/// The note that is looked at.
-fn made(env: &Env, seat: &mut EnvSeat, looks: Looks) -> Option<Note>
-    requires { seat.old.env ≡ env.now }
-    ensures { seat.new.env ≡ seat.old.env }
-{
-    let root = below(env, seat, None)?;
-    match looks {
-        Looks::Not | Looks::TimedOut => Some(root),
-        Looks::Notified => {
-            notify(env, seat, root);
-            Some(root)
-        }
-        Looks::Child => {
-            let middle = below(env, seat, Some(root))?;
-            below(env, seat, Some(middle))
-        }
+    /// Whether the note is notified, which is waited for until a moment that has come.
+    #[tactic(auto, using(ns_note::proofs::Rests::made_grows))]
+    fn is_in_time<R: Wait>(&mut self, rt: &R) -> bool {
+        self.watcher.note_wait(rt, self.note, Some(0))
     }
-}
 
-/// A new note that is notified.
-pub fn notified(env: &Env, seat: &mut EnvSeat) -> Option<Note>
-    requires { seat.old.env ≡ env.now }
-    ensures { seat.new.env ≡ seat.old.env }
-{
-    made(env, seat, Looks::Notified)
-}
-
-/// Whether the note is notified.
-fn is_notified(env: &Env, seat: &mut EnvSeat, note: Note) -> bool
-    requires env { seat.old.env ≡ env.now }
-    requires made { IsMade seat.old.seen note.index }
-    ensures env { seat.new.env ≡ seat.old.env }
-    ensures made { IsMade seat.new.seen note.index }
-{
-    env.is_notified(seat, note)
+    /// Waits in a section until the note is notified.
+    #[tactic(auto, using(ns_note::proofs::Rests::made_grows))]
+    pub fn wait<'m, R: Wait>(&mut self, rt: &R, held: OneWriting<'m>) -> (OneWriting<'m>, Answer) {
+        held.wait_with_deadline(rt, Never, None, Some(self.note), &mut self.watcher)
+    }
 }
 
 /// How often the note is found notified, of so many times.
-fn look_often(env: &Env, seat: &mut EnvSeat, note: Note, times: u64) -> u64
-    requires env { seat.old.env ≡ env.now }
-    requires made { IsMade seat.old.seen note.index }
-{
+fn look_often(mut watched: Watched<'_>, times: u64) -> u64 {
     let mut count = 0u64;
     for _ in 0..times {
-        if is_notified(env, seat, note) {
+        if watched.is_notified() {
             count = count.wrapping_add(1);
         }
     }
     count
 }
 
-/// Whether the note is notified, which is waited for until a moment that has come.
-fn is_in_time<R: Wait>(rt: &R, env: &Env, seat: &mut EnvSeat, note: Note) -> bool
-    requires env { seat.old.env ≡ env.now }
-    requires made { IsMade seat.old.seen note.index }
-    ensures env { seat.new.env ≡ seat.old.env }
-    ensures made { IsMade seat.new.seen note.index }
-{
-    env.note_wait(rt, seat, note, Some(0))
-}
-
 /// How often the note is notified in time, of so many times.
-fn wait_often<R: Wait>(rt: &R, env: &Env, seat: &mut EnvSeat, note: Note, times: u64) -> u64
-    requires env { seat.old.env ≡ env.now }
-    requires made { IsMade seat.old.seen note.index }
-{
+fn wait_often<R: Wait>(rt: &R, mut watched: Watched<'_>, times: u64) -> u64 {
     let mut count = 0u64;
     for _ in 0..times {
-        if is_in_time(rt, env, seat, note) {
+        if watched.is_in_time(rt) {
             count = count.wrapping_add(1);
         }
     }
@@ -132,58 +98,34 @@ fn wait_often<R: Wait>(rt: &R, env: &Env, seat: &mut EnvSeat, note: Note, times:
 }
 
 /// Makes the note and looks at it so many times, and counts how often it is notified.
-fn count_looks<R: Wait>(
-    rt: &R,
-    env: &Env,
-    seat: &mut EnvSeat,
-    looks: Looks,
-    times: u64,
-) -> Option<u64>
-    requires { seat.old.env ≡ env.now }
-{
-    let note = made(env, seat, looks)?;
-    if !env.knows(seat, note) {
-        return None;
-    }
-    match looks {
-        Looks::TimedOut => Some(wait_often(rt, env, seat, note, times)),
-        _ => Some(look_often(env, seat, note, times)),
-    }
+fn count_looks<R: Wait>(rt: &R, watcher: Watcher<'_>, looks: Looks, times: u64) -> Option<u64> {
+    let watched = Watched::new(watcher, looks)?;
+    Some(match looks {
+        Looks::TimedOut => wait_often(rt, watched, times),
+        _ => look_often(watched, times),
+    })
 }
 
-/// Looks so many times in a thread of its own.
-fn count_in_thread<R: Threads + Wait + Sync>(
-    rt: &R,
-    env: &Env,
-    mut seat: EnvSeat,
-    looks: Looks,
-    times: u64,
-) -> Option<u64>
-    requires { seat.env ≡ env.now }
-{
-    let (count, ()) = join(
-        rt,
-        move || -> Option<u64>
-            requires { IsSync R.row × (seat.env ≡ env.now) }
-        { count_looks(rt, env, &mut seat, looks, times) },
-        || (),
-    );
-    count
-}
-
-/// Whether each of so many looks answers as it must; nothing where there is no note.
+/// Whether each of so many looks, by a thread of its own, answers as it must; nothing where there is no note.
 pub fn run<R: Threads + Wait + Sync>(
     rt: &R,
     alloc: Global,
     looks: Looks,
     times: u64,
 ) -> Option<bool> {
-    let (env, seat) = alone(alloc)?;
-    let count = count_in_thread(rt, &env, seat, looks, times)?;
+    let (env, seats) = Env::new(alloc, 1).ok()?;
+    let watcher = env.watchers(seats).next()?;
+    let (count, ()) = join(
+        rt,
+        move || -> Option<u64>
+            requires { IsSync R.row }
+        { count_looks(rt, watcher, looks, times) },
+        || (),
+    );
     let all = if matches!(looks, Looks::Notified) {
         times
     } else {
         0
     };
-    Some(count == all)
+    Some(count? == all)
 }

@@ -1,14 +1,14 @@
 //! A counter and a once cell that threads share: what each thread does, and how it is run.
 
-ghost use Rattle.std.specs.Prelude.{◌≡◌, ◌<◌, All, IfOk, IfSome};
+ghost use Rattle.std.specs.Prelude.{◌<◌, All};
 ghost use Rattle.std.specs.Thread.{IsSync};
 
 use crate::amount::{Amount, Count};
-use crate::running::play;
+use crate::running::{Job, jobs, play};
 use ns_objects::objects::Objects;
 use ns_objects::running::Once;
-use ns_objects::seat::ObjSeat;
-use std::alloc::{AllocError, Global};
+use ns_objects::sharer::{Sharer, Sharers};
+use std::alloc::Global;
 use std::sync::Wait;
 use std::thread::Threads;
 
@@ -21,22 +21,48 @@ pub enum Sharing {
     AskDone,
 }
 
-/// A thread's number and its seat.
+/// A caller of objects of which one is a counter and one a once cell.
 #[derive(Drop)]
-pub struct ObjJob {
-    /// The number, from 0 on.
-    number: u64,
-    /// The seat.
-    seat: ObjSeat,
+struct Mate<'o> {
+    sharer: Sharer<'o>,
+    ghost counter: { 0 < sharer.setup.counters },
+    ghost cell: { 0 < sharer.setup.cells },
+}
+
+/// The mates that no thread has yet.
+#[derive(Drop)]
+struct Mates<'o> {
+    sharers: Sharers<'o>,
+    ghost of_both: { All (λ s. (0 < s.setup.counters) × (0 < s.setup.cells)) sharers },
+}
+
+impl<'o> Mates<'o> {
+    /// The next of them, as long as there is one.
+    fn next(&mut self) -> Option<Mate<'o>> {
+        let sharer = self.sharers.next()?;
+        Some(Mate { sharer })
+    }
+}
+
+impl Mate<'_> {
+    /// Takes 1 from the counter. Answers whether that wasn't refused.
+    #[inline(always)]
+    fn takes<R: Wait>(&mut self, rt: &R) -> bool {
+        self.sharer.counter_add(rt, 0, -1).is_ok()
+    }
+
+    /// Has a function run once. Answers whether it had run.
+    #[inline(always)]
+    fn asks<R: Wait>(&mut self, rt: &R) -> bool {
+        matches!(self.sharer.run_once(rt, 0, || ()), Once::Already)
+    }
 }
 
 /// Takes 1 from the counter so many times, and counts how often that wasn't refused.
-fn count_down<R: Wait>(rt: &R, objects: &Objects, seat: &mut ObjSeat, times: u64) -> u64
-    requires { (seat.old.objects ≡ objects.now) × (0 < seat.old.setup.counters) }
-{
+fn count_down<R: Wait>(rt: &R, mut mate: Mate<'_>, times: u64) -> u64 {
     let mut count = 0u64;
     for _ in 0..times {
-        if objects.counter_add(rt, seat, 0, -1).is_ok() {
+        if mate.takes(rt) {
             count = count.wrapping_add(1);
         }
     }
@@ -44,12 +70,10 @@ fn count_down<R: Wait>(rt: &R, objects: &Objects, seat: &mut ObjSeat, times: u64
 }
 
 /// Has a function run once, so many times, and counts how often it had run.
-fn ask_often<R: Wait>(rt: &R, objects: &Objects, seat: &mut ObjSeat, times: u64) -> u64
-    requires { (seat.old.objects ≡ objects.now) × (0 < seat.old.setup.cells) }
-{
+fn ask_often<R: Wait>(rt: &R, mut mate: Mate<'_>, times: u64) -> u64 {
     let mut count = 0u64;
     for _ in 0..times {
-        if matches!(objects.run_once(rt, seat, 0, || ()), Once::Already) {
+        if mate.asks(rt) {
             count = count.wrapping_add(1);
         }
     }
@@ -58,14 +82,12 @@ fn ask_often<R: Wait>(rt: &R, objects: &Objects, seat: &mut ObjSeat, times: u64)
 
 impl Sharing {
     /// Does what a thread does.
-    fn work<R: Wait>(self, rt: &R, objects: &Objects, job: ObjJob, amount: Amount) -> Count
-        requires { (job.seat.objects ≡ objects.now) × (0 < job.seat.setup.counters) × (0 < job.seat.setup.cells) }
-    {
-        let ObjJob { number, mut seat } = job;
+    fn work<R: Wait>(self, rt: &R, job: Job<Mate<'_>>, amount: Amount) -> Count {
+        let Job { number, own: mate } = job;
         let times = amount.share(number);
         Count::of_writes(match self {
-            Sharing::CountDown => count_down(rt, objects, &mut seat, times),
-            Sharing::AskDone => ask_often(rt, objects, &mut seat, times),
+            Sharing::CountDown => count_down(rt, mate, times),
+            Sharing::AskDone => ask_often(rt, mate, times),
         })
     }
 
@@ -78,47 +100,6 @@ impl Sharing {
     }
 }
 
-/// A counter with this value, a once cell, and so many seats; nothing where memory is refused, or for
-/// more than 64.
-///
-/// Needs one seat.
-fn new_objects(alloc: Global, start: u32, seats: usize) -> Option<(Objects, Vec<ObjSeat>)>
-    requires { 0 < seats }
-    ensures { IfSome result (λ r. All (λ seat. (seat.objects ≡ r.0) × (0 < seat.setup.counters) × (0 < seat.setup.cells)) r.1.items) }
-{
-    Objects::new(alloc, &[start], 1, seats).ok()
-}
-
-/// Takes the last seat, as long as there is one.
-fn next_seat(objects: &Objects, seats: &mut Vec<ObjSeat>) -> Option<ObjSeat>
-    requires { All (λ seat. (seat.objects ≡ objects.now) × (0 < seat.setup.counters) × (0 < seat.setup.cells)) seats.old.items }
-    ensures rest { All (λ seat. (seat.objects ≡ objects.now) × (0 < seat.setup.counters) × (0 < seat.setup.cells)) seats.new.items }
-    ensures taken { IfSome result (λ seat. (seat.objects ≡ objects.now) × (0 < seat.setup.counters) × (0 < seat.setup.cells)) }
-{
-    seats.pop()
-}
-
-/// The job of each thread.
-fn jobs(
-    alloc: Global,
-    objects: &Objects,
-    seats: Vec<ObjSeat>,
-    threads: u64,
-) -> Result<Vec<ObjJob>, AllocError>
-    requires { All (λ seat. (seat.objects ≡ objects.now) × (0 < seat.setup.counters) × (0 < seat.setup.cells)) seats.items }
-    ensures { IfOk result (λ jobs. All (λ job. (job.seat.objects ≡ objects.now) × (0 < job.seat.setup.counters) × (0 < job.seat.setup.cells)) jobs.items) }
-{
-    let mut seats = seats;
-    let mut jobs = Vec::new(alloc);
-    for number in 0..threads {
-        let Some(seat) = next_seat(objects, &mut seats) else {
-            break;
-        };
-        jobs.push(ObjJob { number, seat })?;
-    }
-    Ok(jobs)
-}
-
 /// Runs a workload, and answers whether it has ended as it must; nothing where it could not be begun.
 pub fn run<R: Threads + Wait + Sync>(
     rt: &R,
@@ -126,21 +107,20 @@ pub fn run<R: Threads + Wait + Sync>(
     what: Sharing,
     amount: Amount,
 ) -> Option<bool> {
-    let seats = usize::try_from(amount.threads).ok()?.checked_add(1)?;
-    let (objects, mut seats) = new_objects(alloc, what.start(amount)?, seats)?;
-    let mut seat = next_seat(&objects, &mut seats)?;
-    objects.run_once(rt, &mut seat, 0, || ());
-    let jobs = jobs(alloc, &objects, seats, amount.threads).ok()?;
-    let shared = &objects;
-    let (total, mut seat) = play(
+    let (objects, seats) = Objects::new(alloc, &[what.start(amount)?], 1, amount.seats()?).ok()?;
+    let sharers = objects.sharers(seats);
+    let mut mates = Mates { sharers };
+    let mut mate = mates.next()?;
+    mate.asks(rt);
+    let (total, mut mate) = play(
         rt,
-        jobs,
-        seat,
-        &|job: ObjJob| -> Count
-            requires { IsSync R.row × (job.seat.objects ≡ shared.now) × (0 < job.seat.setup.counters) × (0 < job.seat.setup.cells) }
-        { what.work(rt, shared, job, amount) },
-        |seat| seat,
+        jobs(alloc, amount.threads, || mates.next())?,
+        mate,
+        &|job: Job<Mate>| -> Count
+            requires { IsSync R.row }
+        { what.work(rt, job, amount) },
+        |mate| mate,
     )?;
-    let value = objects.counter_value(&mut seat, 0);
+    let value = mate.sharer.counter_value(0);
     Some(value == 1 && total.writes == amount.operations)
 }

@@ -1,9 +1,9 @@
 //! Pairs of an acquire and a release that nobody contends for, of a monitor and by hand.
 
-ghost use Rattle.std.specs.Prelude.{◌≡◌, ◌<◌, ◌≤◌, IfOk, IfSome};
+ghost use Rattle.std.specs.Prelude.{◌<◌, ◌≤◌};
 
-use crate::never::{OneCell, OneSeat};
-use ns_monitor::monitor::Monitor;
+use crate::amount::Amount;
+use crate::never::{OneCell, OneHandle};
 use std::alloc::Global;
 use std::io;
 use std::sync::Wait;
@@ -42,20 +42,18 @@ fn each_took(time: Duration, pairs: u64) -> u64 {
 
 /// How a pair acquires.
 pub trait Way {
-    /// Acquires and releases, and gives the seat back.
-    fn pair<R: Wait>(rt: &R, monitor: &OneCell, seat: OneSeat) -> OneSeat
-        requires { seat.monitor ≡ monitor.now }
-        ensures { result.monitor ≡ monitor.now };
+    /// Acquires and releases, and gives the handle back.
+    fn pair<'m, R: Wait>(rt: &R, handle: OneHandle<'m>) -> OneHandle<'m>;
 }
 
 /// By a try.
 pub struct ByTry;
 
 impl Way for ByTry {
-    fn pair<R: Wait>(rt: &R, monitor: &OneCell, seat: OneSeat) -> OneSeat {
-        match monitor.try_lock(seat) {
-            Ok(held) => monitor.unlock(rt, held),
-            Err(seat) => seat,
+    fn pair<'m, R: Wait>(rt: &R, handle: OneHandle<'m>) -> OneHandle<'m> {
+        match handle.try_lock() {
+            Ok(held) => held.unlock(rt),
+            Err(handle) => handle,
         }
     }
 }
@@ -64,9 +62,8 @@ impl Way for ByTry {
 pub struct ByLock;
 
 impl Way for ByLock {
-    fn pair<R: Wait>(rt: &R, monitor: &OneCell, seat: OneSeat) -> OneSeat {
-        let held = monitor.lock(rt, seat);
-        monitor.unlock(rt, held)
+    fn pair<'m, R: Wait>(rt: &R, handle: OneHandle<'m>) -> OneHandle<'m> {
+        handle.lock(rt).unlock(rt)
     }
 }
 
@@ -83,32 +80,18 @@ fn pair_by_hand(word: &AtomicU64) {
     }
 }
 
-/// A monitor of one cell, and its only seat.
-pub fn alone(alloc: Global) -> Option<(OneCell, OneSeat)>
-    ensures { IfSome result (λ r. r.1.monitor ≡ r.0) }
-{
-    let (monitor, mut seats) = Monitor::new(alloc, 1).ok()?;
-    let seat = seats.pop()?;
-    Some((monitor, seat))
-}
-
 /// A batch of pairs of a monitor, and how long it took.
-fn batch<W: Way, R: Wait + Clock>(
+fn batch<'m, W: Way, R: Wait + Clock>(
     rt: &R,
-    monitor: &OneCell,
-    seat: OneSeat,
+    mut handle: OneHandle<'m>,
     pairs: u64,
-) -> io::Result<(OneSeat, Duration)>
-    requires { seat.monitor ≡ monitor.now }
-    ensures { IfOk result (λ r. r.0.monitor ≡ monitor.now) }
-{
-    let mut seat = seat;
+) -> io::Result<(OneHandle<'m>, Duration)> {
     let start = Instant::now(rt)?;
     for _ in 0..pairs {
-        seat = W::pair(rt, monitor, seat);
+        handle = W::pair(rt, handle);
     }
     let took = start.elapsed(rt)?;
-    Ok((seat, took))
+    Ok((handle, took))
 }
 
 /// How long a batch of pairs by hand took.
@@ -131,35 +114,27 @@ fn median(took: &mut [u64; BATCHES], batches: usize) -> u64
     took[batches / 2]
 }
 
-/// How many pairs the batch of this number has, where there are so many in all.
-fn share(pairs: u64, batch: usize) -> u64 {
-    let least = pairs / BATCHES as u64;
-    if (batch as u64) < pairs % BATCHES as u64 {
-        least.saturating_add(1)
-    } else {
-        least
-    }
-}
-
 /// Makes so many pairs of each kind, in batches that take turns, and gives the medians of these.
 ///
 /// Needs one pair.
 fn measured<W: Way, R: Wait + Clock>(
     rt: &R,
-    monitor: &OneCell,
-    seat: OneSeat,
+    mut handle: OneHandle<'_>,
     pairs: u64,
 ) -> io::Result<Medians>
-    requires { (seat.monitor ≡ monitor.now) × (0 < pairs) }
+    requires { 0 < pairs }
 {
+    let all = Amount {
+        threads: BATCHES as u64,
+        operations: pairs,
+    };
     let word = AtomicU64::new(0);
-    let mut seat = seat;
     let mut took = [0; BATCHES];
     let mut took_by_hand = [0; BATCHES];
     for i in 0..BATCHES {
-        let pairs = share(pairs, i);
-        let (back, time) = batch::<W, R>(rt, monitor, seat, pairs)?;
-        seat = back;
+        let pairs = all.share(i as u64);
+        let (back, time) = batch::<W, R>(rt, handle, pairs)?;
+        handle = back;
         took[i] = each_took(time, pairs);
         took_by_hand[i] = each_took(batch_by_hand(rt, &word, pairs)?, pairs);
     }
@@ -179,9 +154,12 @@ pub fn run<W: Way, R: Wait + Clock>(
     if pairs == 0 {
         return Ok(None);
     }
-    let Some((monitor, seat)) = alone(alloc) else {
+    let Ok((monitor, seats)) = OneCell::new(alloc, 1) else {
         return Err(io::Error::from(io::ErrorKind::OutOfMemory));
     };
-    let medians = measured::<W, R>(rt, &monitor, seat, pairs)?;
+    let Some(handle) = monitor.handles(seats).next() else {
+        return Ok(None);
+    };
+    let medians = measured::<W, R>(rt, handle, pairs)?;
     Ok(Some(medians))
 }

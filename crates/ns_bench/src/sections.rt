@@ -1,90 +1,67 @@
 //! Sections on a row of one cell: of one thread alone, or of several that contend for the lock.
 
-ghost use Rattle.std.specs.Prelude.{◌≡◌};
-
 use crate::amount::Count;
-use crate::never::{OneCell, OneSeat};
+use crate::never::OneHandle;
 use crate::steps::{LONG, SHORT, Steps};
 use std::sync::Wait;
 
 /// Adds 1 to the cell.
 #[inline(always)]
-pub fn add_one<R: Wait>(rt: &R, monitor: &OneCell, seat: OneSeat) -> OneSeat
-    requires { seat.monitor ≡ monitor.now }
-    ensures { result.monitor ≡ monitor.now }
-{
-    let mut held = monitor.lock(rt, seat);
-    let value = monitor.get(&mut held, 0);
-    monitor.set(&mut held, 0, value.wrapping_add(1));
-    monitor.unlock(rt, held)
+pub fn add_one<'m, R: Wait>(rt: &R, handle: OneHandle<'m>) -> OneHandle<'m> {
+    let mut held = handle.lock(rt);
+    let value = held.get(0);
+    held.set(0, value.wrapping_add(1));
+    held.unlock(rt)
 }
 
 /// Reads the cell.
 #[inline(always)]
-pub fn read_one<R: Wait>(rt: &R, monitor: &OneCell, seat: OneSeat) -> (OneSeat, u64)
-    requires { seat.monitor ≡ monitor.now }
-    ensures { result.0.monitor ≡ monitor.now }
-{
-    let mut held = monitor.rlock(rt, seat);
-    let value = monitor.get(&mut held, 0);
-    (monitor.runlock(rt, held), value)
+pub fn read_one<'m, R: Wait>(rt: &R, handle: OneHandle<'m>) -> (OneHandle<'m>, u64) {
+    let mut held = handle.rlock(rt);
+    let value = held.get(0);
+    (held.runlock(rt), value)
 }
 
 /// Adds 1 to the cell in each of so many sections.
-///
-/// Of the loops that are measured with one thread each is one by hand: [`repeat`](crate::running::repeat)
-/// costs a section four instructions more.
-pub fn lock<R: Wait>(rt: &R, monitor: &OneCell, seat: OneSeat, times: u64) -> Count
-    requires { seat.monitor ≡ monitor.now }
-{
-    let mut seat = seat;
+pub fn lock<R: Wait>(rt: &R, mut handle: OneHandle<'_>, times: u64) -> Count {
     for _ in 0..times {
-        seat = add_one(rt, monitor, seat);
+        handle = add_one(rt, handle);
     }
     Count::of_writes(times)
 }
 
 /// Adds 1 to the cell in each of so many sections that are tried for, of which each has to succeed.
-pub fn try_lock<R: Wait>(rt: &R, monitor: &OneCell, seat: OneSeat, times: u64) -> Count
-    requires { seat.monitor ≡ monitor.now }
-{
-    let mut seat = seat;
+pub fn try_lock<R: Wait>(rt: &R, mut handle: OneHandle<'_>, times: u64) -> Count {
     for _ in 0..times {
-        let Ok(mut held) = monitor.try_lock(seat) else {
+        let Ok(mut held) = handle.try_lock() else {
             return Count::new();
         };
-        let value = monitor.get(&mut held, 0);
-        monitor.set(&mut held, 0, value.wrapping_add(1));
-        seat = monitor.unlock(rt, held);
+        let value = held.get(0);
+        held.set(0, value.wrapping_add(1));
+        handle = held.unlock(rt);
     }
     Count::of_writes(times)
 }
 
 /// Adds up the cell, read in each of so many sections.
-pub fn read_lock<R: Wait>(rt: &R, monitor: &OneCell, seat: OneSeat, times: u64) -> Count
-    requires { seat.monitor ≡ monitor.now }
-{
-    let mut seat = seat;
+pub fn read_lock<R: Wait>(rt: &R, mut handle: OneHandle<'_>, times: u64) -> Count {
     let mut count = Count::new();
     for _ in 0..times {
-        let (back, value) = read_one(rt, monitor, seat);
-        seat = back;
+        let (back, value) = read_one(rt, handle);
+        handle = back;
         count = count.with(value);
     }
     count
 }
 
 /// Adds up the cell, read in each of so many sections that are tried for.
-pub fn try_read_lock<R: Wait>(rt: &R, monitor: &OneCell, seat: OneSeat, times: u64) -> Count
-    requires { seat.monitor ≡ monitor.now }
-{
-    let mut seat = seat;
+pub fn try_read_lock<R: Wait>(rt: &R, mut handle: OneHandle<'_>, times: u64) -> Count {
     let mut count = Count::new();
     for _ in 0..times {
-        seat = match monitor.try_rlock(seat) {
+        handle = match handle.try_rlock() {
             Ok(mut held) => {
-                count = count.with(monitor.get(&mut held, 0));
-                monitor.runlock(rt, held)
+                count = count.with(held.get(0));
+                held.runlock(rt)
             }
             Err(back) => back,
         };
@@ -93,62 +70,55 @@ pub fn try_read_lock<R: Wait>(rt: &R, monitor: &OneCell, seat: OneSeat, times: u
 }
 
 /// Signals a variable so many times, each without a section, and adds them up.
-pub fn signal<R: Wait>(rt: &R, monitor: &OneCell, seat: OneSeat, times: u64) -> Count
-    requires { seat.monitor ≡ monitor.now }
-{
-    let mut seat = seat;
+pub fn signal<R: Wait>(rt: &R, mut handle: OneHandle<'_>, times: u64) -> Count {
     let mut count = Count::new();
     for _ in 0..times {
-        monitor.signal(rt, &mut seat, 0);
+        handle.signal(rt, 0);
         count = count.with(1);
     }
     count
 }
 
-/// Works long on the cell.
-pub fn work_long<R: Wait>(rt: &R, monitor: &OneCell, seat: OneSeat, steps: Steps) -> OneSeat
-    requires { seat.monitor ≡ monitor.now }
-    ensures { result.monitor ≡ monitor.now }
-{
-    let mut held = monitor.lock(rt, seat);
-    let value = monitor.get(&mut held, 0);
-    monitor.set(&mut held, 0, steps.walk(value, LONG));
-    monitor.unlock(rt, held)
+/// Works long on the cell in each of so many sections.
+pub fn lock_long<R: Wait>(rt: &R, mut handle: OneHandle<'_>, times: u64, steps: Steps) -> Count {
+    for _ in 0..times {
+        let mut held = handle.lock(rt);
+        let value = held.get(0);
+        held.set(0, steps.walk(value, LONG));
+        handle = held.unlock(rt);
+    }
+    Count::of_writes(times)
 }
 
-/// Adds 1 to the cell where it is less than this; answers whether it was.
-fn add_below<R: Wait>(rt: &R, monitor: &OneCell, seat: OneSeat, most: u64) -> (OneSeat, bool)
-    requires { seat.monitor ≡ monitor.now }
-    ensures { result.0.monitor ≡ monitor.now }
-{
-    let mut held = monitor.lock(rt, seat);
-    let value = monitor.get(&mut held, 0);
-    if value < most {
-        monitor.set(&mut held, 0, value.wrapping_add(1));
+/// Adds 1 to the cell in each of so many sections, and works long without the lock behind each.
+pub fn lock_and_work<R: Wait>(
+    rt: &R,
+    mut handle: OneHandle<'_>,
+    times: u64,
+    steps: Steps,
+) -> Count {
+    let mut sum = 0;
+    for _ in 0..times {
+        handle = add_one(rt, handle);
+        sum = steps.walk(sum, LONG);
     }
-    (monitor.unlock(rt, held), value < most)
+    Count { writes: times, sum }
 }
 
 /// Adds 1 to the cell in sections that follow one another until it is this, with short work between them.
-pub fn compete<R: Wait>(
-    rt: &R,
-    monitor: &OneCell,
-    seat: OneSeat,
-    most: u64,
-    steps: Steps,
-) -> (OneSeat, Count)
-    requires { seat.monitor ≡ monitor.now }
-{
-    let mut seat = seat;
+pub fn compete<R: Wait>(rt: &R, mut handle: OneHandle<'_>, most: u64, steps: Steps) -> Count {
     let mut count = Count::new();
     for _ in 0..most.saturating_add(1) {
-        let (back, added) = add_below(rt, monitor, seat, most);
-        seat = back;
-        if !added {
+        let mut held = handle.lock(rt);
+        let value = held.get(0);
+        if value >= most {
+            held.unlock(rt);
             break;
         }
+        held.set(0, value.wrapping_add(1));
+        handle = held.unlock(rt);
         count.writes = count.writes.wrapping_add(1);
         count.sum = steps.walk(count.sum, SHORT);
     }
-    (seat, count)
+    count
 }

@@ -1,11 +1,10 @@
 //! Threads that wait for condition variables, on a row of six cells.
 
-ghost use Rattle.std.specs.Prelude.{◌≡◌, ◌<◌};
+ghost use Rattle.std.specs.Prelude.{◌<◌};
 
-use crate::amount::Amount;
-use crate::conditions::{ARRIVED, MARKS, SixCells, SixHeld, SixSeat};
-use ns_note::env::Env;
-use ns_note::seat::EnvSeat;
+use crate::amount::{Amount, Count};
+use crate::conditions::{ARRIVED, MARKS, SixHandle, SixWriting};
+use ns_note::watcher::Watcher;
 use std::sync::Wait;
 
 /// The variable that is broadcast as a round begins.
@@ -13,18 +12,6 @@ const GO: u8 = 0;
 
 /// The variable that is signaled as the last is through a round.
 const THROUGH: u8 = 1;
-
-/// What the threads share.
-#[derive(Clone, Copy)]
-pub struct Commons<'a> {
-    /// The monitor.
-    pub monitor: &'a SixCells,
-    /// Where their seats of clock and notes are from.
-    pub env: &'a Env,
-}
-
-/// What a thread has of its own: its seat of the monitor, and that of clock and notes.
-pub type Seats = (SixSeat, EnvSeat);
 
 /// A cell is within these bounds, and whoever makes it so wakes those who wait for the variable.
 #[derive(Clone, Copy)]
@@ -36,128 +23,118 @@ struct Wanted {
 }
 
 /// Waits for a variable until the cell is as it is wanted: a wake tells nothing of it.
-fn wait_until<R: Wait>(
+fn wait_until<'m, R: Wait>(
     rt: &R,
-    commons: Commons<'_>,
-    held: SixHeld,
+    mut held: SixWriting<'m>,
     wanted: Wanted,
-    env_seat: &mut EnvSeat,
-) -> SixHeld
-    requires of { (held.monitor ≡ commons.monitor.now) × (env_seat.old.env ≡ commons.env.now) }
-    requires wanted { (wanted.variable < 4) × (wanted.cell < 6) }
-    ensures { (result.monitor ≡ commons.entry.monitor.now) × (env_seat.new.env ≡ env_seat.old.env) }
+    watcher: &mut Watcher<'_>,
+) -> SixWriting<'m>
+    requires { (wanted.variable < 4) × (wanted.cell < 6) }
 {
-    let Commons { monitor, env } = commons;
-    let mut held = held;
     for _ in rt.forever() {
-        let value = monitor.get(&mut held, wanted.cell);
+        let value = held.get(wanted.cell);
         if wanted.least <= value && value <= wanted.most {
             return held;
         }
-        let variable = wanted.variable;
-        let (back, _) = monitor.cv_wait_with_deadline(
-            rt, held, variable, None, None, env, env_seat,
-        );
-        held = back;
+        (held, _) = held.cv_wait_with_deadline(rt, wanted.variable, None, None, watcher);
     }
     unreachable!()
 }
 
-/// Waits for its turn, by a variable of its own, and hands it to the other of two threads.
-pub fn take_turn<R: Wait>(rt: &R, commons: Commons<'_>, seats: Seats, number: u64) -> Seats
-    requires { (seats.0.monitor ≡ commons.monitor.now) × (seats.1.env ≡ commons.env.now) }
-    ensures { (result.0.monitor ≡ commons.entry.monitor.now) × (result.1.env ≡ commons.entry.env.now) }
-{
-    let (seat, mut env_seat) = seats;
-    let held = commons.monitor.lock(rt, seat);
+/// Waits for its turn, by a variable of its own, and hands it to the other of two threads, so many times.
+pub fn take_turns<R: Wait>(
+    rt: &R,
+    mut handle: SixHandle<'_>,
+    number: u64,
+    times: u64,
+    mut watcher: Watcher<'_>,
+) -> Count {
     let wanted = Wanted {
         variable: (number % 2) as u8,
         cell: 0,
         least: number,
         most: number,
     };
-    let mut held = wait_until(rt, commons, held, wanted, &mut env_seat);
     let other = 1 - number % 2;
-    commons.monitor.set(&mut held, 0, other);
-    commons.monitor.signal(rt, &mut held, other as u8);
-    (commons.monitor.unlock(rt, held), env_seat)
+    for _ in 0..times {
+        let mut held = wait_until(rt, handle.lock(rt), wanted, &mut watcher);
+        held.set(0, other);
+        held.signal(rt, other as u8);
+        handle = held.unlock(rt);
+    }
+    Count::of_writes(times)
 }
 
 /// Comes through one round, once it has begun; the last of so many threads signals that.
-fn come_through<R: Wait>(
+fn come_through<'m, R: Wait>(
     rt: &R,
-    commons: Commons<'_>,
-    held: SixHeld,
+    held: SixWriting<'m>,
     round: u64,
     threads: u64,
-    env_seat: &mut EnvSeat,
-) -> SixHeld
-    requires { (held.monitor ≡ commons.monitor.now) × (env_seat.old.env ≡ commons.env.now) }
-    ensures { (result.monitor ≡ commons.entry.monitor.now) × (env_seat.new.env ≡ env_seat.old.env) }
-{
+    watcher: &mut Watcher<'_>,
+) -> SixWriting<'m> {
     let wanted = Wanted {
         variable: GO,
         cell: MARKS,
         least: round,
         most: u64::MAX,
     };
-    let mut held = wait_until(rt, commons, held, wanted, env_seat);
-    let through = commons.monitor.get(&mut held, ARRIVED).wrapping_add(1);
-    commons.monitor.set(&mut held, ARRIVED, through);
+    let mut held = wait_until(rt, held, wanted, watcher);
+    let through = held.get(ARRIVED).wrapping_add(1);
+    held.set(ARRIVED, through);
     if through == threads {
-        commons.monitor.signal(rt, &mut held, THROUGH);
+        held.signal(rt, THROUGH);
     }
     held
 }
 
-/// Comes through all rounds in one section, which each wait leaves.
-pub fn come_through_all<R: Wait>(rt: &R, commons: Commons<'_>, seats: Seats, amount: Amount)
-    requires { (seats.0.monitor ≡ commons.monitor.now) × (seats.1.env ≡ commons.env.now) }
-{
-    let (seat, mut env_seat) = seats;
-    let mut held = commons.monitor.lock(rt, seat);
+/// Comes through all rounds in one section, which each wait leaves. Counts nothing.
+pub fn come_through_all<R: Wait>(
+    rt: &R,
+    handle: SixHandle<'_>,
+    amount: Amount,
+    mut watcher: Watcher<'_>,
+) -> Count {
+    let mut held = handle.lock(rt);
     for round in 0..amount.operations {
         let round = round.saturating_add(1);
-        held = come_through(rt, commons, held, round, amount.threads, &mut env_seat);
+        held = come_through(rt, held, round, amount.threads, &mut watcher);
     }
-    commons.monitor.unlock(rt, held);
+    held.unlock(rt);
+    Count::new()
 }
 
 /// Begins a round by a broadcast, and waits until so many are through.
-fn begin_round<R: Wait>(
+fn begin_round<'m, R: Wait>(
     rt: &R,
-    commons: Commons<'_>,
-    seat: SixSeat,
+    handle: SixHandle<'m>,
     round: u64,
     threads: u64,
-    env_seat: &mut EnvSeat,
-) -> SixSeat
-    requires { (seat.monitor ≡ commons.monitor.now) × (env_seat.old.env ≡ commons.env.now) }
-    ensures { (result.monitor ≡ commons.entry.monitor.now) × (env_seat.new.env ≡ env_seat.old.env) }
-{
-    let mut held = commons.monitor.lock(rt, seat);
-    commons.monitor.set(&mut held, MARKS, round);
-    commons.monitor.set(&mut held, ARRIVED, 0);
-    commons.monitor.broadcast(rt, &mut held, GO);
+    watcher: &mut Watcher<'_>,
+) -> SixHandle<'m> {
+    let mut held = handle.lock(rt);
+    held.set(MARKS, round);
+    held.set(ARRIVED, 0);
+    held.broadcast(rt, GO);
     let wanted = Wanted {
         variable: THROUGH,
         cell: ARRIVED,
         least: threads,
         most: threads,
     };
-    let held = wait_until(rt, commons, held, wanted, env_seat);
-    commons.monitor.unlock(rt, held)
+    wait_until(rt, held, wanted, watcher).unlock(rt)
 }
 
 /// Begins all rounds, each once all are through the last.
-pub fn begin_rounds<R: Wait>(rt: &R, commons: Commons<'_>, seats: Seats, amount: Amount) -> Seats
-    requires { (seats.0.monitor ≡ commons.monitor.now) × (seats.1.env ≡ commons.env.now) }
-    ensures { result.0.monitor ≡ commons.entry.monitor.now }
-{
-    let (mut seat, mut env_seat) = seats;
+pub fn begin_rounds<'m, R: Wait>(
+    rt: &R,
+    mut handle: SixHandle<'m>,
+    amount: Amount,
+    watcher: &mut Watcher<'_>,
+) -> SixHandle<'m> {
     for round in 0..amount.operations {
         let round = round.saturating_add(1);
-        seat = begin_round(rt, commons, seat, round, amount.threads, &mut env_seat);
+        handle = begin_round(rt, handle, round, amount.threads, watcher);
     }
-    (seat, env_seat)
+    handle
 }

@@ -1,15 +1,14 @@
 //! The workloads on a row of six cells whose threads wait for condition variables: how they are run.
 
-ghost use Rattle.std.specs.Prelude.{◌≡◌};
 ghost use Rattle.std.specs.Thread.{IsSync};
 
 use crate::amount::{Amount, Count};
-use crate::conditions::{ARRIVED, Awaited, MARKS, SixCells};
-use crate::env_crew::{EnvJob, env_crew};
+use crate::conditions::{ARRIVED, MARKS, SixCells, SixHandle};
 use crate::idle::{wait_idly, work_beside};
-use crate::running::{crew, play, repeat};
-use crate::signals::{Commons, Seats, begin_rounds, come_through_all, take_turn};
+use crate::running::{Job, jobs, last_row, play};
+use crate::signals::{begin_rounds, come_through_all, take_turns};
 use ns_note::env::Env;
+use ns_note::watcher::Watcher;
 use std::alloc::Global;
 use std::sync::Wait;
 use std::thread::Threads;
@@ -25,44 +24,31 @@ pub enum Signaling {
     Idle,
 }
 
+/// What a thread has of its own.
+type Own<'m, 'e> = (SixHandle<'m>, Watcher<'e>);
+
 impl Signaling {
     /// Does what a thread does.
-    fn work<R: Wait>(
-        self,
-        rt: &R,
-        commons: Commons<'_>,
-        job: EnvJob<Awaited, 6>,
-        amount: Amount,
-    ) -> Count
-        requires { (job.job.seat.monitor ≡ commons.monitor.now) × (job.env_seat.env ≡ commons.env.now) }
-    {
-        let EnvJob { job, env_seat } = job;
-        let number = job.number;
-        let seats = (job.seat, env_seat);
+    fn work<R: Wait>(self, rt: &R, job: Job<Own<'_, '_>>, amount: Amount) -> Count {
+        let Job { number, own } = job;
+        let (handle, watcher) = own;
+        let times = amount.operations / 2;
         match self {
-            Signaling::Turns => {
-                let times = amount.operations / 2;
-                repeat(times, seats, |seats| take_turn(rt, commons, seats, number));
-                Count::of_writes(times)
-            }
-            Signaling::Rounds => {
-                come_through_all(rt, commons, seats, amount);
-                Count::new()
-            }
-            Signaling::Idle => wait_idly(rt, commons, seats),
+            Signaling::Turns => take_turns(rt, handle, number, times, watcher),
+            Signaling::Rounds => come_through_all(rt, handle, amount, watcher),
+            Signaling::Idle => wait_idly(rt, handle, watcher),
         }
     }
 
     /// Does what is done beside the threads.
-    fn lead<R: Wait>(self, rt: &R, commons: Commons<'_>, seats: Seats, amount: Amount) -> Seats
-        requires { (seats.0.monitor ≡ commons.monitor.now) × (seats.1.env ≡ commons.env.now) }
-        ensures { result.0.monitor ≡ commons.entry.monitor.now }
-    {
-        match self {
-            Signaling::Turns => seats,
-            Signaling::Rounds => begin_rounds(rt, commons, seats, amount),
-            Signaling::Idle => work_beside(rt, commons, seats, amount),
-        }
+    fn lead<'m, 'e, R: Wait>(self, rt: &R, own: Own<'m, 'e>, amount: Amount) -> Own<'m, 'e> {
+        let (handle, mut watcher) = own;
+        let handle = match self {
+            Signaling::Turns => handle,
+            Signaling::Rounds => begin_rounds(rt, handle, amount, &mut watcher),
+            Signaling::Idle => work_beside(rt, handle, amount, &mut watcher),
+        };
+        (handle, watcher)
     }
 
     /// Whether the row is as it has to be, and so many waits have timed out.
@@ -82,13 +68,6 @@ impl Signaling {
     }
 }
 
-/// What the threads share.
-fn shared<'a>(monitor: &'a SixCells, env: &'a Env) -> Commons<'a>
-    ensures { (result.monitor.now ≡ monitor.now) × (result.env.now ≡ env.now) }
-{
-    Commons { monitor, env }
-}
-
 /// Runs a workload, and answers whether it has ended as it must, with a free lock; nothing where it
 /// could not be begun, or isn't for so many threads.
 pub fn run<R: Threads + Wait + Sync>(
@@ -100,23 +79,23 @@ pub fn run<R: Threads + Wait + Sync>(
     if matches!(what, Signaling::Turns) && amount.threads != 2 {
         return None;
     }
-    let (monitor, jobs, seat) = crew::<Awaited, 6>(alloc, amount.threads)?;
-    let (env, jobs, env_seat) = env_crew(alloc, &monitor, jobs)?;
-    let cells = &monitor;
-    let notes = &env;
-    let (total, seats) = play(
+    let (monitor, seats) = SixCells::new(alloc, amount.seats()?).ok()?;
+    let (env, env_seats) = Env::new(alloc, amount.seats()?).ok()?;
+    let mut handles = monitor.handles(seats);
+    let mut watchers = env.watchers(env_seats);
+    let own = handles.next().zip(watchers.next())?;
+    let (total, own) = play(
         rt,
-        jobs,
-        (seat, env_seat),
-        &|job: EnvJob<Awaited, 6>| -> Count
-            requires { IsSync R.row × (job.job.seat.monitor ≡ cells.now) × (job.env_seat.env ≡ notes.now) }
-        { what.work(rt, shared(cells, notes), job, amount) },
-        |seats: Seats| -> Seats
-            requires { IsSync R.row × (seats.0.monitor ≡ cells.now) × (seats.1.env ≡ notes.now) }
-            ensures { result.0.monitor ≡ cells.entry.now }
-        { what.lead(rt, shared(cells, notes), seats, amount) },
+        jobs(alloc, amount.threads, || {
+            handles.next().zip(watchers.next())
+        })?,
+        own,
+        &|job: Job<Own>| -> Count
+            requires { IsSync R.row }
+        { what.work(rt, job, amount) },
+        |own: Own| -> Own
+            requires { IsSync R.row }
+        { what.lead(rt, own, amount) },
     )?;
-    let (seat, _) = seats;
-    let closed = monitor.close(seat);
-    Some(closed.free && what.is_right(&closed.row, total.writes, amount))
+    Some(last_row(own.0).is_some_and(|row| what.is_right(&row, total.writes, amount)))
 }

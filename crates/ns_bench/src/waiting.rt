@@ -1,15 +1,14 @@
 //! The workloads on a row of six cells, most of whose threads wait for one another: how they are run.
 
-ghost use Rattle.std.specs.Prelude.{◌≡◌};
 ghost use Rattle.std.specs.Thread.{IsSync};
 
 use crate::amount::{Amount, Count};
-use crate::conditions::{Awaited, SixCells, SixSeat, TICK};
+use crate::conditions::{SixCells, SixHandle, TICK};
 use crate::crowd;
-use crate::hand_over::take_turn;
+use crate::hand_over::take_turns;
 use crate::long_reads::{read_long, read_until_told, write_beside, write_long};
 use crate::mixed::mix;
-use crate::running::{Job, crew, play, repeat};
+use crate::running::{Job, jobs, last_row, play};
 use crate::steps::Steps;
 use std::alloc::Global;
 use std::sync::Wait;
@@ -78,85 +77,50 @@ impl Waiting {
         }
     }
 
-    /// Does what a thread does that waits in the crowd.
-    fn wait<R: Wait>(self, rt: &R, monitor: &SixCells, seat: SixSeat, number: u64, amount: Amount)
-        requires { seat.monitor ≡ monitor.now }
-    {
-        match self {
-            Waiting::Answer(marked) => {
-                let times = amount.operations.saturating_add(1);
-                crowd::wait_and_answer(rt, monitor, seat, marked.mask(number), times)
-            }
-            Waiting::Crowd(marked, _) => {
-                crowd::wait_once(rt, monitor, seat, marked.mask(number))
-            }
-            _ => (),
-        }
-    }
-
     /// Does what a thread does.
-    fn work<R: Wait>(
-        self,
-        rt: &R,
-        monitor: &SixCells,
-        job: Job<Awaited, 6>,
-        amount: Amount,
-    ) -> Count
-        requires { job.seat.monitor ≡ monitor.now }
-    {
-        let Job { number, seat } = job;
+    fn work<R: Wait>(self, rt: &R, job: Job<SixHandle<'_>>, amount: Amount) -> Count {
+        let (number, handle) = (job.number, job.own);
         let steps = Steps::of_run(amount.operations);
         match self {
-            Waiting::Turns => {
-                let times = amount.operations / 2;
-                repeat(times, seat, |seat| take_turn(rt, monitor, seat, number));
-                Count::of_writes(times)
+            Waiting::Crowd(marked, _) => crowd::wait_once(rt, handle, marked.mask(number)),
+            Waiting::Answer(marked) => {
+                let times = amount.operations.saturating_add(1);
+                crowd::wait_and_answer(rt, handle, marked.mask(number), times)
             }
+            Waiting::Turns => take_turns(rt, handle, number, amount.operations / 2),
             Waiting::MixLong(percent) => mix(
                 number,
                 amount.share(number),
                 percent,
-                seat,
-                |seat| {
-                    let (seat, value, _) = read_long(rt, monitor, seat, steps);
-                    (seat, value)
+                handle,
+                |handle| {
+                    let (handle, value, _) = read_long(rt, handle, steps);
+                    (handle, value)
                 },
-                |seat| write_long(rt, monitor, seat, steps),
-            )
-            .1,
+                |handle| write_long(rt, handle, steps),
+            ),
             Waiting::OneWriter if number == 0 => {
-                write_beside(rt, monitor, seat, amount.operations, steps)
+                write_beside(rt, handle, amount.operations, steps)
             }
-            Waiting::OneWriter => read_until_told(rt, monitor, seat, steps),
-            _ => {
-                self.wait(rt, monitor, seat, number, amount);
-                Count::new()
-            }
+            Waiting::OneWriter => read_until_told(rt, handle, steps),
         }
     }
 
     /// Does what is done beside the threads, once all wait, and then lets them leave.
-    fn lead<R: Wait>(self, rt: &R, monitor: &SixCells, seat: SixSeat, amount: Amount) -> SixSeat
-        requires { seat.monitor ≡ monitor.now }
-        ensures { result.monitor ≡ monitor.now }
-    {
+    fn lead<'m, R: Wait>(self, rt: &R, handle: SixHandle<'m>, amount: Amount) -> SixHandle<'m> {
+        if !matches!(self, Waiting::Crowd(..) | Waiting::Answer(_)) {
+            return handle;
+        }
         let times = amount.operations;
-        let seat = match self {
-            Waiting::Crowd(_, beside) => {
-                let seat = crowd::wait_for_all(rt, monitor, seat, amount.threads);
-                match beside {
-                    Beside::Tick => crowd::tick(rt, monitor, seat, times),
-                    Beside::TickQuietly => crowd::tick_quietly(rt, monitor, seat, times),
-                    Beside::Read => crowd::read_beside(rt, monitor, seat, times),
-                }
-            }
-            Waiting::Answer(marked) => {
-                let seat = crowd::wait_for_all(rt, monitor, seat, amount.threads);
-                crowd::ask_often(rt, monitor, seat, amount, marked.is_each())
-            }
-            _ => return seat,
+        let handle = crowd::wait_for_all(rt, handle, amount.threads);
+        let handle = match self {
+            Waiting::Crowd(_, Beside::Tick) => crowd::tick(rt, handle, times),
+            Waiting::Crowd(_, Beside::TickQuietly) => crowd::tick_quietly(rt, handle, times),
+            Waiting::Crowd(_, Beside::Read) => crowd::read_beside(rt, handle, times),
+            Waiting::Answer(marked) => crowd::ask_often(rt, handle, amount, marked.is_each()),
+            _ => handle,
         };
-        crowd::dismiss(rt, monitor, seat, amount.threads)
+        crowd::dismiss(rt, handle, amount.threads)
     }
 
     /// Whether the row and the sums of the counts are as they have to be.
@@ -183,20 +147,19 @@ pub fn run<R: Threads + Wait + Sync>(
     if !what.is_for(amount.threads) {
         return None;
     }
-    let (monitor, jobs, seat) = crew::<Awaited, 6>(alloc, amount.threads)?;
-    let cells = &monitor;
-    let (total, seat) = play(
+    let (monitor, seats) = SixCells::new(alloc, amount.seats()?).ok()?;
+    let mut handles = monitor.handles(seats);
+    let handle = handles.next()?;
+    let (total, handle) = play(
         rt,
-        jobs,
-        seat,
-        &|job: Job<Awaited, 6>| -> Count
-            requires { IsSync R.row × (job.seat.monitor ≡ cells.now) }
-        { what.work(rt, cells, job, amount) },
-        |seat: SixSeat| -> SixSeat
-            requires { IsSync R.row × (seat.monitor ≡ cells.now) }
-            ensures { result.monitor ≡ cells.entry.now }
-        { what.lead(rt, cells, seat, amount) },
+        jobs(alloc, amount.threads, || handles.next())?,
+        handle,
+        &|job: Job<SixHandle>| -> Count
+            requires { IsSync R.row }
+        { what.work(rt, job, amount) },
+        |handle: SixHandle| -> SixHandle
+            requires { IsSync R.row }
+        { what.lead(rt, handle, amount) },
     )?;
-    let closed = monitor.close(seat);
-    Some(closed.free && what.is_right(&closed.row, total, amount))
+    Some(last_row(handle).is_some_and(|row| what.is_right(&row, total, amount)))
 }

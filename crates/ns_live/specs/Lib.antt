@@ -1,5 +1,1 @@
 pub mod Faults
-pub mod Laws
-pub mod Crews
-pub mod Rings
-pub mod Wishes

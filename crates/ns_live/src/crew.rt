@@ -1,13 +1,11 @@
-//! The four threads: the seats that each has, and its work.
-
-ghost use Rattle.std.specs.Prelude.{◌≡◌, All, IfSome};
-ghost use Rattle.ns_live.specs.Crews.{AreSeated, IsSeated};
+//! The four threads: what each has of its own, and its work.
 
 use crate::commons::{Commons, get_to_know};
 use crate::consuming::consume;
 use crate::producing::produce;
-use crate::ring::RingSeat;
-use ns_note::seat::EnvSeat;
+use ns_fixtures::{RingHandle, Wish};
+use ns_monitor::Handles;
+use ns_note::watcher::{Watcher, Watchers};
 use std::sync::Wait;
 
 /// What a thread does.
@@ -19,63 +17,51 @@ enum Role {
     Consumes,
 }
 
-/// A thread's seats, and what it does.
+/// What a thread has of its own, and what it does.
 #[derive(Drop)]
-pub struct Job {
-    /// Its seat of the lock.
-    pub seat: RingSeat,
-    /// Its seat of clock and notes.
-    pub env_seat: EnvSeat,
+pub struct Job<'m, 'e> {
+    ring: RingHandle<'m>,
+    watcher: Watcher<'e>,
     role: Role,
 }
 
 /// The work of four threads.
 #[derive(Drop)]
-pub struct Crew {
+pub struct Crew<'m, 'e> {
     /// The first that puts items into the ring, the odd ones.
-    pub odd: Job,
+    pub odd: Job<'m, 'e>,
     /// The second, with the even ones.
-    pub even: Job,
+    pub even: Job<'m, 'e>,
     /// The first that takes items out.
-    pub first: Job,
+    pub first: Job<'m, 'e>,
     /// The second.
-    pub second: Job,
+    pub second: Job<'m, 'e>,
 }
 
 /// The work of one more thread, as long as there are seats.
-fn next_job(
-    commons: Commons<'_>,
-    seats: &mut Vec<RingSeat>,
-    env_seats: &mut Vec<EnvSeat>,
+fn next_job<'m, 'e>(
+    handles: &mut Handles<'m, Wish, 7>,
+    watchers: &mut Watchers<'e>,
     role: Role,
-) -> Option<Job>
-    requires monitor { All (λ seat. seat.monitor ≡ commons.monitor.now) seats.old.items }
-    requires env { All (λ seat. seat.env ≡ commons.env.now) env_seats.old.items }
-    ensures monitor { All (λ seat. seat.monitor ≡ commons.entry.monitor.now) seats.new.items }
-    ensures env { All (λ seat. seat.env ≡ commons.entry.env.now) env_seats.new.items }
-    ensures job { IfSome result (IsSeated commons.entry.monitor.now commons.entry.env.now) }
-{
-    let seat = seats.pop()?;
-    let env_seat = env_seats.pop()?;
+) -> Option<Job<'m, 'e>> {
+    let ring = handles.next()?;
+    let watcher = watchers.next()?;
     Some(Job {
-        seat,
-        env_seat,
+        ring,
+        watcher,
         role,
     })
 }
 
 /// The work of all four, as long as there are seats.
-pub fn crew_of(commons: Commons<'_>, seats: Vec<RingSeat>, env_seats: Vec<EnvSeat>) -> Option<Crew>
-    requires monitor { All (λ seat. seat.monitor ≡ commons.monitor.now) seats.items }
-    requires env { All (λ seat. seat.env ≡ commons.env.now) env_seats.items }
-    ensures { IfSome result (AreSeated commons.entry.monitor.now commons.entry.env.now) }
-{
-    let mut seats = seats;
-    let mut env_seats = env_seats;
-    let odd = next_job(commons, &mut seats, &mut env_seats, Role::Produces(1))?;
-    let even = next_job(commons, &mut seats, &mut env_seats, Role::Produces(2))?;
-    let first = next_job(commons, &mut seats, &mut env_seats, Role::Consumes)?;
-    let second = next_job(commons, &mut seats, &mut env_seats, Role::Consumes)?;
+pub fn crew_of<'m, 'e>(
+    handles: &mut Handles<'m, Wish, 7>,
+    watchers: &mut Watchers<'e>,
+) -> Option<Crew<'m, 'e>> {
+    let odd = next_job(handles, watchers, Role::Produces(1))?;
+    let even = next_job(handles, watchers, Role::Produces(2))?;
+    let first = next_job(handles, watchers, Role::Consumes)?;
+    let second = next_job(handles, watchers, Role::Consumes)?;
     Some(Crew {
         odd,
         even,
@@ -85,20 +71,18 @@ pub fn crew_of(commons: Commons<'_>, seats: Vec<RingSeat>, env_seats: Vec<EnvSea
 }
 
 /// Does a thread's work, and answers the sum of what it has taken.
-pub fn work<R: Wait>(rt: &R, commons: Commons<'_>, job: Job) -> u64
-    requires { IsSeated commons.monitor.now commons.env.now job }
-{
+pub fn work<R: Wait>(rt: &R, commons: Commons, job: Job<'_, '_>) -> u64 {
     let Job {
-        seat,
-        mut env_seat,
+        ring,
+        mut watcher,
         role,
     } = job;
-    get_to_know(rt, commons, &mut env_seat);
+    get_to_know(rt, commons, &mut watcher);
     match role {
         Role::Produces(first) => {
-            produce(rt, commons, seat, &mut env_seat, first);
+            produce(rt, commons, ring, &mut watcher, first);
             0
         }
-        Role::Consumes => consume(rt, commons, seat, &mut env_seat),
+        Role::Consumes => consume(rt, commons, ring, &mut watcher),
     }
 }

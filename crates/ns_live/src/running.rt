@@ -1,33 +1,30 @@
 //! The whole: what the threads share is made, they are started and joined, and their sums added.
 
-ghost use Rattle.std.specs.Prelude.{◌≡◌, All, IfSome};
+ghost use Rattle.std.specs.Prelude.{IfSome};
 ghost use Rattle.std.specs.Thread.{IsSync};
 ghost use Rattle.ns_model.specs.Environments.{IsMade};
-ghost use Rattle.ns_live.specs.Crews.{AreSeated, IsSeated};
 
 use crate::commons::Commons;
 use crate::crew::{Crew, Job, crew_of, work};
 use crate::fault::LiveFault;
-use crate::ring::RingMonitor;
+use ns_fixtures::RingMonitor;
 use ns_note::env::Env;
 use ns_note::note::Note;
-use ns_note::seat::EnvSeat;
+use ns_note::watcher::{Watcher, Watchers};
 use std::alloc::Global;
 use std::sync::Wait;
 use std::thread;
 use std::thread::{JoinHandle, Scope, Threads};
 
-/// The caller's own seat, and a note that it has made.
-fn new_note(env: &Env, env_seats: &mut Vec<EnvSeat>) -> Option<(EnvSeat, Note)>
-    requires { All (λ seat. seat.env ≡ env.now) env_seats.old.items }
-    ensures rest { All (λ seat. seat.env ≡ env.now) env_seats.new.items }
-    ensures made { IfSome result (λ r. (r.0.env ≡ env.now) × IsMade r.0.seen r.1.index) }
+/// The caller's own watcher, and a note that it has made.
+fn new_note<'e>(watchers: &mut Watchers<'e>) -> Option<(Watcher<'e>, Note)>
+    ensures { IfSome result (λ r. IsMade r.0.seen r.1.index) }
 {
-    let mut env_seat = env_seats.pop()?;
-    let Ok(note) = env.note_new(&mut env_seat, None, None) else {
+    let mut watcher = watchers.next()?;
+    let Ok(note) = watcher.note_new(None, None) else {
         return None;
     };
-    Some((env_seat, note))
+    Some((watcher, note))
 }
 
 /// Waits for a thread's end, if it was started, and answers its sum.
@@ -39,14 +36,14 @@ fn joined<R: Threads>(rt: &R, started: Option<JoinHandle<u64>>) -> Option<u64> {
 fn started<'s, E, R: Wait + Sync>(
     scope: &Scope<'s, E>,
     rt: &'s R,
-    commons: Commons<'s>,
-    job: Job,
+    commons: Commons,
+    job: Job<'s, 's>,
 ) -> Option<JoinHandle<u64>>
-    requires { IsSync R.row × IsSeated commons.monitor.now commons.env.now job }
+    requires { IsSync R.row }
 {
     let handle = scope.spawn(
         move || -> u64
-            requires { IsSync R.row × IsSeated commons.monitor.now commons.env.now job }
+            requires { IsSync R.row }
         { work(rt, commons, job) },
     );
     handle.ok()
@@ -59,22 +56,18 @@ fn started<'s, E, R: Wait + Sync>(
 /// make one, it makes the calls of both one behind the other, and the first would wait for good.
 fn played<R: Threads + Wait + Sync>(
     rt: &R,
-    commons: Commons<'_>,
-    crew: Crew,
-    env_seat: EnvSeat,
+    commons: Commons,
+    crew: Crew<'_, '_>,
+    watcher: Watcher<'_>,
 ) -> Option<u64>
-    requires crew { AreSeated commons.monitor.now commons.env.now crew }
-    requires made { (env_seat.env ≡ commons.env.now) × IsMade env_seat.seen commons.note.index }
+    requires { IsMade watcher.seen commons.note.index }
 {
-    let mut env_seat = env_seat;
+    let mut watcher = watcher;
     thread::scope(
         thread::scope_env(),
         rt,
         move |scope| -> Option<u64>
-            requires sync { IsSync R.row }
-            requires producers { IsSeated commons.monitor.now commons.env.now crew.odd × IsSeated commons.monitor.now commons.env.now crew.even }
-            requires consumers { IsSeated commons.monitor.now commons.env.now crew.first × IsSeated commons.monitor.now commons.env.now crew.second }
-            requires made { (env_seat.env ≡ commons.env.now) × IsMade env_seat.seen commons.note.index }
+            requires { IsSync R.row × IsMade watcher.seen commons.note.index }
         {
             let Crew {
                 odd,
@@ -87,7 +80,7 @@ fn played<R: Threads + Wait + Sync>(
             let first = started(scope, rt, commons, first);
             let second = started(scope, rt, commons, second);
             if odd.is_none() || even.is_none() || first.is_none() || second.is_none() {
-                commons.env.notify(&mut env_seat, commons.note);
+                watcher.notify(commons.note);
             }
             let ended = (joined(rt, odd), joined(rt, even));
             match (ended, joined(rt, first), joined(rt, second)) {
@@ -107,21 +100,17 @@ pub fn live<R: Threads + Wait + Sync>(rt: &R, alloc: Global, items: u64) -> Resu
     let Ok((monitor, seats)) = RingMonitor::new(alloc, 4) else {
         return Err(LiveFault::OutOfMemory);
     };
-    let Ok((env, mut env_seats)) = Env::new(alloc, 5) else {
+    let Ok((env, env_seats)) = Env::new(alloc, 5) else {
         return Err(LiveFault::OutOfMemory);
     };
+    let mut handles = monitor.handles(seats);
+    let mut watchers = env.watchers(env_seats);
     // Never refused from here on: the environment is new, and there are as many seats as are asked for.
-    let Some((env_seat, note)) = new_note(&env, &mut env_seats) else {
+    let Some((watcher, note)) = new_note(&mut watchers) else {
         return Err(LiveFault::OutOfMemory);
     };
-    let commons = Commons {
-        monitor: &monitor,
-        env: &env,
-        note,
-        items,
-    };
-    let Some(crew) = crew_of(commons, seats, env_seats) else {
+    let Some(crew) = crew_of(&mut handles, &mut watchers) else {
         return Err(LiveFault::OutOfMemory);
     };
-    played(rt, commons, crew, env_seat).ok_or(LiveFault::NoThread)
+    played(rt, Commons { note, items }, crew, watcher).ok_or(LiveFault::NoThread)
 }

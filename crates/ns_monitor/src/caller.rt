@@ -44,8 +44,12 @@ pub trait Compact<const N: usize> {
 }
 
 /// No section is in hand.
+///
+/// It takes a byte, which nothing reads, and so does [`Reading`]. The compiler copies a caller of two bytes as one
+/// number of 16 bits, and a loop over handles then takes that apart and puts it together again for each section,
+/// by four instructions. It copies a caller of three bytes field by field.
 #[derive(Drop)]
-pub struct Free;
+pub struct Free(pub(crate) u8);
 
 impl<C, const N: usize> Hand<C, N> for Free {
     ghost fits = { λ me held. held ≡ None };
@@ -53,7 +57,7 @@ impl<C, const N: usize> Hand<C, N> for Free {
 
 /// A section in hand that reads.
 #[derive(Drop)]
-pub struct Reading;
+pub struct Reading(u8);
 
 impl<C, const N: usize> Hand<C, N> for Reading {
     ghost fits = { λ me held. HasMode Read held };
@@ -73,7 +77,7 @@ impl<C, const N: usize> Renewed<C, N> for Reading {
 
     #[inline(always)]
     fn begun() -> Self {
-        Reading
+        Reading(0)
     }
 }
 

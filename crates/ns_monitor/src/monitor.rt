@@ -46,7 +46,7 @@ pub(crate) fn seated<C: Condition<N>, const N: usize>(
     Caller {
         seat,
         number,
-        hand: Free,
+        hand: Free(0),
         alone,
     }
 }

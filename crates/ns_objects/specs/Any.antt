@@ -1,5 +1,5 @@
 -- What a wait for any of several notes and counters answers, by what the caller had seen of the objects and of the environment, and has seen then.
-use Rattle.std.specs.Prelude.{◌≡◌, ℕ, ◌<◌, Bool, true, false, List, Option}
+use Rattle.std.specs.Prelude.{ℕ, ◌<◌, Bool, List, Option}
 use Rattle.ns_objects.specs.Names.{AnswersByRounds, AnyItem, Counter, Cv, EnvKnown, IsLater, IsMade, IsReady, Item, Note, OnCounterItem, OnNote, OnVariable, Past, PlainItem, RoundShows, Setup}
 use Rattle.ns_objects.specs.Known.{ObjectsKnown}
 use Rattle.ns_objects.specs.declared.any.Item.TheVariants as TheItem

@@ -7,14 +7,13 @@ ghost use Rattle.ns_model.specs.Truths.{truths};
 
 use crate::any::AnyItem;
 use crate::objects::Objects;
-use crate::seat::ObjSeat;
-use crate::tests::{two_object_seats, two_watches};
+use crate::sharer::Sharer;
 use ns_model::condition::Condition;
-use ns_monitor::caller::{Seat, WriteHeld};
+use ns_monitor::handle::{Handle, Writing};
 use ns_monitor::monitor::Monitor;
 use ns_note::env::Env;
 use ns_note::note::Note;
-use ns_note::seat::EnvSeat;
+use ns_note::watcher::Watcher;
 use std::alloc::Global;
 use std::process::Abort;
 use std::sync::Wait;
@@ -62,80 +61,29 @@ enum Ender {
     Clock,
 }
 
-/// What a thread has to call with: a seat of the monitor, of the objects and of the environment.
+/// What a thread has to call with.
 #[derive(Drop)]
-struct Kit {
-    /// Of the monitor.
-    seat: Seat<Never, 1>,
-    /// Of the objects, which have one counter.
-    objects: ObjSeat,
-    /// Of the environment.
-    watch: EnvSeat,
-}
-
-/// What two threads call.
-#[derive(Drop)]
-struct Commons {
-    /// A monitor of one cell.
-    monitor: Monitor<Never, 1>,
-    /// Objects with one counter.
-    objects: Objects,
-    /// An environment.
-    env: Env,
-}
-
-/// A monitor and its two seats.
-fn two_seats<R: Abort>(rt: &R, alloc: Global) -> (Monitor<Never, 1>, Seat<Never, 1>, Seat<Never, 1>)
-    ensures { (result.1.monitor ≡ result.0) × (result.2.monitor ≡ result.0) }
-{
-    let (monitor, mut seats) = Monitor::<Never, 1>::new(alloc, 2)
-        .ok()
-        .expect(rt, "a monitor");
-    let second = seats.pop().expect(rt, "a seat");
-    let first = seats.pop().expect(rt, "a seat");
-    (monitor, first, second)
-}
-
-/// All these, and what each of two threads has.
-fn two<R: Abort>(rt: &R, alloc: Global) -> (Commons, Kit, Kit)
-    ensures first { (result.1.seat.monitor ≡ result.0.monitor) × (result.1.objects.objects ≡ result.0.objects) × (result.1.objects.setup.counters ≡ 1) × (result.1.watch.env ≡ result.0.env) }
-    ensures second { (result.2.seat.monitor ≡ result.0.monitor) × (result.2.objects.objects ≡ result.0.objects) × (result.2.objects.setup.counters ≡ 1) × (result.2.watch.env ≡ result.0.env) }
-{
-    let (monitor, my_seat, their_seat) = two_seats(rt, alloc);
-    let (objects, mine, theirs) = two_object_seats(rt, alloc, &[1]);
-    let (env, my_watch, their_watch) = two_watches(rt, alloc);
-    let first = Kit {
-        seat: my_seat,
-        objects: mine,
-        watch: my_watch,
-    };
-    let second = Kit {
-        seat: their_seat,
-        objects: theirs,
-        watch: their_watch,
-    };
-    let commons = Commons {
-        monitor,
-        objects,
-        env,
-    };
-    (commons, first, second)
+struct Kit<'a> {
+    /// A handle of a monitor of one cell.
+    handle: Handle<'a, Never, 1>,
+    /// A sharer of objects.
+    sharer: Sharer<'a>,
+    /// A watcher of an environment.
+    watch: Watcher<'a>,
 }
 
 /// Waits in the section in hand for variables 0 and 1, of which the second stands there twice, the note, where the
-/// seat knows it, and the counter, up to tick 5. Then tells in the cell that it is over.
+/// watcher knows it, and the counter, up to tick 5. Then tells in the cell that it is over.
 fn wait_and_tell<R: Wait>(
     rt: &R,
-    commons: &Commons,
-    held: WriteHeld<Never, 1>,
-    objects: &mut ObjSeat,
-    watch: &mut EnvSeat,
+    held: Writing<'_, Never, 1>,
+    sharer: &mut Sharer<'_>,
+    watch: &mut Watcher<'_>,
     note: Note,
 ) -> Option<usize>
-    requires of { (held.monitor ≡ commons.now.monitor) × (objects.old.objects ≡ commons.now.objects) × (watch.old.env ≡ commons.now.env) }
-    requires counter { objects.old.setup.counters ≡ 1 }
+    requires { sharer.old.setup.counters ≡ 1 }
 {
-    if !commons.env.knows(watch, note) {
+    if !watch.knows(note) {
         return None;
     }
     let items = [
@@ -145,81 +93,60 @@ fn wait_and_tell<R: Wait>(
         AnyItem::Counter(0),
         AnyItem::Cv(1),
     ];
-    let (mut held, place) = commons.objects.wait_any_held(
-        rt,
-        objects,
-        &commons.monitor,
-        held,
-        &items,
-        Some(5),
-        &commons.env,
-        watch,
-    );
-    commons.monitor.set(&mut held, 0, 1);
-    commons.monitor.unlock(rt, held);
+    let (mut held, place) = sharer.wait_any_held(rt, held, &items, Some(5), watch);
+    held.set(0, 1);
+    held.unlock(rt);
     Some(place)
 }
 
 /// Comes inside, behind a wait that has left its section; whether that has told that it is over.
-fn is_told<R: Wait>(
-    rt: &R,
-    monitor: &Monitor<Never, 1>,
-    seat: Seat<Never, 1>,
-) -> (Seat<Never, 1>, bool)
-    requires { seat.monitor ≡ monitor.now }
-    ensures { result.0.monitor ≡ monitor.now }
-{
-    let mut held = monitor.lock(rt, seat);
-    let told = monitor.get(&mut held, 0) == 1;
-    (monitor.unlock(rt, held), told)
+fn is_told<'a, R: Wait>(rt: &R, handle: Handle<'a, Never, 1>) -> (Handle<'a, Never, 1>, bool) {
+    let mut held = handle.lock(rt);
+    let told = held.get(0) == 1;
+    (held.unlock(rt), told)
 }
 
 /// Signals variable 1 until the wait tells that it is over, or often enough.
-fn signal_until_told<R: Wait>(rt: &R, monitor: &Monitor<Never, 1>, mut seat: Seat<Never, 1>)
-    requires { seat.monitor ≡ monitor.now }
-{
+fn signal_until_told<R: Wait>(rt: &R, mut handle: Handle<'_, Never, 1>) {
     for _ in 0..MANY_TRIES {
-        monitor.signal(rt, &mut seat, 1);
-        let (back, told) = is_told(rt, monitor, seat);
+        handle.signal(rt, 1);
+        let (back, told) = is_told(rt, handle);
         if told {
             return;
         }
-        seat = back;
+        handle = back;
         yield_now();
     }
 }
 
-/// Notifies the note, where the seat knows it.
-fn notify(env: &Env, watch: &mut EnvSeat, note: Note)
-    requires { watch.old.env ≡ env.now }
-{
-    if env.knows(watch, note) {
-        env.notify(watch, note);
+/// Notifies the note, where the watcher knows it.
+fn notify(watch: &mut Watcher<'_>, note: Note) {
+    if watch.knows(note) {
+        watch.notify(note);
     }
 }
 
 /// Comes inside, and then does what ends the wait: behind its signals the note is notified too, which ends a wait
 /// that no signal has. Whether that had told before that it is over.
-fn end_behind<R: Wait>(rt: &R, commons: &Commons, kit: Kit, note: Note, ender: Ender) -> bool
-    requires of { (kit.seat.monitor ≡ commons.now.monitor) × (kit.objects.objects ≡ commons.now.objects) × (kit.watch.env ≡ commons.now.env) }
-    requires counter { kit.objects.setup.counters ≡ 1 }
+fn end_behind<R: Wait>(rt: &R, kit: Kit<'_>, note: Note, ender: Ender) -> bool
+    requires { kit.sharer.setup.counters ≡ 1 }
 {
     let Kit {
-        seat,
-        mut objects,
+        handle,
+        mut sharer,
         mut watch,
     } = kit;
-    let (seat, told) = is_told(rt, &commons.monitor, seat);
+    let (handle, told) = is_told(rt, handle);
     match ender {
         Ender::Signal => {
-            signal_until_told(rt, &commons.monitor, seat);
-            notify(&commons.env, &mut watch, note);
+            signal_until_told(rt, handle);
+            notify(&mut watch, note);
         }
         Ender::Counter => {
-            let _ = commons.objects.counter_add(rt, &mut objects, 0, -1);
+            let _ = sharer.counter_add(rt, 0, -1);
         }
-        Ender::Note => notify(&commons.env, &mut watch, note),
-        Ender::Clock => commons.env.advance(&mut watch, 5),
+        Ender::Note => notify(&mut watch, note),
+        Ender::Clock => watch.advance(5),
     }
     told
 }
@@ -228,29 +155,27 @@ fn end_behind<R: Wait>(rt: &R, commons: &Commons, kit: Kit, note: Note, ender: E
 /// was answered, and whether the second found it told.
 fn wait_and_end<R: Threads + Wait + Sync>(
     rt: &R,
-    commons: &Commons,
-    first: Kit,
-    second: Kit,
+    first: Kit<'_>,
+    second: Kit<'_>,
     note: Note,
     ender: Ender,
 ) -> (Option<usize>, bool)
-    requires mine { (first.seat.monitor ≡ commons.now.monitor) × (first.objects.objects ≡ commons.now.objects) × (first.objects.setup.counters ≡ 1) × (first.watch.env ≡ commons.now.env) }
-    requires theirs { (second.seat.monitor ≡ commons.now.monitor) × (second.objects.objects ≡ commons.now.objects) × (second.objects.setup.counters ≡ 1) × (second.watch.env ≡ commons.now.env) }
+    requires { (first.sharer.setup.counters ≡ 1) × (second.sharer.setup.counters ≡ 1) }
 {
     let Kit {
-        seat,
-        mut objects,
+        handle,
+        mut sharer,
         mut watch,
     } = first;
-    let held = commons.monitor.lock(rt, seat);
+    let held = handle.lock(rt);
     join(
         rt,
         move || -> Option<usize>
-            requires { IsSync R.row × (held.monitor ≡ commons.now.monitor) × (objects.objects ≡ commons.now.objects) × (objects.setup.counters ≡ 1) × (watch.env ≡ commons.now.env) }
-        { wait_and_tell(rt, commons, held, &mut objects, &mut watch, note) },
+            requires { IsSync R.row × (sharer.setup.counters ≡ 1) }
+        { wait_and_tell(rt, held, &mut sharer, &mut watch, note) },
         move || -> bool
-            requires { IsSync R.row × (second.seat.monitor ≡ commons.now.monitor) × (second.objects.objects ≡ commons.now.objects) × (second.objects.setup.counters ≡ 1) × (second.watch.env ≡ commons.now.env) }
-        { end_behind(rt, commons, second, note, ender) },
+            requires { IsSync R.row × (second.sharer.setup.counters ≡ 1) }
+        { end_behind(rt, second, note, ender) },
     )
 }
 
@@ -260,10 +185,24 @@ fn ended_by<R: Abort + Threads + Wait + Sync>(
     alloc: Global,
     ender: Ender,
 ) -> (Option<usize>, bool) {
-    let (commons, mut first, second) = two(rt, alloc);
-    let made = commons.env.note_new(&mut first.watch, None, None);
-    let note = made.ok().expect(rt, "a note");
-    wait_and_end(rt, &commons, first, second, note, ender)
+    let (monitor, seats) = Monitor::new(alloc, 2).ok().expect(rt, "a monitor");
+    let (objects, places) = Objects::new(alloc, &[1], 0, 2).ok().expect(rt, "objects");
+    let (env, watches) = Env::new(alloc, 2).ok().expect(rt, "an environment");
+    let (mine, theirs) = monitor.handles(seats).pair().expect(rt, "two seats");
+    let (my_sharer, their_sharer) = objects.sharers(places).pair().expect(rt, "two seats");
+    let (mut my_watch, their_watch) = env.watchers(watches).pair().expect(rt, "two seats");
+    let note = my_watch.note_new(None, None).ok().expect(rt, "a note");
+    let first = Kit {
+        handle: mine,
+        sharer: my_sharer,
+        watch: my_watch,
+    };
+    let second = Kit {
+        handle: theirs,
+        sharer: their_sharer,
+        watch: their_watch,
+    };
+    wait_and_end(rt, first, second, note, ender)
 }
 
 /// A signal, a note, a counter and the deadline end it: the answer is the first place of the variable, that of the

@@ -5,21 +5,27 @@
 //! function run once: by the first that calls, while the others wait for its end.
 //!
 //! ```rust
-//! let (objects, mut seats) = Objects::new(rt.alloc(), &[2], 1, 2)?; // a seat for each thread
-//! let (Some(mut theirs), Some(mut mine)) = (seats.pop(), seats.pop()) else {
+//! let (objects, seats) = Objects::new(rt.alloc(), &[2], 1, 2)?; // a seat for each thread
+//! let mut sharers = objects.sharers(seats);
+//! let (Some(mut theirs), Some(mut mine)) = (sharers.next(), sharers.next()) else {
 //!     return Ok(());
 //! };
 //!
 //! // one thread has done its part of the work, and then the other has:
-//! let left = objects.counter_add(&rt, &mut theirs, 0, -1); // Ok(1)
-//! let left = objects.counter_add(&rt, &mut mine, 0, -1); // Ok(0)
+//! let left = theirs.counter_add(&rt, 0, -1); // Ok(1)
+//! let left = mine.counter_add(&rt, 0, -1); // Ok(0)
 //!
 //! // who waits for both goes on; from here on the counter doesn't rise any more
-//! let zero = objects.counter_wait(&rt, &mut mine, 0, None, &env, &mut watch);
+//! let zero = mine.counter_wait(&rt, 0, None, &mut watch);
 //!
 //! // whoever comes first makes it, and the others find it made
-//! let made = objects.run_once(&rt, &mut mine, 0, || 7); // Once::Ran(7)
+//! let made = mine.run_once(&rt, 0, || 7); // Once::Ran(7)
 //! ```
+//!
+//! A [`sharer::Sharer`] is a seat together with the objects that it is of. Its calls are those of
+//! [`objects::Objects`], by the same names and with the same promises; `watch` is a
+//! [`Watcher`](ns_note::watcher::Watcher), the same for an environment. That the seat is of these objects is an
+//! invariant of its type, so no clause and no loop of a program says it.
 //!
 //! The behaviour is that of nsync's headers `nsync_counter.h`, `nsync_once.h` and `nsync_waiter.h`.
 //! An [`objects::Objects`] is a table of 32 atomic words, one for each counter and each cell; only
@@ -45,6 +51,7 @@ pub mod objects;
 mod plays;
 pub mod running;
 pub mod seat;
+pub mod sharer;
 mod sleeping;
 #[cfg(test)]
 mod tests;

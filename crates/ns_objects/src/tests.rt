@@ -1,110 +1,68 @@
 //! What no clause says: that calls can succeed, and that threads see one another's steps.
 
-ghost use Rattle.std.specs.Prelude.{◌≡◌, ◌<◌, ◌≤◌, All, length};
+ghost use Rattle.std.specs.Prelude.{◌≡◌, ◌<◌, All};
 ghost use Rattle.std.specs.Thread.{IsSync};
 
 use crate::any::Item;
 use crate::objects::Objects;
 use crate::running::Once;
-use crate::seat::ObjSeat;
+use crate::sharer::Sharer;
 use ns_model::counter::CounterFault;
 use ns_note::env::Env;
 use ns_note::fault::Fault;
 use ns_note::note::Note;
-use ns_note::seat::EnvSeat;
+use ns_note::watcher::Watcher;
 use std::alloc::Global;
 use std::process::Abort;
 use std::sync::Wait;
 use std::thread::{Threads, join, sleep};
 use std::time::{Clock, Duration};
 
-/// Objects with counters of these values and a once cell, and two seats of them.
-pub fn two_object_seats<R: Abort>(
-    rt: &R,
-    alloc: Global,
-    values: &[u32],
-) -> (Objects, ObjSeat, ObjSeat)
-    requires { length values.now ≤ 16 }
-    ensures objects { (result.1.objects ≡ result.0) × (result.2.objects ≡ result.0) }
-    ensures counters { (result.1.setup.counters ≡ length values.now) × (result.2.setup.counters ≡ length values.now) }
-    ensures cells { (result.1.setup.cells ≡ 1) × (result.2.setup.cells ≡ 1) }
-{
-    let (objects, mut seats) = Objects::new(alloc, values, 1, 2).ok().expect(rt, "objects");
-    let second = seats.pop().expect(rt, "a seat");
-    let first = seats.pop().expect(rt, "a seat");
-    (objects, first, second)
-}
-
-/// An environment and its two seats.
-pub fn two_watches<R: Abort>(rt: &R, alloc: Global) -> (Env, EnvSeat, EnvSeat)
-    ensures { (result.1.env ≡ result.0) × (result.2.env ≡ result.0) }
-{
-    let (env, mut seats) = Env::new(alloc, 2).ok().expect(rt, "an environment");
-    let second = seats.pop().expect(rt, "a seat");
-    let first = seats.pop().expect(rt, "a seat");
-    (env, first, second)
-}
-
 /// What the changes of a counter came to, and what was read of the counters beside them.
 type Answers = ([Result<u32, CounterFault>; 5], [u32; 3]);
 
 /// Changes of counter 0 and their refusals, each of which leaves the value; then a wait for it, behind which
 /// it doesn't rise any more, and one for counter 1 that ends by its deadline.
-fn change_and_wait<R: Wait>(
-    rt: &R,
-    objects: &Objects,
-    seat: &mut ObjSeat,
-    env: &Env,
-    watch: &mut EnvSeat,
-) -> Answers
-    requires objects { (seat.old.objects ≡ objects.now) × (seat.old.setup.counters ≡ 2) }
-    requires env { watch.old.env ≡ env.now }
-    ensures seat { (seat.new.objects ≡ objects.now) × (seat.new.setup ≡ seat.old.setup) }
-    ensures watch { watch.new.env ≡ watch.old.env }
+fn change_and_wait<R: Wait>(rt: &R, sharer: &mut Sharer<'_>, watch: &mut Watcher<'_>) -> Answers
+    requires { sharer.old.setup.counters ≡ 2 }
+    ensures { sharer.new.setup ≡ sharer.old.setup }
 {
-    let added = objects.counter_add(rt, seat, 0, 2);
-    let under = objects.counter_add(rt, seat, 0, -3);
-    let value = objects.counter_value(seat, 0);
-    let over = objects.counter_add(rt, seat, 0, 4_294_967_295);
-    let zero = objects.counter_add(rt, seat, 0, -2);
-    let waited = objects.counter_wait(rt, seat, 0, None, env, watch);
-    let after = objects.counter_add(rt, seat, 0, 1);
-    let other = objects.counter_wait(rt, seat, 1, Some(0), env, watch);
+    let added = sharer.counter_add(rt, 0, 2);
+    let under = sharer.counter_add(rt, 0, -3);
+    let value = sharer.counter_value(0);
+    let over = sharer.counter_add(rt, 0, 4_294_967_295);
+    let zero = sharer.counter_add(rt, 0, -2);
+    let waited = sharer.counter_wait(rt, 0, None, watch);
+    let after = sharer.counter_add(rt, 0, 1);
+    let other = sharer.counter_wait(rt, 1, Some(0), watch);
     ([added, under, over, zero, after], [value, waited, other])
 }
 
-/// What a wait for one of the two counters or the note answers, where the seat knows the note.
+/// What a wait for one of the two counters or the note answers, where the watcher knows the note.
 fn wait<R: Wait>(
     rt: &R,
-    objects: &Objects,
-    seat: &mut ObjSeat,
+    sharer: &mut Sharer<'_>,
     counter: u8,
     note: Note,
     deadline: Option<u64>,
-    env: &Env,
-    watch: &mut EnvSeat,
+    watch: &mut Watcher<'_>,
 ) -> Option<usize>
-    requires objects { (seat.old.objects ≡ objects.now) × (seat.old.setup.counters ≡ 2) }
+    requires counters { sharer.old.setup.counters ≡ 2 }
     requires counter { counter < 2 }
-    requires env { watch.old.env ≡ env.now }
-    ensures seat { (seat.new.objects ≡ objects.now) × (seat.new.setup ≡ seat.old.setup) }
-    ensures watch { watch.new.env ≡ watch.old.env }
+    ensures { sharer.new.setup ≡ sharer.old.setup }
 {
-    if !env.knows(watch, note) {
+    if !watch.knows(note) {
         return None;
     }
     let items = [Item::Counter(counter), Item::Note(note)];
-    Some(objects.wait_any(rt, seat, &items, deadline, env, watch))
+    Some(sharer.wait_any(rt, &items, deadline, watch))
 }
 
 /// Two new notes, of which the first is notified.
-fn two_notes(env: &Env, watch: &mut EnvSeat) -> Option<[Note; 2]>
-    requires { watch.old.env ≡ env.now }
-    ensures { watch.new.env ≡ watch.old.env }
-{
-    let ready = env.note_new(watch, None, None).ok()?;
-    env.notify(watch, ready);
-    let other = env.note_new(watch, None, None).ok()?;
+fn two_notes(watch: &mut Watcher<'_>) -> Option<[Note; 2]> {
+    let ready = watch.note_new(None, None).ok()?;
+    watch.notify(ready);
+    let other = watch.note_new(None, None).ok()?;
     Some([ready, other])
 }
 
@@ -112,24 +70,21 @@ fn two_notes(env: &Env, watch: &mut EnvSeat) -> Option<[Note; 2]>
 /// that isn't, with a deadline that has come.
 fn work_in_a_thread<R: Threads + Wait + Sync>(
     rt: &R,
-    objects: &Objects,
-    env: &Env,
-    mut seat: ObjSeat,
-    mut watch: EnvSeat,
+    mut sharer: Sharer<'_>,
+    mut watch: Watcher<'_>,
     notes: [Note; 2],
 ) -> (Answers, [Option<usize>; 2])
-    requires objects { (seat.objects ≡ objects.now) × (seat.setup.counters ≡ 2) }
-    requires env { watch.env ≡ env.now }
+    requires { sharer.setup.counters ≡ 2 }
 {
     let (came, ()) = join(
         rt,
         move || -> (Answers, [Option<usize>; 2])
-            requires { IsSync R.row × (seat.objects ≡ objects.now) × (seat.setup.counters ≡ 2) × (watch.env ≡ env.now) }
+            requires { IsSync R.row × (sharer.setup.counters ≡ 2) }
         {
-            let came = change_and_wait(rt, objects, &mut seat, env, &mut watch);
+            let came = change_and_wait(rt, &mut sharer, &mut watch);
             let [ready, other] = notes;
-            let first = wait(rt, objects, &mut seat, 1, ready, None, env, &mut watch);
-            let none = wait(rt, objects, &mut seat, 1, other, Some(0), env, &mut watch);
+            let first = wait(rt, &mut sharer, 1, ready, None, &mut watch);
+            let none = wait(rt, &mut sharer, 1, other, Some(0), &mut watch);
             (came, [first, none])
         },
         || (),
@@ -138,14 +93,16 @@ fn work_in_a_thread<R: Threads + Wait + Sync>(
 }
 
 /// All that on objects and an environment of its own.
-fn work_on_new_objects<R: Abort + Threads + Wait + Sync>(
+fn work_on_new_objects<R: Threads + Wait + Sync>(
     rt: &R,
     alloc: Global,
 ) -> Option<(Answers, [Option<usize>; 2])> {
-    let (objects, seat, _) = two_object_seats(rt, alloc, &[0, 3]);
-    let (env, mut watch, _) = two_watches(rt, alloc);
-    let notes = two_notes(&env, &mut watch)?;
-    Some(work_in_a_thread(rt, &objects, &env, seat, watch, notes))
+    let (objects, seats) = Objects::new(alloc, &[0, 3], 0, 1).ok()?;
+    let (env, watches) = Env::new(alloc, 1).ok()?;
+    let sharer = objects.sharers(seats).next()?;
+    let mut watch = env.watchers(watches).next()?;
+    let notes = two_notes(&mut watch)?;
+    Some(work_in_a_thread(rt, sharer, watch, notes))
 }
 
 /// Each change and each wait is answered as it must be, also in a thread.
@@ -188,54 +145,69 @@ fn refused_memory(rt: HostRuntime) {
 /// call.
 fn look_inside<R: Wait>(
     rt: &R,
-    objects: &Objects,
-    first: ObjSeat,
-    second: ObjSeat,
+    mut first: Sharer<'_>,
+    mut second: Sharer<'_>,
 ) -> (Once<bool>, Once<bool>)
-    requires objects { (first.objects ≡ objects.now) × (second.objects ≡ objects.now) }
-    requires once { (0 < first.setup.cells) × (0 < second.setup.cells) }
+    requires { (0 < first.setup.cells) × (0 < second.setup.cells) }
 {
-    let (mut first, mut second) = objects.meet(first, second);
-    let came = objects.run_once(rt, &mut first, 0, move || objects.once_done(&mut second, 0));
-    (came, objects.run_once(rt, &mut first, 0, || true))
+    let came = first.run_once(rt, 0, move || second.once_done(0));
+    (came, first.run_once(rt, 0, || true))
 }
 
 /// A cell isn't done before its function has ended, and then no other runs.
 #[test]
 fn done_behind_the_function(rt: HostRuntime) {
-    let (objects, first, second) = two_object_seats(&rt, rt.alloc(), &[]);
-    let came = look_inside(&rt, &objects, first, second);
+    let (objects, seats) = Objects::new(rt.alloc(), &[], 1, 2)
+        .ok()
+        .expect(&rt, "objects");
+    let (first, second) = objects.sharers(seats).pair().expect(&rt, "two seats");
+    let (first, second) = first.meet(second);
+    let came = look_inside(&rt, first, second);
     assert_eq!(rt; came, (Once::Ran(false), Once::Already));
+}
+
+/// What one round over both counters finds.
+fn look(sharer: &mut Sharer<'_>, deadline: Option<u64>, watch: &mut Watcher<'_>) -> Option<usize>
+    requires { sharer.old.setup.counters ≡ 2 }
+    ensures { sharer.new.setup ≡ sharer.old.setup }
+{
+    sharer.seat.attest();
+    let items = [Item::Counter(0), Item::Counter(1)];
+    let Watcher { env, seat } = watch;
+    sharer
+        .objects
+        .look_at_any(&mut sharer.seat, &items, deadline, env, seat)
 }
 
 /// What a round finds a tick before the deadline, without one, and at it; and the value that a wait for the counter
 /// answers at its deadline.
 fn look_to_the_tick<R: Wait>(
     rt: &R,
-    objects: &Objects,
-    seat: &mut ObjSeat,
-    env: &Env,
-    watch: &mut EnvSeat,
+    sharer: &mut Sharer<'_>,
+    watch: &mut Watcher<'_>,
 ) -> ([Option<usize>; 3], u32)
-    requires objects { (seat.old.objects ≡ objects.now) × (seat.old.setup.counters ≡ 2) }
-    requires env { watch.old.env ≡ env.now }
+    requires { sharer.old.setup.counters ≡ 2 }
 {
-    seat.attest();
-    env.advance(watch, 4);
-    let items = [Item::Counter(0), Item::Counter(1)];
-    let before = objects.look_at_any(seat, &items, Some(5), env, watch);
-    let never = objects.look_at_any(seat, &items, None, env, watch);
-    let there = objects.look_at_any(seat, &items, Some(4), env, watch);
-    let value = objects.counter_wait(rt, seat, 0, Some(4), env, watch);
-    ([before, never, there], value)
+    watch.advance(4);
+    let before = look(sharer, Some(5), watch);
+    let never = look(sharer, None, watch);
+    let there = look(sharer, Some(4), watch);
+    (
+        [before, never, there],
+        sharer.counter_wait(rt, 0, Some(4), watch),
+    )
 }
 
 /// A round finds nothing a tick before the deadline, and answers the number of items at it.
 #[test]
 fn deadlines_to_the_tick(rt: HostRuntime) {
-    let (objects, mut seat, _) = two_object_seats(&rt, rt.alloc(), &[1, 3]);
-    let (env, mut watch, _) = two_watches(&rt, rt.alloc());
-    let came = look_to_the_tick(&rt, &objects, &mut seat, &env, &mut watch);
+    let (objects, seats) = Objects::new(rt.alloc(), &[1, 3], 0, 1)
+        .ok()
+        .expect(&rt, "objects");
+    let (env, watches) = Env::new(rt.alloc(), 1).ok().expect(&rt, "an environment");
+    let mut sharer = objects.sharers(seats).next().expect(&rt, "a seat");
+    let mut watch = env.watchers(watches).next().expect(&rt, "a seat");
+    let came = look_to_the_tick(&rt, &mut sharer, &mut watch);
     assert_eq!(rt; came, ([None, None, Some(2)], 1));
 }
 
@@ -245,11 +217,10 @@ fn linger<R: Clock>(rt: &R) {
 }
 
 /// Has a function run that takes a while, and gives this.
-fn run_slowly<R: Wait + Clock>(rt: &R, objects: &Objects, seat: &mut ObjSeat, given: u8) -> Once<u8>
-    requires objects { seat.old.objects ≡ objects.now }
-    requires once { 0 < seat.old.setup.cells }
+fn run_slowly<R: Wait + Clock>(rt: &R, sharer: &mut Sharer<'_>, given: u8) -> Once<u8>
+    requires { 0 < sharer.old.setup.cells }
 {
-    objects.run_once(rt, seat, 0, move || {
+    sharer.run_once(rt, 0, move || {
         linger(rt);
         given
     })
@@ -258,29 +229,30 @@ fn run_slowly<R: Wait + Clock>(rt: &R, objects: &Objects, seat: &mut ObjSeat, gi
 /// Two threads would each have their function run, which takes a while; what came of both.
 fn run_two<R: Threads + Wait + Clock + Sync>(
     rt: &R,
-    objects: &Objects,
-    mut first: ObjSeat,
-    mut second: ObjSeat,
+    mut first: Sharer<'_>,
+    mut second: Sharer<'_>,
 ) -> (Once<u8>, Once<u8>)
-    requires objects { (first.objects ≡ objects.now) × (second.objects ≡ objects.now) }
-    requires once { (0 < first.setup.cells) × (0 < second.setup.cells) }
+    requires { (0 < first.setup.cells) × (0 < second.setup.cells) }
 {
     join(
         rt,
         move || -> Once<u8>
-            requires { IsSync R.row × (first.objects ≡ objects.now) × (0 < first.setup.cells) }
-        { run_slowly(rt, objects, &mut first, 1) },
+            requires { IsSync R.row × (0 < first.setup.cells) }
+        { run_slowly(rt, &mut first, 1) },
         move || -> Once<u8>
-            requires { IsSync R.row × (second.objects ≡ objects.now) × (0 < second.setup.cells) }
-        { run_slowly(rt, objects, &mut second, 2) },
+            requires { IsSync R.row × (0 < second.setup.cells) }
+        { run_slowly(rt, &mut second, 2) },
     )
 }
 
 /// Of two threads that call, just one has its function run, and the other sleeps until it has.
 #[test]
 fn once_two(rt: HostRuntime) {
-    let (objects, first, second) = two_object_seats(&rt, rt.alloc(), &[]);
-    let came = run_two(&rt, &objects, first, second);
+    let (objects, seats) = Objects::new(rt.alloc(), &[], 1, 2)
+        .ok()
+        .expect(&rt, "objects");
+    let (first, second) = objects.sharers(seats).pair().expect(&rt, "two seats");
+    let came = run_two(&rt, first, second);
     let just_one = matches!(
         came,
         (Once::Ran(1), Once::Already) | (Once::Already, Once::Ran(2))
@@ -292,27 +264,23 @@ fn once_two(rt: HostRuntime) {
 /// answered.
 fn count_down<R: Threads + Wait + Clock + Sync>(
     rt: &R,
-    objects: &Objects,
     deadline: Option<u64>,
-    env: &Env,
-    mut first: ObjSeat,
-    mut second: ObjSeat,
-    mut watch: EnvSeat,
+    mut first: Sharer<'_>,
+    mut second: Sharer<'_>,
+    mut watch: Watcher<'_>,
 ) -> (u32, Result<u32, CounterFault>)
-    requires objects { (first.objects ≡ objects.now) × (second.objects ≡ objects.now) }
-    requires counter { (0 < first.setup.counters) × (0 < second.setup.counters) }
-    requires env { watch.env ≡ env.now }
+    requires { (0 < first.setup.counters) × (0 < second.setup.counters) }
 {
     join(
         rt,
         move || -> u32
-            requires { IsSync R.row × (first.objects ≡ objects.now) × (0 < first.setup.counters) × (watch.env ≡ env.now) }
-        { objects.counter_wait(rt, &mut first, 0, deadline, env, &mut watch) },
+            requires { IsSync R.row × (0 < first.setup.counters) }
+        { first.counter_wait(rt, 0, deadline, &mut watch) },
         move || -> Result<u32, CounterFault>
-            requires { IsSync R.row × (second.objects ≡ objects.now) × (0 < second.setup.counters) }
+            requires { IsSync R.row × (0 < second.setup.counters) }
         {
             linger(rt);
-            objects.counter_add(rt, &mut second, 0, -2)
+            second.counter_add(rt, 0, -2)
         },
     )
 }
@@ -323,9 +291,11 @@ fn count_down_from_two<R: Abort + Threads + Wait + Clock + Sync>(
     alloc: Global,
     deadline: Option<u64>,
 ) -> (u32, Result<u32, CounterFault>) {
-    let (objects, first, second) = two_object_seats(rt, alloc, &[2]);
-    let (env, watch, _) = two_watches(rt, alloc);
-    count_down(rt, &objects, deadline, &env, first, second, watch)
+    let (objects, seats) = Objects::new(alloc, &[2], 0, 2).ok().expect(rt, "objects");
+    let (env, watches) = Env::new(alloc, 1).ok().expect(rt, "an environment");
+    let (first, second) = objects.sharers(seats).pair().expect(rt, "two seats");
+    let watch = env.watchers(watches).next().expect(rt, "a seat");
+    count_down(rt, deadline, first, second, watch)
 }
 
 /// A thread that waits for 0, with a deadline or without, is woken by what another counts down.
@@ -341,30 +311,26 @@ fn waits_for_zero(rt: HostRuntime) {
 /// was answered.
 fn count_one_down<R: Threads + Wait + Clock + Sync>(
     rt: &R,
-    objects: &Objects,
     counter: u8,
-    env: &Env,
-    mut first: ObjSeat,
-    mut second: ObjSeat,
-    mut watch: EnvSeat,
+    mut first: Sharer<'_>,
+    mut second: Sharer<'_>,
+    mut watch: Watcher<'_>,
 ) -> (usize, Result<u32, CounterFault>)
-    requires objects { (first.objects ≡ objects.now) × (second.objects ≡ objects.now) }
-    requires counters { (first.setup.counters ≡ 2) × (second.setup.counters ≡ 2) × (counter < 2) }
-    requires env { watch.env ≡ env.now }
+    requires { (first.setup.counters ≡ 2) × (second.setup.counters ≡ 2) × (counter < 2) }
 {
     join(
         rt,
         move || -> usize
-            requires { IsSync R.row × (first.objects ≡ objects.now) × (first.setup.counters ≡ 2) × (watch.env ≡ env.now) }
+            requires { IsSync R.row × (first.setup.counters ≡ 2) }
         {
             let items = [Item::Counter(0), Item::Counter(1)];
-            objects.wait_any(rt, &mut first, &items, None, env, &mut watch)
+            first.wait_any(rt, &items, None, &mut watch)
         },
         move || -> Result<u32, CounterFault>
-            requires { IsSync R.row × (second.objects ≡ objects.now) × (second.setup.counters ≡ 2) × (counter < 2) }
+            requires { IsSync R.row × (second.setup.counters ≡ 2) × (counter < 2) }
         {
             linger(rt);
-            objects.counter_add(rt, &mut second, counter, -1)
+            second.counter_add(rt, counter, -1)
         },
     )
 }
@@ -377,9 +343,13 @@ fn count_one_of_two_down<R: Abort + Threads + Wait + Clock + Sync>(
 ) -> (usize, Result<u32, CounterFault>)
     requires { counter < 2 }
 {
-    let (objects, first, second) = two_object_seats(rt, alloc, &[1, 1]);
-    let (env, watch, _) = two_watches(rt, alloc);
-    count_one_down(rt, &objects, counter, &env, first, second, watch)
+    let (objects, seats) = Objects::new(alloc, &[1, 1], 0, 2)
+        .ok()
+        .expect(rt, "objects");
+    let (env, watches) = Env::new(alloc, 1).ok().expect(rt, "an environment");
+    let (first, second) = objects.sharers(seats).pair().expect(rt, "two seats");
+    let watch = env.watchers(watches).next().expect(rt, "a seat");
+    count_one_down(rt, counter, first, second, watch)
 }
 
 /// A thread that waits for any sees what another counts down, at whichever counter it sleeps: the second, and
@@ -395,26 +365,21 @@ fn waits_for_either(rt: HostRuntime) {
 /// was answered, and the clock then.
 fn wait_for_the_clock<R: Threads + Wait + Clock + Sync>(
     rt: &R,
-    objects: &Objects,
-    env: &Env,
-    mut seat: ObjSeat,
-    mut first: EnvSeat,
-    mut second: EnvSeat,
-) -> (usize, u64)
-    requires objects { seat.objects ≡ objects.now }
-    requires env { (first.env ≡ env.now) × (second.env ≡ env.now) }
-{
+    mut sharer: Sharer<'_>,
+    mut first: Watcher<'_>,
+    mut second: Watcher<'_>,
+) -> (usize, u64) {
     join(
         rt,
         move || -> usize
-            requires { IsSync R.row × (seat.objects ≡ objects.now) × (first.env ≡ env.now) }
-        { objects.wait_any(rt, &mut seat, &[], Some(1), env, &mut first) },
+            requires { IsSync R.row }
+        { sharer.wait_any(rt, &[], Some(1), &mut first) },
         move || -> u64
-            requires { IsSync R.row × (second.env ≡ env.now) }
+            requires { IsSync R.row }
         {
             linger(rt);
-            env.advance(&mut second, 1);
-            env.now(&mut second)
+            second.advance(1);
+            second.now()
         },
     )
 }
@@ -422,10 +387,11 @@ fn wait_for_the_clock<R: Threads + Wait + Clock + Sync>(
 /// A thread that waits without a counter, and so sleeps at its bell, comes back when the clock is moved.
 #[test]
 fn waits_for_the_clock(rt: HostRuntime) {
-    let (objects, seat, _) = two_object_seats(&rt, rt.alloc(), &[]);
-    let (env, first, second) = two_watches(&rt, rt.alloc());
-    assert_eq!(rt;
-        wait_for_the_clock(&rt, &objects, &env, seat, first, second),
-        (0, 1)
-    );
+    let (objects, seats) = Objects::new(rt.alloc(), &[], 0, 1)
+        .ok()
+        .expect(&rt, "objects");
+    let (env, watches) = Env::new(rt.alloc(), 2).ok().expect(&rt, "an environment");
+    let sharer = objects.sharers(seats).next().expect(&rt, "a seat");
+    let (first, second) = env.watchers(watches).pair().expect(&rt, "two seats");
+    assert_eq!(rt; wait_for_the_clock(&rt, sharer, first, second), (0, 1));
 }

@@ -6,8 +6,7 @@ ghost use Rattle.std.specs.Thread.{IsSync};
 ghost use Rattle.ns_model.specs.Truths.{truths};
 
 use ns_model::condition::Condition;
-use ns_monitor::caller::{Seat, WriteHeld};
-use ns_monitor::monitor::Monitor;
+use ns_monitor::{Handle, Monitor, Seat, Writing};
 use std::alloc::{AllocError, Global};
 use std::process::Abort;
 use std::sync::Wait;
@@ -55,85 +54,59 @@ impl Condition<2> for Counted {
     ghost has_room = { Prim.search rules };
 }
 
+/// A thread's own lock.
+type Lock<'m> = Handle<'m, Counted, 2>;
+
 /// A word to count in, which is never freed.
 fn new_count(alloc: Global) -> Result<&'static AtomicU64, AllocError> {
     Ok(Box::leak(Box::new(alloc, AtomicU64::new(0))?))
 }
 
 /// Comes, which the second cell counts, waits until the first is at least 1, and leaves.
-fn wait_in_crowd<R: Wait>(
-    rt: &R,
-    monitor: &Monitor<Counted, 2>,
-    seat: Seat<Counted, 2>,
-    opened: Counted,
-) -> Seat<Counted, 2>
-    requires { seat.monitor ≡ monitor.now }
-    ensures { result.monitor ≡ monitor.now }
-{
-    let mut held = monitor.lock(rt, seat);
-    let there = monitor.get(&mut held, 1);
-    monitor.set(&mut held, 1, there.wrapping_add(1));
-    let mut held = monitor.wait(rt, held, opened);
-    let there = monitor.get(&mut held, 1);
-    monitor.set(&mut held, 1, there.wrapping_sub(1));
-    monitor.unlock(rt, held)
+fn wait_in_crowd<'m, R: Wait>(rt: &R, lock: Lock<'m>, opened: Counted) -> Lock<'m> {
+    let mut held = lock.lock(rt);
+    let there = held.get(1);
+    held.set(1, there.wrapping_add(1));
+    let mut held = held.wait(rt, opened);
+    let there = held.get(1);
+    held.set(1, there.wrapping_sub(1));
+    held.unlock(rt)
 }
 
 /// Locks once the whole crowd has come: then each of them has left its section, and waits.
-fn lock_behind_crowd<R: Wait>(
-    rt: &R,
-    monitor: &Monitor<Counted, 2>,
-    mut seat: Seat<Counted, 2>,
-) -> WriteHeld<Counted, 2>
-    requires { seat.monitor ≡ monitor.now }
-    ensures { result.monitor ≡ monitor.now }
-{
+fn lock_behind_crowd<'m, R: Wait>(rt: &R, mut lock: Lock<'m>) -> Writing<'m, Counted, 2> {
     for _ in rt.forever() {
-        let mut held = monitor.lock(rt, seat);
-        if monitor.get(&mut held, 1) == CROWD {
+        let mut held = lock.lock(rt);
+        if held.get(1) == CROWD {
             return held;
         }
-        seat = monitor.unlock(rt, held);
+        lock = held.unlock(rt);
     }
     unreachable!()
 }
 
 /// Ends a section in which nothing was changed, quietly.
-fn end_quietly<R: Wait>(
-    rt: &R,
-    monitor: &Monitor<Counted, 2>,
-    mut held: WriteHeld<Counted, 2>,
-) -> Seat<Counted, 2>
-    requires { held.monitor ≡ monitor.now }
-    ensures { result.monitor ≡ monitor.now }
-{
-    if monitor.is_quiet(&mut held) {
-        monitor.unlock_without_wakeup(rt, held)
+fn end_quietly<'m, R: Wait>(rt: &R, mut held: Writing<'m, Counted, 2>) -> Lock<'m> {
+    if held.is_quiet() {
+        held.unlock_without_wakeup(rt)
     } else {
-        monitor.unlock(rt, held)
+        held.unlock(rt)
     }
 }
 
 /// How many tests a release makes that may have made the condition true, and how many a quiet one behind
 /// it, which has to find nothing new.
-fn count_tests<R: Wait>(
-    rt: &R,
-    monitor: &Monitor<Counted, 2>,
-    seat: Seat<Counted, 2>,
-    tests: &'static AtomicU64,
-) -> (u64, u64)
-    requires { seat.monitor ≡ monitor.now }
-{
-    let held = lock_behind_crowd(rt, monitor, seat);
+fn count_tests<R: Wait>(rt: &R, lock: Lock<'_>, tests: &'static AtomicU64) -> (u64, u64) {
+    let held = lock_behind_crowd(rt, lock);
     let first = tests.load(SeqCst);
-    let seat = monitor.unlock(rt, held);
+    let lock = held.unlock(rt);
     let second = tests.load(SeqCst);
-    let held = monitor.lock(rt, seat);
-    let seat = end_quietly(rt, monitor, held);
+    let held = lock.lock(rt);
+    let lock = end_quietly(rt, held);
     let third = tests.load(SeqCst);
-    let mut held = monitor.lock(rt, seat);
-    monitor.set(&mut held, 0, 1);
-    monitor.unlock(rt, held);
+    let mut held = lock.lock(rt);
+    held.set(0, 1);
+    held.unlock(rt);
     (second.wrapping_sub(first), third.wrapping_sub(second))
 }
 
@@ -149,12 +122,12 @@ fn meet_crowd<R: Threads + Wait + Sync>(
     let back = map_vec(
         rt,
         seats,
-        &|seat: Seat<Counted, 2>| -> Seat<Counted, 2>
+        &|seat: Seat<Counted, 2>| -> Lock<'_>
             requires { seat.monitor ≡ monitor.now }
-        { wait_in_crowd(rt, monitor, seat, opened) },
+        { wait_in_crowd(rt, Handle::new(monitor, seat), opened) },
     );
     match back {
-        Ok(seats) => seats.len(),
+        Ok(locks) => locks.len(),
         Err(_) => 0,
     }
 }
@@ -164,10 +137,10 @@ fn crowd_and_count<R: Threads + Wait + Sync>(
     rt: &R,
     monitor: &Monitor<Counted, 2>,
     seats: Vec<Seat<Counted, 2>>,
-    seat: Seat<Counted, 2>,
+    lock: Lock<'_>,
     tests: &'static AtomicU64,
 ) -> (usize, u64, u64)
-    requires { All (λ seat. seat.monitor ≡ monitor.now) seats.items × (seat.monitor ≡ monitor.now) }
+    requires { All (λ seat. seat.monitor ≡ monitor.now) seats.items }
 {
     let (back, (once, never)) = join(
         rt,
@@ -175,32 +148,36 @@ fn crowd_and_count<R: Threads + Wait + Sync>(
             requires { IsSync R.row × All (λ seat. seat.monitor ≡ monitor.now) seats.items }
         { meet_crowd(rt, monitor, seats, Counted { least: 1, tests }) },
         move || -> (u64, u64)
-            requires { IsSync R.row × (seat.monitor ≡ monitor.now) }
-        { count_tests(rt, monitor, seat, tests) },
+            requires { IsSync R.row }
+        { count_tests(rt, lock, tests) },
     );
     (back, once, never)
 }
 
-/// The last seat that is left of a monitor's.
-fn take_seat<R: Abort>(
-    rt: &R,
-    monitor: &Monitor<Counted, 2>,
-    seats: &mut Vec<Seat<Counted, 2>>,
-) -> Seat<Counted, 2>
-    requires { All (λ seat. seat.monitor ≡ monitor.now) seats.old.items }
-    ensures taken { result.monitor ≡ monitor.now }
-    ensures left { All (λ seat. seat.monitor ≡ monitor.now) seats.new.items }
-{
-    seats.pop().expect(rt, "a seat")
-}
-
-/// A monitor and 62 seats.
+/// A monitor, and 62 seats.
 fn new_monitor<R: Abort>(rt: &R, alloc: Global) -> (Monitor<Counted, 2>, Vec<Seat<Counted, 2>>)
     ensures { All (λ seat. seat.monitor ≡ result.0) result.1.items }
 {
-    Monitor::<Counted, 2>::new(alloc, 62)
-        .ok()
-        .expect(rt, "a monitor")
+    Monitor::new(alloc, 62).ok().expect(rt, "a monitor")
+}
+
+/// The last seat that is left of a monitor's, as a handle.
+fn take_lock<'m, R: Abort>(
+    rt: &R,
+    monitor: &'m Monitor<Counted, 2>,
+    seats: &mut Vec<Seat<Counted, 2>>,
+) -> Lock<'m>
+    requires { All (λ seat. seat.monitor ≡ monitor.now) seats.old.items }
+    ensures { All (λ seat. seat.monitor ≡ monitor.now) seats.new.items }
+{
+    let seat = seats.pop().expect(rt, "a seat");
+    Handle::new(monitor, seat)
+}
+
+/// The cells, where the lock is free.
+fn row_at_end(lock: Lock<'_>) -> Option<[u64; 2]> {
+    let mut held = lock.try_lock().ok()?;
+    Some([held.get(0), held.get(1)])
 }
 
 /// How many of the crowd come back, how many tests each of the two releases makes, and the cells at the end.
@@ -210,12 +187,10 @@ fn count_past_crowd<R: Abort + Threads + Wait + Sync>(
 ) -> ((usize, u64, u64), Option<[u64; 2]>) {
     let tests = new_count(alloc).ok().expect(rt, "a word to count in");
     let (monitor, mut seats) = new_monitor(rt, alloc);
-    let last = take_seat(rt, &monitor, &mut seats);
-    let seat = take_seat(rt, &monitor, &mut seats);
-    let (back, once, never) = crowd_and_count(rt, &monitor, seats, seat, tests);
-    let closed = monitor.close(last);
-    let row = if closed.free { Some(closed.row) } else { None };
-    ((back, once, never), row)
+    let last = take_lock(rt, &monitor, &mut seats);
+    let lock = take_lock(rt, &monitor, &mut seats);
+    let counted = crowd_and_count(rt, &monitor, seats, lock, tests);
+    (counted, row_at_end(last))
 }
 
 /// Past sixty that wait for one false condition, a release tests it once, and a quiet one behind it
@@ -284,86 +259,53 @@ fn wanted_at(line: Line, place: u64) -> Counted {
 }
 
 /// Waits at its place to write.
-fn write_in_line<R: Wait>(
-    rt: &R,
-    monitor: &Monitor<Counted, 2>,
-    seat: Seat<Counted, 2>,
-    line: Line,
-    place: u64,
-) -> Seat<Counted, 2>
-    requires { seat.monitor ≡ monitor.now }
-    ensures { result.monitor ≡ monitor.now }
-{
-    let held = monitor.lock(rt, seat);
+fn write_in_line<'m, R: Wait>(rt: &R, lock: Lock<'m>, line: Line, place: u64) -> Lock<'m> {
+    let held = lock.lock(rt);
     line.come.store(place.wrapping_add(1), SeqCst);
-    let held = monitor.wait(rt, held, wanted_at(line, place));
-    monitor.unlock(rt, held)
+    let held = held.wait(rt, wanted_at(line, place));
+    held.unlock(rt)
 }
 
 /// Waits at its place to read. The one who is taken stays in its section until the tests are counted, since its
 /// own release makes some, too.
-fn read_in_line<R: Wait>(
-    rt: &R,
-    monitor: &Monitor<Counted, 2>,
-    seat: Seat<Counted, 2>,
-    line: Line,
-    place: u64,
-) -> Seat<Counted, 2>
-    requires { seat.monitor ≡ monitor.now }
-    ensures { result.monitor ≡ monitor.now }
-{
-    let held = monitor.rlock(rt, seat);
+fn read_in_line<'m, R: Wait>(rt: &R, lock: Lock<'m>, line: Line, place: u64) -> Lock<'m> {
+    let held = lock.rlock(rt);
     line.come.store(place.wrapping_add(1), SeqCst);
-    let held = monitor.wait(rt, held, wanted_at(line, place));
+    let held = held.wait(rt, wanted_at(line, place));
     if place == line.taken {
         line.come.store(BACK, SeqCst);
         await_count(rt, line.come, COUNTED);
     }
-    monitor.runlock(rt, held)
+    held.runlock(rt)
 }
 
 /// Takes the next place, and waits there. Neighbours never are in a section at once, since one of them writes:
 /// so each comes inside only once the one before stands in the list, and the places are those of the list.
-fn wait_in_line<R: Wait>(
-    rt: &R,
-    monitor: &Monitor<Counted, 2>,
-    seat: Seat<Counted, 2>,
-    line: Line,
-) -> Seat<Counted, 2>
-    requires { seat.monitor ≡ monitor.now }
-    ensures { result.monitor ≡ monitor.now }
-{
+fn wait_in_line<'m, R: Wait>(rt: &R, lock: Lock<'m>, line: Line) -> Lock<'m> {
     let place = line.placed.fetch_add(1, SeqCst);
     await_count(rt, line.come, place);
     if place % 2 == line.taken % 2 {
-        read_in_line(rt, monitor, seat, line, place)
+        read_in_line(rt, lock, line, place)
     } else {
-        write_in_line(rt, monitor, seat, line, place)
+        write_in_line(rt, lock, line, place)
     }
 }
 
 /// Once the whole line stands in the list, makes true what the one waits for who is to be taken, and then what
 /// all the others do. Answers how many tests the first release makes: all until that one is back, but for the
 /// one test by which it sees that it may go on.
-fn release_to_line<R: Wait>(
-    rt: &R,
-    monitor: &Monitor<Counted, 2>,
-    seat: Seat<Counted, 2>,
-    line: Line,
-) -> u64
-    requires { seat.monitor ≡ monitor.now }
-{
+fn release_to_line<R: Wait>(rt: &R, lock: Lock<'_>, line: Line) -> u64 {
     await_count(rt, line.come, CROWD);
-    let mut held = monitor.lock(rt, seat);
+    let mut held = lock.lock(rt);
     let before = line.tests.load(SeqCst);
-    monitor.set(&mut held, 0, 1);
-    let seat = monitor.unlock(rt, held);
+    held.set(0, 1);
+    let lock = held.unlock(rt);
     await_count(rt, line.come, BACK);
     let made = line.tests.load(SeqCst).wrapping_sub(before);
     line.come.store(COUNTED, SeqCst);
-    let mut held = monitor.lock(rt, seat);
-    monitor.set(&mut held, 0, EVERYBODY);
-    monitor.unlock(rt, held);
+    let mut held = lock.lock(rt);
+    held.set(0, EVERYBODY);
+    held.unlock(rt);
     made.wrapping_sub(1)
 }
 
@@ -379,12 +321,12 @@ fn meet_line<R: Threads + Wait + Sync>(
     let back = map_vec(
         rt,
         seats,
-        &|seat: Seat<Counted, 2>| -> Seat<Counted, 2>
+        &|seat: Seat<Counted, 2>| -> Lock<'_>
             requires { seat.monitor ≡ monitor.now }
-        { wait_in_line(rt, monitor, seat, line) },
+        { wait_in_line(rt, Handle::new(monitor, seat), line) },
     );
     match back {
-        Ok(seats) => seats.len(),
+        Ok(locks) => locks.len(),
         Err(_) => 0,
     }
 }
@@ -394,10 +336,10 @@ fn line_and_count<R: Threads + Wait + Sync>(
     rt: &R,
     monitor: &Monitor<Counted, 2>,
     seats: Vec<Seat<Counted, 2>>,
-    seat: Seat<Counted, 2>,
+    lock: Lock<'_>,
     line: Line,
 ) -> (usize, u64)
-    requires { All (λ seat. seat.monitor ≡ monitor.now) seats.items × (seat.monitor ≡ monitor.now) }
+    requires { All (λ seat. seat.monitor ≡ monitor.now) seats.items }
 {
     join(
         rt,
@@ -405,8 +347,8 @@ fn line_and_count<R: Threads + Wait + Sync>(
             requires { IsSync R.row × All (λ seat. seat.monitor ≡ monitor.now) seats.items }
         { meet_line(rt, monitor, seats, line) },
         move || -> u64
-            requires { IsSync R.row × (seat.monitor ≡ monitor.now) }
-        { release_to_line(rt, monitor, seat, line) },
+            requires { IsSync R.row }
+        { release_to_line(rt, lock, line) },
     )
 }
 
@@ -418,11 +360,9 @@ fn count_in_line<R: Abort + Threads + Wait + Sync>(
 ) -> (usize, u64) {
     let line = new_line(rt, alloc, taken);
     let (monitor, mut seats) = new_monitor(rt, alloc);
-    let last = take_seat(rt, &monitor, &mut seats);
-    let seat = take_seat(rt, &monitor, &mut seats);
-    let counted = line_and_count(rt, &monitor, seats, seat, line);
-    monitor.close(last);
-    counted
+    take_lock(rt, &monitor, &mut seats);
+    let lock = take_lock(rt, &monitor, &mut seats);
+    line_and_count(rt, &monitor, seats, lock, line)
 }
 
 /// Past sixty of whom each waits for something else, a release that takes a reader tests each once whose truth

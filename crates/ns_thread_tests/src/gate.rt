@@ -12,7 +12,7 @@ ghost use Rattle.ns_word.specs.Begins.{IsFirst};
 ghost use Rattle.ns_word.specs.Places.{PlaceFits};
 ghost use Rattle.ns_word.specs.Walks.{got_of, want_of};
 
-use crate::waits::AtLeast;
+use ns_fixtures::AtLeast;
 use ns_gate::fault::Fault;
 use ns_gate::gate::{Gate, GateSeat};
 use ns_gate::perform::Beside;

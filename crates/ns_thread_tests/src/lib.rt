@@ -17,6 +17,8 @@ mod crowd;
 #[cfg(test)]
 mod gate;
 #[cfg(test)]
+mod locks;
+#[cfg(test)]
 mod monitor;
 #[cfg(test)]
 mod note;

@@ -4,14 +4,12 @@
 ghost use Rattle.std.specs.Prelude.{◌≡◌, ◌<◌, IfSome};
 ghost use Rattle.std.specs.Thread.{IsSync};
 
-use crate::note::{is_notified, notify, two_env_seats};
-use crate::waits::{AtLeast, MANY_TRIES, count, row_at_end, two_seats};
-use ns_monitor::Fault;
-use ns_monitor::caller::Seat;
-use ns_monitor::monitor::Monitor;
-use ns_note::env::Env;
+use crate::locks::{Lock, MANY_TRIES, count, new_monitor, row_at_end, two_locks};
+use crate::note::{is_notified, new_env, notify, two_watchers};
+use ns_fixtures::AtLeast;
+use ns_monitor::{Fault, Monitor, Seat};
 use ns_note::note::Note;
-use ns_note::seat::EnvSeat;
+use ns_note::watcher::Watcher;
 use std::alloc::Global;
 use std::sync::Wait;
 use std::test::Fail;
@@ -21,42 +19,40 @@ use std::thread::{Threads, join, yield_now};
 const TRIES: u64 = 10_000;
 
 /// Tries to lock, and sets the second cell to 7.
-fn write_by_try<R: Wait>(
-    rt: &R,
-    monitor: &Monitor<AtLeast, 2>,
-    seat: Seat<AtLeast, 2>,
-) -> Option<Seat<AtLeast, 2>>
-    requires { seat.monitor ≡ monitor.now }
-    ensures { IfSome result (λ back. back.monitor ≡ monitor.now) }
+fn write_by_try<'m, R: Wait>(rt: &R, lock: Lock<'m>) -> Option<Lock<'m>>
+    ensures { IfSome result (λ back. back.monitor ≡ lock.entry.monitor) }
 {
-    match monitor.try_lock(seat) {
-        Ok(mut held) => {
-            monitor.set(&mut held, 1, 7);
-            Some(monitor.unlock(rt, held))
-        }
-        Err(_) => None,
-    }
+    let mut held = lock.try_lock().ok()?;
+    held.set(1, 7);
+    Some(held.unlock(rt))
 }
 
 /// Two try to read beside each other, between which the second tries to write in vain. They meet as they read,
 /// and behind that; what the first reads.
-fn read_by_tries<R: Wait>(
+fn read_by_tries<'m, R: Wait>(
     rt: &R,
-    monitor: &Monitor<AtLeast, 2>,
-    first: Seat<AtLeast, 2>,
-    second: Seat<AtLeast, 2>,
-) -> Option<((Seat<AtLeast, 2>, Seat<AtLeast, 2>), u64)>
-    requires { (first.monitor ≡ monitor.now) × (second.monitor ≡ monitor.now) }
-    ensures { IfSome result (λ r. (r.0.0.monitor ≡ monitor.now) × (r.0.1.monitor ≡ monitor.now)) }
+    first: Lock<'m>,
+    second: Lock<'m>,
+) -> Option<((Lock<'m>, Lock<'m>), u64)>
+    requires { first.monitor ≡ second.monitor }
 {
-    let held = monitor.try_rlock(first).ok()?;
-    let second = monitor.try_lock(second).err()?;
-    let other = monitor.try_rlock(second).ok()?;
-    let (mut held, other) = monitor.both_read(held, other);
-    let value = monitor.get(&mut held, 1);
-    let first = monitor.runlock(rt, held);
-    let second = monitor.runlock(rt, other);
-    Some((monitor.meet(first, second), value))
+    let held = first.try_rlock().ok()?;
+    let second = second.try_lock().err()?;
+    let other = second.try_rlock().ok()?;
+    let (mut held, other) = held.both_read(other);
+    let value = held.get(1);
+    let first = held.runlock(rt);
+    let second = other.runlock(rt);
+    Some((first.meet(second), value))
+}
+
+/// A writer's try, two readers' beside each other, and a writer's that finds the lock held.
+fn try_each<R: Wait>(rt: &R, first: Lock<'_>, second: Lock<'_>) -> Option<u64>
+    requires { first.monitor ≡ second.monitor }
+{
+    let first = write_by_try(rt, first)?;
+    let (_, value) = read_by_tries(rt, first, second)?;
+    Some(value)
 }
 
 /// Ends a monitor while the second has a section in hand. Tells whether the lock is free, and the cells.
@@ -74,78 +70,72 @@ fn close_while_held(
     Some((closed.free, row))
 }
 
-/// A writer's try, two readers' beside each other, and a writer's that finds the lock held. At last the monitor
-/// is closed while a section is in hand, and says so.
+/// Tries by handles.
 #[test]
 fn tries(rt: HostRuntime) {
-    let (monitor, first, second) = two_seats(&rt, rt.alloc());
-    let first = write_by_try(&rt, &monitor, first).expect(&rt, "busy");
-    let (seats, value) = read_by_tries(&rt, &monitor, first, second).expect(&rt, "busy beside");
-    let closed = close_while_held(monitor, seats.0, seats.1);
-    assert_eq!(rt; (value, closed), (7, Some((false, [3, 7]))));
+    let (monitor, seats) = new_monitor(&rt, rt.alloc(), 2);
+    let (first, second) = two_locks(&rt, &monitor, seats);
+    assert_eq!(rt; try_each(&rt, first, second), Some(7));
+}
+
+/// A monitor that is closed while a section is in hand says so.
+#[test]
+fn closed_while_held(rt: HostRuntime) {
+    let (monitor, mut seats) = new_monitor(&rt, rt.alloc(), 2);
+    let second = seats.pop().expect(&rt, "a seat");
+    let first = seats.pop().expect(&rt, "a seat");
+    let closed = close_while_held(monitor, first, second);
+    assert_eq!(rt; closed, Some((false, [3, 0])));
 }
 
 /// Tries to lock, and adds 1 to a cell where it succeeds; tells how often it did.
-fn add_many<R: Wait>(
-    rt: &R,
-    monitor: &Monitor<AtLeast, 2>,
-    mut seat: Seat<AtLeast, 2>,
-) -> (Seat<AtLeast, 2>, u64)
-    requires { seat.monitor ≡ monitor.now }
-    ensures { result.0.monitor ≡ seat.monitor }
-{
+fn add_many<'m, R: Wait>(rt: &R, mut lock: Lock<'m>) -> (Lock<'m>, u64) {
     let mut won = 0u64;
     for _ in 0..TRIES {
-        seat = match monitor.try_lock(seat) {
+        lock = match lock.try_lock() {
             Ok(mut held) => {
-                count(monitor, &mut held, 0);
+                count(&mut held, 0);
                 won = won.wrapping_add(1);
-                monitor.unlock(rt, held)
+                held.unlock(rt)
             }
             Err(back) => back,
         };
     }
-    (seat, won)
+    (lock, won)
 }
 
 /// Two threads add, each as often as its tries succeed; how often both did.
-fn add_twice<R: Threads + Wait + Sync>(
+fn add_twice<'m, R: Threads + Wait + Sync>(
     rt: &R,
-    monitor: &Monitor<AtLeast, 2>,
-    first: Seat<AtLeast, 2>,
-    second: Seat<AtLeast, 2>,
-) -> (Seat<AtLeast, 2>, u64)
-    requires { (first.monitor ≡ monitor.now) × (second.monitor ≡ monitor.now) }
-    ensures { result.0.monitor ≡ monitor.now }
-{
-    let ((seat, won), (_, other)) = join(
+    first: Lock<'m>,
+    second: Lock<'m>,
+) -> (Lock<'m>, u64) {
+    let ((lock, won), (_, other)) = join(
         rt,
-        move || -> (Seat<AtLeast, 2>, u64)
-            requires { IsSync R.row × (first.monitor ≡ monitor.now) }
-            ensures { result.0.monitor ≡ monitor.entry.now }
-        { add_many(rt, monitor, first) },
-        move || -> (Seat<AtLeast, 2>, u64)
-            requires { IsSync R.row × (second.monitor ≡ monitor.now) }
-        { add_many(rt, monitor, second) },
+        move || -> (Lock<'_>, u64)
+            requires { IsSync R.row }
+        { add_many(rt, first) },
+        move || -> (Lock<'_>, u64)
+            requires { IsSync R.row }
+        { add_many(rt, second) },
     );
-    (seat, won.wrapping_add(other))
+    (lock, won.wrapping_add(other))
 }
 
 /// No addition is lost, and the lock ends free.
 #[test]
 fn two_adders(rt: HostRuntime) {
-    let (monitor, first, second) = two_seats(&rt, rt.alloc());
-    let (seat, won) = add_twice(&rt, &monitor, first, second);
+    let (monitor, seats) = new_monitor(&rt, rt.alloc(), 2);
+    let (first, second) = two_locks(&rt, &monitor, seats);
+    let (lock, won) = add_twice(&rt, first, second);
     assert!(rt; won > 0);
-    assert_eq!(rt; row_at_end(monitor, seat), Some([won, 0]));
+    assert_eq!(rt; row_at_end(lock), Some([won, 0]));
 }
 
 /// Looks until the note is seen to be notified, and answers whether it was.
-fn looks_for(env: &Env, env_seat: &mut EnvSeat, note: Note) -> bool
-    requires { env_seat.old.env ≡ env.now }
-{
+fn looks_for(watcher: &mut Watcher<'_>, note: Note) -> bool {
     for _ in 0..MANY_TRIES {
-        if is_notified(env, env_seat, note) == Some(true) {
+        if is_notified(watcher, note) == Some(true) {
             return true;
         }
         yield_now();
@@ -156,57 +146,47 @@ fn looks_for(env: &Env, env_seat: &mut EnvSeat, note: Note) -> bool
 /// In a read section, notifies the one note and looks for the other. Answers whether it saw that.
 fn read_and_look<R: Wait>(
     rt: &R,
-    monitor: &Monitor<AtLeast, 2>,
-    seat: Seat<AtLeast, 2>,
-    env: &Env,
-    env_seat: &mut EnvSeat,
+    lock: Lock<'_>,
+    mut watcher: Watcher<'_>,
     mine: Note,
     other: Note,
-) -> bool
-    requires { (seat.monitor ≡ monitor.now) × (env_seat.old.env ≡ env.now) }
-{
-    let held = monitor.rlock(rt, seat);
-    let _ = notify(env, env_seat, mine);
-    let seen = looks_for(env, env_seat, other);
-    monitor.runlock(rt, held);
+) -> bool {
+    let held = lock.rlock(rt);
+    let _ = notify(&mut watcher, mine);
+    let seen = looks_for(&mut watcher, other);
+    held.runlock(rt);
     seen
 }
 
 /// Two threads look for each other's note, each in a read section.
 fn look_for_each_other<R: Threads + Wait + Sync>(
     rt: &R,
-    monitor: &Monitor<AtLeast, 2>,
-    first: Seat<AtLeast, 2>,
-    second: Seat<AtLeast, 2>,
-    env: &Env,
-    mut one: EnvSeat,
-    mut two: EnvSeat,
+    locks: (Lock<'_>, Lock<'_>),
+    watchers: (Watcher<'_>, Watcher<'_>),
     notes: (Note, Note),
-) -> (bool, bool)
-    requires monitor { (first.monitor ≡ monitor.now) × (second.monitor ≡ monitor.now) }
-    requires env { (one.env ≡ env.now) × (two.env ≡ env.now) }
-{
+) -> (bool, bool) {
+    let (first, second) = locks;
+    let (one, two) = watchers;
     join(
         rt,
         move || -> bool
-            requires { IsSync R.row × (first.monitor ≡ monitor.now) × (one.env ≡ env.now) }
-        { read_and_look(rt, monitor, first, env, &mut one, notes.0, notes.1) },
+            requires { IsSync R.row }
+        { read_and_look(rt, first, one, notes.0, notes.1) },
         move || -> bool
-            requires { IsSync R.row × (second.monitor ≡ monitor.now) × (two.env ≡ env.now) }
-        { read_and_look(rt, monitor, second, env, &mut two, notes.1, notes.0) },
+            requires { IsSync R.row }
+        { read_and_look(rt, second, two, notes.1, notes.0) },
     )
 }
 
 /// Two threads are in read sections at once: each sees there that the other is in its own.
 #[test]
 fn two_readers(rt: HostRuntime) -> Result<(), Fail> {
-    let (monitor, first, second) = two_seats(&rt, rt.alloc());
-    let (env, mut one, two) = two_env_seats(&rt, rt.alloc());
-    let notes = (
-        env.note_new(&mut one, None, None)?,
-        env.note_new(&mut one, None, None)?,
-    );
-    let seen = look_for_each_other(&rt, &monitor, first, second, &env, one, two, notes);
+    let (monitor, seats) = new_monitor(&rt, rt.alloc(), 2);
+    let locks = two_locks(&rt, &monitor, seats);
+    let (env, env_seats) = new_env(&rt, rt.alloc(), 2);
+    let (mut one, two) = two_watchers(&rt, &env, env_seats);
+    let notes = (one.note_new(None, None)?, one.note_new(None, None)?);
+    let seen = look_for_each_other(&rt, locks, (one, two), notes);
     assert_eq!(rt; seen, (true, true));
     Ok(())
 }
@@ -239,21 +219,21 @@ type Plain = AtLeast;
 /// The example at the head of the crate.
 #[test]
 fn head_example(rt: HostRuntime) -> Result<(), Fail> {
-    let (monitor, mut seats) = Monitor::<Plain, 2>::new(rt.alloc(), 2)?; // `Plain` is any `Condition<2>`
-    let Some(mut seat) = seats.pop() else {
-        return Ok(())
-    }; // a seat for each thread
+    let (monitor, seats) = Monitor::<Plain, 2>::new(rt.alloc(), 2)?; // `Plain` is any `Condition<2>`
+    let Some((mut lock, _other)) = monitor.handles(seats).pair() else {
+        return Ok(());
+    }; // a handle for each thread
 
-    let mut held = monitor.lock(&rt, seat); // waits while somebody else holds the lock
-    let value = monitor.get(&mut held, 0);
-    monitor.set(&mut held, 0, value.wrapping_add(1));
-    seat = monitor.unlock(&rt, held);
+    let mut held = lock.lock(&rt); // waits while somebody else holds the lock
+    let value = held.get(0);
+    held.set(0, value.wrapping_add(1));
+    lock = held.unlock(&rt);
 
-    seat = match monitor.try_rlock(seat) {
-        Ok(held) => monitor.runlock(&rt, held),
-        Err(seat) => seat, // somebody else writes or waits to, or has just changed the lock's word
+    lock = match lock.try_rlock() {
+        Ok(held) => held.runlock(&rt),
+        Err(lock) => lock, // somebody else writes or waits to, or has just changed the lock's word
     };
-    let closed = monitor.close(seat);
-    assert!(rt; closed.free);
+
+    assert_eq!(rt; row_at_end(lock), Some([1, 0]));
     Ok(())
 }

@@ -11,6 +11,7 @@ use ns_note::env::Env;
 use ns_note::fault::Fault;
 use ns_note::note::{Note, encode_note};
 use ns_note::seat::EnvSeat;
+use ns_note::watcher::Watcher;
 use std::alloc::Global;
 use std::process::Abort;
 use std::sync::Wait;
@@ -26,163 +27,120 @@ pub fn new_env<R: Abort>(rt: &R, alloc: Global, seats: usize) -> (Env, Vec<EnvSe
     Env::new(alloc, seats).ok().expect(rt, "an environment")
 }
 
-/// The last seat that is left of an environment's.
-pub fn take_env_seat<R: Abort>(rt: &R, env: &Env, seats: &mut Vec<EnvSeat>) -> EnvSeat
-    requires { All (λ seat. seat.env ≡ env.now) seats.old.items }
-    ensures taken { result.env ≡ env.now }
-    ensures left { All (λ seat. seat.env ≡ env.now) seats.new.items }
+/// The watcher of the only thread.
+fn one_watcher<'e, R: Abort>(rt: &R, env: &'e Env, seats: Vec<EnvSeat>) -> Watcher<'e>
+    requires { All (λ seat. seat.env ≡ env.now) seats.items }
 {
-    seats.pop().expect(rt, "a seat")
+    env.watchers(seats).next().expect(rt, "a seat")
 }
 
-/// An environment and one seat.
-fn one_env_seat<R: Abort>(rt: &R, alloc: Global) -> (Env, EnvSeat)
-    ensures { result.1.env ≡ result.0 }
+/// The watchers of two threads.
+pub fn two_watchers<'e, R: Abort>(
+    rt: &R,
+    env: &'e Env,
+    seats: Vec<EnvSeat>,
+) -> (Watcher<'e>, Watcher<'e>)
+    requires { All (λ seat. seat.env ≡ env.now) seats.items }
+    ensures { result.0.env ≡ result.1.env }
 {
-    let (env, mut seats) = new_env(rt, alloc, 1);
-    let seat = take_env_seat(rt, &env, &mut seats);
-    (env, seat)
+    let mut seats = seats;
+    let second = seats.pop().expect(rt, "a seat");
+    let first = seats.pop().expect(rt, "a seat");
+    (Watcher::new(env, first), Watcher::new(env, second))
 }
 
-/// An environment and its two seats.
-pub fn two_env_seats<R: Abort>(rt: &R, alloc: Global) -> (Env, EnvSeat, EnvSeat)
-    ensures { (result.1.env ≡ result.0) × (result.2.env ≡ result.0) }
-{
-    let (env, mut seats) = new_env(rt, alloc, 2);
-    let second = take_env_seat(rt, &env, &mut seats);
-    let first = take_env_seat(rt, &env, &mut seats);
-    (env, first, second)
-}
-
-/// An environment and its three seats.
-fn three_env_seats<R: Abort>(rt: &R, alloc: Global) -> (Env, EnvSeat, EnvSeat, EnvSeat)
-    ensures { (result.1.env ≡ result.0) × (result.2.env ≡ result.0) × (result.3.env ≡ result.0) }
-{
-    let (env, mut seats) = new_env(rt, alloc, 3);
-    let third = take_env_seat(rt, &env, &mut seats);
-    let second = take_env_seat(rt, &env, &mut seats);
-    let first = take_env_seat(rt, &env, &mut seats);
-    (env, first, second, third)
-}
-
-/// A new note, where the seat knows its parent and there is a number left.
-fn make(env: &Env, seat: &mut EnvSeat, parent: Option<Note>) -> Option<Note>
-    requires { seat.old.env ≡ env.now }
-    ensures { seat.new.env ≡ seat.old.env }
-{
+/// A new note, where the watcher knows its parent and there is a number left.
+fn make(watcher: &mut Watcher<'_>, parent: Option<Note>) -> Option<Note> {
     if let Some(parent) = parent {
-        if !env.knows(seat, parent) {
+        if !watcher.knows(parent) {
             return None;
         }
     }
-    env.note_new(seat, parent, None).ok()
+    watcher.note_new(parent, None).ok()
 }
 
-/// Whether the note is notified, where the seat knows it.
-pub fn is_notified(env: &Env, seat: &mut EnvSeat, note: Note) -> Option<bool>
-    requires { seat.old.env ≡ env.now }
-    ensures { seat.new.env ≡ seat.old.env }
-{
-    if env.knows(seat, note) {
-        Some(env.is_notified(seat, note))
+/// Whether the note is notified, where the watcher knows it.
+pub fn is_notified(watcher: &mut Watcher<'_>, note: Note) -> Option<bool> {
+    if watcher.knows(note) {
+        Some(watcher.is_notified(note))
     } else {
         None
     }
 }
 
-/// A look, where the seat knows the note.
-fn look(env: &Env, seat: &mut EnvSeat, note: Note) -> Option<Option<Answer>>
-    requires { seat.old.env ≡ env.now }
-    ensures { seat.new.env ≡ seat.old.env }
-{
-    if env.knows(seat, note) {
-        Some(env.look(seat, Some(note), None))
+/// A look, where the watcher knows the note.
+fn look(watcher: &mut Watcher<'_>, note: Note) -> Option<Option<Answer>> {
+    if watcher.knows(note) {
+        Some(watcher.look(Some(note), None))
     } else {
         None
     }
 }
 
-/// Notifies the note, where the seat knows it, and answers whether it does.
-pub fn notify(env: &Env, seat: &mut EnvSeat, note: Note) -> bool
-    requires { seat.old.env ≡ env.now }
-    ensures { seat.new.env ≡ seat.old.env }
-{
-    let known = env.knows(seat, note);
+/// Notifies the note, where the watcher knows it, and answers whether it does.
+pub fn notify(watcher: &mut Watcher<'_>, note: Note) -> bool {
+    let known = watcher.knows(note);
     if known {
-        env.notify(seat, note);
+        watcher.notify(note);
     }
     known
 }
 
-/// Waits for the note, where the seat knows it.
+/// Waits for the note, where the watcher knows it.
 fn wait<R: Wait>(
     rt: &R,
-    env: &Env,
-    seat: &mut EnvSeat,
+    watcher: &mut Watcher<'_>,
     note: Note,
     deadline: Option<u64>,
-) -> Option<bool>
-    requires { seat.old.env ≡ env.now }
-    ensures { seat.new.env ≡ seat.old.env }
-{
-    if env.knows(seat, note) {
-        Some(env.note_wait(rt, seat, note, deadline))
+) -> Option<bool> {
+    if watcher.knows(note) {
+        Some(watcher.note_wait(rt, note, deadline))
     } else {
         None
     }
 }
 
-/// A root and its grandchild, which the seat has made with one between them.
-pub fn lineage(env: &Env, seat: &mut EnvSeat) -> Option<(Note, Note)>
-    requires { seat.old.env ≡ env.now }
-    ensures { seat.new.env ≡ seat.old.env }
-{
-    let root = make(env, seat, None)?;
-    let child = make(env, seat, Some(root))?;
-    let grandchild = make(env, seat, Some(child))?;
+/// A root and its grandchild, which the watcher has made with one between them.
+pub fn lineage(watcher: &mut Watcher<'_>) -> Option<(Note, Note)> {
+    let root = make(watcher, None)?;
+    let child = make(watcher, Some(root))?;
+    let grandchild = make(watcher, Some(child))?;
     Some((root, grandchild))
 }
 
-/// What a seat is told of a note: whether it is notified, and what a look shows.
-fn told(env: &Env, seat: &mut EnvSeat, note: Note) -> (Option<bool>, Option<Option<Answer>>)
-    requires { seat.old.env ≡ env.now }
-    ensures { seat.new.env ≡ seat.old.env }
-{
-    let notified = is_notified(env, seat, note);
-    (notified, look(env, seat, note))
+/// What a watcher is told of a note: whether it is notified, and what a look shows.
+fn told(watcher: &mut Watcher<'_>, note: Note) -> (Option<bool>, Option<Option<Answer>>) {
+    let notified = is_notified(watcher, note);
+    (notified, look(watcher, note))
 }
 
-/// What a seat is told of a grandchild before its root is notified, and behind that.
-fn notify_root(env: &Env, seat: &mut EnvSeat) -> Option<[(Option<bool>, Option<Option<Answer>>); 2]>
-    requires { seat.old.env ≡ env.now }
-    ensures { seat.new.env ≡ seat.old.env }
-{
-    let (root, grandchild) = lineage(env, seat)?;
-    let before = told(env, seat, grandchild);
-    notify(env, seat, root);
-    Some([before, told(env, seat, grandchild)])
+/// What a watcher is told of a grandchild before its root is notified, and behind that.
+fn notify_root(watcher: &mut Watcher<'_>) -> Option<[(Option<bool>, Option<Option<Answer>>); 2]> {
+    let (root, grandchild) = lineage(watcher)?;
+    let before = told(watcher, grandchild);
+    notify(watcher, root);
+    Some([before, told(watcher, grandchild)])
 }
 
 /// A note, its child and its grandchild: who is below a notified note is notified.
 #[test]
 fn note_tree(rt: HostRuntime) {
-    let (env, mut seat) = one_env_seat(&rt, rt.alloc());
-    let came = notify_root(&env, &mut seat);
+    let (env, seats) = new_env(&rt, rt.alloc(), 1);
+    let mut watcher = one_watcher(&rt, &env, seats);
+    let came = notify_root(&mut watcher);
     let before = (Some(false), Some(None));
     let behind = (Some(true), Some(Some(Answer::Canceled)));
     assert_eq!(rt; came, Some([before, behind]));
 }
 
-/// A note with a deadline, where the seat knows its parent and then the note.
-fn make_timed(env: &Env, seat: &mut EnvSeat, parent: Option<Note>, deadline: u64) -> Option<Note>
-    requires env { seat.old.env ≡ env.now }
-    requires parent { IfSome parent (λ p. IsMade seat.old.seen p.index) }
+/// A note with a deadline, where the watcher knows its parent and then the note.
+fn make_timed(watcher: &mut Watcher<'_>, parent: Option<Note>, deadline: u64) -> Option<Note>
+    requires parent { IfSome parent (λ p. IsMade watcher.old.seen p.index) }
     requires deadline { deadline < 100 }
-    ensures env { seat.new.env ≡ seat.old.env }
-    ensures made { IfSome result (λ n. IsMade seat.new.seen n.index) }
+    ensures made { IfSome result (λ n. IsMade watcher.new.seen n.index) }
 {
-    let note = env.note_new(seat, parent, Some(deadline)).ok()?;
-    if env.knows(seat, note) {
+    let note = watcher.note_new(parent, Some(deadline)).ok()?;
+    if watcher.knows(note) {
         Some(note)
     } else {
         None
@@ -191,35 +149,31 @@ fn make_timed(env: &Env, seat: &mut EnvSeat, parent: Option<Note>, deadline: u64
 
 /// Makes a note with the deadline 5 below one with 3. When the first expires; whether it is notified at 2 and
 /// at 3; and the clock, behind a call that would turn it back.
-fn expire(env: &Env, seat: &mut EnvSeat) -> Option<(Option<u64>, [Option<bool>; 2], u64)>
-    requires { seat.old.env ≡ env.now }
-{
-    let root = make_timed(env, seat, None, 3)?;
-    let child = make_timed(env, seat, Some(root), 5)?;
-    let expiry = env.expiry(seat, child);
-    env.advance(seat, 2);
-    let before = is_notified(env, seat, child);
-    env.advance(seat, 3);
-    let behind = is_notified(env, seat, child);
-    env.advance(seat, 1);
-    Some((expiry, [before, behind], env.now(seat)))
+fn expire(watcher: &mut Watcher<'_>) -> Option<(Option<u64>, [Option<bool>; 2], u64)> {
+    let root = make_timed(watcher, None, 3)?;
+    let child = make_timed(watcher, Some(root), 5)?;
+    let expiry = watcher.expiry(child);
+    watcher.advance(2);
+    let before = is_notified(watcher, child);
+    watcher.advance(3);
+    let behind = is_notified(watcher, child);
+    watcher.advance(1);
+    Some((expiry, [before, behind], watcher.now()))
 }
 
 /// A deadline of 5 below one of 3: both have come at 3, and not at 2. The clock doesn't go back.
 #[test]
 fn note_tree_by_deadline(rt: HostRuntime) {
-    let (env, mut seat) = one_env_seat(&rt, rt.alloc());
-    let came = expire(&env, &mut seat);
+    let (env, seats) = new_env(&rt, rt.alloc(), 1);
+    let mut watcher = one_watcher(&rt, &env, seats);
+    let came = expire(&mut watcher);
     assert_eq!(rt; came, Some((Some(3), [Some(false), Some(true)], 3)));
 }
 
 /// Makes 64 notes, and answers whether they came in order.
-fn makes_all(env: &Env, seat: &mut EnvSeat) -> bool
-    requires { seat.old.env ≡ env.now }
-    ensures { seat.new.env ≡ seat.old.env }
-{
+fn makes_all(watcher: &mut Watcher<'_>) -> bool {
     for i in 0..64u8 {
-        match make(env, seat, None) {
+        match make(watcher, None) {
             Some(note) if note.index == i => {}
             _ => return false,
         }
@@ -227,32 +181,28 @@ fn makes_all(env: &Env, seat: &mut EnvSeat) -> bool
     true
 }
 
-/// Whether a note that the seat knows expires at no tick.
-fn is_endless(env: &Env, seat: &mut EnvSeat, note: Note) -> bool
-    requires { seat.old.env ≡ env.now }
-    ensures { seat.new.env ≡ seat.old.env }
-{
-    env.knows(seat, note) && env.expiry(seat, note).is_none()
+/// Whether a note that the watcher knows expires at no tick.
+fn is_endless(watcher: &mut Watcher<'_>, note: Note) -> bool {
+    watcher.knows(note) && watcher.expiry(note).is_none()
 }
 
 /// Whether 64 notes are made and no more, the last of which is then notified, and no other.
-fn fills(env: &Env, seat: &mut EnvSeat) -> bool
-    requires { seat.old.env ≡ env.now }
-{
-    let all = makes_all(env, seat);
-    let refused = make(env, seat, None).is_none();
-    let known = notify(env, seat, Note { index: 63 });
-    let last = is_notified(env, seat, Note { index: 63 });
-    let other = is_notified(env, seat, Note { index: 62 });
-    let endless = is_endless(env, seat, Note { index: 62 });
+fn fills(watcher: &mut Watcher<'_>) -> bool {
+    let all = makes_all(watcher);
+    let refused = make(watcher, None).is_none();
+    let known = notify(watcher, Note { index: 63 });
+    let last = is_notified(watcher, Note { index: 63 });
+    let other = is_notified(watcher, Note { index: 62 });
+    let endless = is_endless(watcher, Note { index: 62 });
     all && refused && known && last == Some(true) && other == Some(false) && endless
 }
 
 /// There are 64 notes and no more, and the last of them answers still.
 #[test]
 fn notes_full(rt: HostRuntime) {
-    let (env, mut seat) = one_env_seat(&rt, rt.alloc());
-    assert!(rt; fills(&env, &mut seat));
+    let (env, seats) = new_env(&rt, rt.alloc(), 1);
+    let mut watcher = one_watcher(&rt, &env, seats);
+    assert!(rt; fills(&mut watcher));
 }
 
 /// How many seats are made of so many, or why none is.
@@ -299,68 +249,59 @@ fn words(rt: HostRuntime) {
 /// One thread moves the clock and notifies the root, while the other waits for the grandchild.
 fn notify_and_wait<R: Threads + Wait + Sync>(
     rt: &R,
-    env: &Env,
-    mut first: EnvSeat,
-    mut second: EnvSeat,
+    mut first: Watcher<'_>,
+    mut second: Watcher<'_>,
     root: Note,
     grandchild: Note,
-) -> Option<bool>
-    requires { (first.env ≡ env.now) × (second.env ≡ env.now) }
-{
+) -> Option<bool> {
     let (_, answer) = join(
         rt,
-        move || -> bool
-            requires { first.env ≡ env.now }
-        {
-            env.advance(&mut first, 3);
-            notify(env, &mut first, root)
+        move || -> bool {
+            first.advance(3);
+            notify(&mut first, root)
         },
         move || -> Option<bool>
-            requires { IsSync R.row × (second.env ≡ env.now) }
-        { wait(rt, env, &mut second, grandchild, None) },
+            requires { IsSync R.row }
+        { wait(rt, &mut second, grandchild, None) },
     );
     answer
 }
 
 /// Makes a note, its child and its grandchild, of which one thread notifies the first while another waits for
-/// the last. What the other was answered, and what the third seat is told then: of the note, and the clock.
+/// the last. What the other was answered, and what the third watcher is told then: of the note, and the clock.
 fn wait_below<R: Threads + Wait + Sync>(
     rt: &R,
-    env: &Env,
-    first: EnvSeat,
-    second: EnvSeat,
-    third: &mut EnvSeat,
-) -> Option<(Option<bool>, Option<bool>, u64)>
-    requires { (first.env ≡ env.now) × (second.env ≡ env.now) × (third.old.env ≡ env.now) }
-{
+    first: Watcher<'_>,
+    second: Watcher<'_>,
+    third: &mut Watcher<'_>,
+) -> Option<(Option<bool>, Option<bool>, u64)> {
     let mut maker = first;
-    let (root, grandchild) = lineage(env, &mut maker)?;
-    let answer = notify_and_wait(rt, env, maker, second, root, grandchild);
-    let told = is_notified(env, third, grandchild);
-    Some((answer, told, env.now(third)))
+    let (root, grandchild) = lineage(&mut maker)?;
+    let answer = notify_and_wait(rt, maker, second, root, grandchild);
+    let told = is_notified(third, grandchild);
+    Some((answer, told, third.now()))
 }
 
-/// After the join a third seat, which has met nobody, sees all that was done.
+/// After the join a third watcher, which has met nobody, sees all that was done.
 #[test]
 fn note_threads(rt: HostRuntime) {
-    let (env, first, second, mut third) = three_env_seats(&rt, rt.alloc());
-    let came = wait_below(&rt, &env, first, second, &mut third);
+    let (env, seats) = new_env(&rt, rt.alloc(), 3);
+    let mut watchers = env.watchers(seats);
+    let mut third = watchers.next().expect(&rt, "a seat");
+    let (first, second) = watchers.pair().expect(&rt, "two seats");
+    let came = wait_below(&rt, first, second, &mut third);
     assert_eq!(rt; came, Some((Some(true), Some(true), 3)));
 }
 
 /// Whether the note is notified before so many milliseconds have passed.
 fn is_notified_within<R: Clock>(
     rt: &R,
-    env: &Env,
-    seat: &mut EnvSeat,
+    watcher: &mut Watcher<'_>,
     note: Note,
     millis: u32,
-) -> bool
-    requires { seat.old.env ≡ env.now }
-    ensures { seat.new.env ≡ seat.old.env }
-{
+) -> bool {
     for _ in 0..millis {
-        if is_notified(env, seat, note) == Some(true) {
+        if is_notified(watcher, note) == Some(true) {
             return true;
         }
         sleep(rt, Duration::from_millis(1));
@@ -373,85 +314,81 @@ fn is_notified_within<R: Clock>(
 /// is over in any case.
 fn wait_and_advance<R: Threads + Wait + Clock + Sync>(
     rt: &R,
-    env: &Env,
-    mut first: EnvSeat,
-    mut second: EnvSeat,
+    mut first: Watcher<'_>,
+    mut second: Watcher<'_>,
     root: Note,
     other: Note,
-) -> ((bool, bool), Option<bool>)
-    requires { (first.env ≡ env.now) × (second.env ≡ env.now) }
-{
+) -> ((bool, bool), Option<bool>) {
     join(
         rt,
         move || -> (bool, bool)
-            requires { IsSync R.row × (first.env ≡ env.now) }
+            requires { IsSync R.row }
         {
-            env.advance(&mut first, 9);
-            let early = is_notified_within(rt, env, &mut first, root, 50);
-            env.advance(&mut first, 10);
-            let in_time = is_notified_within(rt, env, &mut first, root, 10_000);
-            env.advance(&mut first, 11);
+            first.advance(9);
+            let early = is_notified_within(rt, &mut first, root, 50);
+            first.advance(10);
+            let in_time = is_notified_within(rt, &mut first, root, 10_000);
+            first.advance(11);
             (early, in_time)
         },
         move || -> Option<bool>
-            requires { IsSync R.row × (second.env ≡ env.now) }
+            requires { IsSync R.row }
         {
-            let answer = wait(rt, env, &mut second, other, Some(10));
-            let _ = notify(env, &mut second, root);
+            let answer = wait(rt, &mut second, other, Some(10));
+            let _ = notify(&mut second, root);
             answer
         },
     )
 }
 
 /// Two notes, neither below the other.
-fn two_roots(env: &Env, seat: &mut EnvSeat) -> Option<(Note, Note)>
-    requires { seat.old.env ≡ env.now }
-    ensures { seat.new.env ≡ seat.old.env }
-{
-    let one = make(env, seat, None)?;
-    let other = make(env, seat, None)?;
+fn two_roots(watcher: &mut Watcher<'_>) -> Option<(Note, Note)> {
+    let one = make(watcher, None)?;
+    let other = make(watcher, None)?;
     Some((one, other))
 }
 
 /// What `wait_and_advance` comes to with two new notes: whether the wait was back at each tick, and its answer.
 fn wait_for_one_of_two<R: Threads + Wait + Clock + Sync>(
     rt: &R,
-    env: &Env,
-    first: EnvSeat,
-    second: EnvSeat,
+    first: Watcher<'_>,
+    second: Watcher<'_>,
 ) -> Option<(bool, bool, Option<bool>)>
-    requires { (first.env ≡ env.now) × (second.env ≡ env.now) }
+    requires { first.env ≡ second.env }
 {
-    let (mut maker, second) = env.meet(first, second);
-    let (root, other) = two_roots(env, &mut maker)?;
-    let ((early, in_time), answer) = wait_and_advance(rt, env, maker, second, root, other);
+    let (mut maker, second) = first.meet(second);
+    let (root, other) = two_roots(&mut maker)?;
+    let ((early, in_time), answer) = wait_and_advance(rt, maker, second, root, other);
     Some((early, in_time, answer))
 }
 
 /// A wait goes on at the tick before its deadline, and ends at the tick itself.
 #[test]
 fn waits_to_the_tick(rt: HostRuntime) {
-    let (env, first, second) = two_env_seats(&rt, rt.alloc());
-    let came = wait_for_one_of_two(&rt, &env, first, second);
+    let (env, seats) = new_env(&rt, rt.alloc(), 2);
+    let (first, second) = two_watchers(&rt, &env, seats);
+    let came = wait_for_one_of_two(&rt, first, second);
     assert_eq!(rt; came, Some((false, true, Some(false))));
 }
 
 /// The example at the head of the crate.
 #[test]
 fn head_example(rt: HostRuntime) -> Result<(), Fail> {
-    let (env, mut seats) = Env::new(rt.alloc(), 2)?; // a seat for each thread
-    let (Some(mut theirs), Some(mut mine)) = (seats.pop(), seats.pop()) else {
+    let (env, seats) = Env::new(rt.alloc(), 2)?; // a seat for each thread
+    let mut watchers = env.watchers(seats);
+    let (Some(mut theirs), Some(mut mine)) = (watchers.next(), watchers.next()) else {
         return Ok(());
     };
 
     // the one that may call it off:
-    let stop = env.note_new(&mut mine, None, Some(1_000))?; // notified at 1,000 ticks, or
-    env.notify(&mut mine, stop); // before, by this call
+    let stop = mine.note_new(None, Some(1_000))?; // notified at 1,000 ticks, or
+    mine.notify(stop); // before, by this call
 
     // the other, which has been handed `stop`:
-    if env.knows(&mut theirs, stop) {
-        let notified = env.note_wait(&rt, &mut theirs, stop, None);
+    if theirs.knows(stop) {
+        let notified = theirs.note_wait(&rt, stop, None);
         assert!(rt; notified);
     }
+
     Ok(())
 }

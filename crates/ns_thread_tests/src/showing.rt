@@ -1,16 +1,15 @@
 //! What no clause says of how a monitor is shown: that those who wait in other threads are seen where
 //! they stand.
 
-ghost use Rattle.std.specs.Prelude.{◌≡◌, ◌<◌};
+ghost use Rattle.std.specs.Prelude.{◌<◌};
 ghost use Rattle.std.specs.Thread.{IsSync};
 
-use crate::variables::{Comer, come_and_wait, lock_at, one_and_one};
-use crate::waits::{AtLeast, MANY_TRIES, row_at_end, set, two_seats};
+use crate::locks::{Lock, MANY_TRIES, ReadHeld, new_monitor, row_at_end, set, two_locks};
+use crate::note::{new_env, two_watchers};
+use crate::variables::{Comer, come_and_wait, lock_at};
+use ns_fixtures::AtLeast;
 use ns_model::event::{Answer, Mode};
-use ns_monitor::caller::{ReadHeld, Seat};
-use ns_monitor::monitor::Monitor;
 use ns_monitor::showing::DebugState;
-use ns_note::env::Env;
 use ns_queue::waiter::Shown;
 use ns_word::word::Word;
 use std::alloc::Global;
@@ -55,16 +54,9 @@ fn word_with(state: &DebugState, lock: &[Shown], k: u8, variable: &[Shown]) -> O
 }
 
 /// Asks from a read section how the monitor stands, until somebody stands in the lock list.
-fn look_for_waiter<R: Abort + Wait>(
-    rt: &R,
-    monitor: &Monitor<AtLeast, 2>,
-    held: &mut ReadHeld<AtLeast, 2>,
-) -> DebugState
-    requires { held.old.monitor ≡ monitor.now }
-    ensures { held.new.monitor ≡ held.old.monitor }
-{
+fn look_for_waiter<R: Abort + Wait>(rt: &R, held: &mut ReadHeld<'_>) -> DebugState {
     for _ in 0..MANY_TRIES {
-        let state = monitor.debug_state_and_waiters(rt, held);
+        let state = held.debug_state_and_waiters(rt);
         if !state.lock.is_empty() {
             return state;
         }
@@ -75,41 +67,26 @@ fn look_for_waiter<R: Abort + Wait>(
 
 /// Looks from its read section for the writer who waits for the lock, and leaves. Answers the word that is shown
 /// with that one alone.
-fn look_and_leave<R: Abort + Wait>(
-    rt: &R,
-    monitor: &Monitor<AtLeast, 2>,
-    mut held: ReadHeld<AtLeast, 2>,
-) -> (Seat<AtLeast, 2>, Option<Word>)
-    requires { held.monitor ≡ monitor.now }
-    ensures { result.0.monitor ≡ monitor.now }
-{
-    let state = look_for_waiter(rt, monitor, &mut held);
-    (
-        monitor.runlock(rt, held),
-        word_with(&state, &[WRITER], 0, &[]),
-    )
+fn look_and_leave<'m, R: Abort + Wait>(rt: &R, mut held: ReadHeld<'m>) -> (Lock<'m>, Option<Word>) {
+    let state = look_for_waiter(rt, &mut held);
+    (held.runlock(rt), word_with(&state, &[WRITER], 0, &[]))
 }
 
 /// One thread looks from a read section, and the other locks to write.
-fn look_and_lock<R: Abort + Threads + Wait + Sync>(
+fn look_and_lock<'m, R: Abort + Threads + Wait + Sync>(
     rt: &R,
-    monitor: &Monitor<AtLeast, 2>,
-    first: Seat<AtLeast, 2>,
-    second: Seat<AtLeast, 2>,
-) -> (Seat<AtLeast, 2>, Option<Word>)
-    requires { (first.monitor ≡ monitor.now) × (second.monitor ≡ monitor.now) }
-    ensures { result.0.monitor ≡ monitor.now }
-{
-    let held = monitor.rlock(rt, first);
+    first: Lock<'m>,
+    second: Lock<'m>,
+) -> (Lock<'m>, Option<Word>) {
+    let held = first.rlock(rt);
     let (came, _) = join(
         rt,
-        move || -> (Seat<AtLeast, 2>, Option<Word>)
-            requires { IsSync R.row × (held.monitor ≡ monitor.now) }
-            ensures { result.0.monitor ≡ monitor.entry.now }
-        { look_and_leave(rt, monitor, held) },
-        move || -> Seat<AtLeast, 2>
-            requires { IsSync R.row × (second.monitor ≡ monitor.now) }
-        { set(rt, monitor, second, 1) },
+        move || -> (Lock<'_>, Option<Word>)
+            requires { IsSync R.row }
+        { look_and_leave(rt, held) },
+        move || -> Lock<'_>
+            requires { IsSync R.row }
+        { set(rt, second, 1) },
     );
     came
 }
@@ -119,64 +96,47 @@ fn writer_shown<R: Abort + Threads + Wait + Sync>(
     rt: &R,
     alloc: Global,
 ) -> (Option<Word>, Option<[u64; 2]>) {
-    let (monitor, first, second) = two_seats(rt, alloc);
-    let (seat, shown) = look_and_lock(rt, &monitor, first, second);
-    (shown, row_at_end(monitor, seat))
+    let (monitor, seats) = new_monitor(rt, alloc, 2);
+    let (first, second) = two_locks(rt, &monitor, seats);
+    let (lock, shown) = look_and_lock(rt, first, second);
+    (shown, row_at_end(lock))
 }
 
 /// Looks for one who waits in the lock list, looks at it once more with no section in hand, and then sets
 /// the first cell to 1. Answers the word that is shown with the reader alone.
-fn look_and_set<R: Abort + Wait>(
-    rt: &R,
-    monitor: &Monitor<AtLeast, 2>,
-    seat: Seat<AtLeast, 2>,
-) -> Option<Word>
-    requires { seat.monitor ≡ monitor.now }
-{
-    let mut held = monitor.rlock(rt, seat);
-    look_for_waiter(rt, monitor, &mut held);
-    let mut seat = monitor.runlock(rt, held);
-    let state = monitor.debug_state_and_waiters(rt, &mut seat);
-    set(rt, monitor, seat, 1);
+fn look_and_set<R: Abort + Wait>(rt: &R, lock: Lock<'_>) -> Option<Word> {
+    let mut held = lock.rlock(rt);
+    look_for_waiter(rt, &mut held);
+    let mut lock = held.runlock(rt);
+    let state = lock.debug_state_and_waiters(rt);
+    set(rt, lock, 1);
     word_with(&state, &[READER], 0, &[])
 }
 
 /// Waits for a condition in the read section in hand. Answers what the first cell is then.
-fn read_for_one<R: Wait>(
-    rt: &R,
-    monitor: &Monitor<AtLeast, 2>,
-    held: ReadHeld<AtLeast, 2>,
-) -> (Seat<AtLeast, 2>, u64)
-    requires { held.monitor ≡ monitor.now }
-    ensures { result.0.monitor ≡ monitor.now }
-{
-    let mut held = monitor.wait(rt, held, AtLeast { least: 1 });
-    let value = monitor.get(&mut held, 0);
-    (monitor.runlock(rt, held), value)
+fn read_for_one<'m, R: Wait>(rt: &R, held: ReadHeld<'m>) -> (Lock<'m>, u64) {
+    let mut held = held.wait(rt, AtLeast { least: 1 });
+    let value = held.get(0);
+    (held.runlock(rt), value)
 }
 
 /// One thread waits for a condition in a read section, and the other looks, and makes it true.
-fn wait_and_look<R: Abort + Threads + Wait + Sync>(
+fn wait_and_look<'m, R: Abort + Threads + Wait + Sync>(
     rt: &R,
-    monitor: &Monitor<AtLeast, 2>,
-    first: Seat<AtLeast, 2>,
-    second: Seat<AtLeast, 2>,
-) -> (Seat<AtLeast, 2>, u64, Option<Word>)
-    requires { (first.monitor ≡ monitor.now) × (second.monitor ≡ monitor.now) }
-    ensures { result.0.monitor ≡ monitor.now }
-{
-    let held = monitor.rlock(rt, first);
-    let ((seat, value), shown) = join(
+    first: Lock<'m>,
+    second: Lock<'m>,
+) -> (Lock<'m>, u64, Option<Word>) {
+    let held = first.rlock(rt);
+    let ((lock, value), shown) = join(
         rt,
-        move || -> (Seat<AtLeast, 2>, u64)
-            requires { IsSync R.row × (held.monitor ≡ monitor.now) }
-            ensures { result.0.monitor ≡ monitor.entry.now }
-        { read_for_one(rt, monitor, held) },
+        move || -> (Lock<'_>, u64)
+            requires { IsSync R.row }
+        { read_for_one(rt, held) },
         move || -> Option<Word>
-            requires { IsSync R.row × (second.monitor ≡ monitor.now) }
-        { look_and_set(rt, monitor, second) },
+            requires { IsSync R.row }
+        { look_and_set(rt, second) },
     );
-    (seat, value, shown)
+    (lock, value, shown)
 }
 
 /// Whether the word of a free lock says that somebody waits for a condition, and no writer for the lock.
@@ -191,13 +151,10 @@ fn conditional_reader_shown<R: Abort + Threads + Wait + Sync>(
     rt: &R,
     alloc: Global,
 ) -> (Option<bool>, u64, Option<[u64; 2]>) {
-    let (monitor, first, second) = two_seats(rt, alloc);
-    let (seat, value, shown) = wait_and_look(rt, &monitor, first, second);
-    (
-        shown.map(tells_of_condition),
-        value,
-        row_at_end(monitor, seat),
-    )
+    let (monitor, seats) = new_monitor(rt, alloc, 2);
+    let (first, second) = two_locks(rt, &monitor, seats);
+    let (lock, value, shown) = wait_and_look(rt, first, second);
+    (shown.map(tells_of_condition), value, row_at_end(lock))
 }
 
 /// A writer who waits for a reader to leave is shown to that reader; and on a new monitor a reader who waits for
@@ -218,50 +175,42 @@ fn debug(rt: HostRuntime) {
 
 /// Looks from one write section while somebody waits for the variable, and behind a signal of it. Then looks
 /// for the waiter to be back. Answers both words that are shown with that waiter alone, where it stands.
-fn look_and_signal<R: Abort + Wait>(
+fn look_and_signal<'m, R: Abort + Wait>(
     rt: &R,
-    monitor: &Monitor<AtLeast, 2>,
-    seat: Seat<AtLeast, 2>,
+    lock: Lock<'m>,
     k: u8,
-) -> (Seat<AtLeast, 2>, Option<Word>, Option<Word>)
-    requires { (seat.monitor ≡ monitor.now) × (k < 4) }
-    ensures { result.0.monitor ≡ monitor.now }
+) -> (Lock<'m>, Option<Word>, Option<Word>)
+    requires { k < 4 }
 {
-    let mut held = lock_at(rt, monitor, seat, 0, 1);
-    let before = monitor.debug_state_and_waiters(rt, &mut held);
-    monitor.signal(rt, &mut held, k);
-    let behind = monitor.debug_state_and_waiters(rt, &mut held);
-    let seat = monitor.unlock(rt, held);
-    let held = lock_at(rt, monitor, seat, 1, 1);
-    let seat = monitor.unlock(rt, held);
+    let mut held = lock_at(rt, lock, 0, 1);
+    let before = held.debug_state_and_waiters(rt);
+    held.signal(rt, k);
+    let behind = held.debug_state_and_waiters(rt);
+    let lock = held.unlock(rt);
+    let lock = lock_at(rt, lock, 1, 1).unlock(rt);
     let before = word_with(&before, &[], k, &[WAITER]);
-    (seat, before, word_with(&behind, &[WAITER], k, &[]))
+    (lock, before, word_with(&behind, &[WAITER], k, &[]))
 }
 
 /// One thread waits for the variable, and the other looks and signals.
-fn wait_and_be_shown<R: Abort + Threads + Wait + Sync>(
+fn wait_and_be_shown<'m, R: Abort + Threads + Wait + Sync>(
     rt: &R,
-    monitor: &Monitor<AtLeast, 2>,
-    env: &Env,
-    comer: Comer,
-    waker: Seat<AtLeast, 2>,
+    comer: Comer<'_>,
+    waker: Lock<'m>,
     k: u8,
-) -> (Seat<AtLeast, 2>, Answer, [Option<Word>; 2])
-    requires of { (comer.seat.monitor ≡ monitor.now) × (waker.monitor ≡ monitor.now) × (comer.env_seat.env ≡ env.now) }
-    requires variable { k < 4 }
-    ensures { result.0.monitor ≡ monitor.now }
+) -> (Lock<'m>, Answer, [Option<Word>; 2])
+    requires { k < 4 }
 {
-    let (answer, (seat, before, behind)) = join(
+    let (answer, (lock, before, behind)) = join(
         rt,
         move || -> Answer
-            requires { IsSync R.row × (comer.seat.monitor ≡ monitor.now) × (comer.env_seat.env ≡ env.now) × (k < 4) }
-        { come_and_wait(rt, monitor, env, comer, k) },
-        move || -> (Seat<AtLeast, 2>, Option<Word>, Option<Word>)
-            requires { IsSync R.row × (waker.monitor ≡ monitor.now) × (k < 4) }
-            ensures { result.0.monitor ≡ monitor.entry.now }
-        { look_and_signal(rt, monitor, waker, k) },
+            requires { IsSync R.row × (k < 4) }
+        { come_and_wait(rt, comer, k) },
+        move || -> (Lock<'_>, Option<Word>, Option<Word>)
+            requires { IsSync R.row × (k < 4) }
+        { look_and_signal(rt, waker, k) },
     );
-    (seat, answer, [before, behind])
+    (lock, answer, [before, behind])
 }
 
 /// A waiter is shown at its variable, whichever that is, and behind a signal under the lock in the lock list.
@@ -274,9 +223,17 @@ fn moved_waiter_is_shown(rt: HostRuntime) {
     waited_for.writer_waits = true;
     let wanted = [Some(held), Some(waited_for)];
     for k in 0..4 {
-        let (monitor, env, comer, waker) = one_and_one(&rt, rt.alloc(), None);
-        let (seat, answer, shown) = wait_and_be_shown(&rt, &monitor, &env, comer, waker, k);
-        let came = (answer, shown, row_at_end(monitor, seat));
+        let (monitor, seats) = new_monitor(&rt, rt.alloc(), 2);
+        let (lock, waker) = two_locks(&rt, &monitor, seats);
+        let (env, env_seats) = new_env(&rt, rt.alloc(), 2);
+        let (watcher, _) = two_watchers(&rt, &env, env_seats);
+        let comer = Comer {
+            lock,
+            watcher,
+            deadline: None,
+        };
+        let (lock, answer, shown) = wait_and_be_shown(&rt, comer, waker, k);
+        let came = (answer, shown, row_at_end(lock));
         assert_eq!(rt; came, (Answer::Met, wanted, Some([1, 1])));
     }
 }

@@ -1,215 +1,136 @@
 //! What no clause says of condition variables between threads: that a waiter comes back, by a signal
 //! or a broadcast from each kind of caller. By its deadline and by its note it does in `waits`.
 
-ghost use Rattle.std.specs.Prelude.{◌≡◌, ◌<◌, All};
+ghost use Rattle.std.specs.Prelude.{◌<◌};
 ghost use Rattle.std.specs.Thread.{IsSync};
 
-use crate::note::{new_env, take_env_seat, two_env_seats};
-use crate::waits::{
-    AtLeast, MANY_TRIES, TICK, count, new_monitor, row_at_end, take_seat, two_seats,
+use crate::locks::{
+    Held, Lock, MANY_TRIES, ReadHeld, TICK, count, new_monitor, row_at_end, two_locks,
 };
+use crate::note::{new_env, two_watchers};
+use ns_fixtures::AtLeast;
 use ns_model::event::Answer;
-use ns_monitor::caller::{ReadHeld, Seat, WriteHeld};
-use ns_monitor::monitor::Monitor;
-use ns_note::env::Env;
-use ns_note::seat::EnvSeat;
-use std::alloc::Global;
+use ns_monitor::Handles;
+use ns_note::watcher::{Watcher, Watchers};
 use std::process::Abort;
 use std::sync::Wait;
 use std::thread::{Threads, join, yield_now};
 
 /// A caller with no section in hand, that may wait, until a deadline if it has one.
 #[derive(Drop)]
-pub struct Comer {
-    pub seat: Seat<AtLeast, 2>,
-    pub env_seat: EnvSeat,
+pub struct Comer<'m> {
+    pub lock: Lock<'m>,
+    pub watcher: Watcher<'m>,
     pub deadline: Option<u64>,
 }
 
 /// A caller with a read section in hand, that may wait.
 #[derive(Drop)]
-struct Reader {
-    held: ReadHeld<AtLeast, 2>,
-    env_seat: EnvSeat,
+struct Reader<'m> {
+    held: ReadHeld<'m>,
+    watcher: Watcher<'m>,
 }
 
 /// A caller that may wait, with the last seats that are left.
-fn take_comer<R: Abort>(
+fn take_comer<'m, R: Abort>(
     rt: &R,
-    monitor: &Monitor<AtLeast, 2>,
-    env: &Env,
-    seats: &mut Vec<Seat<AtLeast, 2>>,
-    env_seats: &mut Vec<EnvSeat>,
-) -> Comer
-    requires seats { All (λ seat. seat.monitor ≡ monitor.now) seats.old.items }
-    requires env_seats { All (λ seat. seat.env ≡ env.now) env_seats.old.items }
-    ensures taken { (result.seat.monitor ≡ monitor.now) × (result.env_seat.env ≡ env.now) }
-    ensures seats { All (λ seat. seat.monitor ≡ monitor.now) seats.new.items }
-    ensures env_seats { All (λ seat. seat.env ≡ env.now) env_seats.new.items }
-{
+    locks: &mut Handles<'m, AtLeast, 2>,
+    watchers: &mut Watchers<'m>,
+) -> Comer<'m> {
     Comer {
-        seat: take_seat(rt, monitor, seats),
-        env_seat: take_env_seat(rt, env, env_seats),
+        lock: locks.next().expect(rt, "a seat"),
+        watcher: watchers.next().expect(rt, "a seat"),
         deadline: None,
     }
 }
 
-/// A monitor and an environment, a caller that may wait until a deadline, and one that may wake it.
-pub fn one_and_one<R: Abort>(
-    rt: &R,
-    alloc: Global,
-    deadline: Option<u64>,
-) -> (Monitor<AtLeast, 2>, Env, Comer, Seat<AtLeast, 2>)
-    ensures monitor { (result.2.seat.monitor ≡ result.0) × (result.3.monitor ≡ result.0) }
-    ensures env { result.2.env_seat.env ≡ result.1 }
-{
-    let (monitor, seat, waker) = two_seats(rt, alloc);
-    let (env, env_seat, _) = two_env_seats(rt, alloc);
-    let comer = Comer {
-        seat,
-        env_seat,
-        deadline,
-    };
-    (monitor, env, comer, waker)
-}
-
-/// A monitor and an environment, two callers that may wait, and one that may wake them.
-fn two_and_one<R: Abort>(
-    rt: &R,
-    alloc: Global,
-) -> (Monitor<AtLeast, 2>, Env, (Comer, Comer), Seat<AtLeast, 2>)
-    ensures monitor { (result.2.0.seat.monitor ≡ result.0) × (result.2.1.seat.monitor ≡ result.0) × (result.3.monitor ≡ result.0) }
-    ensures env { (result.2.0.env_seat.env ≡ result.1) × (result.2.1.env_seat.env ≡ result.1) }
-{
-    let (monitor, mut seats) = new_monitor(rt, alloc, 3);
-    let (env, mut env_seats) = new_env(rt, alloc, 2);
-    let waker = take_seat(rt, &monitor, &mut seats);
-    let second = take_comer(rt, &monitor, &env, &mut seats, &mut env_seats);
-    let first = take_comer(rt, &monitor, &env, &mut seats, &mut env_seats);
-    (monitor, env, (first, second), waker)
-}
-
 /// Counts itself in the first cell, waits from that section for a variable, and counts itself in the second
 /// cell once it is back. Answers what the wait did.
-pub fn come_and_wait<R: Wait>(
-    rt: &R,
-    monitor: &Monitor<AtLeast, 2>,
-    env: &Env,
-    mut comer: Comer,
-    k: u8,
-) -> Answer
-    requires of { (comer.seat.monitor ≡ monitor.now) × (comer.env_seat.env ≡ env.now) }
-    requires variable { k < 4 }
+pub fn come_and_wait<R: Wait>(rt: &R, comer: Comer<'_>, k: u8) -> Answer
+    requires { k < 4 }
 {
-    let mut held = monitor.lock(rt, comer.seat);
-    count(monitor, &mut held, 0);
-    let (mut held, answer) = monitor.cv_wait_with_deadline(
-        rt,
-        held,
-        k,
-        comer.deadline,
-        None,
-        env,
-        &mut comer.env_seat,
-    );
-    count(monitor, &mut held, 1);
-    monitor.unlock(rt, held);
+    let Comer {
+        lock,
+        mut watcher,
+        deadline,
+    } = comer;
+    let mut held = lock.lock(rt);
+    count(&mut held, 0);
+    let (mut held, answer) = held.cv_wait_with_deadline(rt, k, deadline, None, &mut watcher);
+    count(&mut held, 1);
+    held.unlock(rt);
     answer
 }
 
 /// Locks once a cell has come to this value.
-pub fn lock_at<R: Abort + Wait>(
-    rt: &R,
-    monitor: &Monitor<AtLeast, 2>,
-    mut seat: Seat<AtLeast, 2>,
-    cell: usize,
-    value: u64,
-) -> WriteHeld<AtLeast, 2>
-    requires { (seat.monitor ≡ monitor.now) × (cell < 2) }
-    ensures { result.monitor ≡ monitor.now }
+pub fn lock_at<'m, R: Abort + Wait>(rt: &R, mut lock: Lock<'m>, cell: usize, value: u64) -> Held<'m>
+    requires { cell < 2 }
 {
     for _ in 0..MANY_TRIES {
-        let mut held = monitor.lock(rt, seat);
-        if monitor.get(&mut held, cell) == value {
+        let mut held = lock.lock(rt);
+        if held.get(cell) == value {
             return held;
         }
-        seat = monitor.unlock(rt, held);
+        lock = held.unlock(rt);
         yield_now();
     }
     panic!(rt; "the cell has not come to {value}")
 }
 
 /// Broadcasts the first variable once two wait for it, and looks for both to be back.
-fn broadcast_behind<R: Abort + Wait>(
-    rt: &R,
-    monitor: &Monitor<AtLeast, 2>,
-    seat: Seat<AtLeast, 2>,
-) -> Seat<AtLeast, 2>
-    requires { seat.monitor ≡ monitor.now }
-    ensures { result.monitor ≡ monitor.now }
-{
-    let held = lock_at(rt, monitor, seat, 0, 2);
-    let mut seat = monitor.unlock(rt, held);
-    monitor.broadcast(rt, &mut seat, 0);
-    let held = lock_at(rt, monitor, seat, 1, 2);
-    monitor.unlock(rt, held)
+fn broadcast_behind<'m, R: Abort + Wait>(rt: &R, lock: Lock<'m>) -> Lock<'m> {
+    let mut lock = lock_at(rt, lock, 0, 2).unlock(rt);
+    lock.broadcast(rt, 0);
+    lock_at(rt, lock, 1, 2).unlock(rt)
 }
 
 /// One thread waits, and the other broadcasts.
-fn wait_and_broadcast<R: Abort + Threads + Wait + Sync>(
+fn wait_and_broadcast<'m, R: Abort + Threads + Wait + Sync>(
     rt: &R,
-    monitor: &Monitor<AtLeast, 2>,
-    env: &Env,
-    comer: Comer,
-    waker: Seat<AtLeast, 2>,
-) -> (Answer, Seat<AtLeast, 2>)
-    requires { (comer.seat.monitor ≡ monitor.now) × (waker.monitor ≡ monitor.now) × (comer.env_seat.env ≡ env.now) }
-    ensures { result.1.monitor ≡ monitor.now }
-{
+    comer: Comer<'_>,
+    waker: Lock<'m>,
+) -> (Answer, Lock<'m>) {
     join(
         rt,
         move || -> Answer
-            requires { IsSync R.row × (comer.seat.monitor ≡ monitor.now) × (comer.env_seat.env ≡ env.now) }
-        { come_and_wait(rt, monitor, env, comer, 0) },
-        move || -> Seat<AtLeast, 2>
-            requires { IsSync R.row × (waker.monitor ≡ monitor.now) }
-            ensures { result.monitor ≡ monitor.entry.now }
-        { broadcast_behind(rt, monitor, waker) },
+            requires { IsSync R.row }
+        { come_and_wait(rt, comer, 0) },
+        move || -> Lock<'_>
+            requires { IsSync R.row }
+        { broadcast_behind(rt, waker) },
     )
 }
 
 /// Two threads wait, and a third broadcasts.
-fn wait_twice_and_broadcast<R: Abort + Threads + Wait + Sync>(
+fn wait_twice_and_broadcast<'m, R: Abort + Threads + Wait + Sync>(
     rt: &R,
-    monitor: &Monitor<AtLeast, 2>,
-    env: &Env,
-    comers: (Comer, Comer),
-    waker: Seat<AtLeast, 2>,
-) -> (Answer, Answer, Seat<AtLeast, 2>)
-    requires monitor { (comers.0.seat.monitor ≡ monitor.now) × (comers.1.seat.monitor ≡ monitor.now) × (waker.monitor ≡ monitor.now) }
-    requires env { (comers.0.env_seat.env ≡ env.now) × (comers.1.env_seat.env ≡ env.now) }
-    ensures { result.2.monitor ≡ monitor.now }
-{
+    comers: (Comer<'_>, Comer<'_>),
+    waker: Lock<'m>,
+) -> (Answer, Answer, Lock<'m>) {
     let (first, second) = comers;
-    let (one, (other, seat)) = join(
+    let (one, (other, lock)) = join(
         rt,
         move || -> Answer
-            requires { IsSync R.row × (first.seat.monitor ≡ monitor.now) × (first.env_seat.env ≡ env.now) }
-        { come_and_wait(rt, monitor, env, first, 0) },
-        move || -> (Answer, Seat<AtLeast, 2>)
-            requires { IsSync R.row × (second.seat.monitor ≡ monitor.now) × (waker.monitor ≡ monitor.now) × (second.env_seat.env ≡ env.now) }
-            ensures { result.1.monitor ≡ monitor.entry.now }
-        { wait_and_broadcast(rt, monitor, env, second, waker) },
+            requires { IsSync R.row }
+        { come_and_wait(rt, first, 0) },
+        move || -> (Answer, Lock<'_>)
+            requires { IsSync R.row }
+        { wait_and_broadcast(rt, second, waker) },
     );
-    (one, other, seat)
+    (one, other, lock)
 }
 
 /// One broadcast wakes both who wait.
 #[test]
 fn broadcast_wakes_both(rt: HostRuntime) {
-    let (monitor, env, comers, waker) = two_and_one(&rt, rt.alloc());
-    let (one, other, seat) = wait_twice_and_broadcast(&rt, &monitor, &env, comers, waker);
-    let came = (one, other, row_at_end(monitor, seat));
+    let (monitor, seats) = new_monitor(&rt, rt.alloc(), 3);
+    let (env, env_seats) = new_env(&rt, rt.alloc(), 2);
+    let (mut locks, mut watchers) = (monitor.handles(seats), env.watchers(env_seats));
+    let waker = locks.next().expect(&rt, "a seat");
+    let second = take_comer(&rt, &mut locks, &mut watchers);
+    let first = take_comer(&rt, &mut locks, &mut watchers);
+    let (one, other, lock) = wait_twice_and_broadcast(&rt, (first, second), waker);
+    let came = (one, other, row_at_end(lock));
     assert_eq!(rt; came, (Answer::Met, Answer::Met, Some([2, 2])));
 }
 
@@ -224,86 +145,56 @@ enum Holding {
 /// What a signal under the lock leaves in the second cell.
 const LEFT: u64 = 7;
 
-/// Signals the first variable in a write section, and sets the second cell behind that.
-fn signal_and_set<R: Wait>(
-    rt: &R,
-    monitor: &Monitor<AtLeast, 2>,
-    mut held: WriteHeld<AtLeast, 2>,
-) -> Seat<AtLeast, 2>
-    requires { held.monitor ≡ monitor.now }
-    ensures { result.monitor ≡ monitor.now }
-{
-    monitor.signal(rt, &mut held, 0);
-    monitor.set(&mut held, 1, LEFT);
-    monitor.unlock(rt, held)
-}
-
-/// Signals the first variable, once, with this in hand.
-fn signal_once<R: Wait>(
-    rt: &R,
-    monitor: &Monitor<AtLeast, 2>,
-    held: WriteHeld<AtLeast, 2>,
-    holding: Holding,
-) -> Seat<AtLeast, 2>
-    requires { held.monitor ≡ monitor.now }
-    ensures { result.monitor ≡ monitor.now }
-{
+/// Signals the first variable, once, with this in hand. Under the lock it sets the second cell behind that.
+fn signal_once<'m, R: Wait>(rt: &R, mut held: Held<'m>, holding: Holding) -> Lock<'m> {
     match holding {
         Holding::Nothing => {
-            let mut seat = monitor.unlock(rt, held);
-            monitor.signal(rt, &mut seat, 0);
-            seat
+            let mut lock = held.unlock(rt);
+            lock.signal(rt, 0);
+            lock
         }
         Holding::ReadSection => {
-            let seat = monitor.unlock(rt, held);
-            let mut held = monitor.rlock(rt, seat);
-            monitor.signal(rt, &mut held, 0);
-            monitor.runlock(rt, held)
+            let mut held = held.unlock(rt).rlock(rt);
+            held.signal(rt, 0);
+            held.runlock(rt)
         }
-        Holding::WriteSection => signal_and_set(rt, monitor, held),
+        Holding::WriteSection => {
+            held.signal(rt, 0);
+            held.set(1, LEFT);
+            held.unlock(rt)
+        }
     }
 }
 
 /// Signals the first variable, once, when somebody waits for it, and looks for the second cell to come
 /// to this value.
-fn signal_behind<R: Abort + Wait>(
+fn signal_behind<'m, R: Abort + Wait>(
     rt: &R,
-    monitor: &Monitor<AtLeast, 2>,
-    seat: Seat<AtLeast, 2>,
+    lock: Lock<'m>,
     holding: Holding,
     value: u64,
-) -> Seat<AtLeast, 2>
-    requires { seat.monitor ≡ monitor.now }
-    ensures { result.monitor ≡ monitor.now }
-{
-    let held = lock_at(rt, monitor, seat, 0, 1);
-    let seat = signal_once(rt, monitor, held, holding);
-    let held = lock_at(rt, monitor, seat, 1, value);
-    monitor.unlock(rt, held)
+) -> Lock<'m> {
+    let held = lock_at(rt, lock, 0, 1);
+    let lock = signal_once(rt, held, holding);
+    lock_at(rt, lock, 1, value).unlock(rt)
 }
 
 /// One thread waits, and the other signals.
-fn wait_and_signal<R: Abort + Threads + Wait + Sync>(
+fn wait_and_signal<'m, R: Abort + Threads + Wait + Sync>(
     rt: &R,
-    monitor: &Monitor<AtLeast, 2>,
-    env: &Env,
-    comer: Comer,
-    waker: Seat<AtLeast, 2>,
+    comer: Comer<'_>,
+    waker: Lock<'m>,
     holding: Holding,
     value: u64,
-) -> (Answer, Seat<AtLeast, 2>)
-    requires { (comer.seat.monitor ≡ monitor.now) × (waker.monitor ≡ monitor.now) × (comer.env_seat.env ≡ env.now) }
-    ensures { result.1.monitor ≡ monitor.now }
-{
+) -> (Answer, Lock<'m>) {
     join(
         rt,
         move || -> Answer
-            requires { IsSync R.row × (comer.seat.monitor ≡ monitor.now) × (comer.env_seat.env ≡ env.now) }
-        { come_and_wait(rt, monitor, env, comer, 0) },
-        move || -> Seat<AtLeast, 2>
-            requires { IsSync R.row × (waker.monitor ≡ monitor.now) }
-            ensures { result.monitor ≡ monitor.entry.now }
-        { signal_behind(rt, monitor, waker, holding, value) },
+            requires { IsSync R.row }
+        { come_and_wait(rt, comer, 0) },
+        move || -> Lock<'_>
+            requires { IsSync R.row }
+        { signal_behind(rt, waker, holding, value) },
     )
 }
 
@@ -311,138 +202,77 @@ fn wait_and_signal<R: Abort + Threads + Wait + Sync>(
 #[test]
 fn signal_with_the_lock_free(rt: HostRuntime) {
     for deadline in [None, Some(TICK)] {
-        let (monitor, env, comer, waker) = one_and_one(&rt, rt.alloc(), deadline);
-        let (answer, seat) = wait_and_signal(
-            &rt,
-            &monitor,
-            &env,
-            comer,
-            waker,
-            Holding::Nothing,
-            1,
-        );
-        assert_eq!(rt;
-            (answer, row_at_end(monitor, seat)),
-            (Answer::Met, Some([1, 1]))
-        );
+        let (monitor, seats) = new_monitor(&rt, rt.alloc(), 2);
+        let (lock, waker) = two_locks(&rt, &monitor, seats);
+        let (env, env_seats) = new_env(&rt, rt.alloc(), 2);
+        let (watcher, _) = two_watchers(&rt, &env, env_seats);
+        let comer = Comer {
+            lock,
+            watcher,
+            deadline,
+        };
+        let (answer, lock) = wait_and_signal(&rt, comer, waker, Holding::Nothing, 1);
+        assert_eq!(rt; (answer, row_at_end(lock)), (Answer::Met, Some([1, 1])));
     }
 }
 
 /// Begins to read.
-fn begin_to_read<R: Wait>(rt: &R, monitor: &Monitor<AtLeast, 2>, comer: Comer) -> Reader
-    requires { comer.seat.monitor ≡ monitor.now }
-    ensures { (result.held.monitor ≡ monitor.now) × (result.env_seat ≡ comer.env_seat) }
-{
-    let held = monitor.rlock(rt, comer.seat);
+fn begin_to_read<'m, R: Wait>(rt: &R, comer: Comer<'m>) -> Reader<'m> {
+    let Comer { lock, watcher, .. } = comer;
     Reader {
-        held,
-        env_seat: comer.env_seat,
+        held: lock.rlock(rt),
+        watcher,
     }
-}
-
-/// A monitor and an environment, two callers that read, one that may come to wait, and one that may wake
-/// them.
-fn two_that_read<R: Abort + Wait>(
-    rt: &R,
-    alloc: Global,
-) -> (
-    Monitor<AtLeast, 2>,
-    Env,
-    (Reader, Reader),
-    Comer,
-    Seat<AtLeast, 2>,
-)
-    ensures readers { (result.2.0.held.monitor ≡ result.0) × (result.2.1.held.monitor ≡ result.0) }
-    ensures others { (result.3.seat.monitor ≡ result.0) × (result.4.monitor ≡ result.0) }
-    ensures env { (result.2.0.env_seat.env ≡ result.1) × (result.2.1.env_seat.env ≡ result.1) × (result.3.env_seat.env ≡ result.1) }
-{
-    let (monitor, mut seats) = new_monitor(rt, alloc, 4);
-    let (env, mut env_seats) = new_env(rt, alloc, 3);
-    let waker = take_seat(rt, &monitor, &mut seats);
-    let comer = take_comer(rt, &monitor, &env, &mut seats, &mut env_seats);
-    let second = take_comer(rt, &monitor, &env, &mut seats, &mut env_seats);
-    let first = take_comer(rt, &monitor, &env, &mut seats, &mut env_seats);
-    let second = begin_to_read(rt, &monitor, second);
-    let first = begin_to_read(rt, &monitor, first);
-    (monitor, env, (first, second), comer, waker)
 }
 
 /// Waits for the first variable in the read section in hand, and counts itself in the second cell, in a
 /// section that writes, once it is back. Answers what the wait did.
-fn read_and_wait<R: Wait>(
-    rt: &R,
-    monitor: &Monitor<AtLeast, 2>,
-    env: &Env,
-    mut reader: Reader,
-) -> Answer
-    requires { (reader.held.monitor ≡ monitor.now) × (reader.env_seat.env ≡ env.now) }
-{
-    let (held, answer) = monitor.cv_wait_with_deadline(
-        rt,
-        reader.held,
-        0,
-        None,
-        None,
-        env,
-        &mut reader.env_seat,
-    );
-    let seat = monitor.runlock(rt, held);
-    let mut held = monitor.lock(rt, seat);
-    count(monitor, &mut held, 1);
-    monitor.unlock(rt, held);
+fn read_and_wait<R: Wait>(rt: &R, reader: Reader<'_>) -> Answer {
+    let Reader { held, mut watcher } = reader;
+    let (held, answer) = held.cv_wait_with_deadline(rt, 0, None, None, &mut watcher);
+    let mut held = held.runlock(rt).lock(rt);
+    count(&mut held, 1);
+    held.unlock(rt);
     answer
 }
 
 /// Two threads wait in their read sections.
 fn read_and_wait_twice<R: Threads + Wait + Sync>(
     rt: &R,
-    monitor: &Monitor<AtLeast, 2>,
-    env: &Env,
-    readers: (Reader, Reader),
-) -> (Answer, Answer)
-    requires monitor { (readers.0.held.monitor ≡ monitor.now) × (readers.1.held.monitor ≡ monitor.now) }
-    requires env { (readers.0.env_seat.env ≡ env.now) × (readers.1.env_seat.env ≡ env.now) }
-{
+    readers: (Reader<'_>, Reader<'_>),
+) -> (Answer, Answer) {
     let (first, second) = readers;
     join(
         rt,
         move || -> Answer
-            requires { IsSync R.row × (first.held.monitor ≡ monitor.now) × (first.env_seat.env ≡ env.now) }
-        { read_and_wait(rt, monitor, env, first) },
+            requires { IsSync R.row }
+        { read_and_wait(rt, first) },
         move || -> Answer
-            requires { IsSync R.row × (second.held.monitor ≡ monitor.now) × (second.env_seat.env ≡ env.now) }
-        { read_and_wait(rt, monitor, env, second) },
+            requires { IsSync R.row }
+        { read_and_wait(rt, second) },
     )
 }
 
 /// Two threads wait in their read sections, a third in a write section, which begins behind those two,
 /// and a fourth signals.
-fn all_wait_and_signal<R: Abort + Threads + Wait + Sync>(
+fn all_wait_and_signal<'m, R: Abort + Threads + Wait + Sync>(
     rt: &R,
-    monitor: &Monitor<AtLeast, 2>,
-    env: &Env,
-    readers: (Reader, Reader),
-    comer: Comer,
-    waker: Seat<AtLeast, 2>,
+    readers: (Reader<'_>, Reader<'_>),
+    comer: Comer<'_>,
+    waker: Lock<'m>,
     holding: Holding,
     value: u64,
-) -> ([Answer; 3], Seat<AtLeast, 2>)
-    requires readers { (readers.0.held.monitor ≡ monitor.now) × (readers.1.held.monitor ≡ monitor.now) }
-    requires others { (comer.seat.monitor ≡ monitor.now) × (waker.monitor ≡ monitor.now) }
-    requires env { (readers.0.env_seat.env ≡ env.now) × (readers.1.env_seat.env ≡ env.now) × (comer.env_seat.env ≡ env.now) }
-    ensures { result.1.monitor ≡ monitor.now }
-{
-    let ((one, two), (three, seat)) = join(
+) -> ([Answer; 3], Lock<'m>) {
+    let ((one, two), (three, lock)) = join(
         rt,
         move || -> (Answer, Answer)
-            requires { IsSync R.row × (readers.0.held.monitor ≡ monitor.now) × (readers.1.held.monitor ≡ monitor.now) × (readers.0.env_seat.env ≡ env.now) × (readers.1.env_seat.env ≡ env.now) }
-        { read_and_wait_twice(rt, monitor, env, readers) },
-        move || -> (Answer, Seat<AtLeast, 2>)
-            requires { IsSync R.row × (comer.seat.monitor ≡ monitor.now) × (waker.monitor ≡ monitor.now) × (comer.env_seat.env ≡ env.now) }
-            ensures { result.1.monitor ≡ monitor.entry.now }
-        { wait_and_signal(rt, monitor, env, comer, waker, holding, value) },
+            requires { IsSync R.row }
+        { read_and_wait_twice(rt, readers) },
+        move || -> (Answer, Lock<'_>)
+            requires { IsSync R.row }
+        { wait_and_signal(rt, comer, waker, holding, value) },
     );
-    ([one, two, three], seat)
+    ([one, two, three], lock)
 }
 
 /// One signal wakes two readers, of whom one is first, and the writer behind them, whatever its caller
@@ -455,12 +285,16 @@ fn signal_takes_readers_together(rt: HostRuntime) {
         (Holding::WriteSection, LEFT + 3),
     ];
     for (holding, value) in table {
-        let (monitor, env, readers, comer, waker) = two_that_read(&rt, rt.alloc());
-        let (all, seat) = all_wait_and_signal(
-            &rt, &monitor, &env, readers, comer, waker, holding, value,
-        );
+        let (monitor, seats) = new_monitor(&rt, rt.alloc(), 4);
+        let (env, env_seats) = new_env(&rt, rt.alloc(), 3);
+        let (mut locks, mut watchers) = (monitor.handles(seats), env.watchers(env_seats));
+        let waker = locks.next().expect(&rt, "a seat");
+        let comer = take_comer(&rt, &mut locks, &mut watchers);
+        let second = begin_to_read(&rt, take_comer(&rt, &mut locks, &mut watchers));
+        let first = begin_to_read(&rt, take_comer(&rt, &mut locks, &mut watchers));
+        let (all, lock) = all_wait_and_signal(&rt, (first, second), comer, waker, holding, value);
         assert_eq!(rt;
-            (all, row_at_end(monitor, seat)),
+            (all, row_at_end(lock)),
             ([Answer::Met; 3], Some([1, value]))
         );
     }

@@ -1,6 +1,0 @@
--- What the seat has seen made, it has seen made later too.
-use Rattle.ns_model.proofs.Environments.{made_begins}
-use Rattle.ns_bench.proofs.notes.is_notified.Goals as goal
-
-pub returns-clause-made : goal.returns-clause-made
-returns-clause-made c = let grows = c.is_notified.ensures.grows in made_begins _ _ c.args.note.index grows.true_to.legal grows.begins c.requires.made

@@ -1,0 +1,126 @@
+//! Counters, values made once, and waits for whichever of several things comes first.
+
+ghost use Rattle.std.specs.Prelude.{◌≡◌, ◌<◌};
+ghost use Rattle.std.specs.Thread.{IsSync};
+
+use anyhow::{Context, Result};
+use ns_fixtures::AtLeast;
+use ns_monitor::{Handle, Monitor};
+use ns_note::env::Env;
+use ns_note::watcher::Watcher;
+use ns_objects::any::{AnyItem, Item};
+use ns_objects::objects::Objects;
+use ns_objects::running::Once;
+use ns_objects::sharer::Sharer;
+use std::alloc::Global;
+use std::sync::Wait;
+use std::thread::{Threads, join};
+
+/// Has done its part, and counts it off.
+fn finish<R: Wait>(rt: &R, mut sharer: Sharer<'_>)
+    requires { 0 < sharer.setup.counters }
+{
+    let _ = sharer.counter_add(rt, 0, -1);
+}
+
+/// A counter as a wait group: who waits for 0 goes on once each has counted its part off.
+pub fn wait_group<R: Threads + Wait + Sync>(rt: &R, alloc: Global) -> Result<u32> {
+    let (objects, seats) = Objects::new(alloc, &[2], 0, 3).ok().context("no memory")?;
+    let (env, env_seats) = Env::new(alloc, 1).ok().context("no memory")?;
+    let mut sharers = objects.sharers(seats);
+    let mut waiter = sharers.next().context("no seats")?;
+    let (one, two) = sharers.pair().context("no seats")?;
+    let mut watcher = env.watchers(env_seats).next().context("no seats")?;
+    join(
+        rt,
+        move ||
+            requires { IsSync R.row × (0 < one.setup.counters) }
+        { finish(rt, one) },
+        move ||
+            requires { IsSync R.row × (0 < two.setup.counters) }
+        { finish(rt, two) },
+    );
+    Ok(waiter.counter_wait(rt, 0, None, &mut watcher))
+}
+
+/// Makes the value, if nobody has, and answers whether it did.
+fn make<R: Wait>(rt: &R, mut sharer: Sharer<'_>) -> bool
+    requires { 0 < sharer.setup.cells }
+{
+    match sharer.run_once(rt, 0, || 7) {
+        Once::Ran(_) => true,
+        Once::Already => false, // another has made it, and is done
+    }
+}
+
+/// A value made once, whoever comes first.
+pub fn made_once<R: Threads + Wait + Sync>(rt: &R, alloc: Global) -> Result<bool> {
+    let (objects, seats) = Objects::new(alloc, &[], 1, 2).ok().context("no memory")?;
+    let (one, two) = objects.sharers(seats).pair().context("no seats")?;
+    let (first, second) = join(
+        rt,
+        move || -> bool
+            requires { IsSync R.row × (0 < one.setup.cells) }
+        { make(rt, one) },
+        move || -> bool
+            requires { IsSync R.row × (0 < two.setup.cells) }
+        { make(rt, two) },
+    );
+    Ok(first != second)
+}
+
+/// Waiting for whichever of several comes first: a note that nobody notifies, or a counter that comes to 0.
+pub fn whichever_first<R: Threads + Wait + Sync>(rt: &R, alloc: Global) -> Result<usize> {
+    let (objects, seats) = Objects::new(alloc, &[1], 0, 2).ok().context("no memory")?;
+    let (env, env_seats) = Env::new(alloc, 1).ok().context("no memory")?;
+    let (mut waiter, other) = objects.sharers(seats).pair().context("no seats")?;
+    let mut watcher = env.watchers(env_seats).next().context("no seats")?;
+    let note = watcher.note_new(None, None).ok().context("no note")?;
+    let items = [Item::Note(note), Item::Counter(0)];
+    finish(rt, other);
+    Ok(waiter.wait_any(rt, &items, None, &mut watcher))
+}
+
+/// Says in cell 0 that it waits, and waits for variable 0 or the counter.
+fn wait_held<R: Wait>(
+    rt: &R,
+    lock: Handle<AtLeast, 2>,
+    mut sharer: Sharer<'_>,
+    mut watcher: Watcher<'_>,
+) -> usize
+    requires { 0 < sharer.setup.counters }
+{
+    let mut held = lock.lock(rt);
+    held.set(0, 1);
+    let items = [AnyItem::Cv(0), AnyItem::Counter(0)];
+    let (held, place) = sharer.wait_any_held(rt, held, &items, None, &mut watcher);
+    held.unlock(rt);
+    place
+}
+
+/// Signals variable 0 once somebody waits.
+fn signal_waiter<R: Wait>(rt: &R, lock: Handle<AtLeast, 2>) {
+    let mut held = lock.lock(rt).wait(rt, AtLeast { least: 1 });
+    held.signal(rt, 0);
+    held.unlock(rt);
+}
+
+/// The same with a section in hand, which the wait leaves: a variable of its lock is among the items.
+pub fn whichever_first_held<R: Threads + Wait + Sync>(rt: &R, alloc: Global) -> Result<usize> {
+    let (monitor, seats) = Monitor::new(alloc, 2).ok().context("no memory")?;
+    let (objects, object_seats) = Objects::new(alloc, &[1], 0, 1).ok().context("no memory")?;
+    let (env, env_seats) = Env::new(alloc, 1).ok().context("no memory")?;
+    let (one, two) = monitor.handles(seats).pair().context("no seats")?;
+    let sharer = objects.sharers(object_seats).next().context("no seats")?;
+    let watcher = env.watchers(env_seats).next().context("no seats")?;
+    let (place, ()) = join(
+        rt,
+        move || -> usize
+            requires { IsSync R.row × (0 < sharer.setup.counters) }
+        { wait_held(rt, one, sharer, watcher) },
+        move ||
+            requires { IsSync R.row }
+        { signal_waiter(rt, two) },
+    );
+    Ok(place)
+}

@@ -1,8 +1,0 @@
--- The seat is of the same environment as before.
-use Rattle.std.proofs.Common.{◌≡◌}
-use Rattle.ns_live.proofs.commons.get_to_know.Given as goal
-
-abbrev pub invariant-loop : goal.invariant-loop
-invariant-loop g l =
-    (goal.iterator-loop g).can_next l.iterator' × (goal.iterator-loop g).is_finite l.iterator'
-    × (l.env_seat.env ≡ l.initial.env_seat.env)

@@ -1,5 +1,0 @@
-use Rattle.std.proofs.Common.{◌≡◌}
-use Rattle.ns_thread_tests.proofs.variables.lock_at.Given as goal
-
-abbrev pub invariant-loop : goal.invariant-loop
-invariant-loop g l = l.seat.monitor ≡ l.initial.seat.monitor
