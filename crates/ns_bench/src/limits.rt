@@ -4,7 +4,6 @@ ghost use Rattle.std.specs.Thread.{IsSync};
 
 use crate::never::{OneCell, OneHandle};
 use crate::notes::{Looks, Watched};
-use ns_fixtures::Never;
 use ns_monitor::Answer;
 use ns_note::env::Env;
 use ns_note::watcher::Watcher;
@@ -23,36 +22,19 @@ pub enum EarlyEnd {
     Note,
 }
 
-/// Waits so many times in one section, and counts how often a deadline that has come has ended it.
-fn count_late<'m, R: Wait>(
-    rt: &R,
-    handle: OneHandle<'m>,
-    mut watcher: Watcher<'_>,
-    times: u64,
-) -> (OneHandle<'m>, u64) {
-    let mut held = handle.lock(rt);
-    let mut count = 0u64;
-    for _ in 0..times {
-        let (back, answer) = held.wait_with_deadline(rt, Never, Some(0), None, &mut watcher);
-        held = back;
-        if answer != Answer::Met {
-            count = count.wrapping_add(1);
-        }
-    }
-    (held.unlock(rt), count)
-}
-
-/// Waits so many times in one section, and counts how often a note that is notified has ended it.
-fn count_canceled<'m, R: Wait>(
+/// Waits so many times in one section, and counts how often the note has ended it, where that is asked, else the
+/// deadline.
+fn count_ended<'m, R: Wait>(
     rt: &R,
     handle: OneHandle<'m>,
     mut watched: Watched<'_>,
+    for_note: bool,
     times: u64,
 ) -> (OneHandle<'m>, u64) {
     let mut held = handle.lock(rt);
     let mut count = 0u64;
     for _ in 0..times {
-        let (back, answer) = watched.wait(rt, held);
+        let (back, answer) = watched.wait(rt, held, for_note);
         held = back;
         if answer != Answer::Met {
             count = count.wrapping_add(1);
@@ -88,13 +70,14 @@ fn count_waits<'m, R: Wait>(
     early_end: EarlyEnd,
     times: u64,
 ) -> (OneHandle<'m>, u64) {
-    match early_end {
-        EarlyEnd::Deadline => count_late(rt, handle, watcher, times),
-        EarlyEnd::DeadlineAtVariable => count_late_at_variable(rt, handle, watcher, times),
-        EarlyEnd::Note => match Watched::new(watcher, Looks::Notified) {
-            Some(watched) => count_canceled(rt, handle, watched, times),
-            None => (handle, 0),
-        },
+    let for_note = match early_end {
+        EarlyEnd::DeadlineAtVariable => return count_late_at_variable(rt, handle, watcher, times),
+        EarlyEnd::Deadline => false,
+        EarlyEnd::Note => true,
+    };
+    match Watched::new(watcher, Looks::Notified) {
+        Some(watched) => count_ended(rt, handle, watched, for_note, times),
+        None => (handle, 0),
     }
 }
 

@@ -68,10 +68,20 @@ impl<'e> Watched<'e> {
         self.watcher.note_wait(rt, self.note, Some(0))
     }
 
-    /// Waits in a section until the note is notified.
+    /// Waits in a section until the note is notified, where that is asked, else until a moment that has come.
+    ///
+    /// Both are one call, so that the compiler inlines it in the one loop that makes it.
+    #[inline(always)]
     #[tactic(auto, using(ns_note::proofs::Rests::made_grows))]
-    pub fn wait<'m, R: Wait>(&mut self, rt: &R, held: OneWriting<'m>) -> (OneWriting<'m>, Answer) {
-        held.wait_with_deadline(rt, Never, None, Some(self.note), &mut self.watcher)
+    pub fn wait<'m, R: Wait>(
+        &mut self,
+        rt: &R,
+        held: OneWriting<'m>,
+        for_note: bool,
+    ) -> (OneWriting<'m>, Answer) {
+        let note = if for_note { Some(self.note) } else { None };
+        let deadline = if for_note { None } else { Some(0) };
+        held.wait_with_deadline(rt, Never, deadline, note, &mut self.watcher)
     }
 }
 

@@ -55,6 +55,7 @@ impl<'m, H: Renewed<C, N>, C: Gated<N>, const N: usize> Acting<'m, H, C, N> {
     /// deadline, in ticks, has come, as [`Monitor::wait_with_deadline`].
     ///
     /// Needs a note, if one is given, that the watcher has seen made.
+    #[inline(always)]
     pub fn wait_with_deadline<R: Wait>(
         self,
         rt: &R,
@@ -83,6 +84,7 @@ impl<'m, H: Renewed<C, N>, C: Gated<N>, const N: usize> Acting<'m, H, C, N> {
     /// deadline, in ticks, has come, as [`Monitor::cv_wait_with_deadline`].
     ///
     /// Needs a variable below 4; and a note, if one is given, that the watcher has seen made.
+    #[inline(always)]
     pub fn cv_wait_with_deadline<R: Wait>(
         self,
         rt: &R,

@@ -4,14 +4,14 @@
 //! variable's waiters, and each signal wakes one, and a broadcast all. Behind its call the caller moves the
 //! clock to the moment at which the others give up: a wake that is lost shows in the counts.
 
-ghost use Rattle.std.specs.Prelude.{◌≡◌, ◌<◌, ◌^◌};
+ghost use Rattle.std.specs.Prelude.{◌<◌, ◌^◌};
 
-use crate::kit::{Commons, Kit};
+use crate::kit::{Kit, RowHandle};
 use crate::sections::{LAST_MOMENT, do_some, leave};
-use crate::waits::{Fits, wait_until_met};
+use crate::waits::wait_until_met;
 use crate::wish::{DONE, Wish};
-use ns_model::event::{Answer, Mode};
-use ns_monitor::caller::{Caller, Hand, Seat};
+use ns_monitor::caller::Hand;
+use ns_monitor::{Acting, Answer, Gated, Mode};
 use std::sync::Wait;
 
 /// The variable of the call of this number: not that of the last or the next, nor one by which is roused.
@@ -32,133 +32,107 @@ fn moment_of(call: u64) -> u64
 }
 
 /// Comes, and sleeps until it is woken by a call or gives up.
-fn sleep_once<R: Wait>(
+fn sleep_once<'m, R: Wait>(
     rt: &R,
-    commons: Commons<'_>,
-    seat: Seat<Wish, 4>,
-    kit: &mut Kit,
+    handle: RowHandle<'m>,
+    kit: &mut Kit<'_, '_>,
     call: u64,
-) -> Seat<Wish, 4>
-    requires { (seat.monitor ≡ commons.monitor.now) × (kit.old.env_seat.env ≡ commons.env.now) }
-    ensures { (result.monitor ≡ commons.entry.monitor.now) × (kit.new.env_seat.env ≡ kit.old.env_seat.env) }
-{
-    let mut held = commons.monitor.lock(rt, seat);
-    kit.enter(commons.door, Mode::Write);
-    let come = commons.monitor.get(&mut held, DONE).wrapping_add(1);
-    commons.monitor.set(&mut held, DONE, come);
-    commons.door.leave(Mode::Write);
+) -> RowHandle<'m> {
+    let mut held = handle.lock(rt);
+    kit.enter(Mode::Write);
+    let come = held.get(DONE).wrapping_add(1);
+    held.set(DONE, come);
+    kit.door.leave(Mode::Write);
     let moment = moment_of(call);
-    let (held, answer) = commons.monitor.cv_wait_with_deadline(
+    let (held, answer) = held.cv_wait_with_deadline(
         rt,
-        held,
         variable_of(call),
         Some(moment),
         None,
-        commons.env,
-        &mut kit.env_seat,
+        &mut kit.watcher,
     );
-    kit.enter(commons.door, Mode::Write);
+    kit.enter(Mode::Write);
     if answer == Answer::Met {
-        kit.woken = kit.woken.saturating_add(1);
+        kit.outcome.woken = kit.outcome.woken.saturating_add(1);
     } else {
-        let now = commons.env.now(&mut kit.env_seat);
+        let now = kit.watcher.now();
         let right = answer == Answer::TimedOut && moment <= now;
         kit.expect(right, "a sleeper gives up too early");
     }
-    leave(rt, commons, held, kit)
+    leave(rt, held, kit)
 }
 
 /// Sleeps until each of so many calls.
-pub fn sleep<R: Wait>(
+pub fn sleep<'m, R: Wait>(
     rt: &R,
-    commons: Commons<'_>,
-    seat: Seat<Wish, 4>,
-    kit: &mut Kit,
+    mut handle: RowHandle<'m>,
+    kit: &mut Kit<'_, '_>,
     calls: u64,
-) -> Seat<Wish, 4>
-    requires { (seat.monitor ≡ commons.monitor.now) × (kit.old.env_seat.env ≡ commons.env.now) }
-    ensures { (result.monitor ≡ commons.entry.monitor.now) × (kit.new.env_seat.env ≡ kit.old.env_seat.env) }
-{
-    let mut seat = seat;
+) -> RowHandle<'m> {
     for call in 0..calls {
-        seat = do_some(rt, commons, seat, kit);
-        seat = sleep_once(rt, commons, seat, kit, call);
+        handle = do_some(rt, handle, kit);
+        handle = sleep_once(rt, handle, kit, call);
     }
-    seat
+    handle
 }
 
 /// Wakes all of so many sleepers, or some, as is drawn, and counts them.
-fn wake<H: Hand<Wish, 4>, R: Wait>(
+fn wake<H: Hand<C, N>, C: Gated<N>, const N: usize, R: Wait>(
     rt: &R,
-    commons: Commons<'_>,
-    caller: &mut Caller<H, Wish, 4>,
-    kit: &mut Kit,
+    caller: &mut Acting<'_, H, C, N>,
+    kit: &mut Kit<'_, '_>,
     call: u64,
     sleepers: u64,
-)
-where
-    Caller<H, Wish, 4>: Fits,
-    requires { caller.old.monitor ≡ commons.monitor.now }
-    ensures { (caller.new.monitor ≡ caller.old.monitor) × (kit.new.env_seat ≡ kit.old.env_seat) }
-{
+) {
     let variable = variable_of(call);
     if kit.draw(2) == 0 {
-        commons.monitor.broadcast(rt, caller, variable);
-        kit.called = kit.called.saturating_add(sleepers);
+        caller.broadcast(rt, variable);
+        kit.outcome.called = kit.outcome.called.saturating_add(sleepers);
         return;
     }
     let signals = u64::from(kit.draw(8)).min(sleepers);
     for _ in 0..signals {
-        commons.monitor.signal(rt, caller, variable);
+        caller.signal(rt, variable);
     }
-    kit.called = kit.called.saturating_add(signals);
+    kit.outcome.called = kit.outcome.called.saturating_add(signals);
 }
 
 /// Waits until so many sleepers have come, and wakes them, in its section or behind it; then those who
 /// weren't woken give up.
-fn call_once<R: Wait>(
+fn call_once<'m, R: Wait>(
     rt: &R,
-    commons: Commons<'_>,
-    seat: Seat<Wish, 4>,
-    kit: &mut Kit,
+    handle: RowHandle<'m>,
+    kit: &mut Kit<'_, '_>,
     call: u64,
     sleepers: u64,
-) -> Seat<Wish, 4>
-    requires { (seat.monitor ≡ commons.monitor.now) × (kit.old.env_seat.env ≡ commons.env.now) }
-    ensures { (result.monitor ≡ commons.entry.monitor.now) × (kit.new.env_seat.env ≡ kit.old.env_seat.env) }
-{
+) -> RowHandle<'m> {
     let come = call.saturating_add(1).saturating_mul(sleepers);
-    let held = commons.monitor.lock(rt, seat);
-    kit.enter(commons.door, Mode::Write);
-    let mut held = wait_until_met(rt, commons, held, Wish::done(come), kit);
+    let held = handle.lock(rt);
+    kit.enter(Mode::Write);
+    let mut held = wait_until_met(rt, held, Wish::done(come), kit);
     let is_inside = kit.draw(2) == 0;
     if is_inside {
-        wake(rt, commons, &mut held, kit, call, sleepers);
+        wake(rt, &mut held, kit, call, sleepers);
     }
-    let mut seat = leave(rt, commons, held, kit);
+    let mut handle = leave(rt, held, kit);
     if !is_inside {
-        wake(rt, commons, &mut seat, kit, call, sleepers);
+        wake(rt, &mut handle, kit, call, sleepers);
     }
-    commons.env.advance(&mut kit.env_seat, moment_of(call));
-    seat
+    kit.watcher.advance(moment_of(call));
+    handle
 }
 
 /// Makes so many calls, each once all of so many sleepers have come.
-pub fn make_calls<R: Wait>(
+pub fn make_calls<'m, R: Wait>(
     rt: &R,
-    commons: Commons<'_>,
-    seat: Seat<Wish, 4>,
-    kit: &mut Kit,
+    mut handle: RowHandle<'m>,
+    kit: &mut Kit<'_, '_>,
     calls: u64,
     sleepers: u64,
-) -> Seat<Wish, 4>
-    requires { (seat.monitor ≡ commons.monitor.now) × (kit.old.env_seat.env ≡ commons.env.now) }
-    ensures { (result.monitor ≡ commons.entry.monitor.now) × (kit.new.env_seat.env ≡ kit.old.env_seat.env) }
-{
-    let mut seat = seat;
+) -> RowHandle<'m> {
     for call in 0..calls {
-        seat = do_some(rt, commons, seat, kit);
-        seat = call_once(rt, commons, seat, kit, call, sleepers);
+        handle = do_some(rt, handle, kit);
+        handle = call_once(rt, handle, kit, call, sleepers);
     }
-    seat
+    handle
 }

@@ -1,36 +1,26 @@
-//! What each thread has of its own, and what it shares with the others.
+//! What each thread of a round has.
 
-ghost use Rattle.std.specs.Prelude.{◌≡◌, ◌<◌};
+ghost use Rattle.std.specs.Prelude.{◌<◌};
 
 use crate::door::Door;
 use crate::wish::Wish;
-use ns_model::event::Mode;
-use ns_monitor::monitor::Monitor;
-use ns_note::env::Env;
-use ns_note::seat::EnvSeat;
+use ns_monitor::{Handle, Mode, Reading, Writing};
+use ns_note::watcher::Watcher;
 use rand_core::Rng;
 use rand_pcg::Pcg32;
 
-/// What the threads of a round share.
-#[derive(Clone, Copy)]
-pub struct Commons<'a> {
-    /// The monitor.
-    pub monitor: &'a Monitor<Wish, 4>,
-    /// The clock and the notes.
-    pub env: &'a Env,
-    /// Who is inside a section, and how many still work.
-    pub door: &'a Door,
-    /// How many goods there may be.
-    pub most: u64,
-}
+/// A thread's handle on the monitor of a round.
+pub type RowHandle<'a> = Handle<'a, Wish, 4>;
 
-/// What a thread has of its own beside its seat of the monitor.
-#[derive(Drop)]
-pub struct Kit {
-    /// Its seat of clock and notes.
-    pub env_seat: EnvSeat,
-    /// Where its draws come from.
-    pub draws: Pcg32,
+/// A section of it that writes.
+pub type RowWriting<'a> = Writing<'a, Wish, 4>;
+
+/// A section of it that reads.
+pub type RowReading<'a> = Reading<'a, Wish, 4>;
+
+/// What a thread has done and found, or all of them.
+#[derive(Clone, Copy, Default)]
+pub struct Outcome {
     /// How much it has added to the sum.
     pub added: u64,
     /// How many sleepers its calls have woken.
@@ -41,32 +31,42 @@ pub struct Kit {
     pub wrong: Option<&'static str>,
 }
 
-impl Kit {
+/// What a thread has beside its handle on the monitor.
+#[derive(Drop)]
+pub struct Kit<'e, 'd> {
+    /// Its watcher of clock and notes.
+    pub watcher: Watcher<'e>,
+    /// Who is inside a section, and how many still work.
+    pub door: &'d Door,
+    /// How many goods there may be.
+    pub most: u64,
+    /// Where its draws come from.
+    pub draws: Pcg32,
+    /// What it has done and found.
+    pub outcome: Outcome,
+}
+
+impl Kit<'_, '_> {
     /// One of so many numbers, from 0 on.
     ///
     /// Needs one.
     pub fn draw(&mut self, many: u32) -> u32
         requires { 0 < many }
-        ensures below { result < many }
-        ensures env { self.new.env_seat ≡ self.old.env_seat }
+        ensures { result < many }
     {
         self.draws.next_u32() % many
     }
 
     /// Notes what is wrong, if it is and nothing was before.
-    pub fn expect(&mut self, right: bool, what: &'static str)
-        ensures { self.new.env_seat ≡ self.old.env_seat }
-    {
-        if !right && self.wrong.is_none() {
-            self.wrong = Some(what);
+    pub fn expect(&mut self, right: bool, what: &'static str) {
+        if !right && self.outcome.wrong.is_none() {
+            self.outcome.wrong = Some(what);
         }
     }
 
     /// Says that it is inside a section in this mode, which has just begun.
-    pub fn enter(&mut self, door: &Door, mode: Mode)
-        ensures { self.new.env_seat ≡ self.old.env_seat }
-    {
-        let alone = door.enter(mode);
+    pub fn enter(&mut self, mode: Mode) {
+        let alone = self.door.enter(mode);
         self.expect(alone, "two are inside");
     }
 }

@@ -1,19 +1,19 @@
 //! A round: a monitor, its threads, and the counts that they have to come to.
 
-ghost use Rattle.std.specs.Prelude.{◌≡◌, ◌<◌, All, IfOk, IfSome};
+ghost use Rattle.std.specs.Prelude.{◌<◌};
 ghost use Rattle.std.specs.Thread.{IsSync};
 
 use crate::calls::{make_calls, sleep};
 use crate::door::Door;
-use crate::kit::{Commons, Kit};
+use crate::kit::{Kit, Outcome, RowHandle};
 use crate::market::{Way, trade, watch_all};
 use crate::ring::take_turns;
 use crate::rousing::rouse_all;
+use crate::waits::row;
 use crate::wish::{ROOM, Wish};
-use ns_monitor::caller::Seat;
-use ns_monitor::monitor::Monitor;
+use ns_monitor::{Handles, Monitor};
 use ns_note::env::Env;
-use ns_note::seat::EnvSeat;
+use ns_note::watcher::Watchers;
 use rand_core::Rng;
 use rand_pcg::Pcg32;
 use std::alloc::{AllocError, Global};
@@ -136,35 +136,36 @@ impl Plan {
         times.saturating_mul(self.each)
     }
 
-    /// The row that there has to be in the end, with this sum.
-    fn last_row(self, sum: u64) -> [u64; 4] {
-        [0, self.most, self.done(), sum]
+    /// What came of a round with these counts, whose threads have all ended.
+    fn judged(self, last: RowHandle<'_>, total: Outcome) -> Verdict {
+        if let Some(what) = total.wrong {
+            return Verdict::Wrong(what);
+        }
+        let Ok(mut held) = last.try_lock() else {
+            return Verdict::Wrong("the lock ends held");
+        };
+        if row(&mut held) != [0, self.most, self.done(), total.added] {
+            Verdict::Wrong("the cells end otherwise")
+        } else if total.woken != total.called {
+            Verdict::Wrong("more or fewer were woken than were called")
+        } else {
+            Verdict::Right
+        }
     }
 }
 
-/// A thread's work: its seats, where its draws come from, and its role.
+/// A thread's work: its handle, what it has beside, and its role.
 #[derive(Drop)]
-struct Job {
-    seat: Seat<Wish, 4>,
-    kit: Kit,
+struct Job<'m, 'e, 'd> {
+    handle: RowHandle<'m>,
+    kit: Kit<'e, 'd>,
     role: Role,
 }
 
-/// How a thread's work has ended, or that of all.
-#[derive(Drop)]
-struct Outcome {
-    added: u64,
-    called: u64,
-    woken: u64,
-    wrong: Option<&'static str>,
-}
-
 /// Does a thread's work.
-fn work<R: Wait>(rt: &R, commons: Commons<'_>, job: Job) -> Outcome
-    requires { (job.seat.monitor ≡ commons.monitor.now) × (job.kit.env_seat.env ≡ commons.env.now) }
-{
+fn work<R: Wait>(rt: &R, job: Job<'_, '_, '_>) -> Outcome {
     let Job {
-        seat,
+        handle,
         mut kit,
         role,
     } = job;
@@ -173,98 +174,49 @@ fn work<R: Wait>(rt: &R, commons: Commons<'_>, job: Job) -> Outcome
             first,
             apart,
             turns,
-        } => take_turns(rt, commons, seat, &mut kit, first, apart, turns),
-        Role::Trade(way, goods) => trade(rt, commons, seat, &mut kit, way, goods),
-        Role::Watch(goods) => watch_all(rt, commons, seat, &mut kit, goods),
-        Role::Call { calls, sleepers } => make_calls(rt, commons, seat, &mut kit, calls, sleepers),
-        Role::Sleep(calls) => sleep(rt, commons, seat, &mut kit, calls),
-        Role::Rouse => rouse_all(rt, commons, seat, &mut kit),
+        } => take_turns(rt, handle, &mut kit, first, apart, turns),
+        Role::Trade(way, goods) => trade(rt, handle, &mut kit, way, goods),
+        Role::Watch(goods) => watch_all(rt, handle, &mut kit, goods),
+        Role::Call { calls, sleepers } => make_calls(rt, handle, &mut kit, calls, sleepers),
+        Role::Sleep(calls) => sleep(rt, handle, &mut kit, calls),
+        Role::Rouse => rouse_all(rt, handle, &mut kit),
     };
     if !matches!(role, Role::Rouse) {
-        commons.door.finish();
+        kit.door.finish();
     }
-    Outcome {
-        added: kit.added,
-        called: kit.called,
-        woken: kit.woken,
-        wrong: kit.wrong,
-    }
-}
-
-/// Sets the cells with which a round begins.
-fn begin<R: Wait>(
-    rt: &R,
-    monitor: &Monitor<Wish, 4>,
-    seat: Seat<Wish, 4>,
-    plan: Plan,
-) -> Seat<Wish, 4>
-    requires { seat.monitor ≡ monitor.now }
-    ensures { result.monitor ≡ monitor.now }
-{
-    let mut held = monitor.lock(rt, seat);
-    monitor.set(&mut held, ROOM, plan.most);
-    monitor.unlock(rt, held)
-}
-
-/// Takes the last seat of each kind, as long as there are both.
-fn next_seats(
-    commons: Commons<'_>,
-    seats: &mut Vec<Seat<Wish, 4>>,
-    env_seats: &mut Vec<EnvSeat>,
-) -> Option<(Seat<Wish, 4>, EnvSeat)>
-    requires monitor { All (λ seat. seat.monitor ≡ commons.monitor.now) seats.old.items }
-    requires env { All (λ seat. seat.env ≡ commons.env.now) env_seats.old.items }
-    ensures monitor { All (λ seat. seat.monitor ≡ commons.entry.monitor.now) seats.new.items }
-    ensures env { All (λ seat. seat.env ≡ commons.entry.env.now) env_seats.new.items }
-    ensures taken { IfSome result (λ r. (r.0.monitor ≡ commons.entry.monitor.now) × (r.1.env ≡ commons.entry.env.now)) }
-{
-    let seat = seats.pop()?;
-    let env_seat = env_seats.pop()?;
-    Some((seat, env_seat))
+    kit.outcome
 }
 
 /// The work of each thread.
-fn jobs(
+fn jobs<'m, 'e, 'd>(
     alloc: Global,
-    commons: Commons<'_>,
     plan: Plan,
     draws: &mut Pcg32,
-    seats: Vec<Seat<Wish, 4>>,
-    env_seats: Vec<EnvSeat>,
-) -> Result<Vec<Job>, AllocError>
-    requires monitor { All (λ seat. seat.monitor ≡ commons.monitor.now) seats.items }
-    requires env { All (λ seat. seat.env ≡ commons.env.now) env_seats.items }
-    ensures { IfOk result (λ jobs. All (λ job. (job.seat.monitor ≡ commons.entry.monitor.now) × (job.kit.env_seat.env ≡ commons.entry.env.now)) jobs.items) }
-{
-    let mut seats = seats;
-    let mut env_seats = env_seats;
+    door: &'d Door,
+    handles: &mut Handles<'m, Wish, 4>,
+    watchers: &mut Watchers<'e>,
+) -> Result<Vec<Job<'m, 'e, 'd>>, AllocError> {
     let mut jobs = Vec::new(alloc);
     for number in 0..plan.threads.saturating_add(1) {
-        let Some((seat, env_seat)) = next_seats(commons, &mut seats, &mut env_seats) else {
+        let Some((handle, watcher)) = handles.next().zip(watchers.next()) else {
             break;
         };
         let kit = Kit {
-            env_seat,
+            watcher,
+            door,
+            most: plan.most,
             draws: Pcg32::new(draws.next_u64(), number),
-            added: 0,
-            called: 0,
-            woken: 0,
-            wrong: None,
+            outcome: Outcome::default(),
         };
         let role = plan.role(number);
-        jobs.push(Job { seat, kit, role })?;
+        jobs.push(Job { handle, kit, role })?;
     }
     Ok(jobs)
 }
 
 /// What all threads have added and counted, and the first thing that one of them found wrong.
 fn total(outcomes: &[Outcome]) -> Outcome {
-    let mut total = Outcome {
-        added: 0,
-        called: 0,
-        woken: 0,
-        wrong: None,
-    };
+    let mut total = Outcome::default();
     for outcome in outcomes {
         total.added = total.added.saturating_add(outcome.added);
         total.called = total.called.saturating_add(outcome.called);
@@ -277,60 +229,37 @@ fn total(outcomes: &[Outcome]) -> Outcome {
 /// Has the threads do their work, and answers what they have added, counted and found wrong.
 fn played<R: Threads + Wait + Sync>(
     rt: &R,
-    commons: Commons<'_>,
-    jobs: Vec<Job>,
-) -> Result<Outcome, AllocError>
-    requires { All (λ job. (job.seat.monitor ≡ commons.monitor.now) × (job.kit.env_seat.env ≡ commons.env.now)) jobs.items }
-{
+    jobs: Vec<Job<'_, '_, '_>>,
+) -> Result<Outcome, AllocError> {
     let outcomes = map_vec(
         rt,
         jobs,
         &|job: Job| -> Outcome
-            requires { IsSync R.row × (job.seat.monitor ≡ commons.monitor.now) × (job.kit.env_seat.env ≡ commons.env.now) }
-        { work(rt, commons, job) },
+            requires { IsSync R.row }
+        { work(rt, job) },
     )?;
     Ok(total(outcomes.as_slice()))
 }
 
-/// The round of this number.
-pub fn run<R: Threads + Wait + Sync>(rt: &R, alloc: Global, seed: u64, round: u64) -> Verdict {
+/// Makes the round of this number, and answers what came of it; nothing where memory is refused.
+fn made<R: Threads + Wait + Sync>(rt: &R, alloc: Global, seed: u64, round: u64) -> Option<Verdict> {
     let mut draws = Pcg32::new(seed, round);
     let plan = Plan::drawn(&mut draws);
     let threads = plan.threads as usize;
-    let Ok((monitor, mut seats)) = Monitor::new(alloc, threads + 2) else {
-        return Verdict::NoMemory;
-    };
-    let Ok((env, env_seats)) = Env::new(alloc, threads + 1) else {
-        return Verdict::NoMemory;
-    };
-    let Some(last) = seats.pop() else {
-        return Verdict::NoMemory;
-    };
-    let last = begin(rt, &monitor, last, plan);
+    let (monitor, seats) = Monitor::new(alloc, threads + 2).ok()?;
+    let (env, env_seats) = Env::new(alloc, threads + 1).ok()?;
     let door = Door::new(plan.threads);
-    let commons = Commons {
-        monitor: &monitor,
-        env: &env,
-        door: &door,
-        most: plan.most,
-    };
-    let Ok(jobs) = jobs(alloc, commons, plan, &mut draws, seats, env_seats) else {
-        return Verdict::NoMemory;
-    };
-    let Ok(total) = played(rt, commons, jobs) else {
-        return Verdict::NoMemory;
-    };
-    if let Some(what) = total.wrong {
-        return Verdict::Wrong(what);
-    }
-    let closed = monitor.close(last);
-    if !closed.free {
-        Verdict::Wrong("the lock ends held")
-    } else if closed.row != plan.last_row(total.added) {
-        Verdict::Wrong("the cells end otherwise")
-    } else if total.woken != total.called {
-        Verdict::Wrong("more or fewer were woken than were called")
-    } else {
-        Verdict::Right
-    }
+    let mut handles = monitor.handles(seats);
+    let mut watchers = env.watchers(env_seats);
+    let mut held = handles.next()?.lock(rt);
+    held.set(ROOM, plan.most);
+    let last = held.unlock(rt);
+    let jobs = jobs(alloc, plan, &mut draws, &door, &mut handles, &mut watchers).ok()?;
+    let total = played(rt, jobs).ok()?;
+    Some(plan.judged(last, total))
+}
+
+/// The round of this number.
+pub fn run<R: Threads + Wait + Sync>(rt: &R, alloc: Global, seed: u64, round: u64) -> Verdict {
+    made(rt, alloc, seed, round).unwrap_or(Verdict::NoMemory)
 }

@@ -1,84 +1,65 @@
 //! Wakes of those who wait for a variable between their turns, as long as anybody works.
 
-ghost use Rattle.std.specs.Prelude.{◌≡◌, ◌<◌};
+ghost use Rattle.std.specs.Prelude.{◌<◌};
 
-use crate::kit::{Commons, Kit};
+use crate::kit::{Kit, RowHandle};
 use crate::sections::{leave, tick};
-use crate::waits::Fits;
-use crate::wish::Wish;
-use ns_model::event::Mode;
-use ns_monitor::caller::{Caller, Hand, Seat};
+use ns_monitor::caller::Hand;
+use ns_monitor::{Acting, Gated, Mode};
 use std::sync::Wait;
 use std::thread::yield_now;
 
 /// One of the two variables by which somebody is roused again and again.
-pub fn draw_variable(kit: &mut Kit) -> u8
-    ensures variable { result < 4 }
-    ensures env { kit.new.env_seat ≡ kit.old.env_seat }
+pub fn draw_variable(kit: &mut Kit<'_, '_>) -> u8
+    ensures { result < 4 }
 {
     2 + kit.draw(2) as u8
 }
 
 /// Signals or broadcasts one of the two variables, with or without a section in hand.
-pub fn rouse<H: Hand<Wish, 4>, R: Wait>(
+pub fn rouse<H: Hand<C, N>, C: Gated<N>, const N: usize, R: Wait>(
     rt: &R,
-    commons: Commons<'_>,
-    caller: &mut Caller<H, Wish, 4>,
-    kit: &mut Kit,
-)
-where
-    Caller<H, Wish, 4>: Fits,
-    requires { caller.old.monitor ≡ commons.monitor.now }
-    ensures { (caller.new.monitor ≡ caller.old.monitor) × (kit.new.env_seat ≡ kit.old.env_seat) }
-{
+    caller: &mut Acting<'_, H, C, N>,
+    kit: &mut Kit<'_, '_>,
+) {
     let variable = draw_variable(kit);
     if kit.draw(2) == 0 {
-        commons.monitor.signal(rt, caller, variable);
+        caller.signal(rt, variable);
     } else {
-        commons.monitor.broadcast(rt, caller, variable);
+        caller.broadcast(rt, variable);
     }
 }
 
 /// Rouses once, and mostly moves the clock on, so that nobody waits for ever.
-fn rouse_once<R: Wait>(
+fn rouse_once<'m, R: Wait>(
     rt: &R,
-    commons: Commons<'_>,
-    seat: Seat<Wish, 4>,
-    kit: &mut Kit,
-) -> Seat<Wish, 4>
-    requires { (seat.monitor ≡ commons.monitor.now) × (kit.old.env_seat.env ≡ commons.env.now) }
-    ensures { (result.monitor ≡ commons.entry.monitor.now) × (kit.new.env_seat.env ≡ kit.old.env_seat.env) }
-{
-    let mut seat = seat;
+    mut handle: RowHandle<'m>,
+    kit: &mut Kit<'_, '_>,
+) -> RowHandle<'m> {
     match kit.draw(4) {
         0 => {
-            let mut held = commons.monitor.lock(rt, seat);
-            kit.enter(commons.door, Mode::Write);
-            rouse(rt, commons, &mut held, kit);
-            seat = leave(rt, commons, held, kit);
+            let mut held = handle.lock(rt);
+            kit.enter(Mode::Write);
+            rouse(rt, &mut held, kit);
+            handle = leave(rt, held, kit);
         }
-        1 => rouse(rt, commons, &mut seat, kit),
-        _ => tick(commons, kit),
+        1 => rouse(rt, &mut handle, kit),
+        _ => tick(kit),
     }
-    seat
+    handle
 }
 
 /// Rouses again and again until all others have done their work.
-pub fn rouse_all<R: Wait>(
+pub fn rouse_all<'m, R: Wait>(
     rt: &R,
-    commons: Commons<'_>,
-    seat: Seat<Wish, 4>,
-    kit: &mut Kit,
-) -> Seat<Wish, 4>
-    requires { (seat.monitor ≡ commons.monitor.now) × (kit.old.env_seat.env ≡ commons.env.now) }
-    ensures { (result.monitor ≡ commons.entry.monitor.now) × (kit.new.env_seat.env ≡ kit.old.env_seat.env) }
-{
-    let mut seat = seat;
+    mut handle: RowHandle<'m>,
+    kit: &mut Kit<'_, '_>,
+) -> RowHandle<'m> {
     for _ in rt.forever() {
-        if commons.door.is_quiet() {
-            return seat;
+        if kit.door.is_quiet() {
+            return handle;
         }
-        seat = rouse_once(rt, commons, seat, kit);
+        handle = rouse_once(rt, handle, kit);
         yield_now();
     }
     unreachable!()

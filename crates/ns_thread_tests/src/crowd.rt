@@ -5,6 +5,7 @@ ghost use Rattle.std.specs.Prelude.{◌≡◌, ◌==◌, All, nat_le, slice_inde
 ghost use Rattle.std.specs.Thread.{IsSync};
 ghost use Rattle.ns_model.specs.Truths.{truths};
 
+use crate::locks::{new_monitor, row_at_end};
 use ns_model::condition::Condition;
 use ns_monitor::{Handle, Monitor, Seat, Writing};
 use std::alloc::{AllocError, Global};
@@ -154,13 +155,6 @@ fn crowd_and_count<R: Threads + Wait + Sync>(
     (back, once, never)
 }
 
-/// A monitor, and 62 seats.
-fn new_monitor<R: Abort>(rt: &R, alloc: Global) -> (Monitor<Counted, 2>, Vec<Seat<Counted, 2>>)
-    ensures { All (λ seat. seat.monitor ≡ result.0) result.1.items }
-{
-    Monitor::new(alloc, 62).ok().expect(rt, "a monitor")
-}
-
 /// The last seat that is left of a monitor's, as a handle.
 fn take_lock<'m, R: Abort>(
     rt: &R,
@@ -174,19 +168,13 @@ fn take_lock<'m, R: Abort>(
     Handle::new(monitor, seat)
 }
 
-/// The cells, where the lock is free.
-fn row_at_end(lock: Lock<'_>) -> Option<[u64; 2]> {
-    let mut held = lock.try_lock().ok()?;
-    Some([held.get(0), held.get(1)])
-}
-
 /// How many of the crowd come back, how many tests each of the two releases makes, and the cells at the end.
 fn count_past_crowd<R: Abort + Threads + Wait + Sync>(
     rt: &R,
     alloc: Global,
 ) -> ((usize, u64, u64), Option<[u64; 2]>) {
     let tests = new_count(alloc).ok().expect(rt, "a word to count in");
-    let (monitor, mut seats) = new_monitor(rt, alloc);
+    let (monitor, mut seats) = new_monitor(rt, alloc, 62);
     let last = take_lock(rt, &monitor, &mut seats);
     let lock = take_lock(rt, &monitor, &mut seats);
     let counted = crowd_and_count(rt, &monitor, seats, lock, tests);
@@ -359,7 +347,7 @@ fn count_in_line<R: Abort + Threads + Wait + Sync>(
     taken: u64,
 ) -> (usize, u64) {
     let line = new_line(rt, alloc, taken);
-    let (monitor, mut seats) = new_monitor(rt, alloc);
+    let (monitor, mut seats) = new_monitor(rt, alloc, 62);
     take_lock(rt, &monitor, &mut seats);
     let lock = take_lock(rt, &monitor, &mut seats);
     line_and_count(rt, &monitor, seats, lock, line)

@@ -1,23 +1,21 @@
 //! A gate, from outside: it is made, its seats are taken out, and it is refused; and a seat is driven
 //! by walks as values, act by act, from what a place wants to where it goes.
 
-ghost use Rattle.std.specs.Prelude.{◌≡◌, ◌<◌, [], None, Some, nat_le, slice_index, true, false};
+ghost use Rattle.std.specs.Prelude.{◌≡◌, ◌<◌, [], None, Some, true, false};
 ghost use Rattle.ns_gate.specs.Calls.{HasAnswered, HasSince, IsAtRest, SeatOf};
 ghost use Rattle.ns_gate.specs.Performing.{Needs};
 ghost use Rattle.ns_gate.specs.Steps.{CanStep, Performed, carried_by, the};
-ghost use Rattle.ns_model.specs.Truths.{truths};
 ghost use Rattle.ns_queue.specs.Queues.{Lists};
 ghost use Rattle.ns_word.specs.Asked.{asked_of};
 ghost use Rattle.ns_word.specs.Begins.{IsFirst};
 ghost use Rattle.ns_word.specs.Places.{PlaceFits};
 ghost use Rattle.ns_word.specs.Walks.{got_of, want_of};
 
-use ns_fixtures::AtLeast;
+use ns_fixtures::{AtLeast, Never};
 use ns_gate::fault::Fault;
 use ns_gate::gate::{Gate, GateSeat};
 use ns_gate::perform::Beside;
 use ns_gate::queues::Turned;
-use ns_model::condition::Condition;
 use ns_model::event::Mode;
 use ns_monitor::room::Gated;
 use ns_word::act::{Act, Found};
@@ -48,36 +46,6 @@ fn too_many_seats(rt: HostRuntime) {
 fn refused_memory(rt: HostRuntime) {
     let made = gate_of(rt.alloc(), 3);
     assert!(rt; matches!(made, Ok(()) | Err(Fault::OutOfMemory)));
-}
-
-/// The cell is at least 1.
-#[derive(Clone, Copy)]
-struct Raised;
-
-impl Condition<1> for Raised {
-    ghost use Rattle.std.proofs.Common.{rules};
-
-    ghost means = { truths (λ c row. nat_le 1 (slice_index row 0)) (λ c d. false) (λ before after. false) };
-
-    fn test(&self, row: &[u64; 1]) -> bool {
-        1 <= row[0]
-    }
-
-    fn same(&self, _other: &Self) -> bool {
-        false
-    }
-
-    fn quiet(_before: &[u64; 1], _after: &[u64; 1]) -> bool {
-        false
-    }
-
-    ghost same_agrees = { λ c d row n e. absurd (Prim.cc) };
-
-    ghost quiet_keeps = { λ c before after n m quiet h. absurd (Prim.cc) };
-
-    ghost has_cells = { Prim.search rules };
-
-    ghost has_room = { Prim.search rules };
 }
 
 /// What a seat knows that has no queues in hand, owes no wake and looks at nothing.
@@ -168,7 +136,7 @@ fn call<A: Abort, C: Gated<1>>(
 /// A lock, a set and a release, each reply as it is promised.
 #[test]
 fn walks_drive_a_seat(rt: HostRuntime) {
-    let (gate, mut all) = Gate::<Raised, 1>::new(rt.alloc(), 1)
+    let (gate, mut all) = Gate::<Never, 1>::new(rt.alloc(), 1)
         .ok()
         .expect(&rt, "a gate");
     let mut seat = gate.part(&mut all);

@@ -3,7 +3,7 @@
 ghost use Rattle.std.specs.Prelude.{◌≡◌, ◌<◌, All};
 
 use ns_fixtures::AtLeast;
-use ns_monitor::{Handle, Monitor, Reading, Seat, Writing};
+use ns_monitor::{Gated, Handle, Monitor, Reading, Seat, Writing};
 use std::alloc::Global;
 use std::process::Abort;
 use std::sync::Wait;
@@ -17,9 +17,6 @@ pub type Held<'m> = Writing<'m, AtLeast, 2>;
 /// The same with a section in hand that reads.
 pub type ReadHeld<'m> = Reading<'m, AtLeast, 2>;
 
-/// A monitor, and the seats that no handle has yet.
-pub type Made = (Monitor<AtLeast, 2>, Vec<Seat<AtLeast, 2>>);
-
 /// How often a thread tries that has to succeed.
 pub const MANY_TRIES: u32 = 1_000_000;
 
@@ -27,7 +24,11 @@ pub const MANY_TRIES: u32 = 1_000_000;
 pub const TICK: u64 = 10;
 
 /// A monitor and so many seats.
-pub fn new_monitor<R: Abort>(rt: &R, alloc: Global, seats: usize) -> Made
+pub fn new_monitor<C: Gated<2>, R: Abort>(
+    rt: &R,
+    alloc: Global,
+    seats: usize,
+) -> (Monitor<C, 2>, Vec<Seat<C, 2>>)
     requires { 0 < seats }
     ensures { All (λ seat. seat.monitor ≡ result.0) result.1.items }
 {
@@ -50,7 +51,7 @@ pub fn two_locks<'m, R: Abort>(
 }
 
 /// The cells, where the lock is free.
-pub fn row_at_end(lock: Lock<'_>) -> Option<[u64; 2]> {
+pub fn row_at_end<C: Gated<2>>(lock: Handle<'_, C, 2>) -> Option<[u64; 2]> {
     let mut held = lock.try_lock().ok()?;
     Some([held.get(0), held.get(1)])
 }
