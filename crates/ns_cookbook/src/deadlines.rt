@@ -56,7 +56,7 @@ const LAST: u64 = (1 << 54) - 1;
 /// Moves the clock to the milliseconds that have passed, about each millisecond, until it is told to end.
 fn run_clock<R: Wait + Clock>(
     rt: &R,
-    mut watcher: Watcher<'_>,
+    watcher: &mut Watcher<'_>,
     is_over: &AtomicBool,
 ) -> io::Result<()> {
     let start = Instant::now(rt)?;
@@ -76,7 +76,7 @@ pub fn milliseconds<R: Threads + Wait + Sync + Clock>(rt: &R, alloc: Global) -> 
     let (monitor, seats) = Monitor::new(alloc, 1).ok().context("no memory")?;
     let (env, env_seats) = Env::new(alloc, 2).ok().context("no memory")?;
     let lock = monitor.handles(seats).next().context("no seats")?;
-    let (here, there) = env.watchers(env_seats).pair().context("no seats")?;
+    let (here, mut there) = env.watchers(env_seats).pair().context("no seats")?;
     let is_over = AtomicBool::new(false);
     let ending = &is_over;
     let (answer, clock) = join(
@@ -90,7 +90,11 @@ pub fn milliseconds<R: Threads + Wait + Sync + Clock>(rt: &R, alloc: Global) -> 
         },
         move || -> io::Result<()>
             requires { IsSync R.row }
-        { run_clock(rt, there, ending) },
+        {
+            let ran = run_clock(rt, &mut there, ending);
+            there.advance(LAST); // nobody waits for a clock that has stopped
+            ran
+        },
     );
     clock.context("no clock")?;
     Ok(answer)

@@ -12,7 +12,10 @@ use std::thread::{Threads, join};
 /// Adds 1 to the cell, a hundred times.
 fn count<'m, R: Wait>(rt: &R, mut lock: Handle<'m, Never, 1>) -> Handle<'m, Never, 1> {
     for _ in 0..100 {
-        let mut held = lock.lock(rt);
+        let mut held = match lock.try_lock() {
+            Ok(held) => held,
+            Err(lock) => lock.lock(rt), // it was busy, so wait for it
+        };
         let sum = held.get(0);
         held.set(0, sum.wrapping_add(1));
         lock = held.unlock(rt);

@@ -23,14 +23,10 @@ fn finish<R: Wait>(rt: &R, mut sharer: Sharer<'_>)
     let _ = sharer.counter_add(rt, 0, -1);
 }
 
-/// A counter as a wait group: who waits for 0 goes on once each has counted its part off.
-pub fn wait_group<R: Threads + Wait + Sync>(rt: &R, alloc: Global) -> Result<u32> {
-    let (objects, seats) = Objects::new(alloc, &[2], 0, 3).ok().context("no memory")?;
-    let (env, env_seats) = Env::new(alloc, 1).ok().context("no memory")?;
-    let mut sharers = objects.sharers(seats);
-    let mut waiter = sharers.next().context("no seats")?;
-    let (one, two) = sharers.pair().context("no seats")?;
-    let mut watcher = env.watchers(env_seats).next().context("no seats")?;
+/// Two do their parts.
+fn finish_both<R: Threads + Wait + Sync>(rt: &R, one: Sharer<'_>, two: Sharer<'_>)
+    requires { (0 < one.setup.counters) × (0 < two.setup.counters) }
+{
     join(
         rt,
         move ||
@@ -40,7 +36,33 @@ pub fn wait_group<R: Threads + Wait + Sync>(rt: &R, alloc: Global) -> Result<u32
             requires { IsSync R.row × (0 < two.setup.counters) }
         { finish(rt, two) },
     );
-    Ok(waiter.counter_wait(rt, 0, None, &mut watcher))
+}
+
+/// Waits until the counter is 0, and answers that.
+fn wait_for_all<R: Wait>(rt: &R, mut sharer: Sharer<'_>, mut watcher: Watcher<'_>) -> u32
+    requires { 0 < sharer.setup.counters }
+{
+    sharer.counter_wait(rt, 0, None, &mut watcher)
+}
+
+/// A counter as a wait group: who waits for 0 goes on once each has counted its part off.
+pub fn wait_group<R: Threads + Wait + Sync>(rt: &R, alloc: Global) -> Result<u32> {
+    let (objects, seats) = Objects::new(alloc, &[2], 0, 3).ok().context("no memory")?;
+    let (env, env_seats) = Env::new(alloc, 1).ok().context("no memory")?;
+    let mut sharers = objects.sharers(seats);
+    let waiter = sharers.next().context("no seats")?;
+    let (one, two) = sharers.pair().context("no seats")?;
+    let watcher = env.watchers(env_seats).next().context("no seats")?;
+    let (left, ()) = join(
+        rt,
+        move || -> u32
+            requires { IsSync R.row × (0 < waiter.setup.counters) }
+        { wait_for_all(rt, waiter, watcher) },
+        move ||
+            requires { IsSync R.row × (0 < one.setup.counters) × (0 < two.setup.counters) }
+        { finish_both(rt, one, two) },
+    );
+    Ok(left)
 }
 
 /// Makes the value, if nobody has, and answers whether it did.
@@ -70,7 +92,7 @@ pub fn made_once<R: Threads + Wait + Sync>(rt: &R, alloc: Global) -> Result<bool
 }
 
 /// Waiting for whichever of several comes first: a note that nobody notifies, or a counter that comes to 0.
-pub fn whichever_first<R: Threads + Wait + Sync>(rt: &R, alloc: Global) -> Result<usize> {
+pub fn whichever_first<R: Wait>(rt: &R, alloc: Global) -> Result<usize> {
     let (objects, seats) = Objects::new(alloc, &[1], 0, 2).ok().context("no memory")?;
     let (env, env_seats) = Env::new(alloc, 1).ok().context("no memory")?;
     let (mut waiter, other) = objects.sharers(seats).pair().context("no seats")?;

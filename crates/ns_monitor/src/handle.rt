@@ -1,8 +1,9 @@
 //! Handles: a caller of a monitor together with the monitor that it is of.
 //!
 //! That a seat or a section is of this monitor is an invariant of the handle's type. So a program over handles
-//! needs no clause and no loop invariant that says it. Each call does what the call of the same name does, for
-//! the seat or the section that the handle has, and promises what that does.
+//! needs no clause and no loop invariant that says it, but where two meet, and for `close`. Each call does what
+//! the monitor's call of the same name does, for the seat or the section that the handle has, and promises what
+//! that does. Those of the fast path have its body, too: a call of a function that may wait takes instructions.
 
 ghost use Rattle.std.specs.Prelude.{◌≡◌, ◌<◌, ◌++◌, [], ◌∷◌, true, Some, All, IfErr, IfOk, length, slice_index, slice_set};
 ghost use Rattle.ns_model.specs.declared.event.Exit.TheVariants as TheExit;
@@ -22,8 +23,8 @@ use std::sync::Wait;
 
 /// A caller of a monitor, with what it has in hand, and the monitor, which it borrows.
 ///
-/// For contracts it is what its caller is. The fields are public for crates that make calls of their own of
-/// the monitor's, as ns_objects does.
+/// For contracts it is what its caller is. The fields are public for crates that call the monitor with them,
+/// as ns_objects does.
 #[derive(Drop)]
 pub struct Acting<'m, H: Hand<C, N>, C: Condition<N>, const N: usize> {
     /// The monitor.

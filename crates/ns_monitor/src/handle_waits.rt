@@ -21,14 +21,14 @@ use std::sync::Wait;
 ///
 /// For contracts it is what the wait is. Where it is dropped, what [`AnyWaiting`] says of that is so.
 #[derive(Drop)]
-pub struct Waiting<'m, H: Renewed<C, N>, C: Gated<N>, const N: usize> {
+pub struct WaitingForAny<'m, H: Renewed<C, N>, C: Gated<N>, const N: usize> {
     /// The monitor.
     pub monitor: &'m Monitor<C, N>,
     /// The wait, which is of this monitor.
     pub waiting: AnyWaiting<H, C, N>,
 }
 
-impl<'m, H: Renewed<C, N>, C: Gated<N>, const N: usize> Model for Waiting<'m, H, C, N> {
+impl<'m, H: Renewed<C, N>, C: Gated<N>, const N: usize> Model for WaitingForAny<'m, H, C, N> {
     ghost use Rattle.std.specs.Prelude.{◌≡◌};
     ghost use Rattle.ns_monitor.specs.Several.{WaitKnown};
 
@@ -117,35 +117,35 @@ impl<'m, H: Renewed<C, N>, C: Gated<N>, const N: usize> Acting<'m, H, C, N> {
     /// Leaves its section and begins to wait for any of these condition variables, as [`Monitor::any_begin`].
     ///
     /// Needs at least one variable, and each below 4.
-    pub fn any_begin<R: Wait>(self, rt: &R, cvs: Cvs) -> Waiting<'m, H, C, N>
+    pub fn any_begin<R: Wait>(self, rt: &R, cvs: Cvs) -> WaitingForAny<'m, H, C, N>
         requires { AreSome cvs }
         ensures { HasBegunToWait C.means H.mode cvs self.entry result }
     {
         let Acting { monitor, caller } = self;
         let waiting = monitor.any_begin(rt, caller, cvs);
-        Waiting { monitor, waiting }
+        WaitingForAny { monitor, waiting }
     }
 }
 
-impl<'m, H: Renewed<C, N>, C: Gated<N>, const N: usize> Waiting<'m, H, C, N> {
+impl<'m, H: Renewed<C, N>, C: Gated<N>, const N: usize> WaitingForAny<'m, H, C, N> {
     /// Asks whether the wait was woken, and gives the section or the wait back, as [`Monitor::any_poll`].
-    pub fn poll<R: Wait>(self, rt: &R) -> AnyPoll<Acting<'m, H, C, N>, Self>
+    pub fn any_poll<R: Wait>(self, rt: &R) -> AnyPoll<Acting<'m, H, C, N>, Self>
         ensures woken { IfWoken result (λ back k. HasComeBackFromAny C.means H.mode (Some k) self.entry back) }
         ensures still { IfStill result (λ still. WaitsStill C.means self.entry still) }
     {
-        let Waiting { monitor, waiting } = self;
+        let WaitingForAny { monitor, waiting } = self;
         match monitor.any_poll(rt, waiting) {
             AnyPoll::Woken(caller, k) => AnyPoll::Woken(Acting { monitor, caller }, k),
-            AnyPoll::Still(waiting) => AnyPoll::Still(Waiting { monitor, waiting }),
+            AnyPoll::Still(waiting) => AnyPoll::Still(WaitingForAny { monitor, waiting }),
         }
     }
 
     /// Ends the wait and gives the section, with the variable whose wake had come before, if one had, as
     /// [`Monitor::any_leave`].
-    pub fn leave<R: Wait>(self, rt: &R) -> (Acting<'m, H, C, N>, Option<u8>)
+    pub fn any_leave<R: Wait>(self, rt: &R) -> (Acting<'m, H, C, N>, Option<u8>)
         ensures { HasComeBackFromAny C.means H.mode result.1 self.entry result.0 }
     {
-        let Waiting { monitor, waiting } = self;
+        let WaitingForAny { monitor, waiting } = self;
         let (caller, by) = monitor.any_leave(rt, waiting);
         (Acting { monitor, caller }, by)
     }

@@ -30,7 +30,7 @@ impl<'m, C: Condition<N>, const N: usize> Model for Handles<'m, C, N> {
 }
 
 impl<C: Gated<N>, const N: usize> Monitor<C, N> {
-    /// These seats, of which each thread takes a handle by [`Handles::next`].
+    /// Handles with these seats, which threads take by [`Handles::next`] or [`Handles::pair`]. It takes no memory.
     ///
     /// Needs seats of this monitor, as [`Monitor::new`] gives them.
     pub fn handles(&self, seats: Vec<Seat<C, N>>) -> Handles<'_, C, N>
@@ -45,7 +45,7 @@ impl<C: Gated<N>, const N: usize> Monitor<C, N> {
 }
 
 impl<'m, C: Gated<N>, const N: usize> Handles<'m, C, N> {
-    /// A handle with the last of these seats, or none where each has one.
+    /// A handle with the last of these seats, or none where no seat is left.
     pub fn next(&mut self) -> Option<Handle<'m, C, N>>
         ensures taken { self.old ≡ self.new ++ option_to_list result }
         ensures some { IsSome result ↔ (0 < length self.old) }

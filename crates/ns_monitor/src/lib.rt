@@ -72,7 +72,7 @@ mod watching;
 
 pub use caller::{Caller, Compact, Hand, ReadHeld, Renewed, Seat, Section, WriteHeld};
 pub use handle::{Acting, Handle, Reading, Writing};
-pub use handle_waits::Waiting;
+pub use handle_waits::WaitingForAny;
 pub use handles::Handles;
 pub use monitor::Monitor;
 pub use ns_gate::closed::Closed;

@@ -15,12 +15,13 @@ use ns_model::environment::EnvEvent;
 use ns_model::event::Answer;
 use std::marker::Model;
 use std::sync::Wait;
+use std::time::Duration;
 
 /// A caller of an environment: its seat, and the environment that it is of, which it borrows.
 ///
 /// For contracts it is what its seat is. That the seat is of the environment is so of each `Watcher`, so
-/// no clause and no loop says it. Who has one may take it apart, and needs that only to make another of
-/// the two.
+/// no clause and no loop says it. It may be taken apart; to put one together, seat and environment have to
+/// fit.
 #[derive(Drop)]
 pub struct Watcher<'e> {
     /// The environment.
@@ -206,9 +207,17 @@ impl<'e> Watcher<'e> {
     {
         self.env.note_wait(rt, &mut self.seat, note, deadline)
     }
+
+    /// Sleeps until the next [`Env::notify`] or [`Env::advance`], for at most `longest`, as [`Env::rest`].
+    #[inline(always)]
+    pub fn rest<R: Wait>(&mut self, rt: &R, longest: Duration)
+        ensures { self.new ≡ self.old }
+    {
+        self.env.rest(rt, &mut self.seat, longest);
+    }
 }
 
-/// The callers of an environment that nobody has taken yet.
+/// The seats of an environment that no watcher has yet, and the environment, which it borrows.
 ///
 /// For contracts they are what their seats are, in order; the next is the last of them. That each seat is
 /// of the environment is so of all `Watchers`.
@@ -230,7 +239,7 @@ impl<'e> Model for Watchers<'e> {
 }
 
 impl<'e> Watchers<'e> {
-    /// The last caller of those that are left, if one is, as `Vec::pop`.
+    /// A watcher with the last of these seats, or none where no seat is left.
     #[inline(always)]
     pub fn next(&mut self) -> Option<Watcher<'e>>
         ensures taken { self.old ≡ self.new ++ option_to_list result }
@@ -256,7 +265,7 @@ impl<'e> Watchers<'e> {
 }
 
 impl Env {
-    /// The callers of this environment, each with one of these seats. It takes no memory.
+    /// Watchers with these seats. It takes no memory.
     ///
     /// Needs seats of this environment, as [`Env::new`] gives them.
     #[inline(always)]

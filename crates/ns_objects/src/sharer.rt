@@ -266,7 +266,7 @@ impl<'o> Sharer<'o> {
     }
 }
 
-/// The callers of some objects that nobody has taken yet.
+/// The seats of some objects that no sharer has yet, and the objects, which it borrows.
 ///
 /// For contracts they are what their seats are, in order; the next is the last of them. That each seat is of
 /// the objects is so of all `Sharers`.
@@ -288,7 +288,7 @@ impl<'o> Model for Sharers<'o> {
 }
 
 impl<'o> Sharers<'o> {
-    /// The last caller of those that are left, if one is, as `Vec::pop`.
+    /// A sharer with the last of these seats, or none where no seat is left.
     #[inline(always)]
     pub fn next(&mut self) -> Option<Sharer<'o>>
         ensures taken { self.old ≡ self.new ++ option_to_list result }
@@ -314,7 +314,7 @@ impl<'o> Sharers<'o> {
 }
 
 impl Objects {
-    /// The callers of these objects, each with one of these seats. It takes no memory.
+    /// Sharers with these seats. It takes no memory.
     ///
     /// Needs seats of these objects, as [`Objects::new`] gives them.
     #[inline(always)]

@@ -103,7 +103,7 @@ fn wait_for_either<'m, H: Renewed<C, N>, C: Gated<N>, const N: usize, R: Wait>(
     kit.door.leave(H::mode());
     let mut waiting = held.any_begin(rt, Cvs(12));
     for _ in 0..kit.draw(64) {
-        waiting = match waiting.poll(rt) {
+        waiting = match waiting.any_poll(rt) {
             AnyPoll::Woken(held, variable) => {
                 kit.enter(H::mode());
                 kit.expect(is_rousing(variable), "woken by another variable");
@@ -113,7 +113,7 @@ fn wait_for_either<'m, H: Renewed<C, N>, C: Gated<N>, const N: usize, R: Wait>(
         };
         yield_now();
     }
-    let (held, by) = waiting.leave(rt);
+    let (held, by) = waiting.any_leave(rt);
     kit.enter(H::mode());
     if let Some(variable) = by {
         kit.expect(is_rousing(variable), "woken by another variable");

@@ -6,15 +6,15 @@ ghost use Rattle.std.specs.Prelude.{◌<◌, ◌≤◌};
 use crate::locks::{Lock, new_monitor, two_locks};
 use ns_fixtures::AtLeast;
 use ns_monitor::caller::Writing;
-use ns_monitor::{AnyPoll, Cvs, Waiting};
+use ns_monitor::{AnyPoll, Cvs, WaitingForAny};
 use std::sync::Wait;
 
 /// A wait that was begun in a write section.
-type Begun<'m> = Waiting<'m, Writing<2>, AtLeast, 2>;
+type Begun<'m> = WaitingForAny<'m, Writing<2>, AtLeast, 2>;
 
 /// Asks a wait that nobody has woken.
 fn ask_in_vain<'m, R: Wait>(rt: &R, waiting: Begun<'m>) -> Option<Begun<'m>> {
-    match waiting.poll(rt) {
+    match waiting.any_poll(rt) {
         AnyPoll::Woken(_, _) => None,
         AnyPoll::Still(waiting) => Some(waiting),
     }
@@ -25,7 +25,7 @@ fn ask_behind<R: Wait>(rt: &R, waiting: Begun<'_>, mut other: Lock<'_>, k: u8) -
     requires { k < 4 }
 {
     other.signal(rt, k);
-    match waiting.poll(rt) {
+    match waiting.any_poll(rt) {
         AnyPoll::Woken(held, by) => {
             held.unlock(rt);
             Some(by)
@@ -65,7 +65,7 @@ fn a_signal_ends_it(rt: HostRuntime) {
 /// Begins to wait for variables, and ends it. Answers which had woken it.
 fn leave_at_once<'m, R: Wait>(rt: &R, lock: Lock<'m>) -> (Lock<'m>, Option<u8>) {
     let waiting = lock.lock(rt).any_begin(rt, Cvs(10));
-    let (held, by) = waiting.leave(rt);
+    let (held, by) = waiting.any_leave(rt);
     (held.unlock(rt), by)
 }
 
@@ -88,7 +88,7 @@ fn leave_where_moved<R: Wait>(rt: &R, lock: Lock<'_>, other: Lock<'_>) -> Option
     held.signal(rt, 1);
     let waiting = ask_in_vain(rt, waiting)?;
     held.unlock(rt);
-    let (held, by) = waiting.leave(rt);
+    let (held, by) = waiting.any_leave(rt);
     held.unlock(rt);
     by
 }
