@@ -93,8 +93,8 @@ pub fn readers_and_a_writer<R: Threads + Wait + Sync>(rt: &R, alloc: Global) -> 
     Ok(torn.wrapping_add(also))
 }
 
-/// A release that promises to wake nobody: it tests no waiter's condition. `is_quiet` asks the condition
-/// type whether the section's change can have made one true.
+/// A release that promises to wake nobody by what its section has changed: no condition that is known to be
+/// false is tested. `is_quiet` asks the condition type whether that change can have made one true.
 pub fn quiet_release<R: Wait>(rt: &R, alloc: Global) -> Result<bool> {
     let (monitor, seats) = Monitor::new(alloc, 1).ok().context("no memory")?;
     let lock: Handle<AtLeast, 2> = monitor.handles(seats).next().context("no seats")?;
