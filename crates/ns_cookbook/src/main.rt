@@ -1,6 +1,7 @@
 //! A short function for each thing that a program comes to the library for. docs/USING.md shows them.
 //!
-//! Each has its threads end by themselves, and its result is the same in every run.
+//! Each has its threads end by themselves, and its result is the same in every run. It rests on ns_monitor,
+//! ns_note and ns_objects, and takes its conditions and its ring from ns_fixtures.
 #![tactic(auto)]
 
 mod deadlines;

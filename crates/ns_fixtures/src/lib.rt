@@ -12,7 +12,7 @@
 //!
 //! Who waits for condition variables instead asks [`is_met`] after each wake.
 //!
-//! ns_live, ns_bench, the example programs and ns_thread_tests call it. It rests on ns_monitor.
+//! ns_live, ns_bench, ns_cookbook and ns_thread_tests call it. It rests on ns_monitor.
 #![tactic(auto)]
 
 mod at_least;

@@ -47,7 +47,7 @@
 //! designated waker is enough, conditions are tested by whoever releases, and who is signalled while the
 //! lock is held is moved to the waiters for it.
 //!
-//! Programs call it, and so do ns_live and ns_objects. Its calls are made of the steps of ns_gate, which
+//! Programs call it, and so do ns_fixtures and ns_objects. Its calls are made of the steps of ns_gate, which
 //! follow the walks of ns_word; clock and notes are ns_note's.
 #![tactic(auto)]
 
