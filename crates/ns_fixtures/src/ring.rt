@@ -39,6 +39,7 @@ pub type RingHeld<'m> = Writing<'m, Wish, ROW>;
 /// to wait isn't proved.
 pub fn put(held: &mut RingHeld<'_>, item: u64)
     requires { IsMetIn Room held.old.held }
+    ensures monitor { held.new.monitor ≡ held.old.monitor }
     ensures section { InHand held.old.held (λ section. held.new.held ≡ Some (record section { row = with_item item section.row })) }
     ensures last { InHand held.old.held (λ section. queue_in (with_item item section.row) ≡ queue_in section.row ++ item ∷ []) }
 {
@@ -56,6 +57,7 @@ pub fn put(held: &mut RingHeld<'_>, item: u64)
 /// a wait, a section's row is known by the wait's condition alone.
 pub fn take(held: &mut RingHeld<'_>) -> u64
     requires { IsMetIn Item held.old.held }
+    ensures monitor { held.new.monitor ≡ held.old.monitor }
     ensures section { InHand held.old.held (λ section. held.new.held ≡ Some (record section { row = without_first section.row })) }
     ensures first { InHand held.old.held (λ section. queue_in section.row ≡ result ∷ queue_in (without_first section.row)) }
 {
@@ -72,6 +74,7 @@ pub fn take(held: &mut RingHeld<'_>) -> u64
 /// Whether the wish is met in the section in hand, so that an item may be put, or taken: what a wait for a
 /// condition variable, whose wake tells nothing of the ring, is followed by.
 pub fn is_met(held: &mut RingHeld<'_>, wish: Wish) -> bool
+    ensures monitor { held.new.monitor ≡ held.old.monitor }
     ensures same { held.new.held ≡ held.old.held }
     ensures met { InHand held.new.held (λ section. is_met_at wish section.row ≡ result) }
 {
@@ -80,7 +83,8 @@ pub fn is_met(held: &mut RingHeld<'_>, wish: Wish) -> bool
 
 /// How many items were taken by now.
 pub fn count_taken(held: &mut RingHeld<'_>) -> u64
-    ensures { InHand held.old.held (λ section. result ≡ slice_index section.row 6) }
+    ensures monitor { held.new.monitor ≡ held.old.monitor }
+    ensures count { InHand held.old.held (λ section. result ≡ slice_index section.row 6) }
 {
     held.get(TAKEN)
 }
