@@ -241,6 +241,25 @@ fn played<R: Threads + Wait + Sync>(
     Ok(total(outcomes.as_slice()))
 }
 
+/// Sets how many goods there may be, has the threads play, and answers what came of it; nothing where memory is
+/// refused.
+fn play<R: Threads + Wait + Sync>(
+    rt: &R,
+    alloc: Global,
+    plan: Plan,
+    mut draws: Pcg32,
+    mut handles: Handles<'_, Wish, 4>,
+    mut watchers: Watchers<'_>,
+) -> Option<Verdict> {
+    let door = Door::new(plan.threads);
+    let mut held = handles.next()?.lock(rt);
+    held.set(ROOM, plan.most);
+    let last = held.unlock(rt);
+    let jobs = jobs(alloc, plan, &mut draws, &door, &mut handles, &mut watchers).ok()?;
+    let total = played(rt, jobs).ok()?;
+    Some(plan.judged(last, total))
+}
+
 /// Makes the round of this number, and answers what came of it; nothing where memory is refused.
 fn made<R: Threads + Wait + Sync>(rt: &R, alloc: Global, seed: u64, round: u64) -> Option<Verdict> {
     let mut draws = Pcg32::new(seed, round);
@@ -248,15 +267,9 @@ fn made<R: Threads + Wait + Sync>(rt: &R, alloc: Global, seed: u64, round: u64) 
     let threads = plan.threads as usize;
     let (monitor, seats) = Monitor::new(alloc, threads + 2).ok()?;
     let (env, env_seats) = Env::new(alloc, threads + 1).ok()?;
-    let door = Door::new(plan.threads);
-    let mut handles = monitor.handles(seats);
-    let mut watchers = env.watchers(env_seats);
-    let mut held = handles.next()?.lock(rt);
-    held.set(ROOM, plan.most);
-    let last = held.unlock(rt);
-    let jobs = jobs(alloc, plan, &mut draws, &door, &mut handles, &mut watchers).ok()?;
-    let total = played(rt, jobs).ok()?;
-    Some(plan.judged(last, total))
+    let handles = monitor.handles(seats);
+    let watchers = env.watchers(env_seats);
+    play(rt, alloc, plan, draws, handles, watchers)
 }
 
 /// The round of this number.
