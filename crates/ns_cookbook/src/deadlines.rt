@@ -4,13 +4,13 @@ ghost use Rattle.std.specs.Prelude.{IfSome};
 ghost use Rattle.std.specs.Thread.{IsSync};
 ghost use Rattle.ns_model.specs.Environments.{IsMade};
 
-use anyhow::{Context, Result};
 use ns_fixtures::AtLeast;
 use ns_model::event::Answer;
+use ns_monitor::handles::Handles;
 use ns_monitor::{Handle, Monitor};
 use ns_note::env::Env;
 use ns_note::note::Note;
-use ns_note::watcher::Watcher;
+use ns_note::watcher::{Watcher, Watchers};
 use std::alloc::Global;
 use std::io;
 use std::sync::Wait;
@@ -34,12 +34,13 @@ fn wait_until<R: Wait>(
     answer
 }
 
-/// A wait with a deadline: the clock counts ticks, and only callers move it.
-pub fn deadline<R: Threads + Wait + Sync>(rt: &R, alloc: Global) -> Result<Answer> {
-    let (monitor, seats) = Monitor::new(alloc, 1).ok().context("no memory")?;
-    let (env, env_seats) = Env::new(alloc, 2).ok().context("no memory")?;
-    let lock = monitor.handles(seats).next().context("no seats")?;
-    let (here, mut there) = env.watchers(env_seats).pair().context("no seats")?;
+/// One waits for tick 10, and the other moves the clock there.
+fn wait_and_advance<R: Threads + Wait + Sync>(
+    rt: &R,
+    lock: Handle<AtLeast, 2>,
+    here: Watcher<'_>,
+    mut there: Watcher<'_>,
+) -> Answer {
     let (answer, ()) = join(
         rt,
         move || -> Answer
@@ -47,7 +48,18 @@ pub fn deadline<R: Threads + Wait + Sync>(rt: &R, alloc: Global) -> Result<Answe
         { wait_until(rt, lock, 10, here) },
         move || there.advance(10),
     );
-    Ok(answer)
+    answer
+}
+
+/// A wait with a deadline: the clock counts ticks, and only callers move it.
+fn deadline<R: Threads + Wait + Sync>(
+    rt: &R,
+    locks: &mut Handles<'_, AtLeast, 2>,
+    watchers: &mut Watchers<'_>,
+) -> Option<Answer> {
+    let lock = locks.next()?;
+    let (here, there) = watchers.pair()?;
+    Some(wait_and_advance(rt, lock, here, there))
 }
 
 /// The last moment of a clock.
@@ -71,15 +83,16 @@ fn run_clock<R: Wait + Clock>(
     unreachable!()
 }
 
-/// Deadlines in milliseconds, by a thread that moves the clock by the system's.
-pub fn milliseconds<R: Threads + Wait + Sync + Clock>(rt: &R, alloc: Global) -> Result<Answer> {
-    let (monitor, seats) = Monitor::new(alloc, 1).ok().context("no memory")?;
-    let (env, env_seats) = Env::new(alloc, 2).ok().context("no memory")?;
-    let lock = monitor.handles(seats).next().context("no seats")?;
-    let (here, mut there) = env.watchers(env_seats).pair().context("no seats")?;
+/// One waits for 20 milliseconds, and the other moves the clock until that has come back.
+fn wait_and_run<R: Threads + Wait + Sync + Clock>(
+    rt: &R,
+    lock: Handle<AtLeast, 2>,
+    here: Watcher<'_>,
+    mut there: Watcher<'_>,
+) -> (Answer, io::Result<()>) {
     let is_over = AtomicBool::new(false);
     let ending = &is_over;
-    let (answer, clock) = join(
+    join(
         rt,
         move || -> Answer
             requires { IsSync R.row }
@@ -95,9 +108,20 @@ pub fn milliseconds<R: Threads + Wait + Sync + Clock>(rt: &R, alloc: Global) -> 
             there.advance(LAST); // nobody waits for a clock that has stopped
             ran
         },
-    );
-    clock.context("no clock")?;
-    Ok(answer)
+    )
+}
+
+/// Deadlines in milliseconds, by a thread that moves the clock by the system's.
+fn milliseconds<R: Threads + Wait + Sync + Clock>(
+    rt: &R,
+    locks: &mut Handles<'_, AtLeast, 2>,
+    watchers: &mut Watchers<'_>,
+) -> Option<Answer> {
+    let lock = locks.next()?;
+    let (here, there) = watchers.pair()?;
+    let (answer, clock) = wait_and_run(rt, lock, here, there);
+    clock.ok()?;
+    Some(answer)
 }
 
 /// Waits for what nobody sets, until the note is notified.
@@ -156,36 +180,79 @@ fn wait_for_both<R: Threads + Wait + Sync>(
     )
 }
 
-/// Cancelling a whole tree of waits by one note: who notifies a note notifies all that stand below it.
-pub fn canceled_tree<R: Threads + Wait + Sync>(
+/// Two wait, and the third notifies the note above theirs.
+fn wait_and_cancel<R: Threads + Wait + Sync>(
     rt: &R,
-    alloc: Global,
-) -> Result<(Option<Answer>, Option<Answer>)> {
-    let (monitor, seats) = Monitor::new(alloc, 2).ok().context("no memory")?;
-    let (env, env_seats) = Env::new(alloc, 3).ok().context("no memory")?;
-    let (one, two) = monitor.handles(seats).pair().context("no seats")?;
-    let mut watchers = env.watchers(env_seats);
-    let mut mine = watchers.next().context("no seats")?;
-    let (first, second) = watchers.pair().context("no seats")?;
-    let (root, branch, leaf) = tree(&mut mine).context("no notes")?;
-    let one = Waiter {
-        lock: one,
-        watcher: first,
-        note: branch,
-    };
-    let two = Waiter {
-        lock: two,
-        watcher: second,
-        note: leaf,
-    };
+    one: Waiter<'_, '_>,
+    two: Waiter<'_, '_>,
+    mut watcher: Watcher<'_>,
+    root: Note,
+) -> (Option<Answer>, Option<Answer>)
+    requires { IsMade watcher.seen root.index }
+{
     let (answers, ()) = join(
         rt,
         move || -> (Option<Answer>, Option<Answer>)
             requires { IsSync R.row }
         { wait_for_both(rt, one, two) },
         move ||
-            requires { IsMade mine.seen root.index }
-        { mine.notify(root) },
+            requires { IsMade watcher.seen root.index }
+        { watcher.notify(root) },
     );
-    Ok(answers)
+    answers
+}
+
+/// A waiter with the next handle and the next watcher.
+fn next_waiter<'m, 'e>(
+    locks: &mut Handles<'m, AtLeast, 2>,
+    watchers: &mut Watchers<'e>,
+    note: Note,
+) -> Option<Waiter<'m, 'e>> {
+    let watcher = watchers.next()?;
+    let lock = locks.next()?;
+    Some(Waiter {
+        lock,
+        watcher,
+        note,
+    })
+}
+
+/// Cancelling a whole tree of waits by one note: who notifies a note notifies all that stand below it.
+fn canceled_tree<R: Threads + Wait + Sync>(
+    rt: &R,
+    locks: &mut Handles<'_, AtLeast, 2>,
+    watchers: &mut Watchers<'_>,
+) -> Option<(Option<Answer>, Option<Answer>)> {
+    let mut mine = watchers.next()?;
+    let (root, branch, leaf) = tree(&mut mine)?;
+    let one = next_waiter(locks, watchers, branch)?;
+    let two = next_waiter(locks, watchers, leaf)?;
+    Some(wait_and_cancel(rt, one, two, mine, root))
+}
+
+/// What the waits of these recipes answer.
+#[derive(Clone, Copy)]
+pub struct Early {
+    /// That with a deadline.
+    pub deadline: Answer,
+    /// That with a deadline in milliseconds.
+    pub milliseconds: Answer,
+    /// Those that one note cancels.
+    pub canceled: (Option<Answer>, Option<Answer>),
+}
+
+/// All three with one lock, for what nobody sets in it, and one clock.
+pub fn early_ends<R: Threads + Wait + Sync + Clock>(rt: &R, alloc: Global) -> Option<Early> {
+    let (monitor, seats) = Monitor::new(alloc, 4).ok()?;
+    let (env, env_seats) = Env::new(alloc, 7).ok()?;
+    let mut locks = monitor.handles(seats);
+    let mut watchers = env.watchers(env_seats);
+    let deadline = deadline(rt, &mut locks, &mut watchers)?;
+    let milliseconds = milliseconds(rt, &mut locks, &mut watchers)?;
+    let canceled = canceled_tree(rt, &mut locks, &mut watchers)?;
+    Some(Early {
+        deadline,
+        milliseconds,
+        canceled,
+    })
 }

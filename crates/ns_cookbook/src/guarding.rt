@@ -2,7 +2,6 @@
 
 ghost use Rattle.std.specs.Thread.{IsSync};
 
-use anyhow::{Context, Result};
 use ns_fixtures::{AtLeast, Never};
 use ns_monitor::{Handle, Monitor, Reading};
 use std::alloc::Global;
@@ -24,9 +23,9 @@ fn count<'m, R: Wait>(rt: &R, mut lock: Handle<'m, Never, 1>) -> Handle<'m, Neve
 }
 
 /// A guarded value: two threads count in one cell.
-pub fn guarded_value<R: Threads + Wait + Sync>(rt: &R, alloc: Global) -> Result<u64> {
-    let (monitor, seats) = Monitor::new(alloc, 2).ok().context("no memory")?;
-    let (one, two) = monitor.handles(seats).pair().context("no seats")?;
+pub fn guarded_value<R: Threads + Wait + Sync>(rt: &R, alloc: Global) -> Option<u64> {
+    let (monitor, seats) = Monitor::new(alloc, 2).ok()?;
+    let (one, two) = monitor.handles(seats).pair()?;
     let (lock, _) = join(
         rt,
         move || -> Handle<Never, 1>
@@ -39,7 +38,7 @@ pub fn guarded_value<R: Threads + Wait + Sync>(rt: &R, alloc: Global) -> Result<
     let mut held = lock.rlock(rt);
     let sum = held.get(0);
     held.runlock(rt);
-    Ok(sum)
+    Some(sum)
 }
 
 /// Sets both cells to the same number, a hundred times.
@@ -65,39 +64,47 @@ fn read<R: Wait>(rt: &R, mut lock: Handle<AtLeast, 2>) -> u64 {
     torn
 }
 
+/// Two read beside each other.
+fn read_both<R: Threads + Wait + Sync>(
+    rt: &R,
+    one: Handle<AtLeast, 2>,
+    two: Handle<AtLeast, 2>,
+) -> u64 {
+    let (torn, also) = join(
+        rt,
+        move || -> u64
+            requires { IsSync R.row }
+        { read(rt, one) },
+        move || -> u64
+            requires { IsSync R.row }
+        { read(rt, two) },
+    );
+    torn.wrapping_add(also)
+}
+
 /// Readers and a writer: no reader finds half of a change.
-pub fn readers_and_a_writer<R: Threads + Wait + Sync>(rt: &R, alloc: Global) -> Result<u64> {
-    let (monitor, seats) = Monitor::new(alloc, 3).ok().context("no memory")?;
+pub fn readers_and_a_writer<R: Threads + Wait + Sync>(rt: &R, alloc: Global) -> Option<u64> {
+    let (monitor, seats) = Monitor::new(alloc, 3).ok()?;
     let mut handles = monitor.handles(seats);
-    let writer = handles.next().context("no seats")?;
-    let (one, two) = handles.pair().context("no seats")?;
-    let ((), (torn, also)) = join(
+    let writer = handles.next()?;
+    let (one, two) = handles.pair()?;
+    let ((), torn) = join(
         rt,
         move ||
             requires { IsSync R.row }
         { write(rt, writer) },
-        move || -> (u64, u64)
+        move || -> u64
             requires { IsSync R.row }
-        {
-            join(
-                rt,
-                move || -> u64
-                    requires { IsSync R.row }
-                { read(rt, one) },
-                move || -> u64
-                    requires { IsSync R.row }
-                { read(rt, two) },
-            )
-        },
+        { read_both(rt, one, two) },
     );
-    Ok(torn.wrapping_add(also))
+    Some(torn)
 }
 
 /// A release that promises to wake nobody by what its section has changed: no condition that is known to be
 /// false is tested. `is_quiet` asks the condition type whether that change can have made one true.
-pub fn quiet_release<R: Wait>(rt: &R, alloc: Global) -> Result<bool> {
-    let (monitor, seats) = Monitor::new(alloc, 1).ok().context("no memory")?;
-    let lock: Handle<AtLeast, 2> = monitor.handles(seats).next().context("no seats")?;
+pub fn quiet_release<R: Wait>(rt: &R, alloc: Global) -> Option<bool> {
+    let (monitor, seats) = Monitor::new(alloc, 1).ok()?;
+    let lock: Handle<AtLeast, 2> = monitor.handles(seats).next()?;
     let mut held = lock.lock(rt);
     held.set(1, 7); // conditions are on cell 0
     let is_quiet = held.is_quiet();
@@ -106,15 +113,15 @@ pub fn quiet_release<R: Wait>(rt: &R, alloc: Global) -> Result<bool> {
     } else {
         held.unlock(rt);
     }
-    Ok(is_quiet)
+    Some(is_quiet)
 }
 
 /// What the debug call shows: the lock word, and who waits.
-pub fn debug_call<R: Wait>(rt: &R, alloc: Global) -> Result<(bool, u8, usize)> {
-    let (monitor, seats) = Monitor::new(alloc, 2).ok().context("no memory")?;
-    let (one, mut two) = monitor.handles(seats).pair().context("no seats")?;
+pub fn debug_call<R: Wait>(rt: &R, alloc: Global) -> Option<(bool, u8, usize)> {
+    let (monitor, seats) = Monitor::new(alloc, 2).ok()?;
+    let (one, mut two) = monitor.handles(seats).pair()?;
     let held: Reading<'_, Never, 1> = one.rlock(rt);
     let state = two.debug_state_and_waiters(rt);
     held.runlock(rt);
-    Ok((state.word.write, state.word.readers, state.lock.len()))
+    Some((state.word.write, state.word.readers, state.lock.len()))
 }

@@ -9,41 +9,72 @@ mod guarding;
 mod sharing;
 mod waiting;
 
-use crate::deadlines::{canceled_tree, deadline, milliseconds};
+use crate::deadlines::early_ends;
 use crate::guarding::{debug_call, guarded_value, quiet_release, readers_and_a_writer};
 use crate::sharing::{made_once, wait_group, whichever_first, whichever_first_held};
 use crate::waiting::{condition, queue_by_conditions, queue_by_variables};
-use anyhow::Result;
+use anyhow::{Context, Result};
+use std::alloc::Global;
+use std::sync::Wait;
+use std::thread::Threads;
+use std::time::Clock;
+
+/// A value behind a lock.
+fn guard<R: Print + Threads + Wait + Sync>(rt: &R, alloc: Global) -> Result<()> {
+    let sum = guarded_value(rt, alloc).context("no memory")?;
+    println!(rt; "a guarded value: {sum}")?;
+    let torn = readers_and_a_writer(rt, alloc).context("no memory")?;
+    println!(rt; "readers and a writer: {torn} torn")?;
+    Ok(())
+}
+
+/// Waits for a condition, and for condition variables.
+fn wait<R: Print + Threads + Wait + Sync>(rt: &R, alloc: Global) -> Result<()> {
+    let found = condition(rt, alloc).context("no memory")?;
+    println!(rt; "a condition: {found}")?;
+    let sum = queue_by_conditions(rt, alloc).context("no memory")?;
+    println!(rt; "a bounded queue by conditions: {sum}")?;
+    let sum = queue_by_variables(rt, alloc).context("no memory")?;
+    println!(rt; "by condition variables: {sum}")?;
+    Ok(())
+}
+
+/// Waits that end early.
+fn end_early<R: Print + Threads + Wait + Sync + Clock>(rt: &R, alloc: Global) -> Result<()> {
+    let early = early_ends(rt, alloc).context("no memory, or no clock")?;
+    println!(rt; "a deadline: {:?}", early.deadline)?;
+    println!(rt; "in milliseconds: {:?}", early.milliseconds)?;
+    println!(rt; "a canceled tree: {:?}", early.canceled)?;
+    Ok(())
+}
+
+/// Counters, a value made once, and waits for any of several.
+fn share<R: Print + Threads + Wait + Sync>(rt: &R, alloc: Global) -> Result<()> {
+    let left = wait_group(rt, alloc).context("no memory")?;
+    println!(rt; "a wait group: {left}")?;
+    let once = made_once(rt, alloc).context("no memory")?;
+    println!(rt; "made once: {once}")?;
+    let place = whichever_first(rt, alloc).context("no memory")?;
+    println!(rt; "whichever comes first: {place}")?;
+    let place = whichever_first_held(rt, alloc).context("no memory")?;
+    println!(rt; "with a lock held: {place}")?;
+    Ok(())
+}
+
+/// A quiet release, and what the debug call shows.
+fn look<R: Print + Wait>(rt: &R, alloc: Global) -> Result<()> {
+    let is_quiet = quiet_release(rt, alloc).context("no memory")?;
+    println!(rt; "a quiet release: {is_quiet}")?;
+    let (writes, readers, waiters) = debug_call(rt, alloc).context("no memory")?;
+    println!(rt; "the debug call: {writes} {readers} {waiters}")?;
+    Ok(())
+}
 
 fn main(rt: HostRuntime) -> Result<()> {
     let alloc = rt.alloc();
-    let sum = guarded_value(&rt, alloc)?;
-    println!(rt; "a guarded value: {sum}")?;
-    let torn = readers_and_a_writer(&rt, alloc)?;
-    println!(rt; "readers and a writer: {torn} torn")?;
-    let found = condition(&rt, alloc)?;
-    println!(rt; "a condition: {found}")?;
-    let sum = queue_by_conditions(&rt, alloc)?;
-    println!(rt; "a bounded queue by conditions: {sum}")?;
-    let sum = queue_by_variables(&rt, alloc)?;
-    println!(rt; "by condition variables: {sum}")?;
-    let answer = deadline(&rt, alloc)?;
-    println!(rt; "a deadline: {answer:?}")?;
-    let answer = milliseconds(&rt, alloc)?;
-    println!(rt; "in milliseconds: {answer:?}")?;
-    let answers = canceled_tree(&rt, alloc)?;
-    println!(rt; "a canceled tree: {answers:?}")?;
-    let left = wait_group(&rt, alloc)?;
-    println!(rt; "a wait group: {left}")?;
-    let once = made_once(&rt, alloc)?;
-    println!(rt; "made once: {once}")?;
-    let place = whichever_first(&rt, alloc)?;
-    println!(rt; "whichever comes first: {place}")?;
-    let place = whichever_first_held(&rt, alloc)?;
-    println!(rt; "with a lock held: {place}")?;
-    let is_quiet = quiet_release(&rt, alloc)?;
-    println!(rt; "a quiet release: {is_quiet}")?;
-    let (writes, readers, waiters) = debug_call(&rt, alloc)?;
-    println!(rt; "the debug call: {writes} {readers} {waiters}")?;
-    Ok(())
+    guard(&rt, alloc)?;
+    wait(&rt, alloc)?;
+    end_early(&rt, alloc)?;
+    share(&rt, alloc)?;
+    look(&rt, alloc)
 }

@@ -3,8 +3,8 @@
 ghost use Rattle.std.specs.Prelude.{◌≡◌, ◌<◌};
 ghost use Rattle.std.specs.Thread.{IsSync};
 
-use anyhow::{Context, Result};
 use ns_fixtures::AtLeast;
+use ns_monitor::handles::Handles;
 use ns_monitor::{Handle, Monitor};
 use ns_note::env::Env;
 use ns_note::watcher::Watcher;
@@ -45,14 +45,18 @@ fn wait_for_all<R: Wait>(rt: &R, mut sharer: Sharer<'_>, mut watcher: Watcher<'_
     sharer.counter_wait(rt, 0, None, &mut watcher)
 }
 
-/// A counter as a wait group: who waits for 0 goes on once each has counted its part off.
-pub fn wait_group<R: Threads + Wait + Sync>(rt: &R, alloc: Global) -> Result<u32> {
-    let (objects, seats) = Objects::new(alloc, &[2], 0, 3).ok().context("no memory")?;
-    let (env, env_seats) = Env::new(alloc, 1).ok().context("no memory")?;
-    let mut sharers = objects.sharers(seats);
-    let waiter = sharers.next().context("no seats")?;
-    let (one, two) = sharers.pair().context("no seats")?;
-    let watcher = env.watchers(env_seats).next().context("no seats")?;
+/// One waits for the two others.
+fn wait_and_finish<R: Threads + Wait + Sync>(
+    rt: &R,
+    alloc: Global,
+    waiter: Sharer<'_>,
+    one: Sharer<'_>,
+    two: Sharer<'_>,
+) -> Option<u32>
+    requires { (0 < waiter.setup.counters) × (0 < one.setup.counters) × (0 < two.setup.counters) }
+{
+    let (env, env_seats) = Env::new(alloc, 1).ok()?;
+    let watcher = env.watchers(env_seats).next()?;
     let (left, ()) = join(
         rt,
         move || -> u32
@@ -62,7 +66,16 @@ pub fn wait_group<R: Threads + Wait + Sync>(rt: &R, alloc: Global) -> Result<u32
             requires { IsSync R.row × (0 < one.setup.counters) × (0 < two.setup.counters) }
         { finish_both(rt, one, two) },
     );
-    Ok(left)
+    Some(left)
+}
+
+/// A counter as a wait group: who waits for 0 goes on once each has counted its part off.
+pub fn wait_group<R: Threads + Wait + Sync>(rt: &R, alloc: Global) -> Option<u32> {
+    let (objects, seats) = Objects::new(alloc, &[2], 0, 3).ok()?;
+    let mut sharers = objects.sharers(seats);
+    let waiter = sharers.next()?;
+    let (one, two) = sharers.pair()?;
+    wait_and_finish(rt, alloc, waiter, one, two)
 }
 
 /// Makes the value, if nobody has, and answers whether it did.
@@ -76,9 +89,9 @@ fn make<R: Wait>(rt: &R, mut sharer: Sharer<'_>) -> bool
 }
 
 /// A value made once, whoever comes first.
-pub fn made_once<R: Threads + Wait + Sync>(rt: &R, alloc: Global) -> Result<bool> {
-    let (objects, seats) = Objects::new(alloc, &[], 1, 2).ok().context("no memory")?;
-    let (one, two) = objects.sharers(seats).pair().context("no seats")?;
+pub fn made_once<R: Threads + Wait + Sync>(rt: &R, alloc: Global) -> Option<bool> {
+    let (objects, seats) = Objects::new(alloc, &[], 1, 2).ok()?;
+    let (one, two) = objects.sharers(seats).pair()?;
     let (first, second) = join(
         rt,
         move || -> bool
@@ -88,19 +101,31 @@ pub fn made_once<R: Threads + Wait + Sync>(rt: &R, alloc: Global) -> Result<bool
             requires { IsSync R.row × (0 < two.setup.cells) }
         { make(rt, two) },
     );
-    Ok(first != second)
+    Some(first != second)
 }
 
-/// Waiting for whichever of several comes first: a note that nobody notifies, or a counter that comes to 0.
-pub fn whichever_first<R: Wait>(rt: &R, alloc: Global) -> Result<usize> {
-    let (objects, seats) = Objects::new(alloc, &[1], 0, 2).ok().context("no memory")?;
-    let (env, env_seats) = Env::new(alloc, 1).ok().context("no memory")?;
-    let (mut waiter, other) = objects.sharers(seats).pair().context("no seats")?;
-    let mut watcher = env.watchers(env_seats).next().context("no seats")?;
-    let note = watcher.note_new(None, None).ok().context("no note")?;
+/// Waits for a note that nobody notifies, or for the counter, which the other brings to 0.
+fn wait_for_either<R: Wait>(
+    rt: &R,
+    mut waiter: Sharer<'_>,
+    other: Sharer<'_>,
+    mut watcher: Watcher<'_>,
+) -> Option<usize>
+    requires { (0 < waiter.setup.counters) × (0 < other.setup.counters) }
+{
+    let note = watcher.note_new(None, None).ok()?;
     let items = [Item::Note(note), Item::Counter(0)];
     finish(rt, other);
-    Ok(waiter.wait_any(rt, &items, None, &mut watcher))
+    Some(waiter.wait_any(rt, &items, None, &mut watcher))
+}
+
+/// Waiting for whichever of several comes first: a note, or a counter that comes to 0.
+pub fn whichever_first<R: Wait>(rt: &R, alloc: Global) -> Option<usize> {
+    let (objects, seats) = Objects::new(alloc, &[1], 0, 2).ok()?;
+    let (env, env_seats) = Env::new(alloc, 1).ok()?;
+    let watcher = env.watchers(env_seats).next()?;
+    let (waiter, other) = objects.sharers(seats).pair()?;
+    wait_for_either(rt, waiter, other, watcher)
 }
 
 /// Says in cell 0 that it waits, and waits for variable 0 or the counter.
@@ -127,14 +152,16 @@ fn signal_waiter<R: Wait>(rt: &R, lock: Handle<AtLeast, 2>) {
     held.unlock(rt);
 }
 
-/// The same with a section in hand, which the wait leaves: a variable of its lock is among the items.
-pub fn whichever_first_held<R: Threads + Wait + Sync>(rt: &R, alloc: Global) -> Result<usize> {
-    let (monitor, seats) = Monitor::new(alloc, 2).ok().context("no memory")?;
-    let (objects, object_seats) = Objects::new(alloc, &[1], 0, 1).ok().context("no memory")?;
-    let (env, env_seats) = Env::new(alloc, 1).ok().context("no memory")?;
-    let (one, two) = monitor.handles(seats).pair().context("no seats")?;
-    let sharer = objects.sharers(object_seats).next().context("no seats")?;
-    let watcher = env.watchers(env_seats).next().context("no seats")?;
+/// One waits, and the other signals.
+fn wait_and_signal<R: Threads + Wait + Sync>(
+    rt: &R,
+    mut locks: Handles<'_, AtLeast, 2>,
+    sharer: Sharer<'_>,
+    watcher: Watcher<'_>,
+) -> Option<usize>
+    requires { 0 < sharer.setup.counters }
+{
+    let (one, two) = locks.pair()?;
     let (place, ()) = join(
         rt,
         move || -> usize
@@ -144,5 +171,24 @@ pub fn whichever_first_held<R: Threads + Wait + Sync>(rt: &R, alloc: Global) -> 
             requires { IsSync R.row }
         { signal_waiter(rt, two) },
     );
-    Ok(place)
+    Some(place)
+}
+
+/// Begins with the lock, and makes the counter and the clock.
+fn share<R: Threads + Wait + Sync>(
+    rt: &R,
+    alloc: Global,
+    locks: Handles<'_, AtLeast, 2>,
+) -> Option<usize> {
+    let (objects, seats) = Objects::new(alloc, &[1], 0, 1).ok()?;
+    let (env, env_seats) = Env::new(alloc, 1).ok()?;
+    let sharer = objects.sharers(seats).next()?;
+    let watcher = env.watchers(env_seats).next()?;
+    wait_and_signal(rt, locks, sharer, watcher)
+}
+
+/// The same with a section in hand, which the wait leaves: a variable of its lock is among the items.
+pub fn whichever_first_held<R: Threads + Wait + Sync>(rt: &R, alloc: Global) -> Option<usize> {
+    let (monitor, seats) = Monitor::new(alloc, 2).ok()?;
+    share(rt, alloc, monitor.handles(seats))
 }

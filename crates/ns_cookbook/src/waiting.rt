@@ -4,11 +4,10 @@ ghost use Rattle.std.specs.Prelude.{◌<◌};
 ghost use Rattle.std.specs.Thread.{IsSync};
 ghost use Rattle.ns_fixtures.specs.Wishes.{IsMetIn};
 
-use anyhow::{Context, Result};
 use ns_fixtures::{AtLeast, RingHandle, RingHeld, Wish, is_met, put, take};
 use ns_monitor::{Handle, Monitor};
 use ns_note::env::Env;
-use ns_note::watcher::Watcher;
+use ns_note::watcher::{Watcher, Watchers};
 use std::alloc::Global;
 use std::sync::Wait;
 use std::thread::{Threads, join};
@@ -29,9 +28,9 @@ fn set<R: Wait>(rt: &R, lock: Handle<AtLeast, 2>, value: u64) {
 }
 
 /// Waiting for a condition: nobody signals.
-pub fn condition<R: Threads + Wait + Sync>(rt: &R, alloc: Global) -> Result<u64> {
-    let (monitor, seats) = Monitor::new(alloc, 2).ok().context("no memory")?;
-    let (one, two) = monitor.handles(seats).pair().context("no seats")?;
+pub fn condition<R: Threads + Wait + Sync>(rt: &R, alloc: Global) -> Option<u64> {
+    let (monitor, seats) = Monitor::new(alloc, 2).ok()?;
+    let (one, two) = monitor.handles(seats).pair()?;
     let (found, ()) = join(
         rt,
         move || -> u64
@@ -41,7 +40,7 @@ pub fn condition<R: Threads + Wait + Sync>(rt: &R, alloc: Global) -> Result<u64>
             requires { IsSync R.row }
         { set(rt, two, 3) },
     );
-    Ok(found)
+    Some(found)
 }
 
 /// Puts the numbers 1 to 100 into the ring, once there is room for each.
@@ -65,9 +64,9 @@ fn receive<R: Wait>(rt: &R, mut ring: RingHandle<'_>) -> u64 {
 }
 
 /// A bounded queue by conditions.
-pub fn queue_by_conditions<R: Threads + Wait + Sync>(rt: &R, alloc: Global) -> Result<u64> {
-    let (monitor, seats) = Monitor::new(alloc, 2).ok().context("no memory")?;
-    let (one, two) = monitor.handles(seats).pair().context("no seats")?;
+pub fn queue_by_conditions<R: Threads + Wait + Sync>(rt: &R, alloc: Global) -> Option<u64> {
+    let (monitor, seats) = Monitor::new(alloc, 2).ok()?;
+    let (one, two) = monitor.handles(seats).pair()?;
     let ((), sum) = join(
         rt,
         move ||
@@ -77,7 +76,7 @@ pub fn queue_by_conditions<R: Threads + Wait + Sync>(rt: &R, alloc: Global) -> R
             requires { IsSync R.row }
         { receive(rt, two) },
     );
-    Ok(sum)
+    Some(sum)
 }
 
 const NOT_FULL: u8 = 0;
@@ -126,12 +125,14 @@ fn take_each<R: Wait>(rt: &R, mut ring: RingHandle<'_>, mut watcher: Watcher<'_>
     sum
 }
 
-/// The same by condition variables, of which each lock has four, by number.
-pub fn queue_by_variables<R: Threads + Wait + Sync>(rt: &R, alloc: Global) -> Result<u64> {
-    let (monitor, seats) = Monitor::new(alloc, 2).ok().context("no memory")?;
-    let (env, env_seats) = Env::new(alloc, 2).ok().context("no memory")?;
-    let (one, two) = monitor.handles(seats).pair().context("no seats")?;
-    let (here, there) = env.watchers(env_seats).pair().context("no seats")?;
+/// One sends, and the other receives.
+fn send_and_receive<R: Threads + Wait + Sync>(
+    rt: &R,
+    one: RingHandle<'_>,
+    two: RingHandle<'_>,
+    mut watchers: Watchers<'_>,
+) -> Option<u64> {
+    let (here, there) = watchers.pair()?;
     let ((), sum) = join(
         rt,
         move ||
@@ -141,5 +142,13 @@ pub fn queue_by_variables<R: Threads + Wait + Sync>(rt: &R, alloc: Global) -> Re
             requires { IsSync R.row }
         { take_each(rt, two, there) },
     );
-    Ok(sum)
+    Some(sum)
+}
+
+/// The same by condition variables, of which each lock has four, by number.
+pub fn queue_by_variables<R: Threads + Wait + Sync>(rt: &R, alloc: Global) -> Option<u64> {
+    let (monitor, seats) = Monitor::new(alloc, 2).ok()?;
+    let (one, two) = monitor.handles(seats).pair()?;
+    let (env, env_seats) = Env::new(alloc, 2).ok()?;
+    send_and_receive(rt, one, two, env.watchers(env_seats))
 }
