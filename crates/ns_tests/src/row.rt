@@ -27,13 +27,41 @@ pub struct Row {
     pub wanted: Seen,
 }
 
+/// The path of a row's file.
+fn path<R: AllocGlobal>(
+    rt: &R,
+    folder: &str,
+    row: &str,
+    ending: &str,
+) -> Result<String, AllocError> {
+    format!(in rt.alloc(); "{folder}/{row}.{ending}")
+}
+
 /// The bytes of a row's file, none if it is missing.
-fn file<R: Files + AllocGlobal>(rt: &R, row: &str, ending: &str) -> io::Result<Vec<u8>> {
-    let path = format!(in rt.alloc(); "{row}.{ending}")?;
+fn file<R: Files + AllocGlobal>(
+    rt: &R,
+    folder: &str,
+    row: &str,
+    ending: &str,
+) -> io::Result<Vec<u8>> {
+    let path = path(rt, folder, row, ending)?;
     match fs::read(rt, path.as_str()) {
         Err(error) if error.kind() == io::ErrorKind::NotFound => Ok(Vec::new(rt.alloc())),
         answer => answer,
     }
+}
+
+/// The words of a row.
+fn words<R: Files + AllocGlobal>(rt: &R, folder: &str, row: &str) -> io::Result<Vec<String>> {
+    let path = path(rt, folder, row, "args")?;
+    let text = fs::read_to_string(rt, path.as_str())?;
+    Ok(words_in(rt.alloc(), text.as_str())?)
+}
+
+/// What a row must print, whose file has to be there.
+fn output<R: Files + AllocGlobal>(rt: &R, folder: &str, row: &str) -> io::Result<Vec<u8>> {
+    let path = path(rt, folder, row, "stdout")?;
+    fs::read(rt, path.as_str())
 }
 
 /// The program's name, and then a word for each line.
@@ -105,6 +133,18 @@ pub fn run_seen<R: AllocGlobal + Threads + Wait + Sync>(
     })
 }
 
+impl Seen {
+    /// Reads what must be seen of the row of this name.
+    fn read<R: Files + AllocGlobal>(rt: &R, folder: &str, name: &str) -> io::Result<Seen> {
+        let status = status_in(&file(rt, folder, name, "status")?)?;
+        Ok(Seen {
+            output: output(rt, folder, name)?,
+            errors: file(rt, folder, name, "stderr")?,
+            status,
+        })
+    }
+}
+
 impl Row {
     /// Reads the files of the row of this name, which has the input of the row `given`.
     pub fn read<R: Files + AllocGlobal>(
@@ -113,21 +153,10 @@ impl Row {
         name: &str,
         given: &str,
     ) -> io::Result<Row> {
-        let row = format!(in rt.alloc(); "{folder}/{name}")?;
-        let row = row.as_str();
-        let given = format!(in rt.alloc(); "{folder}/{given}")?;
-        let args = format!(in rt.alloc(); "{row}.args")?;
-        let text = fs::read_to_string(rt, args.as_str())?;
-        let status = file(rt, row, "status")?;
-        let stdout = format!(in rt.alloc(); "{row}.stdout")?;
         Ok(Row {
-            words: words_in(rt.alloc(), text.as_str())?,
-            input: file(rt, given.as_str(), "json")?,
-            wanted: Seen {
-                output: fs::read(rt, stdout.as_str())?,
-                errors: file(rt, row, "stderr")?,
-                status: status_in(&status)?,
-            },
+            words: words(rt, folder, name)?,
+            input: file(rt, folder, given, "json")?,
+            wanted: Seen::read(rt, folder, name)?,
         })
     }
 
