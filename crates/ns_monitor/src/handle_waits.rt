@@ -10,9 +10,11 @@ use crate::handle::Acting;
 use crate::monitor::Monitor;
 use crate::room::Gated;
 use crate::several::{AnyPoll, AnyWaiting};
+use crate::watching::Looker;
+use ns_env::limits::Limits;
 use ns_model::cvs::Cvs;
 use ns_model::event::Answer;
-use ns_note::note::Note;
+use ns_note::note::{Note, index_of};
 use ns_note::watcher::Watcher;
 use std::marker::Model;
 use std::sync::Wait;
@@ -73,10 +75,20 @@ impl<'m, H: Renewed<C, N>, C: Gated<N>, const N: usize> Acting<'m, H, C, N> {
         ensures looked { (is_some deadline || is_some note) ≡ true → (result.0.mine ≡ self.entry.mine) ⊎ HadLooked note deadline watcher.old.seen watcher.new.seen }
     {
         let Acting { monitor, caller } = self;
-        let Watcher { env, seat } = watcher;
-        let (caller, answer) = monitor.wait_with_deadline(
-            rt, caller, condition, deadline, note, env, seat,
-        );
+        let limits = Limits {
+            deadline,
+            note: index_of(note),
+        };
+        let waited = {
+            let mut looker = Looker {
+                env: watcher.env,
+                seat: &mut watcher.seat,
+                note,
+            };
+            monitor.wait_by(rt, caller, condition, limits, &mut looker)
+        };
+        watcher.seat.attest();
+        let (caller, answer) = waited;
         (Acting { monitor, caller }, answer)
     }
 

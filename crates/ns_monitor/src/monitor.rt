@@ -160,8 +160,8 @@ impl<C: Gated<N>, const N: usize> Monitor<C, N> {
     /// Tries to acquire the lock to write.
     ///
     /// Doesn't wait: the seat comes back where the lock is held, and may come back where the word
-    /// changed meanwhile, or where others have waited long. Else the section that is given begins
-    /// at the row after all that it has seen.
+    /// changed meanwhile, or where others have waited long; then nothing has changed. Else the section
+    /// that is given begins at the row after all that it has seen.
     pub fn try_lock(&self, seat: Seat<C, N>) -> Result<WriteHeld<C, N>, Seat<C, N>>
         requires { seat.monitor ≡ self.now }
         ensures locked { IfOk result (λ held. HasLocked C.means (trying Write) Write seat held) }
