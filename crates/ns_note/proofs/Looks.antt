@@ -1,6 +1,6 @@
 -- What calls that look may answer.
 use Rattle.std.proofs.Common.{◌≡◌, ℕ, ◌<◌, ◌≤◌, Bool, true, false, List, Option, None, Some, IfSome, IsSomeAnd, option_map, refl, sym, subst}
-use Rattle.ns_note.specs.Prelude.{Answer, BeginsWith, Canceled, EnvEvent, IsBetween, IsNotified, IsUnnotified, LookAnswers, Met, Note, TimedOut, clock_of, is_due, is_notified}
+use Rattle.ns_note.specs.Prelude.{Answer, BeginsWith, Canceled, EnvEvent, IsBetween, IsNotified, IsUnnotified, LookAnswers, Note, TimedOut, WaitAnswers, clock_of, is_due, is_notified}
 use Rattle.ns_model.proofs.Beginnings.{begins_itself, begins_through}
 use Rattle.ns_env.proofs.Chains.{due_is, not_due_is}
 
@@ -19,11 +19,15 @@ module _ (given : Option Note) (deadline : Option ℕ) (old middle new : List En
   pub shows_nothing : (clock : ℕ) → clock ≡ clock_of middle → is_due clock deadline ≡ false → IsUnnotified middle (option_map (λ n. n.index) given) → LookAnswers given deadline old new None
   shows_nothing clock is early waited = (middle, between, (waited, subst (λ (c : ℕ). IfSome deadline (λ d. c < d)) is (not_due_is clock deadline early)))
 
--- ---- a look, for one that began to look before
+-- ---- a wait for a note, for one that began before
 
-module _ (given : Option Note) (deadline : Option ℕ) (old middle new : List EnvEvent) (begins : BeginsWith middle old) where
-  pub look_since : (answer : Option Answer) → LookAnswers given deadline middle new answer → LookAnswers given deadline old new answer
-  look_since (Some Met) looked = absurd looked
-  look_since (Some Canceled) looked = (looked.0, (begins_through looked.0 middle old looked.1.0 begins, looked.1.1), looked.2)
-  look_since (Some TimedOut) looked = (looked.0, (begins_through looked.0 middle old looked.1.0 begins, looked.1.1), looked.2)
-  look_since None looked = (looked.0, (begins_through looked.0 middle old looked.1.0 begins, looked.1.1), looked.2)
+module _ (note : Note) (deadline : Option ℕ) (old middle new : List EnvEvent) (begins : BeginsWith middle old) where
+  pub waited_since : (answer : Bool) → WaitAnswers note deadline middle new answer → WaitAnswers note deadline old new answer
+  waited_since answer waited = (waited.0, (begins_through waited.0 middle old waited.1.0 begins, waited.1.1), waited.2)
+
+  pub canceled_since : (found : Option Answer) → found ≡ Some Canceled → LookAnswers (Some note) deadline middle new found → WaitAnswers note deadline old new true
+  canceled_since found is answers = let looked = subst (LookAnswers (Some note) deadline middle new) is answers in
+      waited_since true (new, (begins_through new looked.0 middle looked.1.1 looked.1.0, begins_itself new), looked.2)
+
+  pub timed_out_since : (found : Option Answer) → found ≡ Some TimedOut → LookAnswers (Some note) deadline middle new found → WaitAnswers note deadline old new false
+  timed_out_since found is answers = waited_since false (subst (LookAnswers (Some note) deadline middle new) is answers)

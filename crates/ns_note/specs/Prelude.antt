@@ -1,6 +1,6 @@
 -- The names that contracts and proofs cite, passed on from one place. Declares nothing.
 unfoldable pub use Rattle.ns_model.specs.Environments.{is_notified}
-pub use Rattle.ns_note.specs.Answers.{LookAnswers}
+pub use Rattle.ns_note.specs.Answers.{LookAnswers, WaitAnswers}
 pub use Rattle.ns_note.specs.Known.{AreNew, AreOfOneHistory, EnvKnown, Grows, IsAtRest, IsNumberOf, known, known_of, sight_of, the}
 pub use Rattle.ns_note.specs.Law.{AreWordsOf, Holds, IsClockWord, IsNoteWord, IsRuled, IsWordAt, Views, fresh, fresh_seat, is_adding, is_seat, word_at}
 pub use Rattle.ns_note.specs.Told.{Adds, FoundFull, FoundWord, HasTakenNumber, HaveLearned, Learned, OneActs, OneMakes, note_stored}

@@ -408,6 +408,35 @@ impl Env {
         found
     }
 
+    /// Goes on with a wait whose first look showed nothing, and answers whether the note is notified.
+    ///
+    /// A function that may wait costs its caller a look at whether it was cut short, so a wait that is over
+    /// as it begins calls none.
+    #[cold]
+    pub(crate) fn go_on_waiting<R: Wait>(
+        &self,
+        rt: &R,
+        seat: &mut EnvSeat,
+        note: Note,
+        deadline: Option<u64>,
+    ) -> bool
+        requires env { seat.old.env ≡ self.now }
+        requires made { IsMade seat.old.seen note.index }
+        requires true_to { IsTrueToHistory seat.old }
+        ensures grows { Grows seat.old seat.new }
+        ensures mine { seat.new.mine ≡ seat.old.mine }
+        ensures answers { WaitAnswers note deadline seat.old.seen seat.new.seen result }
+    {
+        for _ in rt.forever() {
+            match self.look_or_sleep(rt, seat, note, deadline) {
+                Some(Answer::Canceled) => return true,
+                Some(Answer::TimedOut) => return false,
+                _ => {}
+            }
+        }
+        unreachable!()
+    }
+
     /// Waits until the note is notified, or until the clock has reached the deadline, in ticks,
     /// and answers whether the note is notified. With no deadline it waits for the note alone.
     /// Meanwhile it sleeps, and looks again after each [`Env::notify`] and [`Env::advance`].
@@ -427,15 +456,11 @@ impl Env {
         ensures mine { seat.new.mine ≡ seat.old.mine }
         ensures answers { WaitAnswers note deadline seat.old.seen seat.new.seen result }
     {
-        let mut found = self.look(seat, Some(note), deadline);
-        for _ in rt.forever() {
-            match found {
-                Some(Answer::Canceled) => return true,
-                Some(Answer::TimedOut) => return false,
-                _ => found = self.look_or_sleep(rt, seat, note, deadline),
-            }
+        match self.look(seat, Some(note), deadline) {
+            Some(Answer::Canceled) => true,
+            Some(Answer::TimedOut) => false,
+            _ => self.go_on_waiting(rt, seat, note, deadline),
         }
-        unreachable!()
     }
 
     /// Sleeps until the next [`Env::notify`] or [`Env::advance`], for at most `longest`: for a

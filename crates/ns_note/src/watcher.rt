@@ -5,7 +5,7 @@ ghost use Rattle.std.specs.Prelude.{◌≡◌, ◌<◌, ◌^◌, ◌++◌, ◌�
 ghost use Rattle.ns_model.specs.Beginnings.{IsBetween};
 ghost use Rattle.ns_model.specs.Environments.{IsMade, clock_of, expiry_of, is_made, is_notified, takes_in};
 ghost use Rattle.ns_note.specs.Answers.{LookAnswers, WaitAnswers};
-ghost use Rattle.ns_note.specs.Known.{AreOfOneHistory, Grows, IsTrueToHistory};
+ghost use Rattle.ns_note.specs.Known.{AreOfOneHistory, Grows};
 
 use crate::env::Env;
 use crate::fault::NotesFull;
@@ -60,14 +60,6 @@ impl<'e> Watcher<'e> {
     {
         let Watcher { env: _, seat } = self;
         seat
-    }
-
-    /// Attests what is so of each seat, and does nothing, as [`EnvSeat::attest`].
-    #[inline(always)]
-    pub fn attest(&self)
-        ensures { IsTrueToHistory self.now }
-    {
-        self.seat.attest();
     }
 
     /// Two callers compare what they have seen, as [`Env::meet`].
@@ -205,7 +197,11 @@ impl<'e> Watcher<'e> {
         ensures mine { self.new.mine ≡ self.old.mine }
         ensures answers { WaitAnswers note deadline self.old.seen self.new.seen result }
     {
-        self.env.note_wait(rt, &mut self.seat, note, deadline)
+        match self.env.look(&mut self.seat, Some(note), deadline) {
+            Some(Answer::Canceled) => true,
+            Some(Answer::TimedOut) => false,
+            _ => self.env.go_on_waiting(rt, &mut self.seat, note, deadline),
+        }
     }
 
     /// Sleeps until the next [`Env::notify`] or [`Env::advance`], for at most `longest`, as [`Env::rest`].

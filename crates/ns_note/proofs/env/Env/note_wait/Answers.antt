@@ -1,11 +1,9 @@
-use Rattle.std.proofs.Common.{◌∙◌, Some}
-use Rattle.ns_note.proofs.Looks.{look_since}
-use Rattle.ns_note.proofs.Rests.{grows_through, made_grows}
+use Rattle.ns_note.proofs.Looks.{waited_since}
+use Rattle.ns_note.proofs.Rests.{made_grows}
 use Rattle.ns_note.proofs.env.Env.note_wait.Goals as goal
 
-pub look_or_sleep-found-requires-clause-made : goal.look_or_sleep-found-requires-clause-made
-look_or_sleep-found-requires-clause-made g c = made_grows c.args.seat.now c.loop.seat c.args.note.index c.loop.invariant.2 c.requires.made
+pub go_on_waiting-requires-clause-made : goal.go_on_waiting-requires-clause-made
+go_on_waiting-requires-clause-made g c = made_grows c.args.seat.now c.look.new.seat c.args.note.index c.look.ensures.grows c.requires.made
 
-pub loop-preserved : goal.loop-preserved
-loop-preserved g c = let i = c.loop.invariant in let e = c.look_or_sleep-found.ensures in let now = c.look_or_sleep-found.new.seat in
-    (tt, tt, grows_through c.args.seat.now c.loop.seat now i.2 e.grows, e.mine ∙ i.3, look_since (Some c.args.note) c.args.deadline c.args.seat.now.seen c.loop.seat.seen now.seen i.2.begins c.look_or_sleep-found.result e.answers)
+pub returns-in_default-clause-answers : goal.returns-in_default-clause-answers
+returns-in_default-clause-answers g c = waited_since c.args.note c.args.deadline c.args.seat.now.seen c.look.new.seat.seen c.go_on_waiting.new.seat.seen c.look.ensures.grows.begins c.go_on_waiting.result c.go_on_waiting.ensures.answers
