@@ -60,7 +60,7 @@ impl Objects {
 
     /// Changes a counter, through a seat that is bound to no step.
     #[inline(always)]
-    fn add_at<R: Wait>(
+    pub(crate) fn add_at<R: Wait>(
         &self,
         rt: &R,
         seat: &mut TableSeat,

@@ -82,7 +82,6 @@ impl Objects {
     }
 
     /// Begins to run the function of a once cell, or waits until it has run. Answers whether it begins.
-    #[cold]
     fn begin_or_wait<R: Wait>(&self, rt: &R, seat: &mut TableSeat, once: u8) -> bool
         requires objects { seat.old.table_id ≡ self.now }
         requires one { IsOne seat.old.me.0 }
@@ -113,6 +112,33 @@ impl Objects {
         unreachable!()
     }
 
+    /// Goes on with a call that has found its cell not done: runs the function, or waits until another's has run.
+    ///
+    /// It looks anew, so a first call loads twice: to be told what the first look saw, it would need a clause that
+    /// this is true to a history.
+    #[cold]
+    pub(crate) fn run_or_wait<R: Wait, T, F: FnOnce() -> T>(
+        &self,
+        rt: &R,
+        seat: &mut ObjSeat,
+        once: u8,
+        function: F,
+    ) -> Once<T>
+        requires objects { seat.old.objects ≡ self.now }
+        requires once { once < seat.old.setup.cells }
+        requires function { MayRunOnceBegun (F.pre function) once seat.old }
+        ensures grows { Grows seat.old seat.new }
+        ensures answers { OnceAnswers (F.post function) once seat.old seat.new result }
+    {
+        if self.begin_or_wait(rt, &mut seat.seat, once) {
+            let given = function();
+            self.end_once(&mut seat.seat, once);
+            Once::Ran(given)
+        } else {
+            Once::Already
+        }
+    }
+
     /// Runs the function, if no call on this once cell has begun to run one; else waits until that one
     /// has ended, and sleeps meanwhile. nsync's `nsync_run_once`.
     ///
@@ -139,17 +165,10 @@ impl Objects {
         ensures grows { Grows seat.old seat.new }
         ensures answers { OnceAnswers (F.post function) once seat.old seat.new result }
     {
-        // A cell that is done takes this look and no call. The loop behind it looks anew, so a first call loads
-        // twice: to be told what this look saw, it would need a clause that this is true to a history.
-        if self.look_once(&mut seat.seat, once) == Stage::Done {
+        // A cell that is done takes this look, and no call of a function that may wait.
+        if self.once_done(seat, once) {
             return Once::Already;
         }
-        if self.begin_or_wait(rt, &mut seat.seat, once) {
-            let given = function();
-            self.end_once(&mut seat.seat, once);
-            Once::Ran(given)
-        } else {
-            Once::Already
-        }
+        self.run_or_wait(rt, seat, once, function)
     }
 }

@@ -9,7 +9,7 @@ ghost use Rattle.ns_model.specs.Tallies.{Every};
 ghost use Rattle.ns_note.specs.Known.{Grows as EnvGrows};
 ghost use Rattle.ns_objects.specs.Any.{AnyAnswers, IsKnown, IsNamed, item_of};
 ghost use Rattle.ns_objects.specs.Held.{HeldAnswers};
-ghost use Rattle.ns_objects.specs.Known.{AreOfOneHistory, Grows, IsTrueToHistory, standing_of};
+ghost use Rattle.ns_objects.specs.Known.{AreOfOneHistory, Grows, standing_of};
 ghost use Rattle.ns_objects.specs.Running.{MayRunOnceBegun, OnceAnswers};
 
 use crate::any::{AnyItem, Item};
@@ -69,14 +69,6 @@ impl<'o> Sharer<'o> {
         seat
     }
 
-    /// Attests what is so of each seat, and does nothing, as [`ObjSeat::attest`].
-    #[inline(always)]
-    pub fn attest(&self)
-        ensures { IsTrueToHistory self.now }
-    {
-        self.seat.attest();
-    }
-
     /// Two callers compare what they have seen, as by [`Objects::meet`].
     ///
     /// Needs two of the same objects.
@@ -123,7 +115,7 @@ impl<'o> Sharer<'o> {
         ensures grows { Grows self.old self.new }
         ensures added { self.new.mine ≡ self.old.mine ++ ObjectEvent.OnCounter counter (CounterEvent.Add self.old.seat delta result) ∷ [] }
     {
-        self.objects.counter_add(rt, &mut self.seat, counter, delta)
+        self.objects.add_at(rt, &mut self.seat.seat, counter, delta)
     }
 
     /// The value of a counter, as [`Objects::counter_value`].
@@ -193,7 +185,10 @@ impl<'o> Sharer<'o> {
         ensures grows { Grows self.old self.new }
         ensures answers { OnceAnswers (F.post function) once self.old self.new result }
     {
-        self.objects.run_once(rt, &mut self.seat, once, function)
+        if self.objects.once_done(&mut self.seat, once) {
+            return Once::Already;
+        }
+        self.objects.run_or_wait(rt, &mut self.seat, once, function)
     }
 
     /// Waits until one of the items is ready, or until the clock has reached the deadline, in ticks, and
