@@ -1,14 +1,11 @@
 //! The workloads on a row of one cell, for whose threads nobody waits: how they are run.
 
-ghost use Rattle.std.specs.Thread.{IsSync};
-
 use crate::amount::{Amount, Count};
-use crate::mixed::mix;
+use crate::mixed::Draws;
 use crate::never::{OneCell, OneHandle};
-use crate::running::{Job, jobs, last_row, play};
+use crate::running::{Job, Work, last_row, play};
 use crate::sections::{
-    add_one, compete, lock, lock_and_work, lock_long, read_lock, read_one, signal, try_lock,
-    try_read_lock,
+    compete, lock, lock_and_work, lock_long, mix, read_lock, signal, try_lock, try_read_lock,
 };
 use crate::steps::Steps;
 use std::alloc::Global;
@@ -50,9 +47,33 @@ impl Contending {
         }
     }
 
-    /// Does what a thread does.
-    fn work<R: Wait>(self, rt: &R, job: Job<OneHandle<'_>>, amount: Amount) -> Count {
-        let (number, handle) = (job.number, job.own);
+    /// Whether the cell and the sums of the counts are as they have to be.
+    fn fits(self, cell: u64, total: Count, amount: Amount) -> bool {
+        match self {
+            Contending::ReadLock | Contending::TryReadLock => {
+                cell == SEVEN && total.sum == amount.operations.wrapping_mul(SEVEN)
+            }
+            Contending::LockLong => total.writes == amount.operations,
+            Contending::Mix(_) => cell == total.writes,
+            Contending::Signal => cell == 0 && total.sum == amount.operations,
+            _ => cell == amount.operations && total.writes == amount.operations,
+        }
+    }
+}
+
+impl<'m> Work<OneHandle<'m>> for Contending {
+    /// Sets the cell to the value that it begins with.
+    fn begin<R: Wait>(self, rt: &R, handle: OneHandle<'m>) -> OneHandle<'m> {
+        let mut held = handle.lock(rt);
+        held.set(0, self.first());
+        held.unlock(rt)
+    }
+
+    fn work<R: Wait>(self, rt: &R, job: Job<OneHandle<'m>>, amount: Amount) -> Count {
+        let Job {
+            number,
+            own: handle,
+        } = job;
         let times = amount.share(number);
         let steps = Steps::of_run(amount.operations);
         match self {
@@ -63,28 +84,16 @@ impl Contending {
             Contending::LockLong => lock_long(rt, handle, times, steps),
             Contending::LockAndWork => lock_and_work(rt, handle, times, steps),
             Contending::Compete => compete(rt, handle, amount.operations, steps),
-            Contending::Mix(percent) => mix(
-                number,
-                times,
-                percent,
-                handle,
-                |handle| read_one(rt, handle),
-                |handle| add_one(rt, handle),
-            ),
+            Contending::Mix(percent) => mix(rt, handle, times, Draws::of_thread(number, percent)),
             Contending::Signal => signal(rt, handle, times),
         }
     }
 
-    /// Whether the cell and the sums of the counts are as they have to be.
-    fn is_right(self, cell: u64, total: Count, amount: Amount) -> bool {
-        match self {
-            Contending::ReadLock | Contending::TryReadLock => {
-                cell == SEVEN && total.sum == amount.operations.wrapping_mul(SEVEN)
-            }
-            Contending::LockLong => total.writes == amount.operations,
-            Contending::Mix(_) => cell == total.writes,
-            Contending::Signal => cell == 0 && total.sum == amount.operations,
-            _ => cell == amount.operations && total.writes == amount.operations,
+    /// The cell and the sums of the counts are as they have to be.
+    fn is_right(self, handle: OneHandle<'m>, total: Count, amount: Amount) -> bool {
+        match last_row(handle) {
+            Some(row) => self.fits(row[0], total, amount),
+            None => false,
         }
     }
 }
@@ -98,18 +107,5 @@ pub fn run<R: Threads + Wait + Sync>(
     amount: Amount,
 ) -> Option<bool> {
     let (monitor, seats) = OneCell::new(alloc, amount.seats()?).ok()?;
-    let mut handles = monitor.handles(seats);
-    let mut held = handles.next()?.lock(rt);
-    held.set(0, what.first());
-    let handle = held.unlock(rt);
-    let (total, handle) = play(
-        rt,
-        jobs(alloc, amount.threads, || handles.next())?,
-        handle,
-        &|job: Job<OneHandle>| -> Count
-            requires { IsSync R.row }
-        { what.work(rt, job, amount) },
-        |handle| handle,
-    )?;
-    Some(last_row(handle).is_some_and(|row| what.is_right(row[0], total, amount)))
+    play(rt, alloc, what, amount, monitor.handles(seats))
 }

@@ -1,15 +1,16 @@
 //! Waits that end at once, since their deadline has come or their note is notified.
 
-ghost use Rattle.std.specs.Thread.{IsSync};
-
+use crate::amount::{Amount, Count};
 use crate::never::{OneCell, OneHandle};
 use crate::notes::{Looks, Watched};
+use crate::running::{Job, Work, last_row, play};
+use ns_fixtures::Never;
 use ns_monitor::Answer;
 use ns_note::env::Env;
 use ns_note::watcher::Watcher;
 use std::alloc::Global;
 use std::sync::Wait;
-use std::thread::{Threads, join};
+use std::thread::Threads;
 
 /// What ends each wait.
 #[derive(Clone, Copy)]
@@ -22,34 +23,44 @@ pub enum EarlyEnd {
     Note,
 }
 
+/// What a thread has of its own.
+type Own<'m, 'e> = (OneHandle<'m>, Watcher<'e>);
+
 /// Waits so many times in one section, and counts how often the note has ended it, where that is asked, else the
 /// deadline.
-fn count_ended<'m, R: Wait>(
+///
+/// The loop has one call, which the compiler inlines.
+#[tactic(auto, using(ns_note::proofs::Rests::made_grows))]
+fn count_ended<R: Wait>(
     rt: &R,
-    handle: OneHandle<'m>,
-    mut watched: Watched<'_>,
+    handle: OneHandle<'_>,
+    watched: Watched<'_>,
     for_note: bool,
     times: u64,
-) -> (OneHandle<'m>, u64) {
+) -> u64 {
+    let Watched { mut watcher, note } = watched;
     let mut held = handle.lock(rt);
     let mut count = 0u64;
     for _ in 0..times {
-        let (back, answer) = watched.wait(rt, held, for_note);
+        let note = if for_note { Some(note) } else { None };
+        let deadline = if for_note { None } else { Some(0) };
+        let (back, answer) = held.wait_with_deadline(rt, Never, deadline, note, &mut watcher);
         held = back;
         if answer != Answer::Met {
             count = count.wrapping_add(1);
         }
     }
-    (held.unlock(rt), count)
+    held.unlock(rt);
+    count
 }
 
 /// Waits for a variable so many times in one section, and counts how often a deadline that has come has ended it.
-fn count_late_at_variable<'m, R: Wait>(
+fn count_late_at_variable<R: Wait>(
     rt: &R,
-    handle: OneHandle<'m>,
+    handle: OneHandle<'_>,
     mut watcher: Watcher<'_>,
     times: u64,
-) -> (OneHandle<'m>, u64) {
+) -> u64 {
     let mut held = handle.lock(rt);
     let mut count = 0u64;
     for _ in 0..times {
@@ -59,46 +70,44 @@ fn count_late_at_variable<'m, R: Wait>(
             count = count.wrapping_add(1);
         }
     }
-    (held.unlock(rt), count)
+    held.unlock(rt);
+    count
 }
 
-/// Waits so many times, and counts how often the deadline or the note has ended it.
-fn count_waits<'m, R: Wait>(
-    rt: &R,
-    handle: OneHandle<'m>,
-    watcher: Watcher<'_>,
-    early_end: EarlyEnd,
-    times: u64,
-) -> (OneHandle<'m>, u64) {
-    let for_note = match early_end {
-        EarlyEnd::DeadlineAtVariable => return count_late_at_variable(rt, handle, watcher, times),
-        EarlyEnd::Deadline => false,
-        EarlyEnd::Note => true,
-    };
-    match Watched::new(watcher, Looks::Notified) {
-        Some(watched) => count_ended(rt, handle, watched, for_note, times),
-        None => (handle, 0),
+impl<'m, 'e> Work<Own<'m, 'e>> for EarlyEnd {
+    /// Waits so many times, and counts how often the deadline or the note has ended it.
+    fn work<R: Wait>(self, rt: &R, job: Job<Own<'m, 'e>>, amount: Amount) -> Count {
+        let (handle, watcher) = job.own;
+        let times = amount.operations;
+        if matches!(self, EarlyEnd::DeadlineAtVariable) {
+            return Count::of_writes(count_late_at_variable(rt, handle, watcher, times));
+        }
+        let for_note = matches!(self, EarlyEnd::Note);
+        Count::of_writes(match Watched::new(watcher, Looks::Notified) {
+            Some(watched) => count_ended(rt, handle, watched, for_note, times),
+            None => 0,
+        })
+    }
+
+    /// Each wait was ended so.
+    fn is_right(self, own: Own<'m, 'e>, total: Count, amount: Amount) -> bool {
+        last_row(own.0).is_some() && total.writes == amount.operations
     }
 }
 
-/// Whether the deadline or the note ends each of so many waits, by a thread of its own, and the lock is free in
-/// the end; nothing where it could not be begun.
+/// Runs a workload, and answers whether it has ended as it must, with a free lock; nothing where it could not be
+/// begun, or isn't for so many threads.
 pub fn run<R: Threads + Wait + Sync>(
     rt: &R,
     alloc: Global,
     early_end: EarlyEnd,
-    times: u64,
+    amount: Amount,
 ) -> Option<bool> {
-    let (monitor, seats) = OneCell::new(alloc, 1).ok()?;
-    let (env, env_seats) = Env::new(alloc, 1).ok()?;
-    let handle = monitor.handles(seats).next()?;
-    let watcher = env.watchers(env_seats).next()?;
-    let ((handle, count), ()) = join(
-        rt,
-        move || -> (OneHandle, u64)
-            requires { IsSync R.row }
-        { count_waits(rt, handle, watcher, early_end, times) },
-        || (),
-    );
-    Some(handle.try_lock().is_ok() && count == times)
+    if amount.threads != 1 {
+        return None;
+    }
+    let (monitor, seats) = OneCell::new(alloc, 2).ok()?;
+    let (env, env_seats) = Env::new(alloc, 2).ok()?;
+    let source = (monitor.handles(seats), env.watchers(env_seats));
+    play(rt, alloc, early_end, amount, source)
 }

@@ -3,6 +3,7 @@
 use crate::amount::Count;
 use crate::conditions::{STOP, SixHandle};
 use crate::crowd::add_one_at;
+use crate::mixed::Draws;
 use crate::steps::{LONG, Steps};
 use std::sync::Wait;
 
@@ -13,7 +14,7 @@ const WORK: usize = 5;
 const MOST_READS: u64 = 4_000_000;
 
 /// Makes a long section that reads, and answers what it found and whether it is to leave.
-pub fn read_long<'m, R: Wait>(
+fn read_long<'m, R: Wait>(
     rt: &R,
     handle: SixHandle<'m>,
     steps: Steps,
@@ -26,13 +27,37 @@ pub fn read_long<'m, R: Wait>(
 }
 
 /// Makes a long section that writes.
-pub fn write_long<'m, R: Wait>(rt: &R, handle: SixHandle<'m>, steps: Steps) -> SixHandle<'m> {
+fn write_long<'m, R: Wait>(rt: &R, handle: SixHandle<'m>, steps: Steps) -> SixHandle<'m> {
     let mut held = handle.lock(rt);
     let value = held.get(WORK);
     held.set(WORK, steps.walk(value, LONG));
     let count = held.get(0);
     held.set(0, count.wrapping_add(1));
     held.unlock(rt)
+}
+
+/// Makes so many long sections, as the draws ask for them.
+pub fn mix_long<R: Wait>(
+    rt: &R,
+    mut handle: SixHandle<'_>,
+    times: u64,
+    draws: Draws,
+    steps: Steps,
+) -> Count {
+    let mut draws = draws;
+    let mut count = Count::new();
+    for _ in 0..times {
+        draws = draws.next();
+        if draws.asks_to_read() {
+            let (back, value, _) = read_long(rt, handle, steps);
+            handle = back;
+            count = count.with(value);
+        } else {
+            handle = write_long(rt, handle, steps);
+            count = count.with_write();
+        }
+    }
+    count
 }
 
 /// Makes so many short sections that write, with work between them, and then tells the readers to leave.

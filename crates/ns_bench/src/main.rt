@@ -58,12 +58,12 @@ mod variables;
 mod waiting;
 
 use crate::amount::Amount;
-use crate::asked::{Asked, parsed};
+use crate::asked::parsed;
 use crate::contending::Contending;
 use crate::limits::EarlyEnd;
 use crate::notes::Looks;
 use crate::objects::Sharing;
-use crate::pairs::{ByLock, ByTry, Medians};
+use crate::pairs::Medians;
 use crate::variables::Signaling;
 use crate::waiting::{Beside, Marked, Waiting};
 use std::process::ExitCode;
@@ -73,7 +73,7 @@ use std::time::Clock;
 use std::{env, io};
 
 /// How a workload ended.
-#[derive(Drop)]
+#[derive(Clone, Copy, Drop)]
 enum Ended {
     /// As it must.
     Done,
@@ -94,148 +94,150 @@ impl Ended {
     }
 }
 
-/// Prints the medians, and how many times as long one takes as the other.
-fn print<R: Print>(rt: &R, medians: &Medians) -> io::Result<()> {
-    for (what, hundredths) in [
-        ("monitor", medians.monitor),
-        ("by hand", medians.by_hand),
-        ("ratio", medians.ratio()),
-    ] {
-        println!(rt; "{what} {}.{:02}", hundredths / 100, hundredths % 100)?;
-    }
-    Ok(())
+/// Prints what this is, in hundredths.
+fn print_line<R: Print>(rt: &R, what: &str, hundredths: u64) -> io::Result<()> {
+    println!(rt; "{what} {}.{:02}", hundredths / 100, hundredths % 100)
 }
 
-/// Times pairs of an acquire and a release, where those are asked for.
-fn compare<R: AllocGlobal + Print + Clock + Wait>(rt: &R, asked: &Asked<'_>) -> io::Result<Ended> {
-    let medians = match asked.workload {
-        "pairs" => pairs::run::<ByTry, R>(rt, rt.alloc(), asked.operations)?,
-        "mu" => pairs::run::<ByLock, R>(rt, rt.alloc(), asked.operations)?,
-        _ => return Ok(Ended::Lacks),
-    };
-    if let Some(medians) = medians {
+/// Prints the medians, and how many times as long one takes as the other.
+fn print<R: Print>(rt: &R, medians: &Medians) -> io::Result<()> {
+    print_line(rt, "monitor", medians.monitor)?;
+    print_line(rt, "by hand", medians.by_hand)?;
+    print_line(rt, "ratio", medians.ratio())
+}
+
+/// A workload.
+#[derive(Clone, Copy)]
+enum Workload {
+    /// At a row of one cell.
+    OneCell(Contending),
+    /// At a row of six cells.
+    SixCells(Waiting),
+    /// At condition variables and a row of six cells.
+    Variables(Signaling),
+    /// At a counter or a once cell.
+    Objects(Sharing),
+    /// At a note.
+    Notes(Looks),
+    /// Waits that end at once.
+    Limits(EarlyEnd),
+    /// At the ring.
+    Ring,
+    /// At the ring, by condition variables.
+    RingByVariables,
+    /// Turns by notes.
+    NoteTurns,
+    /// Pairs, by tries or by locks.
+    Pairs(bool),
+}
+
+/// Each workload by its name.
+const WORKLOADS: [(&str, Workload); 38] = [
+    ("mu_lock", Workload::OneCell(Contending::Lock)),
+    ("rw_wlock", Workload::OneCell(Contending::Lock)),
+    ("mu_try", Workload::OneCell(Contending::TryLock)),
+    ("mu_rlock", Workload::OneCell(Contending::ReadLock)),
+    ("mu_rtry", Workload::OneCell(Contending::TryReadLock)),
+    ("mu_long", Workload::OneCell(Contending::LockLong)),
+    ("mu_out", Workload::OneCell(Contending::LockAndWork)),
+    ("fair", Workload::OneCell(Contending::Compete)),
+    ("mix90", Workload::OneCell(Contending::Mix(90))),
+    ("mix99", Workload::OneCell(Contending::Mix(99))),
+    ("cv_signal", Workload::OneCell(Contending::Signal)),
+    (
+        "ccs_false_same",
+        Workload::SixCells(Waiting::Crowd(Marked::Same, Beside::Tick)),
+    ),
+    (
+        "ccs_false_odd",
+        Workload::SixCells(Waiting::Crowd(Marked::Odd, Beside::Tick)),
+    ),
+    (
+        "ccs_false_each",
+        Workload::SixCells(Waiting::Crowd(Marked::Each, Beside::Tick)),
+    ),
+    (
+        "ccs_false_rd",
+        Workload::SixCells(Waiting::Crowd(Marked::Each, Beside::Read)),
+    ),
+    (
+        "ccs_silent",
+        Workload::SixCells(Waiting::Crowd(Marked::Each, Beside::TickQuietly)),
+    ),
+    (
+        "ccs_true_same",
+        Workload::SixCells(Waiting::Answer(Marked::Same)),
+    ),
+    (
+        "ccs_true_each",
+        Workload::SixCells(Waiting::Answer(Marked::Each)),
+    ),
+    ("ccs_pp", Workload::SixCells(Waiting::Turns)),
+    ("mixlong99", Workload::SixCells(Waiting::MixLong(99))),
+    ("wlat", Workload::SixCells(Waiting::OneWriter)),
+    ("cv_pp", Workload::Variables(Signaling::Turns)),
+    ("cv_bcast", Workload::Variables(Signaling::Rounds)),
+    ("idle_timed", Workload::Variables(Signaling::Idle)),
+    ("counter_add", Workload::Objects(Sharing::CountDown)),
+    ("once_done", Workload::Objects(Sharing::AskDone)),
+    ("note_no", Workload::Notes(Looks::Not)),
+    ("note_yes", Workload::Notes(Looks::Notified)),
+    ("note_child", Workload::Notes(Looks::Child)),
+    ("to0_note", Workload::Notes(Looks::TimedOut)),
+    ("to0_mu", Workload::Limits(EarlyEnd::Deadline)),
+    ("to0_cv", Workload::Limits(EarlyEnd::DeadlineAtVariable)),
+    ("cancel0", Workload::Limits(EarlyEnd::Note)),
+    ("live", Workload::Ring),
+    ("live_cv", Workload::RingByVariables),
+    ("note_pp", Workload::NoteTurns),
+    ("pairs", Workload::Pairs(true)),
+    ("mu", Workload::Pairs(false)),
+];
+
+/// The workload of this name, if there is one.
+fn workload_of(name: &str) -> Option<Workload> {
+    for (known, workload) in &WORKLOADS {
+        if *known == name {
+            return Some(*workload);
+        }
+    }
+    None
+}
+
+/// Times pairs of an acquire and a release.
+fn compare<R: AllocGlobal + Print + Clock + Wait>(
+    rt: &R,
+    by_tries: bool,
+    amount: Amount,
+) -> io::Result<Ended> {
+    if amount.threads != 1 {
+        return Ok(Ended::Lacks);
+    }
+    if let Some(medians) = pairs::run(rt, rt.alloc(), by_tries, amount.operations)? {
         print(rt, &medians)?;
     }
     Ok(Ended::Done)
 }
 
-/// What is done at a row of one cell in the workload of this name.
-fn at_one_cell(workload: &str) -> Option<Contending> {
-    match workload {
-        "mu_lock" | "rw_wlock" => Some(Contending::Lock),
-        "mu_try" => Some(Contending::TryLock),
-        "mu_rlock" => Some(Contending::ReadLock),
-        "mu_rtry" => Some(Contending::TryReadLock),
-        "mu_long" => Some(Contending::LockLong),
-        "mu_out" => Some(Contending::LockAndWork),
-        "fair" => Some(Contending::Compete),
-        "mix90" => Some(Contending::Mix(90)),
-        "mix99" => Some(Contending::Mix(99)),
-        "cv_signal" => Some(Contending::Signal),
-        _ => None,
-    }
-}
-
-/// What is done at a row of six cells in the workload of this name.
-fn at_six_cells(workload: &str) -> Option<Waiting> {
-    match workload {
-        "ccs_false_same" => Some(Waiting::Crowd(Marked::Same, Beside::Tick)),
-        "ccs_false_odd" => Some(Waiting::Crowd(Marked::Odd, Beside::Tick)),
-        "ccs_false_each" => Some(Waiting::Crowd(Marked::Each, Beside::Tick)),
-        "ccs_false_rd" => Some(Waiting::Crowd(Marked::Each, Beside::Read)),
-        "ccs_silent" => Some(Waiting::Crowd(Marked::Each, Beside::TickQuietly)),
-        "ccs_true_same" => Some(Waiting::Answer(Marked::Same)),
-        "ccs_true_each" => Some(Waiting::Answer(Marked::Each)),
-        "ccs_pp" => Some(Waiting::Turns),
-        "mixlong99" => Some(Waiting::MixLong(99)),
-        "wlat" => Some(Waiting::OneWriter),
-        _ => None,
-    }
-}
-
-/// What is done at condition variables and a row of six cells in the workload of this name.
-fn at_variables(workload: &str) -> Option<Signaling> {
-    match workload {
-        "cv_pp" => Some(Signaling::Turns),
-        "cv_bcast" => Some(Signaling::Rounds),
-        "idle_timed" => Some(Signaling::Idle),
-        _ => None,
-    }
-}
-
-/// What is done to a counter or a once cell in the workload of this name.
-fn at_objects(workload: &str) -> Option<Sharing> {
-    match workload {
-        "counter_add" => Some(Sharing::CountDown),
-        "once_done" => Some(Sharing::AskDone),
-        _ => None,
-    }
-}
-
-/// How a note is looked at in the workload of this name.
-fn at_notes(workload: &str) -> Option<Looks> {
-    match workload {
-        "note_no" => Some(Looks::Not),
-        "note_yes" => Some(Looks::Notified),
-        "note_child" => Some(Looks::Child),
-        "to0_note" => Some(Looks::TimedOut),
-        _ => None,
-    }
-}
-
-/// What ends the waits in the workload of this name.
-fn at_limits(workload: &str) -> Option<EarlyEnd> {
-    match workload {
-        "to0_mu" => Some(EarlyEnd::Deadline),
-        "to0_cv" => Some(EarlyEnd::DeadlineAtVariable),
-        "cancel0" => Some(EarlyEnd::Note),
-        _ => None,
-    }
-}
-
-/// Runs a workload of one thread alone.
-fn run_alone<R: AllocGlobal + Print + Clock + Threads + Wait + Sync>(
-    rt: &R,
-    asked: &Asked<'_>,
-) -> io::Result<Ended> {
-    let times = asked.operations;
-    if let Some(looks) = at_notes(asked.workload) {
-        return Ok(Ended::of(notes::run(rt, rt.alloc(), looks, times)));
-    }
-    if let Some(early_end) = at_limits(asked.workload) {
-        return Ok(Ended::of(limits::run(rt, rt.alloc(), early_end, times)));
-    }
-    compare(rt, asked)
-}
-
 /// Runs the workload that is asked for.
 fn run<R: AllocGlobal + Print + Clock + Threads + Wait + Sync>(
     rt: &R,
-    asked: &Asked<'_>,
+    workload: Workload,
+    amount: Amount,
 ) -> io::Result<Ended> {
-    let amount = Amount {
-        threads: asked.threads,
-        operations: asked.operations,
+    let is_right = match workload {
+        Workload::OneCell(what) => contending::run(rt, rt.alloc(), what, amount),
+        Workload::SixCells(what) => waiting::run(rt, rt.alloc(), what, amount),
+        Workload::Variables(what) => variables::run(rt, rt.alloc(), what, amount),
+        Workload::Objects(what) => objects::run(rt, rt.alloc(), what, amount),
+        Workload::Notes(looks) => notes::run(rt, rt.alloc(), looks, amount),
+        Workload::Limits(early_end) => limits::run(rt, rt.alloc(), early_end, amount),
+        Workload::Ring => ring::run(rt, rt.alloc(), amount),
+        Workload::RingByVariables => ring_variables::run(rt, rt.alloc(), amount),
+        Workload::NoteTurns => note_turns::run(rt, rt.alloc(), amount),
+        Workload::Pairs(by_tries) => return compare(rt, by_tries, amount),
     };
-    if let Some(what) = at_one_cell(asked.workload) {
-        return Ok(Ended::of(contending::run(rt, rt.alloc(), what, amount)));
-    }
-    if let Some(what) = at_six_cells(asked.workload) {
-        return Ok(Ended::of(waiting::run(rt, rt.alloc(), what, amount)));
-    }
-    if let Some(what) = at_variables(asked.workload) {
-        return Ok(Ended::of(variables::run(rt, rt.alloc(), what, amount)));
-    }
-    if let Some(what) = at_objects(asked.workload) {
-        return Ok(Ended::of(objects::run(rt, rt.alloc(), what, amount)));
-    }
-    match asked.workload {
-        "live" => Ok(Ended::of(ring::run(rt, rt.alloc(), amount))),
-        "note_pp" => Ok(Ended::of(note_turns::run(rt, rt.alloc(), amount))),
-        "live_cv" => Ok(Ended::of(ring_variables::run(rt, rt.alloc(), amount))),
-        _ if asked.threads == 1 => run_alone(rt, asked),
-        _ => Ok(Ended::Lacks),
-    }
+    Ok(Ended::of(is_right))
 }
 
 fn main(rt: HostRuntime) -> io::Result<ExitCode> {
@@ -244,7 +246,15 @@ fn main(rt: HostRuntime) -> io::Result<ExitCode> {
         eprintln!(rt; "usage: ns_bench WORKLOAD THREADS OPERATIONS")?;
         return Ok(ExitCode::from(2));
     };
-    let (word, status) = match run(&rt, &asked)? {
+    let amount = Amount {
+        threads: asked.threads,
+        operations: asked.operations,
+    };
+    let ended = match workload_of(asked.workload) {
+        Some(workload) => run(&rt, workload, amount)?,
+        None => Ended::Lacks,
+    };
+    let (word, status) = match ended {
         Ended::Done => {
             println!(rt; "done {}", asked.operations)?;
             return Ok(ExitCode::SUCCESS);

@@ -4,16 +4,16 @@
 
 ghost use Rattle.std.specs.Prelude.{◌≡◌, ◌<◌};
 ghost use Rattle.std.specs.Arc.{arc_value};
-ghost use Rattle.std.specs.Thread.{IsSync};
 
-use crate::amount::Amount;
+use crate::amount::{Amount, Count};
+use crate::running::{Job, Work, play};
 use ns_note::env::Env;
 use ns_note::note::Note;
 use ns_note::seat::EnvSeat;
 use ns_note::watcher::Watcher;
 use std::alloc::Global;
 use std::sync::{Arc, Wait};
-use std::thread::{Threads, join};
+use std::thread::Threads;
 
 /// How many notes an environment has.
 const NOTES: u64 = 64;
@@ -54,8 +54,9 @@ fn leg_of_each(alloc: Global, count: u64) -> Option<(Leg, Leg)> {
     ))
 }
 
-/// The legs of both threads at as many environments as so many operations take.
-fn legs_of_each(alloc: Global, operations: u64) -> Option<(Vec<Leg>, Vec<Leg>)> {
+/// What both threads have of their own, at as many environments as so many operations take: nothing for the one
+/// beside them, which is the last.
+fn legs_of_all(alloc: Global, operations: u64) -> Option<Vec<Vec<Leg>>> {
     let mut first = Vec::new(alloc);
     let mut second = Vec::new(alloc);
     for k in 0..operations.div_ceil(NOTES) {
@@ -64,7 +65,11 @@ fn legs_of_each(alloc: Global, operations: u64) -> Option<(Vec<Leg>, Vec<Leg>)> 
         first.push(one).ok()?;
         second.push(two).ok()?;
     }
-    Some((first, second))
+    let mut all = Vec::new(alloc);
+    all.push(second).ok()?;
+    all.push(first).ok()?;
+    all.push(Vec::new(alloc)).ok()?;
+    Some(all)
 }
 
 /// Notifies the note of this number, where the watcher knows it, once the one before it is notified. Answers
@@ -99,29 +104,38 @@ fn take_turns<R: Wait>(rt: &R, leg: Leg, first: u8) -> u64 {
     count
 }
 
-/// Takes every second turn at all environments, and counts them.
-fn take_all<R: Wait>(rt: &R, legs: Vec<Leg>, first: u8) -> u64 {
-    let mut count = 0u64;
-    for leg in legs {
-        count = count.wrapping_add(take_turns(rt, leg, first));
+/// The workload.
+#[derive(Clone, Copy)]
+struct Turns;
+
+impl Work<Vec<Leg>> for Turns {
+    /// Takes every second turn at all environments, and counts them.
+    fn work<R: Wait>(self, rt: &R, job: Job<Vec<Leg>>, _amount: Amount) -> Count {
+        let Job { number, own: legs } = job;
+        let mut count = 0u64;
+        for leg in legs {
+            count = count.wrapping_add(take_turns(rt, leg, (number % 2) as u8));
+        }
+        Count::of_writes(count)
     }
-    count
+
+    /// All turns are taken.
+    fn is_right(self, _legs: Vec<Leg>, total: Count, amount: Amount) -> bool {
+        total.writes == amount.operations
+    }
 }
 
-/// Whether all turns are taken; nothing where it could not be begun, or isn't for so many threads.
+/// Runs the workload, and answers whether all turns were taken; nothing where it could not be begun, or isn't for
+/// so many threads.
 pub fn run<R: Threads + Wait + Sync>(rt: &R, alloc: Global, amount: Amount) -> Option<bool> {
     if amount.threads != 2 {
         return None;
     }
-    let (first, second) = legs_of_each(alloc, amount.operations)?;
-    let (even, odd) = join(
+    play(
         rt,
-        move || -> u64
-            requires { IsSync R.row }
-        { take_all(rt, first, 0) },
-        move || -> u64
-            requires { IsSync R.row }
-        { take_all(rt, second, 1) },
-    );
-    Some(even.wrapping_add(odd) == amount.operations)
+        alloc,
+        Turns,
+        amount,
+        legs_of_all(alloc, amount.operations)?,
+    )
 }

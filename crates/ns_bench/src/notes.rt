@@ -1,17 +1,15 @@
 //! Looks at a note, by one thread.
 
-ghost use Rattle.std.specs.Thread.{IsSync};
 ghost use Rattle.ns_model.specs.Environments.{IsMade};
 
-use crate::never::OneWriting;
-use ns_fixtures::Never;
-use ns_monitor::Answer;
+use crate::amount::{Amount, Count};
+use crate::running::{Job, Work, play};
 use ns_note::env::Env;
 use ns_note::note::Note;
 use ns_note::watcher::Watcher;
 use std::alloc::Global;
 use std::sync::Wait;
-use std::thread::{Threads, join};
+use std::thread::Threads;
 
 /// Which note is looked at, and how.
 #[derive(Clone, Copy)]
@@ -29,8 +27,10 @@ pub enum Looks {
 /// A note, and who has seen it made.
 #[derive(Drop)]
 pub struct Watched<'e> {
-    watcher: Watcher<'e>,
-    note: Note,
+    /// Who has seen it made.
+    pub watcher: Watcher<'e>,
+    /// The note.
+    pub note: Note,
     ghost made: { IsMade watcher.seen note.index },
 }
 
@@ -55,87 +55,70 @@ impl<'e> Watched<'e> {
             None
         }
     }
-
-    /// Whether the note is notified.
-    #[tactic(auto, using(ns_note::proofs::Rests::made_grows))]
-    fn is_notified(&mut self) -> bool {
-        self.watcher.is_notified(self.note)
-    }
-
-    /// Whether the note is notified, which is waited for until a moment that has come.
-    #[tactic(auto, using(ns_note::proofs::Rests::made_grows))]
-    fn is_in_time<R: Wait>(&mut self, rt: &R) -> bool {
-        self.watcher.note_wait(rt, self.note, Some(0))
-    }
-
-    /// Waits in a section until the note is notified, where that is asked, else until a moment that has come.
-    ///
-    /// Both are one call, so that the compiler inlines it in the one loop that makes it.
-    #[inline(always)]
-    #[tactic(auto, using(ns_note::proofs::Rests::made_grows))]
-    pub fn wait<'m, R: Wait>(
-        &mut self,
-        rt: &R,
-        held: OneWriting<'m>,
-        for_note: bool,
-    ) -> (OneWriting<'m>, Answer) {
-        let note = if for_note { Some(self.note) } else { None };
-        let deadline = if for_note { None } else { Some(0) };
-        held.wait_with_deadline(rt, Never, deadline, note, &mut self.watcher)
-    }
 }
 
 /// How often the note is found notified, of so many times.
-fn look_often(mut watched: Watched<'_>, times: u64) -> u64 {
+///
+/// In each loop the call stands by itself: a function that may wait costs its caller a look at whether it was cut
+/// short.
+#[tactic(auto, using(ns_note::proofs::Rests::made_grows))]
+fn look_often(watched: Watched<'_>, times: u64) -> u64 {
+    let Watched { mut watcher, note } = watched;
     let mut count = 0u64;
     for _ in 0..times {
-        if watched.is_notified() {
+        if watcher.is_notified(note) {
             count = count.wrapping_add(1);
         }
     }
     count
 }
 
-/// How often the note is notified in time, of so many times.
-fn wait_often<R: Wait>(rt: &R, mut watched: Watched<'_>, times: u64) -> u64 {
+/// How often the note is notified by a moment that has come, of so many times.
+#[tactic(auto, using(ns_note::proofs::Rests::made_grows))]
+fn wait_often<R: Wait>(rt: &R, watched: Watched<'_>, times: u64) -> u64 {
+    let Watched { mut watcher, note } = watched;
     let mut count = 0u64;
     for _ in 0..times {
-        if watched.is_in_time(rt) {
+        if watcher.note_wait(rt, note, Some(0)) {
             count = count.wrapping_add(1);
         }
     }
     count
 }
 
-/// Makes the note and looks at it so many times, and counts how often it is notified.
-fn count_looks<R: Wait>(rt: &R, watcher: Watcher<'_>, looks: Looks, times: u64) -> Option<u64> {
-    let watched = Watched::new(watcher, looks)?;
-    Some(match looks {
-        Looks::TimedOut => wait_often(rt, watched, times),
-        _ => look_often(watched, times),
-    })
+impl<'e> Work<Watcher<'e>> for Looks {
+    /// Makes the note and looks at it so many times, and counts how often it is notified.
+    fn work<R: Wait>(self, rt: &R, job: Job<Watcher<'e>>, amount: Amount) -> Count {
+        let times = amount.operations;
+        Count::of_writes(match Watched::new(job.own, self) {
+            None => 0,
+            Some(watched) if matches!(self, Looks::TimedOut) => wait_often(rt, watched, times),
+            Some(watched) => look_often(watched, times),
+        })
+    }
+
+    /// Each look has found what it has to.
+    fn is_right(self, _watcher: Watcher<'e>, total: Count, amount: Amount) -> bool {
+        let notified = if matches!(self, Looks::Notified) {
+            amount.operations
+        } else {
+            0
+        };
+        total.writes == notified
+    }
 }
 
-/// Whether each of so many looks, by a thread of its own, answers as it must; nothing where there is no note.
+/// Runs a workload, and answers whether it has ended as it must; nothing where it could not be begun, or isn't for
+/// so many threads.
 pub fn run<R: Threads + Wait + Sync>(
     rt: &R,
     alloc: Global,
     looks: Looks,
-    times: u64,
+    amount: Amount,
 ) -> Option<bool> {
-    let (env, seats) = Env::new(alloc, 1).ok()?;
-    let watcher = env.watchers(seats).next()?;
-    let (count, ()) = join(
-        rt,
-        move || -> Option<u64>
-            requires { IsSync R.row }
-        { count_looks(rt, watcher, looks, times) },
-        || (),
-    );
-    let all = if matches!(looks, Looks::Notified) {
-        times
-    } else {
-        0
-    };
-    Some(count? == all)
+    if amount.threads != 1 {
+        return None;
+    }
+    let (env, seats) = Env::new(alloc, 2).ok()?;
+    play(rt, alloc, looks, amount, env.watchers(seats))
 }

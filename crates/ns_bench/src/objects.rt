@@ -1,10 +1,9 @@
 //! A counter and a once cell that threads share: what each thread does, and how it is run.
 
 ghost use Rattle.std.specs.Prelude.{◌<◌, All};
-ghost use Rattle.std.specs.Thread.{IsSync};
 
 use crate::amount::{Amount, Count};
-use crate::running::{Job, jobs, play};
+use crate::running::{Job, Source, Work, play};
 use ns_objects::objects::Objects;
 use ns_objects::running::Once;
 use ns_objects::sharer::{Sharer, Sharers};
@@ -36,33 +35,22 @@ struct Mates<'o> {
     ghost of_both: { All (λ s. (0 < s.setup.counters) × (0 < s.setup.cells)) sharers },
 }
 
-impl<'o> Mates<'o> {
-    /// The next of them, as long as there is one.
-    fn next(&mut self) -> Option<Mate<'o>> {
+impl<'o> Source<Mate<'o>> for Mates<'o> {
+    fn take(&mut self) -> Option<Mate<'o>> {
         let sharer = self.sharers.next()?;
         Some(Mate { sharer })
     }
 }
 
-impl Mate<'_> {
-    /// Takes 1 from the counter. Answers whether that wasn't refused.
-    #[inline(always)]
-    fn takes<R: Wait>(&mut self, rt: &R) -> bool {
-        self.sharer.counter_add(rt, 0, -1).is_ok()
-    }
-
-    /// Has a function run once. Answers whether it had run.
-    #[inline(always)]
-    fn asks<R: Wait>(&mut self, rt: &R) -> bool {
-        matches!(self.sharer.run_once(rt, 0, || ()), Once::Already)
-    }
-}
-
 /// Takes 1 from the counter so many times, and counts how often that wasn't refused.
-fn count_down<R: Wait>(rt: &R, mut mate: Mate<'_>, times: u64) -> u64 {
+///
+/// In each loop the call stands by itself: a function that may wait costs its caller a look at whether it was cut
+/// short.
+fn count_down<R: Wait>(rt: &R, mate: Mate<'_>, times: u64) -> u64 {
+    let Mate { mut sharer } = mate;
     let mut count = 0u64;
     for _ in 0..times {
-        if mate.takes(rt) {
+        if sharer.counter_add(rt, 0, -1).is_ok() {
             count = count.wrapping_add(1);
         }
     }
@@ -70,33 +58,46 @@ fn count_down<R: Wait>(rt: &R, mut mate: Mate<'_>, times: u64) -> u64 {
 }
 
 /// Has a function run once, so many times, and counts how often it had run.
-fn ask_often<R: Wait>(rt: &R, mut mate: Mate<'_>, times: u64) -> u64 {
+fn ask_often<'o, R: Wait>(rt: &R, mate: Mate<'o>, times: u64) -> (Mate<'o>, u64) {
+    let Mate { mut sharer } = mate;
     let mut count = 0u64;
     for _ in 0..times {
-        if mate.asks(rt) {
+        if matches!(sharer.run_once(rt, 0, || ()), Once::Already) {
             count = count.wrapping_add(1);
         }
     }
-    count
+    (Mate { sharer }, count)
 }
 
 impl Sharing {
-    /// Does what a thread does.
-    fn work<R: Wait>(self, rt: &R, job: Job<Mate<'_>>, amount: Amount) -> Count {
-        let Job { number, own: mate } = job;
-        let times = amount.share(number);
-        Count::of_writes(match self {
-            Sharing::CountDown => count_down(rt, mate, times),
-            Sharing::AskDone => ask_often(rt, mate, times),
-        })
-    }
-
     /// The value that the counter begins with; nothing for more operations than it holds.
     fn start(self, amount: Amount) -> Option<u32> {
         match self {
             Sharing::CountDown => u32::try_from(amount.operations).ok()?.checked_add(1),
             Sharing::AskDone => Some(1),
         }
+    }
+}
+
+impl<'o> Work<Mate<'o>> for Sharing {
+    /// Has the function run, for those who are to find that it has.
+    fn begin<R: Wait>(self, rt: &R, mate: Mate<'o>) -> Mate<'o> {
+        ask_often(rt, mate, 1).0
+    }
+
+    fn work<R: Wait>(self, rt: &R, job: Job<Mate<'o>>, amount: Amount) -> Count {
+        let Job { number, own: mate } = job;
+        let times = amount.share(number);
+        Count::of_writes(match self {
+            Sharing::CountDown => count_down(rt, mate, times),
+            Sharing::AskDone => ask_often(rt, mate, times).1,
+        })
+    }
+
+    /// The counter is at 1, and each thread has counted its share.
+    fn is_right(self, mate: Mate<'o>, total: Count, amount: Amount) -> bool {
+        let mut mate = mate;
+        mate.sharer.counter_value(0) == 1 && total.writes == amount.operations
     }
 }
 
@@ -109,18 +110,5 @@ pub fn run<R: Threads + Wait + Sync>(
 ) -> Option<bool> {
     let (objects, seats) = Objects::new(alloc, &[what.start(amount)?], 1, amount.seats()?).ok()?;
     let sharers = objects.sharers(seats);
-    let mut mates = Mates { sharers };
-    let mut mate = mates.next()?;
-    mate.asks(rt);
-    let (total, mut mate) = play(
-        rt,
-        jobs(alloc, amount.threads, || mates.next())?,
-        mate,
-        &|job: Job<Mate>| -> Count
-            requires { IsSync R.row }
-        { what.work(rt, job, amount) },
-        |mate| mate,
-    )?;
-    let value = mate.sharer.counter_value(0);
-    Some(value == 1 && total.writes == amount.operations)
+    play(rt, alloc, what, amount, Mates { sharers })
 }

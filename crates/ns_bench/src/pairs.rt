@@ -40,33 +40,6 @@ fn each_took(time: Duration, pairs: u64) -> u64 {
     per(u64::try_from(time.as_nanos()).unwrap_or(u64::MAX), pairs)
 }
 
-/// How a pair acquires.
-pub trait Way {
-    /// Acquires and releases, and gives the handle back.
-    fn pair<'m, R: Wait>(rt: &R, handle: OneHandle<'m>) -> OneHandle<'m>;
-}
-
-/// By a try.
-pub struct ByTry;
-
-impl Way for ByTry {
-    fn pair<'m, R: Wait>(rt: &R, handle: OneHandle<'m>) -> OneHandle<'m> {
-        match handle.try_lock() {
-            Ok(held) => held.unlock(rt),
-            Err(handle) => handle,
-        }
-    }
-}
-
-/// By a call that waits where it has to.
-pub struct ByLock;
-
-impl Way for ByLock {
-    fn pair<'m, R: Wait>(rt: &R, handle: OneHandle<'m>) -> OneHandle<'m> {
-        handle.lock(rt).unlock(rt)
-    }
-}
-
 /// Acquires and releases a word whose lowest bit is set while it is held.
 fn pair_by_hand(word: &AtomicU64) {
     let free = word.load(SeqCst);
@@ -80,16 +53,38 @@ fn pair_by_hand(word: &AtomicU64) {
     }
 }
 
+/// So many pairs of a monitor, each of which acquires by a try.
+fn pairs_by_tries<'m, R: Wait>(rt: &R, mut handle: OneHandle<'m>, pairs: u64) -> OneHandle<'m> {
+    for _ in 0..pairs {
+        handle = match handle.try_lock() {
+            Ok(held) => held.unlock(rt),
+            Err(handle) => handle,
+        };
+    }
+    handle
+}
+
+/// So many pairs of a monitor, each of which acquires by a call that waits where it has to.
+fn pairs_by_locks<'m, R: Wait>(rt: &R, mut handle: OneHandle<'m>, pairs: u64) -> OneHandle<'m> {
+    for _ in 0..pairs {
+        handle = handle.lock(rt).unlock(rt);
+    }
+    handle
+}
+
 /// A batch of pairs of a monitor, and how long it took.
-fn batch<'m, W: Way, R: Wait + Clock>(
+fn batch<'m, R: Wait + Clock>(
     rt: &R,
-    mut handle: OneHandle<'m>,
+    handle: OneHandle<'m>,
+    by_tries: bool,
     pairs: u64,
 ) -> io::Result<(OneHandle<'m>, Duration)> {
     let start = Instant::now(rt)?;
-    for _ in 0..pairs {
-        handle = W::pair(rt, handle);
-    }
+    let handle = if by_tries {
+        pairs_by_tries(rt, handle, pairs)
+    } else {
+        pairs_by_locks(rt, handle, pairs)
+    };
     let took = start.elapsed(rt)?;
     Ok((handle, took))
 }
@@ -117,9 +112,10 @@ fn median(took: &mut [u64; BATCHES], batches: usize) -> u64
 /// Makes so many pairs of each kind, in batches that take turns, and gives the medians of these.
 ///
 /// Needs one pair.
-fn measured<W: Way, R: Wait + Clock>(
+fn measured<R: Wait + Clock>(
     rt: &R,
     mut handle: OneHandle<'_>,
+    by_tries: bool,
     pairs: u64,
 ) -> io::Result<Medians>
     requires { 0 < pairs }
@@ -133,7 +129,7 @@ fn measured<W: Way, R: Wait + Clock>(
     let mut took_by_hand = [0; BATCHES];
     for i in 0..BATCHES {
         let pairs = all.share(i as u64);
-        let (back, time) = batch::<W, R>(rt, handle, pairs)?;
+        let (back, time) = batch(rt, handle, by_tries, pairs)?;
         handle = back;
         took[i] = each_took(time, pairs);
         took_by_hand[i] = each_took(batch_by_hand(rt, &word, pairs)?, pairs);
@@ -146,9 +142,10 @@ fn measured<W: Way, R: Wait + Clock>(
 }
 
 /// The medians of so many pairs of each kind, none where there are no pairs.
-pub fn run<W: Way, R: Wait + Clock>(
+pub fn run<R: Wait + Clock>(
     rt: &R,
     alloc: Global,
+    by_tries: bool,
     pairs: u64,
 ) -> io::Result<Option<Medians>> {
     if pairs == 0 {
@@ -160,6 +157,6 @@ pub fn run<W: Way, R: Wait + Clock>(
     let Some(handle) = monitor.handles(seats).next() else {
         return Ok(None);
     };
-    let medians = measured::<W, R>(rt, handle, pairs)?;
+    let medians = measured(rt, handle, by_tries, pairs)?;
     Ok(Some(medians))
 }

@@ -3,10 +3,8 @@
 //! Its monitor is a [`RingMonitor`], with a row of seven cells: a put reads two of them and sets two, and a
 //! take reads four and sets three. A wait is for room, or for an item, which one cell tells.
 
-ghost use Rattle.std.specs.Thread.{IsSync};
-
 use crate::amount::{Amount, Count};
-use crate::running::{Job, jobs, last_row, play};
+use crate::running::{Job, Work, last_row, play};
 use ns_fixtures::{RingHandle, RingMonitor, Wish, put, take};
 use ns_monitor::Condition;
 use std::alloc::Global;
@@ -37,11 +35,25 @@ fn take_all<R: Wait>(rt: &R, mut ring: RingHandle<'_>, times: u64) -> Count {
     count
 }
 
-/// Does what a thread does: the first half of them put, and one half does as much as the other.
-fn work<R: Wait>(rt: &R, job: Job<RingHandle<'_>>, amount: Amount) -> Count {
-    match amount.half(job.number) {
-        (true, times) => put_all(rt, job.own, times),
-        (false, times) => take_all(rt, job.own, times),
+/// The workload.
+#[derive(Clone, Copy)]
+struct Live;
+
+impl<'m> Work<RingHandle<'m>> for Live {
+    /// The first half of the threads put, and one half does as much as the other.
+    fn work<R: Wait>(self, rt: &R, job: Job<RingHandle<'m>>, amount: Amount) -> Count {
+        match amount.half(job.number) {
+            (true, times) => put_all(rt, job.own, times),
+            (false, times) => take_all(rt, job.own, times),
+        }
+    }
+
+    /// The ring is empty, and what was taken is what was put.
+    fn is_right(self, ring: RingHandle<'m>, total: Count, _amount: Amount) -> bool {
+        match last_row(ring) {
+            Some(row) => !Wish::Item.test(&row) && total.sum == 0,
+            None => false,
+        }
     }
 }
 
@@ -52,16 +64,5 @@ pub fn run<R: Threads + Wait + Sync>(rt: &R, alloc: Global, amount: Amount) -> O
         return None;
     }
     let (monitor, seats) = RingMonitor::new(alloc, amount.seats()?).ok()?;
-    let mut handles = monitor.handles(seats);
-    let ring = handles.next()?;
-    let (total, ring) = play(
-        rt,
-        jobs(alloc, amount.threads, || handles.next())?,
-        ring,
-        &|job: Job<RingHandle>| -> Count
-            requires { IsSync R.row }
-        { work(rt, job, amount) },
-        |ring| ring,
-    )?;
-    Some(last_row(ring).is_some_and(|row| !Wish::Item.test(&row) && total.sum == 0))
+    play(rt, alloc, Live, amount, monitor.handles(seats))
 }

@@ -1,11 +1,10 @@
 //! The workload on the ring of `ns_fixtures` by condition variables: half of the threads put goods into it, and the
 //! others take them. Who finds no room, or no item, waits for a variable, which the others signal.
 
-ghost use Rattle.std.specs.Thread.{IsSync};
 ghost use Rattle.ns_fixtures.specs.Wishes.{IsMetIn};
 
 use crate::amount::{Amount, Count};
-use crate::running::{Job, jobs, last_row, play};
+use crate::running::{Job, Work, last_row, play};
 use ns_fixtures::{RingHandle, RingHeld, RingMonitor, Wish, is_met, put, take};
 use ns_monitor::Condition;
 use ns_note::env::Env;
@@ -73,11 +72,25 @@ fn take_all<R: Wait>(rt: &R, own: Own<'_, '_>, times: u64) -> Count {
     count
 }
 
-/// Does what a thread does: the first half of them put, and one half does as much as the other.
-fn work<R: Wait>(rt: &R, job: Job<Own<'_, '_>>, amount: Amount) -> Count {
-    match amount.half(job.number) {
-        (true, times) => put_all(rt, job.own, times),
-        (false, times) => take_all(rt, job.own, times),
+/// The workload.
+#[derive(Clone, Copy)]
+struct LiveByVariables;
+
+impl<'m, 'e> Work<Own<'m, 'e>> for LiveByVariables {
+    /// The first half of the threads put, and one half does as much as the other.
+    fn work<R: Wait>(self, rt: &R, job: Job<Own<'m, 'e>>, amount: Amount) -> Count {
+        match amount.half(job.number) {
+            (true, times) => put_all(rt, job.own, times),
+            (false, times) => take_all(rt, job.own, times),
+        }
+    }
+
+    /// The ring is empty, and what was taken is what was put.
+    fn is_right(self, own: Own<'m, 'e>, total: Count, _amount: Amount) -> bool {
+        match last_row(own.0) {
+            Some(row) => !Wish::Item.test(&row) && total.sum == 0,
+            None => false,
+        }
     }
 }
 
@@ -89,19 +102,6 @@ pub fn run<R: Threads + Wait + Sync>(rt: &R, alloc: Global, amount: Amount) -> O
     }
     let (monitor, seats) = RingMonitor::new(alloc, amount.seats()?).ok()?;
     let (env, env_seats) = Env::new(alloc, amount.seats()?).ok()?;
-    let mut handles = monitor.handles(seats);
-    let mut watchers = env.watchers(env_seats);
-    let ring = handles.next()?;
-    let (total, ring) = play(
-        rt,
-        jobs(alloc, amount.threads, || {
-            handles.next().zip(watchers.next())
-        })?,
-        ring,
-        &|job: Job<Own>| -> Count
-            requires { IsSync R.row }
-        { work(rt, job, amount) },
-        |ring| ring,
-    )?;
-    Some(last_row(ring).is_some_and(|row| !Wish::Item.test(&row) && total.sum == 0))
+    let source = (monitor.handles(seats), env.watchers(env_seats));
+    play(rt, alloc, LiveByVariables, amount, source)
 }

@@ -1,13 +1,14 @@
 //! Sections on a row of one cell: of one thread alone, or of several that contend for the lock.
 
 use crate::amount::Count;
+use crate::mixed::Draws;
 use crate::never::OneHandle;
 use crate::steps::{LONG, SHORT, Steps};
 use std::sync::Wait;
 
 /// Adds 1 to the cell.
 #[inline(always)]
-pub fn add_one<'m, R: Wait>(rt: &R, handle: OneHandle<'m>) -> OneHandle<'m> {
+fn add_one<'m, R: Wait>(rt: &R, handle: OneHandle<'m>) -> OneHandle<'m> {
     let mut held = handle.lock(rt);
     let value = held.get(0);
     held.set(0, value.wrapping_add(1));
@@ -16,7 +17,7 @@ pub fn add_one<'m, R: Wait>(rt: &R, handle: OneHandle<'m>) -> OneHandle<'m> {
 
 /// Reads the cell.
 #[inline(always)]
-pub fn read_one<'m, R: Wait>(rt: &R, handle: OneHandle<'m>) -> (OneHandle<'m>, u64) {
+fn read_one<'m, R: Wait>(rt: &R, handle: OneHandle<'m>) -> (OneHandle<'m>, u64) {
     let mut held = handle.rlock(rt);
     let value = held.get(0);
     (held.runlock(rt), value)
@@ -71,6 +72,24 @@ pub fn try_read_lock<R: Wait>(rt: &R, mut handle: OneHandle<'_>, times: u64) -> 
             }
             Err(back) => back,
         };
+    }
+    count
+}
+
+/// Makes so many sections, as the draws ask for them: reads the cell, or adds 1 to it.
+pub fn mix<R: Wait>(rt: &R, mut handle: OneHandle<'_>, times: u64, draws: Draws) -> Count {
+    let mut draws = draws;
+    let mut count = Count::new();
+    for _ in 0..times {
+        draws = draws.next();
+        if draws.asks_to_read() {
+            let (back, value) = read_one(rt, handle);
+            handle = back;
+            count = count.with(value);
+        } else {
+            handle = add_one(rt, handle);
+            count = count.with_write();
+        }
     }
     count
 }

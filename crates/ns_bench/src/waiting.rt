@@ -1,14 +1,12 @@
 //! The workloads on a row of six cells, most of whose threads wait for one another: how they are run.
 
-ghost use Rattle.std.specs.Thread.{IsSync};
-
 use crate::amount::{Amount, Count};
 use crate::conditions::{SixCells, SixHandle, TICK};
 use crate::crowd;
 use crate::hand_over::take_turns;
-use crate::long_reads::{read_long, read_until_told, write_beside, write_long};
-use crate::mixed::mix;
-use crate::running::{Job, jobs, last_row, play};
+use crate::long_reads::{mix_long, read_until_told, write_beside};
+use crate::mixed::Draws;
+use crate::running::{Job, Work, last_row, play};
 use crate::steps::Steps;
 use std::alloc::Global;
 use std::sync::Wait;
@@ -77,37 +75,44 @@ impl Waiting {
         }
     }
 
-    /// Does what a thread does.
-    fn work<R: Wait>(self, rt: &R, job: Job<SixHandle<'_>>, amount: Amount) -> Count {
-        let (number, handle) = (job.number, job.own);
-        let steps = Steps::of_run(amount.operations);
+    /// Whether the row and the sums of the counts are as they have to be.
+    fn fits(self, row: &[u64; 6], total: Count, amount: Amount) -> bool {
+        match self {
+            Waiting::Crowd(_, Beside::Read) => {
+                row[TICK] == amount.operations.wrapping_mul(amount.threads)
+            }
+            Waiting::Crowd(..) | Waiting::Answer(_) => row[TICK] == amount.operations,
+            Waiting::Turns => row[0] == 0,
+            Waiting::MixLong(_) | Waiting::OneWriter => row[0] == total.writes,
+        }
+    }
+}
+
+impl<'m> Work<SixHandle<'m>> for Waiting {
+    fn work<R: Wait>(self, rt: &R, job: Job<SixHandle<'m>>, amount: Amount) -> Count {
+        let Job {
+            number,
+            own: handle,
+        } = job;
+        let times = amount.operations;
+        let steps = Steps::of_run(times);
         match self {
             Waiting::Crowd(marked, _) => crowd::wait_once(rt, handle, marked.mask(number)),
             Waiting::Answer(marked) => {
-                let times = amount.operations.saturating_add(1);
-                crowd::wait_and_answer(rt, handle, marked.mask(number), times)
+                crowd::wait_and_answer(rt, handle, marked.mask(number), times.saturating_add(1))
             }
-            Waiting::Turns => take_turns(rt, handle, number, amount.operations / 2),
-            Waiting::MixLong(percent) => mix(
-                number,
-                amount.share(number),
-                percent,
-                handle,
-                |handle| {
-                    let (handle, value, _) = read_long(rt, handle, steps);
-                    (handle, value)
-                },
-                |handle| write_long(rt, handle, steps),
-            ),
-            Waiting::OneWriter if number == 0 => {
-                write_beside(rt, handle, amount.operations, steps)
+            Waiting::Turns => take_turns(rt, handle, number, times / 2),
+            Waiting::MixLong(percent) => {
+                let draws = Draws::of_thread(number, percent);
+                mix_long(rt, handle, amount.share(number), draws, steps)
             }
+            Waiting::OneWriter if number == 0 => write_beside(rt, handle, times, steps),
             Waiting::OneWriter => read_until_told(rt, handle, steps),
         }
     }
 
-    /// Does what is done beside the threads, once all wait, and then lets them leave.
-    fn lead<'m, R: Wait>(self, rt: &R, handle: SixHandle<'m>, amount: Amount) -> SixHandle<'m> {
+    /// Once all wait, does what is done beside them, and then lets them leave.
+    fn lead<R: Wait>(self, rt: &R, handle: SixHandle<'m>, amount: Amount) -> SixHandle<'m> {
         if !matches!(self, Waiting::Crowd(..) | Waiting::Answer(_)) {
             return handle;
         }
@@ -123,15 +128,11 @@ impl Waiting {
         crowd::dismiss(rt, handle, amount.threads)
     }
 
-    /// Whether the row and the sums of the counts are as they have to be.
-    fn is_right(self, row: &[u64; 6], total: Count, amount: Amount) -> bool {
-        match self {
-            Waiting::Crowd(_, Beside::Read) => {
-                row[TICK] == amount.operations.wrapping_mul(amount.threads)
-            }
-            Waiting::Crowd(..) | Waiting::Answer(_) => row[TICK] == amount.operations,
-            Waiting::Turns => row[0] == 0,
-            Waiting::MixLong(_) | Waiting::OneWriter => row[0] == total.writes,
+    /// The row and the sums of the counts are as they have to be.
+    fn is_right(self, handle: SixHandle<'m>, total: Count, amount: Amount) -> bool {
+        match last_row(handle) {
+            Some(row) => self.fits(&row, total, amount),
+            None => false,
         }
     }
 }
@@ -148,18 +149,5 @@ pub fn run<R: Threads + Wait + Sync>(
         return None;
     }
     let (monitor, seats) = SixCells::new(alloc, amount.seats()?).ok()?;
-    let mut handles = monitor.handles(seats);
-    let handle = handles.next()?;
-    let (total, handle) = play(
-        rt,
-        jobs(alloc, amount.threads, || handles.next())?,
-        handle,
-        &|job: Job<SixHandle>| -> Count
-            requires { IsSync R.row }
-        { what.work(rt, job, amount) },
-        |handle: SixHandle| -> SixHandle
-            requires { IsSync R.row }
-        { what.lead(rt, handle, amount) },
-    )?;
-    Some(last_row(handle).is_some_and(|row| what.is_right(&row, total, amount)))
+    play(rt, alloc, what, amount, monitor.handles(seats))
 }

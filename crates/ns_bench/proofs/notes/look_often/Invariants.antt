@@ -1,0 +1,5 @@
+use Rattle.ns_model.specs.Environments.{IsMade}
+use Rattle.ns_bench.proofs.notes.look_often.Given as goal
+
+abbrev pub invariant-loop : goal.invariant-loop
+invariant-loop l = IsMade l.watcher.seen l.note.index
