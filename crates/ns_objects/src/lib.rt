@@ -45,16 +45,12 @@
 mod adding;
 pub mod any;
 pub mod held;
-#[cfg(test)]
-mod held_tests;
 pub mod objects;
 mod plays;
 pub mod running;
 pub mod seat;
 pub mod sharer;
 mod sleeping;
-#[cfg(test)]
-mod tests;
 mod view;
 mod waiting;
 

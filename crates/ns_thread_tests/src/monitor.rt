@@ -7,7 +7,7 @@ ghost use Rattle.std.specs.Thread.{IsSync};
 use crate::locks::{Lock, MANY_TRIES, count, new_monitor, row_at_end, two_locks};
 use crate::note::{is_notified, new_env, notify, two_watchers};
 use ns_fixtures::AtLeast;
-use ns_monitor::{Fault, Monitor, Seat};
+use ns_monitor::{Fault, Handle, Monitor, Seat};
 use ns_note::note::Note;
 use ns_note::watcher::Watcher;
 use std::alloc::Global;
@@ -65,6 +65,7 @@ fn close_while_held(
 {
     let mut held = monitor.try_lock(second).ok()?;
     monitor.set(&mut held, 0, 3);
+    let first = Handle::new(&monitor, first).into_seat();
     let closed = monitor.close(first);
     let row = closed.row;
     Some((closed.free, row))

@@ -16,8 +16,8 @@ use std::alloc::Global;
 use std::process::Abort;
 use std::sync::Wait;
 use std::test::Fail;
-use std::thread::{Threads, join, sleep};
-use std::time::{Clock, Duration};
+use std::thread::{Threads, join};
+use std::time::Duration;
 
 /// An environment and so many seats.
 pub fn new_env<R: Abort>(rt: &R, alloc: Global, seats: usize) -> (Env, Vec<EnvSeat>)
@@ -28,7 +28,7 @@ pub fn new_env<R: Abort>(rt: &R, alloc: Global, seats: usize) -> (Env, Vec<EnvSe
 }
 
 /// The watcher of the only thread.
-fn one_watcher<'e, R: Abort>(rt: &R, env: &'e Env, seats: Vec<EnvSeat>) -> Watcher<'e>
+pub fn one_watcher<'e, R: Abort>(rt: &R, env: &'e Env, seats: Vec<EnvSeat>) -> Watcher<'e>
     requires { All (λ seat. seat.env ≡ env.now) seats.items }
 {
     env.watchers(seats).next().expect(rt, "a seat")
@@ -287,24 +287,20 @@ fn wait_below<R: Threads + Wait + Sync>(
 fn note_threads(rt: HostRuntime) {
     let (env, seats) = new_env(&rt, rt.alloc(), 3);
     let mut watchers = env.watchers(seats);
-    let mut third = watchers.next().expect(&rt, "a seat");
+    let third = watchers.next().expect(&rt, "a seat");
+    let mut third = Watcher::new(&env, third.into_seat());
     let (first, second) = watchers.pair().expect(&rt, "two seats");
     let came = wait_below(&rt, first, second, &mut third);
     assert_eq!(rt; came, Some((Some(true), Some(true), 3)));
 }
 
-/// Whether the note is notified before so many milliseconds have passed.
-fn is_notified_within<R: Clock>(
-    rt: &R,
-    watcher: &mut Watcher<'_>,
-    note: Note,
-    millis: u32,
-) -> bool {
+/// Whether the note is notified before about so many milliseconds have passed.
+fn is_notified_within<R: Wait>(rt: &R, watcher: &mut Watcher<'_>, note: Note, millis: u32) -> bool {
     for _ in 0..millis {
         if is_notified(watcher, note) == Some(true) {
             return true;
         }
-        sleep(rt, Duration::from_millis(1));
+        watcher.rest(rt, Duration::from_millis(1));
     }
     false
 }
@@ -312,7 +308,7 @@ fn is_notified_within<R: Clock>(
 /// One thread waits for tick 10, and notifies the root once it has come back. The other moves the
 /// clock to 9 and to 10, and answers whether the first came back at each of them. At 11 the wait
 /// is over in any case.
-fn wait_and_advance<R: Threads + Wait + Clock + Sync>(
+fn wait_and_advance<R: Threads + Wait + Sync>(
     rt: &R,
     mut first: Watcher<'_>,
     mut second: Watcher<'_>,
@@ -349,7 +345,7 @@ fn two_roots(watcher: &mut Watcher<'_>) -> Option<(Note, Note)> {
 }
 
 /// What `wait_and_advance` comes to with two new notes: whether the wait was back at each tick, and its answer.
-fn wait_for_one_of_two<R: Threads + Wait + Clock + Sync>(
+fn wait_for_one_of_two<R: Threads + Wait + Sync>(
     rt: &R,
     first: Watcher<'_>,
     second: Watcher<'_>,

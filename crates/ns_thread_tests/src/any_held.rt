@@ -1,56 +1,22 @@
 //! What no clause says of waits for condition variables among notes and counters: that they come back,
 //! by whichever of them it is.
 
-ghost use Rattle.std.specs.Prelude.{◌≡◌, false};
+ghost use Rattle.std.specs.Prelude.{◌≡◌};
 ghost use Rattle.std.specs.Thread.{IsSync};
-ghost use Rattle.ns_model.specs.Truths.{truths};
 
-use crate::any::AnyItem;
-use crate::objects::Objects;
-use crate::sharer::Sharer;
-use ns_model::condition::Condition;
-use ns_monitor::handle::{Handle, Writing};
-use ns_monitor::monitor::Monitor;
-use ns_note::env::Env;
+use crate::locks::MANY_TRIES;
+use crate::note::{new_env, notify, two_watchers};
+use crate::objects::new_objects;
+use ns_fixtures::Never;
+use ns_monitor::{Handle, Monitor, Writing};
 use ns_note::note::Note;
 use ns_note::watcher::Watcher;
+use ns_objects::any::AnyItem;
+use ns_objects::sharer::Sharer;
 use std::alloc::Global;
 use std::process::Abort;
 use std::sync::Wait;
 use std::thread::{Threads, join, yield_now};
-
-/// A condition that is never true, of rows of one cell: nobody waits for one here.
-#[derive(Clone, Copy)]
-struct Never;
-
-impl Condition<1> for Never {
-    ghost use Rattle.std.proofs.Common.{rules};
-
-    ghost means = { truths (λ c row. false) (λ c d. false) (λ before after. false) };
-
-    fn test(&self, _row: &[u64; 1]) -> bool {
-        false
-    }
-
-    fn same(&self, _other: &Self) -> bool {
-        false
-    }
-
-    fn quiet(_before: &[u64; 1], _after: &[u64; 1]) -> bool {
-        false
-    }
-
-    ghost same_agrees = { λ c d row n e. absurd (Prim.cc) };
-
-    ghost quiet_keeps = { λ c before after n m quiet h. absurd (Prim.cc) };
-
-    ghost has_cells = { Prim.search rules };
-
-    ghost has_room = { Prim.search rules };
-}
-
-/// How often a thread signals that has to end a wait.
-const MANY_TRIES: u32 = 1_000_000;
 
 /// What ends a wait.
 #[derive(Clone, Copy)]
@@ -119,13 +85,6 @@ fn signal_until_told<R: Wait>(rt: &R, mut handle: Handle<'_, Never, 1>) {
     }
 }
 
-/// Notifies the note, where the watcher knows it.
-fn notify(watch: &mut Watcher<'_>, note: Note) {
-    if watch.knows(note) {
-        watch.notify(note);
-    }
-}
-
 /// Comes inside, and then does what ends the wait: behind its signals the note is notified too, which ends a wait
 /// that no signal has. Whether that had told before that it is over.
 fn end_behind<R: Wait>(rt: &R, kit: Kit<'_>, note: Note, ender: Ender) -> bool
@@ -140,12 +99,14 @@ fn end_behind<R: Wait>(rt: &R, kit: Kit<'_>, note: Note, ender: Ender) -> bool
     match ender {
         Ender::Signal => {
             signal_until_told(rt, handle);
-            notify(&mut watch, note);
+            let _ = notify(&mut watch, note);
         }
         Ender::Counter => {
             let _ = sharer.counter_add(rt, 0, -1);
         }
-        Ender::Note => notify(&mut watch, note),
+        Ender::Note => {
+            let _ = notify(&mut watch, note);
+        }
         Ender::Clock => watch.advance(5),
     }
     told
@@ -186,11 +147,11 @@ fn ended_by<R: Abort + Threads + Wait + Sync>(
     ender: Ender,
 ) -> (Option<usize>, bool) {
     let (monitor, seats) = Monitor::new(alloc, 2).ok().expect(rt, "a monitor");
-    let (objects, places) = Objects::new(alloc, &[1], 0, 2).ok().expect(rt, "objects");
-    let (env, watches) = Env::new(alloc, 2).ok().expect(rt, "an environment");
+    let (objects, places) = new_objects(rt, alloc, &[1], 0, 2);
+    let (env, watches) = new_env(rt, alloc, 2);
     let (mine, theirs) = monitor.handles(seats).pair().expect(rt, "two seats");
     let (my_sharer, their_sharer) = objects.sharers(places).pair().expect(rt, "two seats");
-    let (mut my_watch, their_watch) = env.watchers(watches).pair().expect(rt, "two seats");
+    let (mut my_watch, their_watch) = two_watchers(rt, &env, watches);
     let note = my_watch.note_new(None, None).ok().expect(rt, "a note");
     let first = Kit {
         handle: mine,
