@@ -4,7 +4,6 @@
 ghost use Rattle.std.specs.Prelude.{◌<◌};
 ghost use Rattle.std.specs.Thread.{IsSync};
 
-use crate::objects::new_objects;
 use ns_objects::objects::Objects;
 use ns_objects::running::Once;
 use ns_objects::sharer::Sharer;
@@ -74,7 +73,9 @@ fn run_two<R: Threads + Wait + Clock + Sync>(
 /// Of two threads that call, just one has its function run, and the other sleeps until it has.
 #[test]
 fn once_two(rt: HostRuntime) {
-    let (objects, seats) = new_objects(&rt, rt.alloc(), &[], 1, 2);
+    let (objects, seats) = Objects::new(rt.alloc(), &[], 1, 2)
+        .ok()
+        .expect(&rt, "objects");
     let (first, second) = objects.sharers(seats).pair().expect(&rt, "two seats");
     let first = Sharer::new(&objects, first.into_seat());
     let came = run_two(&rt, first, second);
