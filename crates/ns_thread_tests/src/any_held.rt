@@ -6,12 +6,12 @@ ghost use Rattle.std.specs.Thread.{IsSync};
 
 use crate::locks::MANY_TRIES;
 use crate::note::{new_env, notify, two_watchers};
-use crate::objects::new_objects;
 use ns_fixtures::Never;
 use ns_monitor::{Handle, Monitor, Writing};
 use ns_note::note::Note;
 use ns_note::watcher::Watcher;
 use ns_objects::any::AnyItem;
+use ns_objects::objects::Objects;
 use ns_objects::sharer::Sharer;
 use std::alloc::Global;
 use std::process::Abort;
@@ -147,7 +147,7 @@ fn ended_by<R: Abort + Threads + Wait + Sync>(
     ender: Ender,
 ) -> (Option<usize>, bool) {
     let (monitor, seats) = Monitor::new(alloc, 2).ok().expect(rt, "a monitor");
-    let (objects, places) = new_objects(rt, alloc, &[1], 0, 2);
+    let (objects, places) = Objects::new(alloc, &[1], 0, 2).ok().expect(rt, "objects");
     let (env, watches) = new_env(rt, alloc, 2);
     let (mine, theirs) = monitor.handles(seats).pair().expect(rt, "two seats");
     let (my_sharer, their_sharer) = objects.sharers(places).pair().expect(rt, "two seats");

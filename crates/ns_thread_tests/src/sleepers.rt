@@ -9,6 +9,7 @@ use crate::objects::new_objects;
 use crate::once::linger;
 use ns_note::watcher::Watcher;
 use ns_objects::any::Item;
+use ns_objects::objects::Objects;
 use ns_objects::sharer::Sharer;
 use std::alloc::Global;
 use std::process::Abort;
@@ -126,7 +127,9 @@ fn ended<R: Abort + Threads + Wait + Clock + Sync>(
     awaited: Awaited,
     deadline: Option<u64>,
 ) -> (usize, Option<u64>) {
-    let (objects, seats) = new_objects(rt, alloc, &[START; 2], 0, 2);
+    let (objects, seats) = Objects::new(alloc, &[START; 2], 0, 2)
+        .ok()
+        .expect(rt, "objects");
     let (env, env_seats) = new_env(rt, alloc, 2);
     let (first, second) = objects.sharers(seats).pair().expect(rt, "two seats");
     let (mine, theirs) = two_watchers(rt, &env, env_seats);
