@@ -138,6 +138,8 @@ impl Objects {
     /// Waits until one of the items is ready, or until the clock of the environment has reached the
     /// deadline, in ticks. Answers the place of the first item that is ready, or the number of items where
     /// the deadline came first. With no deadline it waits for the items alone. nsync's `nsync_wait_n`.
+    /// Each round looks at the clock, then at the items in order up to the first that is ready; the rounds
+    /// before the last showed nothing.
     /// The call turns for a while, and then sleeps for at most 64 milliseconds at a time.
     ///
     /// Begins no wait for a counter: it may rise from 0 later. Needs at most 16 items, counters of these
