@@ -29,7 +29,8 @@ type Own<'m, 'e> = (OneHandle<'m>, Watcher<'e>);
 /// Waits so many times in one section, and counts how often the note has ended it, where that is asked, else the
 /// deadline.
 ///
-/// The loop has one call, which the compiler inlines.
+/// The loop has one call, which the compiler inlines, and stands by itself, so that it has all registers.
+#[inline(never)]
 #[tactic(auto, using(ns_note::proofs::Rests::made_grows))]
 fn count_ended<R: Wait>(
     rt: &R,

@@ -60,7 +60,8 @@ impl<'e> Watched<'e> {
 /// How often the note is found notified, of so many times.
 ///
 /// In each loop the call stands by itself: a function that may wait costs its caller a look at whether it was cut
-/// short.
+/// short. The loop stands by itself, too: inlined into what makes the threads it would have fewer registers.
+#[inline(never)]
 #[tactic(auto, using(ns_note::proofs::Rests::made_grows))]
 fn look_often(watched: Watched<'_>, times: u64) -> u64 {
     let Watched { mut watcher, note } = watched;
@@ -74,6 +75,7 @@ fn look_often(watched: Watched<'_>, times: u64) -> u64 {
 }
 
 /// How often the note is notified by a moment that has come, of so many times.
+#[inline(never)]
 #[tactic(auto, using(ns_note::proofs::Rests::made_grows))]
 fn wait_often<R: Wait>(rt: &R, watched: Watched<'_>, times: u64) -> u64 {
     let Watched { mut watcher, note } = watched;

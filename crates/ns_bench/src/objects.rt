@@ -45,7 +45,8 @@ impl<'o> Source<Mate<'o>> for Mates<'o> {
 /// Takes 1 from the counter so many times, and counts how often that wasn't refused.
 ///
 /// In each loop the call stands by itself: a function that may wait costs its caller a look at whether it was cut
-/// short.
+/// short. The loop stands by itself, too: inlined into what makes the threads it would have fewer registers.
+#[inline(never)]
 fn count_down<R: Wait>(rt: &R, mate: Mate<'_>, times: u64) -> u64 {
     let Mate { mut sharer } = mate;
     let mut count = 0u64;
@@ -58,6 +59,7 @@ fn count_down<R: Wait>(rt: &R, mate: Mate<'_>, times: u64) -> u64 {
 }
 
 /// Has a function run once, so many times, and counts how often it had run.
+#[inline(never)]
 fn ask_often<'o, R: Wait>(rt: &R, mate: Mate<'o>, times: u64) -> (Mate<'o>, u64) {
     let Mate { mut sharer } = mate;
     let mut count = 0u64;
