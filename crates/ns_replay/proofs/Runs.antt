@@ -7,7 +7,7 @@ use Rattle.std.proofs.lemmas.List.{length-set, length-map}
 use Rattle.std.proofs.lemmas.List.Elements.{All-nil, All-append, All-replicate, All-from_recursion, recursion_from_All}
 use Rattle.ns_replay.specs.Prelude.{Ask, Call, GoesOnOrBegins, IsRunFault, IsRunnable, IsShort, Line, ListFits, Now, OnLock, OnObjects, Plan, Progress, RunFault, Runs, RunsTo, Script, ScriptCondition, SeatView, Start, Step, StopsFor, Turn, TurnOf, Turned, TurnsOf, Went, Whole, WorldFault}
 use Rattle.ns_replay.specs.Prelude.{begun_at, fault_of_world, fresh_views, fresh_whole, is_asking, is_busy, is_end, is_walking, mode_of, plan_of, progressed, rest_of, script_truths, start, start_of, whole_busy, world_for}
-use Rattle.ns_world.proofs.Turns.{step_stays}
+use Rattle.ns_world.proofs.Turns.{whole_stays}
 use Rattle.ns_world.proofs.Walks.{none_stand}
 use Rattle.ns_world.specs.Runs.{Item, items_of}
 use Rattle.ns_world.proofs.Fresh.{length_views}
@@ -36,7 +36,7 @@ module _ {C : Type 0} {N : ℕ} where
 
   turn_keeps : (lists : List (List (Call C))) (p : Progress C N) (seat : ℕ) (step : Step) (q : Progress C N) → TurnOf lists p seat step q → seats_of q.world ≡ seats_of p.world
   turn_keeps lists p seat step q (inl m) =
-      ap (λ (r : Progress C N). seats_of r.world) m.after ∙ ap seats_of (progressed_world p seat step m.world) ∙ step_stays m.begun m.world seat step m.steps ∙ leads_keeps lists p seat m.begun m.leads
+      ap (λ (r : Progress C N). seats_of r.world) m.after ∙ ap seats_of (progressed_world p seat step m.world) ∙ whole_stays m.begun m.world seat step m.moves ∙ leads_keeps lists p seat m.begun m.leads
   turn_keeps lists p seat step q (inr (inl m)) = ap (λ (r : Progress C N). seats_of r.world) m.after
   turn_keeps lists p seat step q (inr (inr r)) = ap (λ (r : Progress C N). seats_of r.world) r.after
 

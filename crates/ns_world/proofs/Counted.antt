@@ -201,35 +201,25 @@ module _ {C : Type 0} {N : ℕ} where
   -- a turn keeps the count
   pub turn_counted : (lists : List (List (Call C))) (p q : Progress C N) (seat : ℕ) (step : Step) → length (calls_of lists seat) ≤ 256 → seat < 64 → TurnOf lists p seat step q →
       IsCounted p.world p.over → IsCounted q.world q.over
-  turn_counted lists p q seat Went few low (inl t) c =
-      subst (λ (x : Progress C N). IsCounted x.world x.over) (sym t.after) (record {
-        many = c.many;
-        most = changes p.world t.world p.over p.over seat
-            (λ other ne. whole_others t.begun t.world seat Went t.steps other ne ∙ leads_others lists p seat t.begun t.leads other ne)
-            (λ other ne. refl)
-            (let below = leads_below lists p seat t.begun few t.leads (c.most seat) in omega (arith, below, bit_most (whole_busy t.world seat)))
-            c.most;
-      })
-  turn_counted lists p q seat Idle few low (inl t) c =
-      subst (λ (x : Progress C N). IsCounted x.world x.over) (sym t.after) (record {
-        many = c.many;
-        most = changes p.world t.world p.over p.over seat
-            (λ other ne. whole_others t.begun t.world seat Idle t.steps other ne ∙ leads_others lists p seat t.begun t.leads other ne)
-            (λ other ne. refl)
-            (let below = leads_below lists p seat t.begun few t.leads (c.most seat) in omega (arith, below, bit_most (whole_busy t.world seat)))
-            c.most;
-      })
   turn_counted lists p q seat (Finished reply) few low (inl t) c =
       subst (λ (x : Progress C N). IsCounted x.world x.over) (sym t.after) (record {
         many = length-set p.over seat _ ∙ c.many;
         most = changes p.world t.world p.over (slice_set p.over seat (slice_index p.over seat + 1)) seat
-            (λ other ne. whole_others t.begun t.world seat (Finished reply) t.steps other ne ∙ leads_others lists p seat t.begun t.leads other ne)
+            (λ other ne. whole_others t.begun t.world seat (Finished reply) t.moves other ne ∙ leads_others lists p seat t.begun t.leads other ne)
             (λ other ne. set_others p.over seat (slice_index p.over seat + 1) other ne)
-            (rw (whole_over t.begun t.world seat reply t.steps, get_or-set_same p.over seat (slice_index p.over seat + 1) 0 (omega (arith, c.many, low)))
+            (rw (whole_over t.begun t.world seat reply t.moves, get_or-set_same p.over seat (slice_index p.over seat + 1) 0 (omega (arith, c.many, low)))
             (let below = leads_below lists p seat t.begun few t.leads (c.most seat) in omega (arith, below)))
             c.most;
       })
-  turn_counted lists p q seat Nothing few low (inl t) c = absurd (t.goes refl)
+  turn_counted lists p q seat step few low (inl t) c =
+      subst (λ (x : Progress C N). IsCounted x.world x.over) (sym t.after) (record {
+        many = c.many;
+        most = changes p.world t.world p.over p.over seat
+            (λ other ne. whole_others t.begun t.world seat step t.moves other ne ∙ leads_others lists p seat t.begun t.leads other ne)
+            (λ other ne. refl)
+            (let below = leads_below lists p seat t.begun few t.leads (c.most seat) in omega (arith, below, bit_most (whole_busy t.world seat)))
+            c.most;
+      })
   turn_counted lists p q seat step few low (inr (inl t)) c =
       subst (λ (x : Progress C N). IsCounted x.world x.over) (sym t.after) (record {
         many = length-set p.over seat _ ∙ c.many;

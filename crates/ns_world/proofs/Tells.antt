@@ -4,12 +4,11 @@ use Rattle.std.proofs.Common.{◌≡◌, ℕ, ◌<◌, ◌≤◌, not, Bool, tru
 use Rattle.std.proofs.lemmas.Bool.{ltb-true}
 use Rattle.std.proofs.lemmas.List.{append-nil, length-map}
 use Rattle.std.proofs.lemmas.Option.{slice_get_within}
-use Rattle.ns_world.specs.Prelude.{Acts, Any, AnyWait, AreVariables, AsksFor, Await, BeginsToWait, CanTell, Cvs, Effect, EndsLook, EnvPlain, Environment, Event, Every, Finished, HasOperated, HasTold, Held, Idle, InRound, InWait, IsFew, IsLawfulWhole, IsLawfulWorld, IsLow, IsSettled, Item, Lists}
-use Rattle.ns_world.specs.Prelude.{Looked, LooksNot, LooksWhere, MayShow, MayWait, MayWaitOnLock, Mode, Moves, Next, NoteStanding, Nothing, Now, ObjectStanding, ObjectWalk, Objects, On, OnCounter, OnLock, OnNote, OnVariable, Performs, QuietKeeps, Seat, SeatView, Sees, Setup, StandsAlone, StandsBy}
-use Rattle.ns_world.specs.Prelude.{Step, StepOf, Truths, WaitSteps, WaitsOnLock, Walk, WalkFits, Went, Whole, WholeMoves, WholeStep, Word, asked_of, asks_for_any, at_will, cause_of, got_of, is_alone, is_for_lock, is_there, items_of, looks_at, mode_of, mode_waited, now_with, objects_after}
-use Rattle.ns_world.specs.Prelude.{plain_of, seat_part, shown_by, step_of, step_told, view_of, wait_first, wait_in, waited_after, waits_among, waits_for_any, walk_in, want_of, whole, whole_with}
+use Rattle.ns_world.specs.Prelude.{Acts, Any, AnyWait, AreVariables, AsksFor, Await, BeginsToWait, CanTell, Cvs, Effect, EndsLook, EnvPlain, Environment, Event, Every, HasOperated, HasTold, Held, Idle, InRound, InWait, IsFew, IsLawfulWhole, IsLawfulWorld, IsLow, IsSettled, Item, Lists}
+use Rattle.ns_world.specs.Prelude.{Looked, LooksNot, LooksWhere, MayShow, MayWait, MayWaitOnLock, Mode, Moves, NoteStanding, Now, ObjectStanding, ObjectWalk, Objects, OnCounter, OnLock, OnNote, OnVariable, Performs, QuietKeeps, Seat, SeatView, Sees, Setup, StandsAlone, StandsBy}
+use Rattle.ns_world.specs.Prelude.{Step, StepOf, Truths, WaitSteps, WaitsOnLock, Walk, WalkFits, Whole, WholeStep, Word, asked_of, asks_for_any, at_will, cause_of, is_alone, is_for_lock, is_there, items_of, looks_at, mode_of, mode_waited, now_with, objects_after}
+use Rattle.ns_world.specs.Prelude.{plain_of, seat_part, shown_by, step_told, view_of, wait_first, wait_in, waited_after, waits_among, waits_for_any, walk_in, want_of, whole, whole_with}
 use Rattle.ns_word.specs.declared.wait.Wait.{Wait}
-use Rattle.ns_word.specs.declared.walk.Next.TheVariants.{Done}
 use Rattle.ns_world.proofs.AnyLooks.{LooksOut}
 use Rattle.ns_world.proofs.Awaits.{begins_to_wait_keeps, ends_look_keeps, next, next_at, out, there_as, wait_steps_keeps}
 use Rattle.ns_world.proofs.Turns.{moves_stay}
@@ -17,8 +16,7 @@ use Rattle.ns_world.proofs.Looking.{shown_effect}
 use Rattle.ns_world.proofs.Mapped.{got-map}
 use Rattle.ns_world.proofs.Placed.{begun_here}
 use Rattle.ns_world.proofs.Places.{StartFits}
-use Rattle.ns_world.proofs.Worlds.{acts_found, acts_here, lawful_after, lawful_placed, settled_here, some_step, unasked_cleared}
-use Rattle.ns_word.specs.declared.walk.Next.TheVariants as TheNext
+use Rattle.ns_world.proofs.Worlds.{acts_found, acts_here, lawful_after, lawful_placed, settled_here, unasked_cleared}
 use Rattle.ns_counters.proofs.Listed.{first_of_all, rest_of_all}
 
 -- of several objects there are at most 16
@@ -33,11 +31,6 @@ few_here old lawful seat walk stands = few_if old.objects.setup (objects_after o
 pub as_it_was : (env : EnvPlain) (seat : ℕ) (walk : ObjectWalk) (objects then : Objects) (told : Step) (wait : Option AnyWait) (b : Bool) → HasOperated env seat walk objects then told → wait ≡ wait_in then.waits seat →
     is_for_lock wait walk told ≡ b → is_for_lock (wait_in objects.waits seat) walk told ≡ b
 as_it_was env seat walk objects then told wait b q is for_lock = ap (λ w. is_for_lock w walk told) (sym (is ∙ ap (λ (o : Objects). wait_in o.waits seat) q.becomes)) ∙ for_lock
-
--- a step that was made is one of those that a step can be
-pub made_step : {C : Type 0} {N : ℕ} (old new : Whole C N) (seat : ℕ) (step : Step) → (Nothing ≡ step → ⊥) → WholeMoves old new seat step → WholeStep old new seat step
-made_step old new seat Nothing some p = absurd (some refl)
-made_step old new seat other some p = p
 
 -- ---- what a seat may tell
 
@@ -179,7 +172,7 @@ module _ {C : Type 0} {N : ℕ} (truths : Truths C) (some : 0 < N) (quiet : Quie
       by (Some wait) waits walk stands told q for_lock p =
           let acts = sees_acts wait waits walk stands (shown_by told) p.0 p.1 next step p.2 in
           let ends : EndsLook old new i step = record { wait = wait; waits = waits; walk = walk; walks = stands; told = told; for_lock = for_lock; then = then; operated = q; acts = acts.0; looked = acts.1; becomes = p.3 } in (
-            made_step old new i step (λ e. some_step (got_of N p.0 (Looked (cause_of (shown_by told)))) (e ∙ p.2.answers)) (inr (inr (inr (inl ends)))),
+            inr (inr (inr (inr (inl ends)))),
             ends_look_keeps old new i lawful step ends (sees_lawful wait waits walk stands (shown_by told) p.0 p.1 next step p.2),
           )
       by None waits (InRound round place) stands Idle q for_lock p =
@@ -208,7 +201,7 @@ module _ {C : Type 0} {N : ℕ} (truths : Truths C) (some : 0 < N) (quiet : Quie
             becomes = p.4;
             answer = p.5;
           } in (
-            made_step old new i step (λ e. let clash : Nothing ≡ Went = e ∙ p.5 in absurd (cc)) (inr (inr (inl begins))),
+            inr (inr (inr (inl begins))),
             begins_to_wait_keeps old new i lawful step begins now_lawful,
           )
       by None waits walk stands told q for_lock p = absurd (cc)
@@ -238,11 +231,6 @@ looks_not {C} {N} old seat lawful nowhere view walk at walks unasked = by (wait_
       let walk_is : s.walk ≡ walk = cc in
       subst (λ w. looks_at (want_of w) ≡ None) walk_is (subst (λ w. LooksWhere wait.round w (want_of s.walk)) nowhere s.looks)
 
-some_told : {C : Type 0} (wait : AnyWait) (next : Next C) → Nothing ≡ step_told wait (step_of next) → ⊥
-some_told wait (On walk) e = absurd (cc)
-some_told wait (TheNext.Idle walk) e = absurd (cc)
-some_told wait (Done reply) e = absurd (cc)
-
 module _ {C : Type 0} {N : ℕ} (old : Whole C N) (new : Now C N) (seat : ℕ) (lawful : IsLawfulWhole old) (nowhere : walk_in old.objects.walks seat ≡ None) (wait : AnyWait) (waits : wait_in old.objects.waits seat ≡ Some wait) where
   abbrev stood : WaitsOnLock old seat wait
   stood = there_as old old seat lawful wait waits
@@ -257,13 +245,11 @@ module _ {C : Type 0} {N : ℕ} (old : Whole C N) (new : Now C N) (seat : ℕ) (
   moves_act told (inr (inr looks)) = let clash : Some None ≡ Some (Some looks.place) = sym stood.unasked ∙ looks.stands in absurd (cc)
 
   step_acts : (told : Step) → StepOf old.lock new seat told → Acts old.lock new seat told
-  step_acts Went p = moves_act Went p
-  step_acts Idle p = moves_act Idle p
-  step_acts (Finished reply) p = moves_act (Finished reply) p
-  step_acts Nothing p =
-      let views : Some p.1.view ≡ Some stood.view = sym p.1.at ∙ stood.at in
-      let view_is : p.1.view ≡ stood.view = cc in
-      let clash : None ≡ Some stood.walk = sym p.1.idle ∙ ap (λ (v : SeatView C N). v.walk) view_is ∙ stood.walks in absurd (cc)
+  step_acts told (inl p) =
+      let views : Some p.2.view ≡ Some stood.view = sym p.2.at ∙ stood.at in
+      let view_is : p.2.view ≡ stood.view = cc in
+      let clash : None ≡ Some stood.walk = sym p.2.idle ∙ ap (λ (v : SeatView C N). v.walk) view_is ∙ stood.walks in absurd (cc)
+  step_acts told (inr p) = moves_act told p
 
   pub seat_there : (told : Step) → StepOf old.lock new seat told → seat < length new.state.views
   seat_there told p = let low = slice_get_within old.lock.state.views seat stood.view stood.at in let same = moves_stay old.lock new seat told (inl (step_acts told p)) in omega (arith, low, same)
@@ -291,6 +277,6 @@ module _ {C : Type 0} {N : ℕ} (old : Whole C N) (new : Now C N) (seat : ℕ) (
         becomes = becomes ∙ ap (λ (v : SeatView C N). waited_after old.objects seat wait v.walk) (sym view_is);
         answer = answer;
       } in (
-        made_step old then seat step (λ e. some_told wait (got_of N acts.goes.makes.walk acts.goes.found) (e ∙ answer ∙ ap (step_told wait) acts.goes.answers)) (inr (inr (inr (inr steps)))),
+        inr (inr (inr (inr (inr steps)))),
         wait_steps_keeps old then seat lawful step steps now_lawful,
       )

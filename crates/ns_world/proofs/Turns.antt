@@ -3,13 +3,15 @@ use Rattle.std.proofs.Common.{◌≡◌, ℕ, ◌-◌, nat_lt, inl, inr, ◌≢�
 use Rattle.std.specs.Prelude.{IfOk, IfErr}
 use Rattle.std.proofs.lemmas.List.{length-set}
 use Rattle.std.proofs.lemmas.Option.{slice_get_within}
-use Rattle.ns_world.specs.Prelude.{Add, Advance, Ask, Broadcast, Call, Commits, CounterWait, CvWait, Done, EnvNext, Expiry, Fault, Finished, Get, Go, GoesOnOrBegins, Idle, InCells, InRound, InWait, IsBusy, IsIdle, IsNotified, IsWalking, Limits, Lists, Lock, LookGoes, LookOver, Mode, Moves}
+use Rattle.ns_world.specs.Prelude.{Add, Advance, AnyWait, Ask, Broadcast, Call, Commits, CounterWait, CvWait, Done, EnvNext, Expiry, Fault, Get, Go, GoesOnOrBegins, InCells, InRound, InWait, IsBusy, IsIdle, IsNotified, IsWalking, Limits, Lists, Lock, LookGoes, LookOver, Mode, Moves}
 use Rattle.ns_world.specs.Prelude.{NewNote, NoSuchSeat, NoteWait, Nothing, Notify, Now, ObjectWalk, OnCondition, OnEntry, OnLock, OnObjects, Once, OutOfMemory, Progress, QuietCells, QuietLast, RLock, RUnlock, SeatView, Set, Setup, Signal, Start, Starts, Step, StepFault, StepLimit, TestCells}
 use Rattle.ns_world.specs.Prelude.{TestLast, ToRelease, TooManySeats, TryLock, TryRLock, TurnOf, TurnsWith, Unlock, UnlockQuiet, Value, Wait, WaitAny, Went, Whole, WholeFault, WholeIsBusy, WholeIsIdle, WholeMoves, WholeStarts, WholeStep, Word, begun_at, env_got_of, is_asking, is_busy, is_walking}
-use Rattle.ns_world.specs.Prelude.{mode_of, mode_waited, object_start, progress, progressed, start_of, walk_in, want_of, whole_busy}
+use Rattle.ns_world.specs.Prelude.{Next, ObjectNext, On, env_step_of, got_of, object_got, object_step_of, step_of, step_told, mode_of, mode_waited, object_start, progress, progressed, start_of, walk_in, want_of, whole_busy}
 use Rattle.ns_env.specs.declared.walk.EnvNext.TheVariants.{Repeat, Over}
 use Rattle.ns_world.proofs.Busy.{or_true, both, walking_at, walking_set_same, walking_set_other, asking_at, asking_set_same, asking_set_other}
 use Rattle.ns_env.proofs.Asks.{set_here}
+use Rattle.ns_word.specs.declared.walk.Next.TheVariants as TheNext
+use Rattle.ns_counters.specs.declared.walk.ObjectNext.TheVariants as TheObject
 
 -- the first step of a call may commit an event
 abbrev StartCommits : {C : Type 0} → ℕ → Start C → Word → Lists C → Type 0
@@ -74,7 +76,53 @@ pub map_err : {X E : Type 0} {P Q : E → Type 0} (r : Result X E) → ((e : E) 
 map_err (Ok x) f p = tt
 map_err (Err e) f p = f e p
 
+-- ---- a step that was made answers that it was
+
+some_step : {C : Type 0} (next : Next C) → Nothing ≡ step_of next → ⊥
+some_step (On walk) e = absurd (cc)
+some_step (TheNext.Idle walk) e = absurd (cc)
+some_step (TheNext.Done reply) e = absurd (cc)
+
+some_ask : (next : EnvNext) → Nothing ≡ env_step_of next → ⊥
+some_ask (Go walk) e = absurd (cc)
+some_ask (Repeat walk) e = absurd (cc)
+some_ask (Over reply) e = absurd (cc)
+some_ask (LookOver cause) e = absurd (cc)
+
+some_object : (next : ObjectNext) → Nothing ≡ object_step_of next → ⊥
+some_object (TheObject.Go walk) e = absurd (cc)
+some_object (TheObject.Repeat walk) e = absurd (cc)
+some_object (TheObject.Over reply) e = absurd (cc)
+
+some_told : {C : Type 0} (wait : AnyWait) (next : Next C) → Nothing ≡ step_told wait (step_of next) → ⊥
+some_told wait (On walk) e = absurd (cc)
+some_told wait (TheNext.Idle walk) e = absurd (cc)
+some_told wait (TheNext.Done reply) e = absurd (cc)
+
 module _ {C : Type 0} {N : ℕ} where
+  some_look : (next : EnvNext) (old new : Now C N) (seat : ℕ) (step : Step) → LookGoes next old new seat step → step ≡ Nothing → ⊥
+  some_look (Go walk) old new seat step p e = let no : Nothing ≡ Went = sym e ∙ p.1 in absurd (cc)
+  some_look (LookOver cause) old new seat step p e = some_step (got_of N p.0.makes.walk p.0.found) (sym e ∙ p.0.answers)
+  some_look (Repeat walk) old new seat step p e = p
+  some_look (Over reply) old new seat step p e = p
+
+  moves_some : (old new : Now C N) (seat : ℕ) (step : Step) → Moves old new seat step → step ≡ Nothing → ⊥
+  moves_some old new seat step (inl p) e = some_step (got_of N p.goes.makes.walk p.goes.found) (sym e ∙ p.goes.answers)
+  moves_some old new seat step (inr (inl p)) e = some_ask (env_got_of p.makes.walk p.found) (sym e ∙ p.answers)
+  moves_some old new seat step (inr (inr p)) e = some_look (env_got_of p.place p.found) old new seat step p.goes e
+
+  pub whole_some : (old new : Whole C N) (seat : ℕ) (step : Step) → WholeMoves old new seat step → step ≢ Nothing
+  whole_some old new seat step (inl p) = λ e. moves_some old.lock new.lock seat step p.moves e
+  whole_some old new seat step (inr (inl p)) = λ e. some_object (object_got p.walk p.operated.found) (sym e ∙ p.operated.answers)
+  whole_some old new seat step (inr (inr (inl p))) = λ e. let no : Nothing ≡ Went = sym e ∙ p.answer in absurd (cc)
+  whole_some old new seat step (inr (inr (inr (inl p)))) = λ e. moves_some old.lock new.lock seat step (inl p.acts) e
+  whole_some old new seat step (inr (inr (inr (inr p)))) = λ e. some_told p.wait (got_of N p.acts.goes.makes.walk p.acts.goes.found) (sym e ∙ p.answer ∙ ap (step_told p.wait) p.acts.goes.answers)
+
+  -- where no step was made, the world is as it was
+  pub nothing_moved : (old new : Whole C N) (seat : ℕ) → WholeStep old new seat Nothing → new ≡ old
+  nothing_moved old new seat (inl p) = p.1
+  nothing_moved old new seat (inr p) = absurd (whole_some old new seat Nothing p refl)
+
   pub busy_of : (old new : Now C N) (seat : ℕ) (step : Step) → Moves old new seat step → IsBusy old seat
   busy_of old new seat step (inl acts) = inl (record { view = acts.goes.view; at = acts.goes.at; walk = acts.goes.makes.walk; walks = acts.goes.makes.walks })
   busy_of old new seat step (inr (inr looks)) = inl (record { view = looks.view; at = looks.at; walk = looks.walk; walks = looks.walks })
@@ -128,51 +176,31 @@ module _ {C : Type 0} {N : ℕ} where
       (λ i. is_busy (s.begins i).state.views (s.begins i).asking seat || is_some (p.stands i))
       ∙ begun_busy old.lock seat s.view (start_of N (mode_of s.view.held) call) (object_start call) (pairs N (mode_of s.view.held) call) s.at s.unasked
 
+  -- a step of the call in progress, whatever would have come next
+  pub turns_going : (next : Option (Call C)) (old new : Whole C N) (seat : ℕ) (step : Step) → step ≢ Nothing → WholeStep old new seat step → TurnsWith next old seat step new
+  turns_going next old new seat step not (inl p) = absurd (not p.0)
+  turns_going next old new seat step not (inr p) = λ lists over lines e.
+      inl (record { begun = old; leads = inl (whole_busy_of old new seat step p, refl); world = new; moves = p; after = refl })
+
   -- no call is left: the step of the call in progress, or none
   pub turns_without : (old new : Whole C N) (seat : ℕ) (step : Step) → WholeStep old new seat step → TurnsWith None old seat step new
-  turns_without old new seat Went p = λ lists over lines e.
-      inl (record { begun = old; leads = inl (whole_busy_of old new seat Went p, refl); world = new; steps = p; goes = λ f. absurd (cc); after = refl })
-  turns_without old new seat Idle p = λ lists over lines e.
-      inl (record { begun = old; leads = inl (whole_busy_of old new seat Idle p, refl); world = new; steps = p; goes = λ f. absurd (cc); after = refl })
-  turns_without old new seat (Finished reply) p = λ lists over lines e.
-      inl (record { begun = old; leads = inl (whole_busy_of old new seat (Finished reply) p, refl); world = new; steps = p; goes = λ f. absurd (cc); after = refl })
-  turns_without old new seat Nothing p = λ lists over lines e.
-      inr (inr (record { idle = p.1; none = e; answer = refl; after = ap (λ world. progress world over lines) p.0 }))
-
-  -- a call was in progress, whatever would have come next
-  pub turns_going : (next : Option (Call C)) (old new : Whole C N) (seat : ℕ) (step : Step) → step ≢ Nothing → WholeStep old new seat step → TurnsWith next old seat step new
-  turns_going next old new seat Went not p = λ lists over lines e.
-      inl (record { begun = old; leads = inl (whole_busy_of old new seat Went p, refl); world = new; steps = p; goes = not; after = refl })
-  turns_going next old new seat Idle not p = λ lists over lines e.
-      inl (record { begun = old; leads = inl (whole_busy_of old new seat Idle p, refl); world = new; steps = p; goes = not; after = refl })
-  turns_going next old new seat (Finished reply) not p = λ lists over lines e.
-      inl (record { begun = old; leads = inl (whole_busy_of old new seat (Finished reply) p, refl); world = new; steps = p; goes = not; after = refl })
-  turns_going next old new seat Nothing not p = absurd (not refl)
+  turns_without old new seat step (inl p) = λ lists over lines e.
+      inr (inr (record { idle = p.2; none = e; answer = p.0; after = ap (λ s. progressed (progress old over lines) seat s new) p.0 ∙ ap (λ world. progress world over lines) p.1 }))
+  turns_without old new seat step (inr p) = turns_going None old new seat step (whole_some old new seat step p) (inr p)
 
   -- the call began, and made its first step
   pub turns_started : (old begun new : Whole C N) (seat : ℕ) (call : Call C) (step : Step) → WholeStarts old begun seat call → WholeStep begun new seat step → TurnsWith (Some call) old seat step new
-  turns_started old begun new seat call Went s p = λ lists over lines e.
-      inl (record { begun = begun; leads = inr (call, e, s); world = new; steps = p; goes = λ f. absurd (cc); after = refl })
-  turns_started old begun new seat call Idle s p = λ lists over lines e.
-      inl (record { begun = begun; leads = inr (call, e, s); world = new; steps = p; goes = λ f. absurd (cc); after = refl })
-  turns_started old begun new seat call (Finished reply) s p = λ lists over lines e.
-      inl (record { begun = begun; leads = inr (call, e, s); world = new; steps = p; goes = λ f. absurd (cc); after = refl })
-  turns_started old begun new seat call Nothing s p =
-      let yes = started_busy old begun seat call s in let no = is_whole_idle begun seat p.1 in absurd (cc)
+  turns_started old begun new seat call step s (inl p) = let yes = started_busy old begun seat call s in let no = is_whole_idle begun seat p.2 in absurd (cc)
+  turns_started old begun new seat call step s (inr p) = λ lists over lines e. inl (record { begun = begun; leads = inr (call, e, s); world = new; moves = p; after = refl })
 
   -- a call was in progress, and made a step
   pub turns_busy : (old begun new : Whole C N) (seat : ℕ) (call : Call C) (step : Step) → (begun ≡ old) × WholeIsBusy old seat → WholeStep begun new seat step → TurnsWith (Some call) old seat step new
-  turns_busy old begun new seat call Went s p = λ lists over lines e.
-      inl (record { begun = begun; leads = inl (s.1, s.0); world = new; steps = p; goes = λ f. absurd (cc); after = refl })
-  turns_busy old begun new seat call Idle s p = λ lists over lines e.
-      inl (record { begun = begun; leads = inl (s.1, s.0); world = new; steps = p; goes = λ f. absurd (cc); after = refl })
-  turns_busy old begun new seat call (Finished reply) s p = λ lists over lines e.
-      inl (record { begun = begun; leads = inl (s.1, s.0); world = new; steps = p; goes = λ f. absurd (cc); after = refl })
-  turns_busy old begun new seat call Nothing s p =
+  turns_busy old begun new seat call step s (inl p) =
       let yes = is_whole_busy old seat s.1 in
-      let no = is_whole_idle begun seat p.1 in
+      let no = is_whole_idle begun seat p.2 in
       let same = ap (λ (world : Whole C N). whole_busy world seat) s.0 in
       absurd (cc)
+  turns_busy old begun new seat call step s (inr p) = λ lists over lines e. inl (record { begun = begun; leads = inl (s.1, s.0); world = new; moves = p; after = refl })
 
   -- a seat at the first place of a call is about to make no release
   begun_steps : (old begun : Now C N) (seat : ℕ) (view : SeatView C N) (start : Start C) → slice_get old.state.views seat ≡ Some view → view.walk ≡ None → begun ≡ begun_at old seat view start →
@@ -223,18 +251,12 @@ module _ {C : Type 0} {N : ℕ} where
   moves_stay old new seat step (inr (inr looks)) = look_stays old new seat step (env_got_of looks.place looks.found) looks.goes
   moves_stay old new seat step (inr (inl asks)) = ap (λ (world : Now C N). length world.state.views) asks.others
 
-  whole_stays : (old new : Whole C N) (seat : ℕ) (step : Step) → WholeMoves old new seat step → length new.lock.state.views ≡ length old.lock.state.views
+  pub whole_stays : (old new : Whole C N) (seat : ℕ) (step : Step) → WholeMoves old new seat step → length new.lock.state.views ≡ length old.lock.state.views
   whole_stays old new seat step (inl p) = moves_stay old.lock new.lock seat step p.moves
   whole_stays old new seat step (inr (inl p)) = ap (λ (world : Now C N). length world.state.views) p.same
   whole_stays old new seat step (inr (inr (inl p))) = ap (λ (world : Now C N). length world.state.views) p.begins ∙ length-set old.lock.state.views seat _
   whole_stays old new seat step (inr (inr (inr (inl p)))) = moves_stay old.lock new.lock seat step (inl p.acts)
   whole_stays old new seat step (inr (inr (inr (inr p)))) = moves_stay old.lock new.lock seat p.told (inl p.acts)
-
-  pub step_stays : (old new : Whole C N) (seat : ℕ) (step : Step) → WholeStep old new seat step → length new.lock.state.views ≡ length old.lock.state.views
-  step_stays old new seat Went p = whole_stays old new seat Went p
-  step_stays old new seat Idle p = whole_stays old new seat Idle p
-  step_stays old new seat (Finished reply) p = whole_stays old new seat (Finished reply) p
-  step_stays old new seat Nothing p = ap (λ (world : Whole C N). length world.lock.state.views) p.0
 
   leads_stays : (lists : List (List (Call C))) (p : Progress C N) (seat : ℕ) (begun : Whole C N) → GoesOnOrBegins lists p seat begun → length begun.lock.state.views ≡ length p.world.lock.state.views
   leads_stays lists p seat begun (inl busy) = ap (λ (world : Whole C N). length world.lock.state.views) busy.1
@@ -248,7 +270,7 @@ module _ {C : Type 0} {N : ℕ} where
   turn_stays : (lists : List (List (Call C))) (p q : Progress C N) (seat : ℕ) (step : Step) → TurnOf lists p seat step q → length q.world.lock.state.views ≡ length p.world.lock.state.views
   turn_stays lists p q seat step (inl t) =
       ap (λ (x : Progress C N). length x.world.lock.state.views) t.after ∙ ap (λ (w : Whole C N). length w.lock.state.views) (progressed_world p seat step t.world)
-      ∙ step_stays t.begun t.world seat step t.steps ∙ leads_stays lists p seat t.begun t.leads
+      ∙ whole_stays t.begun t.world seat step t.moves ∙ leads_stays lists p seat t.begun t.leads
   turn_stays lists p q seat step (inr (inl t)) = ap (λ (x : Progress C N). length x.world.lock.state.views) t.after
   turn_stays lists p q seat step (inr (inr t)) = ap (λ (x : Progress C N). length x.world.lock.state.views) t.after
 

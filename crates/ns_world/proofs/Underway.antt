@@ -14,7 +14,7 @@ use Rattle.ns_model.proofs.Environments.{env_own-append}
 use Rattle.ns_word.proofs.Asked.{quiet_asks, test_asks}
 use Rattle.ns_word.proofs.Calls.{looks_by_asked}
 use Rattle.ns_word.proofs.Courses.{takes_on, begins_unchanged}
-use Rattle.ns_env.proofs.Acts.{env_own_all, env_own_none}
+use Rattle.ns_env.proofs.Acts.{env_own_all}
 use Rattle.ns_env.proofs.Chains.{looked_shows}
 use Rattle.ns_env.proofs.Courses.{begins_course, others_leave_course, step_takes_on}
 use Rattle.ns_env.proofs.Asks.{set_there, set_here}
@@ -22,7 +22,7 @@ use Rattle.ns_word.proofs.Starts.{quiet_is_first, wait_is_first}
 use Rattle.ns_word.proofs.ToldAfter.{own_append, own_none, step_by, own_all}
 use Rattle.ns_env.specs.declared.walk.EnvNext.TheVariants.{Repeat, Over}
 use Rattle.ns_word.specs.declared.walk.Next.TheVariants.{Done}
-use Rattle.ns_world.proofs.EnvGrows.{acts_led, asks_led, looks_led, moves_led, events_by}
+use Rattle.ns_world.proofs.EnvGrows.{events_by}
 use Rattle.ns_world.proofs.Looking.{FirstIf, first_if, noted}
 use Rattle.ns_world.proofs.Worlds.{env_begins}
 use Rattle.ns_env.specs.declared.request.EnvRequest.TheVariants as TheEnvRequest
@@ -252,7 +252,7 @@ module _ (C : Type 0) (N : ℕ) (before : Now C N) (earlier : List EnvEvent) (se
   asks_there : (old : Now C N) (env : EnvPlain) (other : ℕ) (ask : Option EnvWalk) → other ≢ seat → Untouched old (record old { env = env; asking = slice_set old.asking other ask })
   asks_there old env other ask ne = record { views = refl; asking = set_there old.asking other seat ask (λ e. ne (sym e)); own_same = refl; means = refl }
 
-  moves_there : (old new : Now C N) (other : ℕ) (step : Step) → other ≢ seat → Moves old new other step → Untouched old new
+  pub moves_there : (old new : Now C N) (other : ℕ) (step : Step) → other ≢ seat → Moves old new other step → Untouched old new
   moves_there old new other step ne (inl p) = goes_there old new other step ne p.goes
   moves_there old new other step ne (inr (inl p)) =
       let asking : new.asking ≡ slice_set old.asking other (env_walk_after (env_got_of p.makes.walk p.found)) = p.makes.becomes in
@@ -265,7 +265,7 @@ module _ (C : Type 0) (N : ℕ) (before : Now C N) (earlier : List EnvEvent) (se
     looks_there next q = absurd q
 
   -- another seat begins a call
-  begin_there : (setup : Setup) (old new : Now C N) (other : ℕ) (call : Call C) → other ≢ seat → Starts setup old new other call → Untouched old new
+  pub begin_there : (setup : Setup) (old new : Now C N) (other : ℕ) (call : Call C) → other ≢ seat → Starts setup old new other call → Untouched old new
   begin_there setup old new other call ne p = subst (λ world. Untouched old world) (sym p.begins) (at_start (start_of N (mode_of p.view.held) call)) where
     at_start : (start : Start C) → Untouched old (begun_at old other p.view start)
     at_start (OnLock walk) = record { views = set_there old.state.views other seat _ (λ e. ne (sym e)); asking = refl; own_same = refl; means = refl }
@@ -474,13 +474,6 @@ module _ (C : Type 0) (N : ℕ) (before : Now C N) (earlier : List EnvEvent) (se
 
   -- ---- any step of the seat
 
-  abbrev pub LedToOutcome : Asked C → List EnvEvent → Now C N → Step → List EnvEvent → Type 0
-  LedToOutcome asked events new step more = LedTo (events ++ more) new × Outcome asked step (events ++ more) new
-
-  -- where the world is led by no event
-  pub no_event : (events : List EnvEvent) (new : Now C N) → LedTo events new → LedTo (events ++ []) new
-  no_event events new led = subst (λ es. LedTo es new) (sym (append-nil events)) led
-
   pub no_more : (events : List EnvEvent) → env_own (events ++ []) seat ≡ env_own events seat
   no_more events = ap (λ es. env_own es seat) (append-nil events)
 
@@ -506,7 +499,7 @@ module _ (C : Type 0) (N : ℕ) (before : Now C N) (earlier : List EnvEvent) (se
       (subst (λ n. Effect old.truths n (want_of p.goes.makes.walk) (part_of old.state p.goes.view.held p.goes.view.owed) p.goes.found (part_of new.state p.goes.makes.held p.goes.makes.owed) p.goes.commits) p.goes.number p.goes.makes.effect)
 
   -- of a call on the lock
-  lock_moves : (request : Request C) (events : List EnvEvent) (old new : Now C N) (step : Step) → IsLawfulWorld old → LedTo events old → BeginsWith events earlier → LockUnderway request events old → (p : Moves old new seat step) → LedToOutcome (OfLock request) events new step (env_done p)
+  lock_moves : (request : Request C) (events : List EnvEvent) (old new : Now C N) (step : Step) → IsLawfulWorld old → LedTo events old → BeginsWith events earlier → LockUnderway request events old → (p : Moves old new seat step) → Outcome (OfLock request) step (events ++ env_done p) new
   unfolding lock_rests
   lock_moves request events old new step lawful led since u (inl p) =
       let now = lock_rests request events [] old old (same_world old) (no_more events) u in
@@ -515,10 +508,8 @@ module _ (C : Type 0) (N : ℕ) (before : Now C N) (earlier : List EnvEvent) (se
       let view_is : p.goes.view ≡ u.view = cc in
       let walks : Some p.goes.makes.walk ≡ Some u.walk = sym p.goes.makes.walks ∙ ap (λ v. v.walk) view_is ∙ u.walks in
       let walk_is : p.goes.makes.walk ≡ u.walk = cc in
-      let none : waits_among p.goes.makes.walk ≡ true → limits_of request ≡ None = λ is. ap limits_of (sym u.asked ∙ ap asked_of (sym walk_is)) ∙ among_says p.goes.makes.walk is in (
-        no_event events new (acts_led events old new seat step lawful led p),
-        (lock_goes request (events ++ []) old new step lawful (begins_on earlier events [] since) now p.goes (shown_by (events ++ []) (waits_among p.goes.makes.walk) refl (limits_of request) u.course.looked (looked_after p.goes.found u.course.looked) same none now.shown)).0,
-      )
+      let none : waits_among p.goes.makes.walk ≡ true → limits_of request ≡ None = λ is. ap limits_of (sym u.asked ∙ ap asked_of (sym walk_is)) ∙ among_says p.goes.makes.walk is in
+      (lock_goes request (events ++ []) old new step lawful (begins_on earlier events [] since) now p.goes (shown_by (events ++ []) (waits_among p.goes.makes.walk) refl (limits_of request) u.course.looked (looked_after p.goes.found u.course.looked) same none now.shown)).0
   lock_moves request events old new step lawful led since u (inr (inl p)) =
       let views : Some p.view ≡ Some u.view = sym p.at ∙ u.at in
       let view_is : p.view ≡ u.view = cc in
@@ -533,22 +524,20 @@ module _ (C : Type 0) (N : ℕ) (before : Now C N) (earlier : List EnvEvent) (se
       let look = subst (λ a. LookSoFar earlier seat events a) asking_is u.looking in
       let for : AsksFor (Some u.walk) (Some p.place) = subst (λ w. AsksFor w (Some p.place)) u.walks (lawful.right seat u.view (Some p.place) u.at p.stands) in
       let next = env_got_of p.place p.found in
-      let goes = step_takes_on events [] (env_state old.env old.asking) (env_state old.env (slice_set old.asking seat (env_walk_after next))) seat p.found look.0 (record { walk = p.place; walks = p.stands; effect = p.effect; becomes = refl }) led look.2 in (
-        no_event events new (looks_led events old new seat step lawful led p),
-        look_goes request (events ++ []) old new step lawful (begins_on earlier events [] since) (lock_rests request events [] old old (same_world old) (no_more events) u) u.walk u.view (env_course_after [] look.0) (env_asked_of p.place) for.0 next
-            (limits_are u.walk request for.0 u.asked for.1) (place_asks for.0 p.place for.2) look.1 goes p.goes,
-      )
+      let goes = step_takes_on events [] (env_state old.env old.asking) (env_state old.env (slice_set old.asking seat (env_walk_after next))) seat p.found look.0 (record { walk = p.place; walks = p.stands; effect = p.effect; becomes = refl }) led look.2 in
+      look_goes request (events ++ []) old new step lawful (begins_on earlier events [] since) (lock_rests request events [] old old (same_world old) (no_more events) u) u.walk u.view (env_course_after [] look.0) (env_asked_of p.place) for.0 next
+      (limits_are u.walk request for.0 u.asked for.1) (place_asks for.0 p.place for.2) look.1 goes p.goes
 
   -- of a call on the clock and the notes
-  notes_move : (request : EnvRequest) (events : List EnvEvent) (old new : Now C N) (step : Step) → IsLawfulWorld old → LedTo events old → NotesUnderway request events old → (p : Moves old new seat step) → LedToOutcome (OfNotes request) events new step (env_done p)
+  notes_move : (request : EnvRequest) (events : List EnvEvent) (old new : Now C N) (step : Step) → IsLawfulWorld old → LedTo events old → NotesUnderway request events old → (p : Moves old new seat step) → Outcome (OfNotes request) step (events ++ env_done p) new
   notes_move request events old new step lawful led u (inl p) = let clash : Some None ≡ Some (Some u.walk) = sym p.unasked ∙ u.walks in absurd (cc)
-  notes_move request events old new step lawful led u (inr (inl p)) = (asks_led events old new seat step lawful led p, asks_goes request events old new step lawful led u p)
+  notes_move request events old new step lawful led u (inr (inl p)) = asks_goes request events old new step lawful led u p
   notes_move request events old new step lawful led u (inr (inr p)) =
       let views : Some p.view ≡ Some u.view = sym p.at ∙ u.at in
       let view_is : p.view ≡ u.view = cc in
       let clash : None ≡ Some p.walk = sym u.idle ∙ ap (λ v. v.walk) (sym view_is) ∙ p.walks in absurd (cc)
 
-  pub moves_on : (asked : Asked C) → IsOfLock asked → (events : List EnvEvent) (old new : Now C N) (step : Step) → IsLawfulWorld old → LedTo events old → BeginsWith events earlier → Underway asked events old → (p : Moves old new seat step) → LedToOutcome asked events new step (env_done p)
+  pub moves_on : (asked : Asked C) → IsOfLock asked → (events : List EnvEvent) (old new : Now C N) (step : Step) → IsLawfulWorld old → LedTo events old → BeginsWith events earlier → Underway asked events old → (p : Moves old new seat step) → Outcome asked step (events ++ env_done p) new
   moves_on (OfLock request) of events old new step lawful led since u p = lock_moves request events old new step lawful led since u p
   moves_on (OfNotes request) of events old new step lawful led since u p = notes_move request events old new step lawful led u p
   moves_on (OfObjects asked) of events old new step lawful led since u p = absurd of
@@ -612,6 +601,11 @@ module _ (C : Type 0) (N : ℕ) (before : Now C N) (earlier : List EnvEvent) (se
   begins_led events old who view (OnLock walk) unasked first led = led
   begins_led events old who view (OnObjects walk) unasked first led = led
   begins_led events old who view (Ask walk) unasked first led = env_begins events old.env old.asking who (Some walk) unasked first led
+
+  pub started_led : (setup : Setup) (events : List EnvEvent) (old new : Now C N) (who : ℕ) (call : Call C) → Starts setup old new who call → LedTo events old → LedTo events new
+  started_led setup events old new who call p led =
+      let mode = mode_of p.view.held in
+      subst (λ world. LedTo events world) (sym p.begins) (begins_led events old who p.view (start_of N mode call) p.unasked (first_at setup old.env.notes mode call p.fits) led)
 
   -- a call has come so far as it begins
   starts_at : (asked : Asked C) (start : Start C) (view : SeatView C N) → IsAskedAt asked start → IsFirstAt before.env.notes start → slice_get before.state.views seat ≡ Some view → view.walk ≡ None → slice_get before.asking seat ≡ Some None → Underway asked earlier (begun_at before seat view start)
@@ -703,27 +697,12 @@ module _ (C : Type 0) (N : ℕ) (before : Now C N) (earlier : List EnvEvent) (se
         looks = looks_any (asks_of mode call) earlier (begun_at before seat p.view (start_of N mode call)) (starts_at (asks_of mode call) (start_of N mode call) p.view (asked_at mode call) first p.at p.idle p.unasked);
       }))
 
-  -- a step of another
-  pub moves_away : (P : Option (Option Cause) → Type 0) (asked : Asked C) (events : List EnvEvent) (old new : Now C N) (other : ℕ) (step : Step) → other ≢ seat → IsLawfulWorld old → (p : Moves old new other step) → IsUnderway P asked events old → IsUnderway P asked (events ++ env_done p) new
-  moves_away P asked events old new other step ne lawful p u =
-      let led = moves_led events old new other step lawful u.led p in
-      let more = env_done p in
-      let own_same : env_own (events ++ more) seat ≡ env_own events seat = env_own-append events more seat ∙ ap (λ es. env_own events seat ++ es) (env_own_none other seat more ne led.0) ∙ append-nil (env_own events seat) in
-      let there = moves_there old new other step ne p in
-      record { since = begins_on earlier events more u.since; led = led.1; underway = rests asked events more old new there own_same u.underway; looks = rests_look P asked events more old new there own_same u.underway u.looks }
-
-  -- another seat begins a call
-  pub begin_away : (P : Option (Option Cause) → Type 0) (asked : Asked C) (setup : Setup) (events : List EnvEvent) (old new : Now C N) (other : ℕ) (call : Call C) → other ≢ seat → Starts setup old new other call → IsUnderway P asked events old → IsUnderway P asked (events ++ []) new
-  begin_away P asked setup events old new other call ne p u =
-      let led = subst (λ world. LedTo events world) (sym p.begins) (begins_led events old other p.view (start_of N (mode_of p.view.held) call) p.unasked (first_at setup old.env.notes (mode_of p.view.held) call p.fits) u.led) in
-      let there = begin_there setup old new other call ne p in
-      record { since = begins_on earlier events [] u.since; led = no_event events new led; underway = rests asked events [] old new there (no_more events) u.underway; looks = rests_look P asked events [] old new there (no_more events) u.underway u.looks }
-
-  -- nothing happens here
-  pub stays_underway : (P : Option (Option Cause) → Type 0) (asked : Asked C) (events : List EnvEvent) (world : Now C N) → IsUnderway P asked events world → IsUnderway P asked (events ++ []) world
-  stays_underway P asked events world u = record {
-    since = begins_on earlier events [] u.since;
-    led = no_event events world u.led;
-    underway = rests asked events [] world world (same_world world) (no_more events) u.underway;
-    looks = rests_look P asked events [] world world (same_world world) (no_more events) u.underway u.looks;
+  -- it is so still where nothing of the seat has changed, and it has done nothing
+  pub stays_underway : (P : Option (Option Cause) → Type 0) (asked : Asked C) (events more : List EnvEvent) (old new : Now C N) → Untouched old new → env_own (events ++ more) seat ≡ env_own events seat → LedTo (events ++ more) new →
+      IsUnderway P asked events old → IsUnderway P asked (events ++ more) new
+  stays_underway P asked events more old new same own_same led u = record {
+    since = begins_on earlier events more u.since;
+    led = led;
+    underway = rests asked events more old new same own_same u.underway;
+    looks = rests_look P asked events more old new same own_same u.underway u.looks;
   }

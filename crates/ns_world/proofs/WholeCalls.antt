@@ -3,21 +3,22 @@ use Rattle.std.proofs.Common.{◌≡◌, ◌≢◌, ℕ, zero, suc, List, [], �
 use Rattle.std.proofs.lemmas.Bool.{cases_eq}
 use Rattle.std.proofs.lemmas.List.{append-nil, append_assoc}
 use Rattle.std.specs.Prelude.{unwrap_or}
-use Rattle.ns_world.specs.Prelude.{Acts, Add, Answer, AnswersCall, AnswersOfLock, AnswersTo, Any, AnyAnswers, AnyMeans, AnyWait, AreAmong, AreObjectsBy, AreThere, Asked, BeginsToWait, BeginsWith, Call, CallFits, Cause, CounterWait, Cvs, Done, EndsLook, EnvEvent, Finished, FirstClock, Found}
-use Rattle.ns_world.specs.Prelude.{Happens, HasLedTo, HasOperated, HaveLedTo, HaveShownNothing, Held, Idle, InHand, InRound, IsIdle, IsLater, IsLawful, IsLawfulWhole, IsReady, IsUnfinished, LockSteps, LooksWhere, MayEnd, Means, Meanwhile, Mode, Next, Nothing, Now, Number, ObjectEvent, ObjectGoes}
+use Rattle.ns_world.specs.Prelude.{Acts, Add, Answer, AnswersCall, AnswersOfLock, AnswersTo, Any, AnyAnswers, AnyMeans, AnyWait, AreAmong, AreEnvBy, AreObjectsBy, AreThere, Asked, BeginsToWait, BeginsWith, Call, CallFits, Cause, CounterWait, Cvs, Done, EndsLook, EnvEvent, Finished, FirstClock, Found}
+use Rattle.ns_world.specs.Prelude.{Happens, HasLedTo, HasOperated, HaveLedTo, HaveShownNothing, Held, Idle, InHand, InRound, IsIdle, IsLater, IsLawful, IsLawfulWhole, IsReady, IsUnfinished, LockSteps, LooksWhere, MayEnd, Means, Meanwhile, Mode, Next, Nothing, Number, ObjectEvent, ObjectGoes}
 use Rattle.ns_world.specs.Prelude.{ObjectNext, ObjectSoFar, ObjectWalk, Objects, OfLock, OfNotes, OfObjects, On, OnVariables, Once, Operates, Over, Past, PlaceBy, Repeat, Reply, Request, Round, RoundGo, RoundNext, RoundOver, RoundPlace, RoundShows, RoundSoFar, SeatView, Started, Step, Value}
-use Rattle.ns_world.specs.Prelude.{WaitAny, WaitMeans, WaitSteps, Walk, WalkFits, WalkReply, Went, WereThere, Whole, WholeBegins, WholeMoves, WholeStarts, WholeStep, asked_of, asks_of, at_will, by_round, cause_of, done_by, done_in, env_after, env_done, env_state, got_of, happened, held_at}
+use Rattle.ns_world.specs.Prelude.{WaitAny, WaitMeans, WaitSteps, Walk, WalkFits, WalkReply, Went, WereThere, Whole, WholeBegins, WholeMoves, WholeStarts, WholeStep, asked_of, asks_of, at_will, by_round, cause_of, done_by, done_in, env_after, env_done, env_own, env_state, got_of, happened, held_at}
 use Rattle.ns_world.specs.Prelude.{held_in, is_among, is_for_lock, items_of, looked_after, looks_at, mode_of, mode_waited, notes_done, nothing_done, object_after, object_asked, object_got, object_start, object_step_of, objects_after, objects_begun, objects_done, objects_own, past_and, place_in}
 use Rattle.ns_world.specs.Prelude.{place_told, reply_of_lock, reply_told, round_due, round_got, row_after, shown_by, step_of, step_told, stood_at, wait_first, wait_in, waited_after, waits_for_any, walk_after, walk_in, want_of, woken_by}
 use Rattle.ns_env.proofs.Asks.{set_there}
 use Rattle.ns_model.proofs.Beginnings.{begins_itself}
-use Rattle.ns_model.proofs.Environments.{made_begins}
+use Rattle.ns_model.proofs.Environments.{env_own-append, made_begins}
+use Rattle.ns_env.proofs.Acts.{env_own_none}
 use Rattle.ns_counters.proofs.Objects.{own-append, own_all, own_none}
 use Rattle.ns_counters.proofs.Rounds.{last_nothing, later_itself, later_through}
 use Rattle.ns_counters.specs.declared.walk.ObjectNext.TheVariants.{Go}
-use Rattle.ns_world.proofs.Underway.{IsOfLock, IsUnderway, Outcome, Underway, Untouched, begin_away, begins_on, begins_underway, moves_away, moves_on, no_more as no_more_notes, not_idle, rests, stays_underway, HasLooked, LockUnderway, acts_on, acts_show_not, goes_to_lock, looks_any, rests_look}
+use Rattle.ns_world.proofs.Underway.{IsOfLock, IsUnderway, Outcome, Underway, Untouched, begin_there, begins_on, begins_underway, moves_on, moves_there, no_more as no_more_notes, not_idle, same_world, started_led, stays_underway, HasLooked, LockUnderway, acts_on, acts_show_not, goes_to_lock, looks_any}
 use Rattle.ns_world.proofs.Walks.{wait_there}
-use Rattle.ns_world.proofs.WholeLed.{lock_led, operated_led, begins_to_wait_led, ends_look_led, wait_steps_led, starts_led}
+use Rattle.ns_world.proofs.WholeLed.{no_more, starts_led, steps_led, whole_led}
 use Rattle.ns_word.specs.declared.walk.Next.TheVariants.{Done}
 use Rattle.ns_word.proofs.Starts.{wait_is_first}
 use Rattle.ns_world.proofs.Awaits.{becomes_over, leads, low_if, low_over, many_over, others_over, same_walk, setup_same, stands_here, there_as, waits_here}
@@ -186,122 +187,110 @@ module _ (C : Type 0) (N : ℕ) (before : Whole C N) (earlier : Past) (seat : �
   no_own : (past : List ObjectEvent) → objects_own (past ++ []) seat ≡ objects_own past seat
   no_own past = ap (λ es. objects_own es seat) (append-nil past)
 
+  -- what others do is not the seat's
   others_own : (past more : List ObjectEvent) (other : ℕ) → other ≢ seat → AreObjectsBy other more → objects_own (past ++ more) seat ≡ objects_own past seat
   others_own past more other ne by = own-append past more seat ∙ ap (λ es. objects_own past seat ++ es) (own_none more other seat ne by) ∙ append-nil (objects_own past seat)
 
-  module _ (phase : Phase) (past : Past) (old new : Whole C N) (other : ℕ) (ne : other ≢ seat) (lawful : IsLawfulWhole old) (u : UnderwayIn phase past old) where
+  others_env_own : (past more : List EnvEvent) (other : ℕ) → other ≢ seat → AreEnvBy other more → env_own (past ++ more) seat ≡ env_own past seat
+  others_env_own past more other ne by = env_own-append past more seat ∙ ap (λ es. env_own past seat ++ es) (env_own_none other seat more ne by) ∙ append-nil (env_own past seat)
+
+  -- nothing of the seat has changed
+  record Still (old new : Whole C N) : Type 0 where
+    setup : new.objects.setup ≡ old.objects.setup
+    lock : Untouched C N before.lock earlier.notes seat old.lock new.lock
+    walks : walk_in new.objects.walks seat ≡ walk_in old.objects.walks seat
+    waits : wait_in new.objects.waits seat ≡ wait_in old.objects.waits seat
+
+  still_here : (world : Whole C N) → Still world world
+  still_here world = record { setup = refl; lock = same_world C N before.lock earlier.notes seat world.lock; walks = refl; waits = refl }
+
+  -- so its call is under way still, where it has done nothing
+  stays_in : (phase : Phase) (past more : Past) (old new : Whole C N) → Still old new → HasLedTo (past_and past more) new → env_own (past.notes ++ more.notes) seat ≡ env_own past.notes seat →
+      objects_own (past.objects ++ more.objects) seat ≡ objects_own past.objects seat → UnderwayIn phase past old → UnderwayIn phase (past_and past more) new
+  stays_in phase past more old new still led notes objects u = record {
+    setup = still.setup ∙ u.setup;
+    since = begins_on earlier.objects past.objects more.objects u.since;
+    led = led.1;
+    lock = stays_underway C N before.lock earlier.notes seat (Looks phase) (lock_of phase) past.notes more.notes old.lock new.lock still.lock notes led.0 u.lock;
+    objects = objects_rest phase past more old new still.walks still.waits objects u.objects;
+  }
+
+  rests_in : (phase : Phase) (past : Past) (world : Whole C N) → UnderwayIn phase past world → UnderwayIn phase (past_and past nothing_done) world
+  rests_in phase past world u = stays_in phase past nothing_done world world (still_here world) (no_more past world (u.lock.led, u.led)) (no_more_notes C N before.lock earlier.notes seat past.notes) (no_own past.objects) u
+
+  -- ---- a step of another, and the beginning of its call
+
+  module _ (old new : Whole C N) (other : ℕ) (ne : other ≢ seat) where
     there : seat ≢ other
     there e = ne (sym e)
 
-    -- another seat's step by the lock
-    lock_away : (step : Step) (p : LockSteps old new other step) → UnderwayIn phase (past_and past (record { notes = env_done p.moves; objects = [] })) new
-    lock_away step p =
-        let led = lock_led past old new other step lawful (u.lock.led, u.led) p in
-        record {
-          setup = ap (λ (o : Objects). o.setup) p.same ∙ u.setup;
-          since = begins_on earlier.objects past.objects [] u.since;
-          led = led.1.1;
-          lock = moves_away C N before.lock earlier.notes seat (Looks phase) (lock_of phase) past.notes old.lock new.lock other step ne lawful.lock p.moves u.lock;
-          objects = objects_rest phase past (record { notes = env_done p.moves; objects = [] }) old new (ap (λ (o : Objects). walk_in o.walks seat) p.same) (ap (λ (o : Objects). wait_in o.waits seat) p.same) (no_own past.objects) u.objects;
-        }
+    -- it begins to wait on the lock, or its look there is over
+    still_over : (told : Step) (walk : ObjectWalk) (then : Objects) (wait : Option AnyWait) → HasOperated old.lock.env other walk old.objects then told → new.objects ≡ stood_at then other None wait →
+        Untouched C N before.lock earlier.notes seat old.lock new.lock → Still old new
+    still_over told walk then wait q becomes lock = record {
+      setup = ap (λ (o : Objects). o.setup) becomes ∙ ap (λ (o : Objects). o.setup) q.becomes;
+      lock = lock;
+      walks = ap (λ (o : Objects). walk_in o.walks seat) becomes ∙ put_there then.walks other None seat there ∙ ap (λ (o : Objects). walk_in o.walks seat) q.becomes
+          ∙ put_there old.objects.walks other (object_after (object_got walk q.found)) seat there;
+      waits = ap (λ (o : Objects). wait_in o.waits seat) becomes ∙ wait_there then.waits other wait seat there ∙ ap (λ (o : Objects). wait_in o.waits seat) q.becomes;
+    }
 
-    -- another seat's step of a call on counters and once cells
-    operates_away : (step : Step) (p : Operates old new other step) → UnderwayIn phase (past_and past (record { notes = []; objects = p.operated.events })) new
-    operates_away step p =
-        let led = operated_led past old new other step lawful (u.lock.led, u.led) p in
-        let q = p.operated in
-        record {
-          setup = ap (λ (o : Objects). o.setup) q.becomes ∙ u.setup;
-          since = begins_on earlier.objects past.objects q.events u.since;
-          led = led.1.1;
-          lock = subst (λ world. IsUnderway C N before.lock earlier.notes seat (Looks phase) (lock_of phase) (past.notes ++ []) world) (sym p.same) (stays_underway C N before.lock earlier.notes seat (Looks phase) (lock_of phase) past.notes old.lock u.lock);
-          objects = objects_rest phase past (record { notes = []; objects = q.events }) old new (ap (λ (o : Objects). walk_in o.walks seat) q.becomes ∙ put_there old.objects.walks other (object_after (object_got p.walk q.found)) seat there) (ap (λ (o : Objects). wait_in o.waits seat) q.becomes)
-              (others_own past.objects q.events other ne led.0) u.objects;
-        }
+    -- its wait makes a step on the lock
+    still_waited : (wait : AnyWait) (walk : Option (Walk C)) → new.objects ≡ waited_after old.objects other wait walk → Untouched C N before.lock earlier.notes seat old.lock new.lock → Still old new
+    still_waited wait None becomes lock = record {
+      setup = ap (λ (o : Objects). o.setup) becomes;
+      lock = lock;
+      walks = ap (λ (o : Objects). walk_in o.walks seat) becomes ∙ put_there old.objects.walks other None seat there;
+      waits = ap (λ (o : Objects). wait_in o.waits seat) becomes ∙ wait_there old.objects.waits other None seat there;
+    }
+    still_waited wait (Some walk) becomes lock = record {
+      setup = ap (λ (o : Objects). o.setup) becomes;
+      lock = lock;
+      walks = ap (λ (o : Objects). walk_in o.walks seat) becomes ∙ put_there old.objects.walks other (round_due wait walk) seat there;
+      waits = ap (λ (o : Objects). wait_in o.waits seat) becomes ∙ wait_there old.objects.waits other (Some wait) seat there;
+    }
 
-    -- another seat begins to wait on the lock, or its look there is over
-    module _ (told : Step) (walk : ObjectWalk) (then : Objects) (wait : Option AnyWait) (q : HasOperated old.lock.env other walk old.objects then told) (becomes : new.objects ≡ stood_at then other None wait) where
-      over_setup : new.objects.setup ≡ old.objects.setup
-      over_setup = ap (λ (o : Objects). o.setup) becomes ∙ ap (λ (o : Objects). o.setup) q.becomes
+    still_moves : (step : Step) → WholeMoves old new other step → Still old new
+    still_moves step (inl p) = record {
+      setup = ap (λ (o : Objects). o.setup) p.same;
+      lock = moves_there C N before.lock earlier.notes seat old.lock new.lock other step ne p.moves;
+      walks = ap (λ (o : Objects). walk_in o.walks seat) p.same;
+      waits = ap (λ (o : Objects). wait_in o.waits seat) p.same;
+    }
+    still_moves step (inr (inl p)) = record {
+      setup = ap (λ (o : Objects). o.setup) p.operated.becomes;
+      lock = subst (λ world. Untouched C N before.lock earlier.notes seat old.lock world) (sym p.same) (same_world C N before.lock earlier.notes seat old.lock);
+      walks = ap (λ (o : Objects). walk_in o.walks seat) p.operated.becomes ∙ put_there old.objects.walks other (object_after (object_got p.walk p.operated.found)) seat there;
+      waits = ap (λ (o : Objects). wait_in o.waits seat) p.operated.becomes;
+    }
+    still_moves step (inr (inr (inl p))) = still_over Idle (InRound p.round p.place) p.then _ p.operated p.becomes
+        (subst (λ w. Untouched C N before.lock earlier.notes seat old.lock w) (sym p.begins) (record { views = set_there old.lock.state.views other seat _ there; asking = refl; own_same = refl; means = refl }))
+    still_moves step (inr (inr (inr (inl p)))) = still_over p.told p.walk p.then _ p.operated p.becomes (moves_there C N before.lock earlier.notes seat old.lock new.lock other step ne (inl p.acts))
+    still_moves step (inr (inr (inr (inr p)))) = still_waited p.wait _ p.becomes (moves_there C N before.lock earlier.notes seat old.lock new.lock other p.told ne (inl p.acts))
 
-      over_walks : walk_in new.objects.walks seat ≡ walk_in old.objects.walks seat
-      over_walks =
-          ap (λ (o : Objects). walk_in o.walks seat) becomes ∙ put_there then.walks other None seat there ∙ ap (λ (o : Objects). walk_in o.walks seat) q.becomes ∙ put_there old.objects.walks other (object_after (object_got walk q.found)) seat there
+    still_begun : (place : Option ObjectWalk) → new.objects ≡ objects_begun old.objects other place → Untouched C N before.lock earlier.notes seat old.lock new.lock → Still old new
+    still_begun None becomes lock = record { setup = ap (λ (o : Objects). o.setup) becomes; lock = lock; walks = ap (λ (o : Objects). walk_in o.walks seat) becomes; waits = ap (λ (o : Objects). wait_in o.waits seat) becomes }
+    still_begun (Some walk) becomes lock = record {
+      setup = ap (λ (o : Objects). o.setup) becomes;
+      lock = lock;
+      walks = ap (λ (o : Objects). walk_in o.walks seat) becomes ∙ put_there old.objects.walks other (Some walk) seat there;
+      waits = ap (λ (o : Objects). wait_in o.waits seat) becomes;
+    }
 
-      over_waits : wait_in new.objects.waits seat ≡ wait_in old.objects.waits seat
-      over_waits = ap (λ (o : Objects). wait_in o.waits seat) becomes ∙ wait_there then.waits other wait seat there ∙ ap (λ (o : Objects). wait_in o.waits seat) q.becomes
+    module _ (phase : Phase) (past : Past) (lawful : IsLawfulWhole old) (u : UnderwayIn phase past old) where
+      step_there : (step : Step) (p : WholeStep old new other step) → UnderwayIn phase (past_and past (done_in old new other step p)) new
+      step_there step p =
+          let led = steps_led past old new other step lawful (u.lock.led, u.led) p in
+          stays_in phase past (done_in old new other step p) old new (by p) led.2 (others_env_own past.notes (done_in old new other step p).notes other ne led.0) (others_own past.objects (done_in old new other step p).objects other ne led.1) u where
+            by : WholeStep old new other step → Still old new
+            by (inl q) = subst (Still old) (sym q.1) (still_here old)
+            by (inr q) = still_moves step q
 
-    begins_to_wait_away : (step : Step) (p : BeginsToWait old new other step) → UnderwayIn phase (past_and past (record { notes = []; objects = p.operated.events })) new
-    begins_to_wait_away step p =
-        let wait : Option AnyWait = Some (record { round = p.round; shown = None }) in
-        let led = begins_to_wait_led past old new other step lawful (u.lock.led, u.led) p in
-        let untouched : Untouched C N before.lock earlier.notes seat old.lock new.lock = subst (λ (w : Now C N). Untouched C N before.lock earlier.notes seat old.lock w) (sym p.begins) (record { views = set_there old.lock.state.views other seat _ there; asking = refl; own_same = refl; means = refl }) in
-        let quiet = no_more_notes C N before.lock earlier.notes seat past.notes in
-        record {
-          setup = over_setup Idle (InRound p.round p.place) p.then wait p.operated p.becomes ∙ u.setup;
-          since = begins_on earlier.objects past.objects p.operated.events u.since;
-          led = led.1.1;
-          lock = record {
-            since = begins_on earlier.notes past.notes [] u.lock.since;
-            led = led.1.0;
-            underway = rests C N before.lock earlier.notes seat (lock_of phase) past.notes [] old.lock new.lock untouched quiet u.lock.underway;
-            looks = rests_look C N before.lock earlier.notes seat (Looks phase) (lock_of phase) past.notes [] old.lock new.lock untouched quiet u.lock.underway u.lock.looks;
-          };
-          objects = objects_rest phase past (record { notes = []; objects = p.operated.events }) old new (over_walks Idle (InRound p.round p.place) p.then wait p.operated p.becomes) (over_waits Idle (InRound p.round p.place) p.then wait p.operated p.becomes) (others_own past.objects p.operated.events other ne led.0) u.objects;
-        }
-
-    ends_look_away : (step : Step) (p : EndsLook old new other step) → UnderwayIn phase (past_and past (record { notes = []; objects = p.operated.events })) new
-    ends_look_away step p =
-        let wait : Option AnyWait = Some (record { round = p.wait.round; shown = shown_by p.told }) in
-        let led = ends_look_led past old new other step lawful (u.lock.led, u.led) p in
-        record {
-          setup = over_setup p.told p.walk p.then wait p.operated p.becomes ∙ u.setup;
-          since = begins_on earlier.objects past.objects p.operated.events u.since;
-          led = led.1.1;
-          lock = moves_away C N before.lock earlier.notes seat (Looks phase) (lock_of phase) past.notes old.lock new.lock other step ne lawful.lock (inl p.acts) u.lock;
-          objects = objects_rest phase past (record { notes = []; objects = p.operated.events }) old new (over_walks p.told p.walk p.then wait p.operated p.becomes) (over_waits p.told p.walk p.then wait p.operated p.becomes) (others_own past.objects p.operated.events other ne led.0) u.objects;
-        }
-
-    -- another seat's wait makes a step on the lock
-    waited_away : (wait : AnyWait) (walk : Option (Walk C)) →
-        ((waited_after old.objects other wait walk).setup ≡ old.objects.setup) × (walk_in (waited_after old.objects other wait walk).walks seat ≡ walk_in old.objects.walks seat) × (wait_in (waited_after old.objects other wait walk).waits seat ≡ wait_in old.objects.waits seat)
-    waited_away wait None = (refl, put_there old.objects.walks other None seat there, wait_there old.objects.waits other None seat there)
-    waited_away wait (Some walk) = (refl, put_there old.objects.walks other (round_due wait walk) seat there, wait_there old.objects.waits other (Some wait) seat there)
-
-    wait_steps_away : (step : Step) (p : WaitSteps old new other step) → UnderwayIn phase (past_and past (record { notes = []; objects = [] })) new
-    wait_steps_away step p =
-        let led = wait_steps_led past old new other step lawful (u.lock.led, u.led) p in
-        let same = waited_away p.wait (walk_after (got_of N p.acts.goes.makes.walk p.acts.goes.found)) in
-        record {
-          setup = ap (λ (o : Objects). o.setup) p.becomes ∙ same.0 ∙ u.setup;
-          since = begins_on earlier.objects past.objects [] u.since;
-          led = led.1;
-          lock = moves_away C N before.lock earlier.notes seat (Looks phase) (lock_of phase) past.notes old.lock new.lock other p.told ne lawful.lock (inl p.acts) u.lock;
-          objects = objects_rest phase past (record { notes = []; objects = [] }) old new (ap (λ (o : Objects). walk_in o.walks seat) p.becomes ∙ same.1) (ap (λ (o : Objects). wait_in o.waits seat) p.becomes ∙ same.2) (no_own past.objects) u.objects;
-        }
-
-    moves_there : (step : Step) (p : WholeMoves old new other step) → UnderwayIn phase (past_and past (record { notes = notes_done p; objects = objects_done p })) new
-    moves_there step (inl p) = lock_away step p
-    moves_there step (inr (inl p)) = operates_away step p
-    moves_there step (inr (inr (inl p))) = begins_to_wait_away step p
-    moves_there step (inr (inr (inr (inl p)))) = ends_look_away step p
-    moves_there step (inr (inr (inr (inr p)))) = wait_steps_away step p
-
-    -- another seat begins a call
-    begun_away : (place : Option ObjectWalk) → (walk_in (objects_begun old.objects other place).walks seat ≡ walk_in old.objects.walks seat) × (wait_in (objects_begun old.objects other place).waits seat ≡ wait_in old.objects.waits seat)
-    begun_away None = (refl, refl)
-    begun_away (Some walk) = (put_there old.objects.walks other (Some walk) seat there, refl)
-
-    starts_away : (call : Call C) → IsLawfulWhole new → WholeStarts old new other call → UnderwayIn phase (past_and past nothing_done) new
-    starts_away call now_lawful p =
-        let away = begun_away (object_start call) in
-        record {
-          setup = ap (λ (o : Objects). o.setup) p.becomes ∙ begun_setup old.objects other (object_start call) ∙ u.setup;
-          since = begins_on earlier.objects past.objects [] u.since;
-          led = subst (λ es. HaveLedTo es new) (sym (append-nil past.objects)) (starts_led past.objects old new other call lawful now_lawful p u.led);
-          lock = begin_away C N before.lock earlier.notes seat (Looks phase) (lock_of phase) old.objects.setup past.notes old.lock new.lock other call ne p.starts u.lock;
-          objects = objects_rest phase past nothing_done old new (ap (λ (o : Objects). walk_in o.walks seat) p.becomes ∙ away.0) (ap (λ (o : Objects). wait_in o.waits seat) p.becomes ∙ away.1) (no_own past.objects) u.objects;
-        }
+      starts_there : (call : Call C) → IsLawfulWhole new → WholeStarts old new other call → UnderwayIn phase (past_and past nothing_done) new
+      starts_there call now_lawful p =
+          let led : HasLedTo past new = (started_led C N before.lock earlier.notes seat old.objects.setup past.notes old.lock new.lock other call p.starts u.lock.led, starts_led past.objects old new other call lawful now_lawful p u.led) in
+          stays_in phase past nothing_done old new (still_begun (object_start call) p.becomes (begin_there C N before.lock earlier.notes seat old.objects.setup old.lock new.lock other call ne p.starts)) (no_more past new led)
+          (no_more_notes C N before.lock earlier.notes seat past.notes) (no_own past.objects) u
 
   -- ---- the seat's own step
 
@@ -313,9 +302,6 @@ module _ (C : Type 0) (N : ℕ) (before : Whole C N) (earlier : Past) (seat : �
   abbrev OutcomeIn : Asked C → Step → Past → Whole C N → Type 0
   OutcomeIn asked (Finished reply) past world = AnswersTo before earlier seat asked reply world past
   OutcomeIn asked step past world = UnderwayAs asked past world
-
-  abbrev LedToOutcome : Asked C → Step → Past → Whole C N → Type 0
-  LedToOutcome asked step past world = HasLedTo past world × OutcomeIn asked step past world
 
   -- of a call on the lock, or on the clock and the notes
   module _ (past : Past) (old new : Whole C N) (p_events : List EnvEvent) where
@@ -355,7 +341,7 @@ module _ (C : Type 0) (N : ℕ) (before : Whole C N) (earlier : Past) (seat : �
       now = past_and past (record { notes = []; objects = more })
 
       inner : IsUnderway C N before.lock earlier.notes seat (Looks (inl (OfObjects asked))) (OfObjects asked) (past.notes ++ []) new.lock
-      inner = subst (λ world. IsUnderway C N before.lock earlier.notes seat (Looks (inl (OfObjects asked))) (OfObjects asked) (past.notes ++ []) world) (sym same) (stays_underway C N before.lock earlier.notes seat (Looks (inl (OfObjects asked))) (OfObjects asked) past.notes old.lock u.lock)
+      inner = subst (λ world. IsUnderway C N before.lock earlier.notes seat (Looks (inl (OfObjects asked))) (OfObjects asked) (past.notes ++ []) world) (sym same) (rests_in (inl (OfObjects asked)) past old u).lock
 
       on : (place : ObjectWalk) → new.objects.walks ≡ slice_set old.objects.walks seat (Some place) → (object_asked place ≡ asked) × ObjectSoFar before.objects.setup earlier (past_and past (record { notes = []; objects = more })) seat done place →
           UnderwayIn (inl (OfObjects asked)) (past_and past (record { notes = []; objects = more })) new
@@ -390,12 +376,11 @@ module _ (C : Type 0) (N : ℕ) (before : Whole C N) (earlier : Past) (seat : �
         silent = rest.silent;
       })
 
-  operates_here : (asked : ObjectWalk) (past : Past) (old new : Whole C N) (step : Step) → IsLawfulWhole old → (p : Operates old new seat step) → (u : UnderwayIn (inl (OfObjects asked)) past old) →
-      LedToOutcome (OfObjects asked) step (past_and past (record { notes = []; objects = p.operated.events })) new
-  operates_here asked past old new step lawful p u =
+  operates_here : (asked : ObjectWalk) (past : Past) (old new : Whole C N) (step : Step) → IsLawfulWhole old → (p : Operates old new seat step) → (u : UnderwayIn (inl (OfObjects asked)) past old) → AreObjectsBy seat p.operated.events → HasLedTo (past_and past (record { notes = []; objects = p.operated.events })) new →
+      OutcomeIn (OfObjects asked) step (past_and past (record { notes = []; objects = p.operated.events })) new
+  operates_here asked past old new step lawful p u by_seat led =
       let q = p.operated in
       let o = u.objects in
-      let led = operated_led past old new seat step lawful (u.lock.led, u.led) p in
       let stands : Some p.walk ≡ Some o.walk = sym p.walks ∙ o.walks in
       let walk_is : p.walk ≡ o.walk = cc in
       let state = env_state old.lock.env old.lock.asking in
@@ -404,11 +389,9 @@ module _ (C : Type 0) (N : ℕ) (before : Whole C N) (earlier : Past) (seat : �
       let so_far = subst (λ w. ObjectSoFar before.objects.setup earlier past seat o.events w) (sym walk_is) o.so_far in
       let goes = operates_on before.objects.setup earlier seat past old.objects.words law state u.lock.led u.lock.since u.since o.events o.added q.events p.walk q.found q.words fits so_far q.effect in
       let goes_asked = subst (λ a. ObjectGoes before.objects.setup earlier (past_and past (record { notes = []; objects = q.events })) seat a (o.events ++ q.events) (object_got p.walk q.found)) (ap object_asked walk_is ∙ o.is_asked) goes in
-      let own_all_of : objects_own (past.objects ++ q.events) seat ≡ objects_own earlier.objects seat ++ (o.events ++ q.events) = own-append past.objects q.events seat ∙ (λ i. o.added i ++ own_all q.events seat led.0 i) ∙ append_assoc (objects_own earlier.objects seat) o.events q.events in (
-        led.1,
-        subst (λ s. OutcomeIn (OfObjects asked) s (past_and past (record { notes = []; objects = q.events })) new) (sym q.answers)
-            (objects_settle asked past old new lawful u p.walk (object_got p.walk q.found) (o.events ++ q.events) q.events p.walks p.same (ap (λ (x : Objects). x.setup) q.becomes) (ap (λ (x : Objects). x.waits) q.becomes) (ap (λ (x : Objects). x.walks) q.becomes) led.1 own_all_of goes_asked),
-      )
+      let own_all_of : objects_own (past.objects ++ q.events) seat ≡ objects_own earlier.objects seat ++ (o.events ++ q.events) = own-append past.objects q.events seat ∙ (λ i. o.added i ++ own_all q.events seat by_seat i) ∙ append_assoc (objects_own earlier.objects seat) o.events q.events in
+      subst (λ s. OutcomeIn (OfObjects asked) s (past_and past (record { notes = []; objects = q.events })) new) (sym q.answers)
+      (objects_settle asked past old new lawful u p.walk (object_got p.walk q.found) (o.events ++ q.events) q.events p.walks p.same (ap (λ (x : Objects). x.setup) q.becomes) (ap (λ (x : Objects). x.waits) q.becomes) (ap (λ (x : Objects). x.walks) q.becomes) led own_all_of goes_asked)
 
   -- ---- a round of a call that waits on the lock, or goes on to
 
@@ -425,22 +408,19 @@ module _ (C : Type 0) (N : ℕ) (before : Whole C N) (earlier : Past) (seat : �
         )
 
   -- Where a round has found nothing the call goes on to wait.
-  begins_to_wait_here : (asked : ObjectWalk) (past : Past) (old new : Whole C N) (step : Step) → IsLawfulWhole old → (p : BeginsToWait old new seat step) → UnderwayIn (inl (OfObjects asked)) past old →
-      LedToOutcome (OfObjects asked) step (past_and past (record { notes = []; objects = p.operated.events })) new
-  begins_to_wait_here asked past old new step lawful p u =
+  begins_to_wait_here : (asked : ObjectWalk) (past : Past) (old new : Whole C N) (step : Step) → IsLawfulWhole old → (p : BeginsToWait old new seat step) → UnderwayIn (inl (OfObjects asked)) past old → HasLedTo (past_and past (record { notes = []; objects = p.operated.events })) new →
+      OutcomeIn (OfObjects asked) step (past_and past (record { notes = []; objects = p.operated.events })) new
+  begins_to_wait_here asked past old new step lawful p u led =
       let q = p.operated in
       let o = u.objects in
-      let led = begins_to_wait_led past old new seat step lawful (u.lock.led, u.led) p in
       let stands : Some o.walk ≡ Some (InRound p.round p.place) = sym o.walks ∙ p.walks in
       let walk_is : o.walk ≡ InRound p.round p.place = cc in
       let so_far : ObjectSoFar before.objects.setup earlier past seat o.events (InRound p.round p.place) = subst (λ w. ObjectSoFar before.objects.setup earlier past seat o.events w) walk_is o.so_far in
       let shows = round_shows (inl (OfObjects asked)) past old u earlier p.round p.place p.walks p.then Idle q so_far.1 so_far.2 in
       let asked_is : InRound p.round FirstClock ≡ asked = ap object_asked (sym walk_is) ∙ o.is_asked in
-      let untouched : objects_own (past.objects ++ q.events) seat ≡ objects_own earlier.objects seat = ap (λ es. objects_own (past.objects ++ es) seat) shows.1 ∙ no_own past.objects ∙ o.added ∙ ap (λ es. objects_own earlier.objects seat ++ es) so_far.0 ∙ append-nil (objects_own earlier.objects seat) in (
-        led.1,
-        subst (λ s. OutcomeIn (OfObjects asked) s (past_and past (record { notes = []; objects = q.events })) new) (sym p.answer)
-            (inr (record { round = p.round; cvs = p.cvs; shown = None }), ap OfObjects asked_is, by (round_got p.round p.place q.found) q.answers shows.0 so_far.1 untouched led.1),
-      ) where
+      let untouched : objects_own (past.objects ++ q.events) seat ≡ objects_own earlier.objects seat = ap (λ es. objects_own (past.objects ++ es) seat) shows.1 ∙ no_own past.objects ∙ o.added ∙ ap (λ es. objects_own earlier.objects seat ++ es) so_far.0 ∙ append-nil (objects_own earlier.objects seat) in
+      subst (λ s. OutcomeIn (OfObjects asked) s (past_and past (record { notes = []; objects = q.events })) new) (sym p.answer)
+      (inr (record { round = p.round; cvs = p.cvs; shown = None }), ap OfObjects asked_is, by (round_got p.round p.place q.found) q.answers shows.0 so_far.1 untouched led) where
         now : Past
         now = past_and past (record { notes = []; objects = p.operated.events })
 
@@ -525,7 +505,7 @@ module _ (C : Type 0) (N : ℕ) (before : Whole C N) (earlier : Past) (seat : �
               setup = setup ∙ u.setup;
               since = begins_on earlier.objects past.objects events u.since;
               led = led.1;
-              lock = subst (λ world. IsUnderway C N before.lock earlier.notes seat (AsShown w.shown) (OfLock (wait_for w.cvs)) (past.notes ++ []) world) (sym same) (stays_underway C N before.lock earlier.notes seat (AsShown w.shown) (OfLock (wait_for w.cvs)) past.notes old.lock u.lock);
+              lock = subst (λ world. IsUnderway C N before.lock earlier.notes seat (AsShown w.shown) (OfLock (wait_for w.cvs)) (past.notes ++ []) world) (sym same) (rests_in (inr w) past old u).lock;
               objects = record {
                 waits = ap (λ ws. wait_in ws seat) waits ∙ u.objects.waits;
                 some = u.objects.some;
@@ -549,11 +529,11 @@ module _ (C : Type 0) (N : ℕ) (before : Whole C N) (earlier : Past) (seat : �
     looks_by : (by : Round) (place : RoundPlace) → RoundOn w.round u.objects.mid past (Some (InRound by place)) → RoundSoFar before.objects.setup u.objects.mid past by place
     looks_by by place on = subst (λ (r : Round). RoundSoFar before.objects.setup u.objects.mid past r place) (sym on.0) on.1
 
-    round_goes_on : (step : Step) (p : Operates old new seat step) → LedToOutcome (OfObjects (InRound w.round FirstClock)) step (past_and past (record { notes = []; objects = p.operated.events })) new
-    round_goes_on step p =
-        let led = operated_led past old new seat step lawful (u.lock.led, u.led) p in
+    round_goes_on : (step : Step) (p : Operates old new seat step) → HasLedTo (past_and past (record { notes = []; objects = p.operated.events })) new →
+        OutcomeIn (OfObjects (InRound w.round FirstClock)) step (past_and past (record { notes = []; objects = p.operated.events })) new
+    round_goes_on step p led =
         let not : is_for_lock (Some waiting) p.walk step ≡ false = ap (λ x. is_for_lock x p.walk step) (sym u.objects.waits) ∙ p.not_for_lock in
-        (led.1, by p.walk (subst (RoundOn w.round u.objects.mid past) p.walks u.objects.round) p.walks p.operated not led.1) where
+        by p.walk (subst (RoundOn w.round u.objects.mid past) p.walks u.objects.round) p.walks p.operated not led where
           by : (walk : ObjectWalk) → RoundOn w.round u.objects.mid past (Some walk) → walk_in old.objects.walks seat ≡ Some walk → (q : HasOperated old.lock.env seat walk old.objects new.objects step) →
               is_for_lock (Some waiting) walk step ≡ false → HasLedTo (past_and past (record { notes = []; objects = q.events })) new →
               OutcomeIn (OfObjects (InRound w.round FirstClock)) step (past_and past (record { notes = []; objects = q.events })) new
@@ -596,9 +576,9 @@ module _ (C : Type 0) (N : ℕ) (before : Whole C N) (earlier : Past) (seat : �
         by (Finished reply) unfinished o looks = absurd unfinished
 
     -- its look is over
-    ends_look_here : (step : Step) (p : EndsLook old new seat step) → LedToOutcome (OfObjects (InRound w.round FirstClock)) step (past_and past (record { notes = []; objects = p.operated.events })) new
-    ends_look_here step p =
-        let led = ends_look_led past old new seat step lawful (u.lock.led, u.led) p in
+    ends_look_here : (step : Step) (p : EndsLook old new seat step) → HasLedTo (past_and past (record { notes = []; objects = p.operated.events })) new →
+        OutcomeIn (OfObjects (InRound w.round FirstClock)) step (past_and past (record { notes = []; objects = p.operated.events })) new
+    ends_look_here step p led =
         let o = acts_on C N before.lock earlier.notes seat (wait_for w.cvs) refl past.notes old.lock new.lock step lawful.lock u.lock.since u.lock.underway p.acts in
         let at = leads old new seat lawful step p in
         let unfinished : IsUnfinished step = subst IsUnfinished (sym (p.acts.goes.answers ∙ ap (λ (f : Found). step_of (got_of N p.acts.goes.makes.walk f)) p.looked)) at.unfinished in
@@ -609,24 +589,22 @@ module _ (C : Type 0) (N : ℕ) (before : Whole C N) (earlier : Past) (seat : �
         let many = many_over old new seat lawful p.walk p.walks p.then p.told p.operated wait p.becomes in
         let others = others_over old new seat lawful p.walk p.walks p.then p.told p.operated wait p.becomes in
         let low = low_over old new seat lawful p.walk p.walks p.then p.told p.operated wait p.becomes in
-        let more : Past = record { notes = []; objects = p.operated.events } in (
-          led.1,
-          wait_goes_on p.operated.events (setup_same old new seat lawful low p.operated.words _ None wait many others over) led.1 (shown_by p.told) (looked_after p.acts.goes.found u.lock.underway.course.looked) (subst (AsShown (shown_by p.told)) (sym looked) refl)
-              (record {
-                waits = waits_here old new seat lawful low p.operated.words _ None wait many others over ∙ ap (λ (x : AnyWait). Some (record { round = x.round; shown = shown_by p.told })) (same_wait p.wait p.waits);
-                some = u.objects.some;
-                low = u.objects.low;
-                among = u.objects.among;
-                mid = u.objects.mid;
-                first = u.objects.first;
-                until = until_rests u.objects.mid past more u.objects.until;
-                were_there = u.objects.were_there;
-                shown = shows.0;
-                round = subst (RoundOn w.round u.objects.mid (past_and past more)) (sym (stands_here old new seat lawful low p.operated.words _ None wait many others over)) tt;
-                untouched = none_done p.operated.events shows.1;
-              })
-              step unfinished o.0 o.1,
-        ) where
+        let more : Past = record { notes = []; objects = p.operated.events } in
+        wait_goes_on p.operated.events (setup_same old new seat lawful low p.operated.words _ None wait many others over) led (shown_by p.told) (looked_after p.acts.goes.found u.lock.underway.course.looked) (subst (AsShown (shown_by p.told)) (sym looked) refl)
+        (record {
+          waits = waits_here old new seat lawful low p.operated.words _ None wait many others over ∙ ap (λ (x : AnyWait). Some (record { round = x.round; shown = shown_by p.told })) (same_wait p.wait p.waits);
+          some = u.objects.some;
+          low = u.objects.low;
+          among = u.objects.among;
+          mid = u.objects.mid;
+          first = u.objects.first;
+          until = until_rests u.objects.mid past more u.objects.until;
+          were_there = u.objects.were_there;
+          shown = shows.0;
+          round = subst (RoundOn w.round u.objects.mid (past_and past more)) (sym (stands_here old new seat lawful low p.operated.words _ None wait many others over)) tt;
+          untouched = none_done p.operated.events shows.1;
+        })
+        step unfinished o.0 o.1 where
           shown : (by : Round) → by ≡ w.round → (told : Step) (events : List ObjectEvent) (next : RoundNext) → told ≡ object_step_of (by_round by next) → RoundGoes before.objects.setup u.objects.mid (past_and past (record { notes = []; objects = events })) by next →
               ShownOn w.round u.objects.mid (past_and past (record { notes = []; objects = events })) (shown_by told)
           shown by is told events next answers goes = subst (λ s. ShownOn w.round u.objects.mid on (shown_by s)) (sym answers) (subst (λ (r : Round). ShownOn r u.objects.mid on (shown_by (object_step_of (by_round by next)))) is (so next goes)) where
@@ -749,31 +727,10 @@ module _ (C : Type 0) (N : ℕ) (before : Whole C N) (earlier : Past) (seat : �
           let o = acts_on C N before.lock earlier.notes seat (wait_for w.cvs) refl past.notes old.lock new.lock (Finished reply) lawful.lock u.lock.since u.lock.underway acts in
           answered reply o.0 (subst (AsShown w.shown) (sym (o.1 ∙ quiet (Finished reply) acts)) u.lock.looks) o.0.answer o.0.tells o.0.means
 
-    wait_steps_here : (step : Step) (p : WaitSteps old new seat step) → LedToOutcome (OfObjects (InRound w.round FirstClock)) step (past_and past (record { notes = []; objects = [] })) new
-    wait_steps_here step p =
-        let led = wait_steps_led past old new seat step lawful (u.lock.led, u.led) p in
-        (led, subst (λ s. OutcomeIn (OfObjects (InRound w.round FirstClock)) s (past_and past (record { notes = []; objects = [] })) new) (sym p.answer) (steps_there p.wait p.waits p.elsewhere p.told p.acts p.becomes led))
+    wait_steps_here : (step : Step) (p : WaitSteps old new seat step) → HasLedTo (past_and past nothing_done) new → OutcomeIn (OfObjects (InRound w.round FirstClock)) step (past_and past nothing_done) new
+    wait_steps_here step p led = subst (λ s. OutcomeIn (OfObjects (InRound w.round FirstClock)) s (past_and past nothing_done) new) (sym p.answer) (steps_there p.wait p.waits p.elsewhere p.told p.acts p.becomes led)
 
   -- ---- any step of its own
-
-  -- who is in a call on the lock, the clock or the notes is in none on counters and once cells, and the other way about
-  lock_here : (phase : Phase) (past : Past) (old new : Whole C N) (step : Step) → IsLawfulWhole old → (p : LockSteps old new seat step) → UnderwayIn phase past old → LedToOutcome (asked_in phase) step (past_and past (record { notes = env_done p.moves; objects = [] })) new
-  lock_here (inr w) past old new step lawful p u = let clash : None ≡ Some (waiting w past old new lawful u) = sym p.waits_not ∙ u.objects.waits in absurd (cc)
-  lock_here (inl (OfObjects asked)) past old new step lawful p u = let clash : None ≡ Some u.objects.walk = sym p.elsewhere ∙ u.objects.walks in absurd (cc)
-  lock_here (inl (OfLock request)) past old new step lawful p u =
-      let on = moves_on C N before.lock earlier.notes seat (OfLock request) tt past.notes old.lock new.lock step lawful.lock u.lock.led u.lock.since u.lock.underway p.moves in
-      let led = lock_led past old new seat step lawful (u.lock.led, u.led) p in
-      (led.1, lock_settles past old new (env_done p.moves) (OfLock request) tt step u led.1 p.same on.1)
-  lock_here (inl (OfNotes request)) past old new step lawful p u =
-      let on = moves_on C N before.lock earlier.notes seat (OfNotes request) tt past.notes old.lock new.lock step lawful.lock u.lock.led u.lock.since u.lock.underway p.moves in
-      let led = lock_led past old new seat step lawful (u.lock.led, u.led) p in
-      (led.1, lock_settles past old new (env_done p.moves) (OfNotes request) tt step u led.1 p.same on.1)
-
-  operate_here : (phase : Phase) (past : Past) (old new : Whole C N) (step : Step) → IsLawfulWhole old → (p : Operates old new seat step) → UnderwayIn phase past old → LedToOutcome (asked_in phase) step (past_and past (record { notes = []; objects = p.operated.events })) new
-  operate_here (inr w) past old new step lawful p u = round_goes_on w past old new lawful u step p
-  operate_here (inl (OfObjects asked)) past old new step lawful p u = operates_here asked past old new step lawful p u
-  operate_here (inl (OfLock request)) past old new step lawful p u = let clash : None ≡ Some p.walk = sym u.objects.nowhere ∙ p.walks in absurd (cc)
-  operate_here (inl (OfNotes request)) past old new step lawful p u = let clash : None ≡ Some p.walk = sym u.objects.nowhere ∙ p.walks in absurd (cc)
 
   -- who waits on the lock for a set of variables is in a call that has gone on to
   waits_in : (phase : Phase) (past : Past) (world : Whole C N) → UnderwayIn phase past world → (wait : AnyWait) → wait_in world.objects.waits seat ≡ Some wait → (w : Waiting) × (phase ≡ inr w)
@@ -782,22 +739,42 @@ module _ (C : Type 0) (N : ℕ) (before : Whole C N) (earlier : Past) (seat : �
   waits_in (inl (OfNotes request)) past world u wait waits = let clash : None ≡ Some wait = sym u.objects.waits_not ∙ waits in absurd (cc)
   waits_in (inl (OfObjects asked)) past world u wait waits = let clash : None ≡ Some wait = sym u.objects.waits_not ∙ waits in absurd (cc)
 
-  begin_wait_here : (phase : Phase) (past : Past) (old new : Whole C N) (step : Step) → IsLawfulWhole old → (p : BeginsToWait old new seat step) → UnderwayIn phase past old → LedToOutcome (asked_in phase) step (past_and past (record { notes = []; objects = p.operated.events })) new
-  begin_wait_here (inr w) past old new step lawful p u = let clash : None ≡ Some (waiting w past old new lawful u) = sym p.waits_not ∙ u.objects.waits in absurd (cc)
-  begin_wait_here (inl (OfObjects asked)) past old new step lawful p u = begins_to_wait_here asked past old new step lawful p u
-  begin_wait_here (inl (OfLock request)) past old new step lawful p u = let clash : None ≡ Some (InRound p.round p.place) = sym u.objects.nowhere ∙ p.walks in absurd (cc)
-  begin_wait_here (inl (OfNotes request)) past old new step lawful p u = let clash : None ≡ Some (InRound p.round p.place) = sym u.objects.nowhere ∙ p.walks in absurd (cc)
+  module _ (past : Past) (old new : Whole C N) (step : Step) (lawful : IsLawfulWhole old) where
+    -- who is in a call on the lock, the clock or the notes is in none on counters and once cells, and the other way about
+    lock_here : (phase : Phase) (p : LockSteps old new seat step) → UnderwayIn phase past old → HasLedTo (past_and past (record { notes = env_done p.moves; objects = [] })) new →
+        OutcomeIn (asked_in phase) step (past_and past (record { notes = env_done p.moves; objects = [] })) new
+    lock_here (inr w) p u led = let clash : None ≡ Some (waiting w past old new lawful u) = sym p.waits_not ∙ u.objects.waits in absurd (cc)
+    lock_here (inl (OfObjects asked)) p u led = let clash : None ≡ Some u.objects.walk = sym p.elsewhere ∙ u.objects.walks in absurd (cc)
+    lock_here (inl (OfLock request)) p u led = lock_settles past old new (env_done p.moves) (OfLock request) tt step u led p.same
+        (moves_on C N before.lock earlier.notes seat (OfLock request) tt past.notes old.lock new.lock step lawful.lock u.lock.led u.lock.since u.lock.underway p.moves)
+    lock_here (inl (OfNotes request)) p u led = lock_settles past old new (env_done p.moves) (OfNotes request) tt step u led p.same
+        (moves_on C N before.lock earlier.notes seat (OfNotes request) tt past.notes old.lock new.lock step lawful.lock u.lock.led u.lock.since u.lock.underway p.moves)
 
-  moves_here : (phase : Phase) (past : Past) (old new : Whole C N) (step : Step) → IsLawfulWhole old → (p : WholeMoves old new seat step) → UnderwayIn phase past old → LedToOutcome (asked_in phase) step (past_and past (record { notes = notes_done p; objects = objects_done p })) new
-  moves_here phase past old new step lawful (inl p) u = lock_here phase past old new step lawful p u
-  moves_here phase past old new step lawful (inr (inl p)) u = operate_here phase past old new step lawful p u
-  moves_here phase past old new step lawful (inr (inr (inl p))) u = begin_wait_here phase past old new step lawful p u
-  moves_here phase past old new step lawful (inr (inr (inr (inl p)))) u =
-      let is = waits_in phase past old u p.wait p.waits in
-      subst (λ f. LedToOutcome (asked_in f) step (past_and past (record { notes = []; objects = p.operated.events })) new) (sym is.1) (ends_look_here is.0 past old new lawful (subst (λ f. UnderwayIn f past old) is.1 u) step p)
-  moves_here phase past old new step lawful (inr (inr (inr (inr p)))) u =
-      let is = waits_in phase past old u p.wait p.waits in
-      subst (λ f. LedToOutcome (asked_in f) step (past_and past (record { notes = []; objects = [] })) new) (sym is.1) (wait_steps_here is.0 past old new lawful (subst (λ f. UnderwayIn f past old) is.1 u) step p)
+    operate_here : (phase : Phase) (p : Operates old new seat step) → UnderwayIn phase past old → AreObjectsBy seat p.operated.events → HasLedTo (past_and past (record { notes = []; objects = p.operated.events })) new →
+        OutcomeIn (asked_in phase) step (past_and past (record { notes = []; objects = p.operated.events })) new
+    operate_here (inr w) p u by_seat led = round_goes_on w past old new lawful u step p led
+    operate_here (inl (OfObjects asked)) p u by_seat led = operates_here asked past old new step lawful p u by_seat led
+    operate_here (inl (OfLock request)) p u by_seat led = let clash : None ≡ Some p.walk = sym u.objects.nowhere ∙ p.walks in absurd (cc)
+    operate_here (inl (OfNotes request)) p u by_seat led = let clash : None ≡ Some p.walk = sym u.objects.nowhere ∙ p.walks in absurd (cc)
+
+    begin_wait_here : (phase : Phase) (p : BeginsToWait old new seat step) → UnderwayIn phase past old → HasLedTo (past_and past (record { notes = []; objects = p.operated.events })) new →
+        OutcomeIn (asked_in phase) step (past_and past (record { notes = []; objects = p.operated.events })) new
+    begin_wait_here (inr w) p u led = let clash : None ≡ Some (waiting w past old new lawful u) = sym p.waits_not ∙ u.objects.waits in absurd (cc)
+    begin_wait_here (inl (OfObjects asked)) p u led = begins_to_wait_here asked past old new step lawful p u led
+    begin_wait_here (inl (OfLock request)) p u led = let clash : None ≡ Some (InRound p.round p.place) = sym u.objects.nowhere ∙ p.walks in absurd (cc)
+    begin_wait_here (inl (OfNotes request)) p u led = let clash : None ≡ Some (InRound p.round p.place) = sym u.objects.nowhere ∙ p.walks in absurd (cc)
+
+    moves_here : (phase : Phase) (p : WholeMoves old new seat step) → UnderwayIn phase past old → AreObjectsBy seat (objects_done p) → HasLedTo (past_and past (record { notes = notes_done p; objects = objects_done p })) new →
+        OutcomeIn (asked_in phase) step (past_and past (record { notes = notes_done p; objects = objects_done p })) new
+    moves_here phase (inl p) u by_seat led = lock_here phase p u led
+    moves_here phase (inr (inl p)) u by_seat led = operate_here phase p u by_seat led
+    moves_here phase (inr (inr (inl p))) u by_seat led = begin_wait_here phase p u led
+    moves_here phase (inr (inr (inr (inl p)))) u by_seat led =
+        let is = waits_in phase past old u p.wait p.waits in
+        subst (λ f. OutcomeIn (asked_in f) step (past_and past (record { notes = []; objects = p.operated.events })) new) (sym is.1) (ends_look_here is.0 past old new lawful (subst (λ f. UnderwayIn f past old) is.1 u) step p led)
+    moves_here phase (inr (inr (inr (inr p)))) u by_seat led =
+        let is = waits_in phase past old u p.wait p.waits in
+        subst (λ f. OutcomeIn (asked_in f) step (past_and past nothing_done) new) (sym is.1) (wait_steps_here is.0 past old new lawful (subst (λ f. UnderwayIn f past old) is.1 u) step p led)
 
   -- a seat whose call is under way isn't idle
   busy_in : (phase : Phase) (past : Past) (world : Whole C N) → UnderwayIn phase past world → IsIdle world.lock seat → walk_in world.objects.walks seat ≡ None → ⊥
@@ -845,31 +822,12 @@ module _ (C : Type 0) (N : ℕ) (before : Whole C N) (earlier : Past) (seat : �
   unfinished asked other past world goes p = p
 
   -- a step of the seat itself
-  step_in : (phase : Phase) (past : Past) (old new : Whole C N) (step : Step) → IsLawfulWhole old → (p : WholeStep old new seat step) → UnderwayIn phase past old → LedToOutcome (asked_in phase) step (past_and past (done_in old new seat step p)) new
-  step_in phase past old new Nothing lawful p u = absurd (busy_in phase past old u p.1.0 p.1.1)
-  step_in phase past old new Went lawful p u = moves_here phase past old new Went lawful p u
-  step_in phase past old new Idle lawful p u = moves_here phase past old new Idle lawful p u
-  step_in phase past old new (Finished reply) lawful p u = moves_here phase past old new (Finished reply) lawful p u
+  step_in : (phase : Phase) (past : Past) (old new : Whole C N) (step : Step) → IsLawfulWhole old → (p : WholeStep old new seat step) → UnderwayIn phase past old → HasLedTo (past_and past (done_in old new seat step p)) new × OutcomeIn (asked_in phase) step (past_and past (done_in old new seat step p)) new
+  step_in phase past old new step lawful (inl p) u = absurd (busy_in phase past old u p.2.0 p.2.1)
+  step_in phase past old new step lawful (inr p) u = let led = whole_led past old new seat step lawful (u.lock.led, u.led) p in (led.2, moves_here past old new step lawful phase p u led.1 led.2)
 
-  step_here : (asked : Asked C) (past : Past) (old new : Whole C N) (step : Step) → IsLawfulWhole old → (p : WholeStep old new seat step) → UnderwayAs asked past old → LedToOutcome asked step (past_and past (done_in old new seat step p)) new
-  step_here asked past old new step lawful p u = subst (λ a. LedToOutcome a step (past_and past (done_in old new seat step p)) new) u.1 (step_in u.0 past old new step lawful p u.2)
-
-  -- nothing at all
-  rests_in : (phase : Phase) (past : Past) (world : Whole C N) → UnderwayIn phase past world → UnderwayIn phase (past_and past nothing_done) world
-  rests_in phase past world u = record {
-    setup = u.setup;
-    since = begins_on earlier.objects past.objects [] u.since;
-    led = subst (λ es. HaveLedTo es world) (sym (append-nil past.objects)) u.led;
-    lock = stays_underway C N before.lock earlier.notes seat (Looks phase) (lock_of phase) past.notes world.lock u.lock;
-    objects = objects_rest phase past nothing_done world world refl refl (no_own past.objects) u.objects;
-  }
-
-  -- and one of another
-  step_there : (phase : Phase) (past : Past) (old new : Whole C N) (other : ℕ) (step : Step) → other ≢ seat → IsLawfulWhole old → (p : WholeStep old new other step) → UnderwayIn phase past old → UnderwayIn phase (past_and past (done_in old new other step p)) new
-  step_there phase past old new other Nothing ne lawful p u = rests_in phase past new (subst (UnderwayIn phase past) (sym p.0) u)
-  step_there phase past old new other Went ne lawful p u = moves_there phase past old new other ne lawful u Went p
-  step_there phase past old new other Idle ne lawful p u = moves_there phase past old new other ne lawful u Idle p
-  step_there phase past old new other (Finished reply) ne lawful p u = moves_there phase past old new other ne lawful u (Finished reply) p
+  step_here : (asked : Asked C) (past : Past) (old new : Whole C N) (step : Step) → IsLawfulWhole old → (p : WholeStep old new seat step) → UnderwayAs asked past old → HasLedTo (past_and past (done_in old new seat step p)) new × OutcomeIn asked step (past_and past (done_in old new seat step p)) new
+  step_here asked past old new step lawful p u = let on = step_in u.0 past old new step lawful p u.2 in (on.0, subst (λ a. OutcomeIn a step (past_and past (done_in old new seat step p)) new) u.1 on.1)
 
   step_by_itself : (asked : Asked C) (past : Past) (old new : Whole C N) (who : ℕ) (step : Step) → who ≡ seat → IsLawfulWhole old → (p : WholeStep old new who step) → IsUnfinished step → UnderwayAs asked past old → UnderwayAs asked (past_and past (done_in old new who step p)) new
   step_by_itself asked past old new who step same lawful p goes u =
@@ -882,9 +840,9 @@ module _ (C : Type 0) (N : ℕ) (before : Whole C N) (earlier : Past) (seat : �
         let s = begun.1.starts in
         let idle : IsIdle old.lock who = record { view = s.view; at = s.at; idle = s.idle; unasked = s.unasked } in
         absurd (busy_in u.0 past old u.2 (subst (IsIdle old.lock) e idle) (subst (λ n. walk_in old.objects.walks n ≡ None) e begun.1.elsewhere))
-    by_whom who (inl begun) (inr ne) = (u.0, u.1, starts_away u.0 past old new who ne lawful u.2 begun.0 h.lawful begun.1)
+    by_whom who (inl begun) (inr ne) = (u.0, u.1, starts_there old new who ne u.0 past lawful u.2 begun.0 h.lawful begun.1)
     by_whom who (inr stepped) (inl e) = step_by_itself asked past old new who stepped.0 e lawful stepped.1 (stepped.2 e) u
-    by_whom who (inr stepped) (inr ne) = (u.0, u.1, step_there u.0 past old new who stepped.0 ne lawful stepped.1 u.2)
+    by_whom who (inr stepped) (inr ne) = (u.0, u.1, step_there old new who ne u.0 past lawful u.2 stepped.0 stepped.1)
 
   past_assoc : (past one two : Past) → past_and (past_and past one) two ≡ past_and past (past_and one two)
   past_assoc past one two = λ i. record { notes = append_assoc past.notes one.notes two.notes i; objects = append_assoc past.objects one.objects two.objects i }

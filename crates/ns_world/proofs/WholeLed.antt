@@ -2,8 +2,8 @@
 use Rattle.std.proofs.Common.{◌≡◌, ℕ, List, [], ◌++◌, Bool, true, false, cond, ◌<◌, length, Option, None, Some, is_some, arith, refl, sym, subst, inl, inr}
 use Rattle.std.proofs.lemmas.List.{append-nil, length-set}
 use Rattle.std.proofs.lemmas.Option.{slice_get_within}
-use Rattle.ns_world.specs.Prelude.{objects_state, AnyWait, AreEnvBy, AreLedTo, AreObjectsBy, AreThere, BeginsToWait, Call, EndsLook, EnvPlain, Finished, FirstClock, HasLedTo, HasOperated, HaveLedTo, Idle, InRound, IsLawfulWhole, LedTo, LockSteps, Nothing, Now, ObjectEvent, ObjectWalk, Objects}
-use Rattle.ns_world.specs.Prelude.{Operates, Past, StandsBy, Step, WaitSteps, WaitsOnLock, Walk, Went, Whole, WholeMoves, WholeStarts, WholeStep, done_in, env_done, got_of, looks_at, notes_done, nothing_done, object_start, objects_after, objects_done, past_and, round_due, shown_by, stood_at}
+use Rattle.ns_world.specs.Prelude.{objects_state, AnyWait, AreEnvBy, AreLedTo, AreObjectsBy, AreThere, BeginsToWait, Call, EndsLook, EnvPlain, FirstClock, HasLedTo, HasOperated, HaveLedTo, Idle, InRound, IsLawfulWhole, LedTo, LockSteps, Now, ObjectEvent, ObjectWalk, Objects}
+use Rattle.ns_world.specs.Prelude.{Operates, Past, StandsBy, Step, WaitSteps, WaitsOnLock, Walk, Whole, WholeMoves, WholeStarts, WholeStep, done_in, env_done, got_of, looks_at, notes_done, nothing_done, object_start, objects_after, objects_done, past_and, round_due, shown_by, stood_at}
 use Rattle.ns_world.specs.Prelude.{waited_after, walk_after, walk_in, want_of}
 use Rattle.ns_world.proofs.EnvGrows.{moves_led}
 use Rattle.ns_world.proofs.Wholes.{begun_led, led_stood, moves_make}
@@ -103,10 +103,8 @@ module _ {C : Type 0} {N : ℕ} (past : Past) (old new : Whole C N) (seat : ℕ)
 -- what has led to a world, and the events of a step, which are its seat's, lead to the world after it
 pub steps_led : {C : Type 0} {N : ℕ} (past : Past) (old new : Whole C N) (seat : ℕ) (step : Step) → IsLawfulWhole old → HasLedTo past old → (p : WholeStep old new seat step) →
     AreEnvBy seat (done_in old new seat step p).notes × AreObjectsBy seat (done_in old new seat step p).objects × HasLedTo (past_and past (done_in old new seat step p)) new
-steps_led past old new seat Nothing lawful led p = (tt, tt, no_more past new (subst (HasLedTo past) (sym p.0) led))
-steps_led past old new seat Went lawful led p = whole_led past old new seat Went lawful led p
-steps_led past old new seat Idle lawful led p = whole_led past old new seat Idle lawful led p
-steps_led past old new seat (Finished reply) lawful led p = whole_led past old new seat (Finished reply) lawful led p
+steps_led past old new seat step lawful led (inl p) = (tt, tt, no_more past new (subst (HasLedTo past) (sym p.1) led))
+steps_led past old new seat step lawful led (inr p) = whole_led past old new seat step lawful led p
 
 -- and when a call has begun
 pub starts_led : {C : Type 0} {N : ℕ} (history : List ObjectEvent) (old new : Whole C N) (seat : ℕ) (call : Call C) → IsLawfulWhole old → IsLawfulWhole new → WholeStarts old new seat call → HaveLedTo history old → HaveLedTo history new

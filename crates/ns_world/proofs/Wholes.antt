@@ -3,10 +3,10 @@ use Rattle.std.proofs.Common.{◌≡◌, ◌≢◌, ℕ, ◌<◌, ◌≤◌, tru
 use Rattle.std.proofs.lemmas.Bool.{cases_eq}
 use Rattle.std.proofs.lemmas.List.{length-replicate, length-set}
 use Rattle.std.proofs.lemmas.Option.{slice_get_within}
-use Rattle.ns_world.specs.Prelude.{objects_state, Act, Add, Advance, AnyWait, AreLedTo, AreThere, Ask, BeginAnswers, Begun, Broadcast, Busy, Call, CallFits, CounterWait, CvWait, Done, EnvNext, EnvPlain, Expiry, Fault, Finished, Found, Get, Goes, HasOperated, Held, Idle, InRound, IsIdle}
-use Rattle.ns_world.specs.Prelude.{IsLawfulWhole, IsLawfulWorld, IsNotified, Lock, LookGoes, LooksWhere, Meets, Misuse, Mode, Moves, NewNote, NoSuchSeat, NoteStanding, NoteWait, Nothing, Notify, Now, ObjectEvent, ObjectFound, ObjectNext, ObjectStanding, ObjectWalk, Objects, OnCondition, OnEntry}
+use Rattle.ns_world.specs.Prelude.{objects_state, Act, Add, Advance, AnyWait, AreLedTo, AreThere, Ask, BeginAnswers, Begun, Broadcast, Busy, Call, CallFits, CounterWait, CvWait, Done, EnvNext, EnvPlain, Expiry, Fault, Found, Get, Goes, HasOperated, Held, InRound, IsIdle}
+use Rattle.ns_world.specs.Prelude.{IsLawfulWhole, IsLawfulWorld, IsNotified, Lock, LookGoes, LooksWhere, Meets, Misuse, Mode, Moves, NewNote, NoSuchSeat, NoteStanding, NoteWait, Notify, Now, ObjectEvent, ObjectFound, ObjectNext, ObjectStanding, ObjectWalk, Objects, OnCondition, OnEntry}
 use Rattle.ns_world.specs.Prelude.{OnLock, OnObjects, Once, Operates, OutOfMemory, Over, RLock, RUnlock, Repeat, Round, SeatView, Set, Setup, Signal, StandsAlone, StandsBy, Start, Started, Starts, Step, StepFault, StepFits, StepLimit, StepOf, ToRelease, TooManySeats, Truths, TryLock, TryRLock}
-use Rattle.ns_world.specs.Prelude.{Unlock, UnlockQuiet, Value, Wait, WaitAny, Walk, WalkFits, Went, Whole, WholeBegins, WholeFault, WholeIsBusy, WholeStarts, WholeStep, asks_for_any, begun_at, env_got_of, env_want_of, fresh_whole, got_of, is_alone, is_for_lock, items_of, mode_of, mode_waited}
+use Rattle.ns_world.specs.Prelude.{Unlock, UnlockQuiet, Value, Wait, WaitAny, Walk, WalkFits, Whole, WholeBegins, WholeFault, WholeIsBusy, WholeStarts, WholeStep, asks_for_any, begun_at, env_got_of, env_want_of, fresh_whole, got_of, is_alone, is_for_lock, items_of, mode_of, mode_waited}
 use Rattle.ns_world.specs.Prelude.{most, object_after, object_asked, object_got, object_start, object_step_of, objects_after, objects_begun, put_at, start_of, stood_at, wait_in, walk_after, walk_in, want_of, whole}
 use Rattle.ns_counters.proofs.NewObjects.{new_lawful}
 use Rattle.ns_env.proofs.Asks.{if_made_stays, set_here, set_there}
@@ -467,26 +467,15 @@ module _ {C : Type 0} {N : ℕ} where
           objects_lawful = kept;
         })
 
-  -- a step of a call on counters and once cells is none of nothing
-  pub operated_step : (old new : Whole C N) (seat : ℕ) (step : Step) → Operates old new seat step → WholeStep old new seat step
-  operated_step old new seat Nothing p = absurd (nothing (object_got p.walk p.operated.found) p.operated.answers) where
-    nothing : (next : ObjectNext) → Nothing ≡ object_step_of next → ⊥
-    nothing (Go walk) e = absurd (cc)
-    nothing (Repeat walk) e = absurd (cc)
-    nothing (Over reply) e = absurd (cc)
-  operated_step old new seat other p = inr (inl p)
-
   -- a step by the lock, of a seat that is in no call on counters and once cells
   pub lock_step : (old : Whole C N) (new : Now C N) (seat : ℕ) (step : Step) → walk_in old.objects.walks seat ≡ None → wait_in old.objects.waits seat ≡ None → StepOf old.lock new seat step → WholeStep old (whole new old.objects) seat step
-  lock_step old new seat Nothing elsewhere waits_not p = (ap (λ (world : Now C N). whole world old.objects) p.0, (p.1, elsewhere))
-  lock_step old new seat other elsewhere waits_not p = inl (record { moves = p; same = refl; elsewhere = elsewhere; waits_not = waits_not })
+  lock_step old new seat step elsewhere waits_not (inl p) = inl (p.0, ap (λ (world : Now C N). whole world old.objects) p.1, (p.2, elsewhere))
+  lock_step old new seat step elsewhere waits_not (inr p) = inr (inl (record { moves = p; same = refl; elsewhere = elsewhere; waits_not = waits_not }))
 
   -- and it keeps the law
   pub lock_step_keeps : (old : Whole C N) (new : Now C N) (seat : ℕ) (step : Step) → IsLawfulWhole old → walk_in old.objects.walks seat ≡ None → wait_in old.objects.waits seat ≡ None → IsLawfulWorld new → StepOf old.lock new seat step → IsLawfulWhole (whole new old.objects)
-  lock_step_keeps old new seat Nothing lawful elsewhere waits_not now_lawful p = subst (λ (world : Now C N). IsLawfulWhole (whole world old.objects)) (sym p.0) lawful
-  lock_step_keeps old new seat Went lawful elsewhere waits_not now_lawful p = whole_moved old new seat Went lawful p now_lawful elsewhere waits_not
-  lock_step_keeps old new seat Idle lawful elsewhere waits_not now_lawful p = whole_moved old new seat Idle lawful p now_lawful elsewhere waits_not
-  lock_step_keeps old new seat (Finished reply) lawful elsewhere waits_not now_lawful p = whole_moved old new seat (Finished reply) lawful p now_lawful elsewhere waits_not
+  lock_step_keeps old new seat step lawful elsewhere waits_not now_lawful (inl p) = subst (λ (world : Now C N). IsLawfulWhole (whole world old.objects)) (sym p.1) lawful
+  lock_step_keeps old new seat step lawful elsewhere waits_not now_lawful (inr p) = whole_moved old new seat step lawful p now_lawful elsewhere waits_not
 
   -- a refused step leaves the world as it was
   pub same_keeps : (old : Whole C N) (new : Now C N) → IsLawfulWhole old → new ≡ old.lock → IsLawfulWhole (whole new old.objects)

@@ -3,11 +3,9 @@ use Rattle.std.proofs.Common.{false, ◌≡◌, ℕ, suc, inl, inr, ◌<◌, ◌
 use Rattle.std.proofs.lemmas.Option.{slice_get-get_or}
 use Rattle.std.proofs.lemmas.Bool.{cases_eq}
 use Rattle.std.proofs.lemmas.List.{append-nil, set-get_or, length-set, length-map}
-use Rattle.ns_world.specs.Prelude.{ActFits, Acts, Ask, Asks, AsksFor, Cause, Effect, EnvActFits, EnvBegins, EnvEffect, EnvEvent, EnvMoves, EnvNext, EnvPlain, EnvStep, EnvWalk, Environment, Event, Finished, Found, Go, Goes, Idle, IfMade, IsFirst, IsFirstAsk, IsLawfulEnv, IsLawfulWorld, IsSettled}
-use Rattle.ns_world.specs.Prelude.{Lists, LockState, LookFits, LookGoes, LookOver, LookStep, Looks, MayShow, Moves, MovesFrom, Next, NoteStanding, NotesMade, Nothing, Now, ObjectWalk, On, OnLock, OnObjects, Performs, PlaceFits, QuietKeeps, Seat, SeatLooks, SeatView, Sees, StandRight, Start, Step}
-use Rattle.ns_world.specs.Prelude.{StepOf, Truths, Walk, Went, Word, env_got_of, env_state, env_step_of, env_walk_after, env_want_of, got_of, look_of, looks_at, note_in, now_with, outcome, placed, plain_of, seat_part, step_of, tests_after, view_of, waits_among, walk_after, want_of}
-use Rattle.ns_word.specs.declared.walk.Next.TheVariants.{Done}
-use Rattle.ns_env.specs.declared.walk.EnvNext.TheVariants.{Repeat, Over}
+use Rattle.ns_world.specs.Prelude.{ActFits, Acts, Ask, Asks, AsksFor, Cause, Effect, EnvActFits, EnvBegins, EnvEffect, EnvEvent, EnvMoves, EnvNext, EnvPlain, EnvStep, EnvWalk, Environment, Event, Found, Go, Goes, IfMade, IsFirst, IsFirstAsk, IsLawfulEnv, IsLawfulWorld, IsSettled}
+use Rattle.ns_world.specs.Prelude.{Lists, LockState, LookFits, LookGoes, LookOver, LookStep, Looks, MayShow, Moves, MovesFrom, NoteStanding, NotesMade, Now, ObjectWalk, OnLock, OnObjects, Performs, PlaceFits, QuietKeeps, Seat, SeatLooks, SeatView, Sees, StandRight, Start, Step}
+use Rattle.ns_world.specs.Prelude.{Truths, Walk, Went, Word, env_got_of, env_state, env_walk_after, env_want_of, got_of, look_of, looks_at, note_in, now_with, outcome, placed, plain_of, seat_part, tests_after, view_of, waits_among, walk_after, want_of}
 use Rattle.ns_word.specs.Lawful.{IsLawful}
 use Rattle.ns_word.proofs.Acts.{act_fits, view_fits}
 use Rattle.ns_word.proofs.Dispatch.{keeps}
@@ -20,38 +18,11 @@ use Rattle.ns_world.proofs.Looking.{FirstIf, LookLeads, first_if, look_leads, lo
 use Rattle.ns_world.proofs.Mapped.{got-map, map-set, index-map}
 use Rattle.ns_word.proofs.Numbers.{number_at, numbers_stay, split_at, step_at, begin_at, set_same, set_again}
 use Rattle.ns_world.proofs.Places.{StartFits, fits_more}
-use Rattle.ns_word.specs.declared.walk.Next.TheVariants as TheNext
 use Rattle.ns_word.specs.declared.act.Found.TheVariants as TheFound
 
 -- two reads of one element
 pub same_element : {X : Type 0} (xs : List X) (i : ℕ) (x y : X) → i < length xs → x ≡ get_or xs i x → y ≡ get_or xs i y → x ≡ y
 same_element xs i x y within p q = cc (slice_get-get_or xs i x within, slice_get-get_or xs i y within)
-
-pub some_step : {C : Type 0} (next : Next C) → Nothing ≡ step_of next → ⊥
-some_step (On walk) e = absurd (cc)
-some_step (TheNext.Idle walk) e = absurd (cc)
-some_step (Done reply) e = absurd (cc)
-
-some_ask : (next : EnvNext) → Nothing ≡ env_step_of next → ⊥
-some_ask (Go walk) e = absurd (cc)
-some_ask (Repeat walk) e = absurd (cc)
-some_ask (Over reply) e = absurd (cc)
-some_ask (LookOver cause) e = absurd (cc)
-
-some_look : {C : Type 0} {N : ℕ} (next : EnvNext) (old new : Now C N) (seat : ℕ) → LookGoes next old new seat Nothing → ⊥
-some_look (Go walk) old new seat p = absurd (cc (p.1))
-some_look {C} {N} (LookOver cause) old new seat p = some_step (got_of N p.0.makes.walk p.0.found) p.0.answers
-some_look (Repeat walk) old new seat p = p
-some_look (Over reply) old new seat p = p
-
--- a step that was made is one of those that a step can be
-pub told : {C : Type 0} {N : ℕ} (old new : Now C N) (seat : ℕ) (step : Step) → Moves old new seat step → StepOf old new seat step
-told {C} {N} old new seat Nothing (inl p) = absurd (some_step (got_of N p.goes.makes.walk p.goes.found) p.goes.answers)
-told old new seat Nothing (inr (inl p)) = absurd (some_ask (env_got_of p.makes.walk p.found) p.answers)
-told {C} {N} old new seat Nothing (inr (inr p)) = absurd (some_look (env_got_of p.place p.found) old new seat p.goes)
-told old new seat Went p = p
-told old new seat Idle p = p
-told old new seat (Finished reply) p = p
 
 -- ---- where seats stand on the clock and the notes
 

@@ -8,7 +8,7 @@ use Rattle.ns_world.specs.Calls.{mode_of, mode_waited}
 use Rattle.ns_world.specs.Among.{waits_for_any}
 use Rattle.ns_world.specs.Names.{AreAmong, is_among, item_at, items_of, AnyAnswers, IsReady, ObjectMeans, past_and}
 use Rattle.ns_world.specs.Replies.{told, env_told, object_told}
-use Rattle.ns_world.specs.Whole.{Whole, HaveLedTo, IsLawfulWhole, WholeBegins, WholeStep, notes_by, objects_by}
+use Rattle.ns_world.specs.Whole.{Whole, HaveLedTo, IsLawfulWhole, WholeBegins, WholeStep, notes_done, objects_done}
 use Rattle.ns_world.specs.World.{Now, LedTo}
 use Rattle.ns_env.specs.declared.request.EnvRequest.TheVariants as TheEnvRequest
 use Rattle.ns_word.specs.declared.request.Request.TheVariants as TheRequest
@@ -145,13 +145,14 @@ AnswersCall before earlier seat call reply after later = AnswersTo before earlie
 abbrev pub HasLedTo : {C : Type 0} {N : ℕ} → Past → Whole C N → Type 0
 HasLedTo past world = LedTo past.notes world.lock × HaveLedTo past.objects world
 
--- what a seat's step is to the clock and the notes, and to the counters and once cells
-abbrev pub done_in : {C : Type 0} {N : ℕ} (old new : Whole C N) (seat : ℕ) (step : Step) → WholeStep old new seat step → Past
-done_in old new seat step p = record { notes = notes_by old new seat step p; objects = objects_by old new seat step p }
-
 -- nothing at all
 abbrev pub nothing_done : Past
 nothing_done = record { notes = []; objects = [] }
+
+-- what a seat's step is to the clock and the notes, and to the counters and once cells
+abbrev pub done_in : {C : Type 0} {N : ℕ} (old new : Whole C N) (seat : ℕ) (step : Step) → WholeStep old new seat step → Past
+done_in old new seat step (inl rests) = nothing_done
+done_in old new seat step (inr moves) = record { notes = notes_done moves; objects = objects_done moves }
 
 -- the step finished no call
 abbrev pub IsUnfinished : Step → Type 0

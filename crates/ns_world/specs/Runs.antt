@@ -1,9 +1,9 @@
 -- A run of a schedule, turn by turn.
-use Rattle.std.specs.Prelude.{◌≡◌, ◌≢◌, ℕ, ◌+◌, ◌<◌, ◌≤◌, ◌⊎◌, Bool, true, false, not, ◌==◌, if◌then◌else◌, List, [], ◌∷◌, ◌++◌, Option, Some, None, slice_get, slice_index, slice_set, length, replicate, unwrap_or, All}
+use Rattle.std.specs.Prelude.{◌≡◌, ℕ, ◌+◌, ◌<◌, ◌≤◌, ◌⊎◌, Bool, true, false, not, ◌==◌, if◌then◌else◌, List, [], ◌∷◌, ◌++◌, Option, Some, None, slice_get, slice_index, slice_set, length, replicate, unwrap_or, All}
 use Rattle.std.specs.List.{flat_map}
 use Rattle.ns_world.specs.Names.{Call, Fault, Finished, Idle, Line, Misuse, NoSuchSeat, Nothing, OutOfMemory, Reply, Started, Step, StepLimit, TooManySeats, Turn, Went}
 use Rattle.ns_world.specs.Calls.{CallInRange}
-use Rattle.ns_world.specs.Whole.{Whole, WholeIsIdle, WholeIsBusy, WholeStep, WholeBegins, WholeCommits, whole_busy}
+use Rattle.ns_world.specs.Whole.{Whole, WholeIsIdle, WholeIsBusy, WholeMoves, WholeBegins, WholeCommits, whole_busy}
 use Rattle.ns_world.specs.declared.reply.Reply.TheVariants as TheReply
 
 -- ---- one turn
@@ -67,8 +67,7 @@ pub record MakesTurn {C : Type 0} {N : ℕ} (lists : List (List (Call C))) (p : 
   pub begun : Whole C N
   pub leads : GoesOnOrBegins lists p seat begun
   pub world : Whole C N
-  pub steps : WholeStep begun world seat step
-  pub goes : step ≢ Nothing
+  pub moves : WholeMoves begun world seat step
   pub after : q ≡ progressed p seat step world
 
 -- the need of the seat's next call isn't met: the call is over at once, with no step

@@ -1,7 +1,7 @@
 -- A world as a contract sees it: the lock with its row, the clock and the notes, and beside them counters and once cells; and a seat's step in it.
 use Rattle.std.specs.Prelude.{◌≡◌, ℕ, ◌⊎◌, Bool, true, false, not, ◌||◌, ◌<◌, ◌≤◌, List, [], Option, Some, None, IsSome, is_some, length, slice_get}
 use Rattle.std.proofs.Common.{inl, inr}
-use Rattle.ns_world.specs.Names.{Act, AnyWait, Begun, Busy, Call, Cvs, EnvEvent, Environment, Event, Every, Fault, Finished, Held, Idle, InRound, Lists, Looked, Misuse, Mode, NoSuchSeat, Nothing, ObjectEvent, ObjectWalk, Objects, OnLock, OutOfMemory, Round, RoundPlace, Seat, SeatView, Started}
+use Rattle.ns_world.specs.Names.{Act, AnyWait, Begun, Busy, Call, Cvs, EnvEvent, Environment, Event, Every, Fault, Held, Idle, InRound, Lists, Looked, Misuse, Mode, NoSuchSeat, Nothing, ObjectEvent, ObjectWalk, Objects, OnLock, OutOfMemory, Round, RoundPlace, Seat, SeatView, Started}
 use Rattle.ns_world.specs.Names.{Step, StepLimit, TooManySeats, Truths, Walk, Went, Word, asked_of, got_of, object_who, wait_first, walk_after, want_of}
 use Rattle.ns_world.specs.Among.{asks_for_any, cause_of, is_for_lock, shown_by, step_told, waited_after, waits_for_any}
 use Rattle.ns_world.specs.Begins.{Starts, Misuses, begun_at}
@@ -193,12 +193,9 @@ Awaits old new seat step = BeginsToWait old new seat step ⊎ (EndsLook old new 
 abbrev pub WholeMoves : {C : Type 0} {N : ℕ} → Whole C N → Whole C N → ℕ → Step → Type 0
 WholeMoves old new seat step = LockSteps old new seat step ⊎ (Operates old new seat step ⊎ Awaits old new seat step)
 
--- what the answer says of a seat's step
+-- A seat with no call in progress makes no step, and another makes one, which answers something else.
 abbrev pub WholeStep : {C : Type 0} {N : ℕ} → Whole C N → Whole C N → ℕ → Step → Type 0
-WholeStep old new seat Nothing = (new ≡ old) × WholeIsIdle old seat
-WholeStep old new seat Went = WholeMoves old new seat Went
-WholeStep old new seat Idle = WholeMoves old new seat Idle
-WholeStep old new seat (Finished reply) = WholeMoves old new seat (Finished reply)
+WholeStep old new seat step = ((step ≡ Nothing) × (new ≡ old) × WholeIsIdle old seat) ⊎ WholeMoves old new seat step
 
 -- the events that a seat's step is on the clock and the notes
 abbrev pub notes_done : {C : Type 0} {N : ℕ} {old new : Whole C N} {seat : ℕ} {step : Step} → WholeMoves old new seat step → List EnvEvent
@@ -212,19 +209,6 @@ objects_done (inr (inl p)) = p.operated.events
 objects_done (inr (inr (inl p))) = p.operated.events
 objects_done (inr (inr (inr (inl p)))) = p.operated.events
 objects_done (inr (inr (inr (inr p)))) = []
-
--- both, of a step that may be none
-abbrev pub notes_by : {C : Type 0} {N : ℕ} (old new : Whole C N) (seat : ℕ) (step : Step) → WholeStep old new seat step → List EnvEvent
-notes_by old new seat Nothing p = []
-notes_by old new seat Went p = notes_done p
-notes_by old new seat Idle p = notes_done p
-notes_by old new seat (Finished reply) p = notes_done p
-
-abbrev pub objects_by : {C : Type 0} {N : ℕ} (old new : Whole C N) (seat : ℕ) (step : Step) → WholeStep old new seat step → List ObjectEvent
-objects_by old new seat Nothing p = []
-objects_by old new seat Went p = objects_done p
-objects_by old new seat Idle p = objects_done p
-objects_by old new seat (Finished reply) p = objects_done p
 
 -- all these events of the counters and once cells are the seat's
 abbrev pub AreObjectsBy : ℕ → List ObjectEvent → Type 0

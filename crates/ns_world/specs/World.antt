@@ -2,7 +2,7 @@
 use Rattle.std.specs.Prelude.{◌≡◌, ℕ, ◌⊎◌, Bool, false, ◌||◌, ◌<◌, ◌≤◌, ◌++◌, List, [], map, replicate, Option, Some, None, is_some, slice_get, slice_set, slice_index, length}
 use Rattle.std.specs.Option.{option_map_or}
 use Rattle.std.proofs.Common.{inl, inr}
-use Rattle.ns_world.specs.Names.{AreNumbered, EnvEffect, EnvEvent, EnvFound, EnvNext, EnvPlain, EnvStep, EnvWalk, Environment, Event, Every, Fault, Finished, Found, Go, Idle, IfMade, IsLawfulEnv, Lists, LockState, LookOver, Looked, NoSuchSeat, NoteStanding, Nothing, OutOfMemory, Seat, SeatView}
+use Rattle.ns_world.specs.Names.{AreNumbered, EnvEffect, EnvEvent, EnvFound, EnvNext, EnvPlain, EnvStep, EnvWalk, Environment, Event, Every, Fault, Found, Go, IfMade, IsLawfulEnv, Lists, LockState, LookOver, Looked, NoSuchSeat, NoteStanding, Nothing, OutOfMemory, Seat, SeatView}
 use Rattle.ns_world.specs.Names.{Step, StepLimit, Steps, TooManySeats, Truths, Walk, Went, Word, env_got_of, env_want_of, env_who, fresh_plain, fresh_state, got_of, walk_after, want_of}
 use Rattle.ns_word.specs.Lawful.{IsLawful}
 use Rattle.ns_world.specs.Asks.{plain_of, env_state, env_step_of}
@@ -186,12 +186,9 @@ LooksNot {C} {N} world seat = (view : SeatView C N) (walk : Walk C) → slice_ge
 abbrev pub Moves : {C : Type 0} {N : ℕ} → Now C N → Now C N → ℕ → Step → Type 0
 Moves old new seat step = Acts old new seat step ⊎ (Asks old new seat step ⊎ Looks old new seat step)
 
--- what the answer says of a seat's step
+-- a seat with no call in progress makes no step, and another makes one
 abbrev pub StepOf : {C : Type 0} {N : ℕ} → Now C N → Now C N → ℕ → Step → Type 0
-StepOf old new seat Nothing = (new ≡ old) × IsIdle old seat
-StepOf old new seat Went = Moves old new seat Went
-StepOf old new seat Idle = Moves old new seat Idle
-StepOf old new seat (Finished reply) = Moves old new seat (Finished reply)
+StepOf old new seat step = ((step ≡ Nothing) × (new ≡ old) × IsIdle old seat) ⊎ Moves old new seat step
 
 -- the events that a seat's step is on the clock and the notes
 abbrev pub env_done : {C : Type 0} {N : ℕ} {old new : Now C N} {seat : ℕ} {step : Step} → Moves old new seat step → List EnvEvent

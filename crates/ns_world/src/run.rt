@@ -139,9 +139,7 @@ fn next_turn<C: Seated<N>, const N: usize>(
             Some(call) => turn(world, Some(call), seat),
             None => Ok(Step::Nothing),
         },
-        Step::Went => Ok(Step::Went),
-        Step::Idle => Ok(Step::Idle),
-        Step::Finished(reply) => Ok(Step::Finished(reply)),
+        step => Ok(step),
     }
 }
 

@@ -1,10 +1,10 @@
-use Rattle.std.proofs.Common.{◌≡◌, ◌<◌, ◌≤◌, ◌∙◌, Some, length, arith, refl, inl, ap, subst}
+use Rattle.std.proofs.Common.{◌≡◌, ◌<◌, ◌≤◌, ◌∙◌, Some, length, arith, refl, inl, inr, ap, subst}
 use Rattle.std.proofs.lemmas.List.{set-get_or}
 use Rattle.ns_world.specs.Prelude.{Commits, view_of, want_of, word_of}
 use Rattle.ns_word.proofs.Codes.{decoded}
 use Rattle.ns_word.proofs.Seen.{packable}
 use Rattle.ns_world.proofs.Mapped.{got-map}
-use Rattle.ns_world.proofs.Worlds.{act_here, ask_here, asks_for, number_here, acts_here, moved_here, asks_unasked, unasked_cleared, past_views, lawful_after, same_element, told}
+use Rattle.ns_world.proofs.Worlds.{act_here, ask_here, asks_for, number_here, acts_here, moved_here, asks_unasked, unasked_cleared, past_views, lawful_after, same_element}
 use Rattle.ns_world.proofs.step.step_at.Goals as goal
 
 pub returns-then-at-len-clause-err : goal.returns-then-at-len-clause-err
@@ -37,8 +37,7 @@ returns-in-Some-clause-ok g c =
     let within : c.args.number < length c.args.seats.now.items = omega arith in
     let same = same_element c.args.seats.now.items c.args.number c.index.result.now seat within c.index.ensures c.index_mut.ensures.value in
     let stands = rw (same, c.index_mut.ensures.value) at c.in-Some.is in
-    told _ _ c.args.number c.step_env.result
-    (moved_here g.C.Condition.means g.met.C.Condition.has_cells.0 g.met.C.Condition.quiet_keeps (word_of c.args.word.now) c.args.row.now c.args.queues.now c.args.flags.now c.args.env.now c.args.seats.now.items c.args.history.now.items c.requires.lawful c.args.number seat within c.in-Some.place stands c.step_env.new.env c.step_env.new.seat c.step_env.result (rw (← c.index_mut.ensures.value) c.step_env.ensures)).0
+    inr (moved_here g.C.Condition.means g.met.C.Condition.has_cells.0 g.met.C.Condition.quiet_keeps (word_of c.args.word.now) c.args.row.now c.args.queues.now c.args.flags.now c.args.env.now c.args.seats.now.items c.args.history.now.items c.requires.lawful c.args.number seat within c.in-Some.place stands c.step_env.new.env c.step_env.new.seat c.step_env.result (rw (← c.index_mut.ensures.value) c.step_env.ensures)).0
 
 pub unpacked-found-requires : goal.unpacked-found-requires
 unpacked-found-requires g c = packable _ _ _ _ c.requires.lawful.few c.requires.lawful.lawful
@@ -57,7 +56,8 @@ perform-requires g c =
 pub returns-in_default-walk-clause-ok : goal.returns-in_default-walk-clause-ok
 returns-in_default-walk-clause-ok g c =
     let within : c.args.number < length c.args.seats.now.items = omega arith in
-    let same = same_element c.args.seats.now.items c.args.number c.index.result.now c.index-2.result.now within c.index.ensures c.index-2.ensures in (
+    let same = same_element c.args.seats.now.items c.args.number c.index.result.now c.index-2.result.now within c.index.ensures c.index-2.ensures in inl (
+      refl,
       refl,
       record {
         view = view_of c.index-2.result.now;
@@ -73,7 +73,7 @@ returns-in-Ok-clause-ok g c =
     let within : c.args.number < length c.args.seats.now.items = omega arith in
     let same = same_element c.args.seats.now.items c.args.number c.index-2.result.now seat within c.index-2.ensures c.index_mut-2.ensures.value in
     let unasked = rw (same_element c.args.seats.now.items c.args.number c.index.result.now seat within c.index.ensures c.index_mut-2.ensures.value, c.index_mut-2.ensures.value) at c.in_default.is in
-    rw (c.encode.ensures, decoded c.perform.new.word) (told _ _ c.args.number c.in-Ok.step (inl (
+    rw (c.encode.ensures, decoded c.perform.new.word) (inr (inl (
     acts_here g.C.Condition.means g.met.C.Condition.has_cells.0 g.met.C.Condition.quiet_keeps (word_of c.args.word.now) c.args.row.now c.args.queues.now c.args.flags.now c.args.env.now c.args.seats.now.items c.args.history.now.items c.requires.lawful c.args.number seat within c.in-Some-walk.walk (rw (same, c.index_mut-2.ensures.value) at c.in-Some-walk.is) c.perform.new.word c.perform.new.row c.perform.new.queues c.perform.new.flags c.perform.new.seat c.perform.new.history.items c.in-Ok.step
     (rw (← c.index_mut-2.ensures.value, ← c.unpacked-found.ensures) c.in-Ok.ensures.ok)
     unasked

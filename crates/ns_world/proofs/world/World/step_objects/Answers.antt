@@ -1,7 +1,7 @@
-use Rattle.std.proofs.Common.{arith, false, ap, sym, ◌∙◌}
+use Rattle.std.proofs.Common.{arith, false, ap, inl, inr, sym, ◌∙◌}
 use Rattle.ns_world.specs.Prelude.{Objects, wait_in, whole_with, word_of}
 use Rattle.ns_world.proofs.Tells.{as_it_was, can_tell, few_here, seat_within, told_here}
-use Rattle.ns_world.proofs.Wholes.{may_operate, stands_low, operates, whole_operated, operated_step}
+use Rattle.ns_world.proofs.Wholes.{may_operate, stands_low, operates, whole_operated}
 use Rattle.ns_world.proofs.world.World.step_objects.Goals as goal
 
 pub operate-told-requires-clause-seat : goal.operate-told-requires-clause-seat
@@ -28,8 +28,8 @@ returns-then-not-is_for_lock-clause-lawful g c =
 pub returns-then-not-is_for_lock-clause-ok : goal.returns-then-not-is_for_lock-clause-ok
 returns-then-not-is_for_lock-clause-ok g c =
     let stands = rw (← c.self.view_is) at c.requires in
-    rw (← c.self.view_is) (operated_step _ _ c.args.seat c.operate-told.result (operates (whole_with g.C.Condition.means (word_of c.self.inside.word) c.self.inside.row c.self.inside.queues c.self.inside.flags c.self.inside.env c.self.inside.seats.items c.self.inside.history.items c.self.inside.objects) c.self.invariant c.args.seat c.args.walk stands c.operate-told.new.objects c.operate-told.result
-    (as_it_was _ c.args.seat c.args.walk c.self.inside.objects c.operate-told.new.objects c.operate-told.result c.wait-wait.result false c.operate-told.ensures c.wait-wait.ensures (sym c.is_for_lock.ensures ∙ c.if-not-is_for_lock.true)) c.operate-told.ensures))
+    rw (← c.self.view_is) (inr (inr (inl (operates (whole_with g.C.Condition.means (word_of c.self.inside.word) c.self.inside.row c.self.inside.queues c.self.inside.flags c.self.inside.env c.self.inside.seats.items c.self.inside.history.items c.self.inside.objects) c.self.invariant c.args.seat c.args.walk stands c.operate-told.new.objects c.operate-told.result
+    (as_it_was _ c.args.seat c.args.walk c.self.inside.objects c.operate-told.new.objects c.operate-told.result c.wait-wait.result false c.operate-told.ensures c.wait-wait.ensures (sym c.is_for_lock.ensures ∙ c.if-not-is_for_lock.true)) c.operate-told.ensures))))
 
 pub index_mut-requires : goal.index_mut-requires
 index_mut-requires g c =
