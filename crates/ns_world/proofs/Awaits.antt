@@ -1,7 +1,7 @@
 -- A wait for condition variables among notes and counters keeps the law of a whole world, by each of its steps that concern the lock: it begins to wait there, a round tells it what it has shown, or it makes a step of its own.
 use Rattle.std.proofs.Common.{◌≡◌, ◌≢◌, ℕ, suc, ◌<◌, List, ◌++◌, Bool, true, false, cond, Option, None, Some, IsSome, is_some, length, take, drop, slice_get, slice_set, refl, ap, sym, ◌∙◌, subst, arith, inl}
 use Rattle.std.proofs.lemmas.List.{append-nil, length-set}
-use Rattle.std.proofs.lemmas.Option.{slice_get_within}
+use Rattle.std.proofs.lemmas.Option.{same_Some, slice_get_within}
 use Rattle.ns_world.specs.Prelude.{Act, Acts, AnyWait, AreAmong, AreThere, Await, BeginsToWait, EndsLook, EnvPlain, FirstClock, Found, HasLedTo, HasOperated, HaveLedTo, Idle, InRound, IsLawfulWhole, IsLawfulWorld, Limits, LooksWhere, Now, ObjectEvent, ObjectWalk, Objects, OnLock, Past, PlaceFits}
 use Rattle.ns_world.specs.Prelude.{Round, SeatView, Setup, StandsBy, Step, WaitSteps, WaitsOnLock, Walk, Whole, asked_of, asks_for_any, cause_of, got_of, is_alone, items_of, look_of, looks_at, mode_of, mode_waited, object_after, object_got, round_due, shown_by, stood_at, wait_first, wait_in}
 use Rattle.ns_world.specs.Prelude.{waited_after, waits_for_any, walk_after, walk_in, want_of}
@@ -170,8 +170,7 @@ module _ {C : Type 0} {N : ℕ} (old new : Whole C N) (seat : ℕ) (lawful : IsL
 
       pub same_walk : acts.goes.makes.walk ≡ there_as.walk
       same_walk =
-          let views : Some acts.goes.view ≡ Some there_as.view = sym acts.goes.at ∙ there_as.at in
-          let view_is : acts.goes.view ≡ there_as.view = cc in
+          let view_is : acts.goes.view ≡ there_as.view = same_Some _ _ (sym acts.goes.at ∙ there_as.at) in
           let walks : Some acts.goes.makes.walk ≡ Some there_as.walk = sym acts.goes.makes.walks ∙ ap (λ (v : SeatView C N). v.walk) view_is ∙ there_as.walks in cc
 
       pub next_at : slice_get new.lock.state.views seat ≡ Some next
@@ -197,7 +196,8 @@ module _ {C : Type 0} {N : ℕ} (old new : Whole C N) (seat : ℕ) (lawful : IsL
         asked = asked_still walk is;
         among = subst (λ (r : Round). AreAmong there_as.cvs (items_of r.items)) (sym same) there_as.among;
         unasked = unasked_still walk is;
-        there = subst (λ (r : Round). AreThere new.objects.setup new.lock.env.notes r.items) (sym same) (subst (λ (s : Setup). AreThere s new.lock.env.notes wait.round.items) (sym setup) (subst (λ (e : EnvPlain). AreThere old.objects.setup e.notes wait.round.items) (sym acts.goes.env) there_as.there));
+        there = subst (λ (r : Round). AreThere new.objects.setup new.lock.env.notes r.items) (sym same) (subst (λ (s : Setup). AreThere s new.lock.env.notes wait.round.items) (sym setup) (subst (λ (e : EnvPlain). AreThere old.objects.setup e.notes wait.round.items) (sym
+            acts.goes.env) there_as.there));
         looks = subst (λ (r : Round). LooksWhere r (walk_in new.objects.walks seat) (want_of walk)) (sym same) (subst (λ w. LooksWhere wait.round w (want_of walk)) (sym stands) looks);
       }
 
@@ -252,7 +252,8 @@ module _ {C : Type 0} {N : ℕ} (old new : Whole C N) (seat : ℕ) (lawful : IsL
       by : (walk : Option (Walk C)) → after p.wait p.waits p.told p.acts ≡ walk → IsLawfulWhole new
       by None is =
           let nowhere = stands_here low old.objects.words old.objects.walks None None lawful.places (λ other ne. refl) (becomes_as None is) in
-          let alone : IsAlone new.lock seat = λ view at. let same : Some (next p.wait p.waits p.told p.acts) ≡ Some view = sym (next_at p.wait p.waits p.told p.acts) ∙ at in let is_view : next p.wait p.waits p.told p.acts ≡ view = cc in subst (λ (v : SeatView C N). is_alone v.walk ≡ true) is_view (ap is_alone is) in
+          let alone : IsAlone new.lock seat = λ view at. let same : Some (next p.wait p.waits p.told p.acts) ≡ Some view = sym (next_at p.wait p.waits p.told p.acts)
+          ∙ at in let is_view : next p.wait p.waits p.told p.acts ≡ view = cc in subst (λ (v : SeatView C N). is_alone v.walk ≡ true) is_view (ap is_alone is) in
           stood_lawful low old.objects.words old.objects.walks None None lawful.places (λ other ne. refl) (becomes_as None is) now_lawful (views_same p.wait p.waits p.told p.acts) p.acts.goes.env (rests_so p.wait p.waits p.told p.acts) lawful.events still
           (stands_nowhere new seat nowhere alone)
       by (Some walk) is =

@@ -1,17 +1,11 @@
--- Which seats are busy, after one more seat or another in its place.
-use Rattle.std.proofs.Common.{◌≡◌, ◌≢◌, ℕ, zero, suc, ◌<◌, Bool, true, false, eqb, ◌&&◌, ◌||◌, List, [], ◌∷◌, ◌++◌, Option, Some, None, is_some, length, slice_set, slice_get, refl, ap, sym, ◌∙◌, arith, eq-eqb, inl, inr, ◌+◌, map, take, get_or, length-take}
-use Rattle.std.proofs.lemmas.Bool.{cases_eq, ne_eqb}
-use Rattle.std.proofs.lemmas.List.{take_more, map-append, length-map}
+-- Which seats are busy, after another in the place of one, and one after another.
+use Rattle.std.proofs.Common.{◌≤◌, ◌≡◌, ◌≢◌, ℕ, zero, suc, ◌<◌, Bool, true, false, eqb, ◌||◌, List, [], ◌∷◌, Option, Some, None, is_some, length, slice_set, slice_get, refl, ap, sym, ◌∙◌, arith, eq-eqb, inl, inr, ◌+◌, map, get_or}
+use Rattle.std.proofs.lemmas.Bool.{cases_eq, cases_lt, ne_eqb}
+use Rattle.std.proofs.lemmas.List.{length-map}
+use Rattle.std.proofs.lemmas.Option.{slice_get_past}
 use Rattle.std.specs.Option.{option_map_or}
-use Rattle.ns_world.specs.Prelude.{EnvWalk, Seat, SeatView, is_asking, is_busy, is_walking, view_of}
-
-and_false : (b : Bool) → (b && false) ≡ false
-and_false true = refl
-and_false false = refl
-
-and_true : (b : Bool) → (b && true) ≡ b
-and_true true = refl
-and_true false = refl
+use Rattle.ns_world.specs.Prelude.{EnvWalk, ObjectWalk, Seat, SeatView, is_asking, is_busy, is_walking, view_of, walk_in}
+use Rattle.ns_world.proofs.Mapped.{got-map}
 
 or_false : (b : Bool) → (b || false) ≡ b
 or_false true = refl
@@ -21,20 +15,11 @@ pub or_true : (b : Bool) → (b || true) ≡ true
 or_true true = refl
 or_true false = refl
 
-eqb_suc : (a b : ℕ) → eqb (suc a) (suc b) ≡ eqb a b
-eqb_suc a b = elim (cases_eq a b) [ inl e ↦ eq-eqb (suc a) (suc b) (ap suc e) ∙ sym (eq-eqb a b e) | inr ne ↦ ne_eqb (suc a) (suc b) (λ e. ne (omega (arith, e))) ∙ sym (ne_eqb a b ne) ]
-
 -- ---- a bit of each element of a list
 
 module _ {A : Type 0} (f : A → Bool) where
   abbrev bit : List A → ℕ → Bool
   bit xs i = option_map_or f (slice_get xs i) false
-
-  bit_push : (xs : List A) (x : A) (i : ℕ) → bit (xs ++ x ∷ []) i ≡ (bit xs i || (f x && eqb i (length xs)))
-  bit_push [] x zero = sym (and_true (f x))
-  bit_push [] x (suc i) = rw (ne_eqb (suc i) 0 (λ e. absurd (omega (arith, e)))) (sym (and_false (f x)))
-  bit_push (y ∷ xs) x zero = rw (ne_eqb 0 (suc (length xs)) (λ e. absurd (omega (arith, e))), and_false (f x), or_false (f y)) refl
-  bit_push (y ∷ xs) x (suc i) = rw (eqb_suc i (length xs)) (bit_push xs x i)
 
   bit_set_same : (xs : List A) (i : ℕ) (x : A) → i < length xs → bit (slice_set xs i x) i ≡ f x
   bit_set_same [] i x within = absurd (omega (arith, within))
@@ -69,16 +54,6 @@ asking_at askings seat walk e = bit_at is_some askings seat walk e
 
 -- ---- both
 
--- one more seat, which is busy with the one or the other
-joins : (a b w k e : Bool) → ((a || (w && e)) || (b || (k && e))) ≡ ((a || b) || ((w || k) && e))
-joins true b w k e = refl
-joins false true true k true = refl
-joins false false true k true = refl
-joins false true true k false = refl
-joins false false true true false = refl
-joins false false true false false = refl
-joins false b false k e = refl
-
 module _ {C : Type 0} {N : ℕ} where
   pub walking_set_same : (views : List (SeatView C N)) (i : ℕ) (view : SeatView C N) → i < length views → is_walking (slice_set views i view) i ≡ is_some view.walk
   walking_set_same views i view within = bit_set_same (λ v. is_some v.walk) views i view within
@@ -93,32 +68,46 @@ module _ {C : Type 0} {N : ℕ} where
   pub both : (views : List (SeatView C N)) (askings : List (Option EnvWalk)) (seat : ℕ) (w k : Bool) → is_walking views seat ≡ w → is_asking askings seat ≡ k → is_busy views askings seat ≡ (w || k)
   both views askings seat w k p q = ap (λ b. b || is_asking askings seat) p ∙ ap (λ b. w || b) q
 
-  pub busy_push : (views : List (SeatView C N)) (askings : List (Option EnvWalk)) (view : SeatView C N) (walk : Option EnvWalk) (seat : ℕ) → length askings ≡ length views →
-      is_busy (views ++ view ∷ []) (askings ++ walk ∷ []) seat ≡ (is_busy views askings seat || ((is_some view.walk || is_some walk) && eqb seat (length views)))
-  busy_push views askings view walk seat same =
-      ap (λ b. b || is_asking (askings ++ walk ∷ []) seat) (bit_push (λ v. is_some v.walk) views view seat)
-      ∙ ap (λ b. (is_walking views seat || (is_some view.walk && eqb seat (length views))) || b) (bit_push is_some askings walk seat ∙ ap (λ n. is_asking askings seat || (is_some walk && eqb seat n)) same)
-      ∙ joins (is_walking views seat) (is_asking askings seat) (is_some view.walk) (is_some walk) (eqb seat (length views))
+-- ---- the seats, one after another
 
-module _ {C : Type 0} {N : ℕ} (seats : List (Seat C N)) (i : ℕ) (seat : Seat C N) (number : ℕ) (within : i < length seats) (is : seat ≡ get_or seats i seat) where
-  -- who is busy among the first seats and the next
-  busy_more : is_busy (map view_of (take (i + 1) seats)) (map (λ s. s.asking) (take (i + 1) seats)) number
-      ≡ (is_busy (map view_of (take i seats)) (map (λ s. s.asking) (take i seats)) number || ((is_some seat.walk || is_some seat.asking) && eqb number i))
-  busy_more =
-      let front : length (map view_of (take i seats)) ≡ i = length-map (take i seats) view_of ∙ simp length-take (omega (arith, within)) in
-      let same : length (map (λ s. s.asking) (take i seats)) ≡ length (map view_of (take i seats)) = length-map (take i seats) (λ s. s.asking) ∙ sym (length-map (take i seats) view_of) in
-      ap (λ xs. is_busy (map view_of xs) (map (λ s. s.asking) xs) number) (take_more seats i seat within ∙ ap (λ s. take i seats ++ s ∷ []) (sym is))
-      ∙ ap (λ views. is_busy views (map (λ s. s.asking) (take i seats ++ seat ∷ [])) number) (map-append view_of (take i seats) (seat ∷ []))
-      ∙ ap (λ askings. is_busy (map view_of (take i seats) ++ view_of seat ∷ []) askings number) (map-append (λ s. s.asking) (take i seats) (seat ∷ []))
-      ∙ busy_push (map view_of (take i seats)) (map (λ s. s.asking) (take i seats)) (view_of seat) seat.asking number same
-      ∙ ap (λ n. is_busy (map view_of (take i seats)) (map (λ s. s.asking) (take i seats)) number || ((is_some seat.walk || is_some seat.asking) && eqb number n)) front
+-- these bits are so of the first, and none is of the others
+abbrev pub AreFirst : (ℕ → Bool) → ℕ → (ℕ → Bool) → Type 0
+AreFirst so i bits = (n : ℕ) → (n < i → bits n ≡ so n) × (i ≤ n → bits n ≡ false)
 
-  pub busy_with : (before : Bool) → before ≡ is_busy (map view_of (take i seats)) (map (λ s. s.asking) (take i seats)) number → (is_some seat.walk || is_some seat.asking) ≡ true →
-      (before || eqb number i) ≡ is_busy (map view_of (take (i + 1) seats)) (map (λ s. s.asking) (take (i + 1) seats)) number
-  busy_with before same busy = ap (λ b. b || eqb number i) same ∙ ap (λ b. is_busy (map view_of (take i seats)) (map (λ s. s.asking) (take i seats)) number || (b && eqb number i)) (sym busy) ∙ sym busy_more
+pub first_with : (so bits more : ℕ → Bool) (i : ℕ) → ((n : ℕ) → more n ≡ (bits n || eqb n i)) → so i ≡ true → AreFirst so i bits → AreFirst so (i + 1) more
+first_with so bits more i is here first n = elim (cases_eq n i) [
+  | inl e ↦ (λ below. is n ∙ ap (λ b. bits n || b) (eq-eqb n i e) ∙ or_true (bits n) ∙ sym (ap so e ∙ here), λ past. absurd (omega (arith, e, past)))
+  | inr ne ↦
+      let same : more n ≡ bits n = is n ∙ ap (λ b. bits n || b) (ne_eqb n i ne) ∙ or_false (bits n) in
+      (λ below. same ∙ (first n).0 (omega (arith, ne, below)), λ past. same ∙ (first n).1 (omega (arith, past)))
+]
 
-  pub busy_without : (before : Bool) → before ≡ is_busy (map view_of (take i seats)) (map (λ s. s.asking) (take i seats)) number → (is_some seat.walk || is_some seat.asking) ≡ false →
-      before ≡ is_busy (map view_of (take (i + 1) seats)) (map (λ s. s.asking) (take (i + 1) seats)) number
-  busy_without before same idle =
-      same ∙ sym (or_false (is_busy (map view_of (take i seats)) (map (λ s. s.asking) (take i seats)) number))
-      ∙ ap (λ b. is_busy (map view_of (take i seats)) (map (λ s. s.asking) (take i seats)) number || (b && eqb number i)) (sym idle) ∙ sym busy_more
+pub first_without : (so bits : ℕ → Bool) (i : ℕ) → so i ≡ false → AreFirst so i bits → AreFirst so (i + 1) bits
+first_without so bits i here first n = elim (cases_eq n i) [
+  | inl e ↦ (λ below. (first n).1 (omega (arith, e)) ∙ sym (ap so e ∙ here), λ past. absurd (omega (arith, e, past)))
+  | inr ne ↦ (λ below. (first n).0 (omega (arith, ne, below)), λ past. (first n).1 (omega (arith, past)))
+]
+
+pub first_all : (so bits : ℕ → Bool) (i m n : ℕ) → m ≤ i → AreFirst so i bits → (m ≤ n → so n ≡ false) → bits n ≡ so n
+first_all so bits i m n all first none = elim (cases_lt n i) [ inl below ↦ (first n).0 below | inr past ↦ (first n).1 past ∙ sym (none (omega (arith, all, past))) ]
+
+-- a seat is in a call
+module _ {C : Type 0} {N : ℕ} (seats : List (Seat C N)) (walks : List (Option ObjectWalk)) where
+  abbrev pub in_call : ℕ → Bool
+  in_call n = is_busy (map view_of seats) (map (λ s. s.asking) seats) n || is_some (walk_in walks n)
+
+  pub in_call_here : (i : ℕ) (seat : Seat C N) → i < length seats → seat ≡ get_or seats i seat → in_call i ≡ ((is_some seat.walk || is_some seat.asking) || is_some (walk_in walks i))
+  in_call_here i seat within is =
+      let views = walking_at (map view_of seats) i (view_of seat) (got-map view_of seats i seat within ∙ ap (λ s. Some (view_of s)) (sym is)) in
+      let asks = asking_at (map (λ s. s.asking) seats) i seat.asking (got-map (λ s. s.asking) seats i seat within ∙ ap (λ (s : Seat C N). Some s.asking) (sym is)) in
+      ap (λ b. b || is_some (walk_in walks i)) (both (map view_of seats) (map (λ s. s.asking) seats) i (is_some seat.walk) (is_some seat.asking) views asks)
+
+  -- who is no seat is in none
+  pub in_no_call : ((n : ℕ) (walk : ObjectWalk) → walk_in walks n ≡ Some walk → n < length seats) → (n : ℕ) → length seats ≤ n → in_call n ≡ false
+  in_no_call there n past = by (walk_in walks n) refl where
+    by : (walk : Option ObjectWalk) → walk_in walks n ≡ walk → in_call n ≡ false
+    by None is =
+        let views = ap (λ o. option_map_or (λ (v : SeatView C N). is_some v.walk) o false) (slice_get_past (map view_of seats) n (omega (arith, past, length-map seats view_of))) in
+        let asks = ap (λ o. option_map_or (λ (w : Option EnvWalk). is_some w) o false) (slice_get_past (map (λ s. s.asking) seats) n (omega (arith, past, length-map seats (λ s. s.asking)))) in
+        (λ i. both (map view_of seats) (map (λ s. s.asking) seats) n false false views asks i || is_some (is i))
+    by (Some walk) is = let below = there n walk is in absurd (omega (arith, below, past))

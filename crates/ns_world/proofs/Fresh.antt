@@ -1,4 +1,5 @@
 -- A new world's seats, one after another.
+use Rattle.std.proofs.lemmas.Option.{same_Some}
 use Rattle.std.proofs.Common.{◌≡◌, ℕ, zero, suc, ◌+◌, ◌-◌, ◌<◌, List, [], ◌∷◌, ◌++◌, None, Some, slice_get, subst, map, replicate, refl, sym, ap, ◌∙◌, arith, sub-one, get_or, length, ◌≤◌}
 use Rattle.std.proofs.lemmas.List.{map-append, append_assoc}
 use Rattle.ns_world.specs.Prelude.{AreNumbered, AsksFor, IfMade, IsLawfulWorld, NoteStanding, Seat, SeatView, Truths, flag_at, fresh, fresh_views, no_note, note_at, note_in, standing_of, state_of, view_of}
@@ -59,8 +60,7 @@ module _ (C : Type 0) (N : ℕ) where
   no_walk first zero seat view at = absurd (cc)
   no_walk first (suc n) zero view at =
       let fresh_view : SeatView C N = record { seat = first; walk = None; held = None; owed = [] } in
-      let same : Some fresh_view ≡ Some view = at in
-      let is : fresh_view ≡ view = cc in
+      let is : fresh_view ≡ view = same_Some _ _ (at) in
       sym (ap (λ (v : SeatView C N). v.walk) is)
   no_walk first (suc n) (suc seat) view at = no_walk (first + 1) n seat view at
 

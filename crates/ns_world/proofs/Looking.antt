@@ -1,4 +1,5 @@
 -- The looks of a wait, over plain data: where a wait goes that looks, and what it needs of the notes.
+use Rattle.std.proofs.lemmas.Option.{same_Some}
 use Rattle.std.proofs.Common.{◌≡◌, ℕ, Bool, true, false, cond, List, [], Option, None, Some, IsSome, refl, ap, sym, ◌∙◌, subst}
 use Rattle.ns_world.specs.Prelude.{Act, AsksFor, Cause, ClockLoad, Effect, EnvEffect, EnvEvent, EnvFound, EnvNext, EnvPlain, EnvWalk, Expired, ForLook, Found, Go, IfMade, IsFirstAsk, Limits, Look, LookFits, LookOver, Looked, MayShow, NoteLoad, NoteStanding, Part, Truths, Walk, came_back}
 use Rattle.ns_world.specs.Prelude.{env_got_of, env_want_of, got_of, held_after, is_due, is_over, look_of, look_place, looks_at, note_asked, note_in, outcome, passed, stopped, up_to, waits_among, walk_after, want_of}
@@ -100,5 +101,5 @@ look_leads limits place fits seat old new found events e = subst (λ (f : EnvFou
 -- what it shows is a step of the wait
 pub shown_effect : {C : Type 0} {N : ℕ} (truths : Truths C) (seat : ℕ) (act : Act C) (limits : Limits) (cause : Option Cause) (part : Part C N) → looks_at act ≡ Some limits → MayShow limits cause →
     Effect truths seat act part (Looked cause) (record part { held = held_after (came_back act) cause part.held }) []
-shown_effect truths seat (Look by again) limits cause part e may = let same : Some by ≡ Some limits = e in let is : by ≡ limits = cc in (subst (λ l. MayShow l cause) (sym is) may, refl, refl)
+shown_effect truths seat (Look by again) limits cause part e may = let is : by ≡ limits = same_Some _ _ (e) in (subst (λ l. MayShow l cause) (sym is) may, refl, refl)
 shown_effect truths seat act limits cause part e may = absurd (cc)

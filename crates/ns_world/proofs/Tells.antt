@@ -3,20 +3,22 @@ use Rattle.std.specs.List.{list_all}
 use Rattle.std.proofs.Common.{◌≡◌, ℕ, ◌<◌, ◌≤◌, not, Bool, true, false, List, [], ◌∷◌, Option, None, Some, IsSome, length, map, get_or, slice_get, slice_set, refl, ap, sym, ◌∙◌, subst, arith, inl, inr}
 use Rattle.std.proofs.lemmas.Bool.{ltb-true}
 use Rattle.std.proofs.lemmas.List.{append-nil, length-map}
-use Rattle.std.proofs.lemmas.Option.{slice_get_within}
-use Rattle.ns_world.specs.Prelude.{Acts, Any, AnyWait, AreVariables, AsksFor, Await, BeginsToWait, CanTell, Cvs, Effect, EndsLook, EnvPlain, Environment, Event, Every, HasOperated, HasTold, Held, Idle, InRound, InWait, IsFew, IsLawfulWhole, IsLawfulWorld, IsLow, IsSettled, Item, Lists}
-use Rattle.ns_world.specs.Prelude.{Looked, LooksNot, LooksWhere, MayShow, MayWait, MayWaitOnLock, Mode, Moves, NoteStanding, Now, ObjectStanding, ObjectWalk, Objects, OnCounter, OnLock, OnNote, OnVariable, Performs, QuietKeeps, Seat, SeatView, Sees, Setup, StandsAlone, StandsBy}
-use Rattle.ns_world.specs.Prelude.{Step, StepOf, Truths, WaitSteps, WaitsOnLock, Walk, WalkFits, Whole, WholeStep, Word, asked_of, asks_for_any, at_will, cause_of, is_alone, is_for_lock, is_there, items_of, looks_at, mode_of, mode_waited, now_with, objects_after}
+use Rattle.std.proofs.lemmas.Option.{same_Some}
+use Rattle.ns_world.specs.Prelude.{Call, CallFits, CallInRange, Commits, EnvMoves, EnvWalk, Misuses, OutOfMemory, Start, WholeFault, WholeIsIdle, WholeStarts, object_start, objects_begun, placed, start_of}
+use Rattle.ns_world.specs.Prelude.{Acts, Any, AnyWait, AreVariables, Await, BeginsToWait, CanTell, Cvs, Effect, EndsLook, EnvPlain, Environment, Event, Every, HasOperated, HasTold, Held, Idle, InRound, InWait, IsFew, IsLawfulWhole, IsLawfulWorld, IsLow, IsSettled, Item, Lists}
+use Rattle.ns_world.specs.Prelude.{Looked, LooksWhere, MayShow, MayWait, MayWaitOnLock, Mode, NoteStanding, Now, ObjectStanding, ObjectWalk, Objects, OnCounter, OnLock, OnNote, OnVariable, Performs, QuietKeeps, Seat, SeatView, Sees, Setup, StandsAlone, StandsBy}
+use Rattle.ns_world.specs.Prelude.{Step, Truths, WaitSteps, WaitsOnLock, Walk, WalkFits, Whole, WholeStep, Word, asked_of, asks_for_any, at_will, cause_of, is_alone, is_for_lock, is_there, items_of, looks_at, mode_of, mode_waited, now_with, objects_after}
 use Rattle.ns_world.specs.Prelude.{plain_of, seat_part, shown_by, step_told, view_of, wait_first, wait_in, waited_after, waits_among, waits_for_any, walk_in, want_of, whole, whole_with}
 use Rattle.ns_word.specs.declared.wait.Wait.{Wait}
 use Rattle.ns_world.proofs.AnyLooks.{LooksOut}
-use Rattle.ns_world.proofs.Awaits.{begins_to_wait_keeps, ends_look_keeps, next, next_at, out, there_as, wait_steps_keeps}
-use Rattle.ns_world.proofs.Turns.{moves_stay}
+use Rattle.ns_world.proofs.Awaits.{begins_to_wait_keeps, ends_look_keeps, next as view_after, next_at, out, there_as, wait_steps_keeps}
+use Rattle.ns_world.proofs.Wholes.{whole_begun, whole_moved, whole_starts}
 use Rattle.ns_world.proofs.Looking.{shown_effect}
-use Rattle.ns_world.proofs.Mapped.{got-map}
-use Rattle.ns_world.proofs.Placed.{begun_here}
-use Rattle.ns_world.proofs.Places.{StartFits}
-use Rattle.ns_world.proofs.Worlds.{acts_found, acts_here, lawful_after, lawful_placed, settled_here, unasked_cleared}
+use Rattle.ns_world.proofs.Mapped.{got-map, map-set}
+use Rattle.ns_env.proofs.Asks.{set_here}
+use Rattle.ns_world.proofs.Placed.{begun_here, starts_here}
+use Rattle.ns_world.proofs.Places.{StartFits, start_fits}
+use Rattle.ns_world.proofs.Worlds.{acts_found, acts_here, inside_here, lawful_after, lawful_placed, moved_here, number_here, settled_here, unasked_cleared}
 use Rattle.ns_counters.proofs.Listed.{first_of_all, rest_of_all}
 
 -- of several objects there are at most 16
@@ -61,16 +63,21 @@ section_fits truths notes cvs (Some section) some there settled =
     let may : MayWait truths (waits_for_any section.mode cvs) false section = record { mode = refl; unmet = there; settled = λ e. settled; back = λ e. absurd (cc) } in
     ((refl, tt), ((may, tt), tt), tt, refl)
 
--- who has a view is a seat
-pub of_views : {C : Type 0} {N : ℕ} (seats : List (Seat C N)) (i : ℕ) → i < length (map view_of seats) → i < length seats
-of_views seats i low = omega (arith, low, length-map seats view_of)
+among_asks : {C : Type 0} (walk : Walk C) → asks_for_any (asked_of walk) ≡ false → waits_among walk ≡ false
+among_asks (InWait wait place) e = e
+among_asks walk e = refl
+
+if_not : (b : Bool) → not b ≡ true → b ≡ false
+if_not false e = refl
+if_not true e = absurd (cc)
 
 -- a seat in a call on the objects is one of those that there are
 pub seat_within : {C : Type 0} {N : ℕ} (truths : Truths C) (word : Word) (row : List ℕ) (queues : Lists C) (flags : List ℕ) (env : Environment) (seats : List (Seat C N)) (history : List (Event C N)) (objects : Objects) →
     IsLawfulWhole (whole_with truths word row queues flags env seats history objects) → (i : ℕ) (walk : ObjectWalk) → walk_in objects.walks i ≡ Some walk → i < length seats
 seat_within truths word row queues flags env seats history objects lawful i walk stands = let low = lawful.objects_lawful.within i walk stands in let is = lawful.seats in omega (arith, low, is, length-map seats view_of)
 
-module _ {C : Type 0} {N : ℕ} (truths : Truths C) (some : 0 < N) (quiet : QuietKeeps N truths) (word : Word) (row : List ℕ) (queues : Lists C) (flags : List ℕ) (env : Environment) (seats : List (Seat C N)) (history : List (Event C N)) (objects : Objects) (lawful : IsLawfulWhole (whole_with truths word row queues flags env seats history objects)) (i : ℕ) (d : Seat C N) (within : i < length seats) where
+module _ {C : Type 0} {N : ℕ} (truths : Truths C) (some : 0 < N) (quiet : QuietKeeps N truths) (word : Word) (row : List ℕ) (queues : Lists C) (flags : List ℕ) (env : Environment) (seats : List (Seat C N)) (history : List (Event C N)) (objects : Objects) (lawful : IsLawfulWhole
+    (whole_with truths word row queues flags env seats history objects)) (i : ℕ) (d : Seat C N) (within : i < length seats) where
   abbrev old : Whole C N
   old = whole_with truths word row queues flags env seats history objects
 
@@ -124,7 +131,8 @@ module _ {C : Type 0} {N : ℕ} (truths : Truths C) (some : 0 < N) (quiet : Quie
 
   -- ---- its look is over
 
-  module _ (wait : AnyWait) (waits : wait_in objects.waits i ≡ Some wait) (walk : ObjectWalk) (stands : walk_in objects.walks i ≡ Some walk) (shown : Option ℕ) (place : Walk C) (at : (get_or seats i d).walk ≡ Some place) (next : Seat C N) (step : Step) (sees : Sees (get_or seats i d) place (cause_of shown) next step) where
+  module _ (wait : AnyWait) (waits : wait_in objects.waits i ≡ Some wait) (walk : ObjectWalk) (stands : walk_in objects.walks i ≡ Some walk) (shown : Option ℕ) (place : Walk C) (at : (get_or seats i d).walk ≡ Some place) (next : Seat C N) (step : Step) (sees : Sees (get_or seats i d)
+      place (cause_of shown) next step) where
     same_place : (waits_as wait waits).walk ≡ place
     same_place = let same : Some (waits_as wait waits).walk ≡ Some place = sym (walk_as wait waits) ∙ at in cc
 
@@ -156,7 +164,8 @@ module _ {C : Type 0} {N : ℕ} (truths : Truths C) (some : 0 < N) (quiet : Quie
     )
 
     sees_lawful : IsLawfulWorld (now_with truths word row queues flags env (slice_set seats i next) history)
-    sees_lawful = lawful_after truths some quiet word row queues flags env seats history lawful.lock i d within place at word row queues flags next history step sees_performs lawful.lock.events (unasked_cleared truths some quiet word row queues flags env seats history lawful.lock i d within (unasked_as wait waits))
+    sees_lawful = lawful_after truths some quiet word row queues flags env seats history lawful.lock i d within place at word row queues flags next history step sees_performs lawful.lock.events (unasked_cleared truths some quiet word row queues flags env seats history lawful.lock i d
+        within (unasked_as wait waits))
 
   -- ---- the lock was told
 
@@ -206,77 +215,92 @@ module _ {C : Type 0} {N : ℕ} (truths : Truths C) (some : 0 < N) (quiet : Quie
           )
       by None waits walk stands told q for_lock p = absurd (cc)
 
--- ---- a step on the lock
+  -- ---- a step on the lock, or on the clock and the notes, of a seat that is at no place on the objects
 
-among_asks : {C : Type 0} (walk : Walk C) → asks_for_any (asked_of walk) ≡ false → waits_among walk ≡ false
-among_asks (InWait wait place) e = e
-among_asks walk e = refl
+  module _ (nowhere : walk_in objects.walks i ≡ None) where
+    -- it doesn't look there
+    pub looks_not : (walk : Walk C) → (get_or seats i d).walk ≡ Some walk → (get_or seats i d).asking ≡ None → looks_at (want_of walk) ≡ None
+    looks_not walk walks unasked = by (wait_in objects.waits i) refl where
+      by : (wait : Option AnyWait) → wait_in objects.waits i ≡ wait → looks_at (want_of walk) ≡ None
+      by None waits =
+          let alone : is_alone (Some walk) ≡ true = ap is_alone (sym walks) ∙ (alone_as waits).alone (view_of (get_or seats i d)) view_at in
+          inside_here truths some quiet word row queues flags env seats history lawful.lock i d within walk walks unasked (among_asks walk (if_not (asks_for_any (asked_of walk)) alone))
+      by (Some wait) waits =
+          let s = waits_as wait waits in
+          let walk_is : s.walk ≡ walk = same_Some _ _ (sym (walk_as wait waits) ∙ walks) in
+          subst (λ w. looks_at (want_of w) ≡ None) walk_is (subst (λ w. LooksWhere wait.round w (want_of s.walk)) nowhere s.looks)
 
-if_not : (b : Bool) → not b ≡ true → b ≡ false
-if_not false e = refl
-if_not true e = absurd (cc)
+    pub idle_here : (get_or seats i d).walk ≡ None → (get_or seats i d).asking ≡ None → WholeIsIdle old i
+    idle_here over unasked = (record { view = view_of (get_or seats i d); at = view_at; idle = over; unasked = ask_at ∙ ap Some unasked }, nowhere)
 
--- A seat that is at no place on the objects doesn't look there.
-pub looks_not : {C : Type 0} {N : ℕ} (old : Whole C N) (seat : ℕ) → IsLawfulWhole old → walk_in old.objects.walks seat ≡ None → LooksNot old.lock seat
-looks_not {C} {N} old seat lawful nowhere view walk at walks unasked = by (wait_in old.objects.waits seat) refl (lawful.stands seat) where
-  by : (wait : Option AnyWait) → wait_in old.objects.waits seat ≡ wait → StandsBy old seat wait → looks_at (want_of walk) ≡ None
-  by None is s =
-      let alone : is_alone (Some walk) ≡ true = ap is_alone (sym walks) ∙ s.alone view at in
-      let right : AsksFor (Some walk) None = subst (λ w. AsksFor w None) walks (lawful.lock.right seat view None at unasked) in
-      right (among_asks walk (if_not (asks_for_any (asked_of walk)) alone))
-  by (Some wait) is s =
-      let views : Some s.view ≡ Some view = sym s.at ∙ at in
-      let view_is : s.view ≡ view = cc in
-      let same : Some s.walk ≡ Some walk = sym s.walks ∙ ap (λ (v : SeatView C N). v.walk) view_is ∙ walks in
-      let walk_is : s.walk ≡ walk = cc in
-      subst (λ w. looks_at (want_of w) ≡ None) walk_is (subst (λ w. LooksWhere wait.round w (want_of s.walk)) nowhere s.looks)
+    -- on the clock and the notes
+    pub asked_here : (place : EnvWalk) → (get_or seats i d).asking ≡ Some place → (env' : Environment) (next : Seat C N) (step : Step) → EnvMoves (plain_of env) (plain_of env') (get_or seats i d) place next step →
+        WholeStep old (whole_with truths word row queues flags env' (slice_set seats i next) history objects) i step × IsLawfulWhole (whole_with truths word row queues flags env' (slice_set seats i next) history objects)
+    asked_here place stands env' next step p =
+        let moved = moved_here truths some quiet word row queues flags env seats history lawful.lock i d within place stands env' next step p in
+        let waits = waits_not (wait_in objects.waits i) refl in (
+          inr (inl (record { moves = moved.0; same = refl; elsewhere = nowhere; waits_not = waits })),
+          whole_moved old (now_with truths word row queues flags env' (slice_set seats i next) history) i step lawful moved.0 moved.1 nowhere waits,
+        ) where
+          waits_not : (wait : Option AnyWait) → wait_in objects.waits i ≡ wait → wait_in objects.waits i ≡ None
+          waits_not None waits = waits
+          waits_not (Some wait) waits = let clash : None ≡ Some place = sym (unasked_as wait waits) ∙ stands in absurd (cc)
 
-module _ {C : Type 0} {N : ℕ} (old : Whole C N) (new : Now C N) (seat : ℕ) (lawful : IsLawfulWhole old) (nowhere : walk_in old.objects.walks seat ≡ None) (wait : AnyWait) (waits : wait_in old.objects.waits seat ≡ Some wait) where
-  abbrev stood : WaitsOnLock old seat wait
-  stood = there_as old old seat lawful wait waits
+    -- on the lock
+    module _ (walk : Walk C) (walks : (get_or seats i d).walk ≡ Some walk) (unasked : (get_or seats i d).asking ≡ None) (word' : Word) (row' : List ℕ) (queues' : Lists C) (flags' : List ℕ) (next : Seat C N) (history' : List (Event C N)) (told : Step)
+        (p : Performs truths (seat_part word row queues flags (get_or seats i d)) (get_or seats i d) history walk (seat_part word' row' queues' flags' next) next history' told) where
+      abbrev then : Now C N
+      then = now_with truths word' row' queues' flags' env (slice_set seats i next) history'
 
-  -- one that waits for variables among objects is a step of that wait
-  moves_act : (told : Step) → Moves old.lock new seat told → Acts old.lock new seat told
-  moves_act told (inl acts) = acts
-  moves_act told (inr (inl asks)) =
-      let views : Some asks.view ≡ Some stood.view = sym asks.at ∙ stood.at in
-      let view_is : asks.view ≡ stood.view = cc in
-      let clash : None ≡ Some stood.walk = sym asks.idle ∙ ap (λ (v : SeatView C N). v.walk) view_is ∙ stood.walks in absurd (cc)
-  moves_act told (inr (inr looks)) = let clash : Some None ≡ Some (Some looks.place) = sym stood.unasked ∙ looks.stands in absurd (cc)
+      acts : Acts old.lock then i told
+      acts = acts_here truths some quiet word row queues flags env seats history lawful.lock i d within walk walks word' row' queues' flags' next history' told p unasked
 
-  step_acts : (told : Step) → StepOf old.lock new seat told → Acts old.lock new seat told
-  step_acts told (inl p) =
-      let views : Some p.2.view ≡ Some stood.view = sym p.2.at ∙ stood.at in
-      let view_is : p.2.view ≡ stood.view = cc in
-      let clash : None ≡ Some stood.walk = sym p.2.idle ∙ ap (λ (v : SeatView C N). v.walk) view_is ∙ stood.walks in absurd (cc)
-  step_acts told (inr p) = moves_act told p
+      then_lawful : IsLawfulWorld then
+      then_lawful = lawful_after truths some quiet word row queues flags env seats history lawful.lock i d within walk walks word' row' queues' flags' next history' told p lawful.lock.events (unasked_cleared truths some quiet word row queues flags env seats history lawful.lock i d within unasked)
 
-  pub seat_there : (told : Step) → StepOf old.lock new seat told → seat < length new.state.views
-  seat_there told p = let low = slice_get_within old.lock.state.views seat stood.view stood.at in let same = moves_stay old.lock new seat told (inl (step_acts told p)) in omega (arith, low, same)
+      pub performed_here : wait_in objects.waits i ≡ None → WholeStep old (whole then objects) i told × IsLawfulWhole (whole then objects)
+      performed_here waits = (inr (inl (record { moves = inl acts; same = refl; elsewhere = nowhere; waits_not = waits })), whole_moved old then i told lawful (inl acts) then_lawful nowhere waits)
 
-  pub seat_low : seat < 64
-  seat_low = let few = lawful.lock.few in let low = slice_get_within old.lock.state.views seat stood.view stood.at in omega (arith, few, low)
+      -- of a wait for variables among objects
+      pub waited_here : (wait : AnyWait) → wait_in objects.waits i ≡ Some wait → (objects' : Objects) → objects' ≡ waited_after objects i wait next.walk → (step : Step) → step ≡ step_told wait told → WholeStep old (whole then objects') i step × IsLawfulWhole (whole then objects')
+      waited_here wait waits objects' becomes step answer =
+          let after : Whole C N = whole then objects' in
+          let at : slice_get (map view_of (slice_set seats i next)) i ≡ Some (view_of next) = ap (λ vs. slice_get vs i) (map-set view_of seats i next) ∙ set_here (map view_of seats) i (view_of next) (omega (arith, within, length-map seats view_of)) in
+          let view_is : view_after old after i lawful wait waits told acts ≡ view_of next = same_Some _ _ (sym (next_at old after i lawful wait waits told acts) ∙ at) in
+          let steps : WaitSteps old after i step = record {
+            wait = wait;
+            waits = waits;
+            elsewhere = nowhere;
+            told = told;
+            acts = acts;
+            becomes = becomes ∙ ap (λ (v : SeatView C N). waited_after objects i wait v.walk) (sym view_is);
+            answer = answer;
+          } in
+          (inr (inr (inr (inr (inr steps)))), wait_steps_keeps old after i lawful step steps then_lawful)
 
-  pub few_there : wait.round.items.count ≤ 16
-  few_there = stood.there.0
+  -- a step is refused that would commit an event
+  pub refused_here : (walk : Walk C) → (get_or seats i d).walk ≡ Some walk → Commits (get_or seats i d).number (want_of walk) word queues → WholeFault old i OutOfMemory
+  refused_here walk walks commits = (
+    record { view = view_of (get_or seats i d); at = view_at; walk = walk; walks = walks },
+    subst (λ n. Commits n (want_of walk) word queues) (number_here truths some quiet word row queues flags env seats history lawful.lock i d within) commits,
+  )
 
-  -- what it is in the world, which is lawful after it
-  pub waits_on : (told : Step) → StepOf old.lock new seat told → IsLawfulWorld new → (view : SeatView C N) → slice_get new.state.views seat ≡ Some view → (objects' : Objects) → objects' ≡ waited_after old.objects seat wait view.walk → (step : Step) → step ≡ step_told wait told →
-      WholeStep old (whole new objects') seat step × IsLawfulWhole (whole new objects')
-  waits_on told p now_lawful view at objects' becomes step answer =
-      let acts = step_acts told p in
-      let then : Whole C N = whole new objects' in
-      let views : Some (next old then seat lawful wait waits told acts) ≡ Some view = sym (next_at old then seat lawful wait waits told acts) ∙ at in
-      let view_is : next old then seat lawful wait waits told acts ≡ view = cc in
-      let steps : WaitSteps old then seat step = record {
-        wait = wait;
-        waits = waits;
-        elsewhere = nowhere;
-        told = told;
-        acts = acts;
-        becomes = becomes ∙ ap (λ (v : SeatView C N). waited_after old.objects seat wait v.walk) (sym view_is);
-        answer = answer;
-      } in (
-        inr (inr (inr (inr (inr steps)))),
-        wait_steps_keeps old then seat lawful step steps now_lawful,
-      )
+  pub few_there : (wait : AnyWait) → wait_in objects.waits i ≡ Some wait → wait.round.items.count ≤ 16
+  few_there wait waits = (waits_as wait waits).there.0
+
+  -- ---- a call begins
+
+  module _ (call : Call C) (over : (get_or seats i d).walk ≡ None) (unasked : (get_or seats i d).asking ≡ None) (nowhere : walk_in objects.walks i ≡ None) where
+    pub misused_here : (CallFits objects.setup (plain_of env).notes call (mode_of (get_or seats i d).held) → ⊥) → Misuses objects.setup old.lock i call
+    misused_here unfit = record { view = view_of (get_or seats i d); at = view_at; idle = over; unasked = ask_at ∙ ap Some unasked; unfit = unfit }
+
+    pub begins_here : (start : Start C) → CallInRange N call → start ≡ start_of N (mode_of (get_or seats i d).held) call → CallFits objects.setup (plain_of env).notes call (mode_of (get_or seats i d).held) →
+        WholeStarts old (whole (now_with truths word row queues flags env (slice_set seats i (placed (get_or seats i d) start)) history) (objects_begun objects i (object_start call))) i call
+        × IsLawfulWhole (whole (now_with truths word row queues flags env (slice_set seats i (placed (get_or seats i d) start)) history) (objects_begun objects i (object_start call)))
+    begins_here start range is fits =
+        let settled = settled_here truths some quiet word row queues flags env seats history lawful.lock i d within over in
+        let place : StartFits truths (plain_of env).notes start (get_or seats i d).held = subst (λ s. StartFits truths (plain_of env).notes s (get_or seats i d).held) (sym is) (start_fits truths (plain_of env).notes objects.setup call (get_or seats i d).held some range fits settled) in
+        let now_lawful = lawful_placed truths some quiet word row queues flags env seats history lawful.lock i d within start over unasked place in
+        let starts = starts_here truths word row queues flags env seats history i d within objects.setup call start is over unasked fits in
+        let now : Now C N = now_with truths word row queues flags env (slice_set seats i (placed (get_or seats i d) start)) history in
+        (whole_starts old lawful now i call starts now_lawful nowhere, whole_begun old lawful now i call starts now_lawful nowhere)

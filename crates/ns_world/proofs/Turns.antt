@@ -2,9 +2,9 @@
 use Rattle.std.proofs.Common.{◌≡◌, ℕ, ◌-◌, nat_lt, inl, inr, ◌≢◌, ◌||◌, Bool, true, false, cond, List, Option, None, Some, is_some, length, slice_get, refl, ap, sym, ◌∙◌, subst, arith, Result, Ok, Err}
 use Rattle.std.specs.Prelude.{IfOk, IfErr}
 use Rattle.std.proofs.lemmas.List.{length-set}
-use Rattle.std.proofs.lemmas.Option.{slice_get_within}
+use Rattle.std.proofs.lemmas.Option.{same_Some, slice_get_within}
 use Rattle.ns_world.specs.Prelude.{Add, Advance, AnyWait, Ask, Broadcast, Call, Commits, CounterWait, CvWait, Done, EnvNext, Expiry, Fault, Get, Go, GoesOnOrBegins, InCells, InRound, InWait, IsBusy, IsIdle, IsNotified, IsWalking, Limits, Lists, Lock, LookGoes, LookOver, Mode, Moves}
-use Rattle.ns_world.specs.Prelude.{NewNote, NoSuchSeat, NoteWait, Nothing, Notify, Now, ObjectWalk, OnCondition, OnEntry, OnLock, OnObjects, Once, OutOfMemory, Progress, QuietCells, QuietLast, RLock, RUnlock, SeatView, Set, Setup, Signal, Start, Starts, Step, StepFault, StepLimit, TestCells}
+use Rattle.ns_world.specs.Prelude.{NewNote, NoSuchSeat, NoteWait, Nothing, Notify, Now, ObjectWalk, OnCondition, OnEntry, OnLock, OnObjects, Once, OutOfMemory, Progress, QuietCells, QuietLast, RLock, RUnlock, SeatView, Set, Signal, Start, Step, StepLimit, TestCells}
 use Rattle.ns_world.specs.Prelude.{TestLast, ToRelease, TooManySeats, TryLock, TryRLock, TurnOf, TurnsWith, Unlock, UnlockQuiet, Value, Wait, WaitAny, Went, Whole, WholeFault, WholeIsBusy, WholeIsIdle, WholeMoves, WholeStarts, WholeStep, Word, begun_at, env_got_of, is_asking, is_busy, is_walking}
 use Rattle.ns_world.specs.Prelude.{Next, ObjectNext, On, env_step_of, got_of, object_got, object_step_of, step_of, step_told, mode_of, mode_waited, object_start, progress, progressed, start_of, walk_in, want_of, whole_busy}
 use Rattle.ns_env.specs.declared.walk.EnvNext.TheVariants.{Repeat, Over}
@@ -208,37 +208,30 @@ module _ {C : Type 0} {N : ℕ} where
   begun_steps old begun seat view (OnLock walk) at idle begins w p =
       let next : SeatView C N = record view { walk = Some walk } in
       let here : slice_get begun.state.views seat ≡ Some next = ap (λ (world : Now C N). slice_get world.state.views seat) begins ∙ set_here old.state.views seat next (slice_get_within old.state.views seat view at) in
-      let same : Some w.view ≡ Some next = sym w.at ∙ here in
-      let is : w.view ≡ next = cc in
-      let walks : Some w.walk ≡ Some walk = sym w.walks ∙ ap (λ (v : SeatView C N). v.walk) is in
-      let place : w.walk ≡ walk = cc in
+      let is : w.view ≡ next = same_Some _ _ (sym w.at ∙ here) in
+      let place : w.walk ≡ walk = same_Some _ _ (sym w.walks ∙ ap (λ (v : SeatView C N). v.walk) is) in
       subst (λ x. Commits seat (want_of x) begun.state.word begun.state.lists) place p
   begun_steps old begun seat view (Ask walk) at idle begins w p =
-      let same : Some w.view ≡ Some view = sym w.at ∙ ap (λ (world : Now C N). slice_get world.state.views seat) begins ∙ at in
-      let is : w.view ≡ view = cc in
+      let is : w.view ≡ view = same_Some _ _ (sym w.at ∙ ap (λ (world : Now C N). slice_get world.state.views seat) begins ∙ at) in
       let walks : Some w.walk ≡ None = sym w.walks ∙ ap (λ (v : SeatView C N). v.walk) is ∙ idle in
       absurd (cc)
   begun_steps old begun seat view (OnObjects walk) at idle begins w p =
-      let same : Some w.view ≡ Some view = sym w.at ∙ ap (λ (world : Now C N). slice_get world.state.views seat) begins ∙ at in
-      let is : w.view ≡ view = cc in
+      let is : w.view ≡ view = same_Some _ _ (sym w.at ∙ ap (λ (world : Now C N). slice_get world.state.views seat) begins ∙ at) in
       let walks : Some w.walk ≡ None = sym w.walks ∙ ap (λ (v : SeatView C N). v.walk) is ∙ idle in
       absurd (cc)
 
   -- a call's first step is never refused
-  lock_starts : (setup : Setup) (old begun : Now C N) (seat : ℕ) (call : Call C) (fault : Fault) → Starts setup old begun seat call → StepFault begun seat fault → ⊥
-  lock_starts setup old begun seat call OutOfMemory s p = starts_apart N (mode_of s.view.held) call seat begun.state.word begun.state.lists (begun_steps old begun seat s.view (start_of N (mode_of s.view.held) call) s.at s.idle s.begins p.0 p.1)
-  lock_starts setup old begun seat call NoSuchSeat s p =
-      let within = slice_get_within old.state.views seat s.view s.at in
-      let same : length begun.state.views ≡ length old.state.views = ap (λ (world : Now C N). length world.state.views) s.begins ∙ begun_stays old seat s.view (start_of N (mode_of s.view.held) call) in
-      absurd (omega (arith, within, same, p))
-  lock_starts setup old begun seat call TooManySeats s p = p
-  lock_starts setup old begun seat call StepLimit s p = p
-
   pub started_steps : (old begun : Whole C N) (seat : ℕ) (call : Call C) (fault : Fault) → WholeStarts old begun seat call → WholeFault begun seat fault → ⊥
-  started_steps old begun seat call OutOfMemory s p = lock_starts old.objects.setup old.lock begun.lock seat call OutOfMemory s.starts p
-  started_steps old begun seat call NoSuchSeat s p = lock_starts old.objects.setup old.lock begun.lock seat call NoSuchSeat s.starts p
-  started_steps old begun seat call TooManySeats s p = p
-  started_steps old begun seat call StepLimit s p = p
+  started_steps old begun seat call OutOfMemory p refused =
+      let s = p.starts in
+      starts_apart N (mode_of s.view.held) call seat begun.lock.state.word begun.lock.state.lists (begun_steps old.lock begun.lock seat s.view (start_of N (mode_of s.view.held) call) s.at s.idle s.begins refused.0 refused.1)
+  started_steps old begun seat call NoSuchSeat p refused =
+      let s = p.starts in
+      let within = slice_get_within old.lock.state.views seat s.view s.at in
+      let same : length begun.lock.state.views ≡ length old.lock.state.views = ap (λ (world : Now C N). length world.state.views) s.begins ∙ begun_stays old.lock seat s.view (start_of N (mode_of s.view.held) call) in
+      absurd (omega (arith, within, same, refused))
+  started_steps old begun seat call TooManySeats p refused = refused
+  started_steps old begun seat call StepLimit p refused = refused
 
   look_stays : (old new : Now C N) (seat : ℕ) (step : Step) (next : EnvNext) → LookGoes next old new seat step → length new.state.views ≡ length old.state.views
   look_stays old new seat step (Go walk) p = ap (λ (world : Now C N). length world.state.views) p.0

@@ -2,7 +2,7 @@
 use Rattle.std.specs.Prelude.{slice_get}
 use Rattle.std.proofs.Common.{◌≡◌, ◌≢◌, inl, inr, ℕ, List, [], ◌++◌, Option, None, Some, slice_set, refl, ap, sym, ◌∙◌, subst, Bool, true, false, length}
 use Rattle.std.proofs.lemmas.List.{append-nil, append_assoc}
-use Rattle.std.proofs.lemmas.Option.{slice_get_within}
+use Rattle.std.proofs.lemmas.Option.{same_Some, slice_get_within}
 use Rattle.ns_world.specs.Prelude.{Acquire, Act, Acts, Add, Advance, AnswersOfLock, AnswersOfNotes, Any, AreBy, ArmFlag, Ask, Asked, Asks, AsksFor, AtSomePoint, BeginsWith, Call, CallFits, CallGoes, Cause, ClockLoad, CounterWait, Course, CvWait, Done, Effect, EnvCourse, EnvEvent, EnvGoes}
 use Rattle.ns_world.specs.Prelude.{EnvGoesOn, EnvNext, EnvPlain, EnvRequest, EnvSoFar, EnvWalk, Event, Expiry, Finished, ForLook, Found, Go, Goes, GoesOn, Held, IfMade, InAcquire, InCells, InRelease, InShow, InSignal, InTry, InWait, IsFirst, IsFirstAsk, IsLawfulWorld, IsNotified, JudgeMet}
 use Rattle.ns_world.specs.Prelude.{JudgeQuiet, LedTo, Limits, LoadCell, LoadFlag, LoadWord, Lock, Look, LookFits, LookGoes, LookMeans, LookOver, Looked, Means, Mode, Moves, NewNote, Next, NoteLoad, NoteStanding, NoteWait, Notify, Now, OfLock, OfNotes, OfObjects, On, OnCondition, OnEntry, OnLock}
@@ -244,7 +244,8 @@ module _ (C : Type 0) (N : ℕ) (before : Now C N) (earlier : List EnvEvent) (se
   goes_there old new other step ne p = record {
     views = ap (λ vs. slice_get vs seat) p.others ∙ set_there old.state.views other seat _ (λ e. ne (sym e));
     asking = ap (λ xs. slice_get xs seat) p.asking ∙ set_there old.asking other seat _ (λ e. ne (sym e));
-    own_same = ap (λ h. own h seat) p.grows ∙ own_append seat old.history p.commits ∙ ap (λ es. own old.history seat ++ es) (own_none p.view.seat seat p.commits (λ e. ne (sym p.number ∙ e)) (step_by old.truths old.state p.view p.found new.state p.commits p.makes)) ∙ append-nil (own old.history seat);
+    own_same = ap (λ h. own h seat) p.grows ∙ own_append seat old.history p.commits ∙ ap (λ es. own old.history seat ++ es) (own_none p.view.seat seat p.commits (λ e. ne (sym p.number ∙ e)) (step_by old.truths old.state p.view p.found new.state p.commits p.makes))
+        ∙ append-nil (own old.history seat);
     means = p.means;
   }
 
@@ -284,7 +285,8 @@ module _ (C : Type 0) (N : ℕ) (before : Now C N) (earlier : List EnvEvent) (se
   still_looked truths act old found new commits looked none e = refl
 
   -- where a step of the seat leads a call on the lock, by the next place
-  module _ (request : Request C) (events : List EnvEvent) (new : Now C N) (course : Course C N) (began : course.began ≡ held_at before seat) (added : own new.history seat ≡ own before.history seat ++ course.committed) (shown : WasShown earlier events (limits_of request) course.looked) (still : env_own events seat ≡ env_own earlier seat) where
+  module _ (request : Request C) (events : List EnvEvent) (new : Now C N) (course : Course C N) (began : course.began ≡ held_at before seat) (added : own new.history seat ≡ own before.history seat ++ course.committed) (shown : WasShown earlier events (limits_of request)
+      course.looked) (still : env_own events seat ≡ env_own earlier seat) where
     goes_on : (number : ℕ) (walk : Walk C) (held : Option (Held C N)) (owed : List Owed) → GoesOn new.truths seat request course walk held → slice_get new.state.views seat ≡ Some (record { seat = number; walk = Some walk; held = held; owed = owed }) →
         slice_get new.asking seat ≡ Some (look_of (Some walk)) → LookSoFar earlier seat events (look_of (Some walk)) → LockUnderway request events new
     goes_on number walk held owed goes at asks looking = record {
@@ -327,10 +329,8 @@ module _ (C : Type 0) (N : ℕ) (before : Now C N) (earlier : List EnvEvent) (se
   lock_goes : (request : Request C) (events : List EnvEvent) (old new : Now C N) (step : Step) → IsLawfulWorld old → BeginsWith events earlier → (u : LockUnderway request events old) → (p : Goes old new seat step) →
       WasShown earlier events (limits_of request) (looked_after p.found u.course.looked) → (o : Outcome (OfLock request) step events new) × HasLooked request step events new o (looked_after p.found u.course.looked)
   lock_goes request events old new step lawful since u p shown =
-      let views : Some p.view ≡ Some u.view = sym p.at ∙ u.at in
-      let view_is : p.view ≡ u.view = cc in
-      let walks : Some p.makes.walk ≡ Some u.walk = sym p.makes.walks ∙ ap (λ v. v.walk) view_is ∙ u.walks in
-      let walk_is : p.makes.walk ≡ u.walk = cc in
+      let view_is : p.view ≡ u.view = same_Some _ _ (sym p.at ∙ u.at) in
+      let walk_is : p.makes.walk ≡ u.walk = same_Some _ _ (sym p.makes.walks ∙ ap (λ v. v.walk) view_is ∙ u.walks) in
       let at_walk : SoFar old.truths seat u.course p.makes.walk u.view.held = subst (λ w. SoFar old.truths seat u.course w u.view.held) (sym walk_is) u.so_far in
       let at_view : SoFar old.truths seat u.course p.makes.walk p.view.held = subst (λ v. SoFar old.truths seat u.course p.makes.walk v.held) (sym view_is) at_walk in
       let so_far : SoFar old.truths p.view.seat u.course p.makes.walk p.view.held = subst (λ n. SoFar old.truths n u.course p.makes.walk p.view.held) (sym p.number) at_view in
@@ -504,21 +504,16 @@ module _ (C : Type 0) (N : ℕ) (before : Now C N) (earlier : List EnvEvent) (se
   lock_moves request events old new step lawful led since u (inl p) =
       let now = lock_rests request events [] old old (same_world old) (no_more events) u in
       let same : waits_among p.goes.makes.walk ≡ false → looked_after p.goes.found u.course.looked ≡ u.course.looked = λ not. acts_show_not old new step p u.course.looked (p.is_no_look not) in
-      let views : Some p.goes.view ≡ Some u.view = sym p.goes.at ∙ u.at in
-      let view_is : p.goes.view ≡ u.view = cc in
-      let walks : Some p.goes.makes.walk ≡ Some u.walk = sym p.goes.makes.walks ∙ ap (λ v. v.walk) view_is ∙ u.walks in
-      let walk_is : p.goes.makes.walk ≡ u.walk = cc in
+      let view_is : p.goes.view ≡ u.view = same_Some _ _ (sym p.goes.at ∙ u.at) in
+      let walk_is : p.goes.makes.walk ≡ u.walk = same_Some _ _ (sym p.goes.makes.walks ∙ ap (λ v. v.walk) view_is ∙ u.walks) in
       let none : waits_among p.goes.makes.walk ≡ true → limits_of request ≡ None = λ is. ap limits_of (sym u.asked ∙ ap asked_of (sym walk_is)) ∙ among_says p.goes.makes.walk is in
       (lock_goes request (events ++ []) old new step lawful (begins_on earlier events [] since) now p.goes (shown_by (events ++ []) (waits_among p.goes.makes.walk) refl (limits_of request) u.course.looked (looked_after p.goes.found u.course.looked) same none now.shown)).0
   lock_moves request events old new step lawful led since u (inr (inl p)) =
-      let views : Some p.view ≡ Some u.view = sym p.at ∙ u.at in
-      let view_is : p.view ≡ u.view = cc in
+      let view_is : p.view ≡ u.view = same_Some _ _ (sym p.at ∙ u.at) in
       let clash : None ≡ Some u.walk = sym p.idle ∙ ap (λ v. v.walk) view_is ∙ u.walks in absurd (cc)
   lock_moves request events old new step lawful led since u (inr (inr p)) =
-      let views : Some p.view ≡ Some u.view = sym p.at ∙ u.at in
-      let view_is : p.view ≡ u.view = cc in
-      let walks : Some p.walk ≡ Some u.walk = sym p.walks ∙ ap (λ v. v.walk) view_is ∙ u.walks in
-      let walk_is : p.walk ≡ u.walk = cc in
+      let view_is : p.view ≡ u.view = same_Some _ _ (sym p.at ∙ u.at) in
+      let walk_is : p.walk ≡ u.walk = same_Some _ _ (sym p.walks ∙ ap (λ v. v.walk) view_is ∙ u.walks) in
       let asking : Some u.asking ≡ Some (Some p.place) = sym u.asks ∙ p.stands in
       let asking_is : u.asking ≡ Some p.place = cc in
       let look = subst (λ a. LookSoFar earlier seat events a) asking_is u.looking in
@@ -533,8 +528,7 @@ module _ (C : Type 0) (N : ℕ) (before : Now C N) (earlier : List EnvEvent) (se
   notes_move request events old new step lawful led u (inl p) = let clash : Some None ≡ Some (Some u.walk) = sym p.unasked ∙ u.walks in absurd (cc)
   notes_move request events old new step lawful led u (inr (inl p)) = asks_goes request events old new step lawful led u p
   notes_move request events old new step lawful led u (inr (inr p)) =
-      let views : Some p.view ≡ Some u.view = sym p.at ∙ u.at in
-      let view_is : p.view ≡ u.view = cc in
+      let view_is : p.view ≡ u.view = same_Some _ _ (sym p.at ∙ u.at) in
       let clash : None ≡ Some p.walk = sym u.idle ∙ ap (λ v. v.walk) (sym view_is) ∙ p.walks in absurd (cc)
 
   pub moves_on : (asked : Asked C) → IsOfLock asked → (events : List EnvEvent) (old new : Now C N) (step : Step) → IsLawfulWorld old → LedTo events old → BeginsWith events earlier → Underway asked events old → (p : Moves old new seat step) → Outcome asked step (events ++ env_done p) new
@@ -545,8 +539,7 @@ module _ (C : Type 0) (N : ℕ) (before : Now C N) (earlier : List EnvEvent) (se
   -- a seat whose call is under way isn't idle
   pub not_idle : (asked : Asked C) → IsOfLock asked → (events : List EnvEvent) (world : Now C N) (view : SeatView C N) → Underway asked events world → slice_get world.state.views seat ≡ Some view → view.walk ≡ None → slice_get world.asking seat ≡ Some None → ⊥
   not_idle (OfLock request) of events world view u at idle unasked =
-      let views : Some view ≡ Some u.view = sym at ∙ u.at in
-      let view_is : view ≡ u.view = cc in
+      let view_is : view ≡ u.view = same_Some _ _ (sym at ∙ u.at) in
       let clash : None ≡ Some u.walk = sym idle ∙ ap (λ v. v.walk) view_is ∙ u.walks in absurd (cc)
   not_idle (OfNotes request) of events world view u at idle unasked = let clash : Some None ≡ Some (Some u.walk) = sym unasked ∙ u.walks in absurd (cc)
   not_idle (OfObjects asked) of events world view u at idle unasked = of
@@ -655,8 +648,7 @@ module _ (C : Type 0) (N : ℕ) (before : Now C N) (earlier : List EnvEvent) (se
       slice_get old.asking seat ≡ Some None → new ≡ begun_at old seat view (OnLock walk) → Elsewhere events old →
       (u : LockUnderway request (events ++ []) new) × (u.course.looked ≡ None)
   goes_to_lock request events old new view walk asked first at unasked is u =
-      let views : Some u.view ≡ Some view = sym u.at ∙ at in
-      let view_is : u.view ≡ view = cc in
+      let view_is : u.view ≡ view = same_Some _ _ (sym u.at ∙ at) in
       let same : view.held ≡ held_at before seat = ap (λ (v : SeatView C N). v.held) (sym view_is) ∙ u.same in
       subst (λ (world : Now C N). (u : LockUnderway request (events ++ []) world) × (u.course.looked ≡ None)) (sym is) (
         record {

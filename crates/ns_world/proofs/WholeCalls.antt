@@ -1,9 +1,11 @@
 -- From its beginning to its answer a call in a whole world is under way, whatever others do, and its answer means what it says.
+use Rattle.std.proofs.lemmas.Option.{same_Some}
 use Rattle.std.proofs.Common.{◌≡◌, ◌≢◌, ℕ, zero, suc, List, [], ◌++◌, Option, None, Some, slice_set, refl, ap, sym, ◌∙◌, subst, inl, inr, ◌⊎◌, true, false, cond, Bool, is_some, ◌<◌}
 use Rattle.std.proofs.lemmas.Bool.{cases_eq}
 use Rattle.std.proofs.lemmas.List.{append-nil, append_assoc}
 use Rattle.std.specs.Prelude.{unwrap_or}
-use Rattle.ns_world.specs.Prelude.{Acts, Add, Answer, AnswersCall, AnswersOfLock, AnswersTo, Any, AnyAnswers, AnyMeans, AnyWait, AreAmong, AreEnvBy, AreObjectsBy, AreThere, Asked, BeginsToWait, BeginsWith, Call, CallFits, Cause, CounterWait, Cvs, Done, EndsLook, EnvEvent, Finished, FirstClock, Found}
+use Rattle.ns_world.specs.Prelude.{Acts, Add, Answer, AnswersCall, AnswersOfLock, AnswersTo, Any, AnyAnswers, AnyMeans, AnyWait, AreAmong, AreEnvBy, AreObjectsBy, AreThere}
+use Rattle.ns_world.specs.Prelude.{Asked, BeginsToWait, BeginsWith, Call, CallFits, Cause, CounterWait, Cvs, Done, EndsLook, EnvEvent, Finished, FirstClock, Found}
 use Rattle.ns_world.specs.Prelude.{Happens, HasLedTo, HasOperated, HaveLedTo, HaveShownNothing, Held, Idle, InHand, InRound, IsIdle, IsLater, IsLawful, IsLawfulWhole, IsReady, IsUnfinished, LockSteps, LooksWhere, MayEnd, Means, Meanwhile, Mode, Next, Nothing, Number, ObjectEvent, ObjectGoes}
 use Rattle.ns_world.specs.Prelude.{ObjectNext, ObjectSoFar, ObjectWalk, Objects, OfLock, OfNotes, OfObjects, On, OnVariables, Once, Operates, Over, Past, PlaceBy, Repeat, Reply, Request, Round, RoundGo, RoundNext, RoundOver, RoundPlace, RoundShows, RoundSoFar, SeatView, Started, Step, Value}
 use Rattle.ns_world.specs.Prelude.{WaitAny, WaitMeans, WaitSteps, Walk, WalkFits, WalkReply, Went, WereThere, Whole, WholeBegins, WholeMoves, WholeStarts, WholeStep, asked_of, asks_of, at_will, by_round, cause_of, done_by, done_in, env_after, env_done, env_own, env_state, got_of, happened, held_at}
@@ -16,7 +18,8 @@ use Rattle.ns_env.proofs.Acts.{env_own_none}
 use Rattle.ns_counters.proofs.Objects.{own-append, own_all, own_none}
 use Rattle.ns_counters.proofs.Rounds.{last_nothing, later_itself, later_through}
 use Rattle.ns_counters.specs.declared.walk.ObjectNext.TheVariants.{Go}
-use Rattle.ns_world.proofs.Underway.{IsOfLock, IsUnderway, Outcome, Underway, Untouched, begin_there, begins_on, begins_underway, moves_on, moves_there, no_more as no_more_notes, not_idle, same_world, started_led, stays_underway, HasLooked, LockUnderway, acts_on, acts_show_not, goes_to_lock, looks_any}
+use Rattle.ns_world.proofs.Underway.{IsOfLock, IsUnderway, Outcome, Underway, Untouched, begin_there, begins_on, begins_underway, moves_on, moves_there}
+use Rattle.ns_world.proofs.Underway.{no_more as no_more_notes, not_idle, same_world, started_led, stays_underway, HasLooked, LockUnderway, acts_on, acts_show_not, goes_to_lock, looks_any}
 use Rattle.ns_world.proofs.Walks.{wait_there}
 use Rattle.ns_world.proofs.WholeLed.{no_more, starts_led, steps_led, whole_led}
 use Rattle.ns_word.specs.declared.walk.Next.TheVariants.{Done}
@@ -376,13 +379,13 @@ module _ (C : Type 0) (N : ℕ) (before : Whole C N) (earlier : Past) (seat : �
         silent = rest.silent;
       })
 
-  operates_here : (asked : ObjectWalk) (past : Past) (old new : Whole C N) (step : Step) → IsLawfulWhole old → (p : Operates old new seat step) → (u : UnderwayIn (inl (OfObjects asked)) past old) → AreObjectsBy seat p.operated.events → HasLedTo (past_and past (record { notes = []; objects = p.operated.events })) new →
+  operates_here : (asked : ObjectWalk) (past : Past) (old new : Whole C N) (step : Step) → IsLawfulWhole old → (p : Operates old new seat step) → (u : UnderwayIn (inl (OfObjects asked)) past old) → AreObjectsBy seat p.operated.events →
+      HasLedTo (past_and past (record { notes = []; objects = p.operated.events })) new →
       OutcomeIn (OfObjects asked) step (past_and past (record { notes = []; objects = p.operated.events })) new
   operates_here asked past old new step lawful p u by_seat led =
       let q = p.operated in
       let o = u.objects in
-      let stands : Some p.walk ≡ Some o.walk = sym p.walks ∙ o.walks in
-      let walk_is : p.walk ≡ o.walk = cc in
+      let walk_is : p.walk ≡ o.walk = same_Some _ _ (sym p.walks ∙ o.walks) in
       let state = env_state old.lock.env old.lock.asking in
       let law = subst (λ s. IsLawful s old.objects.words past.objects) u.setup u.led.lawful in
       let fits = subst (λ s. WalkFits s (objects_after s past.objects) old.lock.env.notes seat p.walk) u.setup (u.led.each seat p.walk p.walks) in
@@ -418,7 +421,8 @@ module _ (C : Type 0) (N : ℕ) (before : Whole C N) (earlier : Past) (seat : �
       let so_far : ObjectSoFar before.objects.setup earlier past seat o.events (InRound p.round p.place) = subst (λ w. ObjectSoFar before.objects.setup earlier past seat o.events w) walk_is o.so_far in
       let shows = round_shows (inl (OfObjects asked)) past old u earlier p.round p.place p.walks p.then Idle q so_far.1 so_far.2 in
       let asked_is : InRound p.round FirstClock ≡ asked = ap object_asked (sym walk_is) ∙ o.is_asked in
-      let untouched : objects_own (past.objects ++ q.events) seat ≡ objects_own earlier.objects seat = ap (λ es. objects_own (past.objects ++ es) seat) shows.1 ∙ no_own past.objects ∙ o.added ∙ ap (λ es. objects_own earlier.objects seat ++ es) so_far.0 ∙ append-nil (objects_own earlier.objects seat) in
+      let untouched : objects_own (past.objects ++ q.events) seat ≡ objects_own earlier.objects seat = ap (λ es. objects_own (past.objects ++ es) seat) shows.1 ∙ no_own past.objects ∙ o.added ∙ ap (λ es. objects_own earlier.objects seat ++ es) so_far.0
+      ∙ append-nil (objects_own earlier.objects seat) in
       subst (λ s. OutcomeIn (OfObjects asked) s (past_and past (record { notes = []; objects = q.events })) new) (sym p.answer)
       (inr (record { round = p.round; cvs = p.cvs; shown = None }), ap OfObjects asked_is, by (round_got p.round p.place q.found) q.answers shows.0 so_far.1 untouched led) where
         now : Past
@@ -433,8 +437,7 @@ module _ (C : Type 0) (N : ℕ) (before : Whole C N) (earlier : Past) (seat : �
         on_lock : HasLedTo now new → IsUnderway C N before.lock earlier.notes seat (AsShown None) (OfLock (wait_for p.cvs)) (past.notes ++ []) new.lock
         on_lock led =
             let e = u.lock.underway in
-            let views : Some e.view ≡ Some p.view = sym e.at ∙ p.at in
-            let view_is : e.view ≡ p.view = cc in
+            let view_is : e.view ≡ p.view = same_Some _ _ (sym e.at ∙ p.at) in
             let same : p.view.held ≡ held_at before.lock seat = ap (λ (v : SeatView C N). v.held) (sym view_is) ∙ e.same in
             let waits = waits_for_any {C = C} (mode_waited (mode_of p.view.held)) p.cvs in
             let asks : asked_of (wait_first N waits) ≡ wait_for p.cvs = ap (λ held. TheRequest.Await (waits_for_any {C = C} (mode_waited (mode_of held)) p.cvs)) same in
@@ -486,7 +489,8 @@ module _ (C : Type 0) (N : ℕ) (before : Whole C N) (earlier : Past) (seat : �
     none_done more is = ap (λ es. objects_own (past.objects ++ es) seat) is ∙ no_own past.objects ∙ u.objects.untouched
 
     -- a round goes on
-    module _ (by : Round) (is : by ≡ w.round) (step : Step) (events : List ObjectEvent) (none : events ≡ []) (same : new.lock ≡ old.lock) (setup : new.objects.setup ≡ old.objects.setup) (waits : new.objects.waits ≡ old.objects.waits) (at : ObjectWalk) (stands : walk_in old.objects.walks seat ≡ Some at)
+    module _ (by : Round) (is : by ≡ w.round) (step : Step) (events : List ObjectEvent) (none : events ≡ []) (same : new.lock ≡ old.lock) (setup : new.objects.setup ≡ old.objects.setup) (waits : new.objects.waits ≡ old.objects.waits) (at : ObjectWalk) (stands : walk_in
+        old.objects.walks seat ≡ Some at)
         (not : is_for_lock (Some waiting) at step ≡ false) (led : HasLedTo (past_and past (record { notes = []; objects = events })) new) where
       abbrev round_now : Past
       round_now = past_and past (record { notes = []; objects = events })
@@ -822,7 +826,8 @@ module _ (C : Type 0) (N : ℕ) (before : Whole C N) (earlier : Past) (seat : �
   unfinished asked other past world goes p = p
 
   -- a step of the seat itself
-  step_in : (phase : Phase) (past : Past) (old new : Whole C N) (step : Step) → IsLawfulWhole old → (p : WholeStep old new seat step) → UnderwayIn phase past old → HasLedTo (past_and past (done_in old new seat step p)) new × OutcomeIn (asked_in phase) step (past_and past (done_in old new seat step p)) new
+  step_in : (phase : Phase) (past : Past) (old new : Whole C N) (step : Step) → IsLawfulWhole old → (p : WholeStep old new seat step) → UnderwayIn phase past old →
+      HasLedTo (past_and past (done_in old new seat step p)) new × OutcomeIn (asked_in phase) step (past_and past (done_in old new seat step p)) new
   step_in phase past old new step lawful (inl p) u = absurd (busy_in phase past old u p.2.0 p.2.1)
   step_in phase past old new step lawful (inr p) u = let led = whole_led past old new seat step lawful (u.lock.led, u.led) p in (led.2, moves_here past old new step lawful phase p u led.1 led.2)
 

@@ -58,7 +58,11 @@ module _ {C : Type 0} {N : ℕ} (past : Past) (old new : Whole C N) (seat : ℕ)
       )
 
   pub wait_steps_led : (p : WaitSteps old new seat step) → HasLedTo (past_and past (record { notes = []; objects = [] })) new
-  wait_steps_led p = ((moves_led past.notes old.lock new.lock seat step_there lawful.lock led.0 (inl p.acts)).1, subst (λ es. AreLedTo es new.objects new.lock.env.notes) (sym (append-nil past.objects)) (subst (λ (o : Objects). AreLedTo past.objects o new.lock.env.notes) (sym p.becomes) (waited after))) where
+  wait_steps_led p = (
+    (moves_led past.notes old.lock new.lock seat step_there lawful.lock led.0 (inl p.acts)).1,
+    subst (λ es. AreLedTo es new.objects new.lock.env.notes) (sym (append-nil past.objects)) (subst (λ (o : Objects). AreLedTo past.objects o new.lock.env.notes) (sym
+        p.becomes) (waited after)),
+  ) where
     step_there : Step
     step_there = p.told
 

@@ -1,12 +1,12 @@
 -- The law of a whole world: how it begins, and that calls that begin and steps keep it.
-use Rattle.std.proofs.Common.{◌≡◌, ◌≢◌, ℕ, ◌<◌, ◌≤◌, true, false, not, List, [], ◌++◌, Option, None, Some, IsSome, is_some, length, replicate, slice_get, slice_set, slice_index, refl, ap, sym, ◌∙◌, subst, arith, inl, inr}
+use Rattle.std.proofs.Common.{◌≡◌, ◌≢◌, ℕ, ◌<◌, ◌≤◌, true, false, not, List, [], ◌++◌, Option, None, Some, IsSome, length, replicate, slice_get, slice_set, slice_index, refl, ap, sym, ◌∙◌, subst, arith, inl, inr}
 use Rattle.std.proofs.lemmas.Bool.{cases_eq}
 use Rattle.std.proofs.lemmas.List.{length-replicate, length-set}
-use Rattle.std.proofs.lemmas.Option.{slice_get_within}
-use Rattle.ns_world.specs.Prelude.{objects_state, Act, Add, Advance, AnyWait, AreLedTo, AreThere, Ask, BeginAnswers, Begun, Broadcast, Busy, Call, CallFits, CounterWait, CvWait, Done, EnvNext, EnvPlain, Expiry, Fault, Found, Get, Goes, HasOperated, Held, InRound, IsIdle}
-use Rattle.ns_world.specs.Prelude.{IsLawfulWhole, IsLawfulWorld, IsNotified, Lock, LookGoes, LooksWhere, Meets, Misuse, Mode, Moves, NewNote, NoSuchSeat, NoteStanding, NoteWait, Notify, Now, ObjectEvent, ObjectFound, ObjectNext, ObjectStanding, ObjectWalk, Objects, OnCondition, OnEntry}
-use Rattle.ns_world.specs.Prelude.{OnLock, OnObjects, Once, Operates, OutOfMemory, Over, RLock, RUnlock, Repeat, Round, SeatView, Set, Setup, Signal, StandsAlone, StandsBy, Start, Started, Starts, Step, StepFault, StepFits, StepLimit, StepOf, ToRelease, TooManySeats, Truths, TryLock, TryRLock}
-use Rattle.ns_world.specs.Prelude.{Unlock, UnlockQuiet, Value, Wait, WaitAny, Walk, WalkFits, Whole, WholeBegins, WholeFault, WholeIsBusy, WholeStarts, WholeStep, asks_for_any, begun_at, env_got_of, env_want_of, fresh_whole, got_of, is_alone, is_for_lock, items_of, mode_of, mode_waited}
+use Rattle.std.proofs.lemmas.Option.{same_Some, slice_get_within}
+use Rattle.ns_world.specs.Prelude.{objects_state, Act, Add, Advance, AnyWait, AreLedTo, AreThere, Ask, Broadcast, Call, CallFits, CounterWait, CvWait, Done, EnvNext, EnvPlain, Expiry, Found, Get, Goes, HasOperated, Held, InRound, IsIdle}
+use Rattle.ns_world.specs.Prelude.{IsLawfulWhole, IsLawfulWorld, IsNotified, Lock, LookGoes, LooksWhere, Meets, Mode, Moves, NewNote, NoteStanding, NoteWait, Notify, Now, ObjectEvent, ObjectFound, ObjectNext, ObjectStanding, ObjectWalk, Objects, OnCondition, OnEntry}
+use Rattle.ns_world.specs.Prelude.{OnLock, OnObjects, Once, Operates, Over, RLock, RUnlock, Repeat, Round, SeatView, Set, Setup, Signal, StandsAlone, StandsBy, Start, Starts, Step, StepFits, ToRelease, Truths, TryLock, TryRLock}
+use Rattle.ns_world.specs.Prelude.{Unlock, UnlockQuiet, Value, Wait, WaitAny, Walk, WalkFits, Whole, WholeStarts, asks_for_any, begun_at, env_got_of, env_want_of, fresh_whole, got_of, is_alone, is_for_lock, items_of, mode_of, mode_waited}
 use Rattle.ns_world.specs.Prelude.{most, object_after, object_asked, object_got, object_start, object_step_of, objects_after, objects_begun, put_at, start_of, stood_at, wait_in, walk_after, walk_in, want_of, whole}
 use Rattle.ns_counters.proofs.NewObjects.{new_lawful}
 use Rattle.ns_env.proofs.Asks.{if_made_stays, set_here, set_there}
@@ -206,8 +206,7 @@ module _ {C : Type 0} {N : ℕ} where
   goes_alone old new seat step p alone view at =
       let next : SeatView C N = record { seat = p.view.seat; walk = walk_after (got_of N p.makes.walk p.found); held = p.makes.held; owed = p.makes.owed } in
       let here : slice_get new.state.views seat ≡ Some next = ap (λ vs. slice_get vs seat) p.others ∙ set_here old.state.views seat next (slice_get_within old.state.views seat p.view p.at) in
-      let same : Some next ≡ Some view = sym here ∙ at in
-      let is : next ≡ view = cc in
+      let is : next ≡ view = same_Some _ _ (sym here ∙ at) in
       subst (λ (v : SeatView C N). is_alone v.walk ≡ true) is (after_alone N p.makes.walk p.found (subst (λ w. is_alone w ≡ true) p.makes.walks (alone p.view p.at)))
 
   same_alone : (old new : Now C N) (seat : ℕ) → slice_get new.state.views seat ≡ slice_get old.state.views seat → IsAlone old seat → IsAlone new seat
@@ -284,8 +283,7 @@ module _ {C : Type 0} {N : ℕ} where
       by : (wait : Option AnyWait) → wait_in old.objects.waits seat ≡ wait → StandsBy old seat wait → wait_in old.objects.waits seat ≡ None
       by None is s = is
       by (Some wait) is s =
-          let same : Some s.view ≡ Some starts.view = sym s.at ∙ starts.at in
-          let view_is : s.view ≡ starts.view = cc in
+          let view_is : s.view ≡ starts.view = same_Some _ _ (sym s.at ∙ starts.at) in
           let clash : Some s.walk ≡ None = sym s.walks ∙ ap (λ (v : SeatView C N). v.walk) view_is ∙ starts.idle in absurd (cc)
 
     stood : StandsAlone old seat
@@ -296,8 +294,7 @@ module _ {C : Type 0} {N : ℕ} where
       by : (start : Start C) → StartAlone start → IsAlone (begun_at old.lock seat starts.view start) seat
       by (OnLock walk) alone view at =
           let next : SeatView C N = record starts.view { walk = Some walk } in
-          let same : Some next ≡ Some view = sym (set_here old.lock.state.views seat next (slice_get_within old.lock.state.views seat starts.view starts.at)) ∙ at in
-          let is : next ≡ view = cc in
+          let is : next ≡ view = same_Some _ _ (sym (set_here old.lock.state.views seat next (slice_get_within old.lock.state.views seat starts.view starts.at)) ∙ at) in
           subst (λ (v : SeatView C N). is_alone v.walk ≡ true) is alone
       by (Ask walk) alone view at = stood.alone view at
       by (OnObjects walk) alone view at = stood.alone view at
@@ -322,8 +319,7 @@ module _ {C : Type 0} {N : ℕ} where
           ];
           each = λ other walk at. elim (cases_eq other seat) [
             | inl e ↦
-                let same : Some place ≡ Some walk = sym here ∙ ap (walk_in (slice_set old.objects.walks seat (Some place))) (sym e) ∙ at in
-                let is_place : place ≡ walk = cc in
+                let is_place : place ≡ walk = same_Some _ _ (sym here ∙ ap (walk_in (slice_set old.objects.walks seat (Some place))) (sym e) ∙ at) in
                 subst (λ n. WalkFits old.objects.setup now new.env.notes n walk) (sym e) (subst (λ w. WalkFits old.objects.setup now new.env.notes seat w) is_place first)
             | inr ne ↦ still.each other walk (sym (put_there old.objects.walks seat (Some place) other ne) ∙ at)
           ];
@@ -334,8 +330,7 @@ module _ {C : Type 0} {N : ℕ} where
 
     begun_may : (place : ObjectWalk) → object_start call ≡ Some place → (view : SeatView C N) → slice_get new.state.views seat ≡ Some view → MayWait (object_start call) view.held
     begun_may place is view at =
-        let same : Some starts.view ≡ Some view = sym starts.at ∙ sym (begun_view old.lock seat starts.view (start_of N mode call) place (begun_pair place is)) ∙ ap (λ (world : Now C N). slice_get world.state.views seat) (sym starts.begins) ∙ at in
-        let view_is : starts.view ≡ view = cc in
+        let view_is : starts.view ≡ view = same_Some _ _ (sym starts.at ∙ sym (begun_view old.lock seat starts.view (start_of N mode call) place (begun_pair place is)) ∙ ap (λ (world : Now C N). slice_get world.state.views seat) (sym starts.begins) ∙ at) in
         subst (λ (v : SeatView C N). MayWait (object_start call) v.held) view_is (start_may old.objects.setup old.lock.env.notes call starts.view.held starts.fits)
 
     begun_by : (place : Option ObjectWalk) → object_start call ≡ place → IsLawfulWhole (whole new (objects_begun old.objects seat place)) × (walk_in (objects_begun old.objects seat place).walks seat ≡ place)
@@ -466,38 +461,3 @@ module _ {C : Type 0} {N : ℕ} where
           events = lawful.events ++ p.events;
           objects_lawful = kept;
         })
-
-  -- a step by the lock, of a seat that is in no call on counters and once cells
-  pub lock_step : (old : Whole C N) (new : Now C N) (seat : ℕ) (step : Step) → walk_in old.objects.walks seat ≡ None → wait_in old.objects.waits seat ≡ None → StepOf old.lock new seat step → WholeStep old (whole new old.objects) seat step
-  lock_step old new seat step elsewhere waits_not (inl p) = inl (p.0, ap (λ (world : Now C N). whole world old.objects) p.1, (p.2, elsewhere))
-  lock_step old new seat step elsewhere waits_not (inr p) = inr (inl (record { moves = p; same = refl; elsewhere = elsewhere; waits_not = waits_not }))
-
-  -- and it keeps the law
-  pub lock_step_keeps : (old : Whole C N) (new : Now C N) (seat : ℕ) (step : Step) → IsLawfulWhole old → walk_in old.objects.walks seat ≡ None → wait_in old.objects.waits seat ≡ None → IsLawfulWorld new → StepOf old.lock new seat step → IsLawfulWhole (whole new old.objects)
-  lock_step_keeps old new seat step lawful elsewhere waits_not now_lawful (inl p) = subst (λ (world : Now C N). IsLawfulWhole (whole world old.objects)) (sym p.1) lawful
-  lock_step_keeps old new seat step lawful elsewhere waits_not now_lawful (inr p) = whole_moved old new seat step lawful p now_lawful elsewhere waits_not
-
-  -- a refused step leaves the world as it was
-  pub same_keeps : (old : Whole C N) (new : Now C N) → IsLawfulWhole old → new ≡ old.lock → IsLawfulWhole (whole new old.objects)
-  same_keeps old new lawful same = subst (λ (world : Now C N). IsLawfulWhole (whole world old.objects)) (sym same) lawful
-
-  pub lock_fault : (old : Whole C N) (new : Now C N) (seat : ℕ) (fault : Fault) → (new ≡ old.lock) × StepFault old.lock seat fault → (whole new old.objects ≡ old) × WholeFault old seat fault
-  lock_fault old new seat OutOfMemory p = (ap (λ (world : Now C N). whole world old.objects) p.0, p.1)
-  lock_fault old new seat NoSuchSeat p = (ap (λ (world : Now C N). whole world old.objects) p.0, p.1)
-  lock_fault old new seat TooManySeats p = absurd p.1
-  lock_fault old new seat StepLimit p = absurd p.1
-
-  -- ---- a call that doesn't begin
-
-  -- a seat in a call on counters and once cells is busy
-  pub busy_elsewhere : (old : Whole C N) (seat : ℕ) → is_some (walk_in old.objects.walks seat) ≡ true → WholeIsBusy old seat
-  busy_elsewhere old seat some = by (walk_in old.objects.walks seat) refl some where
-    by : (walk : Option ObjectWalk) → walk_in old.objects.walks seat ≡ walk → is_some walk ≡ true → WholeIsBusy old seat
-    by (Some walk) is e = inr (walk, is)
-    by None is e = absurd (cc)
-
-  -- where a call didn't begin nothing has changed
-  pub unbegun : (old : Whole C N) (new : Now C N) (seat : ℕ) (call : Call C) (begun : Begun) → walk_in old.objects.walks seat ≡ None → begun ≢ Started → BeginAnswers old.objects.setup old.lock new seat call begun → WholeBegins old (whole new old.objects) seat call begun × (new ≡ old.lock)
-  unbegun old new seat call Started elsewhere ne p = absurd (ne refl)
-  unbegun old new seat call Misuse elsewhere ne p = ((ap (λ (world : Now C N). whole world old.objects) p.0, p.1, elsewhere), p.0)
-  unbegun old new seat call Busy elsewhere ne p = ((ap (λ (world : Now C N). whole world old.objects) p.0, inl p.1), p.0)

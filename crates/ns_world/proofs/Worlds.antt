@@ -1,6 +1,6 @@
 -- A seat's step and a call's beginning keep a world lawful.
 use Rattle.std.proofs.Common.{false, ◌≡◌, ℕ, suc, inl, inr, ◌<◌, ◌≤◌, List, [], ◌++◌, Option, Some, None, length, map, get_or, take, drop, slice_set, slice_get, refl, ap, sym, ◌∙◌, subst, zero-add, arith}
-use Rattle.std.proofs.lemmas.Option.{slice_get-get_or}
+use Rattle.std.proofs.lemmas.Option.{same_Some, slice_get-get_or}
 use Rattle.std.proofs.lemmas.Bool.{cases_eq}
 use Rattle.std.proofs.lemmas.List.{append-nil, set-get_or, length-set, length-map}
 use Rattle.ns_world.specs.Prelude.{ActFits, Acts, Ask, Asks, AsksFor, Cause, Effect, EnvActFits, EnvBegins, EnvEffect, EnvEvent, EnvMoves, EnvNext, EnvPlain, EnvStep, EnvWalk, Environment, Event, Found, Go, Goes, IfMade, IsFirst, IsFirstAsk, IsLawfulEnv, IsLawfulWorld, IsSettled}
@@ -52,8 +52,7 @@ module _ {C : Type 0} {N : ℕ} where
   -- one seat's view is set
   noted_set : (views : List (SeatView C N)) (notes : ℕ → NoteStanding) (i : ℕ) (next : SeatView C N) → i < length views → NotesMade views notes → IfMade notes (note_in next.walk) → NotesMade (slice_set views i next) notes
   noted_set views notes i next in_views made here = λ seat view at. elim (cases_eq seat i) [
-    | inl e ↦ (let one : Some next ≡ Some view = sym (set_here views i next in_views) ∙ ap (slice_get (slice_set views i next)) (sym e) ∙ at in
-        let is : next ≡ view = cc in subst (λ (v : SeatView C N). IfMade notes (note_in v.walk)) is here)
+    | inl e ↦ (let is : next ≡ view = same_Some _ _ (sym (set_here views i next in_views) ∙ ap (slice_get (slice_set views i next)) (sym e) ∙ at) in subst (λ (v : SeatView C N). IfMade notes (note_in v.walk)) is here)
     | inr ne ↦ made seat view (sym (set_there views i seat next ne) ∙ at)
   ]
 
@@ -78,7 +77,8 @@ lawful_env old env askings tests events same right noted keeps lawful = record {
   env_lawful = keeps;
 }
 
-module _ {C : Type 0} {N : ℕ} (truths : Truths C) (some : 0 < N) (quiet : QuietKeeps N truths) (word : Word) (row : List ℕ) (queues : Lists C) (flags : List ℕ) (env : Environment) (seats : List (Seat C N)) (history : List (Event C N)) (lawful : IsLawfulWorld (now_with truths word row queues flags env seats history)) (i : ℕ) (d : Seat C N) (within : i < length seats) where
+module _ {C : Type 0} {N : ℕ} (truths : Truths C) (some : 0 < N) (quiet : QuietKeeps N truths) (word : Word) (row : List ℕ) (queues : Lists C) (flags : List ℕ) (env : Environment) (seats : List (Seat C N)) (history : List (Event C N)) (lawful : IsLawfulWorld (now_with truths word row
+    queues flags env seats history)) (i : ℕ) (d : Seat C N) (within : i < length seats) where
   abbrev old : Now C N
   old = now_with truths word row queues flags env seats history
 
@@ -133,14 +133,16 @@ module _ {C : Type 0} {N : ℕ} (truths : Truths C) (some : 0 < N) (quiet : Quie
   -- between calls the section in hand is settled
   pub settled_here : (get_or seats i d).walk ≡ None → IsSettled truths (get_or seats i d).held
   settled_here over =
-      let fits = view_fits truths (length (map view_of seats)) lawful.few history (now_with truths word row queues flags env seats history).state (take i (map view_of seats)) (view_of (get_or seats i d)) (drop (suc i) (map view_of seats)) (split_at (map view_of seats) i (view_of (get_or seats i d)) at_here) lawful.lawful in
+      let fits = view_fits truths (length (map view_of seats)) lawful.few history (now_with truths word row queues flags env seats history).state (take i (map view_of seats)) (view_of (get_or seats i d)) (drop (suc i) (map view_of seats)) (split_at (map view_of seats) i (view_of
+      (get_or seats i d)) at_here) lawful.lawful in
       subst (λ w. PlaceFits truths w (get_or seats i d).held) over fits.place
 
   -- the step that the seat's walk wants may be made
   pub act_here : (walk : Walk C) → (get_or seats i d).walk ≡ Some walk → ActFits truths 64 (get_or seats i d).number (want_of walk) (seat_part word row queues flags (get_or seats i d))
   act_here walk e =
       fits_more truths (length (map view_of seats)) 64 (get_or seats i d).number (want_of walk) (seat_part word row queues flags (get_or seats i d)) lawful.few
-      (act_fits truths (length (map view_of seats)) lawful.few history (now_with truths word row queues flags env seats history).state (take i (map view_of seats)) (view_of (get_or seats i d)) (drop (suc i) (map view_of seats)) (split_at (map view_of seats) i (view_of (get_or seats i d)) at_here) lawful.lawful walk e)
+      (act_fits truths (length (map view_of seats)) lawful.few history (now_with truths word row queues flags env seats history).state (take i (map view_of seats)) (view_of (get_or seats i d)) (drop (suc i) (map view_of seats)) (split_at (map view_of seats) i (view_of (get_or seats i
+      d)) at_here) lawful.lawful walk e)
 
   -- the view after a step, part by part
   led : (walk : Walk C) (next : Seat C N) (found : Found) → next.number ≡ (get_or seats i d).number → next.walk ≡ walk_after (got_of N walk found) →
@@ -150,9 +152,6 @@ module _ {C : Type 0} {N : ℕ} (truths : Truths C) (some : 0 < N) (quiet : Quie
 
   module _ (walk : Walk C) (walks : (get_or seats i d).walk ≡ Some walk) (word' : Word) (row' : List ℕ) (queues' : Lists C) (flags' : List ℕ) (next : Seat C N) (history' : List (Event C N)) (step : Step)
       (p : Performs truths (seat_part word row queues flags (get_or seats i d)) (get_or seats i d) history walk (seat_part word' row' queues' flags' next) next history' step) where
-    abbrev after : Option (Walk C)
-    after = walk_after (got_of N walk p.found)
-
     asks_become : map (λ s. s.asking) (slice_set seats i next) ≡ slice_set (map (λ s. s.asking) seats) i (look_of (walk_after (got_of N walk p.found)))
     asks_become = map-set (λ s. s.asking) seats i next ∙ ap (slice_set (map (λ s. s.asking) seats) i) p.asking
 
@@ -221,7 +220,8 @@ module _ {C : Type 0} {N : ℕ} (truths : Truths C) (some : 0 < N) (quiet : Quie
 
   -- a call that begins at a first place that goes with the section in hand
   lawful_begun : (walk : Walk C) (next : Seat C N) → (get_or seats i d).walk ≡ None → (get_or seats i d).asking ≡ None → next.asking ≡ (get_or seats i d).asking → IsFirst N walk → PlaceFits truths (Some walk) (get_or seats i d).held →
-      view_of next ≡ record { seat = (get_or seats i d).number; walk = Some walk; held = (get_or seats i d).held; owed = (get_or seats i d).owed.items } → IfMade (plain_of env).notes (note_in (Some walk)) → looks_at (want_of walk) ≡ None → IsLawfulWorld (now_with truths word row queues flags env (slice_set seats i next) history)
+      view_of next ≡ record { seat = (get_or seats i d).number; walk = Some walk; held = (get_or seats i d).held; owed = (get_or seats i d).owed.items } → IfMade (plain_of env).notes (note_in (Some walk)) → looks_at (want_of walk) ≡ None → IsLawfulWorld (now_with truths word row
+      queues flags env (slice_set seats i next) history)
   lawful_begun walk next over unasked asks first place is note inside =
       let new : Now C N = now_with truths word row queues flags env (slice_set seats i next) history in
       let old_state : LockState C N = (now_with truths word row queues flags env seats history).state in
@@ -233,7 +233,8 @@ module _ {C : Type 0} {N : ℕ} (truths : Truths C) (some : 0 < N) (quiet : Quie
         numbered = rw (map-set view_of seats i next) (numbers_stay 0 (map view_of seats) i (view_of next) (ap (λ v. v.seat) is ∙ number_here ∙ sym (zero-add i)) lawful.numbered);
         lawful = subst (λ n. IsLawful truths n history new.state) (sym same) kept;
         as_many = ap length (asks_stay next asks) ∙ lawful.as_many ∙ sym same;
-        right = subst (λ (vs : List (SeatView C N)). StandRight vs new.asking) (sym (map-set view_of seats i next)) (subst (λ (ws : List (Option EnvWalk)). StandRight (slice_set (map view_of seats) i (view_of next)) ws) (set_same (map (λ s. s.asking) seats) i None (asks_at ∙ ap Some unasked) ∙ sym (asks_stay next asks))
+        right = subst (λ (vs : List (SeatView C N)). StandRight vs new.asking) (sym (map-set view_of seats i next)) (subst (λ (ws : List (Option EnvWalk)). StandRight (slice_set (map view_of seats) i (view_of next)) ws) (set_same (map (λ s. s.asking) seats) i None (asks_at
+            ∙ ap Some unasked) ∙ sym (asks_stay next asks))
             (right_set (map view_of seats) (map (λ s. s.asking) seats) i (view_of next) None in_views in_asks lawful.right (subst (λ w. AsksFor w None) (sym (ap (λ v. v.walk) is)) (λ not. inside))));
         noted = subst (λ (vs : List (SeatView C N)). NotesMade vs (plain_of env).notes) (sym (map-set view_of seats i next))
             (noted_set (map view_of seats) (plain_of env).notes i (view_of next) in_views lawful.noted (subst (λ w. IfMade (plain_of env).notes (note_in w)) (sym (ap (λ v. v.walk) is)) note));
@@ -436,7 +437,12 @@ module _ {C : Type 0} {N : ℕ} (truths : Truths C) (some : 0 < N) (quiet : Quie
       let same_views : map view_of (slice_set seats i next) ≡ map view_of seats = map-set view_of seats i next ∙ sym (map-set view_of seats i (get_or seats i d)) ∙ ap (map view_of) (set-get_or seats i d) in
       let same_asking : map (λ s. s.asking) (slice_set seats i next) ≡ map (λ s. s.asking) seats = map-set (λ s. s.asking) seats i next ∙ sym (map-set (λ s. s.asking) seats i (get_or seats i d)) ∙ ap (map (λ s. s.asking)) (set-get_or seats i d) in
       let now : Now C N = now_with truths word row queues flags env seats history in
-      let same : now_with truths word row queues flags env (slice_set seats i next) history ≡ record now { tests = map (λ s. s.tests) (slice_set seats i next) } = (λ k. record now { state = record now.state { views = same_views k }; tests = map (λ s. s.tests) (slice_set seats i next); asking = same_asking k }) in
+      let same : now_with truths word row queues flags env (slice_set seats i next) history ≡ record now { tests = map (λ s. s.tests) (slice_set seats i next) } = (λ k. record now {
+        state = record now.state { views = same_views k };
+        tests = map (λ s. s.tests) (slice_set seats i
+            next);
+        asking = same_asking k;
+      }) in
       subst IsLawfulWorld (sym same) (record { few = lawful.few; numbered = lawful.numbered; lawful = lawful.lawful; as_many = lawful.as_many; right = lawful.right; noted = lawful.noted; events = lawful.events; env_lawful = lawful.env_lawful })
 
   -- a call that begins where its need is met
@@ -446,10 +452,10 @@ module _ {C : Type 0} {N : ℕ} (truths : Truths C) (some : 0 < N) (quiet : Quie
   lawful_placed (Ask walk) over unasked fits = lawful_asking walk over unasked fits
   lawful_placed (OnObjects walk) over unasked fits = lawful_elsewhere walk
 
+-- there are at most 64
+pub below_64 : {C : Type 0} {N : ℕ} (seats : List (Seat C N)) (i : ℕ) → length (map view_of seats) ≤ 64 → i < length seats → i < 64
+below_64 seats i few within = let long = length-map seats view_of in omega (arith, long, few, within)
+
 -- a number past the seats is past their views
 pub past_views : {C : Type 0} {N : ℕ} (seats : List (Seat C N)) (i : ℕ) → length seats ≤ i → length (map view_of seats) ≤ i
 past_views seats i past = let long = length-map seats view_of in omega (arith, long, past)
-
--- a seat that was read stands in no call on the clock and the notes
-pub asks_unasked : {C : Type 0} {N : ℕ} (seats : List (Seat C N)) (i : ℕ) (seat : Seat C N) → i < length seats → seat ≡ get_or seats i seat → seat.asking ≡ None → slice_get (map (λ s. s.asking) seats) i ≡ Some None
-asks_unasked seats i seat within is none = got-map (λ s. s.asking) seats i seat within ∙ ap (λ (s : Seat _ _). Some s.asking) (sym is) ∙ ap Some none

@@ -1,8 +1,8 @@
 -- How a call begins.
 use Rattle.std.specs.Prelude.{◌≡◌, ℕ, ◌≤◌, Some, None, slice_get, slice_set, length}
-use Rattle.ns_world.specs.Names.{Ask, Begun, Busy, Call, Fault, Misuse, NoSuchSeat, OnLock, OnObjects, OutOfMemory, Seat, SeatView, Setup, Start, Started, StepLimit, TooManySeats}
+use Rattle.ns_world.specs.Names.{Ask, Call, Fault, NoSuchSeat, OnLock, OnObjects, OutOfMemory, Seat, SeatView, Setup, Start, StepLimit, TooManySeats}
 use Rattle.ns_world.specs.Calls.{start_of, CallFits, mode_of}
-use Rattle.ns_world.specs.World.{Now, IsBusy}
+use Rattle.ns_world.specs.World.{Now}
 
 -- A seat put at the first place of a call. One on counters and once cells stands elsewhere.
 abbrev pub placed : {C : Type 0} {N : ℕ} → Seat C N → Start C → Seat C N
@@ -35,12 +35,6 @@ pub record Misuses {C : Type 0} {N : ℕ} (setup : Setup) (old : Now C N) (seat 
   pub idle : view.walk ≡ None
   pub unasked : slice_get old.asking seat ≡ Some None
   pub unfit : CallFits setup old.env.notes call (mode_of view.held) → ⊥
-
--- what the answer says of the call, where there are these counters and once cells
-abbrev pub BeginAnswers : {C : Type 0} {N : ℕ} → Setup → Now C N → Now C N → ℕ → Call C → Begun → Type 0
-BeginAnswers setup old new seat call Started = Starts setup old new seat call
-BeginAnswers setup old new seat call Misuse = (new ≡ old) × Misuses setup old seat call
-BeginAnswers setup old new seat call Busy = (new ≡ old) × IsBusy old seat
 
 -- a call is refused only where the number is no seat's
 abbrev pub BeginFault : {C : Type 0} {N : ℕ} → Now C N → ℕ → Fault → Type 0

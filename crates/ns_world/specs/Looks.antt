@@ -28,7 +28,8 @@ abbrev pub is_for_any : {C : Type 0} → Subject C → Bool
 is_for_any (OnVariables (Any cvs)) = true
 is_for_any on = false
 
--- The walk waits for any of a set of variables. Such a wait looks at the objects among which they are, and not at the clock and the notes by itself. What such a look's limits say is for its caller to fill (`at_will`), and the round loads the clock by itself. So `WasShown` says nothing of it; what its rounds have shown is said of the objects (`AnswersOfWaiting`).
+-- The walk waits for any of a set of variables. Such a wait looks at the objects among which they are, and not at the clock and the notes by itself. What such a look's limits say is for its caller to fill (`at_will`), and the round loads the clock by itself. So
+-- `WasShown` says nothing of it; what its rounds have shown is said of the objects (`AnswersOfWaiting`).
 abbrev pub waits_among : {C : Type 0} → Walk C → Bool
 waits_among (InWait wait place) = is_for_any wait.on
 waits_among walk = false

@@ -70,7 +70,8 @@ WasShown earlier now limits None = Unit {0}
 WasShown earlier now None (Some shown) = Unit {0}
 WasShown earlier now (Some limits) (Some shown) = AtSomePoint earlier now (Shows limits shown)
 
--- A call on the lock has this answer: it means what it says, where the call began with the section that the seat had in hand before; what the call has committed is just what the seat has added to the history; and what its looks have shown of the clock and the notes was so meanwhile, to which the seat has done nothing itself.
+-- A call on the lock has this answer: it means what it says, where the call began with the section that the seat had in hand before; what the call has committed is just what the seat has added to the history; and what its looks have shown of the clock and the notes
+-- was so meanwhile, to which the seat has done nothing itself.
 pub record AnswersOfLock {C : Type 0} {N : ℕ} (before : Now C N) (earlier : List EnvEvent) (seat : ℕ) (request : Request C) (reply : Reply) (after : Now C N) (later : List EnvEvent) : Type 0 where
   pub course : Course C N
   pub began : course.began ≡ held_at before seat
@@ -103,12 +104,14 @@ pub record AnswersOfObjects {C : Type 0} {N : ℕ} (before : Now C N) (earlier :
   pub same : held_at after seat ≡ held_at before seat
   pub silent : own after.history seat ≡ own before.history seat
 
--- The place that is answered, where a round has shown nothing up to the first of these, and the section was left: where a variable has woken the call, one at which this variable stands, and before which it stands nowhere; else what rounds of looks at the notes and counters answer from then on. It isn't said by `place_in`, by which the program is proved, so a wrong place isn't believed because its definition is wrong in the same way.
+-- The place that is answered, where a round has shown nothing up to the first of these, and the section was left: where a variable has woken the call, one at which this variable stands, and before which it stands nowhere; else what rounds of looks at the notes and
+-- counters answer from then on. It isn't said by `place_in`, by which the program is proved, so a wrong place isn't believed because its definition is wrong in the same way.
 abbrev pub PlaceBy : Setup → Past → Past → Round → Option ℕ → ℕ → Type 0
 PlaceBy setup mid now round (Some k) place = (item_at round.items place ≡ Some (OnVariable k)) × ((i : ℕ) → i < place → item_at round.items i ≡ Some (OnVariable k) → ⊥)
 PlaceBy setup mid now round None place = AnyAnswers setup mid now round.items round.deadline place
 
--- A wait for condition variables among notes and counters has this answer, and has left its section: there is one among its items. Up to a point since the call began a round has shown nothing; the section was left to wait for just the variables, as the set whose number is below 16, and another has come back, as a wait on the lock for these means it; where no variable has woken the call, rounds from that point on have shown the place; and the call has done nothing to the counters and once cells.
+-- A wait for condition variables among notes and counters has this answer, and has left its section: there is one among its items. Up to a point since the call began a round has shown nothing; the section was left to wait for just the variables, as the set whose
+-- number is below 16, and another has come back, as a wait on the lock for these means it; where no variable has woken the call, rounds from that point on have shown the place; and the call has done nothing to the counters and once cells.
 pub record AnswersOfWaiting {C : Type 0} {N : ℕ} (before : Now C N) (earlier : Past) (setup : Setup) (seat : ℕ) (asked : ObjectWalk) (reply : Reply) (after : Now C N) (later : Past) : Type 0 where
   pub round : Round
   pub is : asked ≡ InRound round FirstClock

@@ -1,8 +1,7 @@
 -- The names that contracts and proofs cite, passed on from one place. Declares nothing.
-unfoldable pub use Rattle.ns_word.specs.Codec.{word_of}
 pub use Rattle.ns_world.specs.Among.{CanTell, HasTold, IsFew, asks_for_any, at_will, cause_of, is_for_lock, place_told, reply_told, round_due, shown_by, step_told, waited_after, waits_for_any, woken_by}
 pub use Rattle.ns_world.specs.Asks.{env_state, env_step_of, note_at, plain_of}
-pub use Rattle.ns_world.specs.Begins.{BeginAnswers, Starts, begun_at, placed}
+pub use Rattle.ns_world.specs.Begins.{Misuses, Starts, begun_at, placed}
 pub use Rattle.ns_world.specs.Calls.{CallFits, CallInRange, NamesAll, finds, mode_of, mode_waited, object_start, start_of}
 pub use Rattle.ns_world.specs.Commits.{Commits}
 pub use Rattle.ns_world.specs.Looked.{EnvMoves, LookStep, MovesFrom, SeatLooks, Sees}
@@ -15,7 +14,7 @@ pub use Rattle.ns_world.specs.Runs.{Advances, Counts, EndFinished, GoesOnOrBegin
 pub use Rattle.ns_world.specs.Shows.{hand_of, lists_by, wakes_by, wakes_owed}
 pub use Rattle.ns_world.specs.Whole.{AreObjectsBy, Awaits, BeginsToWait, EndsLook, HaveLedTo, IsLawfulWhole, LockSteps, LooksWhere, MayWait as MayWaitOnLock, Operates, StandsAlone, StandsBy, WaitSteps, WaitsOnLock, Whole, WholeBegins, WholeFault, WholeIsBusy, WholeIsIdle, WholeMoves, WholeStarts}
 pub use Rattle.ns_world.specs.Whole.{WholeStep, fresh_whole, is_alone, notes_done, objects_done, whole, whole_busy, whole_of, whole_with}
-pub use Rattle.ns_world.specs.World.{Acts, AreEnvBy, Asks, Goes, IsBusy, IsIdle, IsLawfulWorld, IsWalking, LedTo, LookGoes, Looks, LooksNot, Moves, NotesMade, Now, StandRight, StepFault, StepOf, env_done, fresh, is_asking, is_busy, is_walking, now_with}
+pub use Rattle.ns_world.specs.World.{Acts, AreEnvBy, Asks, Goes, IsBusy, IsIdle, IsLawfulWorld, IsWalking, LedTo, LookGoes, Looks, Moves, NotesMade, Now, StandRight, env_done, fresh, is_asking, is_busy, is_walking, now_with}
 pub use Rattle.ns_world.specs.Names.{Acquire, Act, ActFits, Add, Advance, Advancing, Answer, Any, AnyAnswers, AnyMeans, AnyWait, AreAmong, AreBy, AreNumbered, AreThere, AreVariables, ArmFlag, ArmToWait, Arrival, Ask, Asked, AtLock, AtSomePoint, AtVariables, Await, AwaitWakeInWait, BeginsWith}
 pub use Rattle.ns_world.specs.Names.{Begun, Bits, Broadcast, Broadcasting, Busy, Call, CallGoes, CanLeave, CanWait, Cause, Change, ChangeFits, ClockLoad, CounterWait, Course, Cv, CvWait, Cvs, Done, Effect, EnvAct, EnvActFits, EnvBegins, EnvCourse, EnvEffect, EnvEvent, EnvFound, EnvGoes, EnvGoesOn}
 pub use Rattle.ns_world.specs.Names.{EnvNext, EnvPlain, EnvRequest, EnvSoFar, EnvStep, EnvWalk, Environment, Event, Every, Expired, Expiry, ExpiryLoad, Fault, Finished, FirstClock, ForIsNotified, ForLook, ForNoteWait, Found, Get, Go, GoesOn, HasList, HasMode, HaveShownNothing, Held, Home, Idle}

@@ -2,7 +2,7 @@
 use Rattle.std.specs.Prelude.{◌≡◌, ℕ, ◌⊎◌, Bool, false, ◌||◌, ◌<◌, ◌≤◌, ◌++◌, List, [], map, replicate, Option, Some, None, is_some, slice_get, slice_set, slice_index, length}
 use Rattle.std.specs.Option.{option_map_or}
 use Rattle.std.proofs.Common.{inl, inr}
-use Rattle.ns_world.specs.Names.{AreNumbered, EnvEffect, EnvEvent, EnvFound, EnvNext, EnvPlain, EnvStep, EnvWalk, Environment, Event, Every, Fault, Found, Go, IfMade, IsLawfulEnv, Lists, LockState, LookOver, Looked, NoSuchSeat, NoteStanding, Nothing, OutOfMemory, Seat, SeatView}
+use Rattle.ns_world.specs.Names.{AreNumbered, EnvEffect, EnvEvent, EnvFound, EnvNext, EnvPlain, EnvStep, EnvWalk, Environment, Event, Every, Fault, Found, Go, IfMade, IsLawfulEnv, Lists, LockState, LookOver, Looked, NoSuchSeat, NoteStanding, OutOfMemory, Seat, SeatView}
 use Rattle.ns_world.specs.Names.{Step, StepLimit, Steps, TooManySeats, Truths, Walk, Went, Word, env_got_of, env_want_of, env_who, fresh_plain, fresh_state, got_of, walk_after, want_of}
 use Rattle.ns_word.specs.Lawful.{IsLawful}
 use Rattle.ns_world.specs.Asks.{plain_of, env_state, env_step_of}
@@ -178,17 +178,9 @@ pub record Looks {C : Type 0} {N : ℕ} (old new : Now C N) (seat : ℕ) (step :
   pub effect : EnvEffect seat (env_want_of place) old.env found old.env []
   pub goes : LookGoes (env_got_of place found) old new seat step
 
--- The seat's walk wants no look, where the seat stands nowhere on the clock and the notes: a wait for any of a set of variables doesn't look just now.
-abbrev pub LooksNot : {C : Type 0} {N : ℕ} → Now C N → ℕ → Type 0
-LooksNot {C} {N} world seat = (view : SeatView C N) (walk : Walk C) → slice_get world.state.views seat ≡ Some view → view.walk ≡ Some walk → slice_get world.asking seat ≡ Some None → looks_at (want_of walk) ≡ None
-
 -- the seat makes one step of its call: on the lock, in a call on the clock and the notes, or in a look
 abbrev pub Moves : {C : Type 0} {N : ℕ} → Now C N → Now C N → ℕ → Step → Type 0
 Moves old new seat step = Acts old new seat step ⊎ (Asks old new seat step ⊎ Looks old new seat step)
-
--- a seat with no call in progress makes no step, and another makes one
-abbrev pub StepOf : {C : Type 0} {N : ℕ} → Now C N → Now C N → ℕ → Step → Type 0
-StepOf old new seat step = ((step ≡ Nothing) × (new ≡ old) × IsIdle old seat) ⊎ Moves old new seat step
 
 -- the events that a seat's step is on the clock and the notes
 abbrev pub env_done : {C : Type 0} {N : ℕ} {old new : Now C N} {seat : ℕ} {step : Step} → Moves old new seat step → List EnvEvent
@@ -199,13 +191,6 @@ env_done (inr (inr looks)) = []
 -- The seat's next step finds the word that it has seen, and so commits an event: a release, a call that wakes, or that a wait for variables is left in whose lists it still stands.
 abbrev pub CommitsNext : {C : Type 0} {N : ℕ} → Now C N → ℕ → Type 0
 CommitsNext world seat = (walking : IsWalking world seat) × Commits seat (want_of walking.walk) world.state.word world.state.lists
-
--- Why a step is refused: the number is no seat's, or there was no memory for the event that it commits.
-abbrev pub StepFault : {C : Type 0} {N : ℕ} → Now C N → ℕ → Fault → Type 0
-StepFault old seat NoSuchSeat = length old.state.views ≤ seat
-StepFault old seat OutOfMemory = CommitsNext old seat
-StepFault old seat TooManySeats = ⊥
-StepFault old seat StepLimit = ⊥
 
 -- ---- what a world shows
 

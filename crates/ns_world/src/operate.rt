@@ -1,10 +1,9 @@
 //! How a call on counters and once cells begins, and a step of one, over the parts of a world.
 
-ghost use Rattle.std.specs.Prelude.{◌≡◌, ◌||◌, ◌<◌, ℕ, List, is_some, length};
-ghost use Rattle.ns_model.specs.Seats.{is_in};
+ghost use Rattle.std.specs.Prelude.{◌≡◌, ◌<◌, ℕ, List};
 ghost use Rattle.ns_world.specs.Asks.{plain_of};
 ghost use Rattle.ns_world.specs.Objects.{HasOperated, objects_begun};
-ghost use Rattle.ns_counters.specs.Asks.{ObjectEffect, StepFits, WantFits, walk_in};
+ghost use Rattle.ns_counters.specs.Asks.{ObjectEffect, StepFits, WantFits};
 ghost use Rattle.ns_counters.specs.declared.object.ObjectEvent.{ObjectEvent};
 ghost use Rattle.ns_counters.specs.declared.object.Place.{Place};
 
@@ -13,7 +12,6 @@ use crate::objects::{Objects, step_of, walk_after};
 use crate::step::Step;
 use ns_counters::round::{ObjectFound, ObjectWant};
 use ns_counters::walk::ObjectWalk;
-use ns_model::seats::Seats;
 
 /// Puts the seat at the first place of its call, if it is one on counters and once cells.
 pub(crate) fn begin_on(objects: &mut Objects, seat: u8, first: Option<ObjectWalk>)
@@ -47,18 +45,4 @@ pub(crate) fn operate(env: &Environment, objects: &mut Objects, seat: u8, walk: 
     let next = walk.got(found);
     objects.put(seat, walk_after(next));
     step_of(next)
-}
-
-/// The seats, and those with a call in progress on counters and once cells.
-pub(crate) fn with_busy(objects: &Objects, seats: Seats) -> Seats
-    requires { length objects.now.walks ≡ 64 }
-    ensures { (seat : ℕ) → is_in result seat ≡ (is_in seats seat || is_some (walk_in objects.now.walks seat)) }
-{
-    let mut busy = seats;
-    for (at, walk) in objects.walks.iter().enumerate() {
-        if walk.is_some() {
-            busy = busy.with(at as u8);
-        }
-    }
-    busy
 }

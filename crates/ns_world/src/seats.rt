@@ -1,11 +1,13 @@
 //! The seats of a new world, and which of a world's seats have a call in progress.
 
-ghost use Rattle.std.specs.Prelude.{◌≡◌, ◌≤◌, ℕ, length, map, replicate, is_some, ◌||◌, None, IfOk};
+ghost use Rattle.std.specs.Prelude.{◌≡◌, ◌≤◌, ◌<◌, ℕ, length, map, replicate, is_some, ◌||◌, Some, None, IfOk};
+ghost use Rattle.ns_counters.specs.Asks.{walk_in};
 ghost use Rattle.ns_model.specs.Seats.{is_in};
 ghost use Rattle.ns_word.specs.Begins.{fresh_views};
 ghost use Rattle.ns_world.specs.Performs.{view_of};
 ghost use Rattle.ns_world.specs.World.{is_busy as is_busy_at};
 
+use crate::objects::Objects;
 use crate::room::Seated;
 use crate::seat::Seat;
 use arrayvec::ArrayVec;
@@ -42,14 +44,29 @@ pub(crate) fn is_busy<C: Seated<N>, const N: usize>(seat: &Seat<C, N>) -> bool
     seat.walk.is_some() || seat.asking.is_some()
 }
 
+/// Whether a call of the seat, whose number is this, is in progress, or one on counters and once cells.
+fn is_in_call<C: Seated<N>, const N: usize>(
+    seat: &Seat<C, N>,
+    objects: &Objects,
+    number: u8,
+) -> bool
+    ensures { result ≡ ((is_some seat.now.walk || is_some seat.now.asking) || is_some (walk_in objects.now.walks number)) }
+{
+    is_busy(seat) || objects.walk(number).is_some()
+}
+
 /// The seats with a call in progress.
-pub(crate) fn busy_seats<C: Seated<N>, const N: usize>(seats: &[Seat<C, N>]) -> Seats
-    requires { length seats.now ≤ 64 }
-    ensures { (seat : ℕ) → is_in result seat ≡ is_busy_at (map view_of seats.now) (map (λ seat. seat.asking) seats.now) seat }
+pub(crate) fn busy_seats<C: Seated<N>, const N: usize>(
+    seats: &[Seat<C, N>],
+    objects: &Objects,
+) -> Seats
+    requires few { length seats.now ≤ 64 }
+    requires there { (seat : ℕ) (walk : _) → walk_in objects.now.walks seat ≡ Some walk → seat < length seats.now }
+    ensures { (seat : ℕ) → is_in result seat ≡ (is_busy_at (map view_of seats.now) (map (λ seat. seat.asking) seats.now) seat || is_some (walk_in objects.now.walks seat)) }
 {
     let mut busy = Seats::none();
     for (at, seat) in seats.iter().enumerate() {
-        if is_busy(seat) {
+        if is_in_call(seat, objects, at as u8) {
             busy = busy.with(at as u8);
         }
     }

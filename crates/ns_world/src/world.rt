@@ -16,20 +16,21 @@ use crate::among::{is_for_lock, tell_lock, told_by_lock};
 use crate::call::Call;
 use crate::environment::Environment;
 use crate::fault::Fault;
+use crate::looks::step_env;
 use crate::objects::Objects;
-use crate::operate::{begin_on, operate, with_busy};
+use crate::operate::{begin_on, operate};
+use crate::perform::perform;
 use crate::room::Seated;
 use crate::seat::Seat;
-use crate::seats::{busy_seats, new_seats};
+use crate::seats::{busy_seats, is_busy, new_seats};
 use crate::shows::{owed_wakes, shown_queues};
 use crate::state::State;
-use crate::step::{Begun, Step, begin_at, step_at};
+use crate::step::{Begun, Step, mode_of, place};
 use ns_counters::walk::ObjectWalk;
 use ns_model::condition::Condition;
 use ns_model::event::Event;
 use ns_queue::queues::Queues;
 use ns_queue::waiter::Which;
-use ns_word::codec::{encode, unpacked};
 use ns_word::word::Word;
 use std::alloc::Global;
 use std::marker::Model;
@@ -48,7 +49,7 @@ use std::marker::Model;
 /// The queues are worked on in place, at the step that puts them back; only what is shown is a copy.
 #[derive(Drop)]
 pub struct World<C: Condition<N>, const N: usize> {
-    word: u64,
+    word: Word,
     row: [u64; N],
     queues: Queues<C, N>,
     flags: [u8; 64],
@@ -59,14 +60,13 @@ pub struct World<C: Condition<N>, const N: usize> {
 }
 
 impl<C: Condition<N>, const N: usize> Model for World<C, N> {
-    ghost use Rattle.ns_word.specs.Codec.{word_of};
     ghost use Rattle.ns_world.specs.Whole.{WholeKept, whole_kept, whole_with, IsLawfulWhole};
 
     ghost Value = { WholeKept C N };
 
-    ghost view = { λ w. whole_kept (word_of w.word) w.row w.queues w.flags w.env w.seats.items w.history.items w.objects };
+    ghost view = { λ w. whole_kept w.word w.row w.queues w.flags w.env w.seats.items w.history.items w.objects };
 
-    ghost invariant = { λ w. IsLawfulWhole (whole_with C.means (word_of w.word) w.row w.queues w.flags w.env w.seats.items w.history.items w.objects) };
+    ghost invariant = { λ w. IsLawfulWhole (whole_with C.means w.word w.row w.queues w.flags w.env w.seats.items w.history.items w.objects) };
 }
 
 impl<C: Seated<N>, const N: usize> World<C, N> {
@@ -87,7 +87,7 @@ impl<C: Seated<N>, const N: usize> World<C, N> {
         let objects = Objects::new(seats as u8, counters, onces as u8);
         let seats = new_seats(alloc, seats as u8)?;
         Ok(World {
-            word: encode(Word::FREE),
+            word: Word::FREE,
             row: [0; N],
             queues: Queues::new(),
             flags: [0; 64],
@@ -109,28 +109,24 @@ impl<C: Seated<N>, const N: usize> World<C, N> {
         ensures ok { IfOk result (λ begun. WholeBegins (whole_of C.means self.old) (whole_of C.means self.new) seat call begun) }
         ensures err { IfErr result (λ fault. (whole_of C.means self.new ≡ whole_of C.means self.old) × BeginFault (now_of C.means self.old.lock) seat fault) }
     {
+        let at = seat as usize;
+        if at >= self.seats.len() {
+            return Err(Fault::NoSuchSeat);
+        }
+        let here = &self.seats[at];
+        if is_busy(here) {
+            return Ok(Begun::Busy);
+        }
         if self.objects.walk(seat).is_some() {
             return Ok(Begun::Busy);
         }
-        let begun = begin_at(
-            &self.word,
-            &self.row,
-            &self.queues,
-            &self.flags,
-            &self.env,
-            &mut self.seats,
-            &self.history,
-            seat,
-            call,
-            &self.objects.setup,
-        )?;
-        match begun {
-            Begun::Started => {
+        match call.start::<N>(mode_of(&here.held), &self.env.notes, &self.objects.setup) {
+            None => Ok(Begun::Misuse),
+            Some(start) => {
+                place(&mut self.seats[at], start);
                 begin_on(&mut self.objects, seat, call.on_objects());
                 Ok(Begun::Started)
             }
-            Begun::Misuse => Ok(Begun::Misuse),
-            Begun::Busy => Ok(Begun::Busy),
         }
     }
 
@@ -144,9 +140,39 @@ impl<C: Seated<N>, const N: usize> World<C, N> {
         ensures ok { IfOk result (λ step. WholeStep (whole_of C.means self.old) (whole_of C.means self.new) seat step) }
         ensures err { IfErr result (λ fault. (whole_of C.means self.new ≡ whole_of C.means self.old) × WholeFault (whole_of C.means self.old) seat fault) }
     {
-        match self.objects.walk(seat) {
-            Some(walk) => Ok(self.step_objects(seat, walk)),
-            None => self.step_lock(seat),
+        let at = seat as usize;
+        if at >= self.seats.len() {
+            return Err(Fault::NoSuchSeat);
+        }
+        if let Some(walk) = self.objects.walk(seat) {
+            return Ok(self.step_objects(seat, walk));
+        }
+        if let Some(place) = self.seats[at].asking {
+            return Ok(step_env(&mut self.env, &mut self.seats[at], place));
+        }
+        let Some(walk) = self.seats[at].walk else {
+            return Ok(Step::Nothing);
+        };
+        match perform(
+            &mut self.word,
+            &mut self.row,
+            &mut self.queues,
+            &mut self.flags,
+            &mut self.seats[at],
+            &mut self.history,
+            walk,
+        ) {
+            Ok(told) => match self.objects.wait(seat) {
+                None => Ok(told),
+                Some(wait) => Ok(told_by_lock(
+                    &self.seats[at],
+                    &mut self.objects,
+                    seat,
+                    wait,
+                    told,
+                )),
+            },
+            Err(_) => Err(Fault::OutOfMemory),
         }
     }
 
@@ -172,33 +198,6 @@ impl<C: Seated<N>, const N: usize> World<C, N> {
         )
     }
 
-    /// Makes one step of the seat's call on the lock, or on the clock and the notes; and tells a wait for
-    /// condition variables among notes and counters what it was.
-    fn step_lock(&mut self, seat: u8) -> Result<Step, Fault>
-        requires { walk_in self.old.objects.walks seat ≡ None }
-        ensures lawful { IsLawfulWhole (whole_of C.means self.new) }
-        ensures ok { IfOk result (λ step. WholeStep (whole_of C.means self.old) (whole_of C.means self.new) seat step) }
-        ensures err { IfErr result (λ fault. (whole_of C.means self.new ≡ whole_of C.means self.old) × WholeFault (whole_of C.means self.old) seat fault) }
-    {
-        let told = step_at(
-            &mut self.word,
-            &mut self.row,
-            &mut self.queues,
-            &mut self.flags,
-            &mut self.env,
-            &mut self.seats,
-            &mut self.history,
-            seat,
-        )?;
-        match self.objects.wait(seat) {
-            None => Ok(told),
-            Some(wait) => {
-                let here = &self.seats[seat as usize];
-                Ok(told_by_lock(here, &mut self.objects, seat, wait, told))
-            }
-        }
-    }
-
     /// All that has happened to the row and the variables, which is a legal history by seats of this
     /// world.
     pub fn history(&self) -> &[Event<C, N>]
@@ -214,7 +213,7 @@ impl<C: Seated<N>, const N: usize> World<C, N> {
     pub fn word(&self) -> Word
         ensures { result ≡ self.now.lock.word }
     {
-        unpacked(self.word)
+        self.word
     }
 
     /// The world as it stands, of which the law of the lock holds, and those of the clock and the
@@ -240,7 +239,7 @@ impl<C: Seated<N>, const N: usize> World<C, N> {
             ],
             owed: owed_wakes(&self.seats),
             row: self.row,
-            busy: with_busy(&self.objects, busy_seats(&self.seats)),
+            busy: busy_seats(&self.seats, &self.objects),
         }
     }
 

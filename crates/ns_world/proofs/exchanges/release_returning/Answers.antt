@@ -24,7 +24,8 @@ returns-clause-ok g c = λ flags.
     scanned _ c.args.seat.now.number c.args.releasing c.args.last c.args.word.now c.released_returning.result c.args.row.now flags c.args.history.now.items c.commit.new.history.items
     c.args.queues.now c.scan-scan.new.self c.args.seat.now.owed.items c.called-seat.result.items c.args.seat.now.held c.commit.new.held (not c.is_empty-owes.result) c.scan-scan.result.tests c.bits.result
     c.requires c.in_ok-commit.ensures.ok (c.if-not-is_same.ensures.same refl) c.released_returning.ensures c.in_ok-commit.ensures.over
-    c.scan-scan.ensures.left (are_called _ _ _ _ (c.called-seat.ensures ∙ (λ i. called_by (c.as_slice.ensures.value i) (c.as_slice-2.ensures.value i))) c.scan-scan.ensures.woken c.scan-scan.ensures.vias) (ap not c.is_empty-owes.ensures ∙ some_left _ ∙ some_called _ _ _ c.scan-scan.ensures.woken (are_called _ _ _ _ (c.called-seat.ensures ∙ (λ i. called_by (c.as_slice.ensures.value i) (c.as_slice-2.ensures.value i))) c.scan-scan.ensures.woken c.scan-scan.ensures.vias)) c.bits.ensures c.scan-scan.ensures.tests
+    c.scan-scan.ensures.left (are_called _ _ _ _ (c.called-seat.ensures ∙ (λ i. called_by (c.as_slice.ensures.value i) (c.as_slice-2.ensures.value i))) c.scan-scan.ensures.woken c.scan-scan.ensures.vias) (ap not c.is_empty-owes.ensures ∙ some_left _
+    ∙ some_called _ _ _ c.scan-scan.ensures.woken (are_called _ _ _ _ (c.called-seat.ensures ∙ (λ i. called_by (c.as_slice.ensures.value i) (c.as_slice-2.ensures.value i))) c.scan-scan.ensures.woken c.scan-scan.ensures.vias)) c.bits.ensures c.scan-scan.ensures.tests
 
 pub returns-then-not-is_same-clause-kept : goal.returns-then-not-is_same-clause-kept
 returns-then-not-is_same-clause-kept g c = record { number = refl; walk = refl; asking = refl; tests = refl }

@@ -25,7 +25,9 @@ returns-clause-ok g c = λ flags.
     waited _ c.args.seat.now.number c.args.wait c.args.again c.args.last c.args.word.now c.released_returning.result c.args.row.now flags c.args.history.now.items c.leave_section.new.history.items
     c.args.queues.now c.scan_and_queue-scan.new.queues c.args.seat.now.owed.items c.called-seat.result.items c.args.seat.now.held c.leave_section.new.held (not c.is_empty-owes.result) c.scan_and_queue-scan.result.tests c.bits.result
     c.requires.can c.in_ok-leave_section.ensures.ok (c.if-not-is_same.ensures.same refl) (rw (← c.of.ensures) c.released_returning.ensures) c.in_ok-leave_section.ensures.over
-    c.scan_and_queue-scan.ensures.lists (are_called _ _ _ _ (c.called-seat.ensures ∙ (λ i. called_by (c.as_slice.ensures.value i) (c.as_slice-2.ensures.value i))) c.scan_and_queue-scan.ensures.woken c.scan_and_queue-scan.ensures.vias) (ap not c.is_empty-owes.ensures ∙ some_left _ ∙ some_called _ _ _ c.scan_and_queue-scan.ensures.woken (are_called _ _ _ _ (c.called-seat.ensures ∙ (λ i. called_by (c.as_slice.ensures.value i) (c.as_slice-2.ensures.value i))) c.scan_and_queue-scan.ensures.woken c.scan_and_queue-scan.ensures.vias)) c.bits.ensures c.scan_and_queue-scan.ensures.tests
+    c.scan_and_queue-scan.ensures.lists (are_called _ _ _ _ (c.called-seat.ensures ∙ (λ i. called_by (c.as_slice.ensures.value i) (c.as_slice-2.ensures.value i))) c.scan_and_queue-scan.ensures.woken c.scan_and_queue-scan.ensures.vias) (ap not c.is_empty-owes.ensures ∙ some_left _
+    ∙ some_called _ _ _ c.scan_and_queue-scan.ensures.woken (are_called _ _ _ _ (c.called-seat.ensures ∙ (λ i. called_by (c.as_slice.ensures.value i) (c.as_slice-2.ensures.value i))) c.scan_and_queue-scan.ensures.woken c.scan_and_queue-scan.ensures.vias)) c.bits.ensures
+    c.scan_and_queue-scan.ensures.tests
 
 pub returns-then-not-is_same-clause-kept : goal.returns-then-not-is_same-clause-kept
 returns-then-not-is_same-clause-kept g c = record { number = refl; walk = refl; asking = refl; tests = refl }

@@ -8,7 +8,20 @@ pub acquire-found-requires : goal.acquire-found-requires
 acquire-found-requires g c = let fits = rw c.in-Acquire.is at c.requires.fits in (omega arith, (g.met.C.Fits.held_fits, (fits.0, (fits.1, fits.2))))
 
 pub return_queues-requires : goal.return_queues-requires
-return_queues-requires g c = let fits = rw c.in-ReturnQueues.is at c.requires.fits in (g.met.C.Seated.queues_fit, (g.met.C.Seated.seat_fits, (g.met.C.Fits.event_fits, (fits.0, λ row flags. fits_there c.args.seat.now.number c.in-ReturnQueues.change c.args.word.now c.args.row.now row c.args.flags.now flags c.args.seat.now.held c.args.seat.now.owed.items c.args.queues.now fits.1))))
+return_queues-requires g c = let fits = rw c.in-ReturnQueues.is at c.requires.fits in (
+  g.met.C.Seated.queues_fit,
+  (
+    g.met.C.Seated.seat_fits,
+    (
+      g.met.C.Fits.event_fits,
+      (
+        fits.0,
+        λ row flags. fits_there c.args.seat.now.number c.in-ReturnQueues.change c.args.word.now c.args.row.now row
+            c.args.flags.now flags c.args.seat.now.held c.args.seat.now.owed.items c.args.queues.now fits.1,
+      ),
+    ),
+  ),
+)
 
 pub release-requires : goal.release-requires
 release-requires g c = (g.met.C.Fits.held_fits, (g.met.C.Fits.event_fits, rw c.in-Release.is at c.requires.fits))

@@ -19,7 +19,8 @@ returns-then-tally-limit-clause-err g c = λ whole.
 pub returns-in_err-step-clause-err : goal.returns-in_err-step-clause-err
 returns-in_err-step-clause-err g c =
     let p = err_from_is_err_and c.from_residual.result c.from_residual.ensures.1 in
-    rw (p.1, p.2) (λ whole. turn_stops _ c.args.limit (progress (whole_of g.C.Condition.means c.args.world.now) c.args.tally.now.over c.args.tally.now.lines.items) c.args.tally.now.turns c.args.seat whole (whole_of g.C.Condition.means c.next_turn.new.world) c.in_err-step.field-0.0 c.requires.turns c.in_err-step.ensures.err)
+    rw (p.1, p.2) (λ whole. turn_stops _ c.args.limit (progress (whole_of g.C.Condition.means c.args.world.now) c.args.tally.now.over c.args.tally.now.lines.items) c.args.tally.now.turns c.args.seat whole (whole_of g.C.Condition.means c.next_turn.new.world) c.in_err-step.field-0.0
+    c.requires.turns c.in_err-step.ensures.err)
 
 pub tests-requires : goal.tests-requires
 tests-requires g c =
@@ -33,17 +34,20 @@ returns-in_err-count-clause-err g c =
     let p = err_from_is_err_and c.from_residual-in_err-count.result c.from_residual-in_err-count.ensures.1 in
     let before = progress (whole_of g.C.Condition.means c.args.world.now) c.args.tally.now.over c.args.tally.now.lines.items in
     let turn = c.in_ok-step.ensures.ok _ c.args.tally.now.over c.args.tally.now.lines.items refl in
-    rw (p.1, p.2) (λ whole. untold_stops _ c.args.limit before (progressed before c.args.seat c.in_ok-step.step (whole_of g.C.Condition.means c.next_turn.new.world)) c.args.tally.now.turns c.args.seat whole c.in_ok-step.step (whole_of g.C.Condition.means c.next_turn.new.world) turn c.in_err-count.ensures.err (omega arith) (progressed_world before c.args.seat c.in_ok-step.step (whole_of g.C.Condition.means c.next_turn.new.world)))
+    rw (p.1, p.2) (λ whole. untold_stops _ c.args.limit before (progressed before c.args.seat c.in_ok-step.step (whole_of g.C.Condition.means c.next_turn.new.world)) c.args.tally.now.turns c.args.seat whole c.in_ok-step.step (whole_of g.C.Condition.means c.next_turn.new.world) turn
+    c.in_err-count.ensures.err (omega arith) (progressed_world before c.args.seat c.in_ok-step.step (whole_of g.C.Condition.means c.next_turn.new.world)))
 
 pub returns-clause-ok : goal.returns-clause-ok
 returns-clause-ok g c =
-    let counted = counts_progress (whole_of g.C.Condition.means c.args.world.now) (whole_of g.C.Condition.means c.next_turn.new.world) c.args.tally.now.over c.count.new.tally.over c.args.tally.now.lines.items c.count.new.tally.lines.items c.args.seat c.tests.result c.in_ok-step.step c.tests.ensures c.in_ok-count.ensures.ok in
+    let counted = counts_progress (whole_of g.C.Condition.means c.args.world.now) (whole_of g.C.Condition.means c.next_turn.new.world) c.args.tally.now.over c.count.new.tally.over c.args.tally.now.lines.items c.count.new.tally.lines.items c.args.seat c.tests.result c.in_ok-step.step
+    c.tests.ensures c.in_ok-count.ensures.ok in
     rw counted (c.in_ok-step.ensures.ok _ c.args.tally.now.over c.args.tally.now.lines.items refl)
 
 pub returns-clause-counted : goal.returns-clause-counted
 returns-clause-counted g c =
     let before = progress (whole_of g.C.Condition.means c.args.world.now) c.args.tally.now.over c.args.tally.now.lines.items in
-    let counted = counts_progress (whole_of g.C.Condition.means c.args.world.now) (whole_of g.C.Condition.means c.next_turn.new.world) c.args.tally.now.over c.count.new.tally.over c.args.tally.now.lines.items c.count.new.tally.lines.items c.args.seat c.tests.result c.in_ok-step.step c.tests.ensures c.in_ok-count.ensures.ok in
+    let counted = counts_progress (whole_of g.C.Condition.means c.args.world.now) (whole_of g.C.Condition.means c.next_turn.new.world) c.args.tally.now.over c.count.new.tally.over c.args.tally.now.lines.items c.count.new.tally.lines.items c.args.seat c.tests.result c.in_ok-step.step
+    c.tests.ensures c.in_ok-count.ensures.ok in
     let calls = map (λ (calls : Vec (Call _) Global). calls.items) c.args.lists.now in
     let turn = c.in_ok-step.ensures.ok calls c.args.tally.now.over c.args.tally.now.lines.items refl in
     let few = (calls_fit g.row.N c.args.lists.now c.args.seat c.requires.lists).0 in

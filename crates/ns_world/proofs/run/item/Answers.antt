@@ -19,7 +19,8 @@ returns-in_err-step-clause-err g c =
     let calls = map (λ (calls : Vec (Call _) Global). calls.items) c.args.lists.now in
     let first = progress (whole_of g.C.Condition.means c.args.world.now) c.args.tally.now.over c.args.tally.now.lines.items in
     let now = progress (whole_of g.C.Condition.means c.loop-step.world) c.loop-step.tally.over c.loop-step.tally.lines.items in
-    rw (p.1, p.2) (stops_behind calls c.args.limit first now c.args.tally.now.turns c.loop-step.tally.turns (record { seat = c.args.seat; whole = c.args.whole } ∷ []) (record { seat = c.args.seat; whole = c.args.whole } ∷ []) (whole_of g.C.Condition.means c.counted_turn.new.world) c.in_err-step.field-0.0
+    rw (p.1, p.2) (stops_behind calls c.args.limit first now c.args.tally.now.turns c.loop-step.tally.turns (record { seat = c.args.seat; whole = c.args.whole } ∷ []) (record { seat = c.args.seat; whole = c.args.whole } ∷ []) (whole_of g.C.Condition.means c.counted_turn.new.world)
+    c.in_err-step.field-0.0
     c.loop-step.invariant.advances (c.in_err-step.ensures.err c.args.whole))
 
 pub returns-then-is_end-clause-ok : goal.returns-then-is_end-clause-ok

@@ -10,7 +10,8 @@ returns-in_default-clause-ok g c = rw c.in_default.is (map_ok c.step.result (λ 
 pub returns-in-Started-clause-ok : goal.returns-in-Started-clause-ok
 returns-in-Started-clause-ok g c =
     let starts = rw c.in-Started.is at c.in_ok-begin.ensures.ok in
-    rw c.in-Some.is (map_ok c.step-in-Started.result (λ step p. turns_started (whole_of g.C.Condition.means c.args.world.now) (whole_of g.C.Condition.means c.begin.new.self) (whole_of g.C.Condition.means c.step-in-Started.new.self) c.args.seat c.in-Some.call step starts p) c.step-in-Started.ensures.ok)
+    rw c.in-Some.is (map_ok c.step-in-Started.result (λ step p. turns_started (whole_of g.C.Condition.means c.args.world.now) (whole_of g.C.Condition.means c.begin.new.self) (whole_of g.C.Condition.means c.step-in-Started.new.self) c.args.seat c.in-Some.call step starts p)
+    c.step-in-Started.ensures.ok)
 
 pub returns-in-Started-clause-err : goal.returns-in-Started-clause-err
 returns-in-Started-clause-err g c =

@@ -1,50 +1,97 @@
-use Rattle.std.proofs.Common.{arith, ◌≡◌, sym, ◌∙◌, ap, refl, Option, Some, None, is_some, false}
-use Rattle.ns_world.specs.Prelude.{Busy, Misuse, now_with, whole_with, word_of}
-use Rattle.ns_world.proofs.Wholes.{busy_elsewhere, unbegun, same_keeps, whole_begun, whole_starts, low}
+use Rattle.std.proofs.Common.{◌≡◌, ◌<◌, ◌≤◌, arith, sym, ◌∙◌, ap, inl, inr, length, refl, subst, Option, Some, None, is_some, true, false}
+use Rattle.ns_world.specs.Prelude.{walk_in}
+use Rattle.ns_world.proofs.Placed.{busy_here, idle_walk, idle_ask}
+use Rattle.ns_world.proofs.Tells.{begins_here, misused_here}
+use Rattle.ns_world.proofs.Worlds.{below_64, past_views, same_element}
 use Rattle.ns_world.proofs.world.World.begin.Goals as goal
-
-pub begin_at-requires : goal.begin_at-requires
-begin_at-requires g c = (omega (arith, g.met.C.Condition.has_room.1), (g.met.C.Seated.queues_fit, (g.met.C.Seated.seat_fits, (g.met.C.Fits.event_fits, (c.self.invariant.lock, c.requires)))))
 
 none_by : {A : Type 0} (walk : Option A) → is_some walk ≡ false → walk ≡ None
 none_by None e = refl
 none_by (Some walk) e = absurd (cc)
 
+some_by : {A : Type 0} (walk : Option A) → is_some walk ≡ true → (x : A) × (walk ≡ Some x)
+some_by (Some walk) e = (walk, refl)
+some_by None e = absurd (cc)
+
+pub returns-then-at-len-clause-err : goal.returns-then-at-len-clause-err
+returns-then-at-len-clause-err g c = let past : length c.self.inside.seats.items ≤ c.args.seat = omega arith in rw (← c.self.view_is) (refl, past_views c.self.inside.seats.items c.args.seat past)
+
+pub returns-then-is_busy-clause-ok : goal.returns-then-is_busy-clause-ok
+returns-then-is_busy-clause-ok g c =
+    let within : c.args.seat < length c.self.inside.seats.items = subst (λ n. c.args.seat < n) (c.len.ensures ∙ c.self.inside.seats.ok.0) c.if-at-len.false in
+    rw (← c.self.view_is) (
+      refl,
+      inl (busy_here g.C.Condition.means c.self.inside.word c.self.inside.row c.self.inside.queues c.self.inside.flags c.self.inside.env c.self.inside.seats.items c.self.inside.history.items c.args.seat c.index-here.result.now within c.index-here.ensures
+          (sym c.is_busy.ensures ∙ c.if-is_busy.true)),
+    )
+
 pub returns-then-is_some-clause-ok : goal.returns-then-is_some-clause-ok
-returns-then-is_some-clause-ok g c = rw (← c.self.view_is) (refl, busy_elsewhere (whole_with g.C.Condition.means (word_of c.self.inside.word) c.self.inside.row c.self.inside.queues c.self.inside.flags c.self.inside.env c.self.inside.seats.items c.self.inside.history.items c.self.inside.objects) c.args.seat (ap is_some (sym c.walk.ensures) ∙ sym c.is_some.ensures ∙ c.if-is_some.true))
+returns-then-is_some-clause-ok g c =
+    rw (← c.self.view_is) (refl, inr (some_by (walk_in c.self.inside.objects.walks c.args.seat) (ap is_some (sym c.walk.ensures) ∙ sym c.is_some.ensures ∙ c.if-is_some.true)))
+
+pub returns-in-None-clause-ok : goal.returns-in-None-clause-ok
+returns-in-None-clause-ok g c =
+    let here = c.index-here.result.now in
+    let within : c.args.seat < length c.self.inside.seats.items = subst (λ n. c.args.seat < n) (c.len.ensures ∙ c.self.inside.seats.ok.0) c.if-at-len.false in
+    let idle = sym c.is_busy.ensures ∙ c.if-is_busy.false in
+    let over = rw c.index-here.ensures at (idle_walk here.walk here.asking idle) in
+    let unasked = rw c.index-here.ensures at (idle_ask here.walk here.asking idle) in
+    let nowhere = sym c.walk.ensures ∙ none_by c.walk.result (sym c.is_some.ensures ∙ c.if-is_some.false) in
+    rw (← c.self.view_is) (
+      refl,
+      misused_here g.C.Condition.means g.met.C.Condition.has_cells.0 g.met.C.Condition.quiet_keeps
+          c.self.inside.word c.self.inside.row c.self.inside.queues c.self.inside.flags c.self.inside.env c.self.inside.seats.items c.self.inside.history.items c.self.inside.objects c.self.invariant c.args.seat here within
+          c.args.call over unasked nowhere (rw (c.mode_of.ensures, c.index-here.ensures) at c.in-None.ensures),
+      nowhere,
+    )
 
 pub invariant_of-self : goal.invariant_of-self
-invariant_of-self g c = same_keeps (whole_with g.C.Condition.means (word_of c.self.inside.word) c.self.inside.row c.self.inside.queues c.self.inside.flags c.self.inside.env c.self.inside.seats.items c.self.inside.history.items c.self.inside.objects) (now_with g.C.Condition.means (word_of c.self.inside.word) c.self.inside.row c.self.inside.queues c.self.inside.flags c.self.inside.env c.begin_at.new.seats.items c.self.inside.history.items) c.self.invariant c.in_err-begun.ensures.err.0
+invariant_of-self g c =
+    let seat = c.index_mut.result.now in
+    let within : c.args.seat < length c.self.inside.seats.items = subst (λ n. c.args.seat < n) (c.len.ensures ∙ c.self.inside.seats.ok.0) c.if-at-len.false in
+    let same = same_element c.self.inside.seats.items c.args.seat c.index-here.result.now seat within c.index-here.ensures c.index_mut.ensures.value in
+    let is = c.index_mut.ensures.value in
+    let idle = sym c.is_busy.ensures ∙ c.if-is_busy.false in
+    let over = idle_walk c.index-here.result.now.walk c.index-here.result.now.asking idle in
+    let unasked = idle_ask c.index-here.result.now.walk c.index-here.result.now.asking idle in
+    let nowhere = sym c.walk.ensures ∙ none_by c.walk.result (sym c.is_some.ensures ∙ c.if-is_some.false) in
+    let begun = begins_here g.C.Condition.means g.met.C.Condition.has_cells.0 g.met.C.Condition.quiet_keeps
+    c.self.inside.word c.self.inside.row c.self.inside.queues c.self.inside.flags c.self.inside.env c.self.inside.seats.items c.self.inside.history.items c.self.inside.objects c.self.invariant c.args.seat seat within
+    c.args.call (rw (same, is) at over) (rw (same, is) at unasked) nowhere c.in-Some.start c.requires (rw (c.mode_of.ensures, same, is) at c.in-Some.ensures.0) (rw (c.mode_of.ensures, same, is) at c.in-Some.ensures.1) in
+    rw (c.place.ensures, is, c.begin_on.ensures, c.on_objects.ensures) begun.1
 
-pub returns-in_err-begun-clause-lawful : goal.returns-in_err-begun-clause-lawful
-returns-in_err-begun-clause-lawful g c = same_keeps (whole_with g.C.Condition.means (word_of c.self.inside.word) c.self.inside.row c.self.inside.queues c.self.inside.flags c.self.inside.env c.self.inside.seats.items c.self.inside.history.items c.self.inside.objects) (now_with g.C.Condition.means (word_of c.self.inside.word) c.self.inside.row c.self.inside.queues c.self.inside.flags c.self.inside.env c.begin_at.new.seats.items c.self.inside.history.items) c.self.invariant c.in_err-begun.ensures.err.0
+pub returns-in-Some-clause-lawful : goal.returns-in-Some-clause-lawful
+returns-in-Some-clause-lawful g c = invariant_of-self g c
+
+pub returns-in-Some-clause-ok : goal.returns-in-Some-clause-ok
+returns-in-Some-clause-ok g c =
+    let seat = c.index_mut.result.now in
+    let within : c.args.seat < length c.self.inside.seats.items = subst (λ n. c.args.seat < n) (c.len.ensures ∙ c.self.inside.seats.ok.0) c.if-at-len.false in
+    let same = same_element c.self.inside.seats.items c.args.seat c.index-here.result.now seat within c.index-here.ensures c.index_mut.ensures.value in
+    let is = c.index_mut.ensures.value in
+    let idle = sym c.is_busy.ensures ∙ c.if-is_busy.false in
+    let over = idle_walk c.index-here.result.now.walk c.index-here.result.now.asking idle in
+    let unasked = idle_ask c.index-here.result.now.walk c.index-here.result.now.asking idle in
+    let nowhere = sym c.walk.ensures ∙ none_by c.walk.result (sym c.is_some.ensures ∙ c.if-is_some.false) in
+    let begun = begins_here g.C.Condition.means g.met.C.Condition.has_cells.0 g.met.C.Condition.quiet_keeps
+    c.self.inside.word c.self.inside.row c.self.inside.queues c.self.inside.flags c.self.inside.env c.self.inside.seats.items c.self.inside.history.items c.self.inside.objects c.self.invariant c.args.seat seat within
+    c.args.call (rw (same, is) at over) (rw (same, is) at unasked) nowhere c.in-Some.start c.requires (rw (c.mode_of.ensures, same, is) at c.in-Some.ensures.0) (rw (c.mode_of.ensures, same, is) at c.in-Some.ensures.1) in
+    rw (← c.self.view_is) (rw (c.place.ensures, is, c.begin_on.ensures, c.on_objects.ensures) begun.0)
+
+pub is_busy-requires : goal.is_busy-requires
+is_busy-requires g c = g.met.C.Seated.seat_fits
+
+pub place-requires : goal.place-requires
+place-requires g c = g.met.C.Seated.seat_fits
+
+pub mode_of-requires : goal.mode_of-requires
+mode_of-requires g c = g.met.C.Fits.held_fits
 
 pub begin_on-requires : goal.begin_on-requires
-begin_on-requires g c = low (whole_with g.C.Condition.means (word_of c.self.inside.word) c.self.inside.row c.self.inside.queues c.self.inside.flags c.self.inside.env c.self.inside.seats.items c.self.inside.history.items c.self.inside.objects) c.self.invariant (now_with g.C.Condition.means (word_of c.self.inside.word) c.self.inside.row c.self.inside.queues c.self.inside.flags c.self.inside.env c.begin_at.new.seats.items c.self.inside.history.items) c.args.seat c.args.call (rw c.in-Started.is at c.in_ok-begun.ensures.ok) c.in_ok-begun.ensures.lawful (sym c.walk.ensures ∙ none_by c.walk.result (sym c.is_some.ensures ∙ c.if-is_some.false))
+begin_on-requires g c = below_64 c.self.inside.seats.items c.args.seat c.self.invariant.lock.few (subst (λ n. c.args.seat < n) (c.len.ensures ∙ c.self.inside.seats.ok.0) c.if-at-len.false)
 
-pub invariant_of-self-in-Started : goal.invariant_of-self-in-Started
-invariant_of-self-in-Started g c = rw (c.begin_on.ensures, c.on_objects.ensures) (whole_begun (whole_with g.C.Condition.means (word_of c.self.inside.word) c.self.inside.row c.self.inside.queues c.self.inside.flags c.self.inside.env c.self.inside.seats.items c.self.inside.history.items c.self.inside.objects) c.self.invariant (now_with g.C.Condition.means (word_of c.self.inside.word) c.self.inside.row c.self.inside.queues c.self.inside.flags c.self.inside.env c.begin_at.new.seats.items c.self.inside.history.items) c.args.seat c.args.call (rw c.in-Started.is at c.in_ok-begun.ensures.ok) c.in_ok-begun.ensures.lawful (sym c.walk.ensures ∙ none_by c.walk.result (sym c.is_some.ensures ∙ c.if-is_some.false)))
+pub index-here-requires : goal.index-here-requires
+index-here-requires g c = rw (← c.len.ensures) c.if-at-len.false
 
-pub returns-in-Started-clause-lawful : goal.returns-in-Started-clause-lawful
-returns-in-Started-clause-lawful g c = rw (c.begin_on.ensures, c.on_objects.ensures) (whole_begun (whole_with g.C.Condition.means (word_of c.self.inside.word) c.self.inside.row c.self.inside.queues c.self.inside.flags c.self.inside.env c.self.inside.seats.items c.self.inside.history.items c.self.inside.objects) c.self.invariant (now_with g.C.Condition.means (word_of c.self.inside.word) c.self.inside.row c.self.inside.queues c.self.inside.flags c.self.inside.env c.begin_at.new.seats.items c.self.inside.history.items) c.args.seat c.args.call (rw c.in-Started.is at c.in_ok-begun.ensures.ok) c.in_ok-begun.ensures.lawful (sym c.walk.ensures ∙ none_by c.walk.result (sym c.is_some.ensures ∙ c.if-is_some.false)))
-
-pub returns-in-Started-clause-ok : goal.returns-in-Started-clause-ok
-returns-in-Started-clause-ok g c = rw (← c.self.view_is) (rw (c.begin_on.ensures, c.on_objects.ensures) (whole_starts (whole_with g.C.Condition.means (word_of c.self.inside.word) c.self.inside.row c.self.inside.queues c.self.inside.flags c.self.inside.env c.self.inside.seats.items c.self.inside.history.items c.self.inside.objects) c.self.invariant (now_with g.C.Condition.means (word_of c.self.inside.word) c.self.inside.row c.self.inside.queues c.self.inside.flags c.self.inside.env c.begin_at.new.seats.items c.self.inside.history.items) c.args.seat c.args.call (rw c.in-Started.is at c.in_ok-begun.ensures.ok) c.in_ok-begun.ensures.lawful (sym c.walk.ensures ∙ none_by c.walk.result (sym c.is_some.ensures ∙ c.if-is_some.false))))
-
-pub invariant_of-self-in-Misuse : goal.invariant_of-self-in-Misuse
-invariant_of-self-in-Misuse g c = same_keeps (whole_with g.C.Condition.means (word_of c.self.inside.word) c.self.inside.row c.self.inside.queues c.self.inside.flags c.self.inside.env c.self.inside.seats.items c.self.inside.history.items c.self.inside.objects) (now_with g.C.Condition.means (word_of c.self.inside.word) c.self.inside.row c.self.inside.queues c.self.inside.flags c.self.inside.env c.begin_at.new.seats.items c.self.inside.history.items) c.self.invariant (unbegun (whole_with g.C.Condition.means (word_of c.self.inside.word) c.self.inside.row c.self.inside.queues c.self.inside.flags c.self.inside.env c.self.inside.seats.items c.self.inside.history.items c.self.inside.objects) (now_with g.C.Condition.means (word_of c.self.inside.word) c.self.inside.row c.self.inside.queues c.self.inside.flags c.self.inside.env c.begin_at.new.seats.items c.self.inside.history.items) c.args.seat c.args.call Misuse (sym c.walk.ensures ∙ none_by c.walk.result (sym c.is_some.ensures ∙ c.if-is_some.false)) (λ e. absurd (cc)) (rw c.in-Misuse.is at c.in_ok-begun.ensures.ok)).1
-
-pub returns-in-Misuse-clause-lawful : goal.returns-in-Misuse-clause-lawful
-returns-in-Misuse-clause-lawful g c = same_keeps (whole_with g.C.Condition.means (word_of c.self.inside.word) c.self.inside.row c.self.inside.queues c.self.inside.flags c.self.inside.env c.self.inside.seats.items c.self.inside.history.items c.self.inside.objects) (now_with g.C.Condition.means (word_of c.self.inside.word) c.self.inside.row c.self.inside.queues c.self.inside.flags c.self.inside.env c.begin_at.new.seats.items c.self.inside.history.items) c.self.invariant (unbegun (whole_with g.C.Condition.means (word_of c.self.inside.word) c.self.inside.row c.self.inside.queues c.self.inside.flags c.self.inside.env c.self.inside.seats.items c.self.inside.history.items c.self.inside.objects) (now_with g.C.Condition.means (word_of c.self.inside.word) c.self.inside.row c.self.inside.queues c.self.inside.flags c.self.inside.env c.begin_at.new.seats.items c.self.inside.history.items) c.args.seat c.args.call Misuse (sym c.walk.ensures ∙ none_by c.walk.result (sym c.is_some.ensures ∙ c.if-is_some.false)) (λ e. absurd (cc)) (rw c.in-Misuse.is at c.in_ok-begun.ensures.ok)).1
-
-pub returns-in-Misuse-clause-ok : goal.returns-in-Misuse-clause-ok
-returns-in-Misuse-clause-ok g c = rw (← c.self.view_is) (unbegun (whole_with g.C.Condition.means (word_of c.self.inside.word) c.self.inside.row c.self.inside.queues c.self.inside.flags c.self.inside.env c.self.inside.seats.items c.self.inside.history.items c.self.inside.objects) (now_with g.C.Condition.means (word_of c.self.inside.word) c.self.inside.row c.self.inside.queues c.self.inside.flags c.self.inside.env c.begin_at.new.seats.items c.self.inside.history.items) c.args.seat c.args.call Misuse (sym c.walk.ensures ∙ none_by c.walk.result (sym c.is_some.ensures ∙ c.if-is_some.false)) (λ e. absurd (cc)) (rw c.in-Misuse.is at c.in_ok-begun.ensures.ok)).0
-
-pub invariant_of-self-in-Busy : goal.invariant_of-self-in-Busy
-invariant_of-self-in-Busy g c = same_keeps (whole_with g.C.Condition.means (word_of c.self.inside.word) c.self.inside.row c.self.inside.queues c.self.inside.flags c.self.inside.env c.self.inside.seats.items c.self.inside.history.items c.self.inside.objects) (now_with g.C.Condition.means (word_of c.self.inside.word) c.self.inside.row c.self.inside.queues c.self.inside.flags c.self.inside.env c.begin_at.new.seats.items c.self.inside.history.items) c.self.invariant (unbegun (whole_with g.C.Condition.means (word_of c.self.inside.word) c.self.inside.row c.self.inside.queues c.self.inside.flags c.self.inside.env c.self.inside.seats.items c.self.inside.history.items c.self.inside.objects) (now_with g.C.Condition.means (word_of c.self.inside.word) c.self.inside.row c.self.inside.queues c.self.inside.flags c.self.inside.env c.begin_at.new.seats.items c.self.inside.history.items) c.args.seat c.args.call Busy (sym c.walk.ensures ∙ none_by c.walk.result (sym c.is_some.ensures ∙ c.if-is_some.false)) (λ e. absurd (cc)) (rw c.in-Busy.is at c.in_ok-begun.ensures.ok)).1
-
-pub returns-in-Busy-clause-lawful : goal.returns-in-Busy-clause-lawful
-returns-in-Busy-clause-lawful g c = same_keeps (whole_with g.C.Condition.means (word_of c.self.inside.word) c.self.inside.row c.self.inside.queues c.self.inside.flags c.self.inside.env c.self.inside.seats.items c.self.inside.history.items c.self.inside.objects) (now_with g.C.Condition.means (word_of c.self.inside.word) c.self.inside.row c.self.inside.queues c.self.inside.flags c.self.inside.env c.begin_at.new.seats.items c.self.inside.history.items) c.self.invariant (unbegun (whole_with g.C.Condition.means (word_of c.self.inside.word) c.self.inside.row c.self.inside.queues c.self.inside.flags c.self.inside.env c.self.inside.seats.items c.self.inside.history.items c.self.inside.objects) (now_with g.C.Condition.means (word_of c.self.inside.word) c.self.inside.row c.self.inside.queues c.self.inside.flags c.self.inside.env c.begin_at.new.seats.items c.self.inside.history.items) c.args.seat c.args.call Busy (sym c.walk.ensures ∙ none_by c.walk.result (sym c.is_some.ensures ∙ c.if-is_some.false)) (λ e. absurd (cc)) (rw c.in-Busy.is at c.in_ok-begun.ensures.ok)).1
-
-pub returns-in-Busy-clause-ok : goal.returns-in-Busy-clause-ok
-returns-in-Busy-clause-ok g c = rw (← c.self.view_is) (unbegun (whole_with g.C.Condition.means (word_of c.self.inside.word) c.self.inside.row c.self.inside.queues c.self.inside.flags c.self.inside.env c.self.inside.seats.items c.self.inside.history.items c.self.inside.objects) (now_with g.C.Condition.means (word_of c.self.inside.word) c.self.inside.row c.self.inside.queues c.self.inside.flags c.self.inside.env c.begin_at.new.seats.items c.self.inside.history.items) c.args.seat c.args.call Busy (sym c.walk.ensures ∙ none_by c.walk.result (sym c.is_some.ensures ∙ c.if-is_some.false)) (λ e. absurd (cc)) (rw c.in-Busy.is at c.in_ok-begun.ensures.ok)).0
+pub index_mut-requires : goal.index_mut-requires
+index_mut-requires g c = rw (← c.len.ensures) c.if-at-len.false

@@ -1,7 +1,8 @@
-use Rattle.std.proofs.Common.{arith, map, rules, refl, ap, ◌∙◌, ◌||◌, is_some}
-use Rattle.ns_world.specs.Prelude.{Lists, shown_of, walk_in, word_of}
+use Rattle.std.proofs.Common.{arith, map, rules, refl, ap, ◌∙◌}
+use Rattle.ns_world.specs.Prelude.{Lists, shown_of}
 use Rattle.ns_queue.proofs.Shown.{each_shown}
 use Rattle.ns_world.proofs.States.{listed, number_below, nowhere, few_seats, wakes_few}
+use Rattle.ns_world.proofs.Tells.{seat_within}
 use Rattle.ns_world.proofs.world.World.state.Goals as goal
 
 pub shown_queues-queues-requires : goal.shown_queues-queues-requires
@@ -12,10 +13,10 @@ shown_queues-queues-requires g c = (
     (
       search rules,
       rw c.deref.ensures.value (
-        λ i seat at. listed g.C.Condition.means (word_of c.self.inside.word) c.self.inside.row c.self.inside.queues c.self.inside.flags c.self.inside.env c.self.inside.seats.items c.self.inside.history.items c.self.invariant.lock i seat at,
+        λ i seat at. listed g.C.Condition.means c.self.inside.word c.self.inside.row c.self.inside.queues c.self.inside.flags c.self.inside.env c.self.inside.seats.items c.self.inside.history.items c.self.invariant.lock i seat at,
         (
-          λ i seat at. number_below g.C.Condition.means (word_of c.self.inside.word) c.self.inside.row c.self.inside.queues c.self.inside.flags c.self.inside.env c.self.inside.seats.items c.self.inside.history.items c.self.invariant.lock i seat at,
-          λ i seat at. nowhere g.C.Condition.means (word_of c.self.inside.word) c.self.inside.row c.self.inside.queues c.self.inside.flags c.self.inside.env c.self.inside.seats.items c.self.inside.history.items c.self.invariant.lock i seat at,
+          λ i seat at. number_below g.C.Condition.means c.self.inside.word c.self.inside.row c.self.inside.queues c.self.inside.flags c.self.inside.env c.self.inside.seats.items c.self.inside.history.items c.self.invariant.lock i seat at,
+          λ i seat at. nowhere g.C.Condition.means c.self.inside.word c.self.inside.row c.self.inside.queues c.self.inside.flags c.self.inside.env c.self.inside.seats.items c.self.inside.history.items c.self.invariant.lock i seat at,
         ),
       ),
     ),
@@ -26,13 +27,17 @@ pub owed_wakes-requires : goal.owed_wakes-requires
 owed_wakes-requires g c = (g.met.C.Seated.seat_fits, rw c.deref-2.ensures.value (wakes_few _ _ _ _ c.self.invariant.lock.few c.self.invariant.lock.lawful))
 
 pub busy_seats-requires : goal.busy_seats-requires
-busy_seats-requires g c = (g.met.C.Seated.seat_fits, rw c.deref-3.ensures.value (few_seats g.C.Condition.means (word_of c.self.inside.word) c.self.inside.row c.self.inside.queues c.self.inside.flags c.self.inside.env c.self.inside.seats.items c.self.inside.history.items c.self.invariant.lock))
+busy_seats-requires g c = (
+  g.met.C.Seated.seat_fits,
+  rw c.deref-3.ensures.value (
+    few_seats g.C.Condition.means c.self.inside.word c.self.inside.row c.self.inside.queues c.self.inside.flags c.self.inside.env c.self.inside.seats.items c.self.inside.history.items c.self.invariant.lock,
+    λ seat walk at. seat_within g.C.Condition.means c.self.inside.word c.self.inside.row c.self.inside.queues c.self.inside.flags c.self.inside.env c.self.inside.seats.items c.self.inside.history.items
+        c.self.inside.objects c.self.invariant seat walk at,
+  ),
+)
 
 pub returns-clause-busy : goal.returns-clause-busy
-returns-clause-busy g c = λ seat. rw (← c.self.view_is) (c.with_busy.ensures seat ∙ ap (λ b. b || is_some (walk_in c.self.inside.objects.walks seat)) (rw c.deref-3.ensures.value at (c.busy_seats.ensures seat)))
-
-pub with_busy-requires : goal.with_busy-requires
-with_busy-requires g c = c.self.invariant.places
+returns-clause-busy g c = λ seat. rw (← c.self.view_is) (rw c.deref-3.ensures.value at (c.busy_seats.ensures seat))
 
 pub returns-clause-variables : goal.returns-clause-variables
 returns-clause-variables g c =

@@ -1,8 +1,185 @@
-use Rattle.std.proofs.Common.{rules, sym, ◌∙◌}
+use Rattle.std.proofs.Common.{◌≡◌, ◌*◌, ◌<◌, ◌≤◌, arith, rules, sym, ◌∙◌, inl, length, refl, subst, Some}
+use Rattle.std.proofs.lemmas.List.{get_or-set_same, set-get_or}
+use Rattle.ns_world.proofs.Tells.{asked_here, few_there, idle_here, looks_not, performed_here, refused_here, waited_here}
+use Rattle.ns_world.proofs.Worlds.{act_here, ask_here, asks_for, below_64, past_views, same_element}
 use Rattle.ns_world.proofs.world.World.step.Goals as goal
+
+pub returns-then-at-len-clause-err : goal.returns-then-at-len-clause-err
+returns-then-at-len-clause-err g c = let past : length c.self.inside.seats.items ≤ c.args.seat = omega arith in rw (← c.self.view_is) (refl, past_views c.self.inside.seats.items c.args.seat past)
 
 pub step_objects-requires : goal.step_objects-requires
 step_objects-requires g c = (search rules, rw (← c.self.view_is) (sym c.walk.ensures ∙ c.in-Some.is))
 
-pub step_lock-requires : goal.step_lock-requires
-step_lock-requires g c = (search rules, rw (← c.self.view_is) (sym c.walk.ensures ∙ c.in-None.is))
+-- ---- a step on the clock and the notes
+
+pub step_env-requires : goal.step_env-requires
+step_env-requires g c =
+    let seat = c.index_mut.result.now in
+    let within : c.args.seat < length c.self.inside.seats.items = subst (λ n. c.args.seat < n) (c.len.ensures ∙ c.self.inside.seats.ok.0) c.if-at-len.false in
+    let same = same_element c.self.inside.seats.items c.args.seat c.index.result.now seat within c.index.ensures c.index_mut.ensures.value in
+    let stands = rw (same, c.index_mut.ensures.value) at c.in-Some-asking.is in (
+      g.met.C.Seated.seat_fits,
+      (
+        rw c.index_mut.ensures.value (asks_for g.C.Condition.means g.met.C.Condition.has_cells.0 g.met.C.Condition.quiet_keeps
+            c.self.inside.word c.self.inside.row c.self.inside.queues c.self.inside.flags c.self.inside.env c.self.inside.seats.items c.self.inside.history.items c.self.invariant.lock c.args.seat seat within (Some c.in-Some-asking.place) stands),
+        ask_here g.C.Condition.means g.met.C.Condition.has_cells.0 g.met.C.Condition.quiet_keeps
+            c.self.inside.word c.self.inside.row c.self.inside.queues c.self.inside.flags c.self.inside.env c.self.inside.seats.items c.self.inside.history.items c.self.invariant.lock c.args.seat seat within c.in-Some-asking.place stands,
+      ),
+    )
+
+pub invariant_of-self : goal.invariant_of-self
+invariant_of-self g c =
+    let seat = c.index_mut.result.now in
+    let within : c.args.seat < length c.self.inside.seats.items = subst (λ n. c.args.seat < n) (c.len.ensures ∙ c.self.inside.seats.ok.0) c.if-at-len.false in
+    let same = same_element c.self.inside.seats.items c.args.seat c.index.result.now seat within c.index.ensures c.index_mut.ensures.value in
+    let stands = rw (same, c.index_mut.ensures.value) at c.in-Some-asking.is in
+    let made = asked_here g.C.Condition.means g.met.C.Condition.has_cells.0 g.met.C.Condition.quiet_keeps
+    c.self.inside.word c.self.inside.row c.self.inside.queues c.self.inside.flags c.self.inside.env c.self.inside.seats.items c.self.inside.history.items c.self.inside.objects c.self.invariant c.args.seat seat within (sym c.walk.ensures ∙ c.in_default.is)
+    c.in-Some-asking.place stands c.step_env.new.env c.step_env.new.seat c.step_env.result (rw (← c.index_mut.ensures.value) c.step_env.ensures) in
+    made.1
+
+pub returns-in-Some-asking-clause-lawful : goal.returns-in-Some-asking-clause-lawful
+returns-in-Some-asking-clause-lawful g c = invariant_of-self g c
+
+pub returns-in-Some-asking-clause-ok : goal.returns-in-Some-asking-clause-ok
+returns-in-Some-asking-clause-ok g c =
+    let seat = c.index_mut.result.now in
+    let within : c.args.seat < length c.self.inside.seats.items = subst (λ n. c.args.seat < n) (c.len.ensures ∙ c.self.inside.seats.ok.0) c.if-at-len.false in
+    let same = same_element c.self.inside.seats.items c.args.seat c.index.result.now seat within c.index.ensures c.index_mut.ensures.value in
+    let stands = rw (same, c.index_mut.ensures.value) at c.in-Some-asking.is in
+    let made = asked_here g.C.Condition.means g.met.C.Condition.has_cells.0 g.met.C.Condition.quiet_keeps
+    c.self.inside.word c.self.inside.row c.self.inside.queues c.self.inside.flags c.self.inside.env c.self.inside.seats.items c.self.inside.history.items c.self.inside.objects c.self.invariant c.args.seat seat within (sym c.walk.ensures ∙ c.in_default.is)
+    c.in-Some-asking.place stands c.step_env.new.env c.step_env.new.seat c.step_env.result (rw (← c.index_mut.ensures.value) c.step_env.ensures) in
+    rw (← c.self.view_is) made.0
+
+-- ---- no step
+
+pub returns-in_default-walk-clause-ok : goal.returns-in_default-walk-clause-ok
+returns-in_default-walk-clause-ok g c =
+    let seat = c.index-2.result.now in
+    let within : c.args.seat < length c.self.inside.seats.items = subst (λ n. c.args.seat < n) (c.len.ensures ∙ c.self.inside.seats.ok.0) c.if-at-len.false in
+    let same = same_element c.self.inside.seats.items c.args.seat c.index.result.now seat within c.index.ensures c.index-2.ensures in
+    let idle = idle_here g.C.Condition.means g.met.C.Condition.has_cells.0 g.met.C.Condition.quiet_keeps
+    c.self.inside.word c.self.inside.row c.self.inside.queues c.self.inside.flags c.self.inside.env c.self.inside.seats.items c.self.inside.history.items c.self.inside.objects c.self.invariant c.args.seat seat within (sym c.walk.ensures ∙ c.in_default.is)
+    (rw c.index-2.ensures at c.in_default-walk.is) (rw (same, c.index-2.ensures) at c.in_default-asking.is) in
+    rw (← c.self.view_is) (inl (refl, refl, idle))
+
+-- ---- a step on the lock
+
+pub perform-requires : goal.perform-requires
+perform-requires g c =
+    let few : g.row.N * 8 < 9223372036854775808 = omega (arith, g.met.C.Condition.has_room.1) in
+    let seat = c.index_mut-2.result.now in
+    let within : c.args.seat < length c.self.inside.seats.items = subst (λ n. c.args.seat < n) (c.len.ensures ∙ c.self.inside.seats.ok.0) c.if-at-len.false in
+    let same = same_element c.self.inside.seats.items c.args.seat c.index-2.result.now seat within c.index-2.ensures c.index_mut-2.ensures.value in
+    let walks = rw same at c.in-Some-walk.is in
+    let unasked = rw (same_element c.self.inside.seats.items c.args.seat c.index.result.now seat within c.index.ensures c.index_mut-2.ensures.value, c.index_mut-2.ensures.value) at c.in_default-asking.is in
+    let nowhere = sym c.walk.ensures ∙ c.in_default.is in
+    let act = act_here g.C.Condition.means g.met.C.Condition.has_cells.0 g.met.C.Condition.quiet_keeps
+    c.self.inside.word c.self.inside.row c.self.inside.queues c.self.inside.flags c.self.inside.env c.self.inside.seats.items c.self.inside.history.items c.self.invariant.lock c.args.seat seat within c.in-Some-walk.walk (rw c.index_mut-2.ensures.value at walks) in
+    let looks = looks_not g.C.Condition.means g.met.C.Condition.has_cells.0 g.met.C.Condition.quiet_keeps
+    c.self.inside.word c.self.inside.row c.self.inside.queues c.self.inside.flags c.self.inside.env c.self.inside.seats.items c.self.inside.history.items c.self.inside.objects c.self.invariant c.args.seat seat within nowhere c.in-Some-walk.walk (rw c.index_mut-2.ensures.value at walks) unasked in
+    (few, (g.met.C.Seated.queues_fit, (g.met.C.Seated.seat_fits, (g.met.C.Fits.event_fits, (walks, (rw c.index_mut-2.ensures.value act, looks))))))
+
+pub invariant_of-self-in-None : goal.invariant_of-self-in-None
+invariant_of-self-in-None g c =
+    let seat = c.index_mut-2.result.now in
+    let within : c.args.seat < length c.self.inside.seats.items = subst (λ n. c.args.seat < n) (c.len.ensures ∙ c.self.inside.seats.ok.0) c.if-at-len.false in
+    let same = same_element c.self.inside.seats.items c.args.seat c.index-2.result.now seat within c.index-2.ensures c.index_mut-2.ensures.value in
+    let walks = rw same at c.in-Some-walk.is in
+    let unasked = rw (same_element c.self.inside.seats.items c.args.seat c.index.result.now seat within c.index.ensures c.index_mut-2.ensures.value, c.index_mut-2.ensures.value) at c.in_default-asking.is in
+    let nowhere = sym c.walk.ensures ∙ c.in_default.is in
+    let made = performed_here g.C.Condition.means g.met.C.Condition.has_cells.0 g.met.C.Condition.quiet_keeps
+    c.self.inside.word c.self.inside.row c.self.inside.queues c.self.inside.flags c.self.inside.env c.self.inside.seats.items c.self.inside.history.items c.self.inside.objects c.self.invariant c.args.seat seat within nowhere c.in-Some-walk.walk (rw c.index_mut-2.ensures.value at walks) unasked
+    c.perform.new.word c.perform.new.row c.perform.new.queues c.perform.new.flags c.perform.new.seat c.perform.new.history.items c.in-Ok.told (rw (← c.index_mut-2.ensures.value) c.in-Ok.ensures.ok) (sym c.wait.ensures ∙ c.in-None.is) in
+    made.1
+
+pub returns-in-None-clause-lawful : goal.returns-in-None-clause-lawful
+returns-in-None-clause-lawful g c = invariant_of-self-in-None g c
+
+pub returns-in-None-clause-ok : goal.returns-in-None-clause-ok
+returns-in-None-clause-ok g c =
+    let seat = c.index_mut-2.result.now in
+    let within : c.args.seat < length c.self.inside.seats.items = subst (λ n. c.args.seat < n) (c.len.ensures ∙ c.self.inside.seats.ok.0) c.if-at-len.false in
+    let same = same_element c.self.inside.seats.items c.args.seat c.index-2.result.now seat within c.index-2.ensures c.index_mut-2.ensures.value in
+    let walks = rw same at c.in-Some-walk.is in
+    let unasked = rw (same_element c.self.inside.seats.items c.args.seat c.index.result.now seat within c.index.ensures c.index_mut-2.ensures.value, c.index_mut-2.ensures.value) at c.in_default-asking.is in
+    let nowhere = sym c.walk.ensures ∙ c.in_default.is in
+    let made = performed_here g.C.Condition.means g.met.C.Condition.has_cells.0 g.met.C.Condition.quiet_keeps
+    c.self.inside.word c.self.inside.row c.self.inside.queues c.self.inside.flags c.self.inside.env c.self.inside.seats.items c.self.inside.history.items c.self.inside.objects c.self.invariant c.args.seat seat within nowhere c.in-Some-walk.walk (rw c.index_mut-2.ensures.value at walks) unasked
+    c.perform.new.word c.perform.new.row c.perform.new.queues c.perform.new.flags c.perform.new.seat c.perform.new.history.items c.in-Ok.told (rw (← c.index_mut-2.ensures.value) c.in-Ok.ensures.ok) (sym c.wait.ensures ∙ c.in-None.is) in
+    rw (← c.self.view_is) made.0
+
+pub told_by_lock-requires : goal.told_by_lock-requires
+told_by_lock-requires g c =
+    let within : c.args.seat < length c.self.inside.seats.items = subst (λ n. c.args.seat < n) (c.len.ensures ∙ c.self.inside.seats.ok.0) c.if-at-len.false in (
+      g.met.C.Seated.seat_fits,
+      (
+        below_64 c.self.inside.seats.items c.args.seat c.self.invariant.lock.few within,
+        few_there g.C.Condition.means g.met.C.Condition.has_cells.0 g.met.C.Condition.quiet_keeps
+            c.self.inside.word c.self.inside.row c.self.inside.queues c.self.inside.flags c.self.inside.env c.self.inside.seats.items c.self.inside.history.items c.self.inside.objects c.self.invariant c.args.seat c.index_mut-2.result.now within c.in-Some-wait.wait (sym c.wait.ensures
+            ∙ c.in-Some-wait.is),
+      ),
+    )
+
+pub invariant_of-self-in-Some-wait : goal.invariant_of-self-in-Some-wait
+invariant_of-self-in-Some-wait g c =
+    let seat = c.index_mut-2.result.now in
+    let within : c.args.seat < length c.self.inside.seats.items = subst (λ n. c.args.seat < n) (c.len.ensures ∙ c.self.inside.seats.ok.0) c.if-at-len.false in
+    let same = same_element c.self.inside.seats.items c.args.seat c.index-2.result.now seat within c.index-2.ensures c.index_mut-2.ensures.value in
+    let walks = rw same at c.in-Some-walk.is in
+    let unasked = rw (same_element c.self.inside.seats.items c.args.seat c.index.result.now seat within c.index.ensures c.index_mut-2.ensures.value, c.index_mut-2.ensures.value) at c.in_default-asking.is in
+    let nowhere = sym c.walk.ensures ∙ c.in_default.is in
+    let here : ◌≡◌ c.index-in-Some-wait.result.now c.perform.new.seat = c.index-in-Some-wait.ensures ∙ get_or-set_same c.self.inside.seats.items c.args.seat c.perform.new.seat c.index-in-Some-wait.result.now within in
+    let made = waited_here g.C.Condition.means g.met.C.Condition.has_cells.0 g.met.C.Condition.quiet_keeps
+    c.self.inside.word c.self.inside.row c.self.inside.queues c.self.inside.flags c.self.inside.env c.self.inside.seats.items c.self.inside.history.items c.self.inside.objects c.self.invariant c.args.seat seat within nowhere c.in-Some-walk.walk (rw c.index_mut-2.ensures.value at walks) unasked
+    c.perform.new.word c.perform.new.row c.perform.new.queues c.perform.new.flags c.perform.new.seat c.perform.new.history.items c.in-Ok.told (rw (← c.index_mut-2.ensures.value) c.in-Ok.ensures.ok)
+    c.in-Some-wait.wait (sym c.wait.ensures ∙ c.in-Some-wait.is) c.told_by_lock.new.objects (rw here at c.told_by_lock.ensures.after) c.told_by_lock.result c.told_by_lock.ensures.step in
+    made.1
+
+pub returns-in-Some-wait-clause-lawful : goal.returns-in-Some-wait-clause-lawful
+returns-in-Some-wait-clause-lawful g c = invariant_of-self-in-Some-wait g c
+
+pub returns-in-Some-wait-clause-ok : goal.returns-in-Some-wait-clause-ok
+returns-in-Some-wait-clause-ok g c =
+    let seat = c.index_mut-2.result.now in
+    let within : c.args.seat < length c.self.inside.seats.items = subst (λ n. c.args.seat < n) (c.len.ensures ∙ c.self.inside.seats.ok.0) c.if-at-len.false in
+    let same = same_element c.self.inside.seats.items c.args.seat c.index-2.result.now seat within c.index-2.ensures c.index_mut-2.ensures.value in
+    let walks = rw same at c.in-Some-walk.is in
+    let unasked = rw (same_element c.self.inside.seats.items c.args.seat c.index.result.now seat within c.index.ensures c.index_mut-2.ensures.value, c.index_mut-2.ensures.value) at c.in_default-asking.is in
+    let nowhere = sym c.walk.ensures ∙ c.in_default.is in
+    let here : ◌≡◌ c.index-in-Some-wait.result.now c.perform.new.seat = c.index-in-Some-wait.ensures ∙ get_or-set_same c.self.inside.seats.items c.args.seat c.perform.new.seat c.index-in-Some-wait.result.now within in
+    let made = waited_here g.C.Condition.means g.met.C.Condition.has_cells.0 g.met.C.Condition.quiet_keeps
+    c.self.inside.word c.self.inside.row c.self.inside.queues c.self.inside.flags c.self.inside.env c.self.inside.seats.items c.self.inside.history.items c.self.inside.objects c.self.invariant c.args.seat seat within nowhere c.in-Some-walk.walk (rw c.index_mut-2.ensures.value at walks) unasked
+    c.perform.new.word c.perform.new.row c.perform.new.queues c.perform.new.flags c.perform.new.seat c.perform.new.history.items c.in-Ok.told (rw (← c.index_mut-2.ensures.value) c.in-Ok.ensures.ok)
+    c.in-Some-wait.wait (sym c.wait.ensures ∙ c.in-Some-wait.is) c.told_by_lock.new.objects (rw here at c.told_by_lock.ensures.after) c.told_by_lock.result c.told_by_lock.ensures.step in
+    rw (← c.self.view_is) made.0
+
+pub invariant_of-self-in-Err : goal.invariant_of-self-in-Err
+invariant_of-self-in-Err g c = let err = c.in-Err.ensures.err in rw (err.1, err.2, err.3, err.4, err.5, err.6, c.index_mut-2.ensures.value, set-get_or c.self.inside.seats.items c.args.seat c.index_mut-2.result.now) c.self.invariant
+
+pub returns-in-Err-clause-lawful : goal.returns-in-Err-clause-lawful
+returns-in-Err-clause-lawful g c = invariant_of-self-in-Err g c
+
+pub returns-in-Err-clause-err : goal.returns-in-Err-clause-err
+returns-in-Err-clause-err g c =
+    let seat = c.index_mut-2.result.now in
+    let within : c.args.seat < length c.self.inside.seats.items = subst (λ n. c.args.seat < n) (c.len.ensures ∙ c.self.inside.seats.ok.0) c.if-at-len.false in
+    let same = same_element c.self.inside.seats.items c.args.seat c.index-2.result.now seat within c.index-2.ensures c.index_mut-2.ensures.value in
+    let walks = rw (same, c.index_mut-2.ensures.value) at c.in-Some-walk.is in
+    let err = c.in-Err.ensures.err in
+    let refused = refused_here g.C.Condition.means g.met.C.Condition.has_cells.0 g.met.C.Condition.quiet_keeps
+    c.self.inside.word c.self.inside.row c.self.inside.queues c.self.inside.flags c.self.inside.env c.self.inside.seats.items c.self.inside.history.items c.self.inside.objects c.self.invariant c.args.seat seat within c.in-Some-walk.walk walks (rw c.index_mut-2.ensures.value at err.0) in
+    rw (← c.self.view_is) (rw (err.1, err.2, err.3, err.4, err.5, err.6, c.index_mut-2.ensures.value, set-get_or c.self.inside.seats.items c.args.seat c.index_mut-2.result.now) refl, refused)
+
+pub index-requires : goal.index-requires
+index-requires g c = rw (← c.len.ensures) c.if-at-len.false
+
+pub index-requires-2 : goal.index-requires-2
+index-requires-2 g c = rw (← c.len.ensures) c.if-at-len.false
+
+pub index_mut-requires : goal.index_mut-requires
+index_mut-requires g c = rw (← c.len.ensures) c.if-at-len.false
+
+pub index_mut-requires-2 : goal.index_mut-requires-2
+index_mut-requires-2 g c = rw (← c.len.ensures) c.if-at-len.false
