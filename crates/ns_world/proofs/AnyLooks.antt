@@ -1,7 +1,7 @@
 -- The looks of a wait for any of a set of variables: it looks as it rests, and nowhere else; and while it does, its seat stands nowhere on the clock and the notes.
 use Rattle.std.proofs.Common.{◌≡◌, ℕ, Bool, true, cond, Option, None, Some, refl, ap, sym, subst}
-use Rattle.ns_world.specs.Prelude.{Act, ArmToWait, Await, AwaitWakeInWait, Cause, Cvs, Held, InAcquire, InCells, InLeaving, InQueuing, InRelease, InShow, InSignal, InTry, InWait, IsForCondition, IsUnfinished, LeaveLoad, Limits, Load, LoadToScan, Look, LookIn, LookOut, Looked, Mode, PayInWait}
-use Rattle.ns_world.specs.Prelude.{PlaceFits, QueueToWait, Take, TestCells, TestLast, Truths, Walk, asked_of, asks_for_any, got_of, judge_of, look_of, look_place, looks_at, step_of, waits_for_any, walk_after, want_acquiring, want_in_cells, want_leaving, want_of, want_releasing, want_showing}
+use Rattle.ns_world.specs.Prelude.{Act, Await, AwaitWakeInWait, Cause, Cvs, Held, InAcquire, InCells, InLeaving, InQueuing, InRelease, InShow, InSignal, InTry, InWait, IsForCondition, IsUnfinished, LeaveLoad, Limits, Look, LookIn, LookOut, Looked, Mode}
+use Rattle.ns_world.specs.Prelude.{PlaceFits, TestLast, Truths, Walk, asked_of, asks_for_any, got_of, judge_of, look_of, look_place, looks_at, step_of, waits_for_any, walk_after, want_acquiring, want_in_cells, want_leaving, want_of, want_releasing, want_showing}
 use Rattle.ns_world.specs.Prelude.{want_signaling, want_trying}
 use Rattle.ns_word.specs.declared.wait.Wait.{Wait}
 use Rattle.ns_word.proofs.Answers.{look_of_act, try_looks_not, acquire_looks_not, release_looks_not, cells_look_not, leaver_looks_not, judge_looks_not, signal_looks_not, show_looks_not}
@@ -17,16 +17,9 @@ module _ {C : Type 0} where
   where_looks : (P : Walk C → Type 0) → ((wait : Wait C) (again : Bool) → P (InWait wait (InQueuing again LookIn))) → ((wait : Wait C) → P (InWait wait LookOut)) → (walk : Walk C) (limits : Limits) → looks_at (want_of walk) ≡ Some limits → P walk
   where_looks P queues rests (InWait wait (InQueuing again LookIn)) limits e = queues wait again
   where_looks P queues rests (InWait wait LookOut) limits e = rests wait
-  where_looks P queues rests (InWait wait (TestCells visit i)) limits e = absurd (cc)
   where_looks P queues rests (InWait wait (TestLast visit i)) limits e = absurd (no_look (judge_of wait.on i) limits (judge_looks_not wait.on i) e)
-  where_looks P queues rests (InWait wait (InQueuing again Load)) limits e = absurd (cc)
-  where_looks P queues rests (InWait wait (InQueuing again (Take last))) limits e = absurd (cc)
-  where_looks P queues rests (InWait wait (InQueuing again (ArmToWait last))) limits e = absurd (cc)
-  where_looks P queues rests (InWait wait (InQueuing again (LoadToScan last i))) limits e = absurd (cc)
-  where_looks P queues rests (InWait wait (InQueuing again (QueueToWait last))) limits e = absurd (cc)
-  where_looks P queues rests (InWait wait PayInWait) limits e = absurd (cc)
-  where_looks P queues rests (InWait wait AwaitWakeInWait) limits e = absurd (cc)
   where_looks P queues rests (InWait wait (InLeaving cause place)) limits e = absurd (no_look (want_leaving wait place) limits (leaver_looks_not wait place) e)
+  where_looks P queues rests (InWait wait place) limits e = absurd (cc)
   where_looks P queues rests (InTry mode place) limits e = absurd (no_look (want_trying mode place) limits (try_looks_not C mode place) e)
   where_looks P queues rests (InAcquire aim place) limits e = absurd (no_look (want_acquiring aim place) limits (acquire_looks_not aim place) e)
   where_looks P queues rests (InRelease releasing place) limits e = absurd (no_look (want_releasing releasing place) limits (release_looks_not C releasing place) e)

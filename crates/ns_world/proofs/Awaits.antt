@@ -1,20 +1,14 @@
 -- A wait for condition variables among notes and counters keeps the law of a whole world, by each of its steps that concern the lock: it begins to wait there, a round tells it what it has shown, or it makes a step of its own.
 use Rattle.std.proofs.Common.{◌≡◌, ◌≢◌, ℕ, suc, ◌<◌, List, ◌++◌, Bool, true, false, cond, Option, None, Some, IsSome, is_some, length, take, drop, slice_get, slice_set, refl, ap, sym, ◌∙◌, subst, arith, inl}
-use Rattle.std.proofs.lemmas.List.{append-nil, length-set}
-use Rattle.std.proofs.lemmas.Option.{same_Some, slice_get_within}
+use Rattle.ns_world.proofs.Below.{append-nil, asked_stays, length-set, put_here, put_there, same_Some, set_here, slice_get_within, split_at, stands_within, view_fits}
 use Rattle.ns_world.specs.Prelude.{Act, Acts, AnyWait, AreAmong, AreThere, Await, BeginsToWait, EndsLook, EnvPlain, FirstClock, Found, HasLedTo, HasOperated, HaveLedTo, Idle, InRound, IsLawfulWhole, IsLawfulWorld, Limits, LooksWhere, Now, ObjectEvent, ObjectWalk, Objects, OnLock, Past, PlaceFits}
 use Rattle.ns_world.specs.Prelude.{Round, SeatView, Setup, StandsBy, Step, WaitSteps, WaitsOnLock, Walk, Whole, asked_of, asks_for_any, cause_of, got_of, is_alone, items_of, look_of, looks_at, mode_of, mode_waited, object_after, object_got, round_due, shown_by, stood_at, wait_first, wait_in}
 use Rattle.ns_world.specs.Prelude.{waited_after, waits_for_any, walk_after, walk_in, want_of}
-use Rattle.ns_env.proofs.Asks.{set_here}
-use Rattle.ns_word.proofs.Acts.{view_fits}
-use Rattle.ns_word.proofs.Asked.{asked_stays}
-use Rattle.ns_word.proofs.Numbers.{split_at}
 use Rattle.ns_world.proofs.AnyLooks.{LeadsOn, LooksOut, leads_on, looks_out, unlooked}
 use Rattle.ns_world.proofs.Turns.{moves_stay}
 use Rattle.ns_world.proofs.Walks.{wait_here, wait_there}
 use Rattle.ns_world.proofs.Wholes.{IsAlone, Rests, begun_rests, each_stands, goes_rests, stands_nowhere, stands_on}
 use Rattle.ns_world.proofs.WholeLed.{begins_to_wait_led, ends_look_led, wait_steps_led}
-use Rattle.ns_counters.proofs.Placed.{put_here, put_there, stands_within}
 
 -- which it is
 which : {A : Type 0} (o : Option A) → IsSome o → (x : A) × (o ≡ Some x)
@@ -41,32 +35,38 @@ module _ {C : Type 0} {N : ℕ} (old new : Whole C N) (seat : ℕ) (lawful : IsL
   pub low_if : (view : SeatView C N) → slice_get old.lock.state.views seat ≡ Some view → seat < 64
   low_if view at = let few = lawful.lock.few in let below = slice_get_within old.lock.state.views seat view at in omega (arith, few, below)
 
-  -- ---- where a seat is put at a place on the objects, and into a wait on the lock, or into none
+  -- The seat is put at a place on the objects, or at none, and into a wait on the lock, or into none.
+  pub record IsPut (walk : Option ObjectWalk) (wait : Option AnyWait) : Type 0 where
+    pub low : seat < 64
+    pub words : List ℕ
+    pub walks : List (Option ObjectWalk)
+    pub many : length walks ≡ 64
+    pub others : (other : ℕ) → other ≢ seat → walk_in walks other ≡ walk_in old.objects.walks other
+    pub becomes : new.objects ≡ record old.objects { words = words; walks = slice_set walks seat walk; waits = slice_set old.objects.waits seat wait }
 
-  module _ (low : seat < 64) (words : List ℕ) (walks : List (Option ObjectWalk)) (walk : Option ObjectWalk) (wait : Option AnyWait) (many : length walks ≡ 64) (others : (other : ℕ) → other ≢ seat → walk_in walks other ≡ walk_in old.objects.walks other)
-      (becomes : new.objects ≡ record old.objects { words = words; walks = slice_set walks seat walk; waits = slice_set old.objects.waits seat wait }) where
+  module _ {walk : Option ObjectWalk} {wait : Option AnyWait} (put : IsPut walk wait) where
     pub setup_same : new.objects.setup ≡ old.objects.setup
-    setup_same = ap (λ (o : Objects). o.setup) becomes
+    setup_same = ap (λ (o : Objects). o.setup) put.becomes
 
     pub stands_here : walk_in new.objects.walks seat ≡ walk
-    stands_here = ap (λ (o : Objects). walk_in o.walks seat) becomes ∙ put_here walks seat walk (omega (arith, low, many))
+    stands_here = ap (λ (o : Objects). walk_in o.walks seat) put.becomes ∙ put_here put.walks seat walk (let low = put.low in let many = put.many in omega (arith, low, many))
 
     pub waits_here : wait_in new.objects.waits seat ≡ wait
-    waits_here = let all = lawful.wait_places in ap (λ (o : Objects). wait_in o.waits seat) becomes ∙ wait_here old.objects.waits seat wait (omega (arith, low, all))
+    waits_here = ap (λ (o : Objects). wait_in o.waits seat) put.becomes ∙ wait_here old.objects.waits seat wait (let low = put.low in let all = lawful.wait_places in omega (arith, low, all))
 
     stands_there : (other : ℕ) → other ≢ seat → walk_in new.objects.walks other ≡ walk_in old.objects.walks other
-    stands_there other ne = ap (λ (o : Objects). walk_in o.walks other) becomes ∙ put_there walks seat walk other ne ∙ others other ne
+    stands_there other ne = ap (λ (o : Objects). walk_in o.walks other) put.becomes ∙ put_there put.walks seat walk other ne ∙ put.others other ne
 
     waits_there : (other : ℕ) → other ≢ seat → wait_in new.objects.waits other ≡ wait_in old.objects.waits other
-    waits_there other ne = ap (λ (o : Objects). wait_in o.waits other) becomes ∙ wait_there old.objects.waits seat wait other ne
+    waits_there other ne = ap (λ (o : Objects). wait_in o.waits other) put.becomes ∙ wait_there old.objects.waits seat wait other ne
 
     -- The law holds where the seat stands as it may, and nothing of the others has changed.
     stood_lawful : IsLawfulWorld new.lock → length new.lock.state.views ≡ length old.lock.state.views → new.lock.env ≡ old.lock.env → ((other : ℕ) → other ≢ seat → Rests old.lock new.lock other) → (events : List ObjectEvent) → HaveLedTo events new → StandsBy new seat wait → IsLawfulWhole new
     stood_lawful now_lawful same env rests events led_to here = record {
       lock = now_lawful;
-      seats = ap (λ (o : Objects). o.setup.seats) becomes ∙ lawful.seats ∙ sym same;
-      places = ap (λ (o : Objects). length o.walks) becomes ∙ length-set walks seat walk ∙ many;
-      wait_places = ap (λ (o : Objects). length o.waits) becomes ∙ length-set old.objects.waits seat wait ∙ lawful.wait_places;
+      seats = ap (λ (o : Objects). o.setup.seats) put.becomes ∙ lawful.seats ∙ sym same;
+      places = ap (λ (o : Objects). length o.walks) put.becomes ∙ length-set put.walks seat walk ∙ put.many;
+      wait_places = ap (λ (o : Objects). length o.waits) put.becomes ∙ length-set old.objects.waits seat wait ∙ lawful.wait_places;
       stands = each_stands new seat wait waits_here here (λ other ne. subst (StandsBy new other) (sym (waits_there other ne))
           (stands_on old new other (rests other ne) (stands_there other ne) setup_same (λ n made. subst (λ (e : EnvPlain). (e.notes n).made ≡ true) (sym env) made) (wait_in old.objects.waits other) (lawful.stands other)));
       events = events;
@@ -76,22 +76,19 @@ module _ {C : Type 0} {N : ℕ} (old new : Whole C N) (seat : ℕ) (lawful : IsL
     there_still : (round : Round) → new.lock.env ≡ old.lock.env → AreThere old.objects.setup old.lock.env.notes round.items → AreThere new.objects.setup new.lock.env.notes round.items
     there_still round env there = subst (λ (s : Setup). AreThere s new.lock.env.notes round.items) (sym setup_same) (subst (λ (e : EnvPlain). AreThere old.objects.setup e.notes round.items) (sym env) there)
 
-  -- where a round is over, the seat is put nowhere
-  module _ (walk : ObjectWalk) (stands : walk_in old.objects.walks seat ≡ Some walk) (then : Objects) (told : Step) (q : HasOperated old.lock.env seat walk old.objects then told) (wait : Option AnyWait) (becomes : new.objects ≡ stood_at then seat None wait) where
-    abbrev pub walks_over : List (Option ObjectWalk)
-    walks_over = slice_set old.objects.walks seat (object_after (object_got walk q.found))
+  pub put_once : seat < 64 → (walk : Option ObjectWalk) (wait : Option AnyWait) → new.objects ≡ stood_at old.objects seat walk wait → IsPut walk wait
+  put_once low walk wait becomes = record { low = low; words = old.objects.words; walks = old.objects.walks; many = lawful.places; others = λ other ne. refl; becomes = becomes }
 
-    pub many_over : length walks_over ≡ 64
-    many_over = length-set old.objects.walks seat _ ∙ lawful.places
-
-    pub others_over : (other : ℕ) → other ≢ seat → walk_in walks_over other ≡ walk_in old.objects.walks other
-    others_over other ne = put_there old.objects.walks seat (object_after (object_got walk q.found)) other ne
-
-    pub becomes_over : new.objects ≡ record old.objects { words = q.words; walks = slice_set walks_over seat None; waits = slice_set old.objects.waits seat wait }
-    becomes_over = becomes ∙ ap (λ (o : Objects). stood_at o seat None wait) q.becomes
-
-    pub low_over : seat < 64
-    low_over = let all = lawful.places in let low = stands_within old.objects.walks seat walk stands in omega (arith, all, low)
+  -- where a round is over, it is put nowhere
+  pub put_over : (walk : ObjectWalk) → walk_in old.objects.walks seat ≡ Some walk → (then : Objects) (told : Step) → HasOperated old.lock.env seat walk old.objects then told → (wait : Option AnyWait) → new.objects ≡ stood_at then seat None wait → IsPut None wait
+  put_over walk stands then told q wait becomes = record {
+    low = let all = lawful.places in let low = stands_within old.objects.walks seat walk stands in omega (arith, all, low);
+    words = q.words;
+    walks = slice_set old.objects.walks seat (object_after (object_got walk q.found));
+    many = length-set old.objects.walks seat _ ∙ lawful.places;
+    others = λ other ne. put_there old.objects.walks seat (object_after (object_got walk q.found)) other ne;
+    becomes = becomes ∙ ap (λ (o : Objects). stood_at o seat None wait) q.becomes;
+  }
 
   -- ---- a call begins to wait on the lock
 
@@ -110,11 +107,8 @@ module _ {C : Type 0} {N : ℕ} (old new : Whole C N) (seat : ℕ) (lawful : IsL
 
     waits_now : WaitsOnLock new seat wait_begun
     waits_now =
-        let over = becomes_over (InRound p.round p.place) p.walks p.then Idle p.operated (Some wait_begun) p.becomes in
-        let many = many_over (InRound p.round p.place) p.walks p.then Idle p.operated (Some wait_begun) p.becomes in
-        let others = others_over (InRound p.round p.place) p.walks p.then Idle p.operated (Some wait_begun) p.becomes in
-        let low = low_over (InRound p.round p.place) p.walks p.then Idle p.operated (Some wait_begun) p.becomes in
-        let nowhere = stands_here low p.operated.words _ None (Some wait_begun) many others over in
+        let put = put_over (InRound p.round p.place) p.walks p.then Idle p.operated (Some wait_begun) p.becomes in
+        let nowhere = stands_here put in
         record {
           view = begun;
           at = begun_at_seat;
@@ -125,17 +119,14 @@ module _ {C : Type 0} {N : ℕ} (old new : Whole C N) (seat : ℕ) (lawful : IsL
           asked = refl;
           among = p.among;
           unasked = ap (λ (w : Now C N). slice_get w.asking seat) p.begins ∙ p.unasked;
-          there = there_still low p.operated.words _ None (Some wait_begun) many others over p.round begun_env (lawful.objects_lawful.each seat (InRound p.round p.place) p.walks).0;
+          there = there_still put p.round begun_env (lawful.objects_lawful.each seat (InRound p.round p.place) p.walks).0;
           looks = subst (λ w. LooksWhere p.round w (want_of (wait_first {C = C} N (waits_for_any (mode_waited (mode_of p.view.held)) p.cvs)))) (sym nowhere) refl;
         }
 
     pub begins_to_wait_keeps : IsLawfulWorld new.lock → IsLawfulWhole new
     begins_to_wait_keeps now_lawful =
-        let over = becomes_over (InRound p.round p.place) p.walks p.then Idle p.operated (Some wait_begun) p.becomes in
-        let many = many_over (InRound p.round p.place) p.walks p.then Idle p.operated (Some wait_begun) p.becomes in
-        let others = others_over (InRound p.round p.place) p.walks p.then Idle p.operated (Some wait_begun) p.becomes in
-        let low = low_over (InRound p.round p.place) p.walks p.then Idle p.operated (Some wait_begun) p.becomes in
-        stood_lawful low p.operated.words _ None (Some wait_begun) many others over now_lawful (ap (λ (w : Now C N). length w.state.views) p.begins ∙ length-set old.lock.state.views seat begun) begun_env
+        let put = put_over (InRound p.round p.place) p.walks p.then Idle p.operated (Some wait_begun) p.becomes in
+        stood_lawful put now_lawful (ap (λ (w : Now C N). length w.state.views) p.begins ∙ length-set old.lock.state.views seat begun) begun_env
         (λ other ne. subst (λ (w : Now C N). Rests old.lock w other) (sym p.begins) (begun_rests old.lock seat p.view (OnLock (wait_first N (waits_for_any (mode_waited (mode_of p.view.held)) p.cvs))) other ne))
         (lawful.events ++ p.operated.events) (begins_to_wait_led past old new seat step lawful led p).1.1 waits_now
 
@@ -221,13 +212,10 @@ module _ {C : Type 0} {N : ℕ} (old new : Whole C N) (seat : ℕ) (lawful : IsL
 
     pub ends_look_keeps : IsLawfulWorld new.lock → IsLawfulWhole new
     ends_look_keeps now_lawful =
-        let over = becomes_over p.walk p.walks p.then p.told p.operated (Some wait_shown) p.becomes in
-        let many = many_over p.walk p.walks p.then p.told p.operated (Some wait_shown) p.becomes in
-        let others = others_over p.walk p.walks p.then p.told p.operated (Some wait_shown) p.becomes in
-        let low = low_over p.walk p.walks p.then p.told p.operated (Some wait_shown) p.becomes in
-        let setup = setup_same low p.operated.words _ None (Some wait_shown) many others over in
-        let nowhere = stands_here low p.operated.words _ None (Some wait_shown) many others over in
-        stood_lawful low p.operated.words _ None (Some wait_shown) many others over now_lawful (views_same p.wait p.waits step p.acts) p.acts.goes.env (rests_so p.wait p.waits step p.acts)
+        let put = put_over p.walk p.walks p.then p.told p.operated (Some wait_shown) p.becomes in
+        let setup = setup_same put in
+        let nowhere = stands_here put in
+        stood_lawful put now_lawful (views_same p.wait p.waits step p.acts) p.acts.goes.env (rests_so p.wait p.waits step p.acts)
         (lawful.events ++ p.operated.events) (ends_look_led past old new seat step lawful led p).1.1
         (waits_at p.wait p.waits step p.acts leads.after leads_there None wait_shown refl nowhere leads.looks_not setup)
 
@@ -251,14 +239,14 @@ module _ {C : Type 0} {N : ℕ} (old new : Whole C N) (seat : ℕ) (lawful : IsL
 
       by : (walk : Option (Walk C)) → after p.wait p.waits p.told p.acts ≡ walk → IsLawfulWhole new
       by None is =
-          let nowhere = stands_here low old.objects.words old.objects.walks None None lawful.places (λ other ne. refl) (becomes_as None is) in
+          let nowhere = stands_here (put_once low None None (becomes_as None is)) in
           let alone : IsAlone new.lock seat = λ view at. let same : Some (next p.wait p.waits p.told p.acts) ≡ Some view = sym (next_at p.wait p.waits p.told p.acts)
           ∙ at in let is_view : next p.wait p.waits p.told p.acts ≡ view = cc in subst (λ (v : SeatView C N). is_alone v.walk ≡ true) is_view (ap is_alone is) in
-          stood_lawful low old.objects.words old.objects.walks None None lawful.places (λ other ne. refl) (becomes_as None is) now_lawful (views_same p.wait p.waits p.told p.acts) p.acts.goes.env (rests_so p.wait p.waits p.told p.acts) lawful.events still
+          stood_lawful (put_once low None None (becomes_as None is)) now_lawful (views_same p.wait p.waits p.told p.acts) p.acts.goes.env (rests_so p.wait p.waits p.told p.acts) lawful.events still
           (stands_nowhere new seat nowhere alone)
       by (Some walk) is =
           let at = round_due p.wait walk in
-          let here = stands_here low old.objects.words old.objects.walks at (Some p.wait) lawful.places (λ other ne. refl) (becomes_as (Some walk) is) in
-          let setup = setup_same low old.objects.words old.objects.walks at (Some p.wait) lawful.places (λ other ne. refl) (becomes_as (Some walk) is) in
-          stood_lawful low old.objects.words old.objects.walks at (Some p.wait) lawful.places (λ other ne. refl) (becomes_as (Some walk) is) now_lawful (views_same p.wait p.waits p.told p.acts) p.acts.goes.env (rests_so p.wait p.waits p.told p.acts) lawful.events still
+          let here = stands_here (put_once low at (Some p.wait) (becomes_as (Some walk) is)) in
+          let setup = setup_same (put_once low at (Some p.wait) (becomes_as (Some walk) is)) in
+          stood_lawful (put_once low at (Some p.wait) (becomes_as (Some walk) is)) now_lawful (views_same p.wait p.waits p.told p.acts) p.acts.goes.env (rests_so p.wait p.waits p.told p.acts) lawful.events still
           (waits_at p.wait p.waits p.told p.acts walk is at p.wait refl here (due walk (is_some (looks_at (want_of walk))) refl) setup)

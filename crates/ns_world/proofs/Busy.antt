@@ -1,8 +1,6 @@
 -- Which seats are busy, after another in the place of one, and one after another.
 use Rattle.std.proofs.Common.{◌≤◌, ◌≡◌, ◌≢◌, ℕ, zero, suc, ◌<◌, Bool, true, false, eqb, ◌||◌, List, [], ◌∷◌, Option, Some, None, is_some, length, slice_set, slice_get, refl, ap, sym, ◌∙◌, arith, eq-eqb, inl, inr, ◌+◌, map, get_or}
-use Rattle.std.proofs.lemmas.Bool.{cases_eq, cases_lt, ne_eqb}
-use Rattle.std.proofs.lemmas.List.{length-map}
-use Rattle.std.proofs.lemmas.Option.{slice_get_past}
+use Rattle.ns_world.proofs.Below.{cases_eq, cases_lt, length-map, ne_eqb, slice_get_past}
 use Rattle.std.specs.Option.{option_map_or}
 use Rattle.ns_world.specs.Prelude.{EnvWalk, ObjectWalk, Seat, SeatView, is_asking, is_busy, is_walking, view_of, walk_in}
 use Rattle.ns_world.proofs.Mapped.{got-map}

@@ -1,11 +1,9 @@
 -- No seat is past its last call.
 use Rattle.std.proofs.Common.{◌≡◌, ◌≢◌, ℕ, zero, suc, ◌+◌, ◌<◌, ◌≤◌, inl, inr, Bool, true, false, cond, List, [], ◌∷◌, None, Some, is_some, ◌||◌, Option, Vec, Global, length, map, get_or, slice_set, slice_get, slice_index, replicate, refl, ap, sym, ◌∙◌, subst, arith}
 use Rattle.std.specs.Prelude.{All, IfSome}
-use Rattle.std.proofs.lemmas.Bool.{cases_eq}
-use Rattle.std.proofs.lemmas.List.{length-set, get_or-set_same, get_or-set_other}
+use Rattle.ns_world.proofs.Below.{cases_eq, get_or-set_other, get_or-set_same, length-set, put_none, put_there, slice_get_within}
 use Rattle.std.proofs.lemmas.List.Elements.{All-head, All-tail, All-nil}
-use Rattle.std.proofs.lemmas.Option.{slice_get_within}
-use Rattle.ns_world.specs.Prelude.{Acts, AnyWait, Awaits, Call, CallInRange, Counts, EnvNext, Finished, Go, Goes, GoesOnOrBegins, HasOperated, Idle, InRound, IsCounted, Line, ListFits, LookGoes, LookOver, Moves, Next, Nothing, Now, ObjectNext, ObjectWalk, Objects, On, OnLock, Progress, Reply}
+use Rattle.ns_world.specs.Prelude.{Acts, AnyWait, Awaits, Call, CallInRange, Counts, EnvNext, Finished, Go, Goes, GoesOnOrBegins, HasOperated, Idle, InRound, IsCounted, Line, ListFits, LookGoes, LookOver, Moves, Next, Now, ObjectNext, ObjectWalk, Objects, On, OnLock, Progress, Reply}
 use Rattle.ns_world.specs.Prelude.{Step, TurnOf, Walk, Went, Whole, WholeMoves, calls_of, env_got_of, env_step_of, env_walk_after, got_of, is_asking, is_busy, is_for_lock, is_walking, look_of, mode_of, mode_waited, object_after, object_got, object_start, object_step_of, objects_begun, progress}
 use Rattle.ns_world.specs.Prelude.{progressed, round_due, shown_by, start_of, step_of, step_told, stood_at, wait_first, wait_in, waited_after, waits_for_any, walk_after, walk_in, whole_busy}
 use Rattle.ns_word.specs.declared.walk.Next.TheVariants.{Done}
@@ -14,7 +12,6 @@ use Rattle.ns_world.proofs.Busy.{both, walking_at, walking_set_same, walking_set
 use Rattle.ns_world.proofs.Turns.{is_idle_of, is_whole_busy, is_whole_idle, begun_others}
 use Rattle.ns_word.specs.declared.walk.Next.TheVariants as TheNext
 use Rattle.ns_counters.specs.declared.walk.ObjectNext.TheVariants as TheObject
-use Rattle.ns_counters.proofs.Placed.{put_none, put_there}
 
 -- ---- the lists
 
@@ -99,8 +96,7 @@ module _ {C : Type 0} {N : ℕ} where
       both new.state.views new.asking other (is_walking old.state.views other) (is_asking old.asking other)
       (ap (λ (world : Now C N). is_walking world.state.views other) p.0) (ap (λ (world : Now C N). is_asking world.asking other) p.0 ∙ asking_set_other old.asking seat (Some walk) other ne)
   look_others old new seat step (LookOver cause) p other ne = goes_others old new seat step p.0 other ne
-  look_others old new seat step (Repeat walk) p other ne = absurd p
-  look_others old new seat step (Over reply) p other ne = absurd p
+  look_others old new seat step next p other ne = absurd p
 
   moves_others : (old new : Now C N) (seat : ℕ) (step : Step) → Moves old new seat step → (other : ℕ) → other ≢ seat → is_busy new.state.views new.asking other ≡ is_busy old.state.views old.asking other
   moves_others old new seat step (inl acts) other ne = goes_others old new seat step acts.goes other ne
@@ -120,8 +116,7 @@ module _ {C : Type 0} {N : ℕ} where
   look_over : (old new : Now C N) (seat : ℕ) (reply : Reply) (next : EnvNext) → LookGoes next old new seat (Finished reply) → is_busy new.state.views new.asking seat ≡ false
   look_over old new seat reply (Go walk) p = let e = p.1 in absurd (cc)
   look_over old new seat reply (LookOver cause) p = goes_over old new seat reply p.0
-  look_over old new seat reply (Repeat walk) p = absurd p
-  look_over old new seat reply (Over answer) p = absurd p
+  look_over old new seat reply next p = absurd p
 
   moves_over : (old new : Now C N) (seat : ℕ) (reply : Reply) → Moves old new seat (Finished reply) → is_busy new.state.views new.asking seat ≡ false
   moves_over old new seat reply (inl acts) = goes_over old new seat reply acts.goes
@@ -162,9 +157,7 @@ module _ {C : Type 0} {N : ℕ} where
   waited_over old new seat reply wait (Finished answer) acts becomes told =
       let over = over_idle (got_of N acts.goes.makes.walk acts.goes.found) answer acts.goes.answers in
       (λ i. goes_over old.lock new.lock seat answer acts.goes i || is_some ((ap (λ (o : Objects). walk_in o.walks seat) (becomes ∙ ap (waited_after old.objects seat wait) over) ∙ put_none old.objects.walks seat) i))
-  waited_over old new seat reply wait Went acts becomes told = absurd (cc)
-  waited_over old new seat reply wait Idle acts becomes told = absurd (cc)
-  waited_over old new seat reply wait Nothing acts becomes told = absurd (cc)
+  waited_over old new seat reply wait other acts becomes told = absurd (cc)
 
   awaits_over : (old new : Whole C N) (seat : ℕ) (reply : Reply) → Awaits old new seat (Finished reply) → whole_busy new seat ≡ false
   awaits_over old new seat reply (inl p) = let no : Finished reply ≡ Went = p.answer in absurd (cc)

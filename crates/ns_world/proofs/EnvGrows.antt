@@ -1,14 +1,11 @@
 -- Each step extends what has happened to the clock and the notes.
 use Rattle.std.proofs.Common.{ℕ, ◌<◌, inl, inr, List, [], ◌++◌, Some, None, length, slice_set, refl, sym, ◌∙◌, subst}
-use Rattle.std.proofs.lemmas.List.{append-nil}
-use Rattle.std.proofs.lemmas.Option.{slice_get_within}
+use Rattle.ns_world.proofs.Below.{append-nil, keeps_env, set_again, set_here, set_same, slice_get_within}
 use Rattle.ns_world.specs.Prelude.{Acts, AreEnvBy, Asks, EnvAct, EnvEffect, EnvEvent, EnvFound, EnvNext, EnvPlain, Go, Goes, IfMade, IsLawfulEnv, IsLawfulWorld, LedTo, LookGoes, LookOver, Looks, Moves, Now, Step, env_done, env_got_of, env_state, env_walk_after, env_want_of, got_of, look_of}
 use Rattle.ns_world.specs.Prelude.{note_in, walk_after}
-use Rattle.ns_env.proofs.Asks.{set_here, keeps_env}
 use Rattle.ns_env.proofs.Keeps.{outcome_by}
 use Rattle.ns_world.proofs.Looking.{first_if, noted}
 use Rattle.ns_world.proofs.Worlds.{env_begins}
-use Rattle.ns_word.proofs.Numbers.{set_same, set_again}
 
 -- what a step does to the clock and the notes is its seat's
 pub events_by : (seat : ℕ) (act : EnvAct) (old : EnvPlain) (found : EnvFound) (new : EnvPlain) (events : List EnvEvent) → EnvEffect seat act old found new events → AreEnvBy seat events

@@ -1,10 +1,7 @@
 -- A new world's seats, one after another.
-use Rattle.std.proofs.lemmas.Option.{same_Some}
+use Rattle.ns_world.proofs.Below.{append_assoc, fresh_lawful, lawful_fresh, map-append, same_Some}
 use Rattle.std.proofs.Common.{◌≡◌, ℕ, zero, suc, ◌+◌, ◌-◌, ◌<◌, List, [], ◌∷◌, ◌++◌, None, Some, slice_get, subst, map, replicate, refl, sym, ap, ◌∙◌, arith, sub-one, get_or, length, ◌≤◌}
-use Rattle.std.proofs.lemmas.List.{map-append, append_assoc}
 use Rattle.ns_world.specs.Prelude.{AreNumbered, AsksFor, IfMade, IsLawfulWorld, NoteStanding, Seat, SeatView, Truths, flag_at, fresh, fresh_views, no_note, note_at, note_in, standing_of, state_of, view_of}
-use Rattle.ns_env.proofs.Begins.{fresh_lawful}
-use Rattle.ns_word.proofs.Starts.{lawful_fresh}
 
 pub views_next : {C : Type 0} {N : ℕ} (first n : ℕ) → 0 < n → fresh_views {C = C} {N = N} first n ≡ record { seat = first; walk = None; held = None; owed = [] } ∷ fresh_views (first + 1) (n - 1)
 views_next first zero some = absurd (omega arith)

@@ -1,5 +1,6 @@
 pub mod AnyLooks
 pub mod Awaits
+pub mod Below
 pub mod Busy
 pub mod Counted
 pub mod EnvGrows

@@ -1,10 +1,8 @@
 -- The looks of a wait, over plain data: where a wait goes that looks, and what it needs of the notes.
-use Rattle.std.proofs.lemmas.Option.{same_Some}
+use Rattle.ns_world.proofs.Below.{asked_stays, looks_by_asked, same_Some}
 use Rattle.std.proofs.Common.{◌≡◌, ℕ, Bool, true, false, cond, List, [], Option, None, Some, IsSome, refl, ap, sym, ◌∙◌, subst}
 use Rattle.ns_world.specs.Prelude.{Act, AsksFor, Cause, ClockLoad, Effect, EnvEffect, EnvEvent, EnvFound, EnvNext, EnvPlain, EnvWalk, Expired, ForLook, Found, Go, IfMade, IsFirstAsk, Limits, Look, LookFits, LookOver, Looked, MayShow, NoteLoad, NoteStanding, Part, Truths, Walk, came_back}
 use Rattle.ns_world.specs.Prelude.{env_got_of, env_want_of, got_of, held_after, is_due, is_over, look_of, look_place, looks_at, note_asked, note_in, outcome, passed, stopped, up_to, waits_among, walk_after, want_of}
-use Rattle.ns_word.proofs.Asked.{asked_stays}
-use Rattle.ns_word.proofs.Calls.{looks_by_asked}
 
 -- ---- the note that may end a wait
 

@@ -1,7 +1,7 @@
 -- A list, element by element, and one of them set.
 use Rattle.std.proofs.Common.{◌≡◌, ℕ, zero, suc, ◌<◌, List, [], ◌∷◌, Some, length, map, slice_get, slice_set, get_or, slice_index, refl, ap, ◌∙◌, arith}
 use Rattle.std.specs.Prelude.{option_map}
-use Rattle.std.proofs.lemmas.Option.{slice_get-get_or}
+use Rattle.ns_world.proofs.Below.{slice_get-get_or}
 
 module _ {A B : Type 0} (f : A → B) where
   pub slice_get-map : (xs : List A) (i : ℕ) → slice_get (map f xs) i ≡ option_map f (slice_get xs i)

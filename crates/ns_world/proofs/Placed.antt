@@ -1,6 +1,6 @@
 -- What a call that begins is in a world.
 use Rattle.std.proofs.Common.{◌≡◌, ℕ, ◌<◌, ◌||◌, true, false, List, Option, Some, None, length, map, get_or, is_some, slice_get, slice_set, refl, ap, sym, ◌∙◌, inl, inr}
-use Rattle.std.proofs.lemmas.List.{set-get_or}
+use Rattle.ns_world.proofs.Below.{set-get_or}
 use Rattle.ns_world.specs.Prelude.{Ask, Call, CallFits, EnvWalk, Environment, Event, IsBusy, Lists, Now, OnLock, OnObjects, Seat, Setup, Start, Starts, Truths, Walk, Word, begun_at, mode_of, now_with, placed, plain_of, start_of, view_of}
 use Rattle.ns_world.proofs.Mapped.{got-map, map-set}
 

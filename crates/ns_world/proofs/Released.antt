@@ -1,8 +1,7 @@
 -- The exchanges that were made, over plain data.
 use Rattle.std.proofs.Common.{◌≡◌, ◌≢◌, ℕ, Bool, true, not, List, [], ◌∷◌, ◌++◌, length, Option, None, Some, refl, ap, sym, ◌∙◌, arith, is_some}
 use Rattle.std.specs.Prelude.{IfSome, ◌==◌}
-use Rattle.std.proofs.lemmas.List.{append-nil}
-use Rattle.std.proofs.lemmas.Bool.{ne_eqb}
+use Rattle.ns_world.proofs.Below.{append-nil, ne_eqb}
 use Rattle.ns_world.specs.Prelude.{Bits, CanLeave, Event, Held, Lists, Made, Makes, Owed, Plain, Release, ReleaseReturning, Releasing, Saw, Scanned, Truths, Waiter, Word, bits_of, called_of, has_some, left_of, meets_at, part, section_of, tests_of, with_waiters, woken_of, word_released}
 use Rattle.ns_world.specs.Prelude.{word_released_returning}
 use Rattle.ns_queue.specs.declared.waiter.Which.TheVariants.{Lock}

@@ -1,7 +1,6 @@
 -- Turns that follow a schedule, piece by piece.
 use Rattle.std.proofs.Common.{◌≡◌, ℕ, inl, inr, append_assoc, suc, ◌+◌, ◌<◌, ◌≤◌, Bool, true, false, cond, eqb, List, [], ◌∷◌, ◌++◌, None, Some, length, refl, ap, sym, ◌∙◌, subst, arith, add-zero, length-append, eq-eqb, ◌-◌, replicate, get_or, take, drop, drop-cons}
-use Rattle.std.proofs.lemmas.List.{append-nil, replicate_more, replicate-append-replicate, take_more, take-append-drop}
-use Rattle.std.proofs.lemmas.List.Concat.{flat_map-append}
+use Rattle.ns_world.proofs.Below.{append-nil, flat_map-append, replicate-append-replicate, replicate_more, take-append-drop, take_more}
 use Rattle.ns_world.specs.Prelude.{Advances, Call, EndFinished, Fault, Finished, IsFinished, NoSuchSeat, OutOfMemory, Progress, Step, StepLimit, Stops, StopsFor, TooManySeats, Turn, TurnFault, TurnOf, Turned, TurnsOf, Whole, is_end, rest_of, word_items}
 use Rattle.ns_world.specs.Runs.{Item, items_of}
 

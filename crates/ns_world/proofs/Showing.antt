@@ -1,7 +1,6 @@
 -- What is shown of a front of the seats, and of the rest.
 use Rattle.std.proofs.Common.{◌≡◌, ℕ, suc, ◌+◌, ◌<◌, ◌≤◌, Bool, true, false, cond, List, [], ◌∷◌, ◌++◌, length, map, take, drop, get_or, refl, ap, sym, ◌∙◌, arith, drop-cons}
-use Rattle.std.proofs.lemmas.List.{take_more, drop_all, take-append-drop, map-append, length-append, append-nil}
-use Rattle.std.proofs.lemmas.List.Concat.{flat_map-append}
+use Rattle.ns_world.proofs.Below.{append-nil, drop_all, flat_map-append, length-append, map-append, take-append-drop, take_more}
 use Rattle.ns_world.specs.Prelude.{Lists, Seat, Truths, hand_of, has_queues, lists_by, view_of, wakes_by, wakes_owed}
 
 module _ {C : Type 0} {N : ℕ} (seats : List (Seat C N)) (i : ℕ) (seat : Seat C N) (within : i < length seats) (is : seat ≡ get_or seats i seat) where

@@ -1,17 +1,14 @@
 -- What a lawful world gives to those who show it.
 use Rattle.std.proofs.Common.{◌≡◌, ℕ, suc, ◌+◌, ◌<◌, ◌≤◌, true, List, [], ◌∷◌, ◌++◌, Some, None, length, map, take, drop, slice_get, Option, refl, ap, sym, ◌∙◌, arith, cond, inl, inr}
 use Rattle.std.specs.Prelude.{IfSome, option_map}
-use Rattle.std.proofs.lemmas.Bool.{cases_eq}
-use Rattle.std.proofs.lemmas.List.{length-append, length-map}
+use Rattle.ns_world.proofs.Below.{cases_eq, has_list, length-append, length-map, split_at, stands_nowhere, view_fits}
 use Rattle.ns_world.specs.Prelude.{Environment, Event, HasList, IsLawfulWorld, Lists, LockState, Owed, Read, Seat, SeatView, Truths, Waiter, Walk, Word, counts_in, has_armed, is_unwoken, now_with, owed_to, times, times_among, times_in, view_of, wakes_owed, walk_at}
 use Rattle.ns_queue.proofs.Seats.{times_in-cons, few}
 use Rattle.ns_model.proofs.Tallies.{one_most}
 use Rattle.ns_word.specs.Lawful.{IsLawful}
-use Rattle.ns_word.proofs.Acts.{view_fits, stands_nowhere, has_list}
 use Rattle.ns_word.proofs.Ranges.{placed_below}
 use Rattle.ns_word.proofs.Waits.{unqueued}
 use Rattle.ns_world.proofs.Mapped.{slice_get-map}
-use Rattle.ns_word.proofs.Numbers.{split_at}
 
 module _ {C : Type 0} {N : ℕ} (truths : Truths C) (word : Word) (row : List ℕ) (queues : Lists C) (flags : List ℕ) (env : Environment) (seats : List (Seat C N)) (history : List (Event C N)) (lawful : IsLawfulWorld (now_with truths word row queues flags env seats history)) where
   abbrev state : LockState C N

@@ -1,9 +1,7 @@
--- A step on the objects that tells the lock what its round has shown, and a step on the lock of a wait for variables among them: what each is in the world, which is lawful after it.
+-- What a step on the parts of a world, or the beginning of a call, is in that world, which is lawful after it.
 use Rattle.std.specs.List.{list_all}
 use Rattle.std.proofs.Common.{◌≡◌, ℕ, ◌<◌, ◌≤◌, not, Bool, true, false, List, [], ◌∷◌, Option, None, Some, IsSome, length, map, get_or, slice_get, slice_set, refl, ap, sym, ◌∙◌, subst, arith, inl, inr}
-use Rattle.std.proofs.lemmas.Bool.{ltb-true}
-use Rattle.std.proofs.lemmas.List.{append-nil, length-map}
-use Rattle.std.proofs.lemmas.Option.{same_Some}
+use Rattle.ns_world.proofs.Below.{append-nil, first_of_all, length-map, ltb-true, rest_of_all, same_Some, set_here}
 use Rattle.ns_world.specs.Prelude.{Call, CallFits, CallInRange, Commits, EnvMoves, EnvWalk, Misuses, OutOfMemory, Start, WholeFault, WholeIsIdle, WholeStarts, object_start, objects_begun, placed, start_of}
 use Rattle.ns_world.specs.Prelude.{Acts, Any, AnyWait, AreVariables, Await, BeginsToWait, CanTell, Cvs, Effect, EndsLook, EnvPlain, Environment, Event, Every, HasOperated, HasTold, Held, Idle, InRound, InWait, IsFew, IsLawfulWhole, IsLawfulWorld, IsLow, IsSettled, Item, Lists}
 use Rattle.ns_world.specs.Prelude.{Looked, LooksWhere, MayShow, MayWait, MayWaitOnLock, Mode, NoteStanding, Now, ObjectStanding, ObjectWalk, Objects, OnCounter, OnLock, OnNote, OnVariable, Performs, QuietKeeps, Seat, SeatView, Sees, Setup, StandsAlone, StandsBy}
@@ -15,11 +13,9 @@ use Rattle.ns_world.proofs.Awaits.{begins_to_wait_keeps, ends_look_keeps, next a
 use Rattle.ns_world.proofs.Wholes.{whole_begun, whole_moved, whole_starts}
 use Rattle.ns_world.proofs.Looking.{shown_effect}
 use Rattle.ns_world.proofs.Mapped.{got-map, map-set}
-use Rattle.ns_env.proofs.Asks.{set_here}
 use Rattle.ns_world.proofs.Placed.{begun_here, starts_here}
 use Rattle.ns_world.proofs.Places.{StartFits, start_fits}
 use Rattle.ns_world.proofs.Worlds.{acts_found, acts_here, inside_here, lawful_after, lawful_placed, moved_here, number_here, settled_here, unasked_cleared}
-use Rattle.ns_counters.proofs.Listed.{first_of_all, rest_of_all}
 
 -- of several objects there are at most 16
 few_if : (setup : Setup) (now : ObjectStanding) (notes : ℕ → NoteStanding) (seat : ℕ) (walk : ObjectWalk) → WalkFits setup now notes seat walk → IsFew walk

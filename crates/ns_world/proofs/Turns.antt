@@ -1,16 +1,12 @@
 -- A turn of a run, by what beginning a call and a step promise.
 use Rattle.std.proofs.Common.{◌≡◌, ℕ, ◌-◌, nat_lt, inl, inr, ◌≢◌, ◌||◌, Bool, true, false, cond, List, Option, None, Some, is_some, length, slice_get, refl, ap, sym, ◌∙◌, subst, arith, Result, Ok, Err}
 use Rattle.std.specs.Prelude.{IfOk, IfErr}
-use Rattle.std.proofs.lemmas.List.{length-set}
-use Rattle.std.proofs.lemmas.Option.{same_Some, slice_get_within}
-use Rattle.ns_world.specs.Prelude.{Add, Advance, AnyWait, Ask, Broadcast, Call, Commits, CounterWait, CvWait, Done, EnvNext, Expiry, Fault, Get, Go, GoesOnOrBegins, InCells, InRound, InWait, IsBusy, IsIdle, IsNotified, IsWalking, Limits, Lists, Lock, LookGoes, LookOver, Mode, Moves}
-use Rattle.ns_world.specs.Prelude.{NewNote, NoSuchSeat, NoteWait, Nothing, Notify, Now, ObjectWalk, OnCondition, OnEntry, OnLock, OnObjects, Once, OutOfMemory, Progress, QuietCells, QuietLast, RLock, RUnlock, SeatView, Set, Signal, Start, Step, StepLimit, TestCells}
-use Rattle.ns_world.specs.Prelude.{TestLast, ToRelease, TooManySeats, TryLock, TryRLock, TurnOf, TurnsWith, Unlock, UnlockQuiet, Value, Wait, WaitAny, Went, Whole, WholeFault, WholeIsBusy, WholeIsIdle, WholeMoves, WholeStarts, WholeStep, Word, begun_at, env_got_of, is_asking, is_busy, is_walking}
+use Rattle.ns_world.proofs.Below.{length-set, same_Some, set_here, slice_get_within}
+use Rattle.ns_world.specs.Prelude.{AnyWait, Ask, Call, Commits, EnvNext, Fault, Go, GoesOnOrBegins, InCells, InRound, InWait, IsBusy, IsIdle, IsWalking, Limits, Lists, Lock, LookGoes, LookOver, Mode, Moves}
+use Rattle.ns_world.specs.Prelude.{NoSuchSeat, Nothing, Now, ObjectWalk, OnCondition, OnEntry, OnLock, OnObjects, OutOfMemory, Progress, QuietCells, QuietLast, SeatView, Start, Step, StepLimit, TestCells}
+use Rattle.ns_world.specs.Prelude.{TestLast, ToRelease, TooManySeats, TurnOf, TurnsWith, UnlockQuiet, Wait, Went, Whole, WholeFault, WholeIsBusy, WholeIsIdle, WholeMoves, WholeStarts, WholeStep, Word, begun_at, env_got_of, is_asking, is_busy, is_walking}
 use Rattle.ns_world.specs.Prelude.{Next, ObjectNext, On, env_step_of, got_of, object_got, object_step_of, step_of, step_told, mode_of, mode_waited, object_start, progress, progressed, start_of, walk_in, want_of, whole_busy}
-use Rattle.ns_env.specs.declared.walk.EnvNext.TheVariants.{Repeat, Over}
 use Rattle.ns_world.proofs.Busy.{or_true, both, walking_at, walking_set_same, walking_set_other, asking_at, asking_set_same, asking_set_other}
-use Rattle.ns_env.proofs.Asks.{set_here}
-use Rattle.ns_word.specs.declared.walk.Next.TheVariants as TheNext
 use Rattle.ns_counters.specs.declared.walk.ObjectNext.TheVariants as TheObject
 
 -- the first step of a call may commit an event
@@ -30,31 +26,9 @@ wait_apart N mode c limits false seat word lists p = p
 
 -- no call's first step commits an event
 starts_apart : {C : Type 0} (N : ℕ) (mode : Option Mode) (call : Call C) (seat : ℕ) (word : Word) (lists : Lists C) → StartCommits seat (start_of N mode call) word lists → ⊥
-starts_apart N mode Lock seat word lists p = p
-starts_apart N mode RLock seat word lists p = p
-starts_apart N mode TryLock seat word lists p = p
-starts_apart N mode TryRLock seat word lists p = p
-starts_apart N mode Unlock seat word lists p = p
-starts_apart N mode RUnlock seat word lists p = p
 starts_apart {C} N mode UnlockQuiet seat word lists p = quiet_apart C N (nat_lt 0 (N - 1)) seat word lists p
-starts_apart N mode (Get i) seat word lists p = p
-starts_apart N mode (Set i v) seat word lists p = p
 starts_apart N mode (Wait c limits) seat word lists p = wait_apart N (mode_waited mode) c limits (nat_lt 0 (N - 1)) seat word lists p
-starts_apart N mode (CvWait k limits) seat word lists p = p
-starts_apart N mode (Signal k) seat word lists p = p
-starts_apart N mode (Broadcast k) seat word lists p = p
-starts_apart N mode (NewNote parent deadline) seat word lists p = p
-starts_apart N mode (Notify note) seat word lists p = p
-starts_apart N mode (Advance moment) seat word lists p = p
-starts_apart N mode (IsNotified note) seat word lists p = p
-starts_apart N mode (Expiry note) seat word lists p = p
-starts_apart N mode (NoteWait note deadline) seat word lists p = p
-starts_apart N mode (Add counter delta) seat word lists p = p
-starts_apart N mode (Value counter) seat word lists p = p
-starts_apart N mode (CounterWait counter deadline) seat word lists p = p
-starts_apart N mode (Once once) seat word lists p = p
-starts_apart N mode (Done once) seat word lists p = p
-starts_apart N mode (WaitAny items deadline) seat word lists p = p
+starts_apart N mode other seat word lists p = p
 
 -- a call begins on counters and once cells just where its first place is there
 abbrev pub Pairs : {C : Type 0} → Start C → Option ObjectWalk → Type 0
@@ -80,31 +54,25 @@ map_err (Err e) f p = f e p
 
 some_step : {C : Type 0} (next : Next C) → Nothing ≡ step_of next → ⊥
 some_step (On walk) e = absurd (cc)
-some_step (TheNext.Idle walk) e = absurd (cc)
-some_step (TheNext.Done reply) e = absurd (cc)
+some_step next e = absurd (cc)
 
 some_ask : (next : EnvNext) → Nothing ≡ env_step_of next → ⊥
 some_ask (Go walk) e = absurd (cc)
-some_ask (Repeat walk) e = absurd (cc)
-some_ask (Over reply) e = absurd (cc)
-some_ask (LookOver cause) e = absurd (cc)
+some_ask next e = absurd (cc)
 
 some_object : (next : ObjectNext) → Nothing ≡ object_step_of next → ⊥
 some_object (TheObject.Go walk) e = absurd (cc)
-some_object (TheObject.Repeat walk) e = absurd (cc)
-some_object (TheObject.Over reply) e = absurd (cc)
+some_object next e = absurd (cc)
 
 some_told : {C : Type 0} (wait : AnyWait) (next : Next C) → Nothing ≡ step_told wait (step_of next) → ⊥
 some_told wait (On walk) e = absurd (cc)
-some_told wait (TheNext.Idle walk) e = absurd (cc)
-some_told wait (TheNext.Done reply) e = absurd (cc)
+some_told wait next e = absurd (cc)
 
 module _ {C : Type 0} {N : ℕ} where
   some_look : (next : EnvNext) (old new : Now C N) (seat : ℕ) (step : Step) → LookGoes next old new seat step → step ≡ Nothing → ⊥
   some_look (Go walk) old new seat step p e = let no : Nothing ≡ Went = sym e ∙ p.1 in absurd (cc)
   some_look (LookOver cause) old new seat step p e = some_step (got_of N p.0.makes.walk p.0.found) (sym e ∙ p.0.answers)
-  some_look (Repeat walk) old new seat step p e = p
-  some_look (Over reply) old new seat step p e = p
+  some_look next old new seat step p e = p
 
   moves_some : (old new : Now C N) (seat : ℕ) (step : Step) → Moves old new seat step → step ≡ Nothing → ⊥
   moves_some old new seat step (inl p) e = some_step (got_of N p.goes.makes.walk p.goes.found) (sym e ∙ p.goes.answers)
@@ -236,8 +204,7 @@ module _ {C : Type 0} {N : ℕ} where
   look_stays : (old new : Now C N) (seat : ℕ) (step : Step) (next : EnvNext) → LookGoes next old new seat step → length new.state.views ≡ length old.state.views
   look_stays old new seat step (Go walk) p = ap (λ (world : Now C N). length world.state.views) p.0
   look_stays old new seat step (LookOver cause) p = ap length p.0.others ∙ length-set old.state.views seat _
-  look_stays old new seat step (Repeat walk) p = absurd p
-  look_stays old new seat step (Over reply) p = absurd p
+  look_stays old new seat step next p = absurd p
 
   pub moves_stay : (old new : Now C N) (seat : ℕ) (step : Step) → Moves old new seat step → length new.state.views ≡ length old.state.views
   moves_stay old new seat step (inl acts) = ap length acts.goes.others ∙ length-set old.state.views seat _

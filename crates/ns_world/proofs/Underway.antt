@@ -1,24 +1,16 @@
 -- From its beginning to its answer a call is under way, whatever others do, and its answer means what it says.
 use Rattle.std.specs.Prelude.{slice_get}
 use Rattle.std.proofs.Common.{◌≡◌, ◌≢◌, inl, inr, ℕ, List, [], ◌++◌, Option, None, Some, slice_set, refl, ap, sym, ◌∙◌, subst, Bool, true, false, length}
-use Rattle.std.proofs.lemmas.List.{append-nil, append_assoc}
-use Rattle.std.proofs.lemmas.Option.{same_Some, slice_get_within}
-use Rattle.ns_world.specs.Prelude.{Acquire, Act, Acts, Add, Advance, AnswersOfLock, AnswersOfNotes, Any, AreBy, ArmFlag, Ask, Asked, Asks, AsksFor, AtSomePoint, BeginsWith, Call, CallFits, CallGoes, Cause, ClockLoad, CounterWait, Course, CvWait, Done, Effect, EnvCourse, EnvEvent, EnvGoes}
-use Rattle.ns_world.specs.Prelude.{EnvGoesOn, EnvNext, EnvPlain, EnvRequest, EnvSoFar, EnvWalk, Event, Expiry, Finished, ForLook, Found, Go, Goes, GoesOn, Held, IfMade, InAcquire, InCells, InRelease, InShow, InSignal, InTry, InWait, IsFirst, IsFirstAsk, IsLawfulWorld, IsNotified, JudgeMet}
-use Rattle.ns_world.specs.Prelude.{JudgeQuiet, LedTo, Limits, LoadCell, LoadFlag, LoadWord, Lock, Look, LookFits, LookGoes, LookMeans, LookOver, Looked, Means, Mode, Moves, NewNote, Next, NoteLoad, NoteStanding, NoteWait, Notify, Now, OfLock, OfNotes, OfObjects, On, OnCondition, OnEntry, OnLock}
-use Rattle.ns_world.specs.Prelude.{OnObjects, OnVariables, Once, Only, Owed, Part, PayWake, RLock, Release, ReleaseReturning, Reply, Request, ReturnQueues, SeatView, Setup, Shows, SoFar, Start, Starts, Step, StoreCell, Subject, TakeQueues, ToRelease, Truths, UnlockQuiet, Value, Wait, WaitAny}
-use Rattle.ns_world.specs.Prelude.{WaitReturning, Walk, WasShown, asked_of, asks_of, begun_at, course_after, course_from, env_asked_of, env_course_after, env_course_at, env_done, env_got_of, env_own, env_state, env_step_of, env_walk_after, env_want_of, got_of, held_at, held_in, is_for_any}
+use Rattle.ns_world.proofs.Below.{append-nil, append_assoc, begins_itself, begins_through, env_own-append, env_own_all, looks_by_asked, quiet_asks, quiet_is_first, same_Some, set_here, set_there, slice_get_within, test_asks, wait_is_first}
+use Rattle.ns_world.specs.Prelude.{Act, Acts, Add, Advance, AnswersOfLock, AnswersOfNotes, Any, AreBy, Ask, Asked, Asks, AsksFor, AtSomePoint, BeginsWith, Call, CallFits, CallGoes, Cause, ClockLoad, CounterWait, Course, CvWait, Done, Effect, EnvCourse, EnvEvent, EnvGoes}
+use Rattle.ns_world.specs.Prelude.{EnvGoesOn, EnvNext, EnvPlain, EnvRequest, EnvSoFar, EnvWalk, Event, Expiry, Finished, ForLook, Found, Go, Goes, GoesOn, Held, IfMade, InWait, IsFirst, IsFirstAsk, IsLawfulWorld, IsNotified}
+use Rattle.ns_world.specs.Prelude.{LedTo, Limits, Lock, Look, LookFits, LookGoes, LookMeans, LookOver, Looked, Means, Mode, Moves, NewNote, Next, NoteLoad, NoteStanding, NoteWait, Notify, Now, OfLock, OfNotes, OfObjects, On, OnCondition, OnEntry, OnLock}
+use Rattle.ns_world.specs.Prelude.{OnObjects, OnVariables, Once, Only, Owed, Part, RLock, Reply, Request, SeatView, Setup, Shows, SoFar, Start, Starts, Step, Subject, ToRelease, Truths, UnlockQuiet, Value, Wait, WaitAny}
+use Rattle.ns_world.specs.Prelude.{Walk, WasShown, asked_of, asks_of, begun_at, course_after, course_from, env_asked_of, env_course_after, env_course_at, env_done, env_got_of, env_own, env_state, env_step_of, env_walk_after, env_want_of, got_of, held_at, held_in, is_for_any}
 use Rattle.ns_world.specs.Prelude.{limits_for, limits_of, look_of, looked_after, looks_at, mode_of, mode_waited, note_in, own, part_of, row_after, start_of, step_of, waits_among, walk_after, want_of}
-use Rattle.ns_model.proofs.Beginnings.{begins_through, begins_itself}
-use Rattle.ns_model.proofs.Environments.{env_own-append}
-use Rattle.ns_word.proofs.Asked.{quiet_asks, test_asks}
-use Rattle.ns_word.proofs.Calls.{looks_by_asked}
 use Rattle.ns_word.proofs.Courses.{takes_on, begins_unchanged}
-use Rattle.ns_env.proofs.Acts.{env_own_all}
 use Rattle.ns_env.proofs.Chains.{looked_shows}
 use Rattle.ns_env.proofs.Courses.{begins_course, others_leave_course, step_takes_on}
-use Rattle.ns_env.proofs.Asks.{set_there, set_here}
-use Rattle.ns_word.proofs.Starts.{quiet_is_first, wait_is_first}
 use Rattle.ns_word.proofs.ToldAfter.{own_append, own_none, step_by, own_all}
 use Rattle.ns_env.specs.declared.walk.EnvNext.TheVariants.{Repeat, Over}
 use Rattle.ns_word.specs.declared.walk.Next.TheVariants.{Done}
@@ -68,12 +60,7 @@ among_for (OnCondition c) limits e = absurd (cc)
 
 among_says : {C : Type 0} (walk : Walk C) → waits_among walk ≡ true → limits_of (asked_of walk) ≡ None
 among_says (InWait wait place) e = among_for wait.on wait.limits e
-among_says (InTry mode place) e = absurd (cc)
-among_says (InAcquire aim place) e = absurd (cc)
-among_says (InRelease releasing place) e = absurd (cc)
-among_says (InCells place) e = absurd (cc)
-among_says (InSignal waking k place) e = absurd (cc)
-among_says (InShow place) e = absurd (cc)
+among_says walk e = absurd (cc)
 
 -- what a look of a wait has come to that is under way, and began after the wait
 abbrev pub LookSoFar : List EnvEvent → ℕ → List EnvEvent → Option EnvWalk → Type 0
@@ -356,21 +343,8 @@ module _ (C : Type 0) (N : ℕ) (before : Now C N) (earlier : List EnvEvent) (se
 
   -- what a look goes by is what may end the wait that was asked
   is_look : (act : Act C) (limits : Limits) → looks_at act ≡ Some limits → (again : Bool) × (act ≡ Look limits again)
-  is_look LoadWord limits e = absurd (cc)
-  is_look (Acquire aim arrival last) limits e = absurd (cc)
-  is_look (TakeQueues taking last) limits e = absurd (cc)
-  is_look (ReturnQueues change last) limits e = absurd (cc)
-  is_look (Release releasing last) limits e = absurd (cc)
-  is_look (ReleaseReturning releasing last) limits e = absurd (cc)
-  is_look (WaitReturning wait again last) limits e = absurd (cc)
-  is_look (LoadCell i) limits e = absurd (cc)
-  is_look (JudgeQuiet i) limits e = absurd (cc)
-  is_look (JudgeMet i c) limits e = absurd (cc)
-  is_look (StoreCell i v) limits e = absurd (cc)
-  is_look ArmFlag limits e = absurd (cc)
-  is_look PayWake limits e = absurd (cc)
-  is_look LoadFlag limits e = absurd (cc)
   is_look (Look by again) limits e = let same : by ≡ limits = cc in (again, ap (λ l. Look l again) same)
+  is_look other limits e = absurd (cc)
 
   limits_are : (walk : Walk C) (request : Request C) (limits : Limits) → asked_of walk ≡ request → looks_at (want_of walk) ≡ Some limits → Says (limits_of request) limits
   limits_are walk request limits asked e =
@@ -634,12 +608,7 @@ module _ (C : Type 0) (N : ℕ) (before : Now C N) (earlier : List EnvEvent) (se
     no_look = asked.1;
   }
   starts_at (OfObjects place) (OnObjects walk) view asked first at idle unasked = record { view = view; at = at; same = sym (ap held_in at); silent = refl; still = refl }
-  starts_at (OfLock request) (OnObjects walk) view asked first at idle unasked = absurd asked
-  starts_at (OfNotes request) (OnObjects walk) view asked first at idle unasked = absurd asked
-  starts_at (OfObjects place) (OnLock walk) view asked first at idle unasked = absurd asked
-  starts_at (OfObjects place) (Ask walk) view asked first at idle unasked = absurd asked
-  starts_at (OfLock request) (Ask walk) view asked first at idle unasked = absurd asked
-  starts_at (OfNotes request) (OnLock walk) view asked first at idle unasked = absurd asked
+  starts_at other start view asked first at idle unasked = absurd asked
 
   -- ---- from the beginning to the answer
 

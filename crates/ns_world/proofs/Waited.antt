@@ -3,13 +3,12 @@ use Rattle.std.proofs.Common.{◌≡◌, ◌≢◌, ℕ, not, ◌&&◌, Bool, tr
 use Rattle.std.specs.Prelude.{IfSome, IfOk, OnErr, if◌then◌else◌}
 use Rattle.std.specs.declared.result.Result.{Result}
 use Rattle.std.specs.declared.result.Result.TheVariants.{Ok, Err}
-use Rattle.std.proofs.lemmas.List.{append-nil}
+use Rattle.ns_world.proofs.Below.{append-nil, some_seats}
 use Rattle.ns_world.specs.Prelude.{Any, Arrival, AtLock, AtVariables, Bits, Broadcasting, CanWait, Change, ChangeFits, Cv, Effect, Event, Held, Home, IsInRange, IsUnmet, LeaveSelf, Left, Lists, Made, Makes, Mode, OnCondition, OnVariables, Only, Owed, QueueSelf, ReturnQueues, Saw, Scanned}
 use Rattle.ns_world.specs.Prelude.{Signaling, Subject, Truths, WaitReturning, Waiter, WakeWaiters, Waking, Woke, Word, bits_of, called_of, change_commits, changed, cvs_without, exit_for, has_some, is_held, leave_of, meets_at, moved_to, part, releasing_of, section_of, stands_at, taken_by}
 use Rattle.ns_world.specs.Prelude.{taken_set, tests_of, waited_in, waiters_of, wakes_of, woken_of, word_released_returning, word_returned}
 use Rattle.ns_word.specs.declared.wait.Wait.{Wait}
 use Rattle.ns_word.specs.declared.act.Change.TheVariants.{Nothing}
-use Rattle.ns_word.proofs.Scans.{some_seats}
 
 -- one that queues put the queues back
 pub queued_back : {C : Type 0} {N : ℕ} (truths : Truths C) (seat : ℕ) (mode : Mode) (arrival : Arrival) (last word word' : Word) (row flags : List ℕ) (owed : List Owed) (held : Option (Held C N)) (queues queues' : Lists C) (bits : Bits) →

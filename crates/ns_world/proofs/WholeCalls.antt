@@ -1,8 +1,6 @@
 -- From its beginning to its answer a call in a whole world is under way, whatever others do, and its answer means what it says.
-use Rattle.std.proofs.lemmas.Option.{same_Some}
+use Rattle.ns_world.proofs.Below.{append-nil, append_assoc, begins_itself, cases_eq, env_own-append, env_own_none, first_place, made_begins, put_here, put_there, same_Some, set_there, some_among, stands_within, there_more, wait_is_first}
 use Rattle.std.proofs.Common.{◌≡◌, ◌≢◌, ℕ, zero, suc, List, [], ◌++◌, Option, None, Some, slice_set, refl, ap, sym, ◌∙◌, subst, inl, inr, ◌⊎◌, true, false, cond, Bool, is_some, ◌<◌}
-use Rattle.std.proofs.lemmas.Bool.{cases_eq}
-use Rattle.std.proofs.lemmas.List.{append-nil, append_assoc}
 use Rattle.std.specs.Prelude.{unwrap_or}
 use Rattle.ns_world.specs.Prelude.{Acts, Add, Answer, AnswersCall, AnswersOfLock, AnswersTo, Any, AnyAnswers, AnyMeans, AnyWait, AreAmong, AreEnvBy, AreObjectsBy, AreThere}
 use Rattle.ns_world.specs.Prelude.{Asked, BeginsToWait, BeginsWith, Call, CallFits, Cause, CounterWait, Cvs, Done, EndsLook, EnvEvent, Finished, FirstClock, Found}
@@ -11,10 +9,6 @@ use Rattle.ns_world.specs.Prelude.{ObjectNext, ObjectSoFar, ObjectWalk, Objects,
 use Rattle.ns_world.specs.Prelude.{WaitAny, WaitMeans, WaitSteps, Walk, WalkFits, WalkReply, Went, WereThere, Whole, WholeBegins, WholeMoves, WholeStarts, WholeStep, asked_of, asks_of, at_will, by_round, cause_of, done_by, done_in, env_after, env_done, env_own, env_state, got_of, happened, held_at}
 use Rattle.ns_world.specs.Prelude.{held_in, is_among, is_for_lock, items_of, looked_after, looks_at, mode_of, mode_waited, notes_done, nothing_done, object_after, object_asked, object_got, object_start, object_step_of, objects_after, objects_begun, objects_done, objects_own, past_and, place_in}
 use Rattle.ns_world.specs.Prelude.{place_told, reply_of_lock, reply_told, round_due, round_got, row_after, shown_by, step_of, step_told, stood_at, wait_first, wait_in, waited_after, waits_for_any, walk_after, walk_in, want_of, woken_by}
-use Rattle.ns_env.proofs.Asks.{set_there}
-use Rattle.ns_model.proofs.Beginnings.{begins_itself}
-use Rattle.ns_model.proofs.Environments.{env_own-append, made_begins}
-use Rattle.ns_env.proofs.Acts.{env_own_none}
 use Rattle.ns_counters.proofs.Objects.{own-append, own_all, own_none}
 use Rattle.ns_counters.proofs.Rounds.{last_nothing, later_itself, later_through}
 use Rattle.ns_counters.specs.declared.walk.ObjectNext.TheVariants.{Go}
@@ -23,15 +17,12 @@ use Rattle.ns_world.proofs.Underway.{no_more as no_more_notes, not_idle, same_wo
 use Rattle.ns_world.proofs.Walks.{wait_there}
 use Rattle.ns_world.proofs.WholeLed.{no_more, starts_led, steps_led, whole_led}
 use Rattle.ns_word.specs.declared.walk.Next.TheVariants.{Done}
-use Rattle.ns_word.proofs.Starts.{wait_is_first}
-use Rattle.ns_world.proofs.Awaits.{becomes_over, leads, low_if, low_over, many_over, others_over, same_walk, setup_same, stands_here, there_as, waits_here}
+use Rattle.ns_world.proofs.Awaits.{leads, low_if, put_once, put_over, same_walk, setup_same, stands_here, there_as, waits_here}
 use Rattle.ns_world.proofs.Wholes.{begun_waits_not}
 use Rattle.ns_word.specs.declared.request.Request.TheVariants as TheRequest
 use Rattle.ns_word.specs.declared.walk.Next.TheVariants as TheNext
 use Rattle.ns_word.specs.declared.walk.Reply.TheVariants as TheWalk
 use Rattle.ns_counters.proofs.Courses.{RoundGoes, any_on, later_and, nothing_on, operates_on, round_by, round_makes_none, round_on, so_far_on}
-use Rattle.ns_counters.proofs.Listed.{first_place, some_among}
-use Rattle.ns_counters.proofs.Placed.{put_here, put_there, stands_within, there_more}
 
 -- ---- a call that is under way
 
@@ -116,18 +107,22 @@ module _ (C : Type 0) (N : ℕ) (before : Whole C N) (earlier : Past) (seat : �
   ShownOn round mid past None = (rounds : ℕ) × HaveShownNothing (IsReady before.objects.setup) (items_of round.items) round.deadline rounds mid past
   ShownOn round mid past (Some place) = AnyAnswers before.objects.setup mid past round.items round.deadline place
 
+  -- what a call had come to that left its section to wait on the lock: by this round, for these variables
+  record Left (round : Round) (cvs : Cvs) : Type 0 where
+    some : (k : ℕ) × (is_among k (items_of round.items) ≡ true)
+    low : cvs.0 < 16
+    among : AreAmong cvs (items_of round.items)
+    mid : Past
+    first : RoundShows (IsReady before.objects.setup) (items_of round.items) round.deadline earlier mid None
+    were_there : WereThere before.objects.setup mid round.items
+
   -- a wait on the lock has come so far on the objects, at which it looks
   record Awaiting (w : Waiting) (past : Past) (world : Whole C N) : Type 0 where
     waits : wait_in world.objects.waits seat ≡ Some (record { round = w.round; shown = w.shown })
-    some : (k : ℕ) × (is_among k (items_of w.round.items) ≡ true)
-    low : w.cvs.0 < 16
-    among : AreAmong w.cvs (items_of w.round.items)
-    mid : Past
-    first : RoundShows (IsReady before.objects.setup) (items_of w.round.items) w.round.deadline earlier mid None
-    until : IsLater mid past
-    were_there : WereThere before.objects.setup mid w.round.items
-    shown : ShownOn w.round mid past w.shown
-    round : RoundOn w.round mid past (walk_in world.objects.walks seat)
+    left : Left w.round w.cvs
+    until : IsLater left.mid past
+    shown : ShownOn w.round left.mid past w.shown
+    round : RoundOn w.round left.mid past (walk_in world.objects.walks seat)
     untouched : objects_own past.objects seat ≡ objects_own earlier.objects seat
 
   abbrev OnObjects : Phase → Past → Whole C N → Type 0
@@ -175,15 +170,10 @@ module _ (C : Type 0) (N : ℕ) (before : Whole C N) (earlier : Past) (seat : �
   }
   objects_rest (inr w) past more old new same waits own_same u = record {
     waits = waits ∙ u.waits;
-    some = u.some;
-    low = u.low;
-    among = u.among;
-    mid = u.mid;
-    first = u.first;
-    until = until_rests u.mid past more u.until;
-    were_there = u.were_there;
-    shown = shown_rests w.round u.mid past more w.shown u.shown;
-    round = subst (RoundOn w.round u.mid (past_and past more)) (sym same) (round_rests w.round u.mid past more (walk_in old.objects.walks seat) u.round);
+    left = u.left;
+    until = until_rests u.left.mid past more u.until;
+    shown = shown_rests w.round u.left.mid past more w.shown u.shown;
+    round = subst (RoundOn w.round u.left.mid (past_and past more)) (sym same) (round_rests w.round u.left.mid past more (walk_in old.objects.walks seat) u.round);
     untouched = own_same ∙ u.untouched;
   }
 
@@ -329,9 +319,7 @@ module _ (C : Type 0) (N : ℕ) (before : Whole C N) (earlier : Past) (seat : �
       by (OfLock request) of (Finished reply) u outcome = (outcome, (rest (OfLock request) u).untouched)
       by (OfNotes request) of (Finished reply) u outcome = (outcome, (rest (OfNotes request) u).untouched)
       by (OfObjects asked) of (Finished reply) u outcome = absurd of
-      by asked of Went u outcome = (inl asked, refl, on asked u outcome)
-      by asked of Idle u outcome = (inl asked, refl, on asked u outcome)
-      by asked of Nothing u outcome = (inl asked, refl, on asked u outcome)
+      by asked of step u outcome = (inl asked, refl, on asked u outcome)
 
   -- of a call on counters and once cells
   module _ (asked : ObjectWalk) (past : Past) (old new : Whole C N) (lawful : IsLawfulWhole old) (u : UnderwayIn (inl (OfObjects asked)) past old) where
@@ -431,9 +419,6 @@ module _ (C : Type 0) (N : ℕ) (before : Whole C N) (earlier : Past) (seat : �
         w : Waiting
         w = record { round = p.round; cvs = p.cvs; shown = None }
 
-        low : seat < 64
-        low = low_over old new seat lawful (InRound p.round p.place) p.walks p.then Idle p.operated (Some (record { round = p.round; shown = None })) p.becomes
-
         on_lock : HasLedTo now new → IsUnderway C N before.lock earlier.notes seat (AsShown None) (OfLock (wait_for p.cvs)) (past.notes ++ []) new.lock
         on_lock led =
             let e = u.lock.underway in
@@ -456,25 +441,25 @@ module _ (C : Type 0) (N : ℕ) (before : Whole C N) (earlier : Past) (seat : �
         by (RoundOver (Some at)) answers goes there untouched led = absurd (cc)
         by (RoundOver None) answers goes there untouched led =
             let wait : Option AnyWait = Some (record { round = p.round; shown = None }) in
-            let over = becomes_over old new seat lawful (InRound p.round p.place) p.walks p.then Idle p.operated wait p.becomes in
-            let many = many_over old new seat lawful (InRound p.round p.place) p.walks p.then Idle p.operated wait p.becomes in
-            let others = others_over old new seat lawful (InRound p.round p.place) p.walks p.then Idle p.operated wait p.becomes in
+            let put = put_over old new seat lawful (InRound p.round p.place) p.walks p.then Idle p.operated wait p.becomes in
             record {
-              setup = setup_same old new seat lawful low p.operated.words _ None wait many others over ∙ u.setup;
+              setup = setup_same old new seat lawful put ∙ u.setup;
               since = begins_on earlier.objects past.objects p.operated.events u.since;
               led = led.1;
               lock = on_lock led;
               objects = record {
-                waits = waits_here old new seat lawful low p.operated.words _ None wait many others over;
-                some = some_among (items_of p.round.items) p.named;
-                low = p.low;
-                among = p.among;
-                mid = now;
-                first = last_nothing (IsReady before.objects.setup) (items_of p.round.items) p.round.deadline goes.0 earlier now goes.1;
+                waits = waits_here old new seat lawful put;
+                left = record {
+                  some = some_among (items_of p.round.items) p.named;
+                  low = p.low;
+                  among = p.among;
+                  mid = now;
+                  first = last_nothing (IsReady before.objects.setup) (items_of p.round.items) p.round.deadline goes.0 earlier now goes.1;
+                  were_there = there_now there led;
+                };
                 until = later_itself now;
-                were_there = there_now there led;
                 shown = (0, later_itself now);
-                round = subst (RoundOn p.round now now) (sym (stands_here old new seat lawful low p.operated.words _ None wait many others over)) tt;
+                round = subst (RoundOn p.round now now) (sym (stands_here old new seat lawful put)) tt;
                 untouched = untouched;
               };
             }
@@ -495,7 +480,7 @@ module _ (C : Type 0) (N : ℕ) (before : Whole C N) (earlier : Past) (seat : �
       abbrev round_now : Past
       round_now = past_and past (record { notes = []; objects = events })
 
-      round_leads : (next : RoundNext) → step ≡ object_step_of (by_round by next) → new.objects.walks ≡ slice_set old.objects.walks seat (object_after (by_round by next)) → RoundGoes before.objects.setup u.objects.mid round_now by next →
+      round_leads : (next : RoundNext) → step ≡ object_step_of (by_round by next) → new.objects.walks ≡ slice_set old.objects.walks seat (object_after (by_round by next)) → RoundGoes before.objects.setup u.objects.left.mid round_now by next →
           OutcomeIn (OfObjects (InRound w.round FirstClock)) step round_now new
       round_leads (RoundOver None) answers walks goes = let no : true ≡ false = ap (is_for_lock (Some waiting) at) (sym answers) ∙ not in absurd (cc)
       round_leads (RoundOver (Some place)) answers walks goes = let no : true ≡ false = ap (is_for_lock (Some waiting) at) (sym answers) ∙ not in absurd (cc)
@@ -512,37 +497,32 @@ module _ (C : Type 0) (N : ℕ) (before : Whole C N) (earlier : Past) (seat : �
               lock = subst (λ world. IsUnderway C N before.lock earlier.notes seat (AsShown w.shown) (OfLock (wait_for w.cvs)) (past.notes ++ []) world) (sym same) (rests_in (inr w) past old u).lock;
               objects = record {
                 waits = ap (λ ws. wait_in ws seat) waits ∙ u.objects.waits;
-                some = u.objects.some;
-                low = u.objects.low;
-                among = u.objects.among;
-                mid = u.objects.mid;
-                first = u.objects.first;
-                until = until_rests u.objects.mid past more u.objects.until;
-                were_there = u.objects.were_there;
-                shown = shown_rests w.round u.objects.mid past more w.shown u.objects.shown;
-                round = subst (RoundOn w.round u.objects.mid round_now) (sym here) (is, subst (λ (r : Round). RoundSoFar before.objects.setup u.objects.mid round_now r place) is goes);
+                left = u.objects.left;
+                until = until_rests u.objects.left.mid past more u.objects.until;
+                shown = shown_rests w.round u.objects.left.mid past more w.shown u.objects.shown;
+                round = subst (RoundOn w.round u.objects.left.mid round_now) (sym here) (is, subst (λ (r : Round). RoundSoFar before.objects.setup u.objects.left.mid round_now r place) is goes);
                 untouched = none_done events none;
               };
             },
           )
 
     -- what a round's step shows is so, by which the wait looks
-    looks_there : (by : Round) (place : RoundPlace) → RoundOn w.round u.objects.mid past (Some (InRound by place)) → WereThere before.objects.setup u.objects.mid by.items
-    looks_there by place on = subst (λ (r : Round). WereThere before.objects.setup u.objects.mid r.items) (sym on.0) u.objects.were_there
+    looks_there : (by : Round) (place : RoundPlace) → RoundOn w.round u.objects.left.mid past (Some (InRound by place)) → WereThere before.objects.setup u.objects.left.mid by.items
+    looks_there by place on = subst (λ (r : Round). WereThere before.objects.setup u.objects.left.mid r.items) (sym on.0) u.objects.left.were_there
 
-    looks_by : (by : Round) (place : RoundPlace) → RoundOn w.round u.objects.mid past (Some (InRound by place)) → RoundSoFar before.objects.setup u.objects.mid past by place
-    looks_by by place on = subst (λ (r : Round). RoundSoFar before.objects.setup u.objects.mid past r place) (sym on.0) on.1
+    looks_by : (by : Round) (place : RoundPlace) → RoundOn w.round u.objects.left.mid past (Some (InRound by place)) → RoundSoFar before.objects.setup u.objects.left.mid past by place
+    looks_by by place on = subst (λ (r : Round). RoundSoFar before.objects.setup u.objects.left.mid past r place) (sym on.0) on.1
 
     round_goes_on : (step : Step) (p : Operates old new seat step) → HasLedTo (past_and past (record { notes = []; objects = p.operated.events })) new →
         OutcomeIn (OfObjects (InRound w.round FirstClock)) step (past_and past (record { notes = []; objects = p.operated.events })) new
     round_goes_on step p led =
         let not : is_for_lock (Some waiting) p.walk step ≡ false = ap (λ x. is_for_lock x p.walk step) (sym u.objects.waits) ∙ p.not_for_lock in
-        by p.walk (subst (RoundOn w.round u.objects.mid past) p.walks u.objects.round) p.walks p.operated not led where
-          by : (walk : ObjectWalk) → RoundOn w.round u.objects.mid past (Some walk) → walk_in old.objects.walks seat ≡ Some walk → (q : HasOperated old.lock.env seat walk old.objects new.objects step) →
+        by p.walk (subst (RoundOn w.round u.objects.left.mid past) p.walks u.objects.round) p.walks p.operated not led where
+          by : (walk : ObjectWalk) → RoundOn w.round u.objects.left.mid past (Some walk) → walk_in old.objects.walks seat ≡ Some walk → (q : HasOperated old.lock.env seat walk old.objects new.objects step) →
               is_for_lock (Some waiting) walk step ≡ false → HasLedTo (past_and past (record { notes = []; objects = q.events })) new →
               OutcomeIn (OfObjects (InRound w.round FirstClock)) step (past_and past (record { notes = []; objects = q.events })) new
           by (InRound round place) on stands q not led =
-              let shows = round_shows (inr w) past old u u.objects.mid round place stands new.objects step q (looks_there round place on) (looks_by round place on) in
+              let shows = round_shows (inr w) past old u u.objects.left.mid round place stands new.objects step q (looks_there round place on) (looks_by round place on) in
               round_leads round on.0 step q.events shows.1 p.same (ap (λ (o : Objects). o.setup) q.becomes) (ap (λ (o : Objects). o.waits) q.becomes) (InRound round place) stands not led (round_got round place q.found) q.answers (ap (λ (o : Objects). o.walks) q.becomes) shows.0
           by walk on stands q not led = absurd on
 
@@ -574,10 +554,8 @@ module _ (C : Type 0) (N : ℕ) (before : Whole C N) (earlier : Past) (seat : �
 
         by : (step : Step) → IsUnfinished step → (o : Outcome C N before.lock earlier.notes seat (OfLock (wait_for w.cvs)) step (past.notes ++ []) new.lock) →
             HasLooked C N before.lock earlier.notes seat (wait_for w.cvs) step (past.notes ++ []) new.lock o looked → OutcomeIn (OfObjects (InRound w.round FirstClock)) step now_there new
-        by Went unfinished o looks = (inr (shown_now shown), refl, on o looks)
-        by Idle unfinished o looks = (inr (shown_now shown), refl, on o looks)
-        by Nothing unfinished o looks = (inr (shown_now shown), refl, on o looks)
         by (Finished reply) unfinished o looks = absurd unfinished
+        by step unfinished o looks = (inr (shown_now shown), refl, on o looks)
 
     -- its look is over
     ends_look_here : (step : Step) (p : EndsLook old new seat step) → HasLedTo (past_and past (record { notes = []; objects = p.operated.events })) new →
@@ -587,43 +565,35 @@ module _ (C : Type 0) (N : ℕ) (before : Whole C N) (earlier : Past) (seat : �
         let at = leads old new seat lawful step p in
         let unfinished : IsUnfinished step = subst IsUnfinished (sym (p.acts.goes.answers ∙ ap (λ (f : Found). step_of (got_of N p.acts.goes.makes.walk f)) p.looked)) at.unfinished in
         let looked : looked_after p.acts.goes.found u.lock.underway.course.looked ≡ Some (cause_of (shown_by p.told)) = ap (λ (f : Found). looked_after f u.lock.underway.course.looked) p.looked in
-        let shows = by p.walk (subst (RoundOn w.round u.objects.mid past) p.walks u.objects.round) p.walks p.then p.told p.operated in
+        let shows = by p.walk (subst (RoundOn w.round u.objects.left.mid past) p.walks u.objects.round) p.walks p.then p.told p.operated in
         let wait : Option AnyWait = Some (record { round = p.wait.round; shown = shown_by p.told }) in
-        let over = becomes_over old new seat lawful p.walk p.walks p.then p.told p.operated wait p.becomes in
-        let many = many_over old new seat lawful p.walk p.walks p.then p.told p.operated wait p.becomes in
-        let others = others_over old new seat lawful p.walk p.walks p.then p.told p.operated wait p.becomes in
-        let low = low_over old new seat lawful p.walk p.walks p.then p.told p.operated wait p.becomes in
+        let put = put_over old new seat lawful p.walk p.walks p.then p.told p.operated wait p.becomes in
         let more : Past = record { notes = []; objects = p.operated.events } in
-        wait_goes_on p.operated.events (setup_same old new seat lawful low p.operated.words _ None wait many others over) led (shown_by p.told) (looked_after p.acts.goes.found u.lock.underway.course.looked) (subst (AsShown (shown_by p.told)) (sym looked) refl)
+        wait_goes_on p.operated.events (setup_same old new seat lawful put) led (shown_by p.told) (looked_after p.acts.goes.found u.lock.underway.course.looked) (subst (AsShown (shown_by p.told)) (sym looked) refl)
         (record {
-          waits = waits_here old new seat lawful low p.operated.words _ None wait many others over ∙ ap (λ (x : AnyWait). Some (record { round = x.round; shown = shown_by p.told })) (same_wait p.wait p.waits);
-          some = u.objects.some;
-          low = u.objects.low;
-          among = u.objects.among;
-          mid = u.objects.mid;
-          first = u.objects.first;
-          until = until_rests u.objects.mid past more u.objects.until;
-          were_there = u.objects.were_there;
+          waits = waits_here old new seat lawful put ∙ ap (λ (x : AnyWait). Some (record { round = x.round; shown = shown_by p.told })) (same_wait p.wait p.waits);
+          left = u.objects.left;
+          until = until_rests u.objects.left.mid past more u.objects.until;
           shown = shows.0;
-          round = subst (RoundOn w.round u.objects.mid (past_and past more)) (sym (stands_here old new seat lawful low p.operated.words _ None wait many others over)) tt;
+          round = subst (RoundOn w.round u.objects.left.mid (past_and past more)) (sym (stands_here old new seat lawful put)) tt;
           untouched = none_done p.operated.events shows.1;
         })
         step unfinished o.0 o.1 where
-          shown : (by : Round) → by ≡ w.round → (told : Step) (events : List ObjectEvent) (next : RoundNext) → told ≡ object_step_of (by_round by next) → RoundGoes before.objects.setup u.objects.mid (past_and past (record { notes = []; objects = events })) by next →
-              ShownOn w.round u.objects.mid (past_and past (record { notes = []; objects = events })) (shown_by told)
-          shown by is told events next answers goes = subst (λ s. ShownOn w.round u.objects.mid on (shown_by s)) (sym answers) (subst (λ (r : Round). ShownOn r u.objects.mid on (shown_by (object_step_of (by_round by next)))) is (so next goes)) where
+          shown : (by : Round) → by ≡ w.round → (told : Step) (events : List ObjectEvent) (next : RoundNext) → told ≡ object_step_of (by_round by next) → RoundGoes before.objects.setup u.objects.left.mid (past_and past (record { notes = []; objects = events })) by next →
+              ShownOn w.round u.objects.left.mid (past_and past (record { notes = []; objects = events })) (shown_by told)
+          shown by is told events next answers goes = subst (λ s. ShownOn w.round u.objects.left.mid on (shown_by s)) (sym answers) (subst (λ (r : Round). ShownOn r u.objects.left.mid on (shown_by (object_step_of (by_round by next)))) is (so next goes)) where
             on : Past
             on = past_and past (record { notes = []; objects = events })
 
-            so : (next : RoundNext) → RoundGoes before.objects.setup u.objects.mid on by next → ShownOn by u.objects.mid on (shown_by (object_step_of (by_round by next)))
-            so (RoundGo place) goes = (0, until_rests u.objects.mid past (record { notes = []; objects = events }) u.objects.until)
+            so : (next : RoundNext) → RoundGoes before.objects.setup u.objects.left.mid on by next → ShownOn by u.objects.left.mid on (shown_by (object_step_of (by_round by next)))
+            so (RoundGo place) goes = (0, until_rests u.objects.left.mid past (record { notes = []; objects = events }) u.objects.until)
             so (RoundOver None) goes = (suc goes.0, goes.1)
             so (RoundOver (Some place)) goes = goes
 
-          by : (walk : ObjectWalk) → RoundOn w.round u.objects.mid past (Some walk) → walk_in old.objects.walks seat ≡ Some walk →
-              (then : Objects) (told : Step) (q : HasOperated old.lock.env seat walk old.objects then told) → ShownOn w.round u.objects.mid (past_and past (record { notes = []; objects = q.events })) (shown_by told) × (q.events ≡ [])
+          by : (walk : ObjectWalk) → RoundOn w.round u.objects.left.mid past (Some walk) → walk_in old.objects.walks seat ≡ Some walk →
+              (then : Objects) (told : Step) (q : HasOperated old.lock.env seat walk old.objects then told) → ShownOn w.round u.objects.left.mid (past_and past (record { notes = []; objects = q.events })) (shown_by told) × (q.events ≡ [])
           by (InRound round place) on stands then told q =
-              let shows = round_shows (inr w) past old u u.objects.mid round place stands then told q (looks_there round place on) (looks_by round place on) in
+              let shows = round_shows (inr w) past old u u.objects.left.mid round place stands then told q (looks_there round place on) (looks_by round place on) in
               (shown round on.0 told q.events (round_got round place q.found) q.answers shows.0, shows.1)
           by walk on stands then told q = absurd on
 
@@ -643,11 +613,11 @@ module _ (C : Type 0) (N : ℕ) (before : Whole C N) (earlier : Past) (seat : �
       abbrev here_now : Past
       here_now = past_and past (record { notes = []; objects = [] })
 
-      still_until : IsLater u.objects.mid here_now
-      still_until = until_rests u.objects.mid past (record { notes = []; objects = [] }) u.objects.until
+      still_until : IsLater u.objects.left.mid here_now
+      still_until = until_rests u.objects.left.mid past (record { notes = []; objects = [] }) u.objects.until
 
-      still_shown : ShownOn w.round u.objects.mid here_now w.shown
-      still_shown = shown_rests w.round u.objects.mid past (record { notes = []; objects = [] }) w.shown u.objects.shown
+      still_shown : ShownOn w.round u.objects.left.mid here_now w.shown
+      still_shown = shown_rests w.round u.objects.left.mid past (record { notes = []; objects = [] }) w.shown u.objects.shown
 
       low_here : seat < 64
       low_here = let s = there_as old new seat lawful wait waits in low_if old new seat lawful s.view s.at
@@ -668,30 +638,25 @@ module _ (C : Type 0) (N : ℕ) (before : Whole C N) (earlier : Past) (seat : �
           let o = acts_on C N before.lock earlier.notes seat (wait_for w.cvs) refl past.notes old.lock new.lock told lawful.lock u.lock.since u.lock.underway acts in
           wait_goes_on [] (ap (λ (x : Objects). x.setup) stood) led w.shown (looked_after acts.goes.found u.lock.underway.course.looked) (subst (AsShown w.shown) (sym (quiet told acts)) u.lock.looks)
           (record {
-            waits = waits_here old new seat lawful low_here old.objects.words old.objects.walks at (Some wait) lawful.places (λ other ne. refl) stood ∙ ap Some (same_wait wait waits);
-            some = u.objects.some;
-            low = u.objects.low;
-            among = u.objects.among;
-            mid = u.objects.mid;
-            first = u.objects.first;
+            waits = waits_here old new seat lawful (put_once old new seat lawful low_here at (Some wait) stood) ∙ ap Some (same_wait wait waits);
+            left = u.objects.left;
             until = still_until;
-            were_there = u.objects.were_there;
             shown = still_shown;
-            round = subst (RoundOn w.round u.objects.mid here_now) (sym (stands_here old new seat lawful low_here old.objects.words old.objects.walks at (Some wait) lawful.places (λ other ne. refl) stood)) (due (is_some (looks_at (want_of after.0))));
+            round = subst (RoundOn w.round u.objects.left.mid here_now) (sym (stands_here old new seat lawful (put_once old new seat lawful low_here at (Some wait) stood))) (due (is_some (looks_at (want_of after.0))));
             untouched = none_done [] refl;
           })
           told unfinished o.0 o.1 where
-            due : (b : Bool) → RoundOn w.round u.objects.mid here_now (cond b (Some (InRound wait.round FirstClock)) None)
-            due true = (ap (λ (x : AnyWait). x.round) (same_wait wait waits), rounds_before w.shown u.objects.mid here_now still_until still_shown)
+            due : (b : Bool) → RoundOn w.round u.objects.left.mid here_now (cond b (Some (InRound wait.round FirstClock)) None)
+            due true = (ap (λ (x : AnyWait). x.round) (same_wait wait waits), rounds_before w.shown u.objects.left.mid here_now still_until still_shown)
             due false = tt
 
       -- what it answers
       module _ (reply : Reply) (a : AnswersOfLock before.lock earlier.notes seat (wait_for w.cvs) reply new.lock (past.notes ++ [])) (looks : AsShown w.shown a.course.looked) where
-        placed : (by : Option ℕ) → MayEnd w.cvs at_will a.course.looked by → PlaceBy before.objects.setup u.objects.mid here_now w.round by (place_told wait by)
-        placed (Some k) may = subst (λ (x : AnyWait). PlaceBy before.objects.setup u.objects.mid here_now w.round (Some k) (place_in k (items_of x.round.items))) (sym (same_wait wait waits)) (first_place w.round.items k (sym (u.objects.among k) ∙ may))
+        placed : (by : Option ℕ) → MayEnd w.cvs at_will a.course.looked by → PlaceBy before.objects.setup u.objects.left.mid here_now w.round by (place_told wait by)
+        placed (Some k) may = subst (λ (x : AnyWait). PlaceBy before.objects.setup u.objects.left.mid here_now w.round (Some k) (place_in k (items_of x.round.items))) (sym (same_wait wait waits)) (first_place w.round.items k (sym (u.objects.left.among k) ∙ may))
         placed None may =
-            subst (λ (x : AnyWait). AnyAnswers before.objects.setup u.objects.mid here_now w.round.items w.round.deadline (unwrap_or x.shown 0)) (sym (same_wait wait waits))
-            (ended_by w.shown a.course.looked may.0 looks may.2 u.objects.mid here_now still_shown)
+            subst (λ (x : AnyWait). AnyAnswers before.objects.setup u.objects.left.mid here_now w.round.items w.round.deadline (unwrap_or x.shown 0)) (sym (same_wait wait waits))
+            (ended_by w.shown a.course.looked may.0 looks may.2 u.objects.left.mid here_now still_shown)
 
         may_end : (by : Option ℕ) (held : Option (Held C N)) → InHand held (λ back. AnyMeans new.lock.truths seat (row_after new.lock.history) (mode_waited (mode_of (held_at before.lock seat))) (OnVariables (Any w.cvs)) at_will a.course by back) → MayEnd w.cvs at_will a.course.looked by
         may_end by None means = absurd means
@@ -705,13 +670,13 @@ module _ (C : Type 0) (N : ℕ) (before : Whole C N) (earlier : Past) (seat : �
         answered (TheWalk.WokenBy by) tells means = inr (record {
           round = w.round;
           is = refl;
-          mid = u.objects.mid;
-          first = u.objects.first;
+          mid = u.objects.left.mid;
+          first = u.objects.left.first;
           until = still_until;
-          some = u.objects.some;
+          some = u.objects.left.some;
           cvs = w.cvs;
-          low = u.objects.low;
-          among = u.objects.among;
+          low = u.objects.left.low;
+          among = u.objects.left.among;
           by = by;
           waited = record { course = a.course; began = a.began; added = a.added; shown = a.shown; still = a.still; answer = TheWalk.WokenBy by; tells = refl; means = means };
           woken = refl;

@@ -1,14 +1,11 @@
 -- What has led to a whole world, and a step or a call that begins, lead to the world after it.
 use Rattle.std.proofs.Common.{◌≡◌, ℕ, List, [], ◌++◌, Bool, true, false, cond, ◌<◌, length, Option, None, Some, is_some, arith, refl, sym, subst, inl, inr}
-use Rattle.std.proofs.lemmas.List.{append-nil, length-set}
-use Rattle.std.proofs.lemmas.Option.{slice_get_within}
+use Rattle.ns_world.proofs.Below.{Fit, append-nil, led_more, length-set, operates_keeps, slice_get_within, stands_within}
 use Rattle.ns_world.specs.Prelude.{objects_state, AnyWait, AreEnvBy, AreLedTo, AreObjectsBy, AreThere, BeginsToWait, Call, EndsLook, EnvPlain, FirstClock, HasLedTo, HasOperated, HaveLedTo, Idle, InRound, IsLawfulWhole, LedTo, LockSteps, Now, ObjectEvent, ObjectWalk, Objects}
 use Rattle.ns_world.specs.Prelude.{Operates, Past, StandsBy, Step, WaitSteps, WaitsOnLock, Walk, Whole, WholeMoves, WholeStarts, WholeStep, done_in, env_done, got_of, looks_at, notes_done, nothing_done, object_start, objects_after, objects_done, past_and, round_due, shown_by, stood_at}
 use Rattle.ns_world.specs.Prelude.{waited_after, walk_after, walk_in, want_of}
 use Rattle.ns_world.proofs.EnvGrows.{moves_led}
 use Rattle.ns_world.proofs.Wholes.{begun_led, led_stood, moves_make}
-use Rattle.ns_counters.proofs.Placed.{Fit, led_more, stands_within}
-use Rattle.ns_counters.proofs.WalkLaw.{operates_keeps}
 
 pub no_more : {C : Type 0} {N : ℕ} (past : Past) (world : Whole C N) → HasLedTo past world → HasLedTo (past_and past nothing_done) world
 no_more past world led = (subst (λ es. LedTo es world.lock) (sym (append-nil past.notes)) led.0, subst (λ es. HaveLedTo es world) (sym (append-nil past.objects)) led.1)

@@ -1,26 +1,20 @@
 -- The law of a whole world: how it begins, and that calls that begin and steps keep it.
-use Rattle.std.proofs.Common.{◌≡◌, ◌≢◌, ℕ, ◌<◌, ◌≤◌, true, false, not, List, [], ◌++◌, Option, None, Some, IsSome, length, replicate, slice_get, slice_set, slice_index, refl, ap, sym, ◌∙◌, subst, arith, inl, inr}
-use Rattle.std.proofs.lemmas.Bool.{cases_eq}
-use Rattle.std.proofs.lemmas.List.{length-replicate, length-set}
-use Rattle.std.proofs.lemmas.Option.{same_Some, slice_get_within}
-use Rattle.ns_world.specs.Prelude.{objects_state, Act, Add, Advance, AnyWait, AreLedTo, AreThere, Ask, Broadcast, Call, CallFits, CounterWait, CvWait, Done, EnvNext, EnvPlain, Expiry, Found, Get, Goes, HasOperated, Held, InRound, IsIdle}
-use Rattle.ns_world.specs.Prelude.{IsLawfulWhole, IsLawfulWorld, IsNotified, Lock, LookGoes, LooksWhere, Meets, Mode, Moves, NewNote, NoteStanding, NoteWait, Notify, Now, ObjectEvent, ObjectFound, ObjectNext, ObjectStanding, ObjectWalk, Objects, OnCondition, OnEntry}
-use Rattle.ns_world.specs.Prelude.{OnLock, OnObjects, Once, Operates, Over, RLock, RUnlock, Repeat, Round, SeatView, Set, Setup, Signal, StandsAlone, StandsBy, Start, Starts, Step, StepFits, ToRelease, Truths, TryLock, TryRLock}
-use Rattle.ns_world.specs.Prelude.{Unlock, UnlockQuiet, Value, Wait, WaitAny, Walk, WalkFits, Whole, WholeStarts, asks_for_any, begun_at, env_got_of, env_want_of, fresh_whole, got_of, is_alone, is_for_lock, items_of, mode_of, mode_waited}
+use Rattle.std.proofs.Common.{Bool, ◌≡◌, ◌≢◌, ℕ, ◌<◌, ◌≤◌, true, false, not, List, [], ◌++◌, Option, None, Some, IsSome, length, replicate, slice_get, slice_set, slice_index, refl, ap, sym, ◌∙◌, subst, arith, inl, inr}
+use Rattle.ns_world.proofs.Below.{Fit, StaysAsked, asked_stays, cases_eq, if_made_stays, led_more, length-replicate, length-set, operates_keeps, put_here, put_keeps, put_there, quiet_asks, same_Some, set_here, set_there, slice_get_within, some_among, stands_within, stays_asked, test_asks}
+use Rattle.ns_world.proofs.Below.{there_more}
+use Rattle.ns_world.specs.Prelude.{objects_state, Act, Add, AnyWait, AreLedTo, AreThere, Ask, Call, CallFits, CounterWait, Done, EnvNext, EnvPlain, Found, Goes, HasOperated, Held, InRound, IsIdle}
+use Rattle.ns_world.specs.Prelude.{IsLawfulWhole, IsLawfulWorld, LookGoes, LooksWhere, Meets, Mode, Moves, NoteStanding, Now, ObjectEvent, ObjectFound, ObjectNext, ObjectStanding, ObjectWalk, Objects, OnCondition, OnEntry}
+use Rattle.ns_world.specs.Prelude.{OnLock, OnObjects, Once, Operates, Over, Repeat, Round, SeatView, Setup, StandsAlone, StandsBy, Start, Starts, Step, StepFits, ToRelease, Truths}
+use Rattle.ns_world.specs.Prelude.{UnlockQuiet, Value, Wait, WaitAny, Walk, WalkFits, Whole, WholeStarts, asks_for_any, begun_at, env_got_of, env_want_of, fresh_whole, got_of, is_alone, is_for_lock, items_of, mode_of, mode_waited}
 use Rattle.ns_world.specs.Prelude.{most, object_after, object_asked, object_got, object_start, object_step_of, objects_after, objects_begun, put_at, start_of, stood_at, wait_in, walk_after, walk_in, want_of, whole}
 use Rattle.ns_counters.proofs.NewObjects.{new_lawful}
-use Rattle.ns_env.proofs.Asks.{if_made_stays, set_here, set_there}
 use Rattle.ns_counters.specs.declared.walk.ObjectNext.TheVariants.{Go}
-use Rattle.ns_word.proofs.Asked.{asked_stays, quiet_asks, test_asks}
 use Rattle.ns_world.specs.Whole.{MayWait}
 use Rattle.ns_world.proofs.Fresh.{lawful_new, length_views, no_walk}
 use Rattle.ns_world.proofs.Turns.{moves_stay, begun_stays, Pairs, pairs}
 use Rattle.ns_world.proofs.Walks.{none_stand, none_wait}
 use Rattle.ns_env.specs.declared.walk.EnvNext.TheVariants as TheEnv
-use Rattle.ns_counters.proofs.Listed.{some_among}
-use Rattle.ns_counters.proofs.Placed.{Fit, StaysAsked, led_more, put_here, put_keeps, put_there, stands_within, stays_asked, there_more}
 use Rattle.ns_counters.proofs.Needs.{may_step}
-use Rattle.ns_counters.proofs.WalkLaw.{operates_keeps}
 
 -- ---- a new world
 
@@ -68,37 +62,14 @@ after_alone {C} N walk found alone = by (walk_after (got_of N walk found)) refl 
   by (Some next) is = ap (λ r. not (asks_for_any r)) (asked_stays C N walk found next is) ∙ alone
 
 -- a call begins at no wait for a set of variables
-abbrev StartAlone : {C : Type 0} → Start C → Type 0
-StartAlone (OnLock walk) = is_alone (Some walk) ≡ true
-StartAlone (Ask walk) = Unit {0}
-StartAlone (OnObjects walk) = Unit {0}
+abbrev begins_alone : {C : Type 0} → Start C → Bool
+begins_alone (OnLock walk) = is_alone (Some walk)
+begins_alone start = true
 
-start_alone : {C : Type 0} (N : ℕ) (mode : Option Mode) (call : Call C) → StartAlone (start_of N mode call)
+start_alone : {C : Type 0} (N : ℕ) (mode : Option Mode) (call : Call C) → begins_alone (start_of N mode call) ≡ true
 start_alone {C} N mode UnlockQuiet = ap (λ r. not (asks_for_any r)) (quiet_asks C N ToRelease 0)
 start_alone {C} N mode (Wait c limits) = ap (λ r. not (asks_for_any r)) (test_asks C N (record { mode = mode_waited mode; on = OnCondition c; limits = limits }) OnEntry 0)
-start_alone N mode Lock = refl
-start_alone N mode RLock = refl
-start_alone N mode TryLock = refl
-start_alone N mode TryRLock = refl
-start_alone N mode Unlock = refl
-start_alone N mode RUnlock = refl
-start_alone N mode (Get i) = refl
-start_alone N mode (Set i v) = refl
-start_alone N mode (CvWait k limits) = refl
-start_alone N mode (Signal k) = refl
-start_alone N mode (Broadcast k) = refl
-start_alone N mode (NewNote parent deadline) = tt
-start_alone N mode (Notify note) = tt
-start_alone N mode (Advance moment) = tt
-start_alone N mode (IsNotified note) = tt
-start_alone N mode (Expiry note) = tt
-start_alone N mode (NoteWait note deadline) = tt
-start_alone N mode (Add counter delta) = tt
-start_alone N mode (Value counter) = tt
-start_alone N mode (CounterWait counter deadline) = tt
-start_alone N mode (Once once) = tt
-start_alone N mode (Done once) = tt
-start_alone N mode (WaitAny items deadline) = tt
+start_alone N mode other = refl
 
 some_held : {C : Type 0} {N : ℕ} (held : Option (Held C N)) → IsSome (mode_of held) → IsSome held
 some_held None some = some
@@ -130,8 +101,7 @@ module _ {C : Type 0} {N : ℕ} where
   look_makes : (old new : Now C N) (seat : ℕ) (step : Step) (next : EnvNext) → LookGoes next old new seat step → (n : ℕ) → (old.env.notes n).made ≡ true → (new.env.notes n).made ≡ true
   look_makes old new seat step (TheEnv.Go walk) p n made = subst (λ (world : Now C N). (world.env.notes n).made ≡ true) (sym p.0) made
   look_makes old new seat step (TheEnv.LookOver cause) p n made = subst (λ (env : EnvPlain). (env.notes n).made ≡ true) (sym p.0.env) made
-  look_makes old new seat step (TheEnv.Repeat walk) p n made = absurd p
-  look_makes old new seat step (TheEnv.Over reply) p n made = absurd p
+  look_makes old new seat step next p n made = absurd p
 
   pub moves_make : (old new : Now C N) (seat : ℕ) (step : Step) → Moves old new seat step → (n : ℕ) → (old.env.notes n).made ≡ true → (new.env.notes n).made ≡ true
   moves_make old new seat step (inl p) n made = subst (λ (env : EnvPlain). (env.notes n).made ≡ true) (sym p.goes.env) made
@@ -159,8 +129,7 @@ module _ {C : Type 0} {N : ℕ} where
     asking = ap (λ (world : Now C N). slice_get world.asking other) p.0 ∙ set_there old.asking seat other (Some walk) ne;
   }
   look_rests old new seat step (TheEnv.LookOver cause) other ne p = goes_rests old new seat step other ne p.0
-  look_rests old new seat step (TheEnv.Repeat walk) other ne p = absurd p
-  look_rests old new seat step (TheEnv.Over reply) other ne p = absurd p
+  look_rests old new seat step next other ne p = absurd p
 
   moves_rests : (old new : Now C N) (seat : ℕ) (step : Step) (other : ℕ) → other ≢ seat → Moves old new seat step → Rests old new other
   moves_rests old new seat step other ne (inl p) = goes_rests old new seat step other ne p.goes
@@ -215,8 +184,7 @@ module _ {C : Type 0} {N : ℕ} where
   look_alone : (old new : Now C N) (seat : ℕ) (step : Step) (next : EnvNext) → LookGoes next old new seat step → IsAlone old seat → IsAlone new seat
   look_alone old new seat step (TheEnv.Go walk) p alone = same_alone old new seat (ap (λ (world : Now C N). slice_get world.state.views seat) p.0) alone
   look_alone old new seat step (TheEnv.LookOver cause) p alone = goes_alone old new seat step p.0 alone
-  look_alone old new seat step (TheEnv.Repeat walk) p alone = absurd p
-  look_alone old new seat step (TheEnv.Over reply) p alone = absurd p
+  look_alone old new seat step next p alone = absurd p
 
   moves_alone : (old new : Now C N) (seat : ℕ) (step : Step) → Moves old new seat step → IsAlone old seat → IsAlone new seat
   moves_alone old new seat step (inl p) alone = goes_alone old new seat step p.goes alone
@@ -291,7 +259,7 @@ module _ {C : Type 0} {N : ℕ} where
 
     begun_alone : IsAlone new seat
     begun_alone = subst (λ (w : Now C N). IsAlone w seat) (sym starts.begins) (by (start_of N mode call) (start_alone N mode call)) where
-      by : (start : Start C) → StartAlone start → IsAlone (begun_at old.lock seat starts.view start) seat
+      by : (start : Start C) → begins_alone start ≡ true → IsAlone (begun_at old.lock seat starts.view start) seat
       by (OnLock walk) alone view at =
           let next : SeatView C N = record starts.view { walk = Some walk } in
           let is : next ≡ view = same_Some _ _ (sym (set_here old.lock.state.views seat next (slice_get_within old.lock.state.views seat starts.view starts.at)) ∙ at) in

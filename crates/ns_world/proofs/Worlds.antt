@@ -1,22 +1,15 @@
 -- A seat's step and a call's beginning keep a world lawful.
 use Rattle.std.proofs.Common.{false, ◌≡◌, ℕ, suc, inl, inr, ◌<◌, ◌≤◌, List, [], ◌++◌, Option, Some, None, length, map, get_or, take, drop, slice_set, slice_get, refl, ap, sym, ◌∙◌, subst, zero-add, arith}
-use Rattle.std.proofs.lemmas.Option.{same_Some, slice_get-get_or}
-use Rattle.std.proofs.lemmas.Bool.{cases_eq}
-use Rattle.std.proofs.lemmas.List.{append-nil, set-get_or, length-set, length-map}
+use Rattle.ns_world.proofs.Below.{act_fits, append-nil, begin_at, begins, begins_env, cases_eq, if_made_stays, keeps_env, length-map, length-set, number_at, numbers_stay, same_Some, set-get_or, set_again, set_here, set_same, set_there, slice_get-get_or, split_at, step_at, view_fits}
 use Rattle.ns_world.specs.Prelude.{ActFits, Acts, Ask, Asks, AsksFor, Cause, Effect, EnvActFits, EnvBegins, EnvEffect, EnvEvent, EnvMoves, EnvNext, EnvPlain, EnvStep, EnvWalk, Environment, Event, Found, Go, Goes, IfMade, IsFirst, IsFirstAsk, IsLawfulEnv, IsLawfulWorld, IsSettled}
 use Rattle.ns_world.specs.Prelude.{Lists, LockState, LookFits, LookGoes, LookOver, LookStep, Looks, MayShow, Moves, MovesFrom, NoteStanding, NotesMade, Now, ObjectWalk, OnLock, OnObjects, Performs, PlaceFits, QuietKeeps, Seat, SeatLooks, SeatView, Sees, StandRight, Start, Step}
 use Rattle.ns_world.specs.Prelude.{Truths, Walk, Went, Word, env_got_of, env_state, env_walk_after, env_want_of, got_of, look_of, looks_at, note_in, now_with, outcome, placed, plain_of, seat_part, tests_after, view_of, waits_among, walk_after, want_of}
 use Rattle.ns_word.specs.Lawful.{IsLawful}
-use Rattle.ns_word.proofs.Acts.{act_fits, view_fits}
 use Rattle.ns_word.proofs.Dispatch.{keeps}
-use Rattle.ns_word.proofs.Starts.{begins}
-use Rattle.ns_env.proofs.Asks.{if_made_stays, set_here, set_there, keeps_env}
-use Rattle.ns_env.proofs.Begins.{begins_env}
 use Rattle.ns_env.proofs.Ranges.{asks_in_range}
 use Rattle.ns_world.specs.Asks.{Asked}
 use Rattle.ns_world.proofs.Looking.{FirstIf, LookLeads, first_if, look_leads, look_stays, noted, right_here, shown_effect}
 use Rattle.ns_world.proofs.Mapped.{got-map, map-set, index-map}
-use Rattle.ns_word.proofs.Numbers.{number_at, numbers_stay, split_at, step_at, begin_at, set_same, set_again}
 use Rattle.ns_world.proofs.Places.{StartFits, fits_more}
 use Rattle.ns_word.specs.declared.act.Found.TheVariants as TheFound
 

@@ -18,7 +18,7 @@ ghost use Rattle.ns_model.specs.declared.cvs.Variables.TheVariants.{Any};
 ghost use Rattle.ns_model.specs.Tallies.{Every};
 ghost use Rattle.ns_word.specs.Places.{AreVariables};
 ghost use Rattle.ns_word.specs.Walks.{wait_first};
-ghost use Rattle.ns_world.specs.Among.{CanTell, HasTold, IsFew, cause_of, is_for_lock, place_told, reply_told, round_due, shown_by, step_told, waited_after, waits_for_any, woken_by};
+ghost use Rattle.ns_world.specs.Among.{CanTell, HasTold, IsFew, cause_of, is_for_lock, reply_told, round_due, shown_by, step_told, waited_after, waits_for_any};
 ghost use Rattle.ns_world.specs.Begins.{placed};
 ghost use Rattle.ns_counters.specs.declared.walk.ObjectWalk.{ObjectWalk as ObjectWalkOf};
 ghost use Rattle.ns_world.specs.Calls.{mode_of, mode_waited};
@@ -174,33 +174,16 @@ fn round_due<C: Seated<N>, const N: usize>(wait: &AnyWait, walk: Walk<C>) -> Opt
     }
 }
 
-/// The place that is answered, where the wait came back, which this variable has woken, or none.
-fn place_told(wait: &AnyWait, by: Option<u64>) -> u64
-    requires { wait.now.round.items.count ≤ 16 }
-    ensures { result ≡ place_told wait.now by }
-{
-    match by {
-        Some(k) => wait.round.items.place_of(k),
-        None => wait.shown.unwrap_or(0),
-    }
-}
-
-/// The condition variable that has woken a wait on the lock for any of several, by what that answers, or none.
-fn woken_by(reply: Reply) -> Option<u64>
-    ensures { result ≡ woken_by reply }
-{
-    match reply {
-        Reply::Number(k) => Some(k),
-        _ => None,
-    }
-}
-
-/// What a call answers, whose wait on the lock answers this.
+/// What a call answers, whose wait on the lock answers this: the place of the variable that has woken it, or
+/// where none has, what its last round has shown.
 fn reply_told(wait: &AnyWait, reply: Reply) -> Reply
     requires { wait.now.round.items.count ≤ 16 }
     ensures { result ≡ reply_told wait.now reply }
 {
-    Reply::Number(place_told(wait, woken_by(reply)))
+    match reply {
+        Reply::Number(k) => Reply::Number(wait.round.items.place_of(k)),
+        _ => Reply::Number(wait.shown.unwrap_or(0)),
+    }
 }
 
 /// What the seat's step on the lock was for its call, and puts it where that goes on.

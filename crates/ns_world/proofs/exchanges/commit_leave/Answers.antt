@@ -1,5 +1,5 @@
 use Rattle.std.proofs.Common.{◌≡◌, ℕ, List, ◌++◌, false, rules, ap, sym, ◌∙◌, nat_lt, sum_by}
-use Rattle.std.proofs.lemmas.List.{append-nil}
+use Rattle.ns_world.proofs.Below.{append-nil}
 use Rattle.ns_word.specs.Names.{Variables}
 use Rattle.ns_world.specs.Prelude.{AtVariables, Event, Home, Lists, leave_of, stands_at, times_in}
 use Rattle.ns_world.proofs.Waited.{not_leaving}

@@ -1,7 +1,6 @@
 use Rattle.std.proofs.Common.{refl, sym, ◌∙◌, ap, not, rules, arith}
-use Rattle.std.proofs.lemmas.Result.{err_from_is_err_and}
+use Rattle.ns_world.proofs.Below.{are_called, as_many, err_from_is_err_and, some_called}
 use Rattle.ns_world.specs.Prelude.{called_by}
-use Rattle.ns_word.proofs.Scans.{are_called, as_many, some_called}
 use Rattle.ns_world.proofs.Released.{scanned, missed, some_left, can_some}
 use Rattle.ns_world.proofs.exchanges.release_returning.Goals as goal
 

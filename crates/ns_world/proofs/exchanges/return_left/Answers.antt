@@ -1,5 +1,5 @@
 use Rattle.std.proofs.Common.{refl, sym}
-use Rattle.std.proofs.lemmas.Result.{err_from_is_err_and}
+use Rattle.ns_world.proofs.Below.{err_from_is_err_and}
 use Rattle.ns_world.specs.Prelude.{LeaveSelf}
 use Rattle.ns_world.proofs.Waited.{left_back, change_missed}
 use Rattle.ns_world.proofs.exchanges.return_left.Goals as goal

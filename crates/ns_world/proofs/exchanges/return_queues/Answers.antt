@@ -1,5 +1,5 @@
 use Rattle.std.proofs.Common.{[], refl, sym}
-use Rattle.std.proofs.lemmas.List.{append-nil}
+use Rattle.ns_world.proofs.Below.{append-nil}
 use Rattle.ns_world.proofs.Waited.{on_ok, on_err}
 use Rattle.ns_world.proofs.exchanges.return_queues.Goals as goal
 

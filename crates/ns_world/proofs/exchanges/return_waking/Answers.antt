@@ -1,5 +1,5 @@
 use Rattle.std.proofs.Common.{refl, sym, ap, not, ◌∙◌}
-use Rattle.std.proofs.lemmas.Result.{err_from_is_err_and}
+use Rattle.ns_world.proofs.Below.{err_from_is_err_and}
 use Rattle.ns_world.specs.Prelude.{WakeWaiters, has_some}
 use Rattle.ns_world.proofs.Released.{some_left}
 use Rattle.ns_world.proofs.Waited.{woken_back, change_missed}

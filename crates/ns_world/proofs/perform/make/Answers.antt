@@ -1,6 +1,5 @@
-use Rattle.std.proofs.lemmas.Result.{err_from_is_err_and}
+use Rattle.ns_world.proofs.Below.{append-nil, err_from_is_err_and}
 use Rattle.std.proofs.Common.{arith, [], refl, sym}
-use Rattle.std.proofs.lemmas.List.{append-nil}
 use Rattle.ns_world.proofs.Waited.{can_in_range, fits_there}
 use Rattle.ns_world.proofs.perform.make.Goals as goal
 

@@ -1,5 +1,5 @@
 use Rattle.std.proofs.Common.{rules, arith, refl, sym, ◌∷◌, [], map, subst, Vec, Global}
-use Rattle.std.proofs.lemmas.Result.{err_from_is_err_and}
+use Rattle.ns_world.proofs.Below.{err_from_is_err_and}
 use Rattle.ns_world.specs.Prelude.{Call, IsCounted, Progress, progress, progressed, whole_of}
 use Rattle.ns_world.proofs.Schedules.{stops_now, turn_stops, untold_stops}
 use Rattle.ns_world.proofs.Counted.{turn_counted, calls_fit, counts_progress}

@@ -1,6 +1,5 @@
 use Rattle.std.proofs.Common.{arith, rules, map, Vec, Global, length, ◌≡◌}
-use Rattle.std.proofs.Math.Seq.{take-length}
-use Rattle.std.proofs.lemmas.Result.{err_from_is_err_and}
+use Rattle.ns_world.proofs.Below.{err_from_is_err_and, take-length}
 use Rattle.ns_world.specs.Prelude.{Call, progress, whole_of}
 use Rattle.ns_world.proofs.Schedules.{advance_none, advance_word, stops_word}
 use Rattle.ns_world.proofs.run.follow.Goals as goal

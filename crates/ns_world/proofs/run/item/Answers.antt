@@ -1,5 +1,5 @@
 use Rattle.std.proofs.Common.{◌∷◌, [], map, Vec, Global, sym, ◌∙◌}
-use Rattle.std.proofs.lemmas.Result.{err_from_is_err_and}
+use Rattle.ns_world.proofs.Below.{err_from_is_err_and}
 use Rattle.ns_world.specs.Prelude.{Call, progress, whole_of}
 use Rattle.ns_world.proofs.Schedules.{advance_none, advance_item, stops_behind}
 use Rattle.ns_world.proofs.run.item.Goals as goal

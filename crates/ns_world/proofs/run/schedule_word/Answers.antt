@@ -1,6 +1,5 @@
 use Rattle.std.proofs.Common.{rules, arith, [], map, Vec, Global, ◌≡◌}
-use Rattle.std.proofs.lemmas.List.{append-nil}
-use Rattle.std.proofs.lemmas.Result.{err_from_is_err_and}
+use Rattle.ns_world.proofs.Below.{append-nil, err_from_is_err_and}
 use Rattle.ns_world.specs.Prelude.{Call, progress, whole_of}
 use Rattle.ns_world.proofs.Schedules.{advance_none, advance_again, stops_again}
 use Rattle.ns_world.proofs.run.schedule_word.Goals as goal

@@ -1,4 +1,4 @@
-use Rattle.std.proofs.lemmas.Result.{err_from_is_err_and}
+use Rattle.ns_world.proofs.Below.{err_from_is_err_and}
 use Rattle.std.proofs.Common.{rules}
 use Rattle.ns_world.specs.Prelude.{whole_of}
 use Rattle.ns_world.proofs.Turns.{map_ok, map_err, turns_without, turns_started, turns_busy, started_steps}

@@ -1,5 +1,5 @@
 use Rattle.std.proofs.Common.{◌≡◌, ◌+◌, ◌-◌, map, None, refl, sym, ◌∙◌, arith}
-use Rattle.std.proofs.lemmas.List.{append-nil}
+use Rattle.ns_world.proofs.Below.{append-nil}
 use Rattle.ns_world.specs.Prelude.{view_of}
 use Rattle.ns_world.proofs.Fresh.{copies_next, moved, seat_moved}
 use Rattle.ns_world.proofs.seats.new_seats.Goals as goal

@@ -1,6 +1,5 @@
 use Rattle.std.proofs.Common.{◌≡◌, ◌+◌, length, map, take, ap, sym, ◌∙◌, arith}
-use Rattle.std.proofs.Math.Seq.{take-length}
-use Rattle.std.proofs.lemmas.List.{length-append, length-map}
+use Rattle.ns_world.proofs.Below.{length-append, length-map, take-length}
 use Rattle.ns_world.specs.Prelude.{view_of, wakes_owed}
 use Rattle.ns_world.proofs.Showing.{wakes_more, wakes_front}
 use Rattle.ns_world.proofs.shows.owed_wakes.Goals as goal

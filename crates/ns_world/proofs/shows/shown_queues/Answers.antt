@@ -1,6 +1,6 @@
 use Rattle.std.proofs.Common.{◌≡◌, ◌+◌, suc, Some, ap, sym, ◌∙◌, arith}
 use Rattle.std.specs.Prelude.{slice_get}
-use Rattle.std.proofs.lemmas.Option.{slice_get-get_or}
+use Rattle.ns_world.proofs.Below.{slice_get-get_or}
 use Rattle.ns_world.proofs.Showing.{queues_here, queues_later, none_left}
 use Rattle.ns_world.proofs.shows.shown_queues.Goals as goal
 

@@ -1,10 +1,9 @@
 use Rattle.std.proofs.Common.{◌≡◌, ℕ, ◌<◌, nat_lt, Bool, true, false, cond, not, ◌||◌, ◌&&◌, Option, Some, None, IsSome, is_some, refl, ap, sym, ◌∙◌, subst}
 use Rattle.std.specs.Prelude.{MatchOption}
 use Rattle.std.specs.List.{list_all}
-use Rattle.std.proofs.lemmas.Bool.{ltb-true}
+use Rattle.ns_world.proofs.Below.{first_of_all, lower, ltb-true, none_among, rest_of_all, some_among}
 use Rattle.ns_world.specs.Prelude.{Add, Call, CallFits, CallInRange, CounterWait, Done, Items, Mode, NamesAll, NoteStanding, ObjectWalk, OnObjects, Once, Setup, Start, Value, WaitAny, finds, have_variable, is_among, is_there, items_of, note_at, object_start, start_of}
 use Rattle.ns_world.proofs.call.Call.start.Goals as goal
-use Rattle.ns_counters.proofs.Listed.{first_of_all, lower, none_among, rest_of_all, some_among}
 
 -- a section is in hand where a variable is named just where the test says so
 named_from : (mode : Option Mode) (items : Items) → (is_some mode || not (have_variable items)) ≡ true → (k : ℕ) → is_among k (items_of items) ≡ true → IsSome mode

@@ -1,5 +1,5 @@
 use Rattle.std.proofs.Common.{arith, rules, refl}
-use Rattle.std.proofs.lemmas.Result.{err_from_is_err_and}
+use Rattle.ns_world.proofs.Below.{err_from_is_err_and}
 use Rattle.ns_world.specs.Prelude.{progress, whole_of}
 use Rattle.ns_world.proofs.Counted.{start_counted}
 use Rattle.ns_world.proofs.world.World.run.Goals as goal

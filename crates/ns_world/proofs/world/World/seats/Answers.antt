@@ -1,5 +1,5 @@
 use Rattle.std.proofs.Common.{arith}
-use Rattle.std.proofs.lemmas.List.{length-map}
+use Rattle.ns_world.proofs.Below.{length-map}
 use Rattle.ns_world.specs.Prelude.{view_of}
 use Rattle.ns_world.proofs.world.World.seats.Goals as goal
 

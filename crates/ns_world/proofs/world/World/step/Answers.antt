@@ -1,5 +1,5 @@
 use Rattle.std.proofs.Common.{◌≡◌, ◌*◌, ◌<◌, ◌≤◌, arith, rules, sym, ◌∙◌, inl, length, refl, subst, Some}
-use Rattle.std.proofs.lemmas.List.{get_or-set_same, set-get_or}
+use Rattle.ns_world.proofs.Below.{get_or-set_same, set-get_or}
 use Rattle.ns_world.proofs.Tells.{asked_here, few_there, idle_here, looks_not, performed_here, refused_here, waited_here}
 use Rattle.ns_world.proofs.Worlds.{act_here, ask_here, asks_for, below_64, past_views, same_element}
 use Rattle.ns_world.proofs.world.World.step.Goals as goal
