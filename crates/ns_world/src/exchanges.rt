@@ -402,7 +402,8 @@ fn leave_section<C: Seated<N>, const N: usize>(
 
 /// Takes those out of the lock list whom a scan at this row wakes, puts the wait into its list, clears
 /// the spinlock bit, releases the section and commits it, unless the wait queues again; the seat then
-/// owes the wakes. Where the event is refused, nothing has changed.
+/// owes the wakes. Where the event is refused, nothing has changed. The word is the one that the seat has
+/// last seen, as its caller has found.
 pub(crate) fn wait_returning<C: Seated<N>, const N: usize>(
     word: &mut Word,
     row: &[u64; N],
@@ -411,23 +412,19 @@ pub(crate) fn wait_returning<C: Seated<N>, const N: usize>(
     history: &mut Vec<Event<C, N>>,
     wait: Wait<C>,
     again: bool,
-    last: Word,
 ) -> Result<Found, AllocError>
     requires can { CanWait C.means wait again seat.old.held }
     requires list { IsInRange wait.on }
     requires below { seat.old.number < 64 }
     requires free { times seat.old.number queues.old ≡ 0 }
-    ensures ok { IfOk result (λ found. (flags : List ℕ) → Makes C.means seat.old.number (Act.WaitReturning wait again last) (part word.old row.now queues.old flags seat.old.held seat.old.owed.items) history.old.items found (part word.new row.now queues.new flags seat.new.held seat.new.owed.items) history.new.items) }
+    ensures ok { IfOk result (λ found. (flags : List ℕ) → Makes C.means seat.old.number (Act.WaitReturning wait again word.old) (part word.old row.now queues.old flags seat.old.held seat.old.owed.items) history.old.items found (part word.new row.now queues.new flags seat.new.held seat.new.owed.items) history.new.items) }
     ensures kept { IsSeat seat.old.number seat.old.walk seat.old.asking seat.old.tests seat.new }
-    ensures err { OnErr result ((again ≡ false) × (last ≡ word.old) × (word.new ≡ word.old) × (queues.new ≡ queues.old) × (seat.new ≡ seat.old) × (history.new.items ≡ history.old.items)) }
+    ensures err { OnErr result ((again ≡ false) × (word.new ≡ word.old) × (queues.new ≡ queues.old) × (seat.new ≡ seat.old) × (history.new.items ≡ history.old.items)) }
 {
-    if !word.is_same(last) {
-        return Ok(Found::Saw(*word));
-    }
     leave_section(seat.number, &mut seat.held, history, wait.on, again)?;
     let scan = scan_and_queue(queues, row, seat.number, wait, again);
     let owes = !scan.woken.is_empty();
-    *word = last.released_returning(Releasing::of(wait.mode), owes, bits(queues));
+    *word = word.released_returning(Releasing::of(wait.mode), owes, bits(queues));
     seat.owed = called(scan.woken.as_slice(), scan.vias.as_slice());
     Ok(Found::Scanned {
         owes,

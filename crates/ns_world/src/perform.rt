@@ -122,7 +122,10 @@ fn make<C: Seated<N>, const N: usize>(
             release_returning(word, row, queues, seat, history, releasing, last)?
         }
         Act::WaitReturning(wait, again, last) => {
-            wait_returning(word, row, queues, seat, history, wait, again, last)?
+            if !word.is_same(last) {
+                return Ok(Found::Saw(*word));
+            }
+            wait_returning(word, row, queues, seat, history, wait, again)?
         }
         Act::LoadCell(i) => Found::Cell(row[i as usize]),
         Act::JudgeQuiet(i) => judge(&seat.held, i),

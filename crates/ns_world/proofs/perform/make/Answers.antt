@@ -1,6 +1,6 @@
 use Rattle.ns_world.proofs.Below.{append-nil, err_from_is_err_and}
 use Rattle.std.proofs.Common.{arith, [], refl, sym}
-use Rattle.ns_world.proofs.Waited.{can_in_range, fits_there}
+use Rattle.ns_world.proofs.Waited.{can_in_range, fits_there, wait_missed}
 use Rattle.ns_world.proofs.perform.make.Goals as goal
 
 pub acquire-found-requires : goal.acquire-found-requires
@@ -119,7 +119,7 @@ pub returns-in-LoadFlag-clause-ok : goal.returns-in-LoadFlag-clause-ok
 returns-in-LoadFlag-clause-ok g c = rw c.in-LoadFlag.is (record { commits = []; effect = (refl, refl, refl); grows = sym (append-nil _) })
 
 pub returns-in_ok-found-in-WaitReturning-clause-ok : goal.returns-in_ok-found-in-WaitReturning-clause-ok
-returns-in_ok-found-in-WaitReturning-clause-ok g c = rw c.in-WaitReturning.is (c.in_ok-found-in-WaitReturning.ensures.ok c.args.flags.now)
+returns-in_ok-found-in-WaitReturning-clause-ok g c = rw (c.in-WaitReturning.is, ← c.if-not-is_same.ensures.same refl) (c.in_ok-found-in-WaitReturning.ensures.ok c.args.flags.now)
 
 pub returns-in-JudgeMet-clause-ok : goal.returns-in-JudgeMet-clause-ok
 returns-in-JudgeMet-clause-ok g c = rw c.in-JudgeMet.is (record {
@@ -211,6 +211,22 @@ returns-in_ok-found-in-ReleaseReturning-clause-err g c = tt
 
 pub returns-in_err-found-in-ReleaseReturning-clause-ok : goal.returns-in_err-found-in-ReleaseReturning-clause-ok
 returns-in_err-found-in-ReleaseReturning-clause-ok g c = let p = err_from_is_err_and c.from_residual-in_err-found-in-ReleaseReturning.result c.from_residual-in_err-found-in-ReleaseReturning.ensures.1 in rw p.1 tt
+
+pub returns-then-not-is_same-clause-ok : goal.returns-then-not-is_same-clause-ok
+returns-then-not-is_same-clause-ok g c = rw c.in-WaitReturning.is (wait_missed _ c.args.seat.now.number c.in-WaitReturning.wait c.in-WaitReturning.again c.in-WaitReturning.last c.args.word.now c.args.word.now
+    c.args.row.now c.args.flags.now c.args.history.now.items c.args.history.now.items c.args.queues.now c.args.seat.now.owed.items c.args.seat.now.held (c.if-not-is_same.ensures.another refl))
+
+pub returns-then-not-is_same-clause-kept : goal.returns-then-not-is_same-clause-kept
+returns-then-not-is_same-clause-kept g c = record { number = refl; walk = refl; asking = refl; tests = refl }
+
+pub returns-then-not-is_same-clause-err : goal.returns-then-not-is_same-clause-err
+returns-then-not-is_same-clause-err g c = tt
+
+pub returns-in_err-found-in-WaitReturning-clause-err : goal.returns-in_err-found-in-WaitReturning-clause-err
+returns-in_err-found-in-WaitReturning-clause-err g c =
+    let p = err_from_is_err_and c.from_residual-in_err-found-in-WaitReturning.result c.from_residual-in_err-found-in-WaitReturning.ensures.1 in
+    let err = c.in_err-found-in-WaitReturning.ensures.err in
+    rw (p.1, c.in-WaitReturning.is) ((err.0, sym (c.if-not-is_same.ensures.same refl)), err.1, refl, err.2, refl, err.3, err.4)
 
 pub returns-in_ok-found-in-WaitReturning-clause-kept : goal.returns-in_ok-found-in-WaitReturning-clause-kept
 returns-in_ok-found-in-WaitReturning-clause-kept g c = c.in_ok-found-in-WaitReturning.ensures.kept
