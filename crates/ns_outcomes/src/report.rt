@@ -92,7 +92,8 @@ fn report_for<P: Watch>(
     Ok(report(alloc, &counted, seeds)?)
 }
 
-/// Reads a script to its end, runs it once for each seed, and then writes each distinct outcome.
+/// Reads a script to its end, runs it once for each seed, and then writes each distinct outcome, the most frequent
+/// first, and the turns of all runs.
 ///
 /// A run has the script's own schedule first, and then turns that the seed draws, until no thread can go on. An
 /// outcome is the answers by thread and call, `left` for a call that can't go on, and the row; docs/SCRIPTS.md

@@ -45,7 +45,7 @@ pub enum Call<C> {
     /// Releases a read section, and wakes whom it lets go on. Answers `Succeeded`.
     RUnlock,
     /// Releases a write section that has made no false condition true. Answers `Succeeded`; or `Noisy`
-    /// where it may have, and then the section stays in hand.
+    /// where it may have: then nothing has changed, and the section stays in hand.
     UnlockQuiet,
     /// Reads a cell of the section in hand. Answers its `Number`.
     Get(u8),
