@@ -195,10 +195,11 @@ fn script_for(alloc: Global, bytes: &[u8], seed: u64, limit: u32) -> Result<Stri
 /// Reads a script to its end, and writes it with the schedule of a seed's run in place of its own.
 ///
 /// The run is that of the seed in [`outcomes`](crate::outcomes): a replay of the text comes to its outcome. The
-/// text has one line, with the members in the order in which a script is checked; the drawn words are as few as can be. Returns `Ok` when all of it was
-/// taken. It refuses what a replay refuses, in the same order and at the same places; a run that needs more
-/// turns than the limit (`StepLimit`); a schedule of more than 4,096 words (`TooMany`, at `/schedule`); and a text
-/// of more than 1 MiB (`TooMany`, at the whole), or one that isn't read back as it should be (`BadScript`, there).
+/// text has one line, with the members in the order in which a script is checked; the drawn words are as few as
+/// can be. Returns `Ok` when all of it was taken. It refuses what a replay refuses, in the same order and at the
+/// same places; a run that needs more turns than the limit (`StepLimit`); a schedule of more than 4,096 words
+/// (`TooMany`, at `/schedule`); and a text of more than 1 MiB (`TooMany`, at the whole), or one that isn't read
+/// back as it should be (`BadScript`, there).
 /// After `Write` the sink has a front of the text, and after any other fault nothing was written.
 ///
 /// Needs a source and a sink that have not failed. What it says of bytes it says of streams that know theirs.
