@@ -15,6 +15,8 @@ mod any_held;
 #[cfg(test)]
 mod barging;
 #[cfg(test)]
+mod by_seats;
+#[cfg(test)]
 mod crowd;
 #[cfg(test)]
 mod gate;
