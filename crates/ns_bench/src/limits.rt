@@ -40,6 +40,11 @@ fn count_ended<R: Wait>(
     times: u64,
 ) -> u64 {
     let Watched { mut watcher, note } = watched;
+    let wanted = if for_note {
+        Answer::Canceled
+    } else {
+        Answer::TimedOut
+    };
     let mut held = handle.lock(rt);
     let mut count = 0u64;
     for _ in 0..times {
@@ -47,7 +52,7 @@ fn count_ended<R: Wait>(
         let deadline = if for_note { None } else { Some(0) };
         let (back, answer) = held.wait_with_deadline(rt, Never, deadline, note, &mut watcher);
         held = back;
-        if answer != Answer::Met {
+        if answer == wanted {
             count = count.wrapping_add(1);
         }
     }

@@ -3,8 +3,9 @@
 //!
 //!     ns_bench WORKLOAD THREADS OPERATIONS
 //!
-//! So many threads make so many operations together, each its share, none of them the main thread. A run
-//! with 0 operations does all the rest, so that the difference of two runs is the operations' time.
+//! So many threads make so many operations together, each its share. One of a pair is the main thread, which also makes
+//! what is done past waiters (`ccs_false_*`, `ccs_silent`, `cv_bcast`, `idle_timed`); no other thread is. A run with 0
+//! operations does all the rest, so that the difference of two runs is the operations' time.
 //!
 //! * `mu_lock`, `mu_try`, `mu_rlock`, `mu_rtry`, `rw_wlock`: a short section that writes or reads, by a
 //!   call that waits for the lock or by a try; `mu_long`: a long one; `mu_out`: long work between short

@@ -20,7 +20,7 @@ pub struct Job<S: Drop> {
     pub own: S,
 }
 
-/// A workload, whose threads each have such a thing of their own.
+/// A workload, and what each of its threads has of its own.
 pub trait Work<S: Drop>: Copy {
     /// Does what is to be done before the threads are there, and gives back what it has of its own.
     fn begin<R: Wait>(self, _rt: &R, own: S) -> S {
@@ -35,7 +35,7 @@ pub trait Work<S: Drop>: Copy {
         own
     }
 
-    /// Whether all has ended as it must, by the sums of what the threads have counted, with a free lock.
+    /// Whether all has ended as it must, by the sums of what the threads have counted, with a free lock where there is one.
     fn is_right(self, own: S, total: Count, amount: Amount) -> bool;
 }
 

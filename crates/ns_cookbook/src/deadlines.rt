@@ -241,7 +241,8 @@ pub struct Early {
     pub canceled: (Option<Answer>, Option<Answer>),
 }
 
-/// All three with one lock, for what nobody sets in it, and one clock.
+/// All three, in this order, with one lock, in which nobody sets anything, and one clock, which stands at 10 behind the
+/// first and at its last moment behind the second.
 pub fn early_ends<R: Threads + Wait + Sync + Clock>(rt: &R, alloc: Global) -> Option<Early> {
     let (monitor, seats) = Monitor::new(alloc, 4).ok()?;
     let (env, env_seats) = Env::new(alloc, 7).ok()?;

@@ -174,8 +174,8 @@ fn wait_and_signal<R: Threads + Wait + Sync>(
     Some(place)
 }
 
-/// Begins with the lock, and makes the counter and the clock.
-fn share<R: Threads + Wait + Sync>(
+/// Makes a counter and a clock beside the lock.
+fn make_and_wait<R: Threads + Wait + Sync>(
     rt: &R,
     alloc: Global,
     locks: Handles<'_, AtLeast, 2>,
@@ -190,5 +190,5 @@ fn share<R: Threads + Wait + Sync>(
 /// The same with a section in hand, which the wait leaves: a variable of its lock is among the items.
 pub fn whichever_first_held<R: Threads + Wait + Sync>(rt: &R, alloc: Global) -> Option<usize> {
     let (monitor, seats) = Monitor::new(alloc, 2).ok()?;
-    share(rt, alloc, monitor.handles(seats))
+    make_and_wait(rt, alloc, monitor.handles(seats))
 }

@@ -150,7 +150,7 @@ impl Objects {
     /// The function may be called only where this caller has begun by its own event, of which a legal history
     /// has one (`MayRunOnceBegun`). So a body that calls it and answers `Already` isn't proved. A function's
     /// call is no event of the table, so no clause says that the cell is said done only behind its end; the
-    /// test `done_behind_the_function` does.
+    /// test `done_behind_the_function` of ns_thread_tests does.
     #[inline(always)]
     pub fn run_once<R: Wait, T, F: FnOnce() -> T>(
         &self,

@@ -65,7 +65,7 @@ fn close_while_held(
 {
     let mut held = monitor.try_lock(second).ok()?;
     monitor.set(&mut held, 0, 3);
-    let first = Handle::new(&monitor, first).into_seat();
+    let first = Handle::new(&monitor, first).into_seat(); // so that `into_seat` is run
     let closed = monitor.close(first);
     let row = closed.row;
     Some((closed.free, row))

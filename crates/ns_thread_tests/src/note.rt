@@ -288,7 +288,7 @@ fn note_threads(rt: HostRuntime) {
     let (env, seats) = new_env(&rt, rt.alloc(), 3);
     let mut watchers = env.watchers(seats);
     let third = watchers.next().expect(&rt, "a seat");
-    let mut third = Watcher::new(&env, third.into_seat());
+    let mut third = Watcher::new(&env, third.into_seat()); // so that `into_seat` is run
     let (first, second) = watchers.pair().expect(&rt, "two seats");
     let came = wait_below(&rt, first, second, &mut third);
     assert_eq!(rt; came, Some((Some(true), Some(true), 3)));

@@ -77,7 +77,7 @@ fn once_two(rt: HostRuntime) {
         .ok()
         .expect(&rt, "objects");
     let (first, second) = objects.sharers(seats).pair().expect(&rt, "two seats");
-    let first = Sharer::new(&objects, first.into_seat());
+    let first = Sharer::new(&objects, first.into_seat()); // so that `into_seat` is run
     let came = run_two(&rt, first, second);
     let just_one = matches!(
         came,

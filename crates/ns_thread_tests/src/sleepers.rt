@@ -145,7 +145,7 @@ fn ended<R: Abort + Threads + Wait + Clock + Sync>(
 }
 
 /// A thread that waits for 0, with a deadline or without, is woken by what another counts down. It isn't back a
-/// tick before its deadline.
+/// tick before its deadline, if it has begun to wait within 5 ms.
 #[test]
 fn waits_for_zero(rt: HostRuntime) {
     for deadline in [None, Some(END)] {
@@ -155,7 +155,8 @@ fn waits_for_zero(rt: HostRuntime) {
 }
 
 /// A thread that waits for any sees what another counts down, at whichever counter it sleeps: the second, and
-/// in a later round the first as well. It isn't back a tick before its deadline.
+/// in a later round the first as well. It isn't back a tick before its deadline,
+/// if it has begun to wait within 5 ms.
 #[test]
 fn waits_for_either(rt: HostRuntime) {
     let first = ended(&rt, rt.alloc(), Awaited::Either(0), None);
