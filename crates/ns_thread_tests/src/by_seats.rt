@@ -82,14 +82,14 @@ fn sections_by_seats(rt: HostRuntime) {
     assert_eq!(rt; answer, Answer::TimedOut);
 }
 
-/// Waits for a new note in vain, and again once it is notified.
-fn wait_for_note<R: Wait>(rt: &R, env: &Env, seat: &mut EnvSeat) -> Option<(bool, bool)>
+/// Waits for a new note that it has notified.
+#[tactic(auto, using(ns_note::proofs::Rests::made_grows))]
+fn wait_for_note<R: Wait>(rt: &R, env: &Env, seat: &mut EnvSeat) -> Option<bool>
     requires { seat.old.env ≡ env.now }
 {
     let note = env.note_new(seat, None, None).ok()?;
-    let before = env.note_wait(rt, seat, note, Some(0));
     env.notify(seat, note);
-    Some((before, env.note_wait(rt, seat, note, None)))
+    Some(env.note_wait(rt, seat, note, None))
 }
 
 /// A seat waits for a note.
@@ -97,8 +97,7 @@ fn wait_for_note<R: Wait>(rt: &R, env: &Env, seat: &mut EnvSeat) -> Option<(bool
 fn note_by_seat(rt: HostRuntime) {
     let (env, mut seats) = new_env(&rt, rt.alloc(), 1);
     let mut seat = seats.pop().expect(&rt, "a seat");
-    let waited = wait_for_note(&rt, &env, &mut seat);
-    assert_eq!(rt; waited, Some((false, true)));
+    assert_eq!(rt; wait_for_note(&rt, &env, &mut seat), Some(true));
 }
 
 /// Takes 1 from the counter, and would have two functions run.
