@@ -35,6 +35,10 @@ module _ {C : Type 0} where
   four_lists : (lock : List (Waiter C)) (cvs : List (ArrayVec (Waiter C))) → IsOrderly (shape lock cvs) → length cvs ≡ 4
   four_lists lock cvs orderly = rw length-map at orderly.four
 
+  -- there is a list of each variable
+  pub list_there : (lock : List (Waiter C)) (cvs : List (ArrayVec (Waiter C))) (k : ℕ) → IsOrderly (shape lock cvs) → k < 4 → k < length cvs
+  list_there lock cvs k orderly low = omega (arith, four_lists lock cvs orderly)
+
   pub list_at : (lock : List (Waiter C)) (cvs : List (ArrayVec (Waiter C))) (k : ℕ) (d : ArrayVec (Waiter C)) → IsOrderly (shape lock cvs) → k < 4 →
       waiters_of (shape lock cvs) (Cv k) ≡ (get_or cvs k d).items
   list_at lock cvs k d orderly low = get_or-map (λ v. v.items) cvs k d [] (omega (arith, four_lists lock cvs orderly))

@@ -5,7 +5,8 @@ use Rattle.std.specs.List.{count_by, list_any}
 use Rattle.std.specs.Option.{option_map}
 use Rattle.std.proofs.lemmas.Bool.{ne_eqb, eq-eqb, cases_eq, cases_lt}
 use Rattle.std.proofs.lemmas.List.{append-nil, get_or-set_same, get_or-set_other, get_or_default}
-use Rattle.std.proofs.lemmas.List.Sums.{sum_by-cons, sum_by-append}
+use Rattle.std.proofs.lemmas.List.Sums.{count_by-le-length, sum_by-cons, sum_by-append}
+use Rattle.ns_queue.specs.Rings.{AreCounts}
 use Rattle.ns_queue.specs.Prelude.{Counts, DoCount, HaveSeats, Holds, Hops, IsRow, Waiter, ahead, behind, counts_less, counts_more, counts_of, first_seat, gather, has_condition, is_long, last_seat, one_if, seated, times_in, without_in, writes_plainly}
 use Rattle.ns_queue.proofs.Seats.{none_without, room_for, some_more, times_in-cons, times_in-append}
 use Rattle.ns_queue.proofs.Hops.{Spread, stands_not, linked, joined, seated_none, seated_other, seated_here, gather_is, first_hop, last_hop, rest_hops, hop_back, Parted, part}
@@ -13,6 +14,16 @@ use Rattle.ns_queue.proofs.Hops.{Spread, stands_not, linked, joined, seated_none
 -- where an entry lies, in bytes
 pub entry_at : (seat size : ℕ) → seat < 64 → size < 2 ^ 50 → Fits w64 (seat * size)
 entry_at seat size low small = let most : seat * size ≤ 64 * size = mul-le-mul_right size (omega arith) in omega (arith, most)
+
+-- a seat is a place, and numbers like these fit
+pub seat_place : (seat : ℕ) → seat < 64 → seat < 65
+seat_place seat low = omega arith
+
+pub place_fits : (place : ℕ) → place < 65 → Fits w64 place
+place_fits place low = omega arith
+
+pub entry_there : (seat n : ℕ) → seat < 64 → n ≡ 64 → seat < n
+entry_there seat n low all = omega arith
 
 counts_same : (l m n o l' m' n' o' : ℕ) → l ≡ l' → m ≡ m' → n ≡ n' → o ≡ o' →
     ◌≡◌ {A = Counts} (record { len = l; conditional = m; plain_writers = n; long = o }) (record { len = l'; conditional = m'; plain_writers = n'; long = o' })
@@ -291,6 +302,10 @@ module _ {C : Type 0} where
 
   pub row_of : (held : List (Option (Waiter C))) (nx pv : List ℕ) (c : Counts) (ws : List (Waiter C)) → Holds held nx pv c ws → IsRow ws
   row_of held nx pv c ws h = record { once = h.ring.once; below = h.ring.below }
+
+  -- no kind has more than there are
+  pub are_counts : (held : List (Option (Waiter C))) (nx pv : List ℕ) (c : Counts) (ws : List (Waiter C)) → Holds held nx pv c ws → AreCounts c
+  are_counts held nx pv c ws h = rw h.counted (record { conditional = count_by-le-length has_condition ws; plain_writers = count_by-le-length writes_plainly ws; long = count_by-le-length is_long ws })
 
   pub nobody : (o : Option (Waiter C)) → o ≡ None → Holds {C = C} (replicate 64 o) (replicate 65 64) (replicate 65 64) (record { len = 0; conditional = 0; plain_writers = 0; long = 0 }) []
   nobody o is = record {

@@ -1,4 +1,4 @@
--- The five lists fit in memory, over any condition.
+-- The five lists and their parts fit in memory, over any condition.
 use Rattle.std.specs.Prelude.{ℕ, ◌+◌, ◌*◌, ◌<◌, ◌^◌}
 use Rattle.std.proofs.Common.{arith}
 use Rattle.std.specs.Mem.{FitsInMemory}
@@ -8,15 +8,24 @@ use prog.Memory.{size}
 use mir.Syntax.{Ty, ty_array}
 use denote.RattleType.{RattleType}
 use denote.Param.{layout, copied, param, number, value_of}
-use denote.Builtin.{unit}
+use denote.Builtin.{u64, unit}
+use mir.Table.{array_at}
 use Rattle.arrayvec.specs.contracts.array_vec.ArrayVec.{the_row as list_row}
 use Rattle.ns_queue.specs.contracts.waiter.Waiter.{the_row as waiter_row}
 use Rattle.ns_queue.specs.contracts.lock_list.LockList.{the_row as lock_row}
+use Rattle.ns_queue.specs.contracts.ring.Ring.{the_row as ring_row}
 use Rattle.ns_queue.specs.contracts.queues.Queues.{the_row as queues_row}
 
 -- what takes little by the bound is small; of any type, so that no size is worked out
 small_by : (τ : Ty) → room τ < 2 ^ 63 → size τ < 2 ^ 63
 small_by τ few = let most = room_enough τ in omega (arith, most, few)
+
+much_less : (n : ℕ) → n < 2 ^ 52 → n < 2 ^ 63
+much_less n few = omega arith
+
+-- 64 entries of a type that takes little, and the links beside them
+entries_few : (τ : Ty) → room τ < 2 ^ 40 → (beside : ℕ) → beside < 2 ^ 20 → 2 + 3 * (room (ty_array τ 64) + beside) < 2 ^ 63
+entries_few τ few beside small = let one = room_enough τ in omega (arith, one, few, small)
 
 -- 64 entries of a type that takes little, and what stands beside them; of any type, so that no size is worked out
 entries_small : (τ : Ty) → room τ < 2 ^ 40 → (beside around : ℕ) → beside < 2 ^ 20 → around < 2 ^ 20 → 2 + 3 * ((2 + 3 * (room (ty_array τ 64) + beside)) + around) < 2 ^ 52
@@ -41,3 +50,18 @@ pub queues_fit : (C N : RattleType) → HasRoom (copied 0 C) (param 1 N) → (me
 queues_fit C N small means =
     let few : room (layout (queues_row (copied 0 C) (param 1 N) means)) < 2 ^ 63 = five_small (layout (lock_row (copied 0 C) (param 1 N) means)) (layout (list_row (waiter_row (copied 0 C)) (number 64) unit)) (lock_room C N means small) (list_room C N small) in
     small_by (layout (queues_row (copied 0 C) (param 1 N) means)) few
+
+-- so does the lock list alone
+pub lock_fits : (C N : RattleType) → HasRoom (copied 0 C) (param 1 N) → (means : Ghosts (copied 0 C).Denot (value_of (param 1 N))) → FitsInMemory (lock_row (copied 0 C) (param 1 N) means)
+lock_fits C N small means = small_by (layout (lock_row (copied 0 C) (param 1 N) means)) (much_less _ (lock_room C N means small))
+
+-- and its row of links
+pub ring_fits : (C N : RattleType) → HasRoom (copied 0 C) (param 1 N) → FitsInMemory (ring_row (copied 0 C) (param 1 N))
+ring_fits C N small =
+    let one = room_enough (layout (waiter_row (copied 0 C))) in
+    let few : room (layout (ring_row (copied 0 C) (param 1 N))) < 2 ^ 63 = entries_few (layout (option_row (waiter_row (copied 0 C)))) (omega (arith, one, small.0)) _ (omega arith) in
+    small_by (layout (ring_row (copied 0 C) (param 1 N))) few
+
+-- a row of cells fits too
+pub row_fits : (C N : RattleType) → HasRoom (copied 0 C) (param 1 N) → size (array_at (layout u64) (layout (param 1 N))) < 2 ^ 63
+row_fits C N small = let most = room_enough (array_at (layout u64) (layout (param 1 N))) in omega (arith, most, small.1)

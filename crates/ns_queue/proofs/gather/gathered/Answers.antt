@@ -1,5 +1,8 @@
-use Rattle.std.proofs.Common.{rules, ◌++◌, ◌∷◌, [], ap, sym, ◌∙◌}
+use Rattle.std.proofs.Common.{◌++◌, ◌∷◌, [], ap, sym, ◌∙◌}
 use Rattle.ns_queue.proofs.Places.{ahead_few, from_none, own, seated_stands, smaller, stepped}
+use Rattle.ns_queue.specs.Sizes.{ring_fits}
+use denote.Param.{number}
+use Rattle.ns_queue.proofs.Orders.{list_small}
 use Rattle.ns_queue.proofs.gather.gathered.Goals as goal
 
 pub loop-waiter-init : goal.loop-waiter-init
@@ -7,12 +10,12 @@ loop-waiter-init g c = rw (c.new-all.ensures, c.front-at.ensures.place) (sym (ow
 
 pub push-requires : goal.push-requires
 push-requires g c = (
-  search rules,
+  list_small _ g.met.C.Queueable.list_fits,
   rw c.loop-waiter.invariant (ahead_few c.loop-waiter.at c.args.ring.now c.in-Some.waiter.now c.get.ensures.orderly (sym c.in-Some.ensures.waiter)),
 )
 
 pub next-at-requires : goal.next-at-requires
-next-at-requires g c = (search rules, seated_stands c.loop-waiter.at c.args.ring.now c.in-Some.waiter.now (sym c.in-Some.ensures.waiter))
+next-at-requires g c = (ring_fits g.row.C (number g.row.N) g.met.C.Condition.has_room, seated_stands c.loop-waiter.at c.args.ring.now c.in-Some.waiter.now (sym c.in-Some.ensures.waiter))
 
 pub loop-waiter-smaller : goal.loop-waiter-smaller
 loop-waiter-smaller g c = smaller c.loop-waiter.at c.args.ring.now c.in-Some.waiter.now c.next-at.result c.get.ensures.orderly (sym c.in-Some.ensures.waiter) c.next-at.ensures

@@ -2,6 +2,8 @@ use Rattle.std.proofs.Common.{rules, ◌++◌, ◌∷◌, [], ap, map, sym, ◌�
 use Rattle.std.proofs.lemmas.List.{length-map, map-append}
 use Rattle.ns_queue.specs.Prelude.{ahead, shown_of}
 use Rattle.ns_queue.proofs.Places.{ahead_few, from_none, own, seated_stands, smaller, stepped}
+use Rattle.ns_queue.specs.Sizes.{ring_fits}
+use denote.Param.{number}
 use Rattle.ns_queue.proofs.gather.shown_ring.Goals as goal
 
 pub loop-waiter-init : goal.loop-waiter-init
@@ -13,7 +15,7 @@ push-requires g c =
     (search rules, rw c.loop-waiter.invariant (rw (length-map (ahead c.loop-waiter.at c.args.ring.now) shown_of) few))
 
 pub next-at-requires : goal.next-at-requires
-next-at-requires g c = (search rules, seated_stands c.loop-waiter.at c.args.ring.now c.in-Some.waiter.now (sym c.in-Some.ensures.waiter))
+next-at-requires g c = (ring_fits g.row.C (number g.row.N) g.met.C.Condition.has_room, seated_stands c.loop-waiter.at c.args.ring.now c.in-Some.waiter.now (sym c.in-Some.ensures.waiter))
 
 pub loop-waiter-smaller : goal.loop-waiter-smaller
 loop-waiter-smaller g c = smaller c.loop-waiter.at c.args.ring.now c.in-Some.waiter.now c.next-at.result c.get.ensures.orderly (sym c.in-Some.ensures.waiter) c.next-at.ensures

@@ -1,7 +1,9 @@
-use Rattle.std.proofs.Common.{rules, arith}
+use Rattle.std.proofs.Common.{arith}
 use Rattle.ns_queue.proofs.Making.{next_place}
 use Rattle.ns_queue.proofs.Places.{seated_low, standing}
 use Rattle.ns_queue.proofs.Running.{next_begins, next_run}
+use Rattle.ns_queue.specs.Sizes.{ring_fits}
+use denote.Param.{number}
 use Rattle.ns_queue.proofs.lock_list.beyond.Goals as goal
 
 pub bounds-heads-next : goal.bounds-heads-next
@@ -18,4 +20,4 @@ bounds-lasts-seat g c = let s = standing c.args.seat c.args.ring.now c.requires.
 pub next-requires : goal.next-requires
 next-requires g c =
     let s = standing c.args.seat c.args.ring.now c.requires.stands in
-    (search rules, (next_run g.C.Condition.means.same c.args.heads.now c.args.lasts.now c.args.seat c.args.ring.now s.w c.requires.row s.is c.requires.runs).stands)
+    (ring_fits g.row.C (number g.row.N) g.met.C.Condition.has_room, (next_run g.C.Condition.means.same c.args.heads.now c.args.lasts.now c.args.seat c.args.ring.now s.w c.requires.row s.is c.requires.runs).stands)

@@ -1,6 +1,8 @@
-use Rattle.std.proofs.Common.{rules, ap, get_or, sym, ◌∙◌, arith}
+use Rattle.std.proofs.Common.{ap, get_or, sym, ◌∙◌, arith}
 use Rattle.ns_queue.proofs.Making.{dropped, inner, next_place, prev_place}
 use Rattle.ns_queue.proofs.Ringed.{stands_low}
+use Rattle.ns_queue.specs.Sizes.{ring_fits}
+use denote.Param.{number}
 use Rattle.ns_queue.proofs.remake.mend.Goals as goal
 
 pub bounds-heads-seat : goal.bounds-heads-seat
@@ -18,7 +20,7 @@ bounds-lasts-first g c =
 
 pub remake-requires : goal.remake-requires
 remake-requires g c = (
-  search rules,
+  ring_fits g.row.C (number g.row.N) g.met.C.Condition.has_room,
   rw c.requires.left (dropped g.C.Condition.means.same c.args.heads.now c.args.lasts.now c.args.seat c.args.before c.args.behind c.requires.was c.requires.row c.requires.stood c.if-first-seat.true c.requires.before_is c.requires.next_is c.requires.runs),
 )
 

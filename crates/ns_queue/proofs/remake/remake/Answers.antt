@@ -1,7 +1,9 @@
-use Rattle.std.proofs.Common.{rules, true, false, sym, arith}
+use Rattle.std.proofs.Common.{true, false, sym, arith}
 use Rattle.std.specs.Option.{option_copied}
 use Rattle.ns_queue.proofs.Making.{head_low, joins_told, made_begun, made_ends, made_joins, made_stops, run_read}
 use Rattle.ns_queue.proofs.Places.{seated_low, seated_stands, smaller}
+use Rattle.ns_queue.specs.Sizes.{ring_fits}
+use denote.Param.{number}
 use Rattle.ns_queue.proofs.remake.remake.Goals.{then-not-joins+else-heads-at, else-not-joins}
 use Rattle.ns_queue.proofs.remake.remake.Goals as goal
 
@@ -23,7 +25,7 @@ pub bounds-heads-at-in-Some : goal.bounds-heads-at-in-Some
 bounds-heads-at-in-Some g c = let low = seated_low c.loop-waiter.at c.args.ring.now c.in-Some.waiter.now c.get.ensures.orderly (sym c.in-Some.ensures.waiter) in omega (arith, low)
 
 pub next-at-requires : goal.next-at-requires
-next-at-requires g c = (search rules, seated_stands c.loop-waiter.at c.args.ring.now c.in-Some.waiter.now (sym c.in-Some.ensures.waiter))
+next-at-requires g c = (ring_fits g.row.C (number g.row.N) g.met.C.Condition.has_room, seated_stands c.loop-waiter.at c.args.ring.now c.in-Some.waiter.now (sym c.in-Some.ensures.waiter))
 
 pub loop-waiter-smaller : goal.loop-waiter-smaller
 loop-waiter-smaller g c = smaller c.loop-waiter.at c.args.ring.now c.in-Some.waiter.now c.next-at.result c.get.ensures.orderly (sym c.in-Some.ensures.waiter) c.next-at.ensures

@@ -1,8 +1,10 @@
 use Rattle.std.proofs.Common.{slice_index, sym, ◌-◌, arith}
 use Rattle.ns_queue.specs.Prelude.{times_in}
-use Rattle.ns_queue.proofs.Inside.{told_no}
+use Rattle.ns_queue.proofs.Inside.{told_no, told_yes}
 use Rattle.ns_queue.proofs.Leaving.{all_on}
 use Rattle.ns_queue.proofs.Seats.{none_without}
+use Rattle.ns_queue.specs.Sizes.{ring_fits}
+use denote.Param.{number}
 use Rattle.ns_queue.proofs.ring.take_out.Goals as goal
 
 pub loop-left-preserved : goal.loop-left-preserved
@@ -13,3 +15,9 @@ loop-left-preserved g c =
       out = all_on c.args.seats.now c.loop-left.left c.loop-left.ring c.loop-left.ring c.args.ring.now c.loop-left-test.true c.loop-left.invariant.within (sym (none_without seat c.loop-left.ring none)) c.loop-left.invariant.out;
       within = omega (arith, c.loop-left.invariant.within);
     }
+
+pub holds-requires : goal.holds-requires
+holds-requires g c = ring_fits g.row.C (number g.row.N) g.met.C.Condition.has_room
+
+pub remove-requires : goal.remove-requires
+remove-requires g c = (ring_fits g.row.C (number g.row.N) g.met.C.Condition.has_room, told_yes c.holds.result _ c.if-holds.true c.holds.ensures.stands.0)

@@ -1,9 +1,11 @@
-use Rattle.std.proofs.Common.{rules, ◌++◌, ◌∷◌, [], inl, inr, ap, sym, ◌∙◌}
+use Rattle.std.proofs.Common.{◌++◌, ◌∷◌, [], inl, inr, ap, sym, ◌∙◌}
 use Rattle.std.specs.Option.{option_copied}
 use Rattle.ns_queue.specs.Prelude.{Sought, reads}
 use Rattle.ns_queue.proofs.Asking.{Enters}
 use Rattle.ns_queue.proofs.Places.{seated_stands, smaller}
 use Rattle.ns_queue.proofs.Reading.{look_fits, none_taken, reads_end, reads_few, reads_on, reads_start, writer_taken}
+use Rattle.ns_queue.specs.Sizes.{ring_fits, row_fits}
+use denote.Param.{number}
 use Rattle.ns_queue.proofs.scan.choose.Goals.{then-not-is_alike, else-not-is_alike}
 use Rattle.ns_queue.proofs.scan.choose.Goals as goal
 
@@ -32,7 +34,7 @@ returns-then-is_write-clause-tests g c =
     c.get.ensures.orderly (ap (λ (o : Sought). o.seat) c.requires) (sym c.in-Some.ensures.waiter) (ap (λ (o : Sought). o.tests) c.requires) (sym c.is_write.ensures ∙ c.if-is_write.true) got).1
 
 pub next-at-requires : goal.next-at-requires
-next-at-requires g c = (search rules, seated_stands c.args.sought.seat c.args.ring.now c.in-Some.found.now (sym c.in-Some.ensures.waiter))
+next-at-requires g c = (ring_fits g.row.C (number g.row.N) g.met.C.Condition.has_room, seated_stands c.args.sought.seat c.args.ring.now c.in-Some.found.now (sym c.in-Some.ensures.waiter))
 
 pub loop-waiter-init : goal.loop-waiter-init
 loop-waiter-init g c =
@@ -54,7 +56,7 @@ push_if-requires g c =
     (reads_few g.C.Condition.means.same meets (option_copied c.loop-waiter.first) c.loop-waiter.truth c.loop-waiter.at c.loop-waiter.tests c.loop-waiter.woken.items c.args.ring.now c.in-Some-get.waiter.now c.get.ensures.orderly (sym c.in-Some-get.ensures.waiter) c.loop-waiter.invariant).1
 
 pub next-at-requires-in-Some-get : goal.next-at-requires-in-Some-get
-next-at-requires-in-Some-get g c = (search rules, seated_stands c.loop-waiter.at c.args.ring.now c.in-Some-get.waiter.now (sym c.in-Some-get.ensures.waiter))
+next-at-requires-in-Some-get g c = (ring_fits g.row.C (number g.row.N) g.met.C.Condition.has_room, seated_stands c.loop-waiter.at c.args.ring.now c.in-Some-get.waiter.now (sym c.in-Some-get.ensures.waiter))
 
 pub loop-waiter-smaller : goal.loop-waiter-smaller
 loop-waiter-smaller g c = smaller c.loop-waiter.at c.args.ring.now c.in-Some-get.waiter.now c.next-at-in-Some-get.result c.get.ensures.orderly (sym c.in-Some-get.ensures.waiter) c.next-at-in-Some-get.ensures
@@ -81,3 +83,21 @@ pub returns-clause-tests : goal.returns-clause-tests
 returns-clause-tests g c =
     let meets = λ (d : g.row.C.Denot). g.C.Condition.means.holds d c.args.row.now in
     (reads_end g.C.Condition.means.same meets (option_copied c.loop-waiter.first) c.loop-waiter.truth c.loop-waiter.at c.loop-waiter.tests c.loop-waiter.woken.items c.args.ring.now (sym c.in_default-get.ensures.waiter) c.loop-waiter.invariant).1
+
+pub get-requires : goal.get-requires
+get-requires g c = ring_fits g.row.C (number g.row.N) g.met.C.Condition.has_room
+
+pub get-requires-in-loop-waiter : goal.get-requires-in-loop-waiter
+get-requires-in-loop-waiter g c = ring_fits g.row.C (number g.row.N) g.met.C.Condition.has_room
+
+pub returns-in_default-clause-orderly : goal.returns-in_default-clause-orderly
+returns-in_default-clause-orderly g c = c.get.ensures.orderly
+
+pub returns-then-is_write-clause-orderly : goal.returns-then-is_write-clause-orderly
+returns-then-is_write-clause-orderly g c = c.get.ensures.orderly
+
+pub returns-clause-orderly : goal.returns-clause-orderly
+returns-clause-orderly g c = c.get.ensures.orderly
+
+pub look_at-seen-requires : goal.look_at-seen-requires
+look_at-seen-requires g c = row_fits g.row.C (number g.row.N) g.met.C.Condition.has_room

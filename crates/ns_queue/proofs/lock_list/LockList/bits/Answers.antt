@@ -1,6 +1,8 @@
 use Rattle.std.proofs.Common.{◌∙◌, ap, sym, nat_lt}
 use Rattle.ns_queue.specs.Prelude.{has_condition, is_long, writes_plainly}
 use Rattle.ns_queue.proofs.Ringed.{any_counted}
+use Rattle.ns_queue.specs.Sizes.{ring_fits}
+use denote.Param.{number}
 use Rattle.ns_queue.proofs.lock_list.LockList.bits.Goals as goal
 
 pub returns-clause-conditional : goal.returns-clause-conditional
@@ -11,3 +13,6 @@ returns-clause-writer_waits g c = rw (← c.self.view_is) (ap (λ k. nat_lt 0 k.
 
 pub returns-clause-long : goal.returns-clause-long
 returns-clause-long g c = rw (← c.self.view_is) (ap (λ k. nat_lt 0 k.long) c.counts-counts.ensures ∙ sym (any_counted is_long c.self.inside.ring))
+
+pub counts-counts-requires : goal.counts-counts-requires
+counts-counts-requires g c = ring_fits g.row.C (number g.row.N) g.met.C.Condition.has_room

@@ -1,6 +1,9 @@
 use Rattle.std.proofs.Common.{true, false}
 use Rattle.std.specs.Option.{option_copied}
 use Rattle.ns_queue.proofs.Making.{back_head, back_place, back_read, head_begins, head_goes, joins_told}
+use Rattle.ns_queue.specs.Sizes.{ring_fits}
+use denote.Param.{number}
+use Rattle.ns_queue.proofs.Ringed.{place_fits}
 use Rattle.ns_queue.proofs.lock_list.LockList.head_for.Goals as goal
 
 pub bounds-self-inside-back : goal.bounds-self-inside-back
@@ -27,3 +30,12 @@ returns-then-joins-clause-orderly g c = rw (← c.self.view_is) c.back.ensures.o
 
 pub returns-else-joins-clause-orderly : goal.returns-else-joins-clause-orderly
 returns-else-joins-clause-orderly g c = rw (← c.self.view_is) c.back.ensures.orderly
+
+pub back-requires : goal.back-requires
+back-requires g c = ring_fits g.row.C (number g.row.N) g.met.C.Condition.has_room
+
+pub get-requires : goal.get-requires
+get-requires g c = ring_fits g.row.C (number g.row.N) g.met.C.Condition.has_room
+
+pub overflow_cast-head : goal.overflow_cast-head
+overflow_cast-head g c = place_fits c.back.result (back_place c.self.inside.ring c.back.result c.back.ensures.orderly c.back.ensures.place)

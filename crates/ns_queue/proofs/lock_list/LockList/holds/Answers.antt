@@ -1,3 +1,5 @@
+use Rattle.ns_queue.specs.Sizes.{ring_fits}
+use denote.Param.{number}
 use Rattle.ns_queue.proofs.lock_list.LockList.holds.Goals as goal
 
 pub returns-clause-stands : goal.returns-clause-stands
@@ -5,3 +7,6 @@ returns-clause-stands g c = rw (← c.self.view_is) c.holds.ensures.stands
 
 pub returns-clause-orderly : goal.returns-clause-orderly
 returns-clause-orderly g c = rw (← c.self.view_is) c.holds.ensures.orderly
+
+pub holds-requires : goal.holds-requires
+holds-requires g c = ring_fits g.row.C (number g.row.N) g.met.C.Condition.has_room

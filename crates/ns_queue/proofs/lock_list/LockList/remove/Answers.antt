@@ -1,7 +1,9 @@
-use Rattle.std.proofs.Common.{sym}
+use Rattle.std.proofs.Common.{sym, refl}
 use Rattle.ns_queue.specs.Prelude.{times_in}
-use Rattle.ns_queue.proofs.Inside.{told_no}
+use Rattle.ns_queue.proofs.Inside.{told_no, told_yes}
 use Rattle.ns_queue.proofs.Seats.{none_without}
+use Rattle.ns_queue.specs.Sizes.{ring_fits}
+use denote.Param.{number}
 use Rattle.ns_queue.proofs.lock_list.LockList.remove.Goals as goal
 
 pub returns-then-not-holds-clause-removed : goal.returns-then-not-holds-clause-removed
@@ -17,3 +19,35 @@ returns-clause-removed g c = rw (← c.self.view_is) c.remove.ensures
 
 pub returns-clause-absent : goal.returns-clause-absent
 returns-clause-absent g c = tt
+
+pub holds-requires : goal.holds-requires
+holds-requires g c = ring_fits g.row.C (number g.row.N) g.met.C.Condition.has_room
+
+pub prev-before-requires : goal.prev-before-requires
+prev-before-requires g c = (ring_fits g.row.C (number g.row.N) g.met.C.Condition.has_room, told_yes c.holds.result _ c.if-not-holds.false c.holds.ensures.stands.0)
+
+pub next-behind-requires : goal.next-behind-requires
+next-behind-requires g c = (ring_fits g.row.C (number g.row.N) g.met.C.Condition.has_room, told_yes c.holds.result _ c.if-not-holds.false c.holds.ensures.stands.0)
+
+pub remove-requires : goal.remove-requires
+remove-requires g c = (ring_fits g.row.C (number g.row.N) g.met.C.Condition.has_room, told_yes c.holds.result _ c.if-not-holds.false c.holds.ensures.stands.0)
+
+pub mend-requires : goal.mend-requires
+mend-requires g c = (
+  ring_fits g.row.C (number g.row.N) g.met.C.Condition.has_room,
+  record {
+    was = c.self.inside.ring;
+    row = c.holds.ensures.orderly;
+    stood = told_yes c.holds.result _ c.if-not-holds.false c.holds.ensures.stands.0;
+    left = c.remove.ensures;
+    before_is = c.prev-before.ensures;
+    next_is = c.next-behind.ensures;
+    runs = c.self.invariant;
+  },
+)
+
+pub returns-then-not-holds-clause-absent : goal.returns-then-not-holds-clause-absent
+returns-then-not-holds-clause-absent g c = refl
+
+pub returns-clause-stood : goal.returns-clause-stood
+returns-clause-stood g c = let here = told_yes c.holds.result _ c.if-not-holds.false c.holds.ensures.stands.0 in rw (← c.self.view_is) (λ yes. here, λ stands. refl)

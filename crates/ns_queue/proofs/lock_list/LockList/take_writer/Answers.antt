@@ -1,5 +1,7 @@
 use Rattle.std.proofs.Common.{refl, sym, ◌∙◌}
 use Rattle.ns_queue.proofs.Reading.{nobody_first, reader_first, writer_first}
+use Rattle.ns_queue.specs.Sizes.{ring_fits, lock_fits, row_fits}
+use denote.Param.{number}
 use Rattle.ns_queue.proofs.lock_list.LockList.take_writer.Goals as goal
 
 pub returns-in_default-clause-told : goal.returns-in_default-clause-told
@@ -35,3 +37,12 @@ returns-clause-left g c =
     let meets = λ (d : g.row.C.Denot). g.C.Condition.means.holds d c.args.row.now in
     let alone = sym c.is_write.ensures ∙ c.if-not-is_write.false in
     rw (← c.self.view_is) (writer_first g.C.Condition.means.same meets c.seek-sought.result c.in-Some.found.now.via c.self.inside.ring _ c.in-Some.found.now c.get.ensures.orderly (rw (← c.self.view_is) at c.seek-sought.ensures) (sym c.in-Some.ensures.waiter) alone refl (rw (← c.self.view_is) at c.remove.ensures.removed)).1
+
+pub seek-sought-requires : goal.seek-sought-requires
+seek-sought-requires g c = (lock_fits g.row.C (number g.row.N) g.met.C.Condition.has_room g.C.Condition, row_fits g.row.C (number g.row.N) g.met.C.Condition.has_room)
+
+pub get-requires : goal.get-requires
+get-requires g c = ring_fits g.row.C (number g.row.N) g.met.C.Condition.has_room
+
+pub remove-requires : goal.remove-requires
+remove-requires g c = lock_fits g.row.C (number g.row.N) g.met.C.Condition.has_room g.C.Condition

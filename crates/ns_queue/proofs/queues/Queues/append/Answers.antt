@@ -1,11 +1,12 @@
-use Rattle.std.proofs.Common.{rules}
 use Rattle.ns_queue.proofs.Appended.{next_free}
 use Rattle.ns_queue.proofs.Taken.{low_at}
+use Rattle.ns_queue.specs.Sizes.{queues_fit}
+use denote.Param.{number}
 use Rattle.ns_queue.proofs.queues.Queues.append.Goals as goal
 
 pub push_back-requires : goal.push_back-requires
 push_back-requires g c = (
-  search rules,
+  queues_fit g.row.C (number g.row.N) g.met.C.Condition.has_room g.C.Condition,
   (
     tt,
     (

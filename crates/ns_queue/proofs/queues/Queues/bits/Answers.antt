@@ -1,3 +1,5 @@
+use Rattle.ns_queue.specs.Sizes.{lock_fits}
+use denote.Param.{number}
 use Rattle.ns_queue.proofs.queues.Queues.bits.Goals as goal
 
 pub returns-clause-writer_waits : goal.returns-clause-writer_waits
@@ -11,3 +13,6 @@ returns-clause-conditional g c = rw (← c.self.view_is) c.bits.ensures.conditio
 
 pub returns-clause-long : goal.returns-clause-long
 returns-clause-long g c = rw (← c.self.view_is) c.bits.ensures.long
+
+pub bits-requires : goal.bits-requires
+bits-requires g c = lock_fits g.row.C (number g.row.N) g.met.C.Condition.has_room g.C.Condition

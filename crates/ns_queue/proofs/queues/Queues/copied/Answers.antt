@@ -2,6 +2,9 @@ use Rattle.std.proofs.Common.{◌≡◌, ◌∙◌, ◌∷◌, [], subst, sym}
 use Rattle.ns_queue.specs.Prelude.{IsOrderly}
 use Rattle.ns_queue.proofs.Inside.{again, shape}
 use Rattle.ns_queue.proofs.queues.Queues.copied.Given.{Over}
+use Rattle.ns_queue.specs.Sizes.{lock_fits}
+use denote.Param.{number}
+use Rattle.ns_queue.proofs.Orders.{list_small}
 use Rattle.ns_queue.proofs.queues.Queues.copied.Goals.{After-copied-5}
 use Rattle.ns_queue.proofs.queues.Queues.copied.Goals as goal
 
@@ -14,3 +17,18 @@ invariant_of-result g c = subst IsOrderly (sym (same g (goal.at.invariant_of-res
 
 pub returns : goal.returns
 returns g c = same g (goal.at.returns g c).After-copied-5 ∙ c.self.view_is
+
+pub copied-requires : goal.copied-requires
+copied-requires g c = lock_fits g.row.C (number g.row.N) g.met.C.Condition.has_room g.C.Condition
+
+pub copied-requires-2 : goal.copied-requires-2
+copied-requires-2 g c = list_small _ g.met.C.Queueable.list_fits
+
+pub copied-requires-3 : goal.copied-requires-3
+copied-requires-3 g c = list_small _ g.met.C.Queueable.list_fits
+
+pub copied-requires-4 : goal.copied-requires-4
+copied-requires-4 g c = list_small _ g.met.C.Queueable.list_fits
+
+pub copied-requires-5 : goal.copied-requires-5
+copied-requires-5 g c = list_small _ g.met.C.Queueable.list_fits

@@ -1,6 +1,9 @@
 use Rattle.std.proofs.Common.{arith}
 use Rattle.ns_queue.specs.Prelude.{times_in}
-use Rattle.ns_queue.proofs.Inside.{on_none, told_no}
+use Rattle.ns_queue.proofs.Inside.{on_none, told_no, told_yes}
+use Rattle.ns_queue.specs.Sizes.{lock_fits}
+use denote.Param.{number}
+use Rattle.ns_queue.proofs.Orders.{list_small, lists_small}
 use Rattle.ns_queue.proofs.queues.Queues.holds.Goals as goal
 
 pub returns-else-holds-clause-stands : goal.returns-else-holds-clause-stands
@@ -18,3 +21,15 @@ returns-then-holds-clause-orderly g c = rw (← c.self.view_is) c.self.invariant
 
 pub returns-else-holds-clause-orderly : goal.returns-else-holds-clause-orderly
 returns-else-holds-clause-orderly g c = rw (← c.self.view_is) c.self.invariant
+
+pub holds-requires : goal.holds-requires
+holds-requires g c = lock_fits g.row.C (number g.row.N) g.met.C.Condition.has_room g.C.Condition
+
+pub stands_in_any-requires : goal.stands_in_any-requires
+stands_in_any-requires g c = (lists_small _ g.met.C.Queueable.list_fits, list_small _ g.met.C.Queueable.list_fits)
+
+pub returns-then-holds-clause-stands : goal.returns-then-holds-clause-stands
+returns-then-holds-clause-stands g c = let here = told_yes c.holds.result _ c.if-holds.true c.holds.ensures.stands.0 in rw (← c.self.view_is) (λ yes. omega (arith, here), λ stands. c.if-holds.true)
+
+pub returns-then-holds-clause-nowhere : goal.returns-then-holds-clause-nowhere
+returns-then-holds-clause-nowhere g c = rw c.if-holds.true tt

@@ -2,9 +2,11 @@ use Rattle.std.proofs.Common.{refl, arith, not, eqb, map}
 use Rattle.std.specs.List.{sum_by}
 use Rattle.ns_queue.specs.Prelude.{Lock, times_in}
 use Rattle.ns_queue.proofs.Inside.{lock_left, neither, shape, times_in-filter, told_no, told_yes}
-use Rattle.ns_queue.proofs.Orders.{list_small}
+use Rattle.ns_queue.proofs.Orders.{list_small, lists_small}
 use Rattle.ns_queue.proofs.Outside.{all_below, low_of, orderly_outside}
 use Rattle.ns_queue.proofs.Parts.{lock_alone, removed_of}
+use Rattle.ns_queue.specs.Sizes.{lock_fits}
+use denote.Param.{number}
 use Rattle.ns_queue.proofs.queues.Queues.remove.Goals as goal
 
 pub invariant_of-self : goal.invariant_of-self
@@ -43,3 +45,15 @@ returns-then-not-stands_in_any-clause-removed g c = tt
 
 pub returns-clause-absent : goal.returns-clause-absent
 returns-clause-absent g c = tt
+
+pub remove-requires : goal.remove-requires
+remove-requires g c = lock_fits g.row.C (number g.row.N) g.met.C.Condition.has_room g.C.Condition
+
+pub stands_in_any-requires : goal.stands_in_any-requires
+stands_in_any-requires g c = (lists_small _ g.met.C.Queueable.list_fits, list_small _ g.met.C.Queueable.list_fits)
+
+pub returns-then-remove-clause-stood : goal.returns-then-remove-clause-stood
+returns-then-remove-clause-stood g c = let here = told_yes c.remove.result _ c.if-remove.true c.remove.ensures.stood.0 in rw (← c.self.view_is) (λ yes. omega (arith, here), λ stands. refl)
+
+pub invariant_of-self-then-not-stands_in_any : goal.invariant_of-self-then-not-stands_in_any
+invariant_of-self-then-not-stands_in_any g c = lock_left _ _ _ c.args.seat c.self.invariant c.remove.ensures.removed

@@ -1,8 +1,10 @@
 use Rattle.std.proofs.Common.{◌<◌, nat_lt, ap, ◌∙◌}
 use Rattle.std.proofs.lemmas.Bool.{ltb_from_iff}
 use Rattle.ns_queue.specs.Prelude.{times_in}
-use Rattle.ns_queue.proofs.Orders.{offset_fits}
-use Rattle.ns_queue.proofs.Inside.{list_at}
+use Rattle.ns_queue.proofs.Orders.{offset_fits, list_small, number_fits}
+use Rattle.ns_queue.proofs.Inside.{list_at, list_there}
+use Rattle.ns_queue.specs.Sizes.{lock_fits}
+use denote.Param.{number}
 use Rattle.ns_queue.proofs.queues.Queues.stands.Goals as goal
 
 pub offset_bounds-self-inside-k : goal.offset_bounds-self-inside-k
@@ -23,3 +25,18 @@ returns-in-Lock-clause-orderly g c = rw (← c.self.view_is) c.self.invariant
 
 pub returns-in-Cv-clause-orderly : goal.returns-in-Cv-clause-orderly
 returns-in-Cv-clause-orderly g c = rw (← c.self.view_is) c.self.invariant
+
+pub overflow_cast-k : goal.overflow_cast-k
+overflow_cast-k g c = number_fits c.in-Cv.k (rw c.in-Cv.is at c.requires)
+
+pub listed : goal.listed
+listed g c = list_there c.self.inside.lock c.self.inside.cvs c.in-Cv.k c.self.invariant (rw c.in-Cv.is at c.requires)
+
+pub bounds-self-inside-k : goal.bounds-self-inside-k
+bounds-self-inside-k g c = rw c.in-Cv.is at c.requires
+
+pub holds-requires : goal.holds-requires
+holds-requires g c = lock_fits g.row.C (number g.row.N) g.met.C.Condition.has_room g.C.Condition
+
+pub as_slice-requires : goal.as_slice-requires
+as_slice-requires g c = list_small _ g.met.C.Queueable.list_fits

@@ -2,7 +2,7 @@ use Rattle.std.proofs.Common.{get_or, ap, arith, sym, ◌∙◌}
 use Rattle.ns_queue.specs.Prelude.{Cv, signaled_of, taken_set, waiters_of}
 use Rattle.ns_queue.proofs.Appended.{have_seats_at}
 use Rattle.ns_queue.proofs.Orders.{list_small, offset_fits}
-use Rattle.ns_queue.proofs.Inside.{list_at, shape}
+use Rattle.ns_queue.proofs.Inside.{list_at, shape, list_there}
 use Rattle.ns_queue.proofs.Outside.{all_below, left_outside, orderly_outside}
 use Rattle.ns_queue.proofs.Taken.{below_signaled}
 use Rattle.ns_queue.proofs.queues.Queues.take_signal.Goals as goal
@@ -29,3 +29,18 @@ returns-clause-left g c =
     let lock = c.self.inside.lock in let cvs = c.self.inside.cvs in let ws = waiters_of (shape lock cvs) (Cv c.args.k) in
     rw (← c.self.view_is) (left_outside lock cvs _ c.taken_set.result _
     (c.taken_set.ensures ∙ ap taken_set (c.as_slice.ensures.value ∙ (c.signaled-taken.ensures ∙ ap signaled_of (sym (list_at lock cvs c.args.k c.index-self-k.result c.self.invariant c.requires))))) c.drop_from_all.ensures)
+
+pub listed : goal.listed
+listed g c = list_there c.self.inside.lock c.self.inside.cvs c.args.k c.self.invariant c.requires
+
+pub bounds-self-inside-k : goal.bounds-self-inside-k
+bounds-self-inside-k g c = c.requires
+
+pub as_slice-requires : goal.as_slice-requires
+as_slice-requires g c = list_small _ g.met.C.Queueable.list_fits
+
+pub returns-clause-orderly : goal.returns-clause-orderly
+returns-clause-orderly g c = rw (← c.self.view_is) c.self.invariant
+
+pub signaled-taken-requires : goal.signaled-taken-requires
+signaled-taken-requires g c = list_small _ g.met.C.Queueable.list_fits

@@ -1,8 +1,8 @@
-use Rattle.std.proofs.Common.{ap, arith, sym, ◌∙◌}
+use Rattle.std.proofs.Common.{ap, arith, sym, ◌∙◌, refl}
 use Rattle.ns_queue.specs.Prelude.{sole_of, taken_set}
 use Rattle.ns_queue.proofs.Appended.{have_seats_at}
 use Rattle.ns_queue.proofs.Orders.{list_small, offset_fits}
-use Rattle.ns_queue.proofs.Inside.{list_at}
+use Rattle.ns_queue.proofs.Inside.{list_at, list_there}
 use Rattle.ns_queue.proofs.Outside.{all_below, left_outside, orderly_outside}
 use Rattle.ns_queue.proofs.Taken.{set_sole, sole_low}
 use Rattle.ns_queue.proofs.queues.Queues.take_sole.Goals as goal
@@ -32,3 +32,21 @@ returns-in-Some-clause-left g c =
 pub returns-in-None-clause-sole : goal.returns-in-None-clause-sole
 returns-in-None-clause-sole g c =
     rw (← c.self.view_is, list_at _ _ c.args.k c.index-self-k.result c.self.invariant c.requires) (sym c.in-None.is ∙ (c.sole_in.ensures ∙ ap sole_of c.as_slice.ensures.value))
+
+pub listed : goal.listed
+listed g c = list_there c.self.inside.lock c.self.inside.cvs c.args.k c.self.invariant c.requires
+
+pub bounds-self-inside-k : goal.bounds-self-inside-k
+bounds-self-inside-k g c = c.requires
+
+pub as_slice-requires : goal.as_slice-requires
+as_slice-requires g c = list_small _ g.met.C.Queueable.list_fits
+
+pub returns-in-Some-clause-orderly : goal.returns-in-Some-clause-orderly
+returns-in-Some-clause-orderly g c = rw (← c.self.view_is) c.self.invariant
+
+pub returns-in-None-clause-orderly : goal.returns-in-None-clause-orderly
+returns-in-None-clause-orderly g c = rw (← c.self.view_is) c.self.invariant
+
+pub returns-in-None-clause-same : goal.returns-in-None-clause-same
+returns-in-None-clause-same g c = refl

@@ -1,6 +1,8 @@
 use Rattle.std.proofs.Common.{refl}
 use Rattle.ns_queue.proofs.Inside.{lock_lessened}
 use Rattle.ns_queue.proofs.Leaving.{times_left_by_writer}
+use Rattle.ns_queue.specs.Sizes.{lock_fits, row_fits}
+use denote.Param.{number}
 use Rattle.ns_queue.proofs.queues.Queues.take_writer.Goals as goal
 
 pub invariant_of-self : goal.invariant_of-self
@@ -11,3 +13,6 @@ returns-clause-told g c = rw (← c.self.view_is) c.take_writer.ensures.told
 
 pub returns-clause-left : goal.returns-clause-left
 returns-clause-left g c = rw (← c.self.view_is, c.take_writer.ensures.left) refl
+
+pub take_writer-requires : goal.take_writer-requires
+take_writer-requires g c = (lock_fits g.row.C (number g.row.N) g.met.C.Condition.has_room g.C.Condition, row_fits g.row.C (number g.row.N) g.met.C.Condition.has_room)

@@ -1,5 +1,5 @@
 use Rattle.std.proofs.Common.{refl}
-use Rattle.ns_queue.proofs.Ringed.{closes, entry_at, front_low, has_room, pushed_front, view_of}
+use Rattle.ns_queue.proofs.Ringed.{closes, entry_at, front_low, has_room, pushed_front, view_of, seat_place, place_fits, entry_there, are_counts}
 use Rattle.ns_queue.proofs.ring.Ring.push_front.Goals as goal
 
 pub link-requires-clause-behind : goal.link-requires-clause-behind
@@ -16,3 +16,18 @@ invariant_of-self g c = closes _ _ _ _ _ (pushed_front _ _ _ _ _ _ _ _ _ c.args.
 
 pub returns : goal.returns
 returns g c = rw (← c.self.view_is) (view_of _ _ _ _ _ (pushed_front _ _ _ _ _ _ _ _ _ c.args.waiter c.self.invariant c.requires.below (rw (← c.self.view_is) at c.requires.free) refl c.link.ensures.next c.link.ensures.prev c.with_one-self-inside.ensures))
+
+pub link-requires-clause-seat : goal.link-requires-clause-seat
+link-requires-clause-seat g c = seat_place c.args.waiter.seat c.requires.below
+
+pub with_one-self-inside-requires-clause-kinds : goal.with_one-self-inside-requires-clause-kinds
+with_one-self-inside-requires-clause-kinds g c = are_counts _ _ _ _ _ c.self.invariant
+
+pub overflow_cast-waiter : goal.overflow_cast-waiter
+overflow_cast-waiter g c = place_fits c.args.waiter.seat (seat_place c.args.waiter.seat c.requires.below)
+
+pub listed : goal.listed
+listed g c = entry_there c.args.waiter.seat _ c.requires.below c.self.invariant.ring.entries
+
+pub bounds-self-inside-waiter : goal.bounds-self-inside-waiter
+bounds-self-inside-waiter g c = c.requires.below
