@@ -1,5 +1,5 @@
-use Rattle.std.proofs.Common.{refl, arith}
-use Rattle.ns_queue.specs.Sizes.{queues_fit}
+use Rattle.std.proofs.Common.{refl}
+use Rattle.ns_queue.specs.Sizes.{queues_fit, row_fits}
 use denote.Param.{number}
 use Rattle.ns_word.proofs.hand.change_queuing.Goals as goal
 
@@ -7,4 +7,4 @@ pub returns-in-QueueToWait : goal.returns-in-QueueToWait
 returns-in-QueueToWait g c = rw c.in-QueueToWait.is c.scan_and_queue.ensures.lists
 
 pub scan_and_queue-requires : goal.scan_and_queue-requires
-scan_and_queue-requires g c = let free = rw c.in-QueueToWait.is at c.requires.free in (queues_fit g.row.C (number g.row.N) g.met.C.Condition.has_room g.C.Condition, (omega arith, (c.requires.list, (c.requires.below, free refl))))
+scan_and_queue-requires g c = let free = rw c.in-QueueToWait.is at c.requires.free in (queues_fit g.row.C (number g.row.N) g.met.C.Condition.has_room g.C.Condition, (row_fits g.row.C (number g.row.N) g.met.C.Condition.has_room, (c.requires.list, (c.requires.below, free refl))))

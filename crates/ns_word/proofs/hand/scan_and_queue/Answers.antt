@@ -1,7 +1,7 @@
-use Rattle.std.proofs.Common.{ap, ◌∙◌, arith}
+use Rattle.std.proofs.Common.{ap, ◌∙◌}
 use Rattle.ns_word.specs.Steps.{waits_at}
 use Rattle.ns_word.proofs.Hands.{free_scanned}
-use Rattle.ns_queue.specs.Sizes.{queues_fit}
+use Rattle.ns_queue.specs.Sizes.{queues_fit, row_fits}
 use denote.Param.{number}
 use Rattle.ns_word.proofs.hand.scan_and_queue.Goals as goal
 
@@ -21,4 +21,4 @@ pub returns-clause-tests : goal.returns-clause-tests
 returns-clause-tests g c = c.scan-scan.ensures.tests
 
 pub scan-scan-requires : goal.scan-scan-requires
-scan-scan-requires g c = (queues_fit g.row.C (number g.row.N) g.met.C.Condition.has_room g.C.Condition, omega arith)
+scan-scan-requires g c = (queues_fit g.row.C (number g.row.N) g.met.C.Condition.has_room g.C.Condition, row_fits g.row.C (number g.row.N) g.met.C.Condition.has_room)
