@@ -1,5 +1,5 @@
 -- What changes one list keeps the lists orderly.
-use Rattle.std.proofs.Common.{◌≡◌, ℕ, zero, suc, ◌+◌, ◌*◌, ◌^◌, ◌≤◌, ◌<◌, inl, inr, eqb, List, [], ◌∷◌, length, get_or, set, refl, ap, subst, arith, Fits, w64}
+use Rattle.std.proofs.Common.{◌≡◌, ℕ, zero, suc, ◌+◌, ◌-◌, ◌*◌, ◌^◌, ◌≤◌, ◌<◌, inl, inr, eqb, List, [], ◌∷◌, length, get_or, set, refl, ap, subst, arith, Fits, w64}
 use Rattle.std.proofs.Math.Nat.{mul-le-mul_right}
 use Rattle.std.proofs.lemmas.List.Sums.{sum_by-set, get_or-le-sum_by}
 use Rattle.std.proofs.lemmas.Bool.{ne_eqb, eq-eqb, cases_eq, cases_lt}
@@ -82,3 +82,30 @@ lists_small size small = omega arith
 -- what a list takes in memory is below the bound that is asked of it
 pub list_small : (size : ℕ) → size < 2 ^ 60 → size < 2 ^ 63
 list_small size small = omega arith
+
+-- ---- where a loop stands, over plain numbers, so that nothing else is read
+
+pub at_most : (i n : ℕ) → i < n → i ≤ n
+at_most i n low = omega arith
+
+pub still_in : (i n m : ℕ) → i < n → m ≡ n → i < m
+still_in i n m low same = omega arith
+
+pub last_in : (left n : ℕ) → 0 < left → left ≤ n → left - 1 < n
+last_in left n some within = omega arith
+
+pub one_down : (left : ℕ) → 0 < left → left - 1 < left
+one_down left some = omega arith
+
+pub less_within : (left n : ℕ) → left ≤ n → left - 1 ≤ n
+less_within left n within = omega arith
+
+pub room_at : (got i n : ℕ) → got ≡ i → i < n → n ≤ 64 → got < 64
+room_at got i n same low most = omega arith
+
+-- how many bytes short lists take
+pub bytes_72 : 72 < 2 ^ 63
+bytes_72 = omega arith
+
+pub bytes_136 : 136 < 2 ^ 63
+bytes_136 = omega arith

@@ -1,10 +1,12 @@
 -- One of the five lists: read back, changed, and left by a seat.
-use Rattle.std.proofs.Common.{◌≡◌, ◌≢◌, ℕ, zero, suc, ◌+◌, ◌≤◌, ◌<◌, Bool, true, false, List, [], ◌∷◌, ◌++◌, length, get_or, set, map, refl, ap, ◌∙◌, arith, add-one}
+use Rattle.std.proofs.Common.{◌≡◌, ◌≢◌, ℕ, zero, suc, ◌+◌, ◌≤◌, ◌<◌, Bool, true, false, List, [], ◌∷◌, ◌++◌, length, get_or, set, map, eqb, ◌||◌, refl, ap, ◌∙◌, arith, add-one}
 use Rattle.std.specs.List.{sum_by}
 use Rattle.std.proofs.lemmas.List.{length-set, get_or-set_same, get_or-set_other}
 use Rattle.std.proofs.lemmas.List.Sums.{sum_by-cons, get_or-le-sum_by}
-use Rattle.ns_queue.specs.Prelude.{Cv, Cvs, HaveSeats, IsList, IsOrderly, Lists, Lock, Waiter, Which, beside, named_for, times, times_in, waiters_of, with_each, with_waiters, without, without_in}
+use Rattle.ns_queue.specs.Prelude.{Cv, Cvs, HaveSeats, IsList, IsOrderly, Lists, Lock, Waiter, Which, beside, named_for, outside, times, times_in, waiters_of, with_each, with_waiters, without, without_in}
 use Rattle.ns_model.specs.Cvs.{is_in}
+use Rattle.ns_model.specs.Seats.{is_in as has_seat}
+use Rattle.ns_queue.specs.Names.{Seats}
 use Rattle.ns_queue.proofs.Seats.{none_without}
 use Rattle.ns_queue.proofs.Orders.{lock_times, cv_times}
 
@@ -72,6 +74,21 @@ module _ {C : Type 0} where
       (ap (λ (vs : List (List (Waiter C))). ws ∷ vs) (one_without seat k lists (omega arith) (omega (arith, sum, most)) here))
 
   -- the lists without a seat differ in the list that it stood in
+  -- those outside a set of one seat are those without it
+  outside_one : (set : Seats) (seat : ℕ) → ((n : ℕ) → has_seat set n ≡ eqb n seat) → (ws : List (Waiter C)) → outside set ws ≡ without_in seat ws
+  outside_one set seat is [] = refl
+  outside_one set seat is (w ∷ ws) = rw (is w.seat, outside_one set seat is ws) refl
+
+  all_outside_one : (set : Seats) (seat : ℕ) → ((n : ℕ) → has_seat set n ≡ eqb n seat) → (lists : List (List (Waiter C))) → map (outside set) lists ≡ map (without_in seat) lists
+  all_outside_one set seat is [] = refl
+  all_outside_one set seat is (ws ∷ lists) = rw (outside_one set seat is ws, all_outside_one set seat is lists) refl
+
+  pub out_of_all : (lock lock' : List (Waiter C)) (cvs cvs' : List (List (Waiter C))) (seat : ℕ) (none set : Seats) → ((n : ℕ) → has_seat none n ≡ false) → ((n : ℕ) → has_seat set n ≡ (has_seat none n || eqb n seat)) →
+      lock' ≡ without_in seat lock → cvs' ≡ map (outside set) cvs → ◌≡◌ {A = Lists C} (record { lock = lock'; cvs = cvs' }) (without seat (record { lock = lock; cvs = cvs }))
+  out_of_all lock lock' cvs cvs' seat none set empty more first rest =
+      let one = all_outside_one set seat (λ n. more n ∙ ap (λ b. b || eqb n seat) (empty n)) cvs in
+      rw (first, rest, one) refl
+
   pub removed_of : (lists : Lists C) (which : Which) (seat : ℕ) → IsOrderly lists → times seat lists ≤ 1 → IsList which → 0 < times_in seat (waiters_of lists which) →
       without seat lists ≡ with_waiters lists which (without_in seat (waiters_of lists which))
   removed_of lists Lock seat orderly alone is here =

@@ -1,5 +1,5 @@
 -- What a waiter more or less makes of the entries, the links and the counts.
-use Rattle.std.proofs.Common.{◌≡◌, ℕ, zero, suc, ◌+◌, ◌*◌, ◌^◌, ◌≤◌, ◌<◌, inl, inr, Bool, true, false, cond, eqb, nat_lt, ◌||◌, List, [], ◌∷◌, ◌++◌, length, get_or, set, Option, None, Some, refl, ap, sym, ◌∙◌, subst, arith, length-set, length-append, Fits, w64, IsTrue, ◌↔◌, is_some, replicate}
+use Rattle.std.proofs.Common.{◌≡◌, ℕ, zero, suc, ◌+◌, ◌*◌, ◌^◌, ◌≤◌, ◌<◌, inl, inr, Bool, true, false, cond, eqb, nat_lt, ◌||◌, List, [], ◌∷◌, ◌++◌, length, get_or, set, Option, None, Some, refl, ap, sym, ◌∙◌, subst, arith, length-set, length-append, Fits, w8, w64, IsTrue, ◌↔◌, is_some, replicate}
 use Rattle.std.proofs.Math.Nat.{mul-le-mul_right}
 use Rattle.std.specs.List.{count_by, list_any}
 use Rattle.std.specs.Option.{option_map}
@@ -24,6 +24,17 @@ place_fits place low = omega arith
 
 pub entry_there : (seat n : ℕ) → seat < 64 → n ≡ 64 → seat < n
 entry_there seat n low all = omega arith
+
+-- a count goes up by one, or down, at most
+pub one_fits : (n : ℕ) → n < 64 → Fits w8 (n + 1)
+one_fits n room = omega arith
+
+pub more_fits : (n most more : ℕ) (is : Bool) → n ≤ most → most < 64 → more ≡ one_if is → Fits w8 (n + more)
+more_fits n most more true few room by = omega arith
+more_fits n most more false few room by = omega arith
+
+pub one_in : (n less : ℕ) (is same : Bool) → one_if is ≤ n → less ≡ one_if same → same ≡ is → less ≤ n
+one_in n less is same few by e = rw (by, e) few
 
 counts_same : (l m n o l' m' n' o' : ℕ) → l ≡ l' → m ≡ m' → n ≡ n' → o ≡ o' →
     ◌≡◌ {A = Counts} (record { len = l; conditional = m; plain_writers = n; long = o }) (record { len = l'; conditional = m'; plain_writers = n'; long = o' })

@@ -1,10 +1,19 @@
 -- Which variables those name whom a scan takes.
-use Rattle.std.proofs.Common.{◌≡◌, inl, inr, Bool, List, [], ◌∷◌, map, Some, filter, refl, ◌∙◌}
+use Rattle.std.proofs.Common.{ℕ, ◌+◌, ◌<◌, ◌++◌, Option, length, length-take, get_or, take, ap, sym, arith, ◌≡◌, inl, inr, Bool, List, [], ◌∷◌, map, Some, filter, refl, ◌∙◌}
 use Rattle.std.proofs.lemmas.Bool.{cases_Bool}
+use Rattle.std.proofs.lemmas.List.{length-map, map-append, take_more}
 use Rattle.ns_queue.specs.Prelude.{Every, IsRow, Waiter, is_eligible, seated, seats_of, times_in, via_in, woken_of, writes}
 use Rattle.ns_queue.proofs.Hops.{seated_first, seated_rest, stands_not}
 use Rattle.ns_queue.proofs.Places.{row_own, row_rest}
 use Rattle.ns_queue.proofs.Seeking.{goes_along}
+
+-- one more of them
+pub vias_on : (f : ℕ → Option ℕ) (seats : List ℕ) (i : ℕ) (got new : List (Option ℕ)) (via : Option ℕ) → i < length seats → via ≡ f (get_or seats i 0) → new ≡ got ++ via ∷ [] → got ≡ map f (take i seats) → new ≡ map f (take (i + 1) seats)
+vias_on f seats i got new via within is more before =
+    more ∙ ap (λ vs. vs ++ via ∷ []) before ∙ ap (λ v. map f (take i seats) ++ v ∷ []) is ∙ sym (map-append f (take i seats) (get_or seats i 0 ∷ [])) ∙ ap (map f) (sym (take_more seats i 0 within))
+
+pub vias_count : (f : ℕ → Option ℕ) (seats : List ℕ) (i : ℕ) (got : List (Option ℕ)) → i < length seats → got ≡ map f (take i seats) → length got ≡ i
+vias_count f seats i got within is = ap length is ∙ length-map (take i seats) f ∙ simp length-take (omega (arith, within))
 
 module _ {C : Type 0} where
   -- each is found by its seat

@@ -1,6 +1,34 @@
+use Rattle.std.proofs.Common.{◌∙◌}
 use Rattle.ns_queue.specs.Sizes.{ring_fits}
 use denote.Param.{number}
+use Rattle.ns_queue.proofs.Orders.{room_at, bytes_136}
+use Rattle.ns_queue.proofs.Vias.{vias_on, vias_count}
+use Rattle.std.proofs.Common.{ap, map, length}
+use Rattle.std.proofs.lemmas.List.{take_all}
+use borrow.Author.Count.{falls}
+use Rattle.ns_queue.specs.Prelude.{seated, via_in}
 use Rattle.ns_queue.proofs.gather.vias_of.Goals as goal
 
 pub via_at-requires : goal.via_at-requires
 via_at-requires g c = ring_fits g.row.C (number g.row.N) g.met.C.Condition.has_room
+
+pub new-vias-requires : goal.new-vias-requires
+new-vias-requires g c = bytes_136
+
+pub loop-seat-init : goal.loop-seat-init
+loop-seat-init g c = c.new-vias.ensures
+
+pub bounds-seats-seat-index : goal.bounds-seats-seat-index
+bounds-seats-seat-index g c = c.loop-seat-test.true
+
+pub push-requires : goal.push-requires
+push-requires g c = (bytes_136, room_at _ _ _ (vias_count (λ seat. via_in (seated seat c.args.ring.now)) c.args.seats.now c.loop-seat.seat-index c.loop-seat.vias.items c.loop-seat-test.true c.loop-seat.invariant) c.loop-seat-test.true c.requires)
+
+pub loop-seat-smaller : goal.loop-seat-smaller
+loop-seat-smaller g c = falls (length c.args.seats.now) c.loop-seat.seat-index c.loop-seat-test.true
+
+pub loop-seat-preserved : goal.loop-seat-preserved
+loop-seat-preserved g c = vias_on (λ seat. via_in (seated seat c.args.ring.now)) c.args.seats.now c.loop-seat.seat-index c.loop-seat.vias.items c.push.new.self.items c.via_at.result c.loop-seat-test.true c.via_at.ensures c.push.ensures.items c.loop-seat.invariant
+
+pub returns : goal.returns
+returns g c = c.loop-seat.invariant ∙ ap (map (λ seat. via_in (seated seat c.args.ring.now))) (take_all c.loop-seat.seat-index c.args.seats.now c.loop-seat-test.false)

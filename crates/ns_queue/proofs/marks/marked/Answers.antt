@@ -1,6 +1,7 @@
 use Rattle.std.proofs.Common.{ℕ, ◌≤◌, ◌<◌, length, sym, arith}
-use Rattle.ns_queue.proofs.Orders.{list_small}
+use Rattle.ns_queue.proofs.Orders.{list_small, at_most, still_in}
 use Rattle.ns_queue.proofs.Marking.{pushed_on, skipped_on, marked_yes, marked_no}
+use borrow.Author.Count.{falls}
 use Rattle.ns_queue.proofs.marks.marked.Goals.{then-marks-i, else-marks-i}
 use Rattle.ns_queue.proofs.marks.marked.Goals as goal
 
@@ -26,3 +27,15 @@ room got i n few within most = omega arith
 
 pub push-requires : goal.push-requires
 push-requires g c = (list_small _ g.met.C.Queueable.list_fits, room _ c.loop-i.i _ c.loop-i.invariant.few c.loop-i-test.true c.requires.most)
+
+pub bounds-marks-i : goal.bounds-marks-i
+bounds-marks-i g c = still_in c.loop-i.i _ _ c.loop-i-test.true c.requires.same
+
+pub offset_bounds-waiters-i : goal.offset_bounds-waiters-i
+offset_bounds-waiters-i g c = at_most c.loop-i.i _ c.loop-i-test.true
+
+pub bounds-waiters-i : goal.bounds-waiters-i
+bounds-waiters-i g c = c.loop-i-test.true
+
+pub loop-i-smaller : goal.loop-i-smaller
+loop-i-smaller g c = falls (length c.args.waiters.now) c.loop-i.i c.loop-i-test.true

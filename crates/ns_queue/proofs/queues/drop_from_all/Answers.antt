@@ -1,7 +1,9 @@
 use Rattle.ns_queue.specs.Prelude.{outside}
-use Rattle.ns_queue.proofs.Orders.{list_small}
+use Rattle.ns_queue.proofs.Orders.{list_small, still_in}
 use Rattle.ns_queue.proofs.Inside.{lists_more}
 use Rattle.ns_queue.proofs.Outside.{next_below}
+use Rattle.std.proofs.Common.{refl, length}
+use borrow.Author.Count.{falls}
 use Rattle.ns_queue.proofs.queues.drop_from_all.Goals as goal
 
 pub loop-list-preserved : goal.loop-list-preserved
@@ -10,3 +12,12 @@ loop-list-preserved g c =
 
 pub drop_those-requires : goal.drop_those-requires
 drop_those-requires g c = (list_small _ g.met.C.Queueable.list_fits, next_below c.args.lists.now c.loop-list.lists c.loop-list.list-index c.list-item.result c.args.set c.requires c.loop-list-test.true c.loop-list.auto.lists c.loop-list.invariant)
+
+pub loop-list-init : goal.loop-list-init
+loop-list-init g c = refl
+
+pub bounds-lists-list-index : goal.bounds-lists-list-index
+bounds-lists-list-index g c = still_in c.loop-list.list-index _ _ c.loop-list-test.true c.loop-list.auto.lists
+
+pub loop-list-smaller : goal.loop-list-smaller
+loop-list-smaller g c = falls (length c.args.lists.now) c.loop-list.list-index c.loop-list-test.true

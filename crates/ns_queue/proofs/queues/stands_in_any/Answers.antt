@@ -1,6 +1,7 @@
 use Rattle.std.proofs.Common.{refl}
 use Rattle.ns_queue.proofs.Inside.{some_list, more_lists, told_yes, told_no}
-use Rattle.ns_queue.proofs.Orders.{list_small, offset_fits}
+use Rattle.ns_queue.proofs.Orders.{list_small, offset_fits, still_in}
+use borrow.Author.Count.{falls}
 use Rattle.ns_queue.proofs.queues.stands_in_any.Goals as goal
 
 pub returns-then-stands_in : goal.returns-then-stands_in
@@ -21,3 +22,12 @@ offset_bounds-lists-list-index g c = offset_fits c.loop-list.list-index _ c.loop
 
 pub bounds-lists-list-index : goal.bounds-lists-list-index
 bounds-lists-list-index g c = c.loop-list-test.true
+
+pub loop-list-init : goal.loop-list-init
+loop-list-init g c = refl
+
+pub listed : goal.listed
+listed g c = still_in c.loop-list.list-index 4 _ c.loop-list-test.true c.type_inv.lists
+
+pub loop-list-smaller : goal.loop-list-smaller
+loop-list-smaller g c = falls 4 c.loop-list.list-index c.loop-list-test.true

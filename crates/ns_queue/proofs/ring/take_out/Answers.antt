@@ -5,6 +5,7 @@ use Rattle.ns_queue.proofs.Leaving.{all_on}
 use Rattle.ns_queue.proofs.Seats.{none_without}
 use Rattle.ns_queue.specs.Sizes.{ring_fits}
 use denote.Param.{number}
+use Rattle.ns_queue.proofs.Orders.{last_in, one_down, less_within}
 use Rattle.ns_queue.proofs.ring.take_out.Goals as goal
 
 pub loop-left-preserved : goal.loop-left-preserved
@@ -21,3 +22,24 @@ holds-requires g c = ring_fits g.row.C (number g.row.N) g.met.C.Condition.has_ro
 
 pub remove-requires : goal.remove-requires
 remove-requires g c = (ring_fits g.row.C (number g.row.N) g.met.C.Condition.has_room, told_yes c.holds.result _ c.if-holds.true c.holds.ensures.stands.0)
+
+pub overflow_sub-left : goal.overflow_sub-left
+overflow_sub-left g c = c.loop-left-test.true
+
+pub bounds-seats-left : goal.bounds-seats-left
+bounds-seats-left g c = last_in c.loop-left.left _ c.loop-left-test.true c.loop-left.invariant.within
+
+pub bounds-seats-left-then-holds : goal.bounds-seats-left-then-holds
+bounds-seats-left-then-holds g c = last_in c.loop-left.left _ c.loop-left-test.true c.loop-left.invariant.within
+
+pub loop-left-smaller : goal.loop-left-smaller
+loop-left-smaller g c = one_down c.loop-left.left c.loop-left-test.true
+
+pub loop-left-smaller-then-holds : goal.loop-left-smaller-then-holds
+loop-left-smaller-then-holds g c = one_down c.loop-left.left c.loop-left-test.true
+
+pub loop-left-preserved-then-holds : goal.loop-left-preserved-then-holds
+loop-left-preserved-then-holds g c = record {
+  out = all_on c.args.seats.now c.loop-left.left c.loop-left.ring c.remove.new.self c.args.ring.now c.loop-left-test.true c.loop-left.invariant.within c.remove.ensures c.loop-left.invariant.out;
+  within = less_within c.loop-left.left _ c.loop-left.invariant.within;
+}

@@ -6,6 +6,7 @@ use Rattle.ns_queue.proofs.Places.{seated_stands, smaller}
 use Rattle.ns_queue.proofs.Reading.{look_fits, none_taken, reads_end, reads_few, reads_on, reads_start, writer_taken}
 use Rattle.ns_queue.specs.Sizes.{ring_fits, row_fits}
 use denote.Param.{number}
+use Rattle.ns_queue.proofs.Orders.{bytes_72}
 use Rattle.ns_queue.proofs.scan.choose.Goals.{then-not-is_alike, else-not-is_alike}
 use Rattle.ns_queue.proofs.scan.choose.Goals as goal
 
@@ -101,3 +102,9 @@ returns-clause-orderly g c = c.get.ensures.orderly
 
 pub look_at-seen-requires : goal.look_at-seen-requires
 look_at-seen-requires g c = row_fits g.row.C (number g.row.N) g.met.C.Condition.has_room
+
+pub new-woken-requires : goal.new-woken-requires
+new-woken-requires g c = bytes_72
+
+pub is_write-requires : goal.is_write-requires
+is_write-requires g c = tt

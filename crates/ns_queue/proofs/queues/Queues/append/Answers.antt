@@ -2,6 +2,9 @@ use Rattle.ns_queue.proofs.Appended.{next_free}
 use Rattle.ns_queue.proofs.Taken.{low_at}
 use Rattle.ns_queue.specs.Sizes.{queues_fit}
 use denote.Param.{number}
+use Rattle.ns_queue.proofs.Orders.{at_most}
+use Rattle.std.proofs.Common.{length}
+use borrow.Author.Count.{falls}
 use Rattle.ns_queue.proofs.queues.Queues.append.Goals as goal
 
 pub push_back-requires : goal.push_back-requires
@@ -15,3 +18,12 @@ push_back-requires g c = (
     ),
   ),
 )
+
+pub offset_bounds-waiters-waiter-index : goal.offset_bounds-waiters-waiter-index
+offset_bounds-waiters-waiter-index g c = at_most c.loop-waiter.waiter-index _ c.loop-waiter-test.true
+
+pub bounds-waiters-waiter-index : goal.bounds-waiters-waiter-index
+bounds-waiters-waiter-index g c = c.loop-waiter-test.true
+
+pub loop-waiter-smaller : goal.loop-waiter-smaller
+loop-waiter-smaller g c = falls (length c.args.waiters.now) c.loop-waiter.waiter-index c.loop-waiter-test.true

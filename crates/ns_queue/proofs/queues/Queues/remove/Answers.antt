@@ -4,7 +4,7 @@ use Rattle.ns_queue.specs.Prelude.{Lock, times_in}
 use Rattle.ns_queue.proofs.Inside.{lock_left, neither, shape, times_in-filter, told_no, told_yes}
 use Rattle.ns_queue.proofs.Orders.{list_small, lists_small}
 use Rattle.ns_queue.proofs.Outside.{all_below, low_of, orderly_outside}
-use Rattle.ns_queue.proofs.Parts.{lock_alone, removed_of}
+use Rattle.ns_queue.proofs.Parts.{lock_alone, removed_of, out_of_all}
 use Rattle.ns_queue.specs.Sizes.{lock_fits}
 use denote.Param.{number}
 use Rattle.ns_queue.proofs.queues.Queues.remove.Goals as goal
@@ -57,3 +57,12 @@ returns-then-remove-clause-stood g c = let here = told_yes c.remove.result _ c.i
 
 pub invariant_of-self-then-not-stands_in_any : goal.invariant_of-self-then-not-stands_in_any
 invariant_of-self-then-not-stands_in_any g c = lock_left _ _ _ c.args.seat c.self.invariant c.remove.ensures.removed
+
+pub returns-then-not-stands_in_any-clause-absent : goal.returns-then-not-stands_in_any-clause-absent
+returns-then-not-stands_in_any-clause-absent g c = rw (rw c.if-remove.false at c.remove.ensures.absent) c.self.view_is
+
+pub returns-clause-removed : goal.returns-clause-removed
+returns-clause-removed g c = rw (← c.self.view_is) (out_of_all c.self.inside.lock c.remove.new.self (map (λ v. v.items) c.self.inside.cvs) (map (λ v. v.items) c.drop_from_all.new.lists) c.args.seat c.none.result c.with.result c.none.ensures c.with.ensures c.remove.ensures.removed c.drop_from_all.ensures)
+
+pub none-requires : goal.none-requires
+none-requires g c = tt
