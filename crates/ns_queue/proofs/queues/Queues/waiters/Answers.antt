@@ -2,7 +2,7 @@ use Rattle.std.proofs.Common.{◌<◌}
 use Rattle.ns_queue.proofs.Orders.{offset_fits, list_small, number_fits}
 use Rattle.ns_queue.specs.Sizes.{lock_fits}
 use denote.Param.{number}
-use Rattle.ns_queue.proofs.Inside.{list_there, list_at}
+use Rattle.ns_queue.proofs.Inside.{list_there}
 use Rattle.ns_queue.proofs.queues.Queues.waiters.Goals as goal
 
 pub offset_bounds-self-inside-k : goal.offset_bounds-self-inside-k
@@ -26,7 +26,3 @@ waiters-requires g c = (lock_fits g.row.C (number g.row.N) g.met.C.Condition.has
 
 pub copied-requires : goal.copied-requires
 copied-requires g c = list_small _ g.met.C.Queueable.list_fits
-
-pub returns-in-Cv : goal.returns-in-Cv
-returns-in-Cv g c = let low : c.in-Cv.k < 4 = rw c.in-Cv.is at c.requires in
-    rw (c.in-Cv.is, ← c.self.view_is, list_at _ _ c.in-Cv.k c.index-self-k.result c.self.invariant low) c.copied.ensures
