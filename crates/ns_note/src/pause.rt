@@ -9,20 +9,20 @@ ghost use Rattle.std.specs.Duration.{as_nanos};
 use crossbeam_utils::Backoff;
 use std::time::Duration;
 
-/// How long the first sleep may last, in milliseconds.
-const FIRST: u64 = 1;
+/// How long the first sleep may last, in microseconds.
+const FIRST: u64 = 64;
 
-/// How long any sleep may last, in milliseconds: so late, at most, is seen what wakes nobody at that word. A sleep
-/// is twice as long as the one before, so one that has waited for a short time only looks again soon. With 16 in
-/// place of 64, sixty waiters took 1.5 to 12.6 % of a processor.
-const LONGEST: u64 = 64;
+/// How long any sleep may last, in microseconds: so late, at most, is seen what wakes nobody at that word. A sleep is
+/// an eighth longer than the one before. So who has slept for some time sees it at most an eighth of that time late,
+/// and the first sleep's length.
+const LONGEST: u64 = 64_000;
 
 /// The rounds of such a caller.
 #[derive(Drop)]
 pub struct Pause {
     backoff: Backoff,
-    /// How long the next sleep may last, in milliseconds.
-    milliseconds: u64,
+    /// How long the next sleep may last, in microseconds.
+    microseconds: u64,
 }
 
 impl Pause {
@@ -30,12 +30,12 @@ impl Pause {
     pub fn new() -> Pause {
         Pause {
             backoff: Backoff::new(),
-            milliseconds: FIRST,
+            microseconds: FIRST,
         }
     }
 
-    /// Turns for a while, or answers for how long the caller may sleep in this round: a millisecond at
-    /// first, and twice as long each further time, but never more than 64.
+    /// Turns for a while, or answers for how long the caller may sleep in this round: 64 microseconds at first,
+    /// and an eighth longer each further time, but never more than 64 milliseconds.
     pub fn next(&mut self) -> Option<Duration>
         ensures { IfSome result (λ d. as_nanos d ≤ 64_000_000) }
     {
@@ -43,8 +43,8 @@ impl Pause {
             self.backoff.snooze();
             return None;
         }
-        let longest = Duration::from_millis(self.milliseconds.min(LONGEST));
-        self.milliseconds = self.milliseconds.saturating_mul(2);
-        Some(longest)
+        let longest = self.microseconds.min(LONGEST);
+        self.microseconds = longest.saturating_add(longest / 8);
+        Some(Duration::from_micros(longest))
     }
 }

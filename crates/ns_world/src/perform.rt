@@ -108,35 +108,34 @@ fn make<C: Seated<N>, const N: usize>(
     ensures kept { IsSeat seat.old.number seat.old.walk seat.old.asking seat.old.tests seat.new }
     ensures err { OnErr result ((Commits seat.old.number act word.old queues.old) × (word.new ≡ word.old) × (row.new ≡ row.old) × (queues.new ≡ queues.old) × (flags.new ≡ flags.old) × (seat.new ≡ seat.old) × (history.new.items ≡ history.old.items)) }
 {
-    let found = match act {
-        Act::LoadWord => Found::Saw(*word),
-        Act::Acquire(aim, arrival, last) => acquire(word, row, &mut seat.held, aim, arrival, last),
-        Act::TakeQueues(taking, last) => take_queues::<C, N>(word, taking, last),
-        Act::ReturnQueues(change, last) => {
-            return_queues(word, queues, seat, history, change, last)?
+    match act {
+        Act::LoadWord => Ok(Found::Saw(*word)),
+        Act::Acquire(aim, arrival, last) => {
+            Ok(acquire(word, row, &mut seat.held, aim, arrival, last))
         }
+        Act::TakeQueues(taking, last) => Ok(take_queues::<C, N>(word, taking, last)),
+        Act::ReturnQueues(change, last) => return_queues(word, queues, seat, history, change, last),
         Act::Release(releasing, last) => {
-            release(seat.number, word, &mut seat.held, history, releasing, last)?
+            release(seat.number, word, &mut seat.held, history, releasing, last)
         }
         Act::ReleaseReturning(releasing, last) => {
-            release_returning(word, row, queues, seat, history, releasing, last)?
+            release_returning(word, row, queues, seat, history, releasing, last)
         }
         Act::WaitReturning(wait, again, last) => {
             if !word.is_same(last) {
                 return Ok(Found::Saw(*word));
             }
-            wait_returning(word, row, queues, seat, history, wait, again)?
+            wait_returning(word, row, queues, seat, history, wait, again)
         }
-        Act::LoadCell(i) => Found::Cell(row[i as usize]),
-        Act::JudgeQuiet(i) => judge(&seat.held, i),
-        Act::JudgeMet(i, cond) => judge_met(&seat.held, i, cond),
-        Act::StoreCell(i, value) => store(row, &mut seat.held, i, value),
-        Act::ArmFlag => arm_flag::<C, N>(flags, seat.number),
-        Act::PayWake => pay_wake::<C, N>(flags, &mut seat.owed),
-        Act::LoadFlag => Found::Flag(flags[seat.number as usize]),
+        Act::LoadCell(i) => Ok(Found::Cell(row[i as usize])),
+        Act::JudgeQuiet(i) => Ok(judge(&seat.held, i)),
+        Act::JudgeMet(i, cond) => Ok(judge_met(&seat.held, i, cond)),
+        Act::StoreCell(i, value) => Ok(store(row, &mut seat.held, i, value)),
+        Act::ArmFlag => Ok(arm_flag::<C, N>(flags, seat.number)),
+        Act::PayWake => Ok(pay_wake::<C, N>(flags, &mut seat.owed)),
+        Act::LoadFlag => Ok(Found::Flag(flags[seat.number as usize])),
         Act::Look(_, _) => unreachable!(),
-    };
-    Ok(found)
+    }
 }
 
 /// How many conditions the scan of a seat's call tested, after a step that found this.
