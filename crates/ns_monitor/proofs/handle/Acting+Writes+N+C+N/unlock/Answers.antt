@@ -1,5 +1,5 @@
-use Rattle.std.proofs.Common.{Some, arith, subst, sym}
-use Rattle.ns_monitor.specs.Prelude.{HasUnlocked, Writer, releasing_by}
+use Rattle.std.proofs.Common.{Some, arith, refl, subst, sym, ◌∙◌}
+use Rattle.ns_monitor.specs.Prelude.{HasUnlocked, TableId, Writer, releasing_by}
 use Rattle.ns_gate.proofs.Calls.{since_then}
 use Rattle.ns_gate.proofs.Room.{queues_fit}
 use Rattle.ns_monitor.proofs.Callers.{CameSo, came_at_once, released_so}
@@ -22,3 +22,13 @@ seated-caller-requires g c = let so = released_so g.C.Condition.means Writer c.s
 pub returns : goal.returns
 returns g c = let so = released_so g.C.Condition.means Writer c.self.inside.caller c.self.inside.monitor.now c.begin_unlock-seat.result.seat.table_id c.begin_unlock-seat.result.number c.begin_unlock-seat.result.seat.me (c.match-last.seat.table_id, c.match-last.seat.me) c.self.invariant c.begin_unlock-seat.ensures.begun (came g (goal.at.returns g c).Joined-last) in
     let over = subst (HasUnlocked g.C.Condition.means Writer c.self.inside.caller) (sym c.seated-caller.ensures) so.1 in rw (← c.self.view_is) record { grows = over.grows; mine = over.mine }
+
+pub begin_unlock-seat-requires : goal.begin_unlock-seat-requires
+begin_unlock-seat-requires g c = (omega arith, (omega (arith, g.met.C.Condition.has_cells), (omega (arith, g.met.C.Condition.has_cells), (c.self.invariant, (refl, tt)))))
+
+pub unlock_slow-seat-requires : goal.unlock_slow-seat-requires
+unlock_slow-seat-requires g c = let b = c.begin_unlock-seat.ensures in let went = rw c.in-Some.is at b.went in (omega arith, (queues_fit g.row.C g.row.N g.met.C.Condition.has_room g.C.Condition, (omega arith, (b.of, (went.0, went.1)))))
+
+pub invariant_of-result : goal.invariant_of-result
+invariant_of-result g c = let so = released_so g.C.Condition.means Writer c.self.inside.caller c.self.inside.monitor.now c.begin_unlock-seat.result.seat.table_id c.begin_unlock-seat.result.number c.begin_unlock-seat.result.seat.me (c.match-last.seat.table_id, c.match-last.seat.me) c.self.invariant c.begin_unlock-seat.ensures.begun (came g (goal.at.invariant_of-result g c).Joined-last) in
+    ◌∙◌ {A = TableId} (subst (HasUnlocked g.C.Condition.means Writer c.self.inside.caller) (sym c.seated-caller.ensures) so.1).grows.monitor c.self.invariant

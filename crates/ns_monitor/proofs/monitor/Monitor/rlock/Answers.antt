@@ -22,3 +22,9 @@ holding-requires g c = let so = locked_so g.C.Condition.means Read c.args.seat c
 pub returns : goal.returns
 returns g c = let so = locked_so g.C.Condition.means Read c.args.seat c.args.self.now c.begin_lock-seat.result.seat.table_id c.begin_lock-seat.result.number c.begin_lock-seat.result.seat.me (c.match-last.seat.table_id, c.match-last.seat.me) c.requires c.begin_lock-seat.ensures.begun (came g (goal.at.returns g c).Joined-last) in
     subst (HasLocked g.C.Condition.means (locking Read) Read c.args.seat) (sym c.holding.ensures) so.2
+
+pub begin_lock-seat-requires : goal.begin_lock-seat-requires
+begin_lock-seat-requires g c = (omega arith, (omega arith, (omega arith, c.requires)))
+
+pub lock_slow-seat-requires : goal.lock_slow-seat-requires
+lock_slow-seat-requires g c = let b = c.begin_lock-seat.ensures in let went = rw c.in-Some.is at b.went in (omega arith, (queues_fit g.row.C g.row.N g.met.C.Condition.has_room g.C.Condition, (omega arith, (b.of, (b.begun.own, (went.0, went.1))))))

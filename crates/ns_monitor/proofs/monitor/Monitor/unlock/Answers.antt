@@ -1,4 +1,4 @@
-use Rattle.std.proofs.Common.{Some, arith, subst, sym}
+use Rattle.std.proofs.Common.{Some, arith, refl, subst, sym}
 use Rattle.ns_monitor.specs.Prelude.{HasUnlocked, Writer, releasing_by}
 use Rattle.ns_gate.proofs.Calls.{since_then}
 use Rattle.ns_gate.proofs.Room.{queues_fit}
@@ -22,3 +22,9 @@ seated-requires g c = let so = released_so g.C.Condition.means Writer c.args.hel
 pub returns : goal.returns
 returns g c = let so = released_so g.C.Condition.means Writer c.args.held c.args.self.now c.begin_unlock-seat.result.seat.table_id c.begin_unlock-seat.result.number c.begin_unlock-seat.result.seat.me (c.match-last.seat.table_id, c.match-last.seat.me) c.requires c.begin_unlock-seat.ensures.begun (came g (goal.at.returns g c).Joined-last) in
     let over = subst (HasUnlocked g.C.Condition.means Writer c.args.held) (sym c.seated.ensures) so.1 in record { grows = over.grows; mine = over.mine }
+
+pub begin_unlock-seat-requires : goal.begin_unlock-seat-requires
+begin_unlock-seat-requires g c = (omega arith, (omega (arith, g.met.C.Condition.has_cells), (omega (arith, g.met.C.Condition.has_cells), (c.requires, (refl, tt)))))
+
+pub unlock_slow-seat-requires : goal.unlock_slow-seat-requires
+unlock_slow-seat-requires g c = let b = c.begin_unlock-seat.ensures in let went = rw c.in-Some.is at b.went in (omega arith, (queues_fit g.row.C g.row.N g.met.C.Condition.has_room g.C.Condition, (omega arith, (b.of, (went.0, went.1)))))

@@ -1,0 +1,15 @@
+use Rattle.std.proofs.Common.{arith, ◌∙◌}
+use Rattle.ns_monitor.specs.Prelude.{TableId}
+use Rattle.ns_monitor.proofs.handle.Acting+Writes+N+C+N.is_quiet.Goals as goal
+
+pub is_quiet-requires : goal.is_quiet-requires
+is_quiet-requires g c = (omega arith, (omega (arith, g.met.C.Condition.has_cells), (omega (arith, g.met.C.Condition.has_cells), c.self.invariant)))
+
+pub invariant_of-self : goal.invariant_of-self
+invariant_of-self g c = ◌∙◌ {A = TableId} c.is_quiet.ensures.saw.grows.monitor c.self.invariant
+
+pub returns-clause-saw : goal.returns-clause-saw
+returns-clause-saw g c = rw (← c.self.view_is) c.is_quiet.ensures.saw
+
+pub returns-clause-quiet : goal.returns-clause-quiet
+returns-clause-quiet g c = rw (← c.self.view_is) c.is_quiet.ensures.quiet

@@ -1,0 +1,15 @@
+use Rattle.std.proofs.Common.{arith, ◌∙◌}
+use Rattle.ns_monitor.specs.Prelude.{TableId}
+use Rattle.ns_monitor.proofs.handle.Acting.broadcast.Goals as goal
+
+pub broadcast-requires : goal.broadcast-requires
+broadcast-requires g c = (omega arith, (omega arith, (c.self.invariant, c.requires)))
+
+pub invariant_of-self : goal.invariant_of-self
+invariant_of-self g c = ◌∙◌ {A = TableId} c.broadcast.ensures.grows.monitor c.self.invariant
+
+pub returns-clause-grows : goal.returns-clause-grows
+returns-clause-grows g c = rw (← c.self.view_is) c.broadcast.ensures.grows
+
+pub returns-clause-woke : goal.returns-clause-woke
+returns-clause-woke g c = rw (← c.self.view_is) c.broadcast.ensures.woke
