@@ -241,9 +241,13 @@ fn run<R: AllocGlobal + Print + Clock + Threads + Wait + Sync>(
     Ok(Ended::of(is_right))
 }
 
-fn main(rt: HostRuntime) -> io::Result<ExitCode> {
-    let words: Vec<String> = env::args(&rt)?.collect(rt.alloc())?;
-    let Some(asked) = parsed(words.as_slice()) else {
+/// Runs the workload that these words ask for, prints how it ended, and answers the status that the process ends
+/// with.
+fn answer<R: AllocGlobal + Print + Clock + Threads + Wait + Sync>(
+    rt: &R,
+    words: &[String],
+) -> io::Result<ExitCode> {
+    let Some(asked) = parsed(words) else {
         eprintln!(rt; "usage: ns_bench WORKLOAD THREADS OPERATIONS")?;
         return Ok(ExitCode::from(2));
     };
@@ -252,7 +256,7 @@ fn main(rt: HostRuntime) -> io::Result<ExitCode> {
         operations: asked.operations,
     };
     let ended = match workload_of(asked.workload) {
-        Some(workload) => run(&rt, workload, amount)?,
+        Some(workload) => run(rt, workload, amount)?,
         None => Ended::Lacks,
     };
     let (word, status) = match ended {
@@ -265,4 +269,9 @@ fn main(rt: HostRuntime) -> io::Result<ExitCode> {
     };
     println!(rt; "{word} {}", asked.workload)?;
     Ok(ExitCode::from(status))
+}
+
+fn main(rt: HostRuntime) -> io::Result<ExitCode> {
+    let words: Vec<String> = env::args(&rt)?.collect(rt.alloc())?;
+    answer(&rt, words.as_slice())
 }
