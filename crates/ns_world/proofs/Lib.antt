@@ -12,6 +12,7 @@ pub mod Places
 pub mod Released
 pub mod Schedules
 pub mod Showing
+pub mod Sizes
 pub mod States
 pub mod Tells
 pub mod Turns

@@ -1,3 +1,4 @@
+use Rattle.std.proofs.lemmas.Bool.{false≢true}
 use Rattle.std.proofs.Common.{sym, ap, ◌∙◌}
 use Rattle.ns_world.specs.Prelude.{OnLock, items_of, mode_of, mode_waited, placed, wait_first, waits_for_any}
 use Rattle.ns_word.proofs.Enters.{are_some}
@@ -13,3 +14,18 @@ returns g c =
       are_some c.variables.result one.0 c.variables.ensures.byte (c.variables.ensures.among one.0 ∙ one.1) (λ j is. low_if_among items j c.requires.low (sym (c.variables.ensures.among j) ∙ is)),
       c.place.ensures ∙ ap (λ walk. placed c.args.seat.now (OnLock walk)) (c.wait.ensures.first ∙ ap (λ held. wait_first g.row.N (waits_for_any (mode_waited (mode_of held)) c.variables.result)) (sym c.in-Some.is)),
     )
+
+pub place-requires : goal.place-requires
+place-requires g c = g.met.C.Seated.seat_fits
+
+pub unreachable-requires : goal.unreachable-requires
+unreachable-requires g c = absurd (false≢true (rw c.in_default.is at c.requires.holds))
+
+pub variables-requires-clause-few : goal.variables-requires-clause-few
+variables-requires-clause-few g c = c.requires.few
+
+pub variables-requires-clause-low : goal.variables-requires-clause-low
+variables-requires-clause-low g c = c.requires.low
+
+pub wait-requires : goal.wait-requires
+wait-requires g c = c.requires.row

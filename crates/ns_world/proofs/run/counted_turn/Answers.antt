@@ -1,3 +1,5 @@
+use denote.Param.{number}
+use Rattle.ns_world.proofs.Sizes.{among_as_many, world_fits}
 use Rattle.std.proofs.Common.{rules, arith, refl, sym, ◌∷◌, [], map, subst, Vec, Global}
 use Rattle.ns_world.proofs.Below.{err_from_is_err_and}
 use Rattle.ns_world.specs.Prelude.{Call, IsCounted, Progress, progress, progressed, whole_of}
@@ -27,7 +29,7 @@ tests-requires g c =
     let before = progress (whole_of g.C.Condition.means c.args.world.now) c.args.tally.now.over c.args.tally.now.lines.items in
     let turn = c.in_ok-step.ensures.ok _ c.args.tally.now.over c.args.tally.now.lines.items refl in
     let same = seats_stay _ before c.args.seat c.in_ok-step.step (whole_of g.C.Condition.means c.next_turn.new.world) turn in
-    (search rules, omega (arith, same))
+    (world_fits g.row.C (number g.row.N) g.met.C.Condition.has_room g.C.Condition, among_as_many c.if-seat-seats.false c.seats.ensures.count same)
 
 pub returns-in_err-count-clause-err : goal.returns-in_err-count-clause-err
 returns-in_err-count-clause-err g c =
@@ -86,3 +88,30 @@ returns-in_err-count-clause-counted g c = let p = err_from_is_err_and c.from_res
 
 pub returns-in_err-count-clause-turns : goal.returns-in_err-count-clause-turns
 returns-in_err-count-clause-turns g c = let p = err_from_is_err_and c.from_residual-in_err-count.result c.from_residual-in_err-count.ensures.1 in rw p.1 tt
+
+pub seats-requires : goal.seats-requires
+seats-requires g c = world_fits g.row.C (number g.row.N) g.met.C.Condition.has_room g.C.Condition
+
+pub returns-then-seat-seats-clause-ok : goal.returns-then-seat-seats-clause-ok
+returns-then-seat-seats-clause-ok g c = tt
+
+pub returns-then-seat-seats-clause-counted : goal.returns-then-seat-seats-clause-counted
+returns-then-seat-seats-clause-counted g c = tt
+
+pub returns-then-seat-seats-clause-turns : goal.returns-then-seat-seats-clause-turns
+returns-then-seat-seats-clause-turns g c = tt
+
+pub returns-then-tally-limit-clause-ok : goal.returns-then-tally-limit-clause-ok
+returns-then-tally-limit-clause-ok g c = tt
+
+pub returns-then-tally-limit-clause-counted : goal.returns-then-tally-limit-clause-counted
+returns-then-tally-limit-clause-counted g c = tt
+
+pub returns-then-tally-limit-clause-turns : goal.returns-then-tally-limit-clause-turns
+returns-then-tally-limit-clause-turns g c = tt
+
+pub bounds-tally-seat : goal.bounds-tally-seat
+bounds-tally-seat g c = let few = c.seats.ensures.few in let below = c.if-seat-seats.false in omega (arith, few, below)
+
+pub next_turn-requires : goal.next_turn-requires
+next_turn-requires g c = (world_fits g.row.C (number g.row.N) g.met.C.Condition.has_room g.C.Condition, c.requires.lists)

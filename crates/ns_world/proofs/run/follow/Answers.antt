@@ -1,3 +1,5 @@
+use denote.Param.{number}
+use Rattle.ns_world.proofs.Sizes.{less_left, world_fits}
 use Rattle.std.proofs.Common.{arith, rules, map, Vec, Global, length, ◌≡◌}
 use Rattle.ns_world.proofs.Below.{err_from_is_err_and, take-length}
 use Rattle.ns_world.specs.Prelude.{Call, progress, whole_of}
@@ -14,7 +16,7 @@ loop-word-init g c =
     }
 
 pub schedule_word-requires : goal.schedule_word-requires
-schedule_word-requires g c = (search rules, (c.requires.lists, (c.loop-word.invariant.counted, c.loop-word.invariant.advances.within)))
+schedule_word-requires g c = (world_fits g.row.C (number g.row.N) g.met.C.Condition.has_room g.C.Condition, (c.requires.lists, (c.loop-word.invariant.counted, c.loop-word.invariant.advances.within)))
 
 pub returns-in_err-schedule_word-clause-err : goal.returns-in_err-schedule_word-clause-err
 returns-in_err-schedule_word-clause-err g c =
@@ -41,3 +43,21 @@ pub returns-clause-ok : goal.returns-clause-ok
 returns-clause-ok g c =
     let all : c.loop-word.word-index ≡ length c.args.schedule.now = omega arith in
     rw (all, take-length c.args.schedule.now) at c.loop-word.invariant.advances
+
+pub bounds-schedule-word-index : goal.bounds-schedule-word-index
+bounds-schedule-word-index g c = c.loop-word-test.true
+
+pub returns-clause-counted : goal.returns-clause-counted
+returns-clause-counted g c = c.loop-word.invariant.counted
+
+pub returns-clause-err : goal.returns-clause-err
+returns-clause-err g c = tt
+
+pub returns-in_err-schedule_word-clause-counted : goal.returns-in_err-schedule_word-clause-counted
+returns-in_err-schedule_word-clause-counted g c = let p = err_from_is_err_and c.from_residual.result c.from_residual.ensures.1 in rw p.1 tt
+
+pub returns-in_err-schedule_word-clause-ok : goal.returns-in_err-schedule_word-clause-ok
+returns-in_err-schedule_word-clause-ok g c = let p = err_from_is_err_and c.from_residual.result c.from_residual.ensures.1 in rw p.1 tt
+
+pub loop-word-smaller : goal.loop-word-smaller
+loop-word-smaller g c = less_left c.loop-word-test.true

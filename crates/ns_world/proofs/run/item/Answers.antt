@@ -1,3 +1,5 @@
+use denote.Param.{number}
+use Rattle.ns_world.proofs.Sizes.{world_fits}
 use Rattle.std.proofs.Common.{◌∷◌, [], map, Vec, Global, sym, ◌∙◌}
 use Rattle.ns_world.proofs.Below.{err_from_is_err_and}
 use Rattle.ns_world.specs.Prelude.{Call, progress, whole_of}
@@ -43,3 +45,21 @@ loop-step-preserved g c =
           c.loop-step.invariant.advances c.in_ok-step.ensures.ok (sym c.if-is_end.false ∙ c.is_end.ensures) c.in_ok-step.ensures.turns;
       counted = c.in_ok-step.ensures.counted;
     }
+
+pub counted_turn-requires : goal.counted_turn-requires
+counted_turn-requires g c = (world_fits g.row.C (number g.row.N) g.met.C.Condition.has_room g.C.Condition, (c.requires.lists, (c.loop-step.invariant.counted, c.loop-step.invariant.advances.within)))
+
+pub is_end-requires : goal.is_end-requires
+is_end-requires g c = tt
+
+pub returns-in_err-step-clause-counted : goal.returns-in_err-step-clause-counted
+returns-in_err-step-clause-counted g c = let p = err_from_is_err_and c.from_residual.result c.from_residual.ensures.1 in rw p.1 tt
+
+pub returns-in_err-step-clause-ok : goal.returns-in_err-step-clause-ok
+returns-in_err-step-clause-ok g c = let p = err_from_is_err_and c.from_residual.result c.from_residual.ensures.1 in rw p.1 tt
+
+pub returns-then-is_end-clause-counted : goal.returns-then-is_end-clause-counted
+returns-then-is_end-clause-counted g c = c.in_ok-step.ensures.counted
+
+pub returns-then-is_end-clause-err : goal.returns-then-is_end-clause-err
+returns-then-is_end-clause-err g c = tt

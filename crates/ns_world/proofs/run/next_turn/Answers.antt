@@ -1,3 +1,6 @@
+use Rattle.ns_world.proofs.Below.{err_from_is_err_and}
+use denote.Param.{number}
+use Rattle.ns_world.proofs.Sizes.{world_fits}
 use Rattle.std.proofs.Common.{rules, subst, sym, ◌∙◌}
 use Rattle.std.specs.Prelude.{IfSome}
 use Rattle.ns_world.specs.Prelude.{CallInRange, whole_of}
@@ -7,7 +10,7 @@ use Rattle.ns_world.proofs.run.next_turn.Goals as goal
 
 pub turn-requires : goal.turn-requires
 turn-requires g c =
-    (search rules, subst (λ next. IfSome next (CallInRange g.row.N)) (sym c.next_call.ensures ∙ c.in-Some.is) (next_fits g.row.N _ c.args.over (calls_fit g.row.N c.args.lists.now c.args.seat c.requires.lists)))
+    (world_fits g.row.C (number g.row.N) g.met.C.Condition.has_room g.C.Condition, subst (λ next. IfSome next (CallInRange g.row.N)) (sym c.next_call.ensures ∙ c.in-Some.is) (next_fits g.row.N _ c.args.over (calls_fit g.row.N c.args.lists.now c.args.seat c.requires.lists)))
 
 pub returns-in-Some-clause-ok : goal.returns-in-Some-clause-ok
 returns-in-Some-clause-ok g c =
@@ -25,3 +28,15 @@ returns-in-None-clause-ok g c =
 
 pub returns-in_default-clause-ok : goal.returns-in_default-clause-ok
 returns-in_default-clause-ok g c = turns_going _ (whole_of g.C.Condition.means c.args.world.now) (whole_of g.C.Condition.means c.step.new.self) c.args.seat _ c.in_default.not-Nothing c.in_ok-step.ensures.ok
+
+pub returns-in-None-clause-err : goal.returns-in-None-clause-err
+returns-in-None-clause-err g c = tt
+
+pub returns-in_default-clause-err : goal.returns-in_default-clause-err
+returns-in_default-clause-err g c = tt
+
+pub returns-in_err-step-clause-ok : goal.returns-in_err-step-clause-ok
+returns-in_err-step-clause-ok g c = let p = err_from_is_err_and c.from_residual.result c.from_residual.ensures.1 in rw p.1 tt
+
+pub step-requires : goal.step-requires
+step-requires g c = world_fits g.row.C (number g.row.N) g.met.C.Condition.has_room g.C.Condition

@@ -1,3 +1,5 @@
+use denote.Param.{number}
+use Rattle.ns_world.proofs.Sizes.{world_fits}
 use Rattle.std.proofs.Common.{rules, arith, [], map, Vec, Global, ◌≡◌}
 use Rattle.ns_world.proofs.Below.{append-nil, err_from_is_err_and}
 use Rattle.ns_world.specs.Prelude.{Call, progress, whole_of}
@@ -14,7 +16,7 @@ loop-init g c =
     }
 
 pub item-requires : goal.item-requires
-item-requires g c = (search rules, (c.requires.lists, (c.loop.invariant.counted, c.loop.invariant.advances.within)))
+item-requires g c = (world_fits g.row.C (number g.row.N) g.met.C.Condition.has_room g.C.Condition, (c.requires.lists, (c.loop.invariant.counted, c.loop.invariant.advances.within)))
 
 pub returns-in_err-item-clause-err : goal.returns-in_err-item-clause-err
 returns-in_err-item-clause-err g c =

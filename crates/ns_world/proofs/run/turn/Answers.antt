@@ -1,3 +1,5 @@
+use denote.Param.{number}
+use Rattle.ns_world.proofs.Sizes.{world_fits}
 use Rattle.ns_world.proofs.Below.{err_from_is_err_and}
 use Rattle.std.proofs.Common.{rules}
 use Rattle.ns_world.specs.Prelude.{whole_of}
@@ -24,7 +26,7 @@ returns-in-Busy-clause-ok g c =
     rw c.in-Some.is (map_ok c.step-in-Busy.result (λ step p. turns_busy (whole_of g.C.Condition.means c.args.world.now) (whole_of g.C.Condition.means c.begin.new.self) (whole_of g.C.Condition.means c.step-in-Busy.new.self) c.args.seat c.in-Some.call step busy p) c.step-in-Busy.ensures.ok)
 
 pub begin-requires : goal.begin-requires
-begin-requires g c = (search rules, rw c.in-Some.is at c.requires)
+begin-requires g c = (world_fits g.row.C (number g.row.N) g.met.C.Condition.has_room g.C.Condition, rw c.in-Some.is at c.requires)
 
 pub returns-in_err-begin-clause-ok : goal.returns-in_err-begin-clause-ok
 returns-in_err-begin-clause-ok g c = let p = err_from_is_err_and c.from_residual.result c.from_residual.ensures.1 in rw p.1 tt
@@ -33,10 +35,10 @@ pub returns-in-Misuse-clause-err : goal.returns-in-Misuse-clause-err
 returns-in-Misuse-clause-err g c = tt
 
 pub step-requires : goal.step-requires
-step-requires g c = search rules
+step-requires g c = world_fits g.row.C (number g.row.N) g.met.C.Condition.has_room g.C.Condition
 
 pub step-requires-in-Started : goal.step-requires-in-Started
-step-requires-in-Started g c = search rules
+step-requires-in-Started g c = world_fits g.row.C (number g.row.N) g.met.C.Condition.has_room g.C.Condition
 
 pub step-requires-in-Busy : goal.step-requires-in-Busy
-step-requires-in-Busy g c = search rules
+step-requires-in-Busy g c = world_fits g.row.C (number g.row.N) g.met.C.Condition.has_room g.C.Condition

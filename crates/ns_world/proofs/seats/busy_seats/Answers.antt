@@ -1,3 +1,4 @@
+use Rattle.ns_world.proofs.Sizes.{less_left}
 use Rattle.std.proofs.Common.{◌≤◌, length, sym, ◌∙◌, arith}
 use Rattle.ns_world.specs.Prelude.{is_in}
 use Rattle.ns_world.proofs.Busy.{first_all, first_with, first_without, in_call, in_call_here, in_no_call}
@@ -31,3 +32,15 @@ with-busy-requires g c = omega (arith, c.requires.few, c.loop-at-test.true)
 
 pub is_in_call-requires : goal.is_in_call-requires
 is_in_call-requires g c = g.met.C.Seated.seat_fits
+
+pub bounds-seats-at : goal.bounds-seats-at
+bounds-seats-at g c = c.loop-at-test.true
+
+pub loop-at-smaller : goal.loop-at-smaller
+loop-at-smaller g c = less_left c.loop-at-test.true
+
+pub none-busy-requires : goal.none-busy-requires
+none-busy-requires g c = tt
+
+pub offset_bounds-seats-at : goal.offset_bounds-seats-at
+offset_bounds-seats-at g c = c.loop-at.auto.at-end

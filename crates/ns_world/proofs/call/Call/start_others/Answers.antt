@@ -41,3 +41,33 @@ returns-in-Expiry g c = λ setup. rw c.in-Expiry.is (asked g.row.N setup (note_a
 pub returns-in-NoteWait : goal.returns-in-NoteWait
 returns-in-NoteWait g c = λ setup. rw c.in-NoteWait.is (asked g.row.N setup (note_at c.args.notes.now) (NoteWait c.in-NoteWait.note c.in-NoteWait.deadline) c.args.mode c.is_made-in-NoteWait.result (Ask (ClockLoad (ForNoteWait c.in-NoteWait.note c.in-NoteWait.deadline)))
     c.ask-in-NoteWait.result c.ask-in-NoteWait.ensures refl (λ e. sym c.is_made-in-NoteWait.ensures ∙ e) (λ p. c.is_made-in-NoteWait.ensures ∙ p))
+
+pub is_made-requires : goal.is_made-requires
+is_made-requires g c = tt
+
+pub is_made-requires-in-Expiry : goal.is_made-requires-in-Expiry
+is_made-requires-in-Expiry g c = tt
+
+pub is_made-requires-in-IsNotified : goal.is_made-requires-in-IsNotified
+is_made-requires-in-IsNotified g c = tt
+
+pub is_made-requires-in-NoteWait : goal.is_made-requires-in-NoteWait
+is_made-requires-in-NoteWait g c = tt
+
+pub is_made_or_none-met-requires : goal.is_made_or_none-met-requires
+is_made_or_none-met-requires g c = tt
+
+pub is_made_or_none-met-requires-in-CvWait : goal.is_made_or_none-met-requires-in-CvWait
+is_made_or_none-met-requires-in-CvWait g c = tt
+
+pub is_made_or_none-requires : goal.is_made_or_none-requires
+is_made_or_none-requires g c = tt
+
+pub start_lock-requires : goal.start_lock-requires
+start_lock-requires g c = c.requires.row
+
+pub wait-requires : goal.wait-requires
+wait-requires g c = c.requires.row
+
+pub wait-requires-in-CvWait : goal.wait-requires-in-CvWait
+wait-requires-in-CvWait g c = c.requires.row

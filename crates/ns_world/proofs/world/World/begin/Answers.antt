@@ -95,3 +95,39 @@ index-here-requires g c = rw (← c.len.ensures) c.if-at-len.false
 
 pub index_mut-requires : goal.index_mut-requires
 index_mut-requires g c = rw (← c.len.ensures) c.if-at-len.false
+
+pub returns-in-None-clause-err : goal.returns-in-None-clause-err
+returns-in-None-clause-err g c = tt
+
+pub returns-in-None-clause-lawful : goal.returns-in-None-clause-lawful
+returns-in-None-clause-lawful g c = rw (← c.self.view_is) c.self.invariant
+
+pub returns-in-Some-clause-err : goal.returns-in-Some-clause-err
+returns-in-Some-clause-err g c = tt
+
+pub returns-then-at-len-clause-lawful : goal.returns-then-at-len-clause-lawful
+returns-then-at-len-clause-lawful g c = rw (← c.self.view_is) c.self.invariant
+
+pub returns-then-at-len-clause-ok : goal.returns-then-at-len-clause-ok
+returns-then-at-len-clause-ok g c = tt
+
+pub returns-then-is_busy-clause-err : goal.returns-then-is_busy-clause-err
+returns-then-is_busy-clause-err g c = tt
+
+pub returns-then-is_busy-clause-lawful : goal.returns-then-is_busy-clause-lawful
+returns-then-is_busy-clause-lawful g c = rw (← c.self.view_is) c.self.invariant
+
+pub returns-then-is_some-clause-err : goal.returns-then-is_some-clause-err
+returns-then-is_some-clause-err g c = tt
+
+pub returns-then-is_some-clause-lawful : goal.returns-then-is_some-clause-lawful
+returns-then-is_some-clause-lawful g c = rw (← c.self.view_is) c.self.invariant
+
+pub start-requires-clause-range : goal.start-requires-clause-range
+start-requires-clause-range g c = c.requires
+
+pub start-requires-clause-row : goal.start-requires-clause-row
+start-requires-clause-row g c = g.met.C.Condition.has_cells.1
+
+pub walk-requires : goal.walk-requires
+walk-requires g c = tt

@@ -1,3 +1,4 @@
+use Rattle.ns_world.proofs.Below.{err_from_is_err_and}
 use Rattle.std.proofs.Common.{arith, refl}
 use Rattle.ns_world.proofs.Fresh.{no_flags}
 use Rattle.ns_world.proofs.Wholes.{whole_new}
@@ -19,3 +20,18 @@ new-requires g c = g.met.C.Seated.queues_fit
 
 pub new_seats-requires : goal.new_seats-requires
 new_seats-requires g c = g.met.C.Seated.seat_fits
+
+pub returns-then-seats-gt64-clause-made : goal.returns-then-seats-gt64-clause-made
+returns-then-seats-gt64-clause-made g c = c.if-seats-gt64.true
+
+pub returns-then-seats-gt64-clause-lawful : goal.returns-then-seats-gt64-clause-lawful
+returns-then-seats-gt64-clause-lawful g c = tt
+
+pub new-objects-requires : goal.new-objects-requires
+new-objects-requires g c = c.requires.counters
+
+pub returns-in_err-seats-clause-lawful : goal.returns-in_err-seats-clause-lawful
+returns-in_err-seats-clause-lawful g c = let p = err_from_is_err_and c.from_residual.result c.from_residual.ensures.1 in rw p.1 tt
+
+pub new-requires-2 : goal.new-requires-2
+new-requires-2 g c = tt

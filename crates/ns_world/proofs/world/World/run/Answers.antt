@@ -1,3 +1,5 @@
+use denote.Param.{number}
+use Rattle.ns_world.proofs.Sizes.{world_fits}
 use Rattle.std.proofs.Common.{arith, rules, refl}
 use Rattle.ns_world.proofs.Below.{err_from_is_err_and}
 use Rattle.ns_world.specs.Prelude.{progress, whole_of}
@@ -5,7 +7,7 @@ use Rattle.ns_world.proofs.Counted.{start_counted}
 use Rattle.ns_world.proofs.world.World.run.Goals as goal
 
 pub follow-requires : goal.follow-requires
-follow-requires g c = (search rules, (c.requires.lists, (rw c.new-tally.ensures.over (start_counted (whole_of g.C.Condition.means c.args.self.now) c.requires.idle), omega arith)))
+follow-requires g c = (world_fits g.row.C (number g.row.N) g.met.C.Condition.has_room g.C.Condition, (c.requires.lists, (rw c.new-tally.ensures.over (start_counted (whole_of g.C.Condition.means c.args.self.now) c.requires.idle), omega arith)))
 
 pub returns-in_err-follow : goal.returns-in_err-follow
 returns-in_err-follow g c =

@@ -1,3 +1,5 @@
+use denote.Param.{number}
+use Rattle.ns_world.proofs.Sizes.{world_fits}
 use Rattle.std.proofs.Common.{arith, map, rules, refl, ap, ◌∙◌}
 use Rattle.ns_world.specs.Prelude.{Lists, shown_of}
 use Rattle.ns_queue.proofs.Shown.{each_shown}
@@ -74,3 +76,6 @@ shown-requires-4 g c = (g.met.C.Seated.queues_fit, omega arith)
 
 pub shown-requires-5 : goal.shown-requires-5
 shown-requires-5 g c = (g.met.C.Seated.queues_fit, omega arith)
+
+pub word-requires : goal.word-requires
+word-requires g c = world_fits g.row.C (number g.row.N) g.met.C.Condition.has_room g.C.Condition

@@ -1,3 +1,5 @@
+use denote.Param.{number}
+use Rattle.ns_world.proofs.Sizes.{world_fits}
 use Rattle.std.proofs.Common.{◌≡◌, ◌*◌, ◌<◌, ◌≤◌, arith, rules, sym, ◌∙◌, inl, length, refl, subst, Some}
 use Rattle.ns_world.proofs.Below.{get_or-set_same, set-get_or}
 use Rattle.ns_world.proofs.Tells.{asked_here, few_there, idle_here, looks_not, performed_here, refused_here, waited_here}
@@ -8,7 +10,7 @@ pub returns-then-at-len-clause-err : goal.returns-then-at-len-clause-err
 returns-then-at-len-clause-err g c = let past : length c.self.inside.seats.items ≤ c.args.seat = omega arith in rw (← c.self.view_is) (refl, past_views c.self.inside.seats.items c.args.seat past)
 
 pub step_objects-requires : goal.step_objects-requires
-step_objects-requires g c = (search rules, rw (← c.self.view_is) (sym c.walk.ensures ∙ c.in-Some.is))
+step_objects-requires g c = (world_fits g.row.C (number g.row.N) g.met.C.Condition.has_room g.C.Condition, rw (← c.self.view_is) (sym c.walk.ensures ∙ c.in-Some.is))
 
 -- ---- a step on the clock and the notes
 
@@ -183,3 +185,45 @@ index_mut-requires g c = rw (← c.len.ensures) c.if-at-len.false
 
 pub index_mut-requires-2 : goal.index_mut-requires-2
 index_mut-requires-2 g c = rw (← c.len.ensures) c.if-at-len.false
+
+pub index-requires-in-Some-wait : goal.index-requires-in-Some-wait
+index-requires-in-Some-wait g c = rw (← c.len.ensures) c.if-at-len.false
+
+pub returns-in-Err-clause-ok : goal.returns-in-Err-clause-ok
+returns-in-Err-clause-ok g c = tt
+
+pub returns-in-None-clause-err : goal.returns-in-None-clause-err
+returns-in-None-clause-err g c = tt
+
+pub returns-in-Some-asking-clause-err : goal.returns-in-Some-asking-clause-err
+returns-in-Some-asking-clause-err g c = tt
+
+pub returns-in-Some-clause-err : goal.returns-in-Some-clause-err
+returns-in-Some-clause-err g c = tt
+
+pub returns-in-Some-clause-lawful : goal.returns-in-Some-clause-lawful
+returns-in-Some-clause-lawful g c = c.step_objects.ensures.lawful
+
+pub returns-in-Some-clause-ok : goal.returns-in-Some-clause-ok
+returns-in-Some-clause-ok g c = c.step_objects.ensures.ok
+
+pub returns-in-Some-wait-clause-err : goal.returns-in-Some-wait-clause-err
+returns-in-Some-wait-clause-err g c = tt
+
+pub returns-in_default-walk-clause-err : goal.returns-in_default-walk-clause-err
+returns-in_default-walk-clause-err g c = tt
+
+pub returns-in_default-walk-clause-lawful : goal.returns-in_default-walk-clause-lawful
+returns-in_default-walk-clause-lawful g c = rw (← c.self.view_is) c.self.invariant
+
+pub returns-then-at-len-clause-lawful : goal.returns-then-at-len-clause-lawful
+returns-then-at-len-clause-lawful g c = rw (← c.self.view_is) c.self.invariant
+
+pub returns-then-at-len-clause-ok : goal.returns-then-at-len-clause-ok
+returns-then-at-len-clause-ok g c = tt
+
+pub wait-requires : goal.wait-requires
+wait-requires g c = tt
+
+pub walk-requires : goal.walk-requires
+walk-requires g c = tt
