@@ -58,3 +58,7 @@ among_as_many below is same = omega (arith, below, is, same)
 -- a step of a loop leaves less to go
 pub less_left : {i n : ℕ} → i < n → n - (i + 1) < n - i
 less_left below = omega (arith, below)
+
+-- a row fits where a condition and a row have room
+pub row_fits : (C : RattleType) (N : ℕ) → HasRoom (copied 0 C) (param 1 (number N)) → N * 8 < 2 ^ 63
+row_fits C N small = omega (arith, small.1)

@@ -1,3 +1,4 @@
+use Rattle.std.specs.Prelude.{◌<◌, ◌≤◌}
 use denote.Param.{number}
 use Rattle.ns_world.proofs.Sizes.{among_as_many, world_fits}
 use Rattle.std.proofs.Common.{rules, arith, refl, sym, ◌∷◌, [], map, subst, Vec, Global}
@@ -11,12 +12,12 @@ use Rattle.ns_world.proofs.run.counted_turn.Goals as goal
 pub returns-then-seat-seats-clause-err : goal.returns-then-seat-seats-clause-err
 returns-then-seat-seats-clause-err g c = λ whole.
     stops_now _ c.args.limit (progress (whole_of g.C.Condition.means c.args.world.now) c.args.tally.now.over c.args.tally.now.lines.items) c.args.tally.now.turns (record { seat = c.args.seat; whole = whole } ∷ []) _
-    c.requires.turns (omega arith)
+    c.requires.turns (subst (λ n. n ≤ c.args.seat) c.seats.ensures.count c.if-seat-seats.true)
 
 pub returns-then-tally-limit-clause-err : goal.returns-then-tally-limit-clause-err
 returns-then-tally-limit-clause-err g c = λ whole.
     stops_now _ c.args.limit (progress (whole_of g.C.Condition.means c.args.world.now) c.args.tally.now.over c.args.tally.now.lines.items) c.args.tally.now.turns (record { seat = c.args.seat; whole = whole } ∷ []) _
-    c.requires.turns (c.if-tally-limit.true, omega arith)
+    c.requires.turns (c.if-tally-limit.true, subst (λ n. c.args.seat < n) c.seats.ensures.count c.if-seat-seats.false)
 
 pub returns-in_err-step-clause-err : goal.returns-in_err-step-clause-err
 returns-in_err-step-clause-err g c =

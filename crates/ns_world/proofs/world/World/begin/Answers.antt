@@ -14,7 +14,7 @@ some_by (Some walk) e = (walk, refl)
 some_by None e = absurd (cc)
 
 pub returns-then-at-len-clause-err : goal.returns-then-at-len-clause-err
-returns-then-at-len-clause-err g c = let past : length c.self.inside.seats.items ≤ c.args.seat = omega arith in rw (← c.self.view_is) (refl, past_views c.self.inside.seats.items c.args.seat past)
+returns-then-at-len-clause-err g c = let past : length c.self.inside.seats.items ≤ c.args.seat = subst (λ n. n ≤ c.args.seat) (c.len.ensures ∙ c.self.inside.seats.ok.0) c.if-at-len.true in rw (← c.self.view_is) (refl, past_views c.self.inside.seats.items c.args.seat past)
 
 pub returns-then-is_busy-clause-ok : goal.returns-then-is_busy-clause-ok
 returns-then-is_busy-clause-ok g c =

@@ -1,5 +1,5 @@
 use denote.Param.{number}
-use Rattle.ns_world.proofs.Sizes.{world_fits}
+use Rattle.ns_world.proofs.Sizes.{row_fits, world_fits}
 use Rattle.std.proofs.Common.{◌≡◌, ◌*◌, ◌<◌, ◌≤◌, arith, rules, sym, ◌∙◌, inl, length, refl, subst, Some}
 use Rattle.ns_world.proofs.Below.{get_or-set_same, set-get_or}
 use Rattle.ns_world.proofs.Tells.{asked_here, few_there, idle_here, looks_not, performed_here, refused_here, waited_here}
@@ -7,7 +7,7 @@ use Rattle.ns_world.proofs.Worlds.{act_here, ask_here, asks_for, below_64, past_
 use Rattle.ns_world.proofs.world.World.step.Goals as goal
 
 pub returns-then-at-len-clause-err : goal.returns-then-at-len-clause-err
-returns-then-at-len-clause-err g c = let past : length c.self.inside.seats.items ≤ c.args.seat = omega arith in rw (← c.self.view_is) (refl, past_views c.self.inside.seats.items c.args.seat past)
+returns-then-at-len-clause-err g c = let past : length c.self.inside.seats.items ≤ c.args.seat = subst (λ n. n ≤ c.args.seat) (c.len.ensures ∙ c.self.inside.seats.ok.0) c.if-at-len.true in rw (← c.self.view_is) (refl, past_views c.self.inside.seats.items c.args.seat past)
 
 pub step_objects-requires : goal.step_objects-requires
 step_objects-requires g c = (world_fits g.row.C (number g.row.N) g.met.C.Condition.has_room g.C.Condition, rw (← c.self.view_is) (sym c.walk.ensures ∙ c.in-Some.is))
@@ -70,7 +70,7 @@ returns-in_default-walk-clause-ok g c =
 
 pub perform-requires : goal.perform-requires
 perform-requires g c =
-    let few : g.row.N * 8 < 9223372036854775808 = omega (arith, g.met.C.Condition.has_room.1) in
+    let few = row_fits g.row.C g.row.N g.met.C.Condition.has_room in
     let seat = c.index_mut-2.result.now in
     let within : c.args.seat < length c.self.inside.seats.items = subst (λ n. c.args.seat < n) (c.len.ensures ∙ c.self.inside.seats.ok.0) c.if-at-len.false in
     let same = same_element c.self.inside.seats.items c.args.seat c.index-2.result.now seat within c.index-2.ensures c.index_mut-2.ensures.value in
