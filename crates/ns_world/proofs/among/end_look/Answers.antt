@@ -15,3 +15,6 @@ stand-requires g c = c.requires.seat
 
 pub unreachable-requires : goal.unreachable-requires
 unreachable-requires g c = absurd (false≢true (rw c.in_default.is at c.requires.walks))
+
+pub returns : goal.returns
+returns g c = λ walk. (c.in-Some.place, c.in-Some.is, rw (← c.shown_by-shown.ensures, ← c.cause_of.ensures) c.see.ensures, rw (← c.shown_by-shown.ensures) c.stand.ensures)

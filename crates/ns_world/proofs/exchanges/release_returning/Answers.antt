@@ -16,7 +16,7 @@ pub returns-in_err-commit-clause-err : goal.returns-in_err-commit-clause-err
 returns-in_err-commit-clause-err g c =
     let p = err_from_is_err_and c.from_residual.result c.from_residual.ensures.1 in
     let err = c.in_err-commit.ensures.err in
-    rw p.1 (sym (c.if-not-is_same.ensures.same refl), refl, refl, rw err.0 refl, err.1)
+    rw p.1 (sym (c.if-not-is_same.ensures.same refl), refl, refl, rw err.0 (refl {a = c.args.seat.now}), err.1)
 
 pub returns-clause-ok : goal.returns-clause-ok
 returns-clause-ok g c = λ flags.

@@ -1,6 +1,6 @@
 use Rattle.ns_world.proofs.Sizes.{row_fits}
 use Rattle.ns_world.proofs.Below.{append-nil}
-use Rattle.std.proofs.Common.{arith, [], refl, sym}
+use Rattle.std.proofs.Common.{[], refl, sym}
 use Rattle.ns_world.proofs.Waited.{can_in_range, fits_there, on_err, on_ok, wait_missed}
 use Rattle.ns_world.proofs.perform.make.Goals as goal
 

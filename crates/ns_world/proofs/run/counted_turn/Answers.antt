@@ -1,7 +1,7 @@
 use Rattle.std.specs.Prelude.{◌<◌, ◌≤◌}
 use denote.Param.{number}
 use Rattle.ns_world.proofs.Sizes.{among_as_many, world_fits}
-use Rattle.std.proofs.Common.{rules, arith, refl, sym, ◌∷◌, [], map, subst, Vec, Global}
+use Rattle.std.proofs.Common.{arith, refl, sym, ◌∷◌, [], map, subst, Vec, Global}
 use Rattle.ns_world.proofs.Below.{err_from_is_err_and}
 use Rattle.ns_world.specs.Prelude.{Call, IsCounted, Progress, progress, progressed, whole_of}
 use Rattle.ns_world.proofs.Schedules.{stops_now, turn_stops, untold_stops}

@@ -1,7 +1,7 @@
 use Rattle.ns_world.proofs.Below.{err_from_is_err_and}
 use denote.Param.{number}
 use Rattle.ns_world.proofs.Sizes.{world_fits}
-use Rattle.std.proofs.Common.{rules, subst, sym, ◌∙◌}
+use Rattle.std.proofs.Common.{subst, sym, ◌∙◌}
 use Rattle.std.specs.Prelude.{IfSome}
 use Rattle.ns_world.specs.Prelude.{CallInRange, whole_of}
 use Rattle.ns_world.proofs.Counted.{calls_fit, next_fits}

@@ -1,4 +1,4 @@
-use Rattle.std.proofs.Common.{◌≡◌, ◌<◌, ◌≤◌, arith, sym, ◌∙◌, ap, inl, inr, length, refl, subst, Option, Some, None, is_some, true, false}
+use Rattle.std.proofs.Common.{◌≡◌, ◌<◌, ◌≤◌, sym, ◌∙◌, ap, inl, inr, length, refl, subst, Option, Some, None, is_some, true, false}
 use Rattle.ns_world.specs.Prelude.{walk_in}
 use Rattle.ns_world.proofs.Placed.{busy_here, idle_walk, idle_ask}
 use Rattle.ns_world.proofs.Tells.{begins_here, misused_here}

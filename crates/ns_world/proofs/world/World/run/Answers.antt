@@ -1,6 +1,6 @@
 use denote.Param.{number}
 use Rattle.ns_world.proofs.Sizes.{world_fits}
-use Rattle.std.proofs.Common.{arith, rules, refl}
+use Rattle.std.proofs.Common.{arith, refl}
 use Rattle.ns_world.proofs.Below.{err_from_is_err_and}
 use Rattle.ns_world.specs.Prelude.{progress, whole_of}
 use Rattle.ns_world.proofs.Counted.{start_counted}

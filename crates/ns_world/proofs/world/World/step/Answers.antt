@@ -1,6 +1,6 @@
 use denote.Param.{number}
 use Rattle.ns_world.proofs.Sizes.{row_fits, world_fits}
-use Rattle.std.proofs.Common.{◌≡◌, ◌*◌, ◌<◌, ◌≤◌, arith, rules, sym, ◌∙◌, inl, length, refl, subst, Some}
+use Rattle.std.proofs.Common.{◌≡◌, ◌<◌, ◌≤◌, sym, ◌∙◌, inl, length, refl, subst, Some}
 use Rattle.ns_world.proofs.Below.{get_or-set_same, set-get_or}
 use Rattle.ns_world.proofs.Tells.{asked_here, few_there, idle_here, looks_not, performed_here, refused_here, waited_here}
 use Rattle.ns_world.proofs.Worlds.{act_here, ask_here, asks_for, below_64, past_views, same_element}
