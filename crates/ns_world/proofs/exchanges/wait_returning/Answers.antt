@@ -12,7 +12,7 @@ pub returns-in_err-leave_section-clause-err : goal.returns-in_err-leave_section-
 returns-in_err-leave_section-clause-err g c =
     let p = err_from_is_err_and c.from_residual.result c.from_residual.ensures.1 in
     let err = c.in_err-leave_section.ensures.err in
-    rw p.1 (err.0, refl, refl, rw err.1 refl, err.2)
+    rw p.1 (err.0, refl, refl, rw err.1 (refl {a = c.args.seat.now}), err.2)
 
 pub returns-clause-ok : goal.returns-clause-ok
 returns-clause-ok g c = λ flags.
