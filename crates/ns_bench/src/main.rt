@@ -243,7 +243,7 @@ fn run<R: AllocGlobal + Print + Clock + Threads + Wait + Sync>(
 
 /// Runs the workload that these words ask for, prints how it ended, and answers the status that the process ends
 /// with.
-fn answer<R: AllocGlobal + Print + Clock + Threads + Wait + Sync>(
+fn answer<R: AllocGlobal + Print + Eprint + Clock + Threads + Wait + Sync>(
     rt: &R,
     words: &[String],
 ) -> io::Result<ExitCode> {
