@@ -16,9 +16,6 @@ returns-else-stands-clause-ok g c = leaves_none {C = g.row.C.Denot} {N = g.row.N
 pub leaving-requires : goal.leaving-requires
 leaving-requires g c = g.met.C.Fits.event_fits
 
-pub stands_at_variables-stands-requires : goal.stands_at_variables-stands-requires
-stands_at_variables-stands-requires g c = g.met.C.Seated.queues_fit
-
 pub returns-in_ok-push-clause-err : goal.returns-in_ok-push-clause-err
 returns-in_ok-push-clause-err g c = tt
 

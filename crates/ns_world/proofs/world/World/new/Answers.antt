@@ -9,32 +9,22 @@ use Rattle.ns_world.proofs.world.World.new.Goals as goal
 at_most : {n : ℕ} → n < 2 ^ 32 → n ≤ 4294967295
 at_most few = omega (arith, few)
 
--- a number of seats fits a byte
-byte : {n : ℕ} → n ≤ 64 → n < 2 ^ 8
-byte few = omega (arith, few)
-
 pub invariant_of-result : goal.invariant_of-result
 invariant_of-result g c = rw (c.in_ok-seats.ensures.views, c.in_ok-seats.ensures.tests, c.in_ok-seats.ensures.asking, c.new.ensures, c.new-2.ensures, c.new-3.ensures.items, no_flags, c.new-objects.ensures) (whole_new g.row.C.Denot g.row.N g.C.Condition.means c.args.seats
-    c.args.counters.now c.args.onces c.if-seats-gt64.false c.requires.counters c.requires.onces (λ k. at_most (c.type_inv.counters k).fits))
+    c.args.counters.now c.args.onces (omega arith) c.requires.counters c.requires.onces (λ k. at_most (c.type_inv.counters k).fits))
 
 pub returns-clause-made : goal.returns-clause-made
-returns-clause-made g c = (rw (c.in_ok-seats.ensures.views, c.in_ok-seats.ensures.tests, c.in_ok-seats.ensures.asking, c.new.ensures, c.new-2.ensures, c.new-3.ensures.items, no_flags, c.new-objects.ensures) refl, c.if-seats-gt64.false)
+returns-clause-made g c = (rw (c.in_ok-seats.ensures.views, c.in_ok-seats.ensures.tests, c.in_ok-seats.ensures.asking, c.new.ensures, c.new-2.ensures, c.new-3.ensures.items, no_flags, c.new-objects.ensures) refl, omega arith)
 
 pub returns-clause-lawful : goal.returns-clause-lawful
 returns-clause-lawful g c = rw (c.in_ok-seats.ensures.views, c.in_ok-seats.ensures.tests, c.in_ok-seats.ensures.asking, c.new.ensures, c.new-2.ensures, c.new-3.ensures.items, no_flags, c.new-objects.ensures) (whole_new g.row.C.Denot g.row.N g.C.Condition.means c.args.seats
-    c.args.counters.now c.args.onces c.if-seats-gt64.false c.requires.counters c.requires.onces (λ k. at_most (c.type_inv.counters k).fits))
+    c.args.counters.now c.args.onces (omega arith) c.requires.counters c.requires.onces (λ k. at_most (c.type_inv.counters k).fits))
 
 pub new-requires : goal.new-requires
 new-requires g c = g.met.C.Seated.queues_fit
 
 pub new_seats-requires : goal.new_seats-requires
 new_seats-requires g c = g.met.C.Seated.seat_fits
-
-pub returns-then-seats-gt64-clause-made : goal.returns-then-seats-gt64-clause-made
-returns-then-seats-gt64-clause-made g c = c.if-seats-gt64.true
-
-pub returns-then-seats-gt64-clause-lawful : goal.returns-then-seats-gt64-clause-lawful
-returns-then-seats-gt64-clause-lawful g c = tt
 
 pub new-objects-requires : goal.new-objects-requires
 new-objects-requires g c = c.requires.counters
@@ -46,10 +36,10 @@ pub new-requires-2 : goal.new-requires-2
 new-requires-2 g c = tt
 
 pub overflow_cast-seats : goal.overflow_cast-seats
-overflow_cast-seats g c = record { fits = byte c.if-seats-gt64.false }
+overflow_cast-seats g c = record { fits = omega arith }
 
 pub overflow_cast-seats-2 : goal.overflow_cast-seats-2
-overflow_cast-seats-2 g c = record { fits = byte c.if-seats-gt64.false }
+overflow_cast-seats-2 g c = record { fits = omega arith }
 
 pub returns-in_err-seats-clause-made : goal.returns-in_err-seats-clause-made
-returns-in_err-seats-clause-made g c = let p = err_from_is_err_and c.from_residual.result c.from_residual.ensures.1 in rw (p.1, p.2) c.if-seats-gt64.false
+returns-in_err-seats-clause-made g c = let p = err_from_is_err_and c.from_residual.result c.from_residual.ensures.1 in rw (p.1, p.2) (omega arith)

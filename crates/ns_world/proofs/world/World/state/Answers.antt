@@ -1,4 +1,3 @@
-use Rattle.std.specs.Prelude.{◌<◌}
 use denote.Param.{number}
 use Rattle.ns_world.proofs.Sizes.{world_fits}
 use Rattle.std.proofs.Common.{arith, map, rules, refl, ap, ◌∙◌}
@@ -7,19 +6,6 @@ use Rattle.ns_queue.proofs.Shown.{each_shown}
 use Rattle.ns_world.proofs.States.{listed, number_below, nowhere, few_seats, wakes_few}
 use Rattle.ns_world.proofs.Tells.{seat_within}
 use Rattle.ns_world.proofs.world.World.state.Goals as goal
-
--- each of the four variables is one
-variable_0 : 0 < 4
-variable_0 = omega arith
-
-variable_1 : 1 < 4
-variable_1 = omega arith
-
-variable_2 : 2 < 4
-variable_2 = omega arith
-
-variable_3 : 3 < 4
-variable_3 = omega arith
 
 pub shown_queues-queues-requires : goal.shown_queues-queues-requires
 shown_queues-queues-requires g c = (
@@ -80,16 +66,16 @@ pub shown-requires : goal.shown-requires
 shown-requires g c = (g.met.C.Seated.queues_fit, tt)
 
 pub shown-requires-2 : goal.shown-requires-2
-shown-requires-2 g c = (g.met.C.Seated.queues_fit, variable_0)
+shown-requires-2 g c = (g.met.C.Seated.queues_fit, omega arith)
 
 pub shown-requires-3 : goal.shown-requires-3
-shown-requires-3 g c = (g.met.C.Seated.queues_fit, variable_1)
+shown-requires-3 g c = (g.met.C.Seated.queues_fit, omega arith)
 
 pub shown-requires-4 : goal.shown-requires-4
-shown-requires-4 g c = (g.met.C.Seated.queues_fit, variable_2)
+shown-requires-4 g c = (g.met.C.Seated.queues_fit, omega arith)
 
 pub shown-requires-5 : goal.shown-requires-5
-shown-requires-5 g c = (g.met.C.Seated.queues_fit, variable_3)
+shown-requires-5 g c = (g.met.C.Seated.queues_fit, omega arith)
 
 pub word-requires : goal.word-requires
 word-requires g c = world_fits g.row.C (number g.row.N) g.met.C.Condition.has_room g.C.Condition
