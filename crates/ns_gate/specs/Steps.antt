@@ -2,7 +2,7 @@
 use Rattle.std.specs.Prelude.{◌≡◌, ◌⊎◌, ℕ, ◌+◌, ◌≤◌, ◌++◌, Bool, true, List, [], ◌∷◌, Option, None, Some, Result, Ok, Err, slice_index}
 use Rattle.ns_gate.specs.Names.{Acquire, Act, ArmFlag, BeginsWith, Bits, CallGoes, Cause, Changed, Course, Event, Found, IsFirst, IsLawful, IsLook, IsOne, IsTold, JudgeMet, JudgeQuiet, Left, Lists, LoadCell, LoadFlag, LoadWord, LockState, Looked, Made, Me, Owed, PayWake, PlaceFits, Release}
 use Rattle.ns_gate.specs.Names.{ReleaseReturning, Released, ReturnQueues, Returning, Saw, Scanned, SeatStep, SeatView, StoreCell, TakeQueues, Truths, ViewFits, WaitReturning, Waited, Walk, Woke, Word, asked_of, bits_of, calls_of, change_found, changed, content_at, course_after, course_from}
-use Rattle.ns_gate.specs.Names.{found_of, got_of, has_queues, has_some, left_of, meets_at, mode_for, moves, releasing_of, rest, row_after, row_in, scanned, standing_after, the_or, told_after, waited_in, walk_after, want_of, with_lock, woken_of, word_acquired, word_released}
+use Rattle.ns_gate.specs.Names.{found_of, got_of, has_queues, has_some, left_of, meets_at, mode_for, moves, releasing_of, rest, row_after, row_in, scanned, standing_after, the_or, times, told_after, waited_in, walk_after, want_of, with_lock, woken_of, word_acquired, word_released}
 use Rattle.ns_gate.specs.Names.{word_released_returning, word_returned, word_taken}
 use Rattle.ns_gate.specs.Law.{GateView, fresh_seat}
 
@@ -72,6 +72,10 @@ Carries lists me = me.1 ≡ (0, lists) ∷ []
 -- the lists in hand are as they stood at home
 abbrev pub HasUnchangedQueues : {C : Type 0} {N : ℕ} → Me (Lists C) (List (GateView C N)) → Type 0
 HasUnchangedQueues me = Carries (the me.0).stood me
+
+-- it has lists in hand, and the seat of this number stands in none of them
+abbrev pub StandsNowhere : {C : Type 0} {N : ℕ} → ℕ → Me (Lists C) (List (GateView C N)) → Type 0
+StandsNowhere {C} number me = (lists : Lists C) × Carries lists me × (times number lists ≡ 0)
 
 -- the next wake that is owed
 abbrev pub next_owed : List Owed → Owed

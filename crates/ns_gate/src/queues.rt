@@ -6,7 +6,7 @@
 //! home (`Carries`), so the rule needs nothing more.
 
 ghost use Rattle.std.specs.Prelude.{◌≡◌, ◌<◌, ⊤, map, IfErr, IfOk, None};
-ghost use Rattle.ns_gate.specs.Prelude.{stands_at, times, woken_of, tests_of, seats_of, IsPackable, row_in, bits_of, IsInRange, changed, meets_at, waited_in, CanStep, Carries, HasUnchangedQueues, Performed, act_returning, found_returned, lists_returned, lists_scanned, scanned_writer, some_returned, sought_at, the, tried, tried_for, word_returning};
+ghost use Rattle.ns_gate.specs.Prelude.{stands_at, times, woken_of, tests_of, seats_of, IsPackable, row_in, bits_of, IsInRange, changed, meets_at, waits_at, CanStep, Carries, HasUnchangedQueues, StandsNowhere, Performed, act_returning, found_returned, lists_returned, lists_scanned, scanned_writer, some_returned, sought_at, the, tried, tried_for, word_returning};
 
 use crate::gate::{Gate, GateSeat};
 use ns_model::condition::Condition;
@@ -15,7 +15,7 @@ use ns_queue::queues::Queues;
 use ns_queue::room::Queueable;
 use ns_queue::scan::{Foremost, Scan, Sought};
 use ns_word::act::{Act, Change};
-use ns_word::hand::{bits, leave_self, queue_self, scan_and_queue};
+use ns_word::hand::{bits, enter, leave_self, queue_self};
 use ns_word::number::LockWord;
 use ns_word::owed::{Owed, called_one};
 use ns_word::wait::{Home, Wait};
@@ -227,34 +227,28 @@ impl<C: Condition<N>, const N: usize> Gate<C, N> {
         (scan, bits(queues))
     }
 
-    /// Takes out of the lock list in hand those whom a scan at this row wakes, and then puts a wait of the
-    /// seat of this number into its list, or into those of all its variables. Tells whom it took, and what
-    /// the lock list holds then.
+    /// Puts a wait of the seat of this number into its list, or into those of all its variables, with the lists
+    /// in hand as they are. Tells what the lock list holds then.
     ///
-    /// Needs a seat of this gate, which has the queues in hand as they stood; a wait for variables that there
-    /// are, at least one, if it is for any; and a number below 64, whose seat stands in no list.
-    pub fn scan_and_queue_in_hand(
+    /// Needs a seat of this gate, which has the queues in hand; a wait for variables that there are, at least
+    /// one, if it is for any; and a number below 64, whose seat stands in none of the lists in hand.
+    pub fn enter_in_hand(
         &self,
         seat: &mut GateSeat<C, N>,
-        row: &[u64; N],
         number: u8,
         wait: Wait<C>,
         again: bool,
-    ) -> (Scan, Bits)
+    ) -> Bits
         requires of { seat.old.table_id ≡ self.now }
-        requires has { HasUnchangedQueues seat.old.me }
+        requires has { StandsNowhere number seat.old.me }
         requires list { IsInRange wait.on }
         requires below { number < 64 }
-        requires free { times number (the seat.old.me.0).stood ≡ 0 }
         ensures seat { (seat.new.table_id ≡ seat.old.table_id) × (seat.new.me.0 ≡ seat.old.me.0) }
-        ensures woken { result.0.woken.items ≡ seats_of (woken_of (meets_at C.means row.now) (the seat.old.me.0).stood.lock) }
-        ensures vias { result.0.vias.items ≡ map (λ w. w.via) (woken_of (meets_at C.means row.now) (the seat.old.me.0).stood.lock) }
-        ensures tests { result.0.tests ≡ tests_of C.means.same (meets_at C.means row.now) (the seat.old.me.0).stood.lock }
-        ensures lists { Carries (waited_in C.means number wait again row.now (the seat.old.me.0).stood) seat.new.me }
-        ensures bits { result.1 ≡ bits_of (waited_in C.means number wait again row.now (the seat.old.me.0).stood).lock }
+        ensures lists { (lists : _) → Carries lists seat.old.me → Carries (waits_at wait.on number wait.mode again lists) seat.new.me }
+        ensures bits { (lists : _) → Carries lists seat.old.me → result ≡ bits_of (waits_at wait.on number wait.mode again lists).lock }
     {
         let queues = seat.slot_mut(&self.table.shared, 0);
-        let scan = scan_and_queue(queues, row, number, wait, again);
-        (scan, bits(queues))
+        enter(queues, wait.on, number, wait.mode, again);
+        bits(queues)
     }
 }

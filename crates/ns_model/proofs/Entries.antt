@@ -1,7 +1,6 @@
 -- Which entries fit no phase but that of their wait, and what the tests of modes and answers tell.
 use Rattle.std.specs.Prelude.{◌≡◌, ℕ, Bool, true, List}
-use Rattle.std.specs.Bool.{beq}
-use Rattle.std.proofs.Common.{refl, false}
+use Rattle.std.proofs.Common.{refl}
 use Rattle.ns_model.specs.Sections.{EntryFits, is_met}
 use Rattle.ns_model.specs.declared.event.Answer.{Answer}
 use Rattle.ns_model.specs.declared.event.Answer.TheVariants.{Met, TimedOut, Canceled}
@@ -57,16 +56,3 @@ pub met_told : (answer : Answer) → sameb answers answer Met ≡ is_met answer
 met_told Met = refl
 met_told TimedOut = refl
 met_told Canceled = refl
-
--- the test of two truths
-pub beq_same : (a b : Bool) → beq a b ≡ true → a ≡ b
-beq_same true true e = refl
-beq_same true false e = absurd cc
-beq_same false true e = absurd cc
-beq_same false false e = refl
-
-pub beq_told : (a b : Bool) → a ≡ b → beq a b ≡ true
-beq_told true true e = refl
-beq_told true false e = absurd cc
-beq_told false true e = absurd cc
-beq_told false false e = refl

@@ -2,16 +2,10 @@
 use Rattle.std.specs.Prelude.{◌<◌, ◌^◌}
 use Rattle.std.proofs.Common.{arith}
 use Rattle.std.specs.Mem.{FitsInMemory}
-use Rattle.ns_model.specs.Room.{HasRoom, room, room_enough}
+use Rattle.ns_model.specs.Room.{HasRoom, room, small_by}
 use Rattle.ns_model.specs.contracts.event.Event.{the_row as event_row}
-use prog.Memory.{size}
-use mir.Syntax.{Ty}
 use denote.RattleType.{RattleType}
 use denote.Param.{layout, copied, param}
-
--- what takes little by the bound is small; of any type, so that no size is worked out
-small_by : (τ : Ty) → room τ < 2 ^ 63 → size τ < 2 ^ 63
-small_by τ few = let most = room_enough τ in omega (arith, most, few)
 
 -- it fits where a condition and a row have room
 pub events_fit : (C N : RattleType) → HasRoom (copied 0 C) (param 1 N) → FitsInMemory (event_row (copied 0 C) (param 1 N))

@@ -75,3 +75,7 @@ mutual
   alignss_most : (τss : Tyss) → alignss τss ≤ 1 + roomss τss
   alignss_most ttnil = omega arith
   alignss_most (ttcons τs τss) = omega (arith, alignss_most τss, aligns_most τs)
+
+-- what takes little by the bound is small; of any type, so that no size is worked out
+pub small_by : (τ : Ty) → room τ < 2 ^ 63 → size τ < 2 ^ 63
+small_by τ few = let most = room_enough τ in omega (arith, most, few)

@@ -1,8 +1,11 @@
 -- A scan of the lock list with the queues in hand, by a release or by a wait: what it takes and leaves.
-use Rattle.std.proofs.Common.{◌≡◌, ℕ, ◌==◌, inl, inr, Bool, true, false, not, ◌&&◌, ◌||◌, cond, subst, List, [], ◌∷◌, length, filter, map, Option, None, Some, Ok, Err, is_some, refl, ap, sym, ◌∙◌, ne_eqb, arith}
+use Rattle.std.proofs.Common.{◌≡◌, ℕ, ◌==◌, ◌<◌, inl, inr, Bool, true, false, not, ◌&&◌, ◌||◌, cond, subst, List, [], ◌∷◌, length, filter, map, Option, None, Some, Ok, Err, is_some, refl, ap, sym, ◌∙◌, ne_eqb, arith}
 use Rattle.std.proofs.lemmas.Bool.{cases_Bool}
 use Rattle.std.specs.List.{list_any}
-use Rattle.ns_monitor.specs.Prelude.{Bits, Carries, Changed, GateView, HasInHand, HasRow, HasUnchangedQueues, IsReady, Lists, OnCondition, OnVariables, Owed, Released, Releasing, Returning, ScansAs, SeatOf, Sought, Subject, Truths, Turned, Waited, Waiter, Walk, Word, begins_with_reader, bits_of}
+use Rattle.ns_word.specs.declared.request.Request.TheVariants.{Release}
+use Rattle.ns_word.proofs.Hands.{free_scanned}
+use Rattle.ns_monitor.specs.Prelude.{Await, HasReached, IsAtPlace, IsInRange, MayEnter, MayScan, OwesTheWoken, Paid, Pays, PutsBack, Scanning, ToRelease, ToWait, asked_of, entered, found_back, got_of, pay_releasing, pay_waiting, paying_at, returning_at, returning_for, returning_of, scanned_at, times}
+use Rattle.ns_monitor.specs.Prelude.{Bits, Carries, Changed, GateView, HasInHand, HasRow, HasUnchangedQueues, IsReady, Lists, OnCondition, OnVariables, Owed, Released, Returning, ScansAs, SeatOf, Sought, Subject, Truths, Turned, Waited, Waiter, Walk, Word, begins_with_reader, bits_of}
 use Rattle.ns_monitor.specs.Prelude.{called_by, called_of, has_condition, has_queues, has_some, is_eligible, is_satisfied, lacks_row, left_of, lists_returned, lists_scanned, meets_at, reads, row_in, scanned_writer, seats_of, some_returned, the, waits_at, wake_told, with_lock, woken_of, writes}
 use Rattle.ns_gate.proofs.Calls.{works}
 use Rattle.ns_word.proofs.Scans.{are_called}
@@ -77,6 +80,30 @@ turned_few : (b : Bool) (sought : Sought) (made : Option Owed × Turned) (wake :
 turned_few true sought made wake turned e = absurd (cc)
 turned_few false sought made wake turned e = let same : made ≡ (wake, turned) = cc in (refl, ap (λ p. p.0) same, ap (λ p. p.1) same)
 
+-- where a scan at this row takes a writer alone, or nobody, this is what it has made of the queues in hand
+pub turned_writer : {C : Type 0} (truths : Truths C) (row : List ℕ) (wake : Option Owed) (turned : Turned) (stood : Lists C) → scanned_writer truths row stood ≡ Ok (wake, turned) →
+    (turned.some ≡ has_some (woken_of (meets_at truths row) stood.lock)) × (turned.bits ≡ bits_of (lists_scanned truths row stood).lock)
+turned_writer truths row wake turned stood told =
+    let few = turned_few (begins_with_reader (woken_of (meets_at truths row) stood.lock)) _ _ wake turned told in
+    (sym (ap (λ (t : Turned). t.some) few.2), sym (ap (λ (t : Turned). t.bits) few.2))
+
+-- ---- a release, or a wait that leaves its section
+
+module _ {C : Type 0} where
+  pub scans_in_hand : (scanning : Scanning C) (last : Word) → has_queues (Some (scanned_at scanning last)) ≡ true
+  scans_in_hand (ToRelease releasing) last = refl
+  scans_in_hand (ToWait number wait again) last = refl
+
+  -- it puts the queues back, and what for
+  puts_for : (scanning : Scanning C) (last : Word) → PutsBack (scanned_at scanning last) × (returning_for scanning ≡ returning_of (scanned_at scanning last)) × (returning_at (scanned_at scanning last) last ≡ scanned_at scanning last)
+  puts_for (ToRelease releasing) last = (tt, refl, refl)
+  puts_for (ToWait number wait again) last = (tt, refl, refl)
+
+  -- and then pays wakes
+  pays_for : (N : ℕ) (scanning : Scanning C) → Pays N (paying_at scanning)
+  pays_for N (ToRelease releasing) = record { pays = refl; free = refl; more = refl }
+  pays_for N (ToWait number wait again) = record { pays = refl; free = refl; more = refl }
+
 -- ---- in a call
 
 -- what a scan at one row leaves in hand is what one at the other does
@@ -88,10 +115,10 @@ same_hand truths (Waited wait again) seat last row held stood scans = (ap (λ lo
 
 module _ {C : Type 0} {N : ℕ} (truths : Truths C) where
   -- what a scan at this row has made of the queues in hand is what is put back
-  pub hand_scanned : (returning : Returning C) (walk : Walk C) (row : List ℕ) (number : ℕ) (some : Bool) (bits : Bits) (me now : SeatOf C N) → IsReady truths walk row me → number ≡ (the me.0).at.seat → now.0 ≡ me.0
+  hand_at : (returning : Returning C) (walk : Walk C) (row : List ℕ) (number : ℕ) (some : Bool) (bits : Bits) (me now : SeatOf C N) → IsReady truths walk row me → number ≡ (the me.0).at.seat → now.0 ≡ me.0
       → ((last : Word) → Carries (lists_returned truths number returning last row (the me.0).stood) now) → ((last : Word) → some ≡ some_returned truths returning last row (the me.0).stood) → ((last : Word) → bits ≡ bits_of (lists_returned truths number returning last row (the me.0).stood).lock)
       → HasInHand truths returning (record { some = some; bits = bits }) now
-  hand_scanned returning walk row number some bits me now ready is same carries took tells = record {
+  hand_at returning walk row number some bits me now ready is same carries took tells = record {
     carries = λ last. carries last ∙ ap (λ lists. (0, lists) ∷ []) (left last);
     some = λ last. took last ∙ ((same_hand truths returning number last row (row_in (the me.0).at.held) (the me.0).stood ready.scans).1 ∙ (λ i. some_returned truths returning last (row_in (the (sym same i)).at.held) (the (sym same i)).stood));
     bits = λ last. tells last ∙ ap (λ (lists : Lists C). bits_of lists.lock) (left last);
@@ -99,18 +126,64 @@ module _ {C : Type 0} {N : ℕ} (truths : Truths C) where
     left : (last : Word) → lists_returned truths number returning last row (the me.0).stood ≡ lists_returned truths (the now.0).at.seat returning last (row_in (the now.0).at.held) (the now.0).stood
     left last = (same_hand truths returning number last row (row_in (the me.0).at.held) (the me.0).stood ready.scans).0 ∙ ((λ i. lists_returned truths (is i) returning last (row_in (the me.0).at.held) (the me.0).stood) ∙ (λ i. lists_returned truths (the (sym same i)).at.seat returning last (row_in (the (sym same i)).at.held) (the (sym same i)).stood))
 
+  -- so it is after a release, and after a wait that has queued
+  pub hand_scanned : (scanning : Scanning C) (last : Word) (row : List ℕ) (turned : Turned) (me now : SeatOf C N) → IsReady truths (scanned_at scanning last) row me → MayScan scanning me → now.0 ≡ me.0 → Carries (entered scanning (lists_scanned truths row (the me.0).stood)) now
+      → turned.some ≡ has_some (woken_of (meets_at truths row) (the me.0).stood.lock) → turned.bits ≡ bits_of (entered scanning (lists_scanned truths row (the me.0).stood)).lock → HasInHand truths (returning_for scanning) turned now
+  hand_scanned (ToRelease releasing) last row turned me now ready may same carries took tells =
+      hand_at (Released releasing) (scanned_at (ToRelease releasing) last) row (the me.0).at.seat turned.some turned.bits me now ready refl same (λ _. carries) (λ _. took) (λ _. tells)
+  hand_scanned (ToWait number wait again) last row turned me now ready may same carries took tells =
+      hand_at (Waited wait again) (scanned_at (ToWait number wait again) last) row number turned.some turned.bits me now ready may.1.0 same (λ _. carries) (λ _. took) (λ _. tells)
+
+  -- what may be scanned for may be so as the queues are looked at
+  pub may_still : (scanning : Scanning C) (me now : SeatOf C N) → MayScan scanning me → now.0 ≡ me.0 → MayScan scanning now
+  may_still (ToRelease releasing) me now may same = tt
+  may_still (ToWait number wait again) me now may same = subst (λ (vs : List (GateView C N)). IsInRange wait.on × ((number ≡ (the vs).at.seat) × (number < 64)) × (times number (the vs).stood ≡ 0)) (sym same) may
+
+  -- a wait that stands in no list stands in none that a scan has left
+  pub may_enter : (scanning : Scanning C) (row : List ℕ) (me now : SeatOf C N) → MayScan scanning me → Carries (lists_scanned truths row (the me.0).stood) now → MayEnter scanning now
+  may_enter (ToRelease releasing) row me now may carries = tt
+  may_enter (ToWait number wait again) row me now may carries = (may.0, may.1.1, (lists_scanned truths row (the me.0).stood, carries, free_scanned number (meets_at truths row) (the me.0).stood _ refl may.2))
+
+  -- the queues may go back, with what the scan has made of them
+  pub put_scanned : (scanning : Scanning C) (last : Word) (turned : Turned) (now : SeatOf C N) (place : Walk C) (returning : Returning C) → place ≡ scanned_at scanning last → returning ≡ returning_for scanning →
+      IsAtPlace truths (scanned_at scanning last) now → HasInHand truths (returning_for scanning) turned now →
+      PutsBack place × (returning ≡ returning_of place) × IsAtPlace truths (returning_at place last) now × HasInHand truths returning turned now
+  put_scanned scanning last turned now place returning there for at hand = let puts = puts_for scanning last in
+      subst (λ (x : Walk C × Returning C). PutsBack x.0 × (x.1 ≡ returning_of x.0) × IsAtPlace truths (returning_at x.0 last) now × HasInHand truths x.1 turned now) (λ i. (sym there i, sym for i))
+      (puts.0, puts.1, subst (λ walk. IsAtPlace truths walk now) (sym puts.2) at, hand)
+
+  -- once they are back the call pays what its seat owes
+  pays_next : (scanning : Scanning C) (last : Word) (me now : SeatOf C N) → OwesTheWoken truths (returning_for scanning) me (the now.0).at.owed →
+      HasReached truths (asked_of (scanned_at scanning last)) (got_of N (scanned_at scanning last) (found_back truths (returning_for scanning) last me)) now →
+      HasReached truths (asked_of (paying_at scanning)) (got_of N (paying_at scanning) (Paid (has_some (the now.0).at.owed))) now
+  pays_next (ToRelease releasing) last me now owes back = subst (λ ns. HasReached truths (Release releasing) (pay_releasing releasing (has_some ns)) now) (sym owes) back
+  pays_next (ToWait number wait again) last me now owes back = subst (λ ns. HasReached truths (Await wait) (pay_waiting wait (has_some ns)) now) (sym owes) back
+
+  pub pay_scanned : (scanning : Scanning C) (last : Word) (me now : SeatOf C N) (place : Walk C) (returning : Returning C) → place ≡ scanned_at scanning last → returning ≡ returning_for scanning →
+      OwesTheWoken truths returning me (the now.0).at.owed → HasReached truths (asked_of place) (got_of N place (found_back truths returning last me)) now →
+      HasReached truths (asked_of (paying_at scanning)) (got_of N (paying_at scanning) (Paid (has_some (the now.0).at.owed))) now
+  pay_scanned scanning last me now place returning there for owes back =
+      pays_next scanning last me now (subst (λ r. OwesTheWoken truths r me (the now.0).at.owed) for owes)
+      (subst (λ (x : Walk C × Returning C). HasReached truths (asked_of x.0) (got_of N x.0 (found_back truths x.1 last me)) now) (λ i. (there i, for i)) back)
+
+  -- where its walk pays
+  pub pays_at : (scanning : Scanning C) (paying : Walk C) (now : SeatOf C N) → paying ≡ paying_at scanning → (owed : Bool) → HasReached truths (asked_of (paying_at scanning)) (got_of N (paying_at scanning) (Paid owed)) now →
+      Pays N paying × HasReached truths (asked_of paying) (got_of N paying (Paid owed)) now
+  pays_at scanning paying now is owed at = subst (λ walk. Pays N walk × HasReached truths (asked_of walk) (got_of N walk (Paid owed)) now) (sym is) (pays_for N scanning, at)
+
+  -- which is owed to those whom the scan took
+  owes_called : (scanning : Scanning C) (me : SeatOf C N) (owed : List Owed) → OwesTheWoken truths (returning_for scanning) me owed → owed ≡ called_of (woken_of (meets_at truths (row_in (the me.0).at.held)) (the me.0).stood.lock)
+  owes_called (ToRelease releasing) me owed owes = owes
+  owes_called (ToWait number wait again) me owed owes = owes
+
+  pub owes_scanned : (scanning : Scanning C) (returning : Returning C) (me : SeatOf C N) (owed : List Owed) → returning ≡ returning_for scanning → OwesTheWoken truths returning me owed →
+      owed ≡ called_of (woken_of (meets_at truths (row_in (the me.0).at.held)) (the me.0).stood.lock)
+  owes_scanned scanning returning me owed for owes = owes_called scanning me owed (subst (λ r. OwesTheWoken truths r me owed) for owes)
+
   -- and the wakes of those whom it told are those that a scan at the row in hand owes
   pub calls_are : (walk : Walk C) (row seats : List ℕ) (vias : List (Option ℕ)) (owed : List Owed) (me now : SeatOf C N) → IsReady truths walk row me → now.0 ≡ me.0 → owed ≡ called_by seats vias
       → seats ≡ seats_of (woken_of (meets_at truths row) (the me.0).stood.lock) → vias ≡ map (λ (w : Waiter C). w.via) (woken_of (meets_at truths row) (the me.0).stood.lock) → owed ≡ called_of (woken_of (meets_at truths (row_in (the now.0).at.held)) (the now.0).stood.lock)
   calls_are walk row seats vias owed me now ready same is told names = are_called (woken_of (meets_at truths row) (the me.0).stood.lock) seats vias owed is told names ∙ (ap called_of ready.scans.woken ∙ (λ i. called_of (woken_of (meets_at truths (row_in (the (sym same i)).at.held)) (the (sym same i)).stood.lock)))
-
-  -- where a scan at this row takes a writer alone, or nobody, the queues in hand without that one are what is put back
-  pub hand_few : (releasing : Releasing) (walk : Walk C) (row : List ℕ) (wake : Option Owed) (turned : Turned) (me now : SeatOf C N) → IsReady truths walk row me → now.0 ≡ me.0 → Carries (lists_scanned truths row (the me.0).stood) now
-      → scanned_writer truths row (the me.0).stood ≡ Ok (wake, turned) → HasInHand truths (Released releasing) turned now
-  hand_few releasing walk row wake turned me now ready same carries told =
-      let woken = woken_of (meets_at truths row) (the me.0).stood.lock in
-      let few = turned_few (begins_with_reader woken) _ _ wake turned told in
-      hand_scanned (Released releasing) walk row (the me.0).at.seat turned.some turned.bits me now ready refl same (λ last. carries) (λ last. sym (ap (λ (t : Turned). t.some) few.2)) (λ last. sym (ap (λ (t : Turned). t.bits) few.2))
 
   -- and the wake that was told is all that is owed
   pub calls_few : (walk : Walk C) (row : List ℕ) (wake : Option Owed) (turned : Turned) (owed : List Owed) (me now : SeatOf C N) → IsReady truths walk row me → now.0 ≡ me.0 → scanned_writer truths row (the me.0).stood ≡ Ok (wake, turned)

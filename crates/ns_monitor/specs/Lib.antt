@@ -7,6 +7,7 @@ pub mod Polls
 pub mod Prelude
 pub mod Room
 pub mod Saved
+pub mod Scans
 pub mod Several
 pub mod Sizes
 pub mod Shows

@@ -10,7 +10,7 @@ pub use Rattle.ns_gate.specs.Calls.{HasAnswered, HasReached, HasSince, IsAtPlace
 pub use Rattle.ns_gate.specs.Law.{GateView, fresh, fresh_seat}
 pub use Rattle.ns_gate.specs.Meetings.{HasLearned as SeatHasLearned}
 pub use Rattle.ns_gate.specs.Showing.{ShowsLists}
-pub use Rattle.ns_gate.specs.Steps.{CameByGuess, CanStep, Carries, HasMadeBoth, HasStepped, HasUnchangedQueues, IsOwedNext, Performed, WantsNext, act_returning, carried_by, found_returned, lists_returned, lists_scanned, some_returned, the, tried}
+pub use Rattle.ns_gate.specs.Steps.{CameByGuess, CanStep, Carries, HasMadeBoth, HasStepped, HasUnchangedQueues, IsOwedNext, Performed, StandsNowhere, WantsNext, act_returning, carried_by, found_returned, lists_returned, lists_scanned, some_returned, the, tried}
 pub use Rattle.ns_gate.specs.Wakes.{lists_woken, owed_woken, scanned_writer, sought_at, taken_from, wake_told, woken_nobody}
 pub use Rattle.ns_gate.specs.declared.queues.Returning.{Returning}
 pub use Rattle.ns_gate.specs.declared.queues.Returning.TheVariants.{Changed, Released, Waited}
@@ -36,6 +36,8 @@ pub use Rattle.ns_model.specs.declared.event.Mode.TheVariants.{Read, Write}
 pub use Rattle.ns_model.specs.declared.seats.Seats.{Seats}
 pub use Rattle.ns_monitor.specs.declared.going.Going.{Going}
 pub use Rattle.ns_monitor.specs.declared.going.Going.TheVariants.{Acquiring, Changing, Leaving}
+pub use Rattle.ns_monitor.specs.declared.scanning.Scanning.{Scanning}
+pub use Rattle.ns_monitor.specs.declared.scanning.Scanning.TheVariants.{ToRelease, ToWait}
 pub use Rattle.ns_monitor.specs.declared.several.AnyPoll.{AnyPoll}
 pub use Rattle.ns_monitor.specs.declared.several.AnyPoll.TheVariants.{Still}
 pub use Rattle.ns_monitor.specs.declared.showing.DebugState.{DebugState}
@@ -79,7 +81,7 @@ pub use Rattle.ns_word.specs.declared.cell_walk.CellPlace.TheVariants.{GetLoad, 
 pub use Rattle.ns_word.specs.declared.cell_walk.Judging.TheVariants.{ToTell}
 pub use Rattle.ns_word.specs.declared.owed.Owed.{Owed}
 pub use Rattle.ns_word.specs.declared.release_walk.ReleasePlace.{ReleasePlace}
-pub use Rattle.ns_word.specs.declared.release_walk.ReleasePlace.TheVariants.{ReleaseExchange, ReleaseLoad, ScanAndRelease, ScanCells, TakeToScan}
+pub use Rattle.ns_word.specs.declared.release_walk.ReleasePlace.TheVariants.{Pay, ReleaseExchange, ReleaseLoad, ScanAndRelease, ScanCells, TakeToScan}
 pub use Rattle.ns_word.specs.declared.request.Request.{Request}
 pub use Rattle.ns_word.specs.declared.request.Request.TheVariants.{Await, Get, IsQuiet, Set, TryLock}
 pub use Rattle.ns_word.specs.declared.show_walk.ShowPlace.TheVariants.{ReturnShown, ShowLoad, TakeToShow}
@@ -100,7 +102,7 @@ pub use Rattle.ns_word.specs.declared.wait.Subject.TheVariants.{OnCondition, OnV
 pub use Rattle.ns_word.specs.declared.wait.Visit.{Visit}
 pub use Rattle.ns_word.specs.declared.wait.Visit.TheVariants.{OnEntry, OnReturn}
 pub use Rattle.ns_word.specs.declared.wait.Wait.{Wait}
-pub use Rattle.ns_word.specs.declared.wait.WaitPlace.TheVariants.{AwaitWakeInWait, InLeaving, InQueuing, LookOut, TestCells, TestLast}
+pub use Rattle.ns_word.specs.declared.wait.WaitPlace.TheVariants.{AwaitWakeInWait, InLeaving, InQueuing, LookOut, PayInWait, TestCells, TestLast}
 pub use Rattle.ns_word.specs.declared.walk.Next.{Next}
 pub use Rattle.ns_word.specs.declared.walk.Next.TheVariants.{Done, Idle, On}
 pub use Rattle.ns_word.specs.declared.walk.Reply.TheVariants.{Answered, Busy, Is, Number, Succeeded, WokenBy}

@@ -63,6 +63,7 @@ pub mod monitor;
 mod releasing;
 pub mod room;
 mod rounds;
+mod scanning;
 pub mod several;
 pub mod showing;
 mod variables;

@@ -1,18 +1,16 @@
 //! A release, and the scan of the lock list where somebody may have to be woken.
 
 ghost use Rattle.std.specs.Prelude.{◌≡◌, None};
-ghost use Rattle.ns_gate.specs.Prelude.{IsPackable, bits_of, ScanAndRelease, Succeeded, InRelease, HasAnswered, HasSince, IsAtPlace, HasUnchangedQueues, sought_at, the};
+ghost use Rattle.ns_gate.specs.Prelude.{IsPackable, bits_of, Succeeded, InRelease, HasAnswered, HasSince, IsAtPlace, HasUnchangedQueues, the};
 ghost use Rattle.ns_word.specs.declared.request.Request.TheVariants as TheRequest;
-ghost use Rattle.ns_monitor.specs.Prelude.{IsReady, ReleasesBy, scanning_at};
+ghost use Rattle.ns_monitor.specs.Prelude.{ReleasesBy, scanning_at};
 
 use crate::going::Going;
 use crate::monitor::Monitor;
+use crate::scanning::Scanning;
 use ns_gate::gate::GateSeat;
-use ns_gate::queues::{Returning, Turned};
 use ns_model::condition::Condition;
-use ns_queue::scan::Sought;
 use ns_word::number::LockWord;
-use ns_word::owed::called;
 use ns_word::release_walk::ReleasePlace;
 use ns_word::walk::Walk;
 use ns_word::word::Releasing;
@@ -46,9 +44,6 @@ impl<C: Condition<N>, const N: usize> Monitor<C, N> {
 
     /// Scans the lock list in hand at the section's row, puts it back and releases, and pays the wakes
     /// of those whom the scan took.
-    ///
-    /// Where that is nobody, or a writer alone, no list of them is made: a function pays for its lists
-    /// as it is called, whether it uses them or not, and whoever needs the queues waits meanwhile.
     fn scan_and_release<R: Wait>(
         &self,
         rt: &R,
@@ -69,51 +64,6 @@ impl<C: Condition<N>, const N: usize> Monitor<C, N> {
         let mut row = [0; N];
         let place = Walk::InRelease(releasing, ReleasePlace::ScanCells(parts, 0));
         self.load_to_scan(seat, parts.cond, place, &mut row);
-        let (wake, turned) = match self.gate.scan_writer_in_hand(seat, &row) {
-            Ok(told) => told,
-            Err(sought) => {
-                self.scan_and_wake(rt, seat, releasing, word, &row, sought);
-                return;
-            }
-        };
-        let returning = Returning::Released(releasing);
-        let place = Walk::InRelease(releasing, ReleasePlace::ScanAndRelease(parts));
-        self.put_back(rt, seat, returning, place, word, turned);
-        let Some(wake) = wake else {
-            return;
-        };
-        let place = Walk::InRelease(releasing, ReleasePlace::Pay);
-        self.pay_one(seat, place, wake);
-    }
-
-    /// The same with a row ready for the scan, and the reader found who is taken first: goes on from
-    /// there, with lists of those whom the scan takes.
-    #[cold]
-    fn scan_and_wake<R: Wait>(
-        &self,
-        rt: &R,
-        seat: &mut GateSeat<C, N>,
-        releasing: Releasing,
-        word: LockWord,
-        row: &[u64; N],
-        sought: Sought,
-    )
-        requires of { seat.old.table_id ≡ self.now }
-        requires word { IsPackable word }
-        requires ready { IsReady C.means (InRelease releasing (ScanAndRelease word)) row.now seat.old.me }
-        requires found { sought ≡ sought_at C.means row.now (the seat.old.me.0).stood }
-        ensures seat { seat.new.table_id ≡ self.now }
-        ensures since { HasSince None (the seat.old.me.0) (the seat.new.me.0) }
-        ensures released { HasAnswered C.means (TheRequest.Release releasing) Succeeded seat.new.me }
-    {
-        let parts = word.parts();
-        let (scan, bits) = self.gate.scan_from_in_hand(seat, row, sought);
-        let some = !scan.woken.is_empty();
-        let returning = Returning::Released(releasing);
-        let place = Walk::InRelease(releasing, ReleasePlace::ScanAndRelease(parts));
-        self.put_back(rt, seat, returning, place, word, Turned { some, bits });
-        let place = Walk::InRelease(releasing, ReleasePlace::Pay);
-        let owed = called(scan.woken.as_slice(), scan.vias.as_slice());
-        self.pay(seat, place, &owed);
+        self.scan_and_return(rt, seat, Scanning::ToRelease(releasing), word, &row);
     }
 }

@@ -5,6 +5,7 @@ ghost use Rattle.ns_gate.specs.Prelude.{row_in, IsInRange, is_limited, AcquireLo
 ghost use Rattle.ns_monitor.specs.Prelude.{HasAcquired, HasRow, HasSeenTrue, HasTakenAt, IfEnded, IsNumberOf, WokenOrEnded, lacks_row};
 
 use crate::monitor::Monitor;
+use crate::scanning::Scanning;
 use crate::watching::Watch;
 use ns_env::limits::Cause;
 use ns_gate::gate::GateSeat;
@@ -13,7 +14,6 @@ use ns_model::condition::Condition;
 use ns_note::pause::Pause;
 use ns_word::act::Change;
 use ns_word::number::LockWord;
-use ns_word::owed::called;
 use ns_word::wait::{
     Aim, LeavePlace, Outcome, QueuePlace, Subject, Wait as Waiting, WaitPlace, arrival_of,
 };
@@ -85,19 +85,8 @@ impl<C: Condition<N>, const N: usize> Monitor<C, N> {
         let loads = QueuePlace::LoadToScan(parts, 0);
         let place = Walk::InWait(wait, WaitPlace::InQueuing(again, loads));
         self.load_to_scan(seat, lacks_row(wait.on, parts), place, row);
-        let (scan, bits) = self
-            .gate
-            .scan_and_queue_in_hand(seat, row, number, wait, again);
-        let some = !scan.woken.is_empty();
-        let returning = Returning::Waited(wait, again);
-        let place = Walk::InWait(
-            wait,
-            WaitPlace::InQueuing(again, QueuePlace::QueueToWait(parts)),
-        );
-        self.put_back(rt, seat, returning, place, word, Turned { some, bits });
-        let place = Walk::InWait(wait, WaitPlace::PayInWait);
-        let owed = called(scan.woken.as_slice(), scan.vias.as_slice());
-        self.pay(seat, place, &owed);
+        let scanning = Scanning::ToWait(number, wait, again);
+        self.scan_and_return(rt, seat, scanning, word, row);
     }
 
     /// Takes a wait out of its list that is ended early. Where it was taken from there before, waits

@@ -1,7 +1,8 @@
 -- What calls that look may answer.
-use Rattle.std.proofs.Common.{◌≡◌, ℕ, ◌<◌, ◌≤◌, Bool, true, false, List, Option, None, Some, IfSome, IsSomeAnd, option_map, refl, sym, subst}
-use Rattle.ns_note.specs.Prelude.{Answer, BeginsWith, Canceled, EnvEvent, IsBetween, IsNotified, IsUnnotified, LookAnswers, Note, TimedOut, WaitAnswers, clock_of, is_due, is_notified}
+use Rattle.std.proofs.Common.{◌≡◌, ℕ, ◌<◌, ◌≤◌, Bool, true, false, List, Option, None, Some, IfSome, IsSomeAnd, option_map, refl, sym, subst, ◌∙◌}
+use Rattle.ns_note.specs.Prelude.{Answer, BeginsWith, Canceled, EnvEvent, IsBetween, IsLeftAt, IsNotified, IsUnnotified, LookAnswers, Note, NoteWord, TimedOut, WaitAnswers, clock_of, env_after, is_due, is_notified, is_over, standing_of, state_of, IsLegalEnv}
 use Rattle.ns_model.proofs.Beginnings.{begins_itself, begins_through}
+use Rattle.ns_model.proofs.Lines.{line_goes_on, line_stops}
 use Rattle.ns_env.proofs.Chains.{due_is, not_due_is}
 
 -- a true answer is of the last point, a false one of the point at which the clock was loaded
@@ -9,6 +10,27 @@ pub notified_at : (answer : Bool) (old middle new : List EnvEvent) (note : ℕ) 
     → (point : List EnvEvent) × IsBetween old point new × (answer ≡ is_notified point note)
 notified_at true old middle new note b d over not_yet = (new, (begins_through new middle old d b, begins_itself new), sym (over refl))
 notified_at false old middle new note b d over not_yet = (middle, (b, d), sym (not_yet refl))
+
+-- ---- a walk from a note up to its root
+
+-- the word is that of a place of the walk, as these events leave it
+pub record IsLoadedAt (seen : List EnvEvent) (note : ℕ) (now : List EnvEvent) (word : NoteWord) : Type 0 where
+  pub place : ℕ
+  pub left : IsLeftAt seen note (Some place)
+  pub loaded : word ≡ state_of ((env_after now).notes place)
+
+module _ (seen now : List EnvEvent) (legal : IsLegalEnv now) (begins : BeginsWith now seen) (note clock : ℕ) (is : clock ≡ clock_of seen) (word : NoteWord) (at : IsLoadedAt seen note now word) where
+  -- what the word tells, the place tells
+  over_at : (b : Bool) → b ≡ is_over clock (standing_of word) → is_over (clock_of seen) ((env_after now).notes at.place) ≡ b
+  over_at b told = sym (told ∙ (λ i. is_over (is i) (standing_of (at.loaded i))))
+
+  -- where it is over, so is the note
+  pub over_above : is_over clock (standing_of word) ≡ true → IsNotified now note
+  over_above over = line_stops seen now legal begins note at.place at.left (over_at true (sym over))
+
+  -- else the walk goes on to its parent, if it has one
+  pub goes_above : is_over clock (standing_of word) ≡ false → IsLeftAt seen note word.parent
+  goes_above not = subst (IsLeftAt seen note) (λ i. (sym at.loaded i).parent) (line_goes_on seen now legal begins note at.place at.left (over_at false (sym not)))
 
 -- ---- a look, whose clock was loaded in the middle
 

@@ -301,15 +301,14 @@ impl Env {
         ensures over { result ≡ true → IsNotified seat.new.seen note.index }
         ensures not_yet { result ≡ false → is_notified seat.old.seen note.index ≡ false }
     {
-        let mut next = Some(note.index);
-        while let Some(number) = next {
-            let word = self.word(seat, number);
-            if word.is_over(clock) {
-                return true;
+        let mut word = self.word(seat, note.index);
+        while !word.is_over(clock) {
+            match word.parent {
+                None => return false,
+                Some(number) => word = self.word(seat, number),
             }
-            next = word.parent;
         }
-        false
+        true
     }
 
     /// Whether the note is notified: it or an ancestor, by a call or by its deadline. nsync's

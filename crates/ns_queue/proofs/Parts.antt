@@ -73,7 +73,6 @@ module _ {C : Type 0} where
       rw (none_without seat ws (omega (arith, sum, most, here, part)))
       (ap (λ (vs : List (List (Waiter C))). ws ∷ vs) (one_without seat k lists (omega arith) (omega (arith, sum, most)) here))
 
-  -- the lists without a seat differ in the list that it stood in
   -- those outside a set of one seat are those without it
   outside_one : (set : Seats) (seat : ℕ) → ((n : ℕ) → has_seat set n ≡ eqb n seat) → (ws : List (Waiter C)) → outside set ws ≡ without_in seat ws
   outside_one set seat is [] = refl
@@ -89,6 +88,7 @@ module _ {C : Type 0} where
       let one = all_outside_one set seat (λ n. more n ∙ ap (λ b. b || eqb n seat) (empty n)) cvs in
       rw (first, rest, one) refl
 
+  -- the lists without a seat differ in the list that it stood in
   pub removed_of : (lists : Lists C) (which : Which) (seat : ℕ) → IsOrderly lists → times seat lists ≤ 1 → IsList which → 0 < times_in seat (waiters_of lists which) →
       without seat lists ≡ with_waiters lists which (without_in seat (waiters_of lists which))
   removed_of lists Lock seat orderly alone is here =

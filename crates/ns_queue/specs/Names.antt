@@ -2,7 +2,7 @@
 pub use Rattle.arrayvec.specs.ArrayVec.{ArrayVec}
 pub use Rattle.ns_model.specs.Cvs.{has}
 pub use Rattle.ns_model.specs.Phases.{is_waiting, is_waiting_as, is_write, woken_phase}
-pub use Rattle.ns_model.specs.Room.{HasRoom, room, room_enough}
+pub use Rattle.ns_model.specs.Room.{HasRoom, room, room_enough, small_by}
 pub use Rattle.ns_model.specs.Seats.{is_in, seats_in}
 pub use Rattle.ns_model.specs.Tallies.{Every, one_if, total}
 pub use Rattle.ns_model.specs.Wakes.{IsLegalBroadcast, IsLegalSignal, waiting_as, woken_as, woken_strangers}

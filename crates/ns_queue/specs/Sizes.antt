@@ -3,7 +3,7 @@ use Rattle.std.specs.Prelude.{ℕ, ◌+◌, ◌*◌, ◌<◌, ◌^◌}
 use Rattle.std.proofs.Common.{arith}
 use Rattle.std.specs.Mem.{FitsInMemory}
 use Rattle.std.specs.contracts.option.Option.{the_row as option_row}
-use Rattle.ns_queue.specs.Names.{Ghosts, HasRoom, room, room_enough}
+use Rattle.ns_queue.specs.Names.{Ghosts, HasRoom, room, room_enough, small_by}
 use prog.Memory.{size}
 use mir.Syntax.{Ty, ty_array}
 use denote.RattleType.{RattleType}
@@ -16,12 +16,8 @@ use Rattle.ns_queue.specs.contracts.lock_list.LockList.{the_row as lock_row}
 use Rattle.ns_queue.specs.contracts.ring.Ring.{the_row as ring_row}
 use Rattle.ns_queue.specs.contracts.queues.Queues.{the_row as queues_row}
 
--- what takes little by the bound is small; of any type, so that no size is worked out
-small_by : (τ : Ty) → room τ < 2 ^ 63 → size τ < 2 ^ 63
-small_by τ few = let most = room_enough τ in omega (arith, most, few)
-
-much_less : (n : ℕ) → n < 2 ^ 52 → n < 2 ^ 63
-much_less n few = omega arith
+much_less : (n few : ℕ) → n < few → few < 2 ^ 63 → n < 2 ^ 63
+much_less n few less small = omega (arith, less, small)
 
 -- 64 entries of a type that takes little, and the links beside them
 entries_few : (τ : Ty) → room τ < 2 ^ 40 → (beside : ℕ) → beside < 2 ^ 20 → 2 + 3 * (room (ty_array τ 64) + beside) < 2 ^ 63
@@ -42,18 +38,20 @@ list_room : (C N : RattleType) → HasRoom (copied 0 C) (param 1 N) → room (la
 list_room C N small = let one = room_enough (layout (waiter_row (copied 0 C))) in omega (arith, one, small.0)
 
 -- so all five do; of any types of list, so that no size is worked out
-five_small : (σ τ : Ty) → room σ < 2 ^ 52 → room τ < 2 ^ 50 → 2 + 3 * (room σ + (room (ty_array τ 4) + 0)) < 2 ^ 63
+five_small : (σ τ : Ty) → room σ < 2 ^ 52 → room τ < 2 ^ 50 → 2 + 3 * (room σ + (room (ty_array τ 4) + 0)) < 2 ^ 56
 five_small σ τ first few = let one = room_enough τ in omega (arith, one, few, first)
+
+pub queues_room : (C N : RattleType) (means : Ghosts (copied 0 C).Denot (value_of (param 1 N))) → HasRoom (copied 0 C) (param 1 N) → room (layout (queues_row (copied 0 C) (param 1 N) means)) < 2 ^ 56
+queues_room C N means small = five_small (layout (lock_row (copied 0 C) (param 1 N) means)) (layout (list_row (waiter_row (copied 0 C)) (number 64) unit)) (lock_room C N means small) (list_room C N small)
 
 -- they fit where a condition and a row have room
 pub queues_fit : (C N : RattleType) → HasRoom (copied 0 C) (param 1 N) → (means : Ghosts (copied 0 C).Denot (value_of (param 1 N))) → FitsInMemory (queues_row (copied 0 C) (param 1 N) means)
 queues_fit C N small means =
-    let few : room (layout (queues_row (copied 0 C) (param 1 N) means)) < 2 ^ 63 = five_small (layout (lock_row (copied 0 C) (param 1 N) means)) (layout (list_row (waiter_row (copied 0 C)) (number 64) unit)) (lock_room C N means small) (list_room C N small) in
-    small_by (layout (queues_row (copied 0 C) (param 1 N) means)) few
+    small_by (layout (queues_row (copied 0 C) (param 1 N) means)) (much_less _ (2 ^ 56) (queues_room C N means small) (omega arith))
 
 -- so does the lock list alone
 pub lock_fits : (C N : RattleType) → HasRoom (copied 0 C) (param 1 N) → (means : Ghosts (copied 0 C).Denot (value_of (param 1 N))) → FitsInMemory (lock_row (copied 0 C) (param 1 N) means)
-lock_fits C N small means = small_by (layout (lock_row (copied 0 C) (param 1 N) means)) (much_less _ (lock_room C N means small))
+lock_fits C N small means = small_by (layout (lock_row (copied 0 C) (param 1 N) means)) (much_less _ (2 ^ 52) (lock_room C N means small) (omega arith))
 
 -- and its row of links
 pub ring_fits : (C N : RattleType) → HasRoom (copied 0 C) (param 1 N) → FitsInMemory (ring_row (copied 0 C) (param 1 N))

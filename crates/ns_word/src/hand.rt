@@ -109,7 +109,10 @@ pub fn leave_self<C: Queueable<N>, const N: usize>(
 }
 
 /// Puts a wait into its list, or into the lists of all its variables.
-fn enter<C: Queueable<N>, const N: usize>(
+///
+/// Needs a wait for variables that there are, at least one, if it is for any, and a seat below 64, which stands
+/// in no list.
+pub fn enter<C: Queueable<N>, const N: usize>(
     queues: &mut Queues<C, N>,
     on: Subject<C>,
     seat: u8,

@@ -1,6 +1,7 @@
 use Rattle.std.proofs.Common.{arith, refl, sym, ◌∙◌}
+use Rattle.std.specs.Cmp.{booleans_Decides}
 use Rattle.std.proofs.lemmas.Bool.{eq-eqb, eqb-true, false≢true}
-use Rattle.ns_model.proofs.Entries.{after_cv_at_end, beq_same, beq_told, met_told, mode_same, mode_told, plain_at_rest, waited_at_wait}
+use Rattle.ns_model.proofs.Entries.{after_cv_at_end, met_told, mode_same, mode_told, plain_at_rest, waited_at_wait}
 use Rattle.ns_model.proofs.sections.entry_fits.Goals as goal
 use Rattle.ns_model.proofs.sections.entry_fits.Goals.{then-eq, else-eq, then-eq-2, else-eq-2, then-eq-3, else-eq-3}
 
@@ -54,10 +55,10 @@ returns-then-test-met g c =
       | then-eq w ↦ (
         λ yes. (
           mode_same at.m c.args.mode (sym c.eq.ensures ∙ w.if-eq.true),
-          sym w.test.ensures ∙ beq_same w.test.result c.eq-met.result (sym w.value-is ∙ c.if-test-met.true) ∙ met,
-          sym c.test-then-test-met.ensures ∙ beq_same c.test-then-test-met.result c.eq-met.result yes ∙ met,
+          sym w.test.ensures ∙ (booleans_Decides w.test.result c.eq-met.result).0 (sym w.value-is ∙ c.if-test-met.true) ∙ met,
+          sym c.test-then-test-met.ensures ∙ (booleans_Decides c.test-then-test-met.result c.eq-met.result).0 yes ∙ met,
         ),
-        λ fits. beq_told c.test-then-test-met.result c.eq-met.result (c.test-then-test-met.ensures ∙ fits.2 ∙ sym met),
+        λ fits. (booleans_Decides c.test-then-test-met.result c.eq-met.result).1 (c.test-then-test-met.ensures ∙ fits.2 ∙ sym met),
       )
       | else-eq w ↦ absurd (false≢true (sym w.if-eq.false ∙ sym w.value-is ∙ c.if-test-met.true))
     ])
@@ -69,7 +70,7 @@ returns-else-test-met g c =
     rw (at.is-0, at.is-1) (
       λ yes. absurd (false≢true (sym c.if-test-met.false ∙ yes)),
       λ fits. elim c.if-eq.branch [
-        | then-eq w ↦ w.value-is ∙ beq_told w.test.result c.eq-met.result (w.test.ensures ∙ fits.1 ∙ sym met)
+        | then-eq w ↦ w.value-is ∙ (booleans_Decides w.test.result c.eq-met.result).1 (w.test.ensures ∙ fits.1 ∙ sym met)
         | else-eq w ↦ w.value-is ∙ c.eq.ensures ∙ mode_told at.m c.args.mode fits.0
       ],
     )

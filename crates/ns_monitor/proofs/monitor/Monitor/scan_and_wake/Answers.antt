@@ -1,29 +1,41 @@
-use Rattle.std.proofs.Common.{◌∙◌, ap, not, sym, subst, refl, arith, None, rules}
-use Rattle.ns_monitor.specs.Prelude.{HasReached, HasSince, InRelease, Released, ScanAndRelease, TableId, called_by, has_some, meets_at, pay_releasing, the, woken_of}
+use Rattle.std.proofs.Common.{◌∙◌, ap, not, sym, subst, arith, None, false, rules}
+use Rattle.ns_monitor.specs.Prelude.{HasReached, HasSince, Paid, TableId, asked_of, called_by, got_of, has_some, lists_scanned, meets_at, scanned_at, the, woken_of}
 use Rattle.ns_gate.proofs.Calls.{since_then, works}
 use Rattle.ns_gate.proofs.Room.{queues_fit}
 use Rattle.ns_word.proofs.Scans.{as_many}
-use Rattle.ns_monitor.proofs.Releases.{hand_scanned, took_some, calls_are}
-use Rattle.ns_word.specs.declared.request.Request.TheVariants as TheRequest
+use Rattle.ns_monitor.proofs.Releases.{calls_are, hand_scanned, may_enter, owes_scanned, pay_scanned, pays_at, put_scanned, scans_in_hand, took_some}
 use Rattle.ns_monitor.proofs.monitor.Monitor.scan_and_wake.Goals as goal
 
+pub enter-turned-requires : goal.enter-turned-requires
+enter-turned-requires g c = let t = g.C.Condition.means in let scan = c.scan_from_in_hand-scan in
+    (omega arith, (queues_fit g.row.C g.row.N g.met.C.Condition.has_room g.C.Condition, (omega arith, (◌∙◌ {A = TableId} scan.ensures.seat.0 c.requires.of, may_enter t c.args.scanning c.args.row.now c.args.seat.now.me scan.new.seat.me c.requires.may scan.ensures.lists))))
+
 pub put_back-requires : goal.put_back-requires
-put_back-requires g c = let t = g.C.Condition.means in let scan = c.scan_from_in_hand-scan in let e = scan.ensures in let is = c.requires.ready in let me1 = c.args.seat.now.me in let walk = InRelease c.args.releasing (ScanAndRelease c.args.word) in
-    let some = ap not c.is_empty-some.ensures ∙ took_some (woken_of (meets_at t c.args.row.now) (the me1.0).stood.lock) scan.result.0.woken.items e.woken in
-    (omega arith, (queues_fit g.row.C g.row.N g.met.C.Condition.has_room g.C.Condition, (omega arith, (◌∙◌ {A = TableId} e.seat.0 c.requires.of, (tt, (refl, (c.requires.word, (works t walk me1 scan.new.seat.me is.at refl e.seat.1, hand_scanned t (Released c.args.releasing) walk c.args.row.now (the me1.0).at.seat _ _ me1 scan.new.seat.me is refl e.seat.1 (λ last. e.lists) (λ last. some) (λ last. e.bits)))))))))
+put_back-requires g c = let t = g.C.Condition.means in let scan = c.scan_from_in_hand-scan in let e = scan.ensures in let me = c.args.seat.now.me in let entered = c.enter-turned in let now = entered.new.seat.me in
+    let left = lists_scanned t c.args.row.now (the me.0).stood in let same = entered.ensures.seat.1 ∙ e.seat.1 in
+    let some = entered.ensures.some ∙ (ap not c.is_empty-some.ensures ∙ took_some (woken_of (meets_at t c.args.row.now) (the me.0).stood.lock) scan.result.0.woken.items e.woken) in
+    let hand = hand_scanned t c.args.scanning c.args.word c.args.row.now entered.result me now c.requires.ready c.requires.may same (entered.ensures.lists left e.lists) some (entered.ensures.bits left e.lists e.bits) in
+    let put = put_scanned t c.args.scanning c.args.word entered.result now c.place-place.result c.returning.result (c.place-place.ensures ∙ ap (scanned_at c.args.scanning) c.parts.ensures) c.returning.ensures
+    (works t (scanned_at c.args.scanning c.args.word) me now c.requires.ready.at (scans_in_hand c.args.scanning c.args.word) same) hand in
+    (omega arith, (queues_fit g.row.C g.row.N g.met.C.Condition.has_room g.C.Condition, (omega arith, (entered.ensures.seat.0, (put.0, (put.1, (c.requires.word, (put.2, put.3))))))))
 
+-- what is owed, and that its walk pays
 pub pay-requires : goal.pay-requires
-pay-requires g c = let t = g.C.Condition.means in let scan = c.scan_from_in_hand-scan in let now = c.put_back.new.seat.me in let walk = InRelease c.args.releasing (ScanAndRelease c.args.word) in
-    let owed = c.put_back.ensures.owes in
-    (omega arith, (queues_fit g.row.C g.row.N g.met.C.Condition.has_room g.C.Condition, (omega arith, (c.put_back.ensures.seat, (record { pays = refl; free = refl; more = refl }, (subst (λ ns. HasReached t (TheRequest.Release c.args.releasing) (pay_releasing c.args.releasing (has_some ns)) now) (sym owed) c.put_back.ensures.returned, owed ∙ sym (calls_are t walk c.args.row.now _ _ _ c.args.seat.now.me scan.new.seat.me c.requires.ready scan.ensures.seat.1 (c.called-owed.ensures ∙ (λ i. called_by (c.as_slice.ensures.value i) (c.as_slice-2.ensures.value i))) scan.ensures.woken scan.ensures.vias)))))))
-
-pub returns : goal.returns
-returns g c = record {
-  seat = search rules;
-  since = let scan = c.scan_from_in_hand-scan in
-      since_then None _ _ _ (subst (λ vs. HasSince None (the vs) (the c.put_back.new.seat.me.0)) scan.ensures.seat.1 c.put_back.ensures.since) c.pay.ensures.since;
-  released = search rules;
-}
+pay-requires g c = let t = g.C.Condition.means in let scan = c.scan_from_in_hand-scan in let e = c.put_back.ensures in let me = c.args.seat.now.me in let entered = c.enter-turned in let now = c.put_back.new.seat.me in
+    let same = entered.ensures.seat.1 ∙ scan.ensures.seat.1 in
+    let next = pay_scanned t c.args.scanning c.args.word entered.new.seat.me now c.place-place.result c.returning.result (c.place-place.ensures ∙ ap (scanned_at c.args.scanning) c.parts.ensures) c.returning.ensures e.owes e.returned in
+    let at = pays_at t c.args.scanning c.paying.result now c.paying.ensures (has_some (the now.0).at.owed) next in
+    let owed = owes_scanned t c.args.scanning c.returning.result entered.new.seat.me (the now.0).at.owed c.returning.ensures e.owes in
+    let called = calls_are t (scanned_at c.args.scanning c.args.word) c.args.row.now _ _ _ me entered.new.seat.me c.requires.ready same (c.called-owed.ensures ∙ (λ i. called_by (c.as_slice.ensures.value i) (c.as_slice-2.ensures.value i))) scan.ensures.woken scan.ensures.vias in
+    (omega arith, (queues_fit g.row.C g.row.N g.met.C.Condition.has_room g.C.Condition, (omega arith, (e.seat, (at.0, (at.1, owed ∙ sym called))))))
 
 pub called-owed-requires : goal.called-owed-requires
 called-owed-requires g c = record { few = search rules; same = rw (c.as_slice.ensures.value, c.as_slice-2.ensures.value) (as_many _ _ _ c.scan_from_in_hand-scan.ensures.woken c.scan_from_in_hand-scan.ensures.vias) }
+
+pub returns-clause-scanned : goal.returns-clause-scanned
+returns-clause-scanned g c = let t = g.C.Condition.means in let me = c.args.seat.now.me in let entered = c.enter-turned in record {
+  since = since_then None _ _ _ (subst (λ vs. HasSince None (the vs) (the c.put_back.new.seat.me.0)) (entered.ensures.seat.1 ∙ c.scan_from_in_hand-scan.ensures.seat.1) c.put_back.ensures.since) c.pay.ensures.since;
+  paid = subst (λ walk. HasReached t (asked_of walk) (got_of g.row.N walk (Paid false)) c.pay.new.seat.me) c.paying.ensures c.pay.ensures.paid;
+  none = c.pay.ensures.none;
+  true_to = c.pay.ensures.true_to c.put_back.ensures.true_to;
+}

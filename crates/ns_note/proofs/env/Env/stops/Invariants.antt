@@ -1,10 +1,11 @@
 use Rattle.std.proofs.Common.{◌≡◌}
-use Rattle.ns_note.specs.Prelude.{Grows, IsLeftAt}
+use Rattle.ns_note.specs.Prelude.{Grows}
 use Rattle.ns_model.proofs.Lines.{height}
+use Rattle.ns_note.proofs.Looks.{IsLoadedAt}
 use Rattle.ns_note.proofs.env.Env.stops.Given as goal
 
-abbrev pub invariant-loop-next : goal.invariant-loop-next
-invariant-loop-next l = Grows l.fn.seat l.seat × (l.seat.mine ≡ l.fn.seat.mine) × IsLeftAt l.fn.seat.seen l.fn.note.index l.next
+abbrev pub invariant-loop-word : goal.invariant-loop-word
+invariant-loop-word l = Grows l.fn.seat l.seat × (l.seat.mine ≡ l.fn.seat.mine) × IsLoadedAt l.fn.seat.seen l.fn.note.index l.seat.seen l.word
 
-abbrev pub decreases-loop-next : goal.decreases-loop-next
-decreases-loop-next l = height l.next
+abbrev pub decreases-loop-word : goal.decreases-loop-word
+decreases-loop-word l = height l.word.parent

@@ -1,0 +1,44 @@
+-- A scan of the lock list by a release, or by a wait that leaves its section: it takes waiters out of the list, the wait queues, the queues go back, and those who were taken are paid their wakes.
+use Rattle.std.specs.Prelude.{◌≡◌, ℕ, ◌<◌, false, [], None}
+use Rattle.ns_monitor.specs.Names.{HasReached, HasSince, InQueuing, InRelease, InWait, IsInRange, Lists, Paid, Pay, PayInWait, QueueToWait, Released, Returning, ScanAndRelease, SeatOf, StandsNowhere, Truths, Waited, Walk, Word, asked_of, got_of, the, times, waits_at}
+use Rattle.ns_monitor.specs.Several.{HasSeenTrue}
+use Rattle.ns_monitor.specs.Standing.{IsNumberOf}
+use Rattle.ns_monitor.specs.declared.scanning.Scanning.{Scanning}
+use Rattle.ns_monitor.specs.declared.scanning.Scanning.TheVariants.{ToRelease, ToWait}
+
+-- what the queues are put back for after it
+abbrev pub returning_for : {C : Type 0} → Scanning C → Returning C
+returning_for (ToRelease releasing) = Released releasing
+returning_for (ToWait number wait again) = Waited wait again
+
+-- where its call stands with a row ready for it, by the word last seen
+abbrev pub scanned_at : {C : Type 0} → Scanning C → Word → Walk C
+scanned_at (ToRelease releasing) last = InRelease releasing (ScanAndRelease last)
+scanned_at (ToWait number wait again) last = InWait wait (InQueuing again (QueueToWait last))
+
+-- where its call pays the wakes
+abbrev pub paying_at : {C : Type 0} → Scanning C → Walk C
+paying_at (ToRelease releasing) = InRelease releasing Pay
+paying_at (ToWait number wait again) = InWait wait PayInWait
+
+-- the lists once a wait has queued, if the call is one
+abbrev pub entered : {C : Type 0} → Scanning C → Lists C → Lists C
+entered (ToRelease releasing) lists = lists
+entered (ToWait number wait again) lists = waits_at wait.on number wait.mode again lists
+
+-- a wait is for variables that there are, by its own seat, which stands in no list
+abbrev pub MayScan : {C : Type 0} {N : ℕ} → Scanning C → SeatOf C N → Type 0
+MayScan (ToRelease releasing) me = Unit {0}
+MayScan (ToWait number wait again) me = IsInRange wait.on × IsNumberOf number me × (times number (the me.0).stood ≡ 0)
+
+-- a wait may queue by the lists in hand
+abbrev pub MayEnter : {C : Type 0} {N : ℕ} → Scanning C → SeatOf C N → Type 0
+MayEnter (ToRelease releasing) me = Unit {0}
+MayEnter (ToWait number wait again) me = IsInRange wait.on × (number < 64) × StandsNowhere number me
+
+-- The queues are back, the section is released or left, and each wake that was owed is paid.
+pub record HasScanned {C : Type 0} {N : ℕ} (truths : Truths C) (scanning : Scanning C) (me now : SeatOf C N) : Type 0 where
+  pub since : HasSince None (the me.0) (the now.0)
+  pub paid : HasReached truths (asked_of (paying_at scanning)) (got_of N (paying_at scanning) (Paid false)) now
+  pub none : (the now.0).at.owed ≡ []
+  pub true_to : HasSeenTrue truths now

@@ -1,0 +1,166 @@
+//! The scan of the lock list by a release, or by a wait that leaves its section.
+
+ghost use Rattle.std.specs.Prelude.{◌≡◌, ⊤};
+ghost use Rattle.ns_gate.specs.Prelude.{Carries, IsPackable, bits_of, sought_at, the};
+ghost use Rattle.ns_monitor.specs.Prelude.{HasScanned, IsReady, MayEnter, MayScan, entered, paying_at, returning_for, scanned_at};
+
+use crate::monitor::Monitor;
+use ns_gate::gate::GateSeat;
+use ns_gate::queues::{Returning, Turned};
+use ns_model::condition::Condition;
+use ns_queue::scan::Sought;
+use ns_word::number::LockWord;
+use ns_word::owed::called;
+use ns_word::release_walk::ReleasePlace;
+use ns_word::wait::{QueuePlace, Wait as Waiting, WaitPlace};
+use ns_word::walk::Walk;
+use ns_word::word::{Releasing, Word};
+use std::alloc::AllocError;
+use std::sync::Wait;
+
+/// What a call scans the lock list for, with the queues in hand.
+#[derive(Copy)]
+pub enum Scanning<C> {
+    /// It releases its section so.
+    ToRelease(Releasing),
+    /// Its seat, which has this number, queues for this wait, and leaves its section. The flag tells whether
+    /// it queues again.
+    ToWait(u8, Waiting<C>, bool),
+}
+
+impl<C: Copy> Clone for Scanning<C> {
+    ghost is_clone = { λ one other. other ≡ one };
+
+    ghost is_infallible = { λ _. ⊤ };
+
+    fn clone(&self) -> Result<Self, AllocError> {
+        Ok(*self)
+    }
+}
+
+impl<C: Copy> Scanning<C> {
+    /// What the queues are put back for after it.
+    #[inline(always)]
+    fn returning(self) -> Returning<C>
+        ensures { result ≡ returning_for self }
+    {
+        match self {
+            Scanning::ToRelease(releasing) => Returning::Released(releasing),
+            Scanning::ToWait(_, wait, again) => Returning::Waited(wait, again),
+        }
+    }
+
+    /// Where its call stands with a row ready for it. No code reads the place.
+    #[inline(always)]
+    fn place(self, parts: Word) -> Walk<C>
+        ensures { result ≡ scanned_at self parts }
+    {
+        match self {
+            Scanning::ToRelease(releasing) => {
+                Walk::InRelease(releasing, ReleasePlace::ScanAndRelease(parts))
+            }
+            Scanning::ToWait(_, wait, again) => Walk::InWait(
+                wait,
+                WaitPlace::InQueuing(again, QueuePlace::QueueToWait(parts)),
+            ),
+        }
+    }
+
+    /// Where its call pays the wakes. No code reads the place.
+    #[inline(always)]
+    fn paying(self) -> Walk<C>
+        ensures { result ≡ paying_at self }
+    {
+        match self {
+            Scanning::ToRelease(releasing) => Walk::InRelease(releasing, ReleasePlace::Pay),
+            Scanning::ToWait(_, wait, _) => Walk::InWait(wait, WaitPlace::PayInWait),
+        }
+    }
+}
+
+impl<C: Condition<N>, const N: usize> Monitor<C, N> {
+    /// Puts a wait into its list, where the call is one, with the lists in hand as a scan has left them. Tells
+    /// what the hand has made of them then.
+    #[inline(always)]
+    fn enter(&self, seat: &mut GateSeat<C, N>, scanning: Scanning<C>, turned: Turned) -> Turned
+        requires of { seat.old.table_id ≡ self.now }
+        requires may { MayEnter scanning seat.old.me }
+        ensures seat { (seat.new.table_id ≡ self.now) × (seat.new.me.0 ≡ seat.old.me.0) }
+        ensures lists { (lists : _) → Carries lists seat.old.me → Carries (entered scanning lists) seat.new.me }
+        ensures some { result.some ≡ turned.some }
+        ensures bits { (lists : _) → Carries lists seat.old.me → turned.bits ≡ bits_of lists.lock → result.bits ≡ bits_of (entered scanning lists).lock }
+    {
+        match scanning {
+            Scanning::ToRelease(_) => turned,
+            Scanning::ToWait(number, wait, again) => {
+                let bits = self.gate.enter_in_hand(seat, number, wait, again);
+                Turned { bits, ..turned }
+            }
+        }
+    }
+
+    /// With the queues in hand and a row ready: scans the lock list, lets a wait queue, puts the queues back,
+    /// and pays the wakes of those whom the scan took.
+    ///
+    /// Where that is nobody, or a writer alone, no list of them is made: a function pays for its lists
+    /// as it is called, whether it uses them or not, and whoever needs the queues waits meanwhile.
+    #[inline(always)]
+    pub(crate) fn scan_and_return<R: Wait>(
+        &self,
+        rt: &R,
+        seat: &mut GateSeat<C, N>,
+        scanning: Scanning<C>,
+        word: LockWord,
+        row: &[u64; N],
+    )
+        requires of { seat.old.table_id ≡ self.now }
+        requires word { IsPackable word }
+        requires may { MayScan scanning seat.old.me }
+        requires ready { IsReady C.means (scanned_at scanning word) row.now seat.old.me }
+        ensures seat { seat.new.table_id ≡ self.now }
+        ensures scanned { HasScanned C.means scanning seat.old.me seat.new.me }
+    {
+        let (wake, left) = match self.gate.scan_writer_in_hand(seat, row) {
+            Ok(told) => told,
+            Err(sought) => {
+                self.scan_and_wake(rt, seat, scanning, word, row, sought);
+                return;
+            }
+        };
+        let turned = self.enter(seat, scanning, left);
+        let place = scanning.place(word.parts());
+        self.put_back(rt, seat, scanning.returning(), place, word, turned);
+        if let Some(wake) = wake {
+            self.pay_one(seat, scanning.paying(), wake);
+        }
+    }
+
+    /// The same where a scan takes readers, of whom this is the first: goes on from there, with lists of those
+    /// whom it takes.
+    #[cold]
+    fn scan_and_wake<R: Wait>(
+        &self,
+        rt: &R,
+        seat: &mut GateSeat<C, N>,
+        scanning: Scanning<C>,
+        word: LockWord,
+        row: &[u64; N],
+        sought: Sought,
+    )
+        requires of { seat.old.table_id ≡ self.now }
+        requires word { IsPackable word }
+        requires may { MayScan scanning seat.old.me }
+        requires ready { IsReady C.means (scanned_at scanning word) row.now seat.old.me }
+        requires found { sought ≡ sought_at C.means row.now (the seat.old.me.0).stood }
+        ensures seat { seat.new.table_id ≡ self.now }
+        ensures scanned { HasScanned C.means scanning seat.old.me seat.new.me }
+    {
+        let (scan, bits) = self.gate.scan_from_in_hand(seat, row, sought);
+        let some = !scan.woken.is_empty();
+        let turned = self.enter(seat, scanning, Turned { some, bits });
+        let place = scanning.place(word.parts());
+        self.put_back(rt, seat, scanning.returning(), place, word, turned);
+        let owed = called(scan.woken.as_slice(), scan.vias.as_slice());
+        self.pay(seat, scanning.paying(), &owed);
+    }
+}
