@@ -1,8 +1,13 @@
 -- A wait for a condition variable that is over: what its caller sees.
 use Rattle.std.proofs.Common.{◌≡◌, ℕ, ◌<◌, true, false, List, ◌∷◌, ◌++◌, Option, None, Some, refl, ap, sym, ◌∙◌, subst}
-use Rattle.ns_monitor.specs.Prelude.{Answer, Answered, Await, Cause, Course, CvWait, Ended, Event, Expired, HasAnswered, HasComeBackFrom, HasMode, HasSince, HasTakenAt, HasWaitedForVariable, Held, IfAnswered, IfEnded, InHand, InQueuing, InWait, IsFreshIn, IsSettled, IsWide, Known, Limits, Load}
-use Rattle.ns_monitor.specs.Prelude.{Mode, Notified, Outcome, PlaceFits, SeatOf, TableId, Truths, VariableWaitMeans, Walk, Woken, Word, answer_of_wait, is_met, known_of, leave_told, row_after, section_of, the, waits_for_variable}
+use Rattle.ns_monitor.specs.Prelude.{Answer, Answered, Await, Cause, Course, CvWait, Ended, Event, Expired, HasAnswered, HasComeBackFrom, HasMode, HasRow, HasSince, HasTakenAt, HasWaitedForVariable, Held, IfAnswered, IfEnded, InHand, InQueuing, InWait, IsForVariables, IsFreshIn, IsSettled, IsWide, Known, Limits, Load}
+use Rattle.ns_monitor.specs.Prelude.{Mode, Notified, OnCondition, OnVariables, Outcome, PlaceFits, SeatOf, Subject, TableId, Truths, VariableWaitMeans, Walk, Woken, Word, answer_of_wait, is_met, known_of, leave_told, row_after, section_of, the, waits_for_variable}
 use Rattle.ns_gate.proofs.Keeps.{hand_of}
+
+-- one for variables has no need of a row at hand
+pub needs_no_row : {C : Type 0} (on : Subject C) (row held : List ℕ) → IsForVariables on → HasRow on row held
+needs_no_row (OnCondition c) row held variables = absurd variables
+needs_no_row (OnVariables them) row held variables = tt
 
 -- who has taken the queues has its section as it is
 pub taken_now : {C : Type 0} {N : ℕ} (truths : Truths C) (walk : Walk C) (word : Word) (me now : SeatOf C N) → HasTakenAt truths walk word me now → HasTakenAt truths walk word now now

@@ -53,7 +53,7 @@ pub use Rattle.ns_queue.specs.declared.waiter.Waiter.{Waiter}
 pub use Rattle.ns_seats.specs.Sights.{AreOfOneHistory as AreOfOneHistoryBy, Sight}
 pub use Rattle.ns_seats.specs.Views.{AreNew as AreNewBy, first_of, rest_of}
 pub use Rattle.ns_word.specs.Asked.{asked_of, request_for}
-pub use Rattle.ns_word.specs.Begins.{IsFirst, view_in}
+pub use Rattle.ns_word.specs.Begins.{IsFirst, IsForVariables, view_in}
 pub use Rattle.ns_word.specs.Codec.{IsPackable}
 pub use Rattle.ns_word.specs.Courses.{HasLeft}
 pub use Rattle.ns_word.specs.Finds.{before_in, owes_more, row_in}

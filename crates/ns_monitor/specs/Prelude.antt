@@ -14,7 +14,7 @@ pub use Rattle.ns_monitor.specs.Tests.{AreRead, HasGone, HasLoaded, HasRow, HasT
 pub use Rattle.ns_monitor.specs.Variables.{HasComeBackFrom, HasWaitedForVariable, HasWoken, wake_event}
 pub use Rattle.ns_monitor.specs.Waits.{EndedBy, HadLooked, HasComeBack, HasStayed, HasWaitedFor, IfAnswered, IfEnded, QueuesOrEnds, WaitTells, WokenOrEnded}
 pub use Rattle.ns_monitor.specs.Wakes.{HasReturnedWoken, HasWokenInHand, is_held_by_one}
-pub use Rattle.ns_monitor.specs.Walks.{getting, judging, limits_of, locking, releasing_by, setting, showing, trying, variable_waiting, waiting, waits_by, waits_for_variable, waking_by}
+pub use Rattle.ns_monitor.specs.Walks.{getting, judging, leaving, limits_of, locking, releasing_by, setting, showing, trying, variable_waiting, waiting, waits_by, waits_for_variable, waking_by}
 pub use Rattle.ns_monitor.specs.Names.{Acquire, AcquireLoad, Acquiring, Act, Aim, Answer, Answered, AnyWait, AnyWaitMeans, Arm, ArmFlag, ArmToWait, Arrival, AsFresh, Await, AwaitWake, AwaitWakeInWait, AwaitWakeToLeave, BeginsWith, Bits, Broadcasting, Busy, CameByGuess, CanLeave, CanStep, Canceled}
 pub use Rattle.ns_monitor.specs.Names.{Carries, Cause, Cell, CellFits, Change, Changed, Changing, CondWait, ConditionWaitMeans, Course, CvWait, Cvs, Done, Effect, Ended, EnvEvent, EnvKnown, Event, Expired, Flag, ForLock, ForWait, Found, GateView, Get, Going, HasAnswered, HasLeft, HasMode}
 pub use Rattle.ns_monitor.specs.Names.{HasReached, HasSince, HasStepped, HasUnchangedQueues, HasWaited, Held, Home, Idle, InAcquire, InCells, InHand, InLeaving, InQueuing, InRelease, InShow, InSignal, InTry, InWait, Is, IsAtPlace, IsAtRest, IsFirst, IsInRange, IsLawful, IsOrderly, IsOwedNext}
@@ -22,7 +22,7 @@ pub use Rattle.ns_monitor.specs.Names.{IsPackable, IsQuiet, IsSettled, IsTold, I
 pub use Rattle.ns_monitor.specs.Names.{Note, Notified, Number, On, OnCondition, OnEntry, OnReturn, OnVariables, Outcome, Owed, OwesBelow, Paid, Part, PayWake, Performed, PlaceFits, Queue, QueueSelf, QueueToWait, Quiet, QuietCells, QuietLast, QuietWriter, Read, Reader, Release, ReleaseLoad}
 pub use Rattle.ns_monitor.specs.Names.{ReleaseReturning, Released, Releasing, Request, ReturnQueues, ReturnShown, Returning, Saw, ScanAndRelease, ScanCells, SeatHasLearned, SeatOf, SeatView, SectionFits, Set, SetStore, ShowLoad, SignalLoad, Signaling, Sought, StoreCell, Subject, Succeeded}
 pub use Rattle.ns_monitor.specs.Names.{TableId, TakeQueues, TakeToShow, Taking, TestCells, TestLast, Tested, Tests, TimedOut, ToChange, ToQueue, ToTell, Told, Truths, TryAcquire, TryLock, Turned, Unchanged, VariableWaitMeans, Visit, Wait, WaitMeans, WaitReturning, Waited, Waiter, WakeAndReturn}
-pub use Rattle.ns_monitor.specs.Names.{Pay, PayInWait, Scanning, StandsNowhere, ToRelease, ToWait}
+pub use Rattle.ns_monitor.specs.Names.{IsForVariables, Pay, PayInWait, Scanning, StandsNowhere, ToRelease, ToWait}
 pub use Rattle.ns_monitor.specs.Names.{WakeWaiters, Waking, Walk, WantsNext, Woke, Woken, WokenBy, Word, Write, Writer, act_returning, answer_of, answer_of_wait, armed_place, arrival_of, asked_of, awaits, back_with, before_in, begins_with_reader, bits_of, called_by, called_of, carried_by}
 pub use Rattle.ns_monitor.specs.Names.{change_found, changed, first_of, found_returned, fresh, fresh_seat, got_of, got_queuing, has_condition, has_queues, has_some, held_after, held_by, home_of, is_eligible, is_held, is_limited, is_met, is_satisfied, judge_of, leave_any_told, leave_told, left_of}
 pub use Rattle.ns_monitor.specs.Names.{lists_returned, lists_scanned, lists_woken, load_place, look_or_queue, may_acquire, meets_at, mode_released, moves, new_section, outcome_taken, owed_woken, owes_more, own_of, part_of, pay_releasing, pay_waiting, pay_woken, pays, quiet_place, reads}

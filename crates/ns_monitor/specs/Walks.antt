@@ -1,6 +1,6 @@
 -- The first place of each call of a monitor, by which a caller's calls are told.
-use Rattle.std.specs.Prelude.{ℕ, Option, option_map}
-use Rattle.ns_monitor.specs.Names.{AcquireLoad, AsFresh, ForLock, GetLoad, InAcquire, InCells, InRelease, InShow, InSignal, InTry, Limits, Mode, Note, OnCondition, OnVariables, Only, ReleaseLoad, Releasing, SetLoad, ShowLoad, SignalLoad, ToTell, TryLoad, Wait, Waking, Walk, quiet_first}
+use Rattle.std.specs.Prelude.{ℕ, false, Option, option_map}
+use Rattle.ns_monitor.specs.Names.{AcquireLoad, AsFresh, ForLock, GetLoad, InAcquire, InCells, InQueuing, InRelease, InShow, InSignal, InTry, InWait, Limits, Load, Mode, Note, OnCondition, OnVariables, Only, ReleaseLoad, Releasing, SetLoad, ShowLoad, SignalLoad, ToTell, TryLoad, Wait, Waking, Walk, quiet_first}
 use Rattle.ns_monitor.specs.Names.{wait_first}
 
 -- a try for this mode
@@ -46,6 +46,10 @@ waits_for_variable mode k limits = record { mode = mode; on = OnVariables (Only 
 -- such a wait with this deadline and this note, over a row of N cells
 abbrev pub variable_waiting : {C : Type 0} → ℕ → Mode → ℕ → Option ℕ → Option Note → Walk C
 variable_waiting N mode k deadline note = wait_first N (waits_for_variable mode k (limits_of deadline note))
+
+-- a wait for variables that leaves its section at once
+abbrev pub leaving : {C : Type 0} → Wait C → Walk C
+leaving wait = InWait wait (InQueuing false Load)
 
 -- a signal or a broadcast of this variable
 abbrev pub waking_by : {C : Type 0} → Waking → ℕ → Walk C

@@ -17,7 +17,7 @@ use ns_model::condition::Condition;
 use ns_model::cvs::{Cvs, Variables};
 use ns_model::event::Mode;
 use ns_word::owed::variable_told;
-use ns_word::wait::{Aim, Outcome, QueuePlace, Subject, Wait as Waiting, WaitPlace, arrival_of};
+use ns_word::wait::{Aim, Outcome, Subject, Wait as Waiting, WaitPlace, arrival_of};
 use ns_word::walk::Walk;
 use std::marker::Model;
 use std::sync::Wait;
@@ -105,10 +105,7 @@ impl<C: Condition<N>, const N: usize> Monitor<C, N> {
         } = held;
         let mode = H::mode();
         let wait = for_any(mode, cvs);
-        let place = Walk::InWait(wait, WaitPlace::InQueuing(false, QueuePlace::Load));
-        let word = self.begin_to_take(rt, &mut seat, place);
-        let mut row = [0; N];
-        self.leave_section(rt, &mut seat, number, wait, false, word, &mut row);
+        self.queue_at_variables(rt, &mut seat, number, wait);
         let hand = H::begun();
         AnyWaiting {
             seat,

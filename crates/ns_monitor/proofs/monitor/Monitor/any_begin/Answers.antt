@@ -1,43 +1,36 @@
-use Rattle.std.proofs.Common.{◌≡◌, ◌∙◌, sym, subst, ap, refl, arith, false, Some}
-use Rattle.ns_monitor.specs.Prelude.{AwaitWakeInWait, HasMode, HasSince, InQueuing, InWait, IsAtPlace, IsInRange, IsWaitingForAny, Known, Load, TableId, Wait, any_waiting, the, waits_for_any}
-use Rattle.ns_gate.proofs.Calls.{since_then}
+use Rattle.std.proofs.Common.{◌≡◌, ◌∙◌, sym, subst, ap, arith, Some}
+use Rattle.ns_monitor.specs.Prelude.{AwaitWakeInWait, HasMode, HasSince, InWait, IsAtPlace, IsWaitingForAny, Known, TableId, Wait, any_waiting, leaving, the, waits_for_any}
 use Rattle.ns_gate.proofs.Room.{queues_fit}
 use Rattle.ns_monitor.proofs.SeveralWaits.{has_begun_to_wait, may_wait_for_any}
 use Rattle.ns_monitor.proofs.Standing.{same_number}
-use Rattle.ns_monitor.proofs.VariableWaits.{taken_now}
 use Rattle.ns_monitor.proofs.monitor.Monitor.any_begin.Given.{Over}
 use Rattle.ns_monitor.proofs.monitor.Monitor.any_begin.Goals.{After-drop-held-inside}
 use Rattle.ns_monitor.proofs.monitor.Monitor.any_begin.Goals as goal
 
-pub begin_to_take-word-requires : goal.begin_to_take-word-requires
-begin_to_take-word-requires g c = let held = c.held.inside in let mode = c.mode-mode.result in
+pub queue_at_variables-requires : goal.queue_at_variables-requires
+queue_at_variables-requires g c = let held = c.held.inside in let mode = c.mode-mode.result in
     let in_mode = subst (λ m. HasMode m (the held.seat.me.0).at.held) (sym c.mode-mode.ensures) (g.met.H.Section.in_mode held.hand (the held.seat.me.0).at.held c.held.invariant.2) in
-    rw c.for_any-wait.ensures (omega arith, (queues_fit g.row.C g.row.N g.met.C.Condition.has_room g.C.Condition, (omega arith, (◌∙◌ {A = TableId} (ap (λ (k : Known _ _). k.monitor) c.held.view_is) c.requires.of, (c.held.invariant.0, (tt, (refl, ((refl, tt), may_wait_for_any g.C.Condition.means mode c.args.cvs (the held.seat.me.0).at.held c.requires.variables in_mode c.held.invariant.0.settled))))))))
-
-pub leave_section-requires : goal.leave_section-requires
-leave_section-requires g c = let t = g.C.Condition.means in let took = c.begin_to_take-word in let me = c.held.inside.seat.me in let now = took.new.seat.me in let walk = InWait c.for_any-wait.result (InQueuing false Load) in
-    (omega arith, (queues_fit g.row.C g.row.N g.met.C.Condition.has_room g.C.Condition, (omega arith, (omega (arith, g.met.C.Condition.has_cells), (took.ensures.seat, (same_number t (Some walk) c.held.inside.number me now c.held.invariant.1 took.ensures.since, (subst (λ (w : Wait g.row.C.Denot). IsInRange w.on) (sym c.for_any-wait.ensures) c.requires.variables, (taken_now t walk took.result me now took.ensures.taken, rw c.for_any-wait.ensures tt))))))))
+    rw c.for_any-wait.ensures (omega arith, (queues_fit g.row.C g.row.N g.met.C.Condition.has_room g.C.Condition, (omega arith, (◌∙◌ {A = TableId} (ap (λ (k : Known _ _). k.monitor) c.held.view_is) c.requires.of, (c.held.invariant.1, (c.held.invariant.0, ((tt, c.requires.variables), may_wait_for_any g.C.Condition.means mode c.args.cvs (the held.seat.me.0).at.held c.requires.variables in_mode c.held.invariant.0.settled)))))))
 
 -- what it waits for
 wait_is : (g : Over) (c : After-drop-held-inside g) → c.for_any-wait.result ≡ waits_for_any g.H.Section.mode c.args.cvs
 wait_is g c = c.for_any-wait.ensures ∙ ap (λ m. waits_for_any m c.args.cvs) c.mode-mode.ensures
 
 -- it has left its section, and waits
-left : (g : Over) (c : After-drop-held-inside g) → HasSince (Some (any_waiting g.row.N g.H.Section.mode c.args.cvs)) (the c.held.inside.seat.me.0) (the c.leave_section.new.seat.me.0)
-left g c = subst (λ (w : Wait g.row.C.Denot). HasSince (Some (InWait w (InQueuing false Load))) (the c.held.inside.seat.me.0) (the c.leave_section.new.seat.me.0)) (wait_is g c)
-    (since_then (Some (InWait c.for_any-wait.result (InQueuing false Load))) _ _ _ c.begin_to_take-word.ensures.since c.leave_section.ensures.since)
+left : (g : Over) (c : After-drop-held-inside g) → HasSince (Some (any_waiting g.row.N g.H.Section.mode c.args.cvs)) (the c.held.inside.seat.me.0) (the c.queue_at_variables.new.seat.me.0)
+left g c = subst (λ (w : Wait g.row.C.Denot). HasSince (Some (leaving w)) (the c.held.inside.seat.me.0) (the c.queue_at_variables.new.seat.me.0)) (wait_is g c) c.queue_at_variables.ensures.since
 
-waits : (g : Over) (c : After-drop-held-inside g) → IsWaitingForAny g.C.Condition.means g.H.Section.mode c.args.cvs c.leave_section.new.seat.me
+waits : (g : Over) (c : After-drop-held-inside g) → IsWaitingForAny g.C.Condition.means g.H.Section.mode c.args.cvs c.queue_at_variables.new.seat.me
 waits g c = record {
-  at = subst (λ (w : Wait g.row.C.Denot). IsAtPlace g.C.Condition.means (InWait w AwaitWakeInWait) c.leave_section.new.seat.me) (wait_is g c) c.leave_section.ensures.waits;
-  true_to = c.leave_section.ensures.true_to;
-  owes = c.leave_section.ensures.owes;
+  at = subst (λ (w : Wait g.row.C.Denot). IsAtPlace g.C.Condition.means (InWait w AwaitWakeInWait) c.queue_at_variables.new.seat.me) (wait_is g c) c.queue_at_variables.ensures.waits;
+  true_to = c.queue_at_variables.ensures.true_to;
+  owes = c.queue_at_variables.ensures.owes;
   are = c.requires.variables;
 }
 
 pub invariant_of-result : goal.invariant_of-result
-invariant_of-result g c = (waits g c, same_number g.C.Condition.means (Some (any_waiting g.row.N g.H.Section.mode c.args.cvs)) c.held.inside.number c.held.inside.seat.me c.leave_section.new.seat.me c.held.invariant.1 (left g c), c.begun-hand.ensures)
+invariant_of-result g c = (waits g c, same_number g.C.Condition.means (Some (any_waiting g.row.N g.H.Section.mode c.args.cvs)) c.held.inside.number c.held.inside.seat.me c.queue_at_variables.new.seat.me c.held.invariant.1 (left g c), c.begun-hand.ensures)
 
 pub returns : goal.returns
-returns g c = let s0 = c.held.inside.seat in let now = c.leave_section.new.seat in
-    has_begun_to_wait g.C.Condition.means g.H.Section.mode c.args.cvs c.args.held s0.table_id now.table_id s0.me now.me c.held.view_is (◌∙◌ {A = TableId} c.leave_section.ensures.seat (sym c.requires.of)) (left g c) (waits g c)
+returns g c = let s0 = c.held.inside.seat in let now = c.queue_at_variables.new.seat in
+    has_begun_to_wait g.C.Condition.means g.H.Section.mode c.args.cvs c.args.held s0.table_id now.table_id s0.me now.me c.held.view_is (◌∙◌ {A = TableId} c.queue_at_variables.ensures.seat (sym c.requires.of)) (left g c) (waits g c)
