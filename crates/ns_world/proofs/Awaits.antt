@@ -1,13 +1,20 @@
 -- A wait for condition variables among notes and counters keeps the law of a whole world, by each of its steps that concern the lock: it begins to wait there, a round tells it what it has shown, or it makes a step of its own.
-use Rattle.std.proofs.Common.{◌≡◌, ◌≢◌, ℕ, suc, ◌<◌, List, ◌++◌, Bool, true, false, cond, Option, None, Some, IsSome, is_some, length, take, drop, slice_get, slice_set, refl, ap, sym, ◌∙◌, subst, arith, inl}
-use Rattle.ns_world.proofs.Below.{append-nil, asked_stays, length-set, put_here, put_there, same_Some, set_here, slice_get_within, split_at, stands_within, view_fits}
+use Rattle.std.proofs.Common.{◌≡◌, ◌≢◌, ℕ, ◌<◌, List, ◌++◌, Bool, true, false, cond, Option, None, Some, IsSome, is_some, length, slice_get, slice_set, refl, ap, sym, ◌∙◌, subst, arith, inl}
+use Rattle.ns_world.proofs.Below.{append-nil, asked_stays, length-set, put_here, put_there, same_Some, set_here, slice_get_within, stands_within}
 use Rattle.ns_world.specs.Prelude.{Act, Acts, AnyWait, AreAmong, AreThere, Await, BeginsToWait, EndsLook, EnvPlain, FirstClock, Found, HasLedTo, HasOperated, HaveLedTo, Idle, InRound, IsLawfulWhole, IsLawfulWorld, Limits, LooksWhere, Now, ObjectEvent, ObjectWalk, Objects, OnLock, Past, PlaceFits}
 use Rattle.ns_world.specs.Prelude.{Round, SeatView, Setup, StandsBy, Step, WaitSteps, WaitsOnLock, Walk, Whole, asked_of, asks_for_any, cause_of, got_of, is_alone, items_of, look_of, looks_at, mode_of, mode_waited, object_after, object_got, round_due, shown_by, stood_at, wait_first, wait_in}
 use Rattle.ns_world.specs.Prelude.{waited_after, waits_for_any, walk_after, walk_in, want_of}
 use Rattle.ns_world.proofs.AnyLooks.{LeadsOn, LooksOut, leads_on, looks_out, unlooked}
 use Rattle.ns_world.proofs.Turns.{moves_stay}
 use Rattle.ns_world.proofs.Walks.{wait_here, wait_there}
-use Rattle.ns_world.proofs.Wholes.{IsAlone, Rests, begun_rests, each_stands, goes_rests, stands_nowhere, stands_on}
+use Rattle.ns_world.proofs.Wholes.{IsAlone, Rests, begun_rests, each_stands, goes_rests, lock_keeps, operates_keep_whole, stands_nowhere, stands_on}
+use Rattle.ns_world.proofs.WorldLaw.{begun_keeps, is_settled, moves_keep, place_fits}
+use Rattle.ns_world.proofs.Places.{StartFits}
+use Rattle.ns_word.proofs.Enters.{are_some}
+use Rattle.std.specs.List.{list_all}
+use Rattle.std.proofs.Common.{[], ◌∷◌, inr}
+use Rattle.ns_world.proofs.Below.{first_of_all, low_if_among, ltb-true, rest_of_all, some_among}
+use Rattle.ns_world.specs.Prelude.{Any, AreVariables, Cvs, Every, Held, IsLow, IsSettled, Item, MayWait, MayWaitOnLock, NoteStanding, OnCounter, OnNote, OnVariable, QuietKeeps, StandsAlone, Truths, WholeStep, is_there}
 use Rattle.ns_world.proofs.WholeLed.{begins_to_wait_led, ends_look_led, wait_steps_led}
 
 -- which it is
@@ -23,6 +30,24 @@ none_if_not None e = refl
 pub looks_some : {C : Type 0} (round : Round) (walk : ObjectWalk) (act : Act C) → LooksWhere round (Some walk) act → IsSome (looks_at act)
 looks_some round (InRound by place) act looks = looks.1
 looks_some round walk act looks = absurd looks
+
+-- ---- where a call may begin to wait
+
+low_if_there : (setup : Setup) (notes : ℕ → NoteStanding) (item : Item) → is_there setup notes item ≡ true → IsLow item
+low_if_there setup notes (OnNote note) is = tt
+low_if_there setup notes (OnCounter counter) is = tt
+low_if_there setup notes (OnVariable k) is = ltb-true k 4 is
+
+pub all_low : (setup : Setup) (notes : ℕ → NoteStanding) (items : List Item) → list_all (is_there setup notes) items ≡ true → Every IsLow items
+all_low setup notes [] all = tt
+all_low setup notes (item ∷ items) all = (low_if_there setup notes item (first_of_all (is_there setup notes item) (list_all (is_there setup notes) items) all), all_low setup notes items (rest_of_all (is_there setup notes item) (list_all (is_there setup notes) items) all))
+
+-- a wait for variables begins where there is a section in hand
+section_fits : {C : Type 0} {N : ℕ} (truths : Truths C) (notes : ℕ → NoteStanding) (cvs : Cvs) (held : Option (Held C N)) → IsSome held → AreVariables (Any cvs) → IsSettled truths held → StartFits truths notes (OnLock (wait_first N (waits_for_any (mode_waited (mode_of held)) cvs))) held
+section_fits truths notes cvs None some there settled = absurd (cc)
+section_fits truths notes cvs (Some section) some there settled =
+    let may : MayWait truths (waits_for_any section.mode cvs) false section = record { mode = refl; unmet = there; settled = λ e. settled; back = λ e. absurd (cc) } in
+    ((refl, tt), ((may, tt), tt), tt, refl)
 
 module _ {C : Type 0} {N : ℕ} (old new : Whole C N) (seat : ℕ) (lawful : IsLawfulWhole old) where
   -- what has led to the world
@@ -123,18 +148,27 @@ module _ {C : Type 0} {N : ℕ} (old new : Whole C N) (seat : ℕ) (lawful : IsL
           looks = subst (λ w. LooksWhere p.round w (want_of (wait_first {C = C} N (waits_for_any (mode_waited (mode_of p.view.held)) p.cvs)))) (sym nowhere) refl;
         }
 
-    pub begins_to_wait_keeps : IsLawfulWorld new.lock → IsLawfulWhole new
-    begins_to_wait_keeps now_lawful =
+    -- the call leaves a section to wait, and there are variables that it waits for
+    begun_lawful : IsLawfulWorld new.lock
+    begun_lawful =
+        let alone : StandsAlone old seat = subst (StandsBy old seat) p.waits_not (lawful.stands seat) in
+        let holds = subst (λ w. MayWaitOnLock w p.view.held) p.walks (alone.may p.view p.at) in
+        let fits = (lawful.objects_lawful.each seat (InRound p.round p.place) p.walks).0 in
+        let few : p.cvs.0 < 256 = let low = p.low in omega (arith, low) in
+        let one = some_among (items_of p.round.items) p.named in
+        let all = all_low old.objects.setup old.lock.env.notes (items_of p.round.items) fits.1 in
+        let some = are_some p.cvs one.0 few (p.among one.0 ∙ one.1) (λ j is. low_if_among (items_of p.round.items) j all (sym (p.among j) ∙ is)) in
+        subst IsLawfulWorld (sym p.begins) (begun_keeps old.lock seat lawful.lock p.view (OnLock (wait_first N (waits_for_any (mode_waited (mode_of p.view.held)) p.cvs))) p.at p.idle p.unasked
+        (section_fits old.lock.truths old.lock.env.notes p.cvs p.view.held (holds p.named) some (is_settled old.lock seat lawful.lock p.view p.at p.idle)))
+
+    begins_to_wait_keeps : IsLawfulWhole new
+    begins_to_wait_keeps =
         let put = put_over (InRound p.round p.place) p.walks p.then Idle p.operated (Some wait_begun) p.becomes in
-        stood_lawful put now_lawful (ap (λ (w : Now C N). length w.state.views) p.begins ∙ length-set old.lock.state.views seat begun) begun_env
+        stood_lawful put begun_lawful (ap (λ (w : Now C N). length w.state.views) p.begins ∙ length-set old.lock.state.views seat begun) begun_env
         (λ other ne. subst (λ (w : Now C N). Rests old.lock w other) (sym p.begins) (begun_rests old.lock seat p.view (OnLock (wait_first N (waits_for_any (mode_waited (mode_of p.view.held)) p.cvs))) other ne))
         (lawful.events ++ p.operated.events) (begins_to_wait_led past old new seat step lawful led p).1.1 waits_now
 
   -- ---- a step of a wait that is there
-
-  -- what the law says of the seat's place on the lock
-  place_fits : (view : SeatView C N) → slice_get old.lock.state.views seat ≡ Some view → PlaceFits old.lock.truths view.walk view.held
-  place_fits view at = (view_fits old.lock.truths (length old.lock.state.views) lawful.lock.few old.lock.history old.lock.state (take seat old.lock.state.views) view (drop (suc seat) old.lock.state.views) (split_at old.lock.state.views seat view at) lawful.lock.lawful).place
 
   module _ (wait : AnyWait) (waits : wait_in old.objects.waits seat ≡ Some wait) where
     pub there_as : WaitsOnLock old seat wait
@@ -149,7 +183,7 @@ module _ {C : Type 0} {N : ℕ} (old new : Whole C N) (seat : ℕ) (lawful : IsL
       limits_so = which (looks_at (want_of there_as.walk)) looks_so
 
       pub out : LooksOut there_as.walk
-      out = looks_out old.lock.truths there_as.view.held there_as.mode there_as.cvs there_as.walk limits_so.0 limits_so.1 there_as.asked (subst (λ w. PlaceFits old.lock.truths w there_as.view.held) there_as.walks (place_fits there_as.view there_as.at))
+      out = looks_out old.lock.truths there_as.view.held there_as.mode there_as.cvs there_as.walk limits_so.0 limits_so.1 there_as.asked (subst (λ w. PlaceFits old.lock.truths w there_as.view.held) there_as.walks (place_fits old.lock seat lawful.lock there_as.view there_as.at))
 
     -- a step on the lock
     module _ (told : Step) (acts : Acts old.lock new.lock seat told) where
@@ -210,7 +244,7 @@ module _ {C : Type 0} {N : ℕ} (old new : Whole C N) (seat : ℕ) (lawful : IsL
     leads_there : walk_after (got_of N p.acts.goes.makes.walk p.acts.goes.found) ≡ Some leads.after
     leads_there = ap (λ (f : Found). walk_after (got_of N p.acts.goes.makes.walk f)) p.looked ∙ leads.is
 
-    pub ends_look_keeps : IsLawfulWorld new.lock → IsLawfulWhole new
+    ends_look_keeps : IsLawfulWorld new.lock → IsLawfulWhole new
     ends_look_keeps now_lawful =
         let put = put_over p.walk p.walks p.then p.told p.operated (Some wait_shown) p.becomes in
         let setup = setup_same put in
@@ -222,7 +256,7 @@ module _ {C : Type 0} {N : ℕ} (old new : Whole C N) (seat : ℕ) (lawful : IsL
   -- ---- it makes a step of its own
 
   module _ (step : Step) (p : WaitSteps old new seat step) where
-    pub wait_steps_keeps : IsLawfulWorld new.lock → IsLawfulWhole new
+    wait_steps_keeps : IsLawfulWorld new.lock → IsLawfulWhole new
     wait_steps_keeps now_lawful = by (after p.wait p.waits p.told p.acts) refl where
       low : seat < 64
       low = low_if (there_as p.wait p.waits).view (there_as p.wait p.waits).at
@@ -250,3 +284,13 @@ module _ {C : Type 0} {N : ℕ} (old new : Whole C N) (seat : ℕ) (lawful : IsL
           let setup = setup_same (put_once low at (Some p.wait) (becomes_as (Some walk) is)) in
           stood_lawful (put_once low at (Some p.wait) (becomes_as (Some walk) is)) now_lawful (views_same p.wait p.waits p.told p.acts) p.acts.goes.env (rests_so p.wait p.waits p.told p.acts) lawful.events still
           (waits_at p.wait p.waits p.told p.acts walk is at p.wait refl here (due walk (is_some (looks_at (want_of walk))) refl) setup)
+
+  -- ---- any step
+
+  pub step_keeps : 0 < N → QuietKeeps N old.lock.truths → (step : Step) → WholeStep old new seat step → IsLawfulWhole new
+  step_keeps some quiet step (inl p) = subst IsLawfulWhole (sym p.1) lawful
+  step_keeps some quiet step (inr (inl p)) = lock_keeps some old new quiet seat step lawful p
+  step_keeps some quiet step (inr (inr (inl p))) = operates_keep_whole old new seat step lawful p
+  step_keeps some quiet step (inr (inr (inr (inl p)))) = begins_to_wait_keeps step p
+  step_keeps some quiet step (inr (inr (inr (inr (inl p))))) = ends_look_keeps step p (moves_keep old.lock seat lawful.lock some quiet new.lock step (inl p.acts))
+  step_keeps some quiet step (inr (inr (inr (inr (inr p))))) = wait_steps_keeps step p (moves_keep old.lock seat lawful.lock some quiet new.lock p.told (inl p.acts))

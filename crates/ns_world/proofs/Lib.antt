@@ -22,4 +22,5 @@ pub mod Walks
 pub mod WholeCalls
 pub mod WholeLed
 pub mod Wholes
+pub mod WorldLaw
 pub mod Worlds

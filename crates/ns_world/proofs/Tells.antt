@@ -1,21 +1,18 @@
--- What a step on the parts of a world, or the beginning of a call, is in that world, which is lawful after it.
-use Rattle.std.specs.List.{list_all}
-use Rattle.std.proofs.Common.{◌≡◌, ℕ, ◌<◌, ◌≤◌, not, Bool, true, false, List, [], ◌∷◌, Option, None, Some, IsSome, length, map, get_or, slice_get, slice_set, refl, ap, sym, ◌∙◌, subst, arith, inl, inr}
-use Rattle.ns_world.proofs.Below.{append-nil, first_of_all, length-map, ltb-true, rest_of_all, same_Some, set_here}
-use Rattle.ns_world.specs.Prelude.{Call, CallFits, CallInRange, Commits, EnvMoves, EnvWalk, Misuses, OutOfMemory, Start, WholeFault, WholeIsIdle, WholeStarts, object_start, objects_begun, placed, start_of}
-use Rattle.ns_world.specs.Prelude.{Acts, Any, AnyWait, AreVariables, Await, BeginsToWait, CanTell, Cvs, Effect, EndsLook, EnvPlain, Environment, Event, Every, HasOperated, HasTold, Held, Idle, InRound, InWait, IsFew, IsLawfulWhole, IsLawfulWorld, IsLow, IsSettled, Item, Lists}
-use Rattle.ns_world.specs.Prelude.{Looked, LooksWhere, MayShow, MayWait, MayWaitOnLock, Mode, NoteStanding, Now, ObjectStanding, ObjectWalk, Objects, OnCounter, OnLock, OnNote, OnVariable, Performs, QuietKeeps, Seat, SeatView, Sees, Setup, StandsAlone, StandsBy}
-use Rattle.ns_world.specs.Prelude.{Step, Truths, WaitSteps, WaitsOnLock, Walk, WalkFits, Whole, WholeStep, Word, asked_of, asks_for_any, at_will, cause_of, is_alone, is_for_lock, is_there, items_of, looks_at, mode_of, mode_waited, now_with, objects_after}
+-- What a step on the parts of a world, or the beginning of a call, is in that world.
+use Rattle.std.proofs.Common.{◌≡◌, ℕ, ◌<◌, ◌≤◌, not, Bool, true, false, List, Option, None, Some, IsSome, length, map, get_or, slice_get, slice_set, refl, ap, sym, ◌∙◌, subst, arith, inl, inr}
+use Rattle.ns_world.proofs.Below.{length-map, same_Some, set_here}
+use Rattle.ns_world.specs.Prelude.{Call, CallFits, Commits, EnvMoves, EnvWalk, Misuses, OutOfMemory, Start, WholeFault, WholeIsIdle, WholeStarts, object_start, objects_begun, placed, start_of}
+use Rattle.ns_world.specs.Prelude.{Acts, AnyWait, Await, CanTell, Cvs, EnvPlain, Environment, Event, HasOperated, HasTold, Idle, InRound, InWait, IsFew, IsLawfulWhole, Lists}
+use Rattle.ns_world.specs.Prelude.{Looked, LooksWhere, MayShow, MayWaitOnLock, Mode, NoteStanding, Now, ObjectStanding, ObjectWalk, Objects, OnLock, Performs, Seat, SeatView, Sees, Setup, StandsAlone, StandsBy}
+use Rattle.ns_world.specs.Prelude.{Step, Truths, WaitsOnLock, Walk, WalkFits, Whole, WholeStep, Word, asked_of, asks_for_any, at_will, cause_of, is_alone, is_for_lock, items_of, looks_at, mode_of, mode_waited, now_with, objects_after}
 use Rattle.ns_world.specs.Prelude.{plain_of, seat_part, shown_by, step_told, view_of, wait_first, wait_in, waited_after, waits_among, waits_for_any, walk_in, want_of, whole, whole_with}
 use Rattle.ns_word.specs.declared.wait.Wait.{Wait}
 use Rattle.ns_world.proofs.AnyLooks.{LooksOut}
-use Rattle.ns_world.proofs.Awaits.{begins_to_wait_keeps, ends_look_keeps, next as view_after, next_at, out, there_as, wait_steps_keeps}
-use Rattle.ns_world.proofs.Wholes.{whole_begun, whole_moved, whole_starts}
-use Rattle.ns_world.proofs.Looking.{shown_effect}
+use Rattle.ns_world.proofs.Awaits.{all_low, next as view_after, next_at, out, there_as}
+use Rattle.ns_world.proofs.Wholes.{whole_starts}
 use Rattle.ns_world.proofs.Mapped.{got-map, map-set}
 use Rattle.ns_world.proofs.Placed.{begun_here, starts_here}
-use Rattle.ns_world.proofs.Places.{StartFits, start_fits}
-use Rattle.ns_world.proofs.Worlds.{acts_found, acts_here, inside_here, lawful_after, lawful_placed, moved_here, number_here, settled_here, unasked_cleared}
+use Rattle.ns_world.proofs.Worlds.{acts_found, acts_here, inside_here, moved_here, number_here, sees_performs}
 
 -- of several objects there are at most 16
 few_if : (setup : Setup) (now : ObjectStanding) (notes : ℕ → NoteStanding) (seat : ℕ) (walk : ObjectWalk) → WalkFits setup now notes seat walk → IsFew walk
@@ -32,15 +29,6 @@ as_it_was env seat walk objects then told wait b q is for_lock = ap (λ w. is_fo
 
 -- ---- what a seat may tell
 
-low_if_there : (setup : Setup) (notes : ℕ → NoteStanding) (item : Item) → is_there setup notes item ≡ true → IsLow item
-low_if_there setup notes (OnNote note) is = tt
-low_if_there setup notes (OnCounter counter) is = tt
-low_if_there setup notes (OnVariable k) is = ltb-true k 4 is
-
-all_low : (setup : Setup) (notes : ℕ → NoteStanding) (items : List Item) → list_all (is_there setup notes) items ≡ true → Every IsLow items
-all_low setup notes [] all = tt
-all_low setup notes (item ∷ items) all = (low_if_there setup notes item (first_of_all (is_there setup notes item) (list_all (is_there setup notes) items) all), all_low setup notes items (rest_of_all (is_there setup notes item) (list_all (is_there setup notes) items) all))
-
 -- a look of a wait for any of a set of variables goes by what is for its caller to say
 looks_will : {C : Type 0} (mode : Mode) (cvs : Cvs) (walk : Walk C) → asked_of walk ≡ Await (waits_for_any mode cvs) → LooksOut walk → looks_at (want_of walk) ≡ Some at_will
 looks_will mode cvs walk asked out =
@@ -51,13 +39,6 @@ looks_will mode cvs walk asked out =
 may_show : (shown : Option ℕ) → MayShow at_will (cause_of shown)
 may_show None = tt
 may_show (Some place) = refl
-
--- a wait for variables begins where there is a section in hand
-section_fits : {C : Type 0} {N : ℕ} (truths : Truths C) (notes : ℕ → NoteStanding) (cvs : Cvs) (held : Option (Held C N)) → IsSome held → AreVariables (Any cvs) → IsSettled truths held → StartFits truths notes (OnLock (wait_first N (waits_for_any (mode_waited (mode_of held)) cvs))) held
-section_fits truths notes cvs None some there settled = absurd (cc)
-section_fits truths notes cvs (Some section) some there settled =
-    let may : MayWait truths (waits_for_any section.mode cvs) false section = record { mode = refl; unmet = there; settled = λ e. settled; back = λ e. absurd (cc) } in
-    ((refl, tt), ((may, tt), tt), tt, refl)
 
 among_asks : {C : Type 0} (walk : Walk C) → asks_for_any (asked_of walk) ≡ false → waits_among walk ≡ false
 among_asks (InWait wait place) e = e
@@ -72,7 +53,7 @@ pub seat_within : {C : Type 0} {N : ℕ} (truths : Truths C) (word : Word) (row 
     IsLawfulWhole (whole_with truths word row queues flags env seats history objects) → (i : ℕ) (walk : ObjectWalk) → walk_in objects.walks i ≡ Some walk → i < length seats
 seat_within truths word row queues flags env seats history objects lawful i walk stands = let low = lawful.objects_lawful.within i walk stands in let is = lawful.seats in omega (arith, low, is, length-map seats view_of)
 
-module _ {C : Type 0} {N : ℕ} (truths : Truths C) (some : 0 < N) (quiet : QuietKeeps N truths) (word : Word) (row : List ℕ) (queues : Lists C) (flags : List ℕ) (env : Environment) (seats : List (Seat C N)) (history : List (Event C N)) (objects : Objects) (lawful : IsLawfulWhole
+module _ {C : Type 0} {N : ℕ} (truths : Truths C) (word : Word) (row : List ℕ) (queues : Lists C) (flags : List ℕ) (env : Environment) (seats : List (Seat C N)) (history : List (Event C N)) (objects : Objects) (lawful : IsLawfulWhole
     (whole_with truths word row queues flags env seats history objects)) (i : ℕ) (d : Seat C N) (within : i < length seats) where
   abbrev old : Whole C N
   old = whole_with truths word row queues flags env seats history objects
@@ -137,31 +118,13 @@ module _ {C : Type 0} {N : ℕ} (truths : Truths C) (some : 0 < N) (quiet : Quie
         let s = waits_as wait waits in
         subst (λ w. looks_at (want_of w) ≡ Some at_will) same_place (looks_will s.mode s.cvs s.walk s.asked (out old old i lawful wait waits walk stands))
 
-    -- it is a step of the wait
-    sees_performs : Performs truths (seat_part word row queues flags (get_or seats i d)) (get_or seats i d) history place (seat_part word row queues flags next) next history step
-    sees_performs = record {
-      found = Looked (cause_of shown);
-      commits = [];
-      effect = subst (λ (x : Seat C N). Effect truths (get_or seats i d).number (want_of place) (seat_part word row queues flags (get_or seats i d)) (Looked (cause_of shown)) (seat_part word row queues flags x) []) (sym sees.goes)
-          (shown_effect truths (get_or seats i d).number (want_of place) at_will (cause_of shown) (seat_part word row queues flags (get_or seats i d)) looks_at_will (may_show shown));
-      number = ap (λ (x : Seat C N). x.number) sees.goes;
-      goes = ap (λ (x : Seat C N). x.walk) sees.goes;
-      asking = ap (λ (x : Seat C N). x.asking) sees.goes;
-      tests = ap (λ (x : Seat C N). x.tests) sees.goes;
-      grows = sym (append-nil history);
-      answers = sees.answers;
-    }
-
     sees_acts : (acts : Acts old.lock (now_with truths word row queues flags env (slice_set seats i next) history) i step) × (acts.goes.found ≡ Looked (cause_of shown))
     unfolding sees_performs
-    sees_acts = (
-      acts_here truths some quiet word row queues flags env seats history lawful.lock i d within place at word row queues flags next history step sees_performs (unasked_as wait waits),
-      acts_found truths some quiet word row queues flags env seats history lawful.lock i d within place at word row queues flags next history step sees_performs (unasked_as wait waits),
-    )
-
-    sees_lawful : IsLawfulWorld (now_with truths word row queues flags env (slice_set seats i next) history)
-    sees_lawful = lawful_after truths some quiet word row queues flags env seats history lawful.lock i d within place at word row queues flags next history step sees_performs lawful.lock.events (unasked_cleared truths some quiet word row queues flags env seats history lawful.lock i d
-        within (unasked_as wait waits))
+    sees_acts =
+        let p = sees_performs truths word row queues flags env seats history lawful.lock i d within place at_will (cause_of shown) looks_at_will (may_show shown) next step sees in (
+          acts_here truths word row queues flags env seats history lawful.lock i d within place at word row queues flags next history step p (unasked_as wait waits),
+          acts_found truths word row queues flags env seats history lawful.lock i d within place at word row queues flags next history step p (unasked_as wait waits),
+        )
 
   -- ---- the lock was told
 
@@ -169,25 +132,19 @@ module _ {C : Type 0} {N : ℕ} (truths : Truths C) (some : 0 < N) (quiet : Quie
     abbrev new : Whole C N
     new = whole_with truths word row queues flags env (slice_set seats i next) history objects'
 
-    -- what it is in the world, which is lawful after it
-    pub told_here : (wait : Option AnyWait) → wait_in then.waits i ≡ wait → is_for_lock wait walk told ≡ true → HasTold (get_or seats i d) then i wait walk told next objects' step → WholeStep old new i step × IsLawfulWhole new
+    -- what it is in the world
+    pub told_here : (wait : Option AnyWait) → wait_in then.waits i ≡ wait → is_for_lock wait walk told ≡ true → HasTold (get_or seats i d) then i wait walk told next objects' step → WholeStep old new i step
     told_here wait waits for_lock p = by wait (sym (ap (λ (o : Objects). wait_in o.waits i) q.becomes) ∙ waits) walk stands told q for_lock p where
       by : (wait : Option AnyWait) → wait_in objects.waits i ≡ wait → (walk : ObjectWalk) → walk_in objects.walks i ≡ Some walk → (told : Step) → HasOperated (plain_of env) i walk objects then told →
-          is_for_lock wait walk told ≡ true → HasTold (get_or seats i d) then i wait walk told next objects' step → WholeStep old new i step × IsLawfulWhole new
+          is_for_lock wait walk told ≡ true → HasTold (get_or seats i d) then i wait walk told next objects' step → WholeStep old new i step
       by (Some wait) waits walk stands told q for_lock p =
           let acts = sees_acts wait waits walk stands (shown_by told) p.0 p.1 next step p.2 in
-          let ends : EndsLook old new i step = record { wait = wait; waits = waits; walk = walk; walks = stands; told = told; for_lock = for_lock; then = then; operated = q; acts = acts.0; looked = acts.1; becomes = p.3 } in (
-            inr (inr (inr (inr (inl ends)))),
-            ends_look_keeps old new i lawful step ends (sees_lawful wait waits walk stands (shown_by told) p.0 p.1 next step p.2),
-          )
+          inr (inr (inr (inr (inl (record { wait = wait; waits = waits; walk = walk; walks = stands; told = told; for_lock = for_lock; then = then; operated = q; acts = acts.0; looked = acts.1; becomes = p.3 })))))
       by None waits (InRound round place) stands Idle q for_lock p =
           let over = over_as waits (InRound round place) stands in
           let unasked = unasked_over waits (InRound round place) stands in
-          let holds = subst (λ w. MayWaitOnLock w (get_or seats i d).held) stands ((alone_as waits).may (view_of (get_or seats i d)) view_at) in
           let start = OnLock (wait_first N (waits_for_any (mode_waited (mode_of (get_or seats i d).held)) p.0)) in
-          let fits = section_fits truths (plain_of env).notes p.0 (get_or seats i d).held (holds for_lock) p.2 (settled_here truths some quiet word row queues flags env seats history lawful.lock i d within over) in
-          let now_lawful = subst (λ (s : Seat C N). IsLawfulWorld (now_with truths word row queues flags env (slice_set seats i s) history)) (sym p.3) (lawful_placed truths some quiet word row queues flags env seats history lawful.lock i d within start over unasked fits) in
-          let begins : BeginsToWait old new i step = record {
+          inr (inr (inr (inl (record {
             round = round;
             place = place;
             walks = stands;
@@ -205,10 +162,7 @@ module _ {C : Type 0} {N : ℕ} (truths : Truths C) (some : 0 < N) (quiet : Quie
             begins = ap (λ (s : Seat C N). now_with truths word row queues flags env (slice_set seats i s) history) p.3 ∙ begun_here truths word row queues flags env seats history i d within start;
             becomes = p.4;
             answer = p.5;
-          } in (
-            inr (inr (inr (inl begins))),
-            begins_to_wait_keeps old new i lawful step begins now_lawful,
-          )
+          }))))
       by None waits walk stands told q for_lock p = absurd (cc)
 
   -- ---- a step on the lock, or on the clock and the notes, of a seat that is at no place on the objects
@@ -220,7 +174,7 @@ module _ {C : Type 0} {N : ℕ} (truths : Truths C) (some : 0 < N) (quiet : Quie
       by : (wait : Option AnyWait) → wait_in objects.waits i ≡ wait → looks_at (want_of walk) ≡ None
       by None waits =
           let alone : is_alone (Some walk) ≡ true = ap is_alone (sym walks) ∙ (alone_as waits).alone (view_of (get_or seats i d)) view_at in
-          inside_here truths some quiet word row queues flags env seats history lawful.lock i d within walk walks unasked (among_asks walk (if_not (asks_for_any (asked_of walk)) alone))
+          inside_here truths word row queues flags env seats history lawful.lock i d within walk walks unasked (among_asks walk (if_not (asks_for_any (asked_of walk)) alone))
       by (Some wait) waits =
           let s = waits_as wait waits in
           let walk_is : s.walk ≡ walk = same_Some _ _ (sym (walk_as wait waits) ∙ walks) in
@@ -231,16 +185,16 @@ module _ {C : Type 0} {N : ℕ} (truths : Truths C) (some : 0 < N) (quiet : Quie
 
     -- on the clock and the notes
     pub asked_here : (place : EnvWalk) → (get_or seats i d).asking ≡ Some place → (env' : Environment) (next : Seat C N) (step : Step) → EnvMoves (plain_of env) (plain_of env') (get_or seats i d) place next step →
-        WholeStep old (whole_with truths word row queues flags env' (slice_set seats i next) history objects) i step × IsLawfulWhole (whole_with truths word row queues flags env' (slice_set seats i next) history objects)
-    asked_here place stands env' next step p =
-        let moved = moved_here truths some quiet word row queues flags env seats history lawful.lock i d within place stands env' next step p in
-        let waits = waits_not (wait_in objects.waits i) refl in (
-          inr (inl (record { moves = moved.0; same = refl; elsewhere = nowhere; waits_not = waits })),
-          whole_moved old (now_with truths word row queues flags env' (slice_set seats i next) history) i step lawful moved.0 moved.1 nowhere waits,
-        ) where
-          waits_not : (wait : Option AnyWait) → wait_in objects.waits i ≡ wait → wait_in objects.waits i ≡ None
-          waits_not None waits = waits
-          waits_not (Some wait) waits = let clash : None ≡ Some place = sym (unasked_as wait waits) ∙ stands in absurd (cc)
+        WholeStep old (whole_with truths word row queues flags env' (slice_set seats i next) history objects) i step
+    asked_here place stands env' next step p = inr (inl (record {
+      moves = moved_here truths word row queues flags env seats history lawful.lock i d within place stands env' next step p;
+      same = refl;
+      elsewhere = nowhere;
+      waits_not = waits_not (wait_in objects.waits i) refl;
+    })) where
+      waits_not : (wait : Option AnyWait) → wait_in objects.waits i ≡ wait → wait_in objects.waits i ≡ None
+      waits_not None waits = waits
+      waits_not (Some wait) waits = let clash : None ≡ Some place = sym (unasked_as wait waits) ∙ stands in absurd (cc)
 
     -- on the lock
     module _ (walk : Walk C) (walks : (get_or seats i d).walk ≡ Some walk) (unasked : (get_or seats i d).asking ≡ None) (word' : Word) (row' : List ℕ) (queues' : Lists C) (flags' : List ℕ) (next : Seat C N) (history' : List (Event C N)) (told : Step)
@@ -249,21 +203,18 @@ module _ {C : Type 0} {N : ℕ} (truths : Truths C) (some : 0 < N) (quiet : Quie
       then = now_with truths word' row' queues' flags' env (slice_set seats i next) history'
 
       acts : Acts old.lock then i told
-      acts = acts_here truths some quiet word row queues flags env seats history lawful.lock i d within walk walks word' row' queues' flags' next history' told p unasked
+      acts = acts_here truths word row queues flags env seats history lawful.lock i d within walk walks word' row' queues' flags' next history' told p unasked
 
-      then_lawful : IsLawfulWorld then
-      then_lawful = lawful_after truths some quiet word row queues flags env seats history lawful.lock i d within walk walks word' row' queues' flags' next history' told p lawful.lock.events (unasked_cleared truths some quiet word row queues flags env seats history lawful.lock i d within unasked)
-
-      pub performed_here : wait_in objects.waits i ≡ None → WholeStep old (whole then objects) i told × IsLawfulWhole (whole then objects)
-      performed_here waits = (inr (inl (record { moves = inl acts; same = refl; elsewhere = nowhere; waits_not = waits })), whole_moved old then i told lawful (inl acts) then_lawful nowhere waits)
+      pub performed_here : wait_in objects.waits i ≡ None → WholeStep old (whole then objects) i told
+      performed_here waits = inr (inl (record { moves = inl acts; same = refl; elsewhere = nowhere; waits_not = waits }))
 
       -- of a wait for variables among objects
-      pub waited_here : (wait : AnyWait) → wait_in objects.waits i ≡ Some wait → (objects' : Objects) → objects' ≡ waited_after objects i wait next.walk → (step : Step) → step ≡ step_told wait told → WholeStep old (whole then objects') i step × IsLawfulWhole (whole then objects')
+      pub waited_here : (wait : AnyWait) → wait_in objects.waits i ≡ Some wait → (objects' : Objects) → objects' ≡ waited_after objects i wait next.walk → (step : Step) → step ≡ step_told wait told → WholeStep old (whole then objects') i step
       waited_here wait waits objects' becomes step answer =
           let after : Whole C N = whole then objects' in
           let at : slice_get (map view_of (slice_set seats i next)) i ≡ Some (view_of next) = ap (λ vs. slice_get vs i) (map-set view_of seats i next) ∙ set_here (map view_of seats) i (view_of next) (omega (arith, within, length-map seats view_of)) in
           let view_is : view_after old after i lawful wait waits told acts ≡ view_of next = same_Some _ _ (sym (next_at old after i lawful wait waits told acts) ∙ at) in
-          let steps : WaitSteps old after i step = record {
+          inr (inr (inr (inr (inr (record {
             wait = wait;
             waits = waits;
             elsewhere = nowhere;
@@ -271,14 +222,13 @@ module _ {C : Type 0} {N : ℕ} (truths : Truths C) (some : 0 < N) (quiet : Quie
             acts = acts;
             becomes = becomes ∙ ap (λ (v : SeatView C N). waited_after objects i wait v.walk) (sym view_is);
             answer = answer;
-          } in
-          (inr (inr (inr (inr (inr steps)))), wait_steps_keeps old after i lawful step steps then_lawful)
+          })))))
 
   -- a step is refused that would commit an event
   pub refused_here : (walk : Walk C) → (get_or seats i d).walk ≡ Some walk → Commits (get_or seats i d).number (want_of walk) word queues → WholeFault old i OutOfMemory
   refused_here walk walks commits = (
     record { view = view_of (get_or seats i d); at = view_at; walk = walk; walks = walks },
-    subst (λ n. Commits n (want_of walk) word queues) (number_here truths some quiet word row queues flags env seats history lawful.lock i d within) commits,
+    subst (λ n. Commits n (want_of walk) word queues) (number_here truths word row queues flags env seats history lawful.lock i d within) commits,
   )
 
   pub few_there : (wait : AnyWait) → wait_in objects.waits i ≡ Some wait → wait.round.items.count ≤ 16
@@ -290,13 +240,6 @@ module _ {C : Type 0} {N : ℕ} (truths : Truths C) (some : 0 < N) (quiet : Quie
     pub misused_here : (CallFits objects.setup (plain_of env).notes call (mode_of (get_or seats i d).held) → ⊥) → Misuses objects.setup old.lock i call
     misused_here unfit = record { view = view_of (get_or seats i d); at = view_at; idle = over; unasked = ask_at ∙ ap Some unasked; unfit = unfit }
 
-    pub begins_here : (start : Start C) → CallInRange N call → start ≡ start_of N (mode_of (get_or seats i d).held) call → CallFits objects.setup (plain_of env).notes call (mode_of (get_or seats i d).held) →
+    pub begins_here : (start : Start C) → start ≡ start_of N (mode_of (get_or seats i d).held) call → CallFits objects.setup (plain_of env).notes call (mode_of (get_or seats i d).held) →
         WholeStarts old (whole (now_with truths word row queues flags env (slice_set seats i (placed (get_or seats i d) start)) history) (objects_begun objects i (object_start call))) i call
-        × IsLawfulWhole (whole (now_with truths word row queues flags env (slice_set seats i (placed (get_or seats i d) start)) history) (objects_begun objects i (object_start call)))
-    begins_here start range is fits =
-        let settled = settled_here truths some quiet word row queues flags env seats history lawful.lock i d within over in
-        let place : StartFits truths (plain_of env).notes start (get_or seats i d).held = subst (λ s. StartFits truths (plain_of env).notes s (get_or seats i d).held) (sym is) (start_fits truths (plain_of env).notes objects.setup call (get_or seats i d).held some range fits settled) in
-        let now_lawful = lawful_placed truths some quiet word row queues flags env seats history lawful.lock i d within start over unasked place in
-        let starts = starts_here truths word row queues flags env seats history i d within objects.setup call start is over unasked fits in
-        let now : Now C N = now_with truths word row queues flags env (slice_set seats i (placed (get_or seats i d) start)) history in
-        (whole_starts old lawful now i call starts now_lawful nowhere, whole_begun old lawful now i call starts now_lawful nowhere)
+    begins_here start is fits = whole_starts old lawful (now_with truths word row queues flags env (slice_set seats i (placed (get_or seats i d) start)) history) i call (starts_here truths word row queues flags env seats history i d within objects.setup call start is over unasked fits) nowhere

@@ -14,9 +14,8 @@ use Rattle.ns_env.proofs.Courses.{begins_course, others_leave_course, step_takes
 use Rattle.ns_word.proofs.ToldAfter.{own_append, own_none, step_by, own_all}
 use Rattle.ns_env.specs.declared.walk.EnvNext.TheVariants.{Repeat, Over}
 use Rattle.ns_word.specs.declared.walk.Next.TheVariants.{Done}
-use Rattle.ns_world.proofs.EnvGrows.{events_by}
+use Rattle.ns_world.proofs.EnvGrows.{env_begins, events_by}
 use Rattle.ns_world.proofs.Looking.{FirstIf, first_if, noted}
-use Rattle.ns_world.proofs.Worlds.{env_begins}
 use Rattle.ns_env.specs.declared.request.EnvRequest.TheVariants as TheEnvRequest
 use Rattle.ns_word.specs.declared.walk.Next.TheVariants as TheNext
 

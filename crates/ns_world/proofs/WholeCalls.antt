@@ -279,9 +279,9 @@ module _ (C : Type 0) (N : ℕ) (before : Whole C N) (earlier : Past) (seat : �
             by (inl q) = subst (Still old) (sym q.1) (still_here old)
             by (inr q) = still_moves step q
 
-      starts_there : (call : Call C) → IsLawfulWhole new → WholeStarts old new other call → UnderwayIn phase (past_and past nothing_done) new
-      starts_there call now_lawful p =
-          let led : HasLedTo past new = (started_led C N before.lock earlier.notes seat old.objects.setup past.notes old.lock new.lock other call p.starts u.lock.led, starts_led past.objects old new other call lawful now_lawful p u.led) in
+      starts_there : (call : Call C) → WholeStarts old new other call → UnderwayIn phase (past_and past nothing_done) new
+      starts_there call p =
+          let led : HasLedTo past new = (started_led C N before.lock earlier.notes seat old.objects.setup past.notes old.lock new.lock other call p.starts u.lock.led, starts_led past.objects old new other call lawful p u.led) in
           stays_in phase past nothing_done old new (still_begun (object_start call) p.becomes (begin_there C N before.lock earlier.notes seat old.objects.setup old.lock new.lock other call ne p.starts)) (no_more past new led)
           (no_more_notes C N before.lock earlier.notes seat past.notes) (no_own past.objects) u
 
@@ -773,14 +773,14 @@ module _ (C : Type 0) (N : ℕ) (before : Whole C N) (earlier : Past) (seat : �
   }
   objects_begin begun mode other notes fits stands waits = record { nowhere = stands; waits_not = waits; untouched = refl }
 
-  begins_in : (begun : Whole C N) (call : Call C) → IsLawfulWhole before → IsLawfulWhole begun → HasLedTo earlier before → WholeStarts before begun seat call → UnderwayIn (inl (asks_of (mode_of (held_at before.lock seat)) call)) earlier begun
-  begins_in begun call lawful now_lawful led p =
+  begins_in : (begun : Whole C N) (call : Call C) → IsLawfulWhole before → HasLedTo earlier before → WholeStarts before begun seat call → UnderwayIn (inl (asks_of (mode_of (held_at before.lock seat)) call)) earlier begun
+  begins_in begun call lawful led p =
       let is : held_at before.lock seat ≡ p.starts.view.held = ap held_in p.starts.at in
-      let waits = ap (λ (o : Objects). wait_in o.waits seat) p.becomes ∙ begun_waits before.objects seat (object_start call) ∙ begun_waits_not before lawful begun.lock seat call p.starts now_lawful.lock p.elsewhere in
+      let waits = ap (λ (o : Objects). wait_in o.waits seat) p.becomes ∙ begun_waits before.objects seat (object_start call) ∙ begun_waits_not before lawful begun.lock seat call p.starts p.elsewhere in
       record {
         setup = ap (λ (o : Objects). o.setup) p.becomes ∙ begun_setup before.objects seat (object_start call);
         since = begins_itself earlier.objects;
-        led = starts_led earlier.objects before begun seat call lawful now_lawful p led.1;
+        led = starts_led earlier.objects before begun seat call lawful p led.1;
         lock = begins_underway C N before.lock earlier.notes seat before.objects.setup begun.lock call led.0 p.starts;
         objects = subst (λ held. OnObjects (inl (asks_of (mode_of held) call)) earlier begun) (sym is) (objects_begin begun (mode_of p.starts.view.held) call led.0.lawful.meets.notes p.starts.fits p.stands waits);
       }
@@ -810,7 +810,7 @@ module _ (C : Type 0) (N : ℕ) (before : Whole C N) (earlier : Past) (seat : �
         let s = begun.1.starts in
         let idle : IsIdle old.lock who = record { view = s.view; at = s.at; idle = s.idle; unasked = s.unasked } in
         absurd (busy_in u.0 past old u.2 (subst (IsIdle old.lock) e idle) (subst (λ n. walk_in old.objects.walks n ≡ None) e begun.1.elsewhere))
-    by_whom who (inl begun) (inr ne) = (u.0, u.1, starts_there old new who ne u.0 past lawful u.2 begun.0 h.lawful begun.1)
+    by_whom who (inl begun) (inr ne) = (u.0, u.1, starts_there old new who ne u.0 past lawful u.2 begun.0 begun.1)
     by_whom who (inr stepped) (inl e) = step_by_itself asked past old new who stepped.0 e lawful stepped.1 (stepped.2 e) u
     by_whom who (inr stepped) (inr ne) = (u.0, u.1, step_there old new who ne u.0 past lawful u.2 stepped.0 stepped.1)
 
@@ -831,7 +831,7 @@ pub calls_mean : {C : Type 0} {N : ℕ} (n seat : ℕ) (before begun last after 
     HasLedTo later after × AnswersCall before earlier seat call reply after later
 calls_mean {C} {N} n seat before begun last after earlier call reply lawful led starts now_lawful meanwhile finish =
     let asked = asks_of (mode_of (held_at before.lock seat)) call in
-    let on = meanwhile_on C N before earlier seat asked n earlier begun last now_lawful meanwhile (inl asked, refl, begins_in C N before earlier seat begun call lawful now_lawful led starts) in
+    let on = meanwhile_on C N before earlier seat asked n earlier begun last now_lawful meanwhile (inl asked, refl, begins_in C N before earlier seat begun call lawful led starts) in
     let past = past_and earlier (happened seat n begun last meanwhile) in
     let end = step_here C N before earlier seat asked past last after (Finished reply) on.0 finish on.1 in
     subst (λ es. HasLedTo es after × AnswersCall before earlier seat call reply after es) (past_assoc C N before earlier seat earlier (happened seat n begun last meanwhile) (done_in last after seat (Finished reply) finish)) end

@@ -108,6 +108,6 @@ steps_led past old new seat step lawful led (inl p) = (tt, tt, no_more past new 
 steps_led past old new seat step lawful led (inr p) = whole_led past old new seat step lawful led p
 
 -- and when a call has begun
-pub starts_led : {C : Type 0} {N : ℕ} (history : List ObjectEvent) (old new : Whole C N) (seat : ℕ) (call : Call C) → IsLawfulWhole old → IsLawfulWhole new → WholeStarts old new seat call → HaveLedTo history old → HaveLedTo history new
-starts_led history old new seat call lawful now_lawful p led =
-    subst (λ (o : Objects). AreLedTo history o new.lock.env.notes) (sym p.becomes) (begun_led old lawful new.lock seat call p.starts now_lawful.lock p.elsewhere history led (object_start call) refl)
+pub starts_led : {C : Type 0} {N : ℕ} (history : List ObjectEvent) (old new : Whole C N) (seat : ℕ) (call : Call C) → IsLawfulWhole old → WholeStarts old new seat call → HaveLedTo history old → HaveLedTo history new
+starts_led history old new seat call lawful p led =
+    subst (λ (o : Objects). AreLedTo history o new.lock.env.notes) (sym p.becomes) (begun_led old lawful new.lock seat call p.starts p.elsewhere history led (object_start call) refl)

@@ -2,9 +2,9 @@
 use Rattle.std.proofs.Common.{Bool, ◌≡◌, ◌≢◌, ℕ, ◌<◌, ◌≤◌, true, false, not, List, [], ◌++◌, Option, None, Some, IsSome, length, replicate, slice_get, slice_set, slice_index, refl, ap, sym, ◌∙◌, subst, arith, inl, inr}
 use Rattle.ns_world.proofs.Below.{Fit, StaysAsked, asked_stays, cases_eq, if_made_stays, led_more, length-replicate, length-set, operates_keeps, put_here, put_keeps, put_there, quiet_asks, same_Some, set_here, set_there, slice_get_within, some_among, stands_within, stays_asked, test_asks}
 use Rattle.ns_world.proofs.Below.{there_more}
-use Rattle.ns_world.specs.Prelude.{objects_state, Act, Add, AnyWait, AreLedTo, AreThere, Ask, Call, CallFits, CounterWait, Done, EnvNext, EnvPlain, Found, Goes, HasOperated, Held, InRound, IsIdle}
-use Rattle.ns_world.specs.Prelude.{IsLawfulWhole, IsLawfulWorld, LookGoes, LooksWhere, Meets, Mode, Moves, NoteStanding, Now, ObjectEvent, ObjectFound, ObjectNext, ObjectStanding, ObjectWalk, Objects, OnCondition, OnEntry}
-use Rattle.ns_world.specs.Prelude.{OnLock, OnObjects, Once, Operates, Over, Repeat, Round, SeatView, Setup, StandsAlone, StandsBy, Start, Starts, Step, StepFits, ToRelease, Truths}
+use Rattle.ns_world.specs.Prelude.{objects_state, Act, Add, AnyWait, AreLedTo, AreThere, Ask, Call, CallFits, CallInRange, CounterWait, Done, EnvNext, EnvPlain, Found, Goes, HasOperated, Held, InRound, IsIdle}
+use Rattle.ns_world.specs.Prelude.{IsLawfulWhole, IsLawfulWorld, LockSteps, LookGoes, LooksWhere, Meets, Mode, Moves, NoteStanding, Now, ObjectEvent, ObjectFound, ObjectNext, ObjectStanding, ObjectWalk, Objects, OnCondition, OnEntry}
+use Rattle.ns_world.specs.Prelude.{OnLock, OnObjects, Once, Operates, Over, QuietKeeps, Repeat, Round, SeatView, Setup, StandsAlone, StandsBy, Start, Starts, Step, StepFits, ToRelease, Truths}
 use Rattle.ns_world.specs.Prelude.{UnlockQuiet, Value, Wait, WaitAny, Walk, WalkFits, Whole, WholeStarts, asks_for_any, begun_at, env_got_of, env_want_of, fresh_whole, got_of, is_alone, is_for_lock, items_of, mode_of, mode_waited}
 use Rattle.ns_world.specs.Prelude.{most, object_after, object_asked, object_got, object_start, object_step_of, objects_after, objects_begun, put_at, start_of, stood_at, wait_in, walk_after, walk_in, want_of, whole}
 use Rattle.ns_counters.proofs.NewObjects.{new_lawful}
@@ -13,6 +13,7 @@ use Rattle.ns_world.specs.Whole.{MayWait}
 use Rattle.ns_world.proofs.Fresh.{lawful_new, length_views, no_walk}
 use Rattle.ns_world.proofs.Turns.{moves_stay, begun_stays, Pairs, pairs}
 use Rattle.ns_world.proofs.Walks.{none_stand, none_wait}
+use Rattle.ns_world.proofs.WorldLaw.{moves_keep, starts_keep}
 use Rattle.ns_env.specs.declared.walk.EnvNext.TheVariants as TheEnv
 use Rattle.ns_counters.proofs.Needs.{may_step}
 
@@ -226,7 +227,7 @@ module _ {C : Type 0} {N : ℕ} where
   begun_idle old seat view (Ask walk) place pair at idle asks = absurd pair
   begun_idle old seat view (OnObjects walk) place pair at idle asks = record { view = view; at = at; idle = idle; unasked = asks }
 
-  module _ (old : Whole C N) (lawful : IsLawfulWhole old) (new : Now C N) (seat : ℕ) (call : Call C) (starts : Starts old.objects.setup old.lock new seat call) (now_lawful : IsLawfulWorld new) (elsewhere : walk_in old.objects.walks seat ≡ None) where
+  module _ (old : Whole C N) (lawful : IsLawfulWhole old) (new : Now C N) (seat : ℕ) (call : Call C) (starts : Starts old.objects.setup old.lock new seat call) (elsewhere : walk_in old.objects.walks seat ≡ None) where
     abbrev mode : Option Mode
     mode = mode_of starts.view.held
 
@@ -301,62 +302,61 @@ module _ {C : Type 0} {N : ℕ} where
         let view_is : starts.view ≡ view = same_Some _ _ (sym starts.at ∙ sym (begun_view old.lock seat starts.view (start_of N mode call) place (begun_pair place is)) ∙ ap (λ (world : Now C N). slice_get world.state.views seat) (sym starts.begins) ∙ at) in
         subst (λ (v : SeatView C N). MayWait (object_start call) v.held) view_is (start_may old.objects.setup old.lock.env.notes call starts.view.held starts.fits)
 
-    begun_by : (place : Option ObjectWalk) → object_start call ≡ place → IsLawfulWhole (whole new (objects_begun old.objects seat place)) × (walk_in (objects_begun old.objects seat place).walks seat ≡ place)
-    begun_by None is = (
-      record {
-        lock = now_lawful;
-        seats = lawful.seats ∙ sym seats_same;
-        places = lawful.places;
-        wait_places = lawful.wait_places;
-        stands = each_stands (whole new old.objects) seat None begun_waits_not (stands_nowhere (whole new old.objects) seat elsewhere begun_alone)
-            (λ other ne. stands_on old (whole new old.objects) other (rests other ne) refl refl notes_on (wait_in old.objects.waits other) (lawful.stands other));
-        events = lawful.events;
-        objects_lawful = begun_led lawful.events lawful.objects_lawful None is;
-      },
-      elsewhere,
-    )
-    begun_by (Some place) is =
-        let inside : seat < length old.objects.walks = let all = lawful.places in omega (arith, all, low) in (
-          record {
-            lock = now_lawful;
-            seats = lawful.seats ∙ sym seats_same;
-            places = length-set old.objects.walks seat (Some place) ∙ lawful.places;
-            wait_places = lawful.wait_places;
-            stands = each_stands (whole new (put_at old.objects seat (Some place))) seat None begun_waits_not (record {
-              alone = begun_alone;
-              apart = λ walk at. subst (λ (world : Now C N). IsIdle world seat) (sym starts.begins) (begun_idle old.lock seat starts.view (start_of N mode call) place (begun_pair place is) starts.at starts.idle starts.unasked);
-              may = λ view at. subst (λ w. MayWait w view.held) (is ∙ sym (put_here old.objects.walks seat (Some place) inside)) (begun_may place is view at);
-            })
-                (λ other ne. stands_on old (whole new (put_at old.objects seat (Some place))) other (rests other ne) (put_there old.objects.walks seat (Some place) other ne) refl notes_on (wait_in old.objects.waits other) (lawful.stands other));
-            events = lawful.events;
-            objects_lawful = begun_led lawful.events lawful.objects_lawful (Some place) is;
-          },
-          put_here old.objects.walks seat (Some place) inside,
-        )
+    begun_place : (place : Option ObjectWalk) → object_start call ≡ place → walk_in (objects_begun old.objects seat place).walks seat ≡ place
+    begun_place None is = elsewhere
+    begun_place (Some place) is = put_here old.objects.walks seat (Some place) (let all = lawful.places in omega (arith, all, low))
 
-    -- A call that begins keeps the law, and its seat stands at its first place.
-    pub whole_begun : IsLawfulWhole (whole new (objects_begun old.objects seat (object_start call)))
-    whole_begun = (begun_by (object_start call) refl).0
+    begun_by : IsLawfulWorld new → (place : Option ObjectWalk) → object_start call ≡ place → IsLawfulWhole (whole new (objects_begun old.objects seat place))
+    begun_by now_lawful None is = record {
+      lock = now_lawful;
+      seats = lawful.seats ∙ sym seats_same;
+      places = lawful.places;
+      wait_places = lawful.wait_places;
+      stands = each_stands (whole new old.objects) seat None begun_waits_not (stands_nowhere (whole new old.objects) seat elsewhere begun_alone)
+          (λ other ne. stands_on old (whole new old.objects) other (rests other ne) refl refl notes_on (wait_in old.objects.waits other) (lawful.stands other));
+      events = lawful.events;
+      objects_lawful = begun_led lawful.events lawful.objects_lawful None is;
+    }
+    begun_by now_lawful (Some place) is = record {
+      lock = now_lawful;
+      seats = lawful.seats ∙ sym seats_same;
+      places = length-set old.objects.walks seat (Some place) ∙ lawful.places;
+      wait_places = lawful.wait_places;
+      stands = each_stands (whole new (put_at old.objects seat (Some place))) seat None begun_waits_not (record {
+        alone = begun_alone;
+        apart = λ walk at. subst (λ (world : Now C N). IsIdle world seat) (sym starts.begins) (begun_idle old.lock seat starts.view (start_of N mode call) place (begun_pair place is) starts.at starts.idle starts.unasked);
+        may = λ view at. subst (λ w. MayWait w view.held) (is ∙ sym (begun_place (Some place) is)) (begun_may place is view at);
+      })
+          (λ other ne. stands_on old (whole new (put_at old.objects seat (Some place))) other (rests other ne) (put_there old.objects.walks seat (Some place) other ne) refl notes_on (wait_in old.objects.waits other) (lawful.stands other));
+      events = lawful.events;
+      objects_lawful = begun_led lawful.events lawful.objects_lawful (Some place) is;
+    }
 
+    -- its seat stands at its first place
     pub whole_starts : WholeStarts old (whole new (objects_begun old.objects seat (object_start call))) seat call
-    whole_starts = record { starts = starts; elsewhere = elsewhere; becomes = refl; stands = (begun_by (object_start call) refl).1 }
+    whole_starts = record { starts = starts; elsewhere = elsewhere; becomes = refl; stands = begun_place (object_start call) refl }
+
+  -- a call that begins keeps the law
+  pub start_keeps : 0 < N → (old new : Whole C N) (seat : ℕ) (call : Call C) → IsLawfulWhole old → CallInRange N call → WholeStarts old new seat call → IsLawfulWhole new
+  start_keeps some old new seat call lawful range p = subst (λ (o : Objects). IsLawfulWhole (whole new.lock o)) (sym p.becomes)
+      (begun_by old lawful new.lock seat call p.starts p.elsewhere (starts_keep old.lock seat lawful.lock some old.objects.setup new.lock call range p.starts) (object_start call) refl)
 
   -- ---- a step
 
   -- by the lock
-  pub whole_moved : (old : Whole C N) (new : Now C N) (seat : ℕ) (step : Step) → IsLawfulWhole old → Moves old.lock new seat step → IsLawfulWorld new → walk_in old.objects.walks seat ≡ None → wait_in old.objects.waits seat ≡ None → IsLawfulWhole (whole new old.objects)
-  whole_moved old new seat step lawful moves now_lawful elsewhere waits_not = record {
-    lock = now_lawful;
-    seats = lawful.seats ∙ sym (moves_stay old.lock new seat step moves);
+  pub lock_keeps : 0 < N → (old new : Whole C N) → QuietKeeps N old.lock.truths → (seat : ℕ) (step : Step) → IsLawfulWhole old → LockSteps old new seat step → IsLawfulWhole new
+  lock_keeps some old new quiet seat step lawful p = subst (λ (o : Objects). IsLawfulWhole (whole new.lock o)) (sym p.same) (record {
+    lock = moves_keep old.lock seat lawful.lock some quiet new.lock step p.moves;
+    seats = lawful.seats ∙ sym (moves_stay old.lock new.lock seat step p.moves);
     places = lawful.places;
     wait_places = lawful.wait_places;
     stands =
-        let was : StandsAlone old seat = subst (StandsBy old seat) waits_not (lawful.stands seat) in
-        each_stands (whole new old.objects) seat None waits_not (stands_nowhere (whole new old.objects) seat elsewhere (moves_alone old.lock new seat step moves was.alone))
-        (λ other ne. stands_on old (whole new old.objects) other (moves_rests old.lock new seat step other ne moves) refl refl (moves_make old.lock new seat step moves) (wait_in old.objects.waits other) (lawful.stands other));
+        let was : StandsAlone old seat = subst (StandsBy old seat) p.waits_not (lawful.stands seat) in
+        each_stands (whole new.lock old.objects) seat None p.waits_not (stands_nowhere (whole new.lock old.objects) seat p.elsewhere (moves_alone old.lock new.lock seat step p.moves was.alone))
+        (λ other ne. stands_on old (whole new.lock old.objects) other (moves_rests old.lock new.lock seat step other ne p.moves) refl refl (moves_make old.lock new.lock seat step p.moves) (wait_in old.objects.waits other) (lawful.stands other));
     events = lawful.events;
-    objects_lawful = led_more lawful.events (objects_state old.objects) old.lock.env.notes new.env.notes (moves_make old.lock new seat step moves) lawful.objects_lawful;
-  }
+    objects_lawful = led_more lawful.events (objects_state old.objects) old.lock.env.notes new.lock.env.notes (moves_make old.lock new.lock seat step p.moves) lawful.objects_lawful;
+  })
 
   -- on counters and once cells
   module _ (old : Whole C N) (lawful : IsLawfulWhole old) (seat : ℕ) (walk : ObjectWalk) (walks : walk_in old.objects.walks seat ≡ Some walk) where
@@ -415,7 +415,7 @@ module _ {C : Type 0} {N : ℕ} where
         looks = subst (λ w. LooksWhere wait.round w (want_of s.walk)) (sym here) (looks_next wait (want_of s.walk) (subst (λ w. LooksWhere wait.round w (want_of s.walk)) walks s.looks) next (stays_asked walk found) not);
       }
 
-    pub whole_operated : (new : Objects) (step : Step) → is_for_lock (wait_in old.objects.waits seat) walk step ≡ false → HasOperated old.lock.env seat walk old.objects new step → IsLawfulWhole (whole old.lock new)
+    whole_operated : (new : Objects) (step : Step) → is_for_lock (wait_in old.objects.waits seat) walk step ≡ false → HasOperated old.lock.env seat walk old.objects new step → IsLawfulWhole (whole old.lock new)
     whole_operated new step not_for_lock p =
         let kept = (operates_keeps (objects_state old.objects) old.lock.env lawful.lock.events notes_meet lawful.events lawful.objects_lawful seat walk walks p.found p.words p.events p.effect).0 in
         subst (λ (o : Objects). IsLawfulWhole (whole old.lock o)) (sym p.becomes) (record {
@@ -429,3 +429,6 @@ module _ {C : Type 0} {N : ℕ} where
           events = lawful.events ++ p.events;
           objects_lawful = kept;
         })
+
+  pub operates_keep_whole : (old new : Whole C N) (seat : ℕ) (step : Step) → IsLawfulWhole old → Operates old new seat step → IsLawfulWhole new
+  operates_keep_whole old new seat step lawful p = subst (λ (lock : Now C N). IsLawfulWhole (whole lock new.objects)) (sym p.same) (whole_operated old lawful seat p.walk p.walks new.objects step p.not_for_lock p.operated)

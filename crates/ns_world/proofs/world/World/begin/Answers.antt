@@ -1,7 +1,8 @@
 use Rattle.std.proofs.Common.{◌≡◌, ◌<◌, ◌≤◌, sym, ◌∙◌, ap, inl, inr, length, refl, subst, Option, Some, None, is_some, true, false}
-use Rattle.ns_world.specs.Prelude.{walk_in}
+use Rattle.ns_world.specs.Prelude.{walk_in, whole_of}
 use Rattle.ns_world.proofs.Placed.{busy_here, idle_walk, idle_ask}
 use Rattle.ns_world.proofs.Tells.{begins_here, misused_here}
+use Rattle.ns_world.proofs.Wholes.{start_keeps}
 use Rattle.ns_world.proofs.Worlds.{below_64, past_views, same_element}
 use Rattle.ns_world.proofs.world.World.begin.Goals as goal
 
@@ -39,29 +40,11 @@ returns-in-None-clause-ok g c =
     let nowhere = sym c.walk.ensures ∙ none_by c.walk.result (sym c.is_some.ensures ∙ c.if-is_some.false) in
     rw (← c.self.view_is) (
       refl,
-      misused_here g.C.Condition.means g.met.C.Condition.has_cells.0 g.met.C.Condition.quiet_keeps
+      misused_here g.C.Condition.means
           c.self.inside.word c.self.inside.row c.self.inside.queues c.self.inside.flags c.self.inside.env c.self.inside.seats.items c.self.inside.history.items c.self.inside.objects c.self.invariant c.args.seat here within
           c.args.call over unasked nowhere (rw (c.mode_of.ensures, c.index-here.ensures) at c.in-None.ensures),
       nowhere,
     )
-
-pub invariant_of-self : goal.invariant_of-self
-invariant_of-self g c =
-    let seat = c.index_mut.result.now in
-    let within : c.args.seat < length c.self.inside.seats.items = subst (λ n. c.args.seat < n) (c.len.ensures ∙ c.self.inside.seats.ok.0) c.if-at-len.false in
-    let same = same_element c.self.inside.seats.items c.args.seat c.index-here.result.now seat within c.index-here.ensures c.index_mut.ensures.value in
-    let is = c.index_mut.ensures.value in
-    let idle = sym c.is_busy.ensures ∙ c.if-is_busy.false in
-    let over = idle_walk c.index-here.result.now.walk c.index-here.result.now.asking idle in
-    let unasked = idle_ask c.index-here.result.now.walk c.index-here.result.now.asking idle in
-    let nowhere = sym c.walk.ensures ∙ none_by c.walk.result (sym c.is_some.ensures ∙ c.if-is_some.false) in
-    let begun = begins_here g.C.Condition.means g.met.C.Condition.has_cells.0 g.met.C.Condition.quiet_keeps
-    c.self.inside.word c.self.inside.row c.self.inside.queues c.self.inside.flags c.self.inside.env c.self.inside.seats.items c.self.inside.history.items c.self.inside.objects c.self.invariant c.args.seat seat within
-    c.args.call (rw (same, is) at over) (rw (same, is) at unasked) nowhere c.in-Some.start c.requires (rw (c.mode_of.ensures, same, is) at c.in-Some.ensures.0) (rw (c.mode_of.ensures, same, is) at c.in-Some.ensures.1) in
-    rw (c.place.ensures, is, c.begin_on.ensures, c.on_objects.ensures) begun.1
-
-pub returns-in-Some-clause-lawful : goal.returns-in-Some-clause-lawful
-returns-in-Some-clause-lawful g c = invariant_of-self g c
 
 pub returns-in-Some-clause-ok : goal.returns-in-Some-clause-ok
 returns-in-Some-clause-ok g c =
@@ -73,10 +56,16 @@ returns-in-Some-clause-ok g c =
     let over = idle_walk c.index-here.result.now.walk c.index-here.result.now.asking idle in
     let unasked = idle_ask c.index-here.result.now.walk c.index-here.result.now.asking idle in
     let nowhere = sym c.walk.ensures ∙ none_by c.walk.result (sym c.is_some.ensures ∙ c.if-is_some.false) in
-    let begun = begins_here g.C.Condition.means g.met.C.Condition.has_cells.0 g.met.C.Condition.quiet_keeps
+    let begun = begins_here g.C.Condition.means
     c.self.inside.word c.self.inside.row c.self.inside.queues c.self.inside.flags c.self.inside.env c.self.inside.seats.items c.self.inside.history.items c.self.inside.objects c.self.invariant c.args.seat seat within
-    c.args.call (rw (same, is) at over) (rw (same, is) at unasked) nowhere c.in-Some.start c.requires (rw (c.mode_of.ensures, same, is) at c.in-Some.ensures.0) (rw (c.mode_of.ensures, same, is) at c.in-Some.ensures.1) in
-    rw (← c.self.view_is) (rw (c.place.ensures, is, c.begin_on.ensures, c.on_objects.ensures) begun.0)
+    c.args.call (rw (same, is) at over) (rw (same, is) at unasked) nowhere c.in-Some.start (rw (c.mode_of.ensures, same, is) at c.in-Some.ensures.0) (rw (c.mode_of.ensures, same, is) at c.in-Some.ensures.1) in
+    rw (← c.self.view_is) (rw (c.place.ensures, is, c.begin_on.ensures, c.on_objects.ensures) begun)
+
+pub invariant_of-self : goal.invariant_of-self
+invariant_of-self g c = start_keeps g.met.C.Condition.has_cells.0 (whole_of g.C.Condition.means c.args.self.now) _ c.args.seat c.args.call (rw (← c.self.view_is) c.self.invariant) c.requires (returns-in-Some-clause-ok g c)
+
+pub returns-in-Some-clause-lawful : goal.returns-in-Some-clause-lawful
+returns-in-Some-clause-lawful g c = invariant_of-self g c
 
 pub is_busy-requires : goal.is_busy-requires
 is_busy-requires g c = g.met.C.Seated.seat_fits

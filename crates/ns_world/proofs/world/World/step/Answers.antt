@@ -2,6 +2,8 @@ use denote.Param.{number}
 use Rattle.ns_world.proofs.Sizes.{row_fits, world_fits}
 use Rattle.std.proofs.Common.{◌≡◌, ◌<◌, ◌≤◌, sym, ◌∙◌, inl, length, refl, subst, Some}
 use Rattle.ns_world.proofs.Below.{get_or-set_same, set-get_or}
+use Rattle.ns_world.proofs.Awaits.{step_keeps}
+use Rattle.ns_world.specs.Prelude.{whole_of}
 use Rattle.ns_world.proofs.Tells.{asked_here, few_there, idle_here, looks_not, performed_here, refused_here, waited_here}
 use Rattle.ns_world.proofs.Worlds.{act_here, ask_here, asks_for, below_64, past_views, same_element}
 use Rattle.ns_world.proofs.world.World.step.Goals as goal
@@ -22,26 +24,12 @@ step_env-requires g c =
     let stands = rw (same, c.index_mut.ensures.value) at c.in-Some-asking.is in (
       g.met.C.Seated.seat_fits,
       (
-        rw c.index_mut.ensures.value (asks_for g.C.Condition.means g.met.C.Condition.has_cells.0 g.met.C.Condition.quiet_keeps
+        rw c.index_mut.ensures.value (asks_for g.C.Condition.means
             c.self.inside.word c.self.inside.row c.self.inside.queues c.self.inside.flags c.self.inside.env c.self.inside.seats.items c.self.inside.history.items c.self.invariant.lock c.args.seat seat within (Some c.in-Some-asking.place) stands),
-        ask_here g.C.Condition.means g.met.C.Condition.has_cells.0 g.met.C.Condition.quiet_keeps
+        ask_here g.C.Condition.means
             c.self.inside.word c.self.inside.row c.self.inside.queues c.self.inside.flags c.self.inside.env c.self.inside.seats.items c.self.inside.history.items c.self.invariant.lock c.args.seat seat within c.in-Some-asking.place stands,
       ),
     )
-
-pub invariant_of-self : goal.invariant_of-self
-invariant_of-self g c =
-    let seat = c.index_mut.result.now in
-    let within : c.args.seat < length c.self.inside.seats.items = subst (λ n. c.args.seat < n) (c.len.ensures ∙ c.self.inside.seats.ok.0) c.if-at-len.false in
-    let same = same_element c.self.inside.seats.items c.args.seat c.index.result.now seat within c.index.ensures c.index_mut.ensures.value in
-    let stands = rw (same, c.index_mut.ensures.value) at c.in-Some-asking.is in
-    let made = asked_here g.C.Condition.means g.met.C.Condition.has_cells.0 g.met.C.Condition.quiet_keeps
-    c.self.inside.word c.self.inside.row c.self.inside.queues c.self.inside.flags c.self.inside.env c.self.inside.seats.items c.self.inside.history.items c.self.inside.objects c.self.invariant c.args.seat seat within (sym c.walk.ensures ∙ c.in_default.is)
-    c.in-Some-asking.place stands c.step_env.new.env c.step_env.new.seat c.step_env.result (rw (← c.index_mut.ensures.value) c.step_env.ensures) in
-    made.1
-
-pub returns-in-Some-asking-clause-lawful : goal.returns-in-Some-asking-clause-lawful
-returns-in-Some-asking-clause-lawful g c = invariant_of-self g c
 
 pub returns-in-Some-asking-clause-ok : goal.returns-in-Some-asking-clause-ok
 returns-in-Some-asking-clause-ok g c =
@@ -49,10 +37,16 @@ returns-in-Some-asking-clause-ok g c =
     let within : c.args.seat < length c.self.inside.seats.items = subst (λ n. c.args.seat < n) (c.len.ensures ∙ c.self.inside.seats.ok.0) c.if-at-len.false in
     let same = same_element c.self.inside.seats.items c.args.seat c.index.result.now seat within c.index.ensures c.index_mut.ensures.value in
     let stands = rw (same, c.index_mut.ensures.value) at c.in-Some-asking.is in
-    let made = asked_here g.C.Condition.means g.met.C.Condition.has_cells.0 g.met.C.Condition.quiet_keeps
+    let made = asked_here g.C.Condition.means
     c.self.inside.word c.self.inside.row c.self.inside.queues c.self.inside.flags c.self.inside.env c.self.inside.seats.items c.self.inside.history.items c.self.inside.objects c.self.invariant c.args.seat seat within (sym c.walk.ensures ∙ c.in_default.is)
     c.in-Some-asking.place stands c.step_env.new.env c.step_env.new.seat c.step_env.result (rw (← c.index_mut.ensures.value) c.step_env.ensures) in
-    rw (← c.self.view_is) made.0
+    rw (← c.self.view_is) made
+
+pub invariant_of-self : goal.invariant_of-self
+invariant_of-self g c = step_keeps (whole_of g.C.Condition.means c.args.self.now) _ c.args.seat (rw (← c.self.view_is) c.self.invariant) g.met.C.Condition.has_cells.0 g.met.C.Condition.quiet_keeps c.step_env.result (returns-in-Some-asking-clause-ok g c)
+
+pub returns-in-Some-asking-clause-lawful : goal.returns-in-Some-asking-clause-lawful
+returns-in-Some-asking-clause-lawful g c = invariant_of-self g c
 
 -- ---- no step
 
@@ -61,7 +55,7 @@ returns-in_default-walk-clause-ok g c =
     let seat = c.index-2.result.now in
     let within : c.args.seat < length c.self.inside.seats.items = subst (λ n. c.args.seat < n) (c.len.ensures ∙ c.self.inside.seats.ok.0) c.if-at-len.false in
     let same = same_element c.self.inside.seats.items c.args.seat c.index.result.now seat within c.index.ensures c.index-2.ensures in
-    let idle = idle_here g.C.Condition.means g.met.C.Condition.has_cells.0 g.met.C.Condition.quiet_keeps
+    let idle = idle_here g.C.Condition.means
     c.self.inside.word c.self.inside.row c.self.inside.queues c.self.inside.flags c.self.inside.env c.self.inside.seats.items c.self.inside.history.items c.self.inside.objects c.self.invariant c.args.seat seat within (sym c.walk.ensures ∙ c.in_default.is)
     (rw c.index-2.ensures at c.in_default-walk.is) (rw (same, c.index-2.ensures) at c.in_default-asking.is) in
     rw (← c.self.view_is) (inl (refl, refl, idle))
@@ -77,27 +71,11 @@ perform-requires g c =
     let walks = rw same at c.in-Some-walk.is in
     let unasked = rw (same_element c.self.inside.seats.items c.args.seat c.index.result.now seat within c.index.ensures c.index_mut-2.ensures.value, c.index_mut-2.ensures.value) at c.in_default-asking.is in
     let nowhere = sym c.walk.ensures ∙ c.in_default.is in
-    let act = act_here g.C.Condition.means g.met.C.Condition.has_cells.0 g.met.C.Condition.quiet_keeps
+    let act = act_here g.C.Condition.means
     c.self.inside.word c.self.inside.row c.self.inside.queues c.self.inside.flags c.self.inside.env c.self.inside.seats.items c.self.inside.history.items c.self.invariant.lock c.args.seat seat within c.in-Some-walk.walk (rw c.index_mut-2.ensures.value at walks) in
-    let looks = looks_not g.C.Condition.means g.met.C.Condition.has_cells.0 g.met.C.Condition.quiet_keeps
+    let looks = looks_not g.C.Condition.means
     c.self.inside.word c.self.inside.row c.self.inside.queues c.self.inside.flags c.self.inside.env c.self.inside.seats.items c.self.inside.history.items c.self.inside.objects c.self.invariant c.args.seat seat within nowhere c.in-Some-walk.walk (rw c.index_mut-2.ensures.value at walks) unasked in
     (few, (g.met.C.Seated.queues_fit, (g.met.C.Seated.seat_fits, (g.met.C.Fits.event_fits, (walks, (rw c.index_mut-2.ensures.value act, looks))))))
-
-pub invariant_of-self-in-None : goal.invariant_of-self-in-None
-invariant_of-self-in-None g c =
-    let seat = c.index_mut-2.result.now in
-    let within : c.args.seat < length c.self.inside.seats.items = subst (λ n. c.args.seat < n) (c.len.ensures ∙ c.self.inside.seats.ok.0) c.if-at-len.false in
-    let same = same_element c.self.inside.seats.items c.args.seat c.index-2.result.now seat within c.index-2.ensures c.index_mut-2.ensures.value in
-    let walks = rw same at c.in-Some-walk.is in
-    let unasked = rw (same_element c.self.inside.seats.items c.args.seat c.index.result.now seat within c.index.ensures c.index_mut-2.ensures.value, c.index_mut-2.ensures.value) at c.in_default-asking.is in
-    let nowhere = sym c.walk.ensures ∙ c.in_default.is in
-    let made = performed_here g.C.Condition.means g.met.C.Condition.has_cells.0 g.met.C.Condition.quiet_keeps
-    c.self.inside.word c.self.inside.row c.self.inside.queues c.self.inside.flags c.self.inside.env c.self.inside.seats.items c.self.inside.history.items c.self.inside.objects c.self.invariant c.args.seat seat within nowhere c.in-Some-walk.walk (rw c.index_mut-2.ensures.value at walks) unasked
-    c.perform.new.word c.perform.new.row c.perform.new.queues c.perform.new.flags c.perform.new.seat c.perform.new.history.items c.in-Ok.told (rw (← c.index_mut-2.ensures.value) c.in-Ok.ensures.ok) (sym c.wait.ensures ∙ c.in-None.is) in
-    made.1
-
-pub returns-in-None-clause-lawful : goal.returns-in-None-clause-lawful
-returns-in-None-clause-lawful g c = invariant_of-self-in-None g c
 
 pub returns-in-None-clause-ok : goal.returns-in-None-clause-ok
 returns-in-None-clause-ok g c =
@@ -107,10 +85,16 @@ returns-in-None-clause-ok g c =
     let walks = rw same at c.in-Some-walk.is in
     let unasked = rw (same_element c.self.inside.seats.items c.args.seat c.index.result.now seat within c.index.ensures c.index_mut-2.ensures.value, c.index_mut-2.ensures.value) at c.in_default-asking.is in
     let nowhere = sym c.walk.ensures ∙ c.in_default.is in
-    let made = performed_here g.C.Condition.means g.met.C.Condition.has_cells.0 g.met.C.Condition.quiet_keeps
+    let made = performed_here g.C.Condition.means
     c.self.inside.word c.self.inside.row c.self.inside.queues c.self.inside.flags c.self.inside.env c.self.inside.seats.items c.self.inside.history.items c.self.inside.objects c.self.invariant c.args.seat seat within nowhere c.in-Some-walk.walk (rw c.index_mut-2.ensures.value at walks) unasked
     c.perform.new.word c.perform.new.row c.perform.new.queues c.perform.new.flags c.perform.new.seat c.perform.new.history.items c.in-Ok.told (rw (← c.index_mut-2.ensures.value) c.in-Ok.ensures.ok) (sym c.wait.ensures ∙ c.in-None.is) in
-    rw (← c.self.view_is) made.0
+    rw (← c.self.view_is) made
+
+pub invariant_of-self-in-None : goal.invariant_of-self-in-None
+invariant_of-self-in-None g c = step_keeps (whole_of g.C.Condition.means c.args.self.now) _ c.args.seat (rw (← c.self.view_is) c.self.invariant) g.met.C.Condition.has_cells.0 g.met.C.Condition.quiet_keeps c.in-Ok.told (returns-in-None-clause-ok g c)
+
+pub returns-in-None-clause-lawful : goal.returns-in-None-clause-lawful
+returns-in-None-clause-lawful g c = invariant_of-self-in-None g c
 
 pub told_by_lock-requires : goal.told_by_lock-requires
 told_by_lock-requires g c =
@@ -118,29 +102,11 @@ told_by_lock-requires g c =
       g.met.C.Seated.seat_fits,
       (
         below_64 c.self.inside.seats.items c.args.seat c.self.invariant.lock.few within,
-        few_there g.C.Condition.means g.met.C.Condition.has_cells.0 g.met.C.Condition.quiet_keeps
+        few_there g.C.Condition.means
             c.self.inside.word c.self.inside.row c.self.inside.queues c.self.inside.flags c.self.inside.env c.self.inside.seats.items c.self.inside.history.items c.self.inside.objects c.self.invariant c.args.seat c.index_mut-2.result.now within c.in-Some-wait.wait (sym c.wait.ensures
             ∙ c.in-Some-wait.is),
       ),
     )
-
-pub invariant_of-self-in-Some-wait : goal.invariant_of-self-in-Some-wait
-invariant_of-self-in-Some-wait g c =
-    let seat = c.index_mut-2.result.now in
-    let within : c.args.seat < length c.self.inside.seats.items = subst (λ n. c.args.seat < n) (c.len.ensures ∙ c.self.inside.seats.ok.0) c.if-at-len.false in
-    let same = same_element c.self.inside.seats.items c.args.seat c.index-2.result.now seat within c.index-2.ensures c.index_mut-2.ensures.value in
-    let walks = rw same at c.in-Some-walk.is in
-    let unasked = rw (same_element c.self.inside.seats.items c.args.seat c.index.result.now seat within c.index.ensures c.index_mut-2.ensures.value, c.index_mut-2.ensures.value) at c.in_default-asking.is in
-    let nowhere = sym c.walk.ensures ∙ c.in_default.is in
-    let here : ◌≡◌ c.index-in-Some-wait.result.now c.perform.new.seat = c.index-in-Some-wait.ensures ∙ get_or-set_same c.self.inside.seats.items c.args.seat c.perform.new.seat c.index-in-Some-wait.result.now within in
-    let made = waited_here g.C.Condition.means g.met.C.Condition.has_cells.0 g.met.C.Condition.quiet_keeps
-    c.self.inside.word c.self.inside.row c.self.inside.queues c.self.inside.flags c.self.inside.env c.self.inside.seats.items c.self.inside.history.items c.self.inside.objects c.self.invariant c.args.seat seat within nowhere c.in-Some-walk.walk (rw c.index_mut-2.ensures.value at walks) unasked
-    c.perform.new.word c.perform.new.row c.perform.new.queues c.perform.new.flags c.perform.new.seat c.perform.new.history.items c.in-Ok.told (rw (← c.index_mut-2.ensures.value) c.in-Ok.ensures.ok)
-    c.in-Some-wait.wait (sym c.wait.ensures ∙ c.in-Some-wait.is) c.told_by_lock.new.objects (rw here at c.told_by_lock.ensures.after) c.told_by_lock.result c.told_by_lock.ensures.step in
-    made.1
-
-pub returns-in-Some-wait-clause-lawful : goal.returns-in-Some-wait-clause-lawful
-returns-in-Some-wait-clause-lawful g c = invariant_of-self-in-Some-wait g c
 
 pub returns-in-Some-wait-clause-ok : goal.returns-in-Some-wait-clause-ok
 returns-in-Some-wait-clause-ok g c =
@@ -151,11 +117,17 @@ returns-in-Some-wait-clause-ok g c =
     let unasked = rw (same_element c.self.inside.seats.items c.args.seat c.index.result.now seat within c.index.ensures c.index_mut-2.ensures.value, c.index_mut-2.ensures.value) at c.in_default-asking.is in
     let nowhere = sym c.walk.ensures ∙ c.in_default.is in
     let here : ◌≡◌ c.index-in-Some-wait.result.now c.perform.new.seat = c.index-in-Some-wait.ensures ∙ get_or-set_same c.self.inside.seats.items c.args.seat c.perform.new.seat c.index-in-Some-wait.result.now within in
-    let made = waited_here g.C.Condition.means g.met.C.Condition.has_cells.0 g.met.C.Condition.quiet_keeps
+    let made = waited_here g.C.Condition.means
     c.self.inside.word c.self.inside.row c.self.inside.queues c.self.inside.flags c.self.inside.env c.self.inside.seats.items c.self.inside.history.items c.self.inside.objects c.self.invariant c.args.seat seat within nowhere c.in-Some-walk.walk (rw c.index_mut-2.ensures.value at walks) unasked
     c.perform.new.word c.perform.new.row c.perform.new.queues c.perform.new.flags c.perform.new.seat c.perform.new.history.items c.in-Ok.told (rw (← c.index_mut-2.ensures.value) c.in-Ok.ensures.ok)
     c.in-Some-wait.wait (sym c.wait.ensures ∙ c.in-Some-wait.is) c.told_by_lock.new.objects (rw here at c.told_by_lock.ensures.after) c.told_by_lock.result c.told_by_lock.ensures.step in
-    rw (← c.self.view_is) made.0
+    rw (← c.self.view_is) made
+
+pub invariant_of-self-in-Some-wait : goal.invariant_of-self-in-Some-wait
+invariant_of-self-in-Some-wait g c = step_keeps (whole_of g.C.Condition.means c.args.self.now) _ c.args.seat (rw (← c.self.view_is) c.self.invariant) g.met.C.Condition.has_cells.0 g.met.C.Condition.quiet_keeps c.told_by_lock.result (returns-in-Some-wait-clause-ok g c)
+
+pub returns-in-Some-wait-clause-lawful : goal.returns-in-Some-wait-clause-lawful
+returns-in-Some-wait-clause-lawful g c = invariant_of-self-in-Some-wait g c
 
 pub invariant_of-self-in-Err : goal.invariant_of-self-in-Err
 invariant_of-self-in-Err g c = let err = c.in-Err.ensures.err in rw (err.1, err.2, err.3, err.4, err.5, err.6, c.index_mut-2.ensures.value, set-get_or c.self.inside.seats.items c.args.seat c.index_mut-2.result.now) c.self.invariant
@@ -170,7 +142,7 @@ returns-in-Err-clause-err g c =
     let same = same_element c.self.inside.seats.items c.args.seat c.index-2.result.now seat within c.index-2.ensures c.index_mut-2.ensures.value in
     let walks = rw (same, c.index_mut-2.ensures.value) at c.in-Some-walk.is in
     let err = c.in-Err.ensures.err in
-    let refused = refused_here g.C.Condition.means g.met.C.Condition.has_cells.0 g.met.C.Condition.quiet_keeps
+    let refused = refused_here g.C.Condition.means
     c.self.inside.word c.self.inside.row c.self.inside.queues c.self.inside.flags c.self.inside.env c.self.inside.seats.items c.self.inside.history.items c.self.inside.objects c.self.invariant c.args.seat seat within c.in-Some-walk.walk walks (rw c.index_mut-2.ensures.value at err.0) in
     rw (← c.self.view_is) (rw (err.1, err.2, err.3, err.4, err.5, err.6, c.index_mut-2.ensures.value, set-get_or c.self.inside.seats.items c.args.seat c.index_mut-2.result.now) refl, refused)
 
