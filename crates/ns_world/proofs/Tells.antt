@@ -9,7 +9,7 @@ use Rattle.ns_world.specs.Prelude.{plain_of, seat_part, shown_by, step_told, vie
 use Rattle.ns_word.specs.declared.wait.Wait.{Wait}
 use Rattle.ns_world.proofs.AnyLooks.{LooksOut}
 use Rattle.ns_world.proofs.Awaits.{all_low, next as view_after, next_at, out, there_as}
-use Rattle.ns_world.proofs.Wholes.{whole_starts}
+use Rattle.ns_world.proofs.Others.{begun_stood, low_walks}
 use Rattle.ns_world.proofs.Mapped.{got-map, map-set}
 use Rattle.ns_world.proofs.Placed.{begun_here, starts_here}
 use Rattle.ns_world.proofs.Worlds.{acts_found, acts_here, inside_here, moved_here, number_here, sees_performs}
@@ -242,4 +242,7 @@ module _ {C : Type 0} {N : ℕ} (truths : Truths C) (word : Word) (row : List �
 
     pub begins_here : (start : Start C) → start ≡ start_of N (mode_of (get_or seats i d).held) call → CallFits objects.setup (plain_of env).notes call (mode_of (get_or seats i d).held) →
         WholeStarts old (whole (now_with truths word row queues flags env (slice_set seats i (placed (get_or seats i d) start)) history) (objects_begun objects i (object_start call))) i call
-    begins_here start is fits = whole_starts old lawful (now_with truths word row queues flags env (slice_set seats i (placed (get_or seats i d) start)) history) i call (starts_here truths word row queues flags env seats history i d within objects.setup call start is over unasked fits) nowhere
+    begins_here start is fits =
+        let now : Now C N = now_with truths word row queues flags env (slice_set seats i (placed (get_or seats i d) start)) history in
+        let stood = begun_stood old (whole now (objects_begun objects i (object_start call))) i (object_start call) (low_walks old old i lawful (view_of (get_or seats i d)) view_at) nowhere refl in
+        record { starts = starts_here truths word row queues flags env seats history i d within objects.setup call start is over unasked fits; elsewhere = nowhere; becomes = refl; stands = stood.stands }

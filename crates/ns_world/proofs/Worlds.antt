@@ -228,7 +228,8 @@ module _ {C : Type 0} {N : ℕ} (truths : Truths C) (word : Word) (row : List �
   moved_by None e place stands env' next step p = inr (inl (asks_here place stands e env' next step p))
   moved_by (Some walk) e place stands env' next step p = inr (inr (looked_by walk e place stands env' next step p (env_got_of place p.found) refl p.goes))
 
-  pub moved_here : (place : EnvWalk) → (get_or seats i d).asking ≡ Some place → (env' : Environment) (next : Seat C N) (step : Step) → EnvMoves (plain_of env) (plain_of env') (get_or seats i d) place next step → Moves (now_with truths word row queues flags env seats history) (now_with truths word row queues flags env' (slice_set seats i next) history) i step
+  pub moved_here : (place : EnvWalk) → (get_or seats i d).asking ≡ Some place → (env' : Environment) (next : Seat C N) (step : Step) → EnvMoves (plain_of env) (plain_of env') (get_or seats i d) place next step →
+      Moves (now_with truths word row queues flags env seats history) (now_with truths word row queues flags env' (slice_set seats i next) history) i step
   moved_here place stands env' next step p = moved_by (get_or seats i d).walk refl place stands env' next step p
 
 -- there are at most 64

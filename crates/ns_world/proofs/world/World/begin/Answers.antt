@@ -62,7 +62,7 @@ returns-in-Some-clause-ok g c =
     rw (← c.self.view_is) (rw (c.place.ensures, is, c.begin_on.ensures, c.on_objects.ensures) begun)
 
 pub invariant_of-self : goal.invariant_of-self
-invariant_of-self g c = start_keeps g.met.C.Condition.has_cells.0 (whole_of g.C.Condition.means c.args.self.now) _ c.args.seat c.args.call (rw (← c.self.view_is) c.self.invariant) c.requires (returns-in-Some-clause-ok g c)
+invariant_of-self g c = start_keeps (whole_of g.C.Condition.means c.args.self.now) _ c.args.seat c.args.call (rw (← c.self.view_is) c.self.invariant) (returns-in-Some-clause-ok g c) g.met.C.Condition.has_cells.0 c.requires
 
 pub returns-in-Some-clause-lawful : goal.returns-in-Some-clause-lawful
 returns-in-Some-clause-lawful g c = invariant_of-self g c
