@@ -2,7 +2,8 @@
 use Rattle.std.proofs.Common.{◌≤◌, ◌≡◌, ◌≢◌, ℕ, zero, suc, ◌<◌, Bool, true, false, eqb, ◌||◌, List, [], ◌∷◌, Option, Some, None, is_some, length, slice_set, slice_get, refl, ap, sym, ◌∙◌, arith, eq-eqb, inl, inr, ◌+◌, map, get_or}
 use Rattle.ns_world.proofs.Below.{cases_eq, cases_lt, length-map, ne_eqb, slice_get_past}
 use Rattle.std.specs.Option.{option_map_or}
-use Rattle.ns_world.specs.Prelude.{EnvWalk, ObjectWalk, Seat, SeatView, is_asking, is_busy, is_walking, view_of, walk_in}
+use Rattle.std.specs.Prelude.{unwrap_or}
+use Rattle.ns_world.specs.Prelude.{EnvWalk, Seat, SeatView, is_asking, is_busy, is_walking, view_of, walk_in}
 use Rattle.ns_world.proofs.Mapped.{got-map}
 
 or_false : (b : Bool) → (b || false) ≡ b
@@ -90,22 +91,21 @@ pub first_all : (so bits : ℕ → Bool) (i m n : ℕ) → m ≤ i → AreFirst 
 first_all so bits i m n all first none = elim (cases_lt n i) [ inl below ↦ (first n).0 below | inr past ↦ (first n).1 past ∙ sym (none (omega (arith, all, past))) ]
 
 -- a seat is in a call
-module _ {C : Type 0} {N : ℕ} (seats : List (Seat C N)) (walks : List (Option ObjectWalk)) where
+module _ {C : Type 0} {N : ℕ} (seats : List (Seat C N)) where
   abbrev pub in_call : ℕ → Bool
-  in_call n = is_busy (map view_of seats) (map (λ s. s.asking) seats) n || is_some (walk_in walks n)
+  in_call n = is_busy (map view_of seats) (map (λ s. s.asking) seats) n || is_some (walk_in (map (λ s. s.operating) seats) n)
 
-  pub in_call_here : (i : ℕ) (seat : Seat C N) → i < length seats → seat ≡ get_or seats i seat → in_call i ≡ ((is_some seat.walk || is_some seat.asking) || is_some (walk_in walks i))
+  pub in_call_here : (i : ℕ) (seat : Seat C N) → i < length seats → seat ≡ get_or seats i seat → in_call i ≡ ((is_some seat.walk || is_some seat.asking) || is_some seat.operating)
   in_call_here i seat within is =
       let views = walking_at (map view_of seats) i (view_of seat) (got-map view_of seats i seat within ∙ ap (λ s. Some (view_of s)) (sym is)) in
       let asks = asking_at (map (λ s. s.asking) seats) i seat.asking (got-map (λ s. s.asking) seats i seat within ∙ ap (λ (s : Seat C N). Some s.asking) (sym is)) in
-      ap (λ b. b || is_some (walk_in walks i)) (both (map view_of seats) (map (λ s. s.asking) seats) i (is_some seat.walk) (is_some seat.asking) views asks)
+      let operates : walk_in (map (λ s. s.operating) seats) i ≡ seat.operating = ap (λ o. unwrap_or o None) (got-map (λ s. s.operating) seats i seat within ∙ ap (λ (s : Seat C N). Some s.operating) (sym is)) in
+      (λ j. both (map view_of seats) (map (λ s. s.asking) seats) i (is_some seat.walk) (is_some seat.asking) views asks j || is_some (operates j))
 
   -- who is no seat is in none
-  pub in_no_call : ((n : ℕ) (walk : ObjectWalk) → walk_in walks n ≡ Some walk → n < length seats) → (n : ℕ) → length seats ≤ n → in_call n ≡ false
-  in_no_call there n past = by (walk_in walks n) refl where
-    by : (walk : Option ObjectWalk) → walk_in walks n ≡ walk → in_call n ≡ false
-    by None is =
-        let views = ap (λ o. option_map_or (λ (v : SeatView C N). is_some v.walk) o false) (slice_get_past (map view_of seats) n (omega (arith, past, length-map seats view_of))) in
-        let asks = ap (λ o. option_map_or (λ (w : Option EnvWalk). is_some w) o false) (slice_get_past (map (λ s. s.asking) seats) n (omega (arith, past, length-map seats (λ s. s.asking)))) in
-        (λ i. both (map view_of seats) (map (λ s. s.asking) seats) n false false views asks i || is_some (is i))
-    by (Some walk) is = let below = there n walk is in absurd (omega (arith, below, past))
+  pub in_no_call : (n : ℕ) → length seats ≤ n → in_call n ≡ false
+  in_no_call n past =
+      let views = ap (λ o. option_map_or (λ (v : SeatView C N). is_some v.walk) o false) (slice_get_past (map view_of seats) n (omega (arith, past, length-map seats view_of))) in
+      let asks = ap (λ o. option_map_or (λ (w : Option EnvWalk). is_some w) o false) (slice_get_past (map (λ s. s.asking) seats) n (omega (arith, past, length-map seats (λ s. s.asking)))) in
+      let operates : walk_in (map (λ s. s.operating) seats) n ≡ None = ap (λ o. unwrap_or o None) (slice_get_past (map (λ s. s.operating) seats) n (omega (arith, past, length-map seats (λ s. s.operating)))) in
+      (λ j. both (map view_of seats) (map (λ s. s.asking) seats) n false false views asks j || is_some (operates j))

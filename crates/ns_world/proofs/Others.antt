@@ -134,7 +134,7 @@ module _ {C : Type 0} {N : ℕ} (old new : Whole C N) (seat : ℕ) where
     as_many = lawful.wait_places ∙ sym lawful.places
 
     pub low_walks : (view : SeatView C N) → slice_get old.lock.state.views seat ≡ Some view → seat < length old.objects.walks
-    low_walks view at = let few = lawful.lock.few in let below = slice_get_within old.lock.state.views seat view at in let all = lawful.places in omega (arith, few, below, all)
+    low_walks view at = let below = slice_get_within old.lock.state.views seat view at in let all = lawful.places in omega (arith, below, all)
 
     -- it is put elsewhere
     pub put_stood : (walk : Option ObjectWalk) (wait : Option AnyWait) → seat < length old.objects.walks → new.objects ≡ stood_at old.objects seat walk wait → Stood seat old.objects new.objects walk wait

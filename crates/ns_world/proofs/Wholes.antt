@@ -1,8 +1,8 @@
 -- The law of a whole world: how it begins, and that calls that begin and steps keep it.
-use Rattle.std.proofs.Common.{Bool, ◌≡◌, ◌≢◌, ℕ, ◌<◌, ◌≤◌, true, false, not, List, [], Option, None, Some, IsSome, length, replicate, slice_get, slice_set, slice_index, refl, ap, sym, ◌∙◌, subst, arith, inl, inr}
+use Rattle.std.proofs.Common.{Bool, ◌≡◌, ◌≢◌, ℕ, ◌<◌, ◌≤◌, true, false, not, List, [], Option, None, Some, IsSome, length, replicate, slice_get, slice_set, slice_index, refl, ap, sym, ◌∙◌, subst, inl, inr}
 use Rattle.ns_world.proofs.Below.{StaysAsked, asked_stays, cases_eq, length-replicate, put_here, quiet_asks, same_Some, set_here, slice_get_within, some_among, stands_within, stays_asked, test_asks}
 use Rattle.ns_world.proofs.Below.{there_more}
-use Rattle.ns_world.specs.Prelude.{objects_state, HaveLedTo, Act, AnyWait, AreThere, Ask, Call, CallFits, CallInRange, EnvNext, EnvPlain, Found, Goes, HasOperated, Held, InRound, IsIdle}
+use Rattle.ns_world.specs.Prelude.{objects_state, HaveLedTo, Act, AnyWait, AreThere, Ask, Call, CallFits, CallInRange, EnvNext, EnvPlain, Found, Goes, Held, InRound, IsIdle}
 use Rattle.ns_world.specs.Prelude.{IsLawfulWhole, IsLawfulWorld, LookGoes, LooksWhere, Meets, Mode, Moves, NoteStanding, Now, ObjectEvent, ObjectFound, ObjectNext, ObjectWalk, Objects, OnCondition, OnEntry}
 use Rattle.ns_world.specs.Prelude.{OnLock, OnObjects, Operates, Over, Repeat, Round, SeatView, Setup, StandsAlone, StandsBy, Start, Step, StepFits, ToRelease, Truths}
 use Rattle.ns_world.specs.Prelude.{UnlockQuiet, Wait, WaitAny, Walk, Whole, WholeStarts, asks_for_any, begun_at, env_got_of, fresh_whole, got_of, is_alone, is_for_lock, items_of, mode_of, mode_waited}
@@ -11,8 +11,8 @@ use Rattle.ns_counters.proofs.NewObjects.{new_lawful}
 use Rattle.ns_counters.specs.declared.walk.ObjectNext.TheVariants.{Go}
 use Rattle.ns_world.specs.Whole.{MayWait}
 use Rattle.ns_world.proofs.Fresh.{lawful_new, length_views, no_walk}
-use Rattle.ns_world.proofs.Turns.{begun_stays, Pairs, pairs}
-use Rattle.ns_world.proofs.Walks.{none_stand, none_wait}
+use Rattle.ns_world.proofs.Turns.{begun_stays, place_of, placed_by}
+use Rattle.ns_world.proofs.Walks.{none_stand}
 use Rattle.ns_world.proofs.WorldLaw.{starts_keep}
 use Rattle.ns_world.proofs.Others.{IsStood, Still, Untouched, low_walks, starts_still, starts_stood}
 use Rattle.ns_world.proofs.WholeLed.{begun_env, starts_led}
@@ -25,12 +25,12 @@ pub whole_new : (C : Type 0) (N : ℕ) (truths : Truths C) (seats : ℕ) (counte
 whole_new C N truths seats counters onces few short cells values = record {
   lock = lawful_new C N truths seats few;
   seats = sym (length_views C N 0 seats);
-  places = length-replicate {A = Option ObjectWalk} 64 None;
-  wait_places = length-replicate {A = Option AnyWait} 64 None;
-  stands = λ seat. subst (StandsBy (fresh_whole {C = C} {N = N} truths seats counters onces) seat) (sym (none_wait 64 seat)) (record {
+  places = length-replicate {A = Option ObjectWalk} seats None ∙ sym (length_views C N 0 seats);
+  wait_places = length-replicate {A = Option AnyWait} seats None ∙ sym (length_views C N 0 seats);
+  stands = λ seat. subst (StandsBy (fresh_whole {C = C} {N = N} truths seats counters onces) seat) (sym (none_stand {A = AnyWait} seats seat)) (record {
     alone = λ view at. subst (λ w. is_alone w ≡ true) (sym (no_walk C N 0 seats seat view at)) refl;
     apart = λ walk at. absurd (none seat walk at);
-    may = λ view at. subst (λ w. MayWait w view.held) (sym (none_stand 64 seat)) tt;
+    may = λ view at. subst (λ w. MayWait w view.held) (sym (none_stand {A = ObjectWalk} seats seat)) tt;
   });
   events = [];
   objects_lawful = record {
@@ -39,8 +39,8 @@ whole_new C N truths seats counters onces few short cells values = record {
     each = λ seat walk at. absurd (none seat walk at);
   };
 } where
-  none : (seat : ℕ) (walk : ObjectWalk) → walk_in (replicate 64 None) seat ≡ Some walk → ⊥
-  none seat walk at = let is = sym (none_stand 64 seat) ∙ at in absurd (cc)
+  none : (seat : ℕ) (walk : ObjectWalk) → walk_in (replicate seats None) seat ≡ Some walk → ⊥
+  none seat walk at = let is = sym (none_stand {A = ObjectWalk} seats seat) ∙ at in absurd (cc)
 
 -- ---- who waits for no set of variables goes on so
 
@@ -117,8 +117,8 @@ module _ {C : Type 0} {N : ℕ} where
   stood_lawful old new seat lawful now_lawful same more s still events led here = record {
     lock = now_lawful;
     seats = ap (λ (setup : Setup). setup.seats) s.1.setup ∙ lawful.seats ∙ sym same;
-    places = s.1.places ∙ lawful.places;
-    wait_places = s.1.wait_places ∙ lawful.wait_places;
+    places = s.1.places ∙ lawful.places ∙ sym same;
+    wait_places = s.1.wait_places ∙ lawful.wait_places ∙ sym same;
     stands = λ other. elim (cases_eq other seat) [
       | inl e ↦ subst (λ n. StandsBy new n (wait_in new.objects.waits n)) (sym e) here
       | inr ne ↦ (let rests = still other ne in subst (StandsBy new other) (sym rests.waits) (stands_on old new other rests more (wait_in old.objects.waits other) (lawful.stands other)))
@@ -168,10 +168,10 @@ module _ {C : Type 0} {N : ℕ} where
   begun_held old seat view other at next is = ap (λ (v : SeatView C N). v.held) (same_Some _ _ (sym is ∙ at))
 
   -- a seat that begins a call on counters and once cells is in no other
-  begun_idle : (old : Now C N) (seat : ℕ) (view : SeatView C N) (start : Start C) (place : ObjectWalk) → Pairs start (Some place) → slice_get old.state.views seat ≡ Some view → view.walk ≡ None → slice_get old.asking seat ≡ Some None → IsIdle (begun_at old seat view start) seat
-  begun_idle old seat view (OnLock walk) place pair at idle asks = absurd pair
-  begun_idle old seat view (Ask walk) place pair at idle asks = absurd pair
-  begun_idle old seat view (OnObjects walk) place pair at idle asks = record { view = view; at = at; idle = idle; unasked = asks }
+  begun_idle : (old : Now C N) (seat : ℕ) (view : SeatView C N) (start : Start C) (place : ObjectWalk) → place_of start ≡ Some place → slice_get old.state.views seat ≡ Some view → view.walk ≡ None → slice_get old.asking seat ≡ Some None → IsIdle (begun_at old seat view start) seat
+  begun_idle old seat view (OnLock walk) place is at idle asks = absurd (cc)
+  begun_idle old seat view (Ask walk) place is at idle asks = absurd (cc)
+  begun_idle old seat view (OnObjects walk) place is at idle asks = record { view = view; at = at; idle = idle; unasked = asks }
 
   module _ (old new : Whole C N) (seat : ℕ) (call : Call C) (lawful : IsLawfulWhole old) (p : WholeStarts old new seat call) where
     abbrev view : SeatView C N
@@ -205,9 +205,8 @@ module _ {C : Type 0} {N : ℕ} where
     begun_here : StandsAlone new seat
     begun_here = record {
       alone = begun_alone;
-      apart = λ walk at.
-          let pair : Pairs start (Some walk) = subst (Pairs start) (sym p.stands ∙ at) (pairs N (mode_of view.held) call) in
-          subst (λ (world : Now C N). IsIdle world seat) (sym p.starts.begins) (begun_idle old.lock seat view start walk pair p.starts.at p.starts.idle p.starts.unasked);
+      apart = λ walk at. subst (λ (world : Now C N). IsIdle world seat) (sym p.starts.begins)
+          (begun_idle old.lock seat view start walk (placed_by N (mode_of view.held) call ∙ sym p.stands ∙ at) p.starts.at p.starts.idle p.starts.unasked);
       may = λ next at.
           let same : next.held ≡ view.held = begun_held old.lock seat view start p.starts.at next (ap (λ (world : Now C N). slice_get world.state.views seat) (sym p.starts.begins) ∙ at) in
           subst (λ w. MayWait w next.held) (sym p.stands) (subst (λ held. MayWait (object_start call) held) (sym same) (start_may old.objects.setup old.lock.env.notes call view.held p.starts.fits));
@@ -232,13 +231,6 @@ module _ {C : Type 0} {N : ℕ} where
 
     pub may_operate : StepFits old.lock.env.next walk
     may_operate = may_step lawful.events (objects_state old.objects) old.lock.env lawful.lock.events notes_meet lawful.objects_lawful seat walk walks
-
-    pub stands_low : seat < 64
-    stands_low = let all = lawful.places in let low = stands_within old.objects.walks seat walk walks in omega (arith, all, low)
-
-    -- what it is, and that it keeps the law
-    pub operates : (new : Objects) (step : Step) → is_for_lock (wait_in old.objects.waits seat) walk step ≡ false → HasOperated old.lock.env seat walk old.objects new step → Operates old (whole old.lock new) seat step
-    operates new step not_for_lock p = record { walk = walk; walks = walks; idle = λ waits. (subst (StandsBy old seat) waits (lawful.stands seat)).apart walk walks; operated = p; not_for_lock = not_for_lock; same = refl }
 
     -- the seat stands where its step leads
     module _ (words : List ℕ) (found : ObjectFound) where

@@ -1,13 +1,13 @@
 -- What a step on the parts of a world is in it.
 use Rattle.std.proofs.Common.{false, ◌≡◌, ℕ, suc, inl, inr, ◌<◌, ◌≤◌, List, [], Option, Some, None, length, map, get_or, take, drop, slice_set, slice_get, refl, ap, sym, ◌∙◌, subst, arith}
-use Rattle.ns_world.proofs.Below.{act_fits, append-nil, length-map, number_at, set-get_or, slice_get-get_or, split_at, step_at}
-use Rattle.ns_world.specs.Prelude.{ActFits, Acts, Asks, AsksFor, Cause, Effect, EnvActFits, EnvEffect, EnvMoves, EnvNext, EnvPlain, EnvWalk, Environment, Event, Found, Go, Goes, IsLawfulWorld, Limits}
+use Rattle.ns_world.proofs.Below.{act_fits, append-nil, length-map, number_at, slice_get-get_or, split_at, step_at}
+use Rattle.ns_world.specs.Prelude.{ActFits, Acts, Asks, AsksFor, Cause, Effect, EnvActFits, EnvEffect, EnvMoves, EnvNext, EnvPlain, EnvWalk, Environment, Event, Go, Goes, IsLawfulWorld, Limits}
 use Rattle.ns_world.specs.Prelude.{Lists, LookGoes, LookOver, LookStep, Looks, MayShow, Moves, MovesFrom, Now, Performs, Seat, SeatLooks, SeatView, Sees, Step}
 use Rattle.ns_world.specs.Prelude.{Truths, Walk, Went, Word, env_got_of, env_state, env_want_of, got_of, look_of, looks_at, now_with, outcome, plain_of, seat_part, tests_after, view_of, waits_among, walk_after, want_of}
 use Rattle.ns_env.proofs.Ranges.{asks_in_range}
 use Rattle.ns_world.specs.Asks.{Asked}
 use Rattle.ns_world.proofs.Looking.{LookLeads, look_leads, look_stays, shown_effect}
-use Rattle.ns_world.proofs.Mapped.{got-map, map-set, index-map}
+use Rattle.ns_world.proofs.Mapped.{got-map, map-set, map-stays, index-map}
 use Rattle.ns_world.proofs.Places.{fits_more}
 use Rattle.ns_word.specs.declared.act.Found.TheVariants as TheFound
 
@@ -33,16 +33,6 @@ module _ {C : Type 0} {N : ℕ} (truths : Truths C) (word : Word) (row : List �
   asks_at : slice_get (map (λ s. s.asking) seats) i ≡ Some (get_or seats i d).asking
   asks_at = got-map (λ s. s.asking) seats i d within
 
-  -- where it is left as it is, so is the list of these places
-  asks_stay : (next : Seat C N) → next.asking ≡ (get_or seats i d).asking → map (λ s. s.asking) (slice_set seats i next) ≡ map (λ s. s.asking) seats
-  asks_stay next same =
-      map-set (λ s. s.asking) seats i next ∙ ap (slice_set (map (λ s. s.asking) seats) i) same ∙ sym (map-set (λ s. s.asking) seats i (get_or seats i d)) ∙ ap (map (λ s. s.asking)) (set-get_or seats i d)
-
-  -- where its view is left as it is, so is the list of the views
-  views_stay : (next : Seat C N) → view_of next ≡ view_of (get_or seats i d) → map view_of (slice_set seats i next) ≡ map view_of seats
-  views_stay next same =
-      map-set view_of seats i next ∙ ap (slice_set (map view_of seats) i) same ∙ sym (map-set view_of seats i (get_or seats i d)) ∙ ap (map view_of) (set-get_or seats i d)
-
   few_asks : length (map (λ s. s.asking) seats) ≤ 64
   few_asks = let same = lawful.as_many in let few = lawful.few in omega (arith, same, few)
 
@@ -65,16 +55,10 @@ module _ {C : Type 0} {N : ℕ} (truths : Truths C) (word : Word) (row : List �
       (act_fits truths (length (map view_of seats)) lawful.few history (now_with truths word row queues flags env seats history).state (take i (map view_of seats)) (view_of (get_or seats i d)) (drop (suc i) (map view_of seats)) (split_at (map view_of seats) i (view_of (get_or seats i
       d)) at_here) lawful.lawful walk e)
 
-  -- the view after a step, part by part
-  led : (walk : Walk C) (next : Seat C N) (found : Found) → next.number ≡ (get_or seats i d).number → next.walk ≡ walk_after (got_of N walk found) →
-      view_of next ≡ record { seat = (get_or seats i d).number; walk = walk_after (got_of N walk found); held = next.held; owed = next.owed.items }
-  led walk next found same goes =
-      ap (λ n. record { seat = n; walk = next.walk; held = next.held; owed = next.owed.items }) same ∙ ap (λ w. record { seat = (get_or seats i d).number; walk = w; held = next.held; owed = next.owed.items }) goes
-
   module _ (walk : Walk C) (walks : (get_or seats i d).walk ≡ Some walk) (word' : Word) (row' : List ℕ) (queues' : Lists C) (flags' : List ℕ) (next : Seat C N) (history' : List (Event C N)) (step : Step)
       (p : Performs truths (seat_part word row queues flags (get_or seats i d)) (get_or seats i d) history walk (seat_part word' row' queues' flags' next) next history' step) where
     asks_become : map (λ s. s.asking) (slice_set seats i next) ≡ slice_set (map (λ s. s.asking) seats) i (look_of (walk_after (got_of N walk p.found)))
-    asks_become = map-set (λ s. s.asking) seats i next ∙ ap (slice_set (map (λ s. s.asking) seats) i) p.asking
+    asks_become = map-set (λ s. s.asking) seats i next ∙ ap (slice_set (map (λ s. s.asking) seats) i) (ap (λ (s : Seat C N). s.asking) p.goes)
 
     -- what a step on the parts of a world is in it
     pub goes_here : Goes (now_with truths word row queues flags env seats history) (now_with truths word' row' queues' flags' env (slice_set seats i next) history') i step
@@ -85,10 +69,10 @@ module _ {C : Type 0} {N : ℕ} (truths : Truths C) (word : Word) (row : List �
       found = p.found;
       commits = p.commits;
       makes = step_at truths (now_with truths word row queues flags env seats history).state i (view_of (get_or seats i d)) at_here walk p.found (now_with truths word' row' queues' flags' env (slice_set seats i next) history').state next.held next.owed.items p.commits
-          walks (map-set view_of seats i next ∙ ap (slice_set (map view_of seats) i) (led walk next p.found p.number p.goes)) p.effect;
-      others = map-set view_of seats i next ∙ ap (slice_set (map view_of seats) i) (led walk next p.found p.number p.goes);
+          walks (map-set view_of seats i next ∙ ap (slice_set (map view_of seats) i) (ap view_of p.goes)) p.effect;
+      others = map-set view_of seats i next ∙ ap (slice_set (map view_of seats) i) (ap view_of p.goes);
       means = refl;
-      tests = map-set (λ s. s.tests) seats i next ∙ ap (slice_set (map (λ s. s.tests) seats) i) (p.tests ∙ ap (tests_after p.found) (sym (index-map (λ s. s.tests) seats i d within)));
+      tests = map-set (λ s. s.tests) seats i next ∙ ap (slice_set (map (λ s. s.tests) seats) i) (ap (λ (s : Seat C N). s.tests) p.goes ∙ ap (tests_after p.found) (sym (index-map (λ s. s.tests) seats i d within)));
       grows = p.grows;
       answers = p.answers;
       env = refl;
@@ -113,10 +97,12 @@ module _ {C : Type 0} {N : ℕ} (truths : Truths C) (word : Word) (row : List �
     commits = [];
     effect = subst (λ (x : Seat C N). Effect truths (get_or seats i d).number (want_of walk) (seat_part word row queues flags (get_or seats i d)) (TheFound.Looked cause) (seat_part word row queues flags x) []) (sym q.goes)
         (shown_effect truths (get_or seats i d).number (want_of walk) limits cause (seat_part word row queues flags (get_or seats i d)) looks may);
-    number = ap (λ (x : Seat C N). x.number) q.goes;
-    goes = ap (λ (x : Seat C N). x.walk) q.goes;
-    asking = ap (λ (x : Seat C N). x.asking) q.goes;
-    tests = ap (λ (x : Seat C N). x.tests) q.goes;
+    goes = subst (λ (x : Seat C N). x ≡ record (get_or seats i d) {
+      walk = walk_after (got_of N walk (TheFound.Looked cause));
+      asking = look_of (walk_after (got_of N walk (TheFound.Looked cause)));
+      held = x.held;
+      owed = x.owed;
+    }) (sym q.goes) refl;
     grows = sym (append-nil history);
     answers = q.answers;
   }
@@ -125,14 +111,14 @@ module _ {C : Type 0} {N : ℕ} (truths : Truths C) (word : Word) (row : List �
   asks_alone : (env' : Environment) (next : Seat C N) → view_of next ≡ view_of (get_or seats i d) →
       now_with truths word row queues flags env' (slice_set seats i next) history ≡ record (now_with truths word row queues flags env seats history) { env = plain_of env'; asking = map (λ s. s.asking) (slice_set seats i next); tests = map (λ s. s.tests) (slice_set seats i next) }
   asks_alone env' next same =
-      ap (λ (vs : List (SeatView C N)). record (now_with truths word row queues flags env' (slice_set seats i next) history) { state = record (now_with truths word row queues flags env seats history).state { views = vs } }) (views_stay next same)
+      ap (λ (vs : List (SeatView C N)). record (now_with truths word row queues flags env' (slice_set seats i next) history) { state = record (now_with truths word row queues flags env seats history).state { views = vs } }) (map-stays view_of seats i next d same)
 
   module _ (walk : EnvWalk) (walks : (get_or seats i d).asking ≡ Some walk) (over : (get_or seats i d).walk ≡ None) (env' : Environment) (next : Seat C N) (step : Step) (p : Asked (plain_of env) (plain_of env') (get_or seats i d) walk next step) where
     same_view : view_of next ≡ view_of (get_or seats i d)
     same_view = ap view_of p.goes
 
     tests_stay : map (λ s. s.tests) (slice_set seats i next) ≡ map (λ s. s.tests) seats
-    tests_stay = map-set (λ s. s.tests) seats i next ∙ ap (slice_set (map (λ s. s.tests) seats) i) (ap (λ s. s.tests) p.goes) ∙ sym (map-set (λ s. s.tests) seats i (get_or seats i d)) ∙ ap (map (λ s. s.tests)) (set-get_or seats i d)
+    tests_stay = map-stays (λ s. s.tests) seats i next d (ap (λ (s : Seat C N). s.tests) p.goes)
 
     -- what a step on the clock and the notes is in the world
     pub asks_here : Asks (now_with truths word row queues flags env seats history) (now_with truths word row queues flags env' (slice_set seats i next) history) i step
@@ -175,7 +161,7 @@ module _ {C : Type 0} {N : ℕ} (truths : Truths C) (word : Word) (row : List �
       asks_on = map-set (λ s. s.asking) seats i next ∙ ap (λ (s : Seat C N). slice_set (map (λ s. s.asking) seats) i s.asking) is
 
       tests_on : map (λ s. s.tests) (slice_set seats i next) ≡ map (λ s. s.tests) seats
-      tests_on = map-set (λ s. s.tests) seats i next ∙ ap (slice_set (map (λ s. s.tests) seats) i) (ap (λ (s : Seat C N). s.tests) is) ∙ sym (map-set (λ s. s.tests) seats i (get_or seats i d)) ∙ ap (map (λ s. s.tests)) (set-get_or seats i d)
+      tests_on = map-stays (λ s. s.tests) seats i next d (ap (λ (s : Seat C N). s.tests) is)
 
       now_on : now_with truths word row queues flags env' (slice_set seats i next) history ≡ record (now_with truths word row queues flags env seats history) { asking = slice_set (map (λ s. s.asking) seats) i (Some on) }
       now_on =

@@ -9,7 +9,7 @@ ghost use Rattle.ns_word.specs.Steps.{change_commits, entry_of, exit_for, leave_
 ghost use Rattle.ns_word.specs.Waits.{mode_for};
 ghost use Rattle.ns_word.specs.Words.{may_acquire};
 ghost use Rattle.ns_world.specs.Commits.{IsEvent};
-ghost use Rattle.ns_world.specs.Performs.{part, IsSeat, Makes};
+ghost use Rattle.ns_world.specs.Performs.{part, Makes, StaysThere};
 
 use crate::room::Seated;
 use crate::seat::Seat;
@@ -198,7 +198,7 @@ fn return_waking<C: Seated<N>, const N: usize>(
 ) -> Result<Found, AllocError>
     requires { k < 4 }
     ensures ok { IfOk result (λ found. (row flags : List ℕ) → Makes C.means seat.old.number (Act.ReturnQueues (Change.WakeWaiters waking k) last) (part word.old row queues.old flags seat.old.held seat.old.owed.items) history.old.items found (part word.new row queues.new flags seat.new.held seat.new.owed.items) history.new.items) }
-    ensures kept { IsSeat seat.old.number seat.old.walk seat.old.asking seat.old.tests seat.new }
+    ensures kept { StaysThere seat.old seat.new }
     ensures err { OnErr result ((last ≡ word.old) × (word.new ≡ word.old) × (queues.new ≡ queues.old) × (seat.new ≡ seat.old) × (history.new.items ≡ history.old.items)) }
 {
     if !word.is_same(last) {
@@ -240,7 +240,7 @@ pub(crate) fn return_queues<C: Seated<N>, const N: usize>(
     requires below { seat.old.number < 64 }
     requires fits { (row flags : List ℕ) → ChangeFits seat.old.number change (part word.old row queues.old flags seat.old.held seat.old.owed.items) }
     ensures ok { IfOk result (λ found. (row flags : List ℕ) → Makes C.means seat.old.number (Act.ReturnQueues change last) (part word.old row queues.old flags seat.old.held seat.old.owed.items) history.old.items found (part word.new row queues.new flags seat.new.held seat.new.owed.items) history.new.items) }
-    ensures kept { IsSeat seat.old.number seat.old.walk seat.old.asking seat.old.tests seat.new }
+    ensures kept { StaysThere seat.old seat.new }
     ensures err { OnErr result (IsEvent seat.old.number change queues.old × (last ≡ word.old) × (word.new ≡ word.old) × (queues.new ≡ queues.old) × (seat.new ≡ seat.old) × (history.new.items ≡ history.old.items)) }
 {
     match change {
@@ -351,7 +351,7 @@ pub(crate) fn release_returning<C: Seated<N>, const N: usize>(
 ) -> Result<Found, AllocError>
     requires { CanLeave C.means releasing seat.old.held }
     ensures ok { IfOk result (λ found. (flags : List ℕ) → Makes C.means seat.old.number (Act.ReleaseReturning releasing last) (part word.old row.now queues.old flags seat.old.held seat.old.owed.items) history.old.items found (part word.new row.now queues.new flags seat.new.held seat.new.owed.items) history.new.items) }
-    ensures kept { IsSeat seat.old.number seat.old.walk seat.old.asking seat.old.tests seat.new }
+    ensures kept { StaysThere seat.old seat.new }
     ensures err { OnErr result ((last ≡ word.old) × (word.new ≡ word.old) × (queues.new ≡ queues.old) × (seat.new ≡ seat.old) × (history.new.items ≡ history.old.items)) }
 {
     if !word.is_same(last) {
@@ -418,7 +418,7 @@ pub(crate) fn wait_returning<C: Seated<N>, const N: usize>(
     requires below { seat.old.number < 64 }
     requires free { times seat.old.number queues.old ≡ 0 }
     ensures ok { IfOk result (λ found. (flags : List ℕ) → Makes C.means seat.old.number (Act.WaitReturning wait again word.old) (part word.old row.now queues.old flags seat.old.held seat.old.owed.items) history.old.items found (part word.new row.now queues.new flags seat.new.held seat.new.owed.items) history.new.items) }
-    ensures kept { IsSeat seat.old.number seat.old.walk seat.old.asking seat.old.tests seat.new }
+    ensures kept { StaysThere seat.old seat.new }
     ensures err { OnErr result ((again ≡ false) × (word.new ≡ word.old) × (queues.new ≡ queues.old) × (seat.new ≡ seat.old) × (history.new.items ≡ history.old.items)) }
 {
     leave_section(seat.number, &mut seat.held, history, wait.on, again)?;

@@ -27,13 +27,13 @@ returns-clause-ok g c = λ flags.
     ∙ some_called _ _ _ c.scan-scan.ensures.woken (are_called _ _ _ _ (c.called-seat.ensures ∙ (λ i. called_by (c.as_slice.ensures.value i) (c.as_slice-2.ensures.value i))) c.scan-scan.ensures.woken c.scan-scan.ensures.vias)) c.bits.ensures c.scan-scan.ensures.tests
 
 pub returns-then-not-is_same-clause-kept : goal.returns-then-not-is_same-clause-kept
-returns-then-not-is_same-clause-kept g c = record { number = refl; walk = refl; asking = refl; tests = refl }
+returns-then-not-is_same-clause-kept g c = refl
 
 pub returns-in_err-commit-clause-kept : goal.returns-in_err-commit-clause-kept
-returns-in_err-commit-clause-kept g c = record { number = refl; walk = refl; asking = refl; tests = refl }
+returns-in_err-commit-clause-kept g c = refl
 
 pub returns-clause-kept : goal.returns-clause-kept
-returns-clause-kept g c = record { number = refl; walk = refl; asking = refl; tests = refl }
+returns-clause-kept g c = refl
 
 pub returns-in_err-commit-clause-ok : goal.returns-in_err-commit-clause-ok
 returns-in_err-commit-clause-ok g c = let p = err_from_is_err_and c.from_residual.result c.from_residual.ensures.1 in rw p.1 tt

@@ -16,10 +16,10 @@ pub returns-in-QueueSelf-clause-ok : goal.returns-in-QueueSelf-clause-ok
 returns-in-QueueSelf-clause-ok g c = rw c.in-QueueSelf.is (λ row flags. record { commits = []; effect = c.return_queued.ensures row flags c.args.seat.now.owed.items c.args.seat.now.held; grows = sym (append-nil _) })
 
 pub returns-in-QueueSelf-clause-kept : goal.returns-in-QueueSelf-clause-kept
-returns-in-QueueSelf-clause-kept g c = record { number = refl; walk = refl; asking = refl; tests = refl }
+returns-in-QueueSelf-clause-kept g c = refl
 
 pub returns-in-LeaveSelf-clause-kept : goal.returns-in-LeaveSelf-clause-kept
-returns-in-LeaveSelf-clause-kept g c = record { number = refl; walk = refl; asking = refl; tests = refl }
+returns-in-LeaveSelf-clause-kept g c = refl
 
 pub returns-in-LeaveSelf-clause-ok : goal.returns-in-LeaveSelf-clause-ok
 returns-in-LeaveSelf-clause-ok g c = rw c.in-LeaveSelf.is (on_ok c.return_left.result (λ found p row flags. p row flags c.args.seat.now.owed.items c.args.seat.now.held) c.return_left.ensures.ok)
@@ -37,7 +37,7 @@ pub returns-in-Nothing-clause-ok : goal.returns-in-Nothing-clause-ok
 returns-in-Nothing-clause-ok g c = rw c.in-Nothing.is (λ row flags. record { commits = []; effect = c.return_unchanged.ensures c.args.seat.now.number row flags c.args.seat.now.owed.items c.args.seat.now.held; grows = sym (append-nil _) })
 
 pub returns-in-Nothing-clause-kept : goal.returns-in-Nothing-clause-kept
-returns-in-Nothing-clause-kept g c = record { number = refl; walk = refl; asking = refl; tests = refl }
+returns-in-Nothing-clause-kept g c = refl
 
 pub return_unchanged-requires : goal.return_unchanged-requires
 return_unchanged-requires g c = g.met.C.Seated.queues_fit

@@ -18,10 +18,10 @@ returns-clause-ok g c = λ row flags.
     c.wake_waiters-seat.ensures.owed c.wake_waiters-seat.ensures.lists c.bits.ensures c.returned.ensures
 
 pub returns-then-not-is_same-clause-kept : goal.returns-then-not-is_same-clause-kept
-returns-then-not-is_same-clause-kept g c = record { number = refl; walk = refl; asking = refl; tests = refl }
+returns-then-not-is_same-clause-kept g c = refl
 
 pub returns-clause-kept : goal.returns-clause-kept
-returns-clause-kept g c = record { number = refl; walk = refl; asking = refl; tests = refl }
+returns-clause-kept g c = refl
 
 pub returns-in_err-commit_wake-clause-err : goal.returns-in_err-commit_wake-clause-err
 returns-in_err-commit_wake-clause-err g c =
@@ -41,7 +41,7 @@ pub returns-in_err-commit_wake-clause-ok : goal.returns-in_err-commit_wake-claus
 returns-in_err-commit_wake-clause-ok g c = let p = err_from_is_err_and c.from_residual.result c.from_residual.ensures.1 in rw p.1 tt
 
 pub returns-in_err-commit_wake-clause-kept : goal.returns-in_err-commit_wake-clause-kept
-returns-in_err-commit_wake-clause-kept g c = record { number = refl; walk = refl; asking = refl; tests = refl }
+returns-in_err-commit_wake-clause-kept g c = refl
 
 pub returns-clause-err : goal.returns-clause-err
 returns-clause-err g c = tt

@@ -24,10 +24,10 @@ returns-clause-ok g c = λ flags.
     c.scan_and_queue-scan.ensures.tests
 
 pub returns-in_err-leave_section-clause-kept : goal.returns-in_err-leave_section-clause-kept
-returns-in_err-leave_section-clause-kept g c = record { number = refl; walk = refl; asking = refl; tests = refl }
+returns-in_err-leave_section-clause-kept g c = refl
 
 pub returns-clause-kept : goal.returns-clause-kept
-returns-clause-kept g c = record { number = refl; walk = refl; asking = refl; tests = refl }
+returns-clause-kept g c = refl
 
 pub returns-in_err-leave_section-clause-ok : goal.returns-in_err-leave_section-clause-ok
 returns-in_err-leave_section-clause-ok g c = let p = err_from_is_err_and c.from_residual.result c.from_residual.ensures.1 in rw p.1 tt

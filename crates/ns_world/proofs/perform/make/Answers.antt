@@ -108,68 +108,68 @@ pub returns-in-LoadWord-clause-err : goal.returns-in-LoadWord-clause-err
 returns-in-LoadWord-clause-err g c = tt
 
 pub returns-in-LoadWord-clause-kept : goal.returns-in-LoadWord-clause-kept
-returns-in-LoadWord-clause-kept g c = record { number = refl; walk = refl; asking = refl; tests = refl }
+returns-in-LoadWord-clause-kept g c = refl
 
 pub returns-in-Acquire-clause-err : goal.returns-in-Acquire-clause-err
 returns-in-Acquire-clause-err g c = tt
 
 pub returns-in-Acquire-clause-kept : goal.returns-in-Acquire-clause-kept
-returns-in-Acquire-clause-kept g c = record { number = refl; walk = refl; asking = refl; tests = refl }
+returns-in-Acquire-clause-kept g c = refl
 
 pub returns-in-TakeQueues-clause-err : goal.returns-in-TakeQueues-clause-err
 returns-in-TakeQueues-clause-err g c = tt
 
 pub returns-in-TakeQueues-clause-kept : goal.returns-in-TakeQueues-clause-kept
-returns-in-TakeQueues-clause-kept g c = record { number = refl; walk = refl; asking = refl; tests = refl }
+returns-in-TakeQueues-clause-kept g c = refl
 
 pub returns-in-LoadCell-clause-err : goal.returns-in-LoadCell-clause-err
 returns-in-LoadCell-clause-err g c = tt
 
 pub returns-in-LoadCell-clause-kept : goal.returns-in-LoadCell-clause-kept
-returns-in-LoadCell-clause-kept g c = record { number = refl; walk = refl; asking = refl; tests = refl }
+returns-in-LoadCell-clause-kept g c = refl
 
 pub returns-in-JudgeQuiet-clause-err : goal.returns-in-JudgeQuiet-clause-err
 returns-in-JudgeQuiet-clause-err g c = tt
 
 pub returns-in-JudgeQuiet-clause-kept : goal.returns-in-JudgeQuiet-clause-kept
-returns-in-JudgeQuiet-clause-kept g c = record { number = refl; walk = refl; asking = refl; tests = refl }
+returns-in-JudgeQuiet-clause-kept g c = refl
 
 pub returns-in-StoreCell-clause-err : goal.returns-in-StoreCell-clause-err
 returns-in-StoreCell-clause-err g c = tt
 
 pub returns-in-StoreCell-clause-kept : goal.returns-in-StoreCell-clause-kept
-returns-in-StoreCell-clause-kept g c = record { number = refl; walk = refl; asking = refl; tests = refl }
+returns-in-StoreCell-clause-kept g c = refl
 
 pub returns-in-ArmFlag-clause-err : goal.returns-in-ArmFlag-clause-err
 returns-in-ArmFlag-clause-err g c = tt
 
 pub returns-in-ArmFlag-clause-kept : goal.returns-in-ArmFlag-clause-kept
-returns-in-ArmFlag-clause-kept g c = record { number = refl; walk = refl; asking = refl; tests = refl }
+returns-in-ArmFlag-clause-kept g c = refl
 
 pub returns-in-PayWake-clause-err : goal.returns-in-PayWake-clause-err
 returns-in-PayWake-clause-err g c = tt
 
 pub returns-in-PayWake-clause-kept : goal.returns-in-PayWake-clause-kept
-returns-in-PayWake-clause-kept g c = record { number = refl; walk = refl; asking = refl; tests = refl }
+returns-in-PayWake-clause-kept g c = refl
 
 pub returns-in-LoadFlag-clause-err : goal.returns-in-LoadFlag-clause-err
 returns-in-LoadFlag-clause-err g c = tt
 
 pub returns-in-LoadFlag-clause-kept : goal.returns-in-LoadFlag-clause-kept
-returns-in-LoadFlag-clause-kept g c = record { number = refl; walk = refl; asking = refl; tests = refl }
+returns-in-LoadFlag-clause-kept g c = refl
 
 pub returns-in-JudgeMet-clause-err : goal.returns-in-JudgeMet-clause-err
 returns-in-JudgeMet-clause-err g c = tt
 
 pub returns-in-JudgeMet-clause-kept : goal.returns-in-JudgeMet-clause-kept
-returns-in-JudgeMet-clause-kept g c = record { number = refl; walk = refl; asking = refl; tests = refl }
+returns-in-JudgeMet-clause-kept g c = refl
 
 pub returns-then-not-is_same-clause-ok : goal.returns-then-not-is_same-clause-ok
 returns-then-not-is_same-clause-ok g c = rw c.in-WaitReturning.is (wait_missed _ c.args.seat.now.number c.in-WaitReturning.wait c.in-WaitReturning.again c.in-WaitReturning.last c.args.word.now c.args.word.now
     c.args.row.now c.args.flags.now c.args.history.now.items c.args.history.now.items c.args.queues.now c.args.seat.now.owed.items c.args.seat.now.held (c.if-not-is_same.ensures.another refl))
 
 pub returns-then-not-is_same-clause-kept : goal.returns-then-not-is_same-clause-kept
-returns-then-not-is_same-clause-kept g c = record { number = refl; walk = refl; asking = refl; tests = refl }
+returns-then-not-is_same-clause-kept g c = refl
 
 pub returns-then-not-is_same-clause-err : goal.returns-then-not-is_same-clause-err
 returns-then-not-is_same-clause-err g c = tt
@@ -202,7 +202,7 @@ pub returns-in-Release-clause-ok : goal.returns-in-Release-clause-ok
 returns-in-Release-clause-ok g c = rw c.in-Release.is (on_ok c.release.result (λ found p. p c.args.row.now c.args.flags.now c.args.seat.now.owed.items c.args.queues.now) c.release.ensures.ok)
 
 pub returns-in-Release-clause-kept : goal.returns-in-Release-clause-kept
-returns-in-Release-clause-kept g c = record { number = refl; walk = refl; asking = refl; tests = refl }
+returns-in-Release-clause-kept g c = refl
 
 pub returns-in-Release-clause-err : goal.returns-in-Release-clause-err
 returns-in-Release-clause-err g c = rw c.in-Release.is (on_err c.release.result (λ p. (p.0, p.1, refl, refl, refl, rw p.2 refl, p.3)) c.release.ensures.err)
