@@ -7,8 +7,8 @@ make-requires g c = (omega arith, (g.met.C.Seated.queues_fit, (g.met.C.Seated.se
 
 pub returns-clause-ok : goal.returns-clause-ok
 returns-clause-ok g c =
-    let made = c.in_ok-found.ensures.ok in
-    let kept = c.in_ok-found.ensures.kept in
+    let made = c.in_ok-found.ensures.0 in
+    let kept = c.in_ok-found.ensures.1 in
     rw c.settle.ensures.seat (record {
       found = c.in_ok-found.found;
       commits = made.commits;
