@@ -2,10 +2,10 @@
 use Rattle.std.specs.Prelude.{slice_get}
 use Rattle.std.proofs.Common.{◌≡◌, inl, inr, ℕ, List, [], ◌++◌, Option, None, Some, slice_set, refl, ap, sym, ◌∙◌, subst, Bool, true, false, length}
 use Rattle.ns_world.proofs.Below.{append-nil, append_assoc, begins_itself, begins_through, env_own-append, env_own_all, looks_by_asked, quiet_asks, quiet_is_first, same_Some, set_here, slice_get_within, test_asks, wait_is_first}
-use Rattle.ns_world.specs.Prelude.{Act, Acts, Add, Advance, AnswersOfLock, AnswersOfNotes, Any, AreBy, Ask, Asked, Asks, AsksFor, AtSomePoint, BeginsWith, Call, CallFits, CallGoes, Cause, ClockLoad, CounterWait, Course, CvWait, Done, Effect, EnvCourse, EnvEvent, EnvGoes}
+use Rattle.ns_world.specs.Prelude.{Act, Acts, Advance, AnswersOfLock, AnswersOfNotes, Any, AreBy, Ask, Asked, Asks, AsksFor, AtSomePoint, BeginsWith, Call, CallFits, CallGoes, Cause, ClockLoad, Course, CvWait, Done, Effect, EnvCourse, EnvEvent, EnvGoes}
 use Rattle.ns_world.specs.Prelude.{EnvGoesOn, EnvNext, EnvRequest, EnvSoFar, EnvWalk, Event, Expiry, Finished, ForLook, Found, Go, Goes, GoesOn, Held, IfMade, InWait, IsFirst, IsFirstAsk, IsLawfulWorld, IsNotified}
 use Rattle.ns_world.specs.Prelude.{LedTo, Limits, Lock, Look, LookFits, LookGoes, LookMeans, LookOver, Looked, Means, Mode, Moves, NewNote, Next, NoteLoad, NoteStanding, NoteWait, Notify, Now, OfLock, OfNotes, OfObjects, On, OnCondition, OnEntry, OnLock}
-use Rattle.ns_world.specs.Prelude.{OnObjects, OnVariables, Once, Only, Owed, Part, RLock, Reply, Request, SeatView, Setup, Shows, SoFar, Start, Starts, Step, Subject, ToRelease, Truths, UnlockQuiet, Value, Wait, WaitAny}
+use Rattle.ns_world.specs.Prelude.{OnObjects, OnVariables, Only, Owed, Part, RLock, Reply, Request, SeatView, Setup, Shows, SoFar, Start, Starts, Step, Subject, ToRelease, Truths, UnlockQuiet, Wait}
 use Rattle.ns_world.specs.Prelude.{Walk, WasShown, asked_of, asks_of, begun_at, course_after, course_from, env_asked_of, env_course_after, env_course_at, env_done, env_got_of, env_own, env_state, env_step_of, env_walk_after, env_want_of, got_of, held_at, held_in, is_for_any}
 use Rattle.ns_world.specs.Prelude.{limits_for, limits_of, look_of, looked_after, looks_at, mode_of, mode_waited, note_in, own, part_of, row_after, start_of, step_of, waits_among, walk_after, want_of}
 use Rattle.ns_word.proofs.Courses.{takes_on, begins_unchanged}
@@ -480,7 +480,7 @@ module _ (C : Type 0) (N : ℕ) (before : Now C N) (earlier : List EnvEvent) (se
   abbrev IsAskedAt : Asked C → Start C → Type 0
   IsAskedAt (OfLock request) (OnLock walk) = asked_of walk ≡ request
   IsAskedAt (OfNotes request) (Ask walk) = (env_asked_of walk ≡ request) × IsNoLook request
-  IsAskedAt (OfObjects asked) (OnObjects walk) = Unit {0}
+  IsAskedAt (OfObjects asked) (OnObjects walk) = walk ≡ asked
   IsAskedAt asked start = ⊥
 
   asked_at : (mode : Option Mode) (call : Call C) → IsAskedAt (asks_of mode call) (start_of N mode call)
@@ -492,12 +492,6 @@ module _ (C : Type 0) (N : ℕ) (before : Now C N) (earlier : List EnvEvent) (se
   asked_at mode (IsNotified note) = (refl, tt)
   asked_at mode (Expiry note) = (refl, tt)
   asked_at mode (NoteWait note deadline) = (refl, tt)
-  asked_at mode (Add counter delta) = tt
-  asked_at mode (Value counter) = tt
-  asked_at mode (CounterWait counter deadline) = tt
-  asked_at mode (Once once) = tt
-  asked_at mode (Done once) = tt
-  asked_at mode (WaitAny items deadline) = tt
   asked_at mode other = refl
 
   -- it is a first place

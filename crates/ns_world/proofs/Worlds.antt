@@ -17,12 +17,6 @@ same_element xs i x y within p q = cc (slice_get-get_or xs i x within, slice_get
 
 module _ {C : Type 0} {N : ℕ} (truths : Truths C) (word : Word) (row : List ℕ) (queues : Lists C) (flags : List ℕ) (env : Environment) (seats : List (Seat C N)) (history : List (Event C N)) (lawful : IsLawfulWorld (now_with truths word row
     queues flags env seats history)) (i : ℕ) (d : Seat C N) (within : i < length seats) where
-  abbrev old : Now C N
-  old = now_with truths word row queues flags env seats history
-
-  abbrev seat : Seat C N
-  seat = get_or seats i d
-
   at_here : slice_get (map view_of seats) i ≡ Some (view_of (get_or seats i d))
   at_here = got-map view_of seats i d within
 
@@ -217,10 +211,6 @@ module _ {C : Type 0} {N : ℕ} (truths : Truths C) (word : Word) (row : List �
   pub moved_here : (place : EnvWalk) → (get_or seats i d).asking ≡ Some place → (env' : Environment) (next : Seat C N) (step : Step) → EnvMoves (plain_of env) (plain_of env') (get_or seats i d) place next step →
       Moves (now_with truths word row queues flags env seats history) (now_with truths word row queues flags env' (slice_set seats i next) history) i step
   moved_here place stands env' next step p = moved_by (get_or seats i d).walk refl place stands env' next step p
-
--- there are at most 64
-pub below_64 : {C : Type 0} {N : ℕ} (seats : List (Seat C N)) (i : ℕ) → length (map view_of seats) ≤ 64 → i < length seats → i < 64
-below_64 seats i few within = let long = length-map seats view_of in omega (arith, long, few, within)
 
 -- a number past the seats is past their views
 pub past_views : {C : Type 0} {N : ℕ} (seats : List (Seat C N)) (i : ℕ) → length seats ≤ i → length (map view_of seats) ≤ i

@@ -1,7 +1,7 @@
 //! The compare-exchanges on the lock word. One that finds the word which its seat has last seen is
 //! made; any other changes nothing.
 
-ghost use Rattle.std.specs.Prelude.{◌≡◌, ◌<◌, ◌++◌, ◌∷◌, ℕ, true, false, None, List, [], IsSome, IfSome, MatchResult, OnOk, OnErr, if◌then◌else◌};
+ghost use Rattle.std.specs.Prelude.{◌≡◌, ◌<◌, ◌++◌, ◌∷◌, ℕ, true, false, None, List, [], IsSome, IfSome, MatchResult, if◌then◌else◌};
 ghost use Rattle.ns_queue.specs.Queues.{times};
 ghost use Rattle.ns_word.specs.declared.owed.Owed.{Owed};
 ghost use Rattle.ns_word.specs.Places.{CanLeave, CanWait, ChangeFits, IsInRange};
@@ -119,8 +119,7 @@ fn commit_leave<C: Seated<N>, const N: usize>(
     history: &mut Vec<Event<C, N>>,
     home: Home,
 ) -> Result<(), AllocError>
-    ensures ok { OnOk result (history.new.items ≡ history.old.items ++ change_commits seat (Change.LeaveSelf home) queues.now) }
-    ensures err { OnErr result (IsEvent seat (Change.LeaveSelf home) queues.now × (history.new.items ≡ history.old.items)) }
+    ensures { MatchResult result (λ done. history.new.items ≡ history.old.items ++ change_commits seat (Change.LeaveSelf home) queues.now) (λ fault. IsEvent seat (Change.LeaveSelf home) queues.now × (history.new.items ≡ history.old.items)) }
 {
     if let Home::AtVariables(variables) = home {
         let stands = queues.stands_at_variables(seat);
@@ -163,8 +162,7 @@ fn commit_wake<C: Seated<N>, const N: usize>(
     k: u8,
 ) -> Result<(), AllocError>
     requires { k < 4 }
-    ensures ok { OnOk result (history.new.items ≡ history.old.items ++ change_commits seat (Change.WakeWaiters waking k) queues.now) }
-    ensures err { OnErr result (history.new.items ≡ history.old.items) }
+    ensures { MatchResult result (λ done. history.new.items ≡ history.old.items ++ change_commits seat (Change.WakeWaiters waking k) queues.now) (λ fault. history.new.items ≡ history.old.items) }
 {
     let event = match waking {
         Waking::Signaling => Event::Signal {
@@ -292,9 +290,7 @@ fn commit<C: Seated<N>, const N: usize>(
     exit: Exit<C>,
 ) -> Result<(), AllocError>
     requires { IsSome held.old }
-    ensures ok { OnOk result (IfSome held.old (λ section. history.new.items ≡ history.old.items ++ section_of C.means.holds seat section exit ∷ [])) }
-    ensures over { OnOk result (held.new ≡ None) }
-    ensures err { OnErr result ((held.new ≡ held.old) × (history.new.items ≡ history.old.items)) }
+    ensures { MatchResult result (λ done. IfSome held.old (λ section. history.new.items ≡ history.old.items ++ section_of C.means.holds seat section exit ∷ []) × (held.new ≡ None)) (λ fault. (held.new ≡ held.old) × (history.new.items ≡ history.old.items)) }
 {
     let Some(section) = *held else { unreachable!() };
     history.push(Event::Section {
@@ -381,9 +377,7 @@ fn leave_section<C: Seated<N>, const N: usize>(
     again: bool,
 ) -> Result<(), AllocError>
     requires { IsSome held.old }
-    ensures ok { OnOk result (IfSome held.old (λ section. history.new.items ≡ history.old.items ++ (if again then [] else section_of C.means.holds seat section (exit_for on) ∷ []))) }
-    ensures over { OnOk result (held.new ≡ None) }
-    ensures err { OnErr result ((again ≡ false) × (held.new ≡ held.old) × (history.new.items ≡ history.old.items)) }
+    ensures { MatchResult result (λ done. IfSome held.old (λ section. history.new.items ≡ history.old.items ++ (if again then [] else section_of C.means.holds seat section (exit_for on) ∷ [])) × (held.new ≡ None)) (λ fault. (again ≡ false) × (held.new ≡ held.old) × (history.new.items ≡ history.old.items)) }
 {
     if again {
         *held = None;

@@ -3,7 +3,8 @@ use Rattle.ns_world.specs.Prelude.{AnyWait, CanTell, HasTold, ObjectWalk, Seat, 
 use Rattle.ns_world.proofs.among.step_objects.Goals as goal
 
 -- what is for the lock has been told to it
-told_as : {C : Type 0} {N : ℕ} (awaits wait : Option AnyWait) (then : Seat C N) (walk : ObjectWalk) (told : Step) (next : Seat C N) (step : Step) → awaits ≡ wait → is_for_lock awaits walk told ≡ true → HasTold wait then walk told next step → ToldIf (is_for_lock awaits walk told) awaits then walk told next step
+told_as : {C : Type 0} {N : ℕ} (awaits wait : Option AnyWait) (then : Seat C N) (walk : ObjectWalk) (told : Step) (next : Seat C N) (step : Step) → awaits ≡ wait → is_for_lock awaits walk told ≡ true →
+    HasTold wait then walk told next step → ToldIf (is_for_lock awaits walk told) awaits then walk told next step
 told_as awaits wait then walk told next step is for_lock p = subst (λ b. ToldIf b awaits then walk told next step) (sym for_lock) (subst (λ w. HasTold w then walk told next step) (sym is) p)
 
 pub returns-then-not-is_for_lock : goal.returns-then-not-is_for_lock

@@ -12,4 +12,4 @@ commit-requires g c = (g.met.C.Fits.held_fits, (g.met.C.Fits.event_fits, can_som
 pub returns : goal.returns
 returns g c = λ row flags owed queues.
     released _ c.args.seat c.args.releasing c.args.last c.args.word.now c.released.result row flags c.args.history.now.items c.commit.new.history.items queues owed c.args.held.now c.commit.new.held
-    c.requires c.in_ok-commit.ensures.ok (c.if-not-is_last.ensures.same refl) c.released.ensures c.in_ok-commit.ensures.over
+    c.requires c.in_ok-commit.ensures.0 (c.if-not-is_last.ensures.same refl) c.released.ensures c.in_ok-commit.ensures.1

@@ -18,7 +18,7 @@ returns g c = (
   λ row flags.
       woken_back g.C.Condition.means c.args.seat.now.number c.args.last c.args.word.now row flags c.args.history.now.items c.args.waking c.args.k c.returned.result c.commit_wake.new.history.items c.args.seat.now.owed.items c.wake_waiters-seat.result.items c.args.seat.now.held
       c.args.queues.now c.wake_waiters-seat.new.queues c.is_held-held.result (not c.is_empty-some.result) c.bits.result
-      (sym (c.if-not-is_same.ensures.same refl)) c.in_ok-commit_wake.ensures.ok c.is_held-held.ensures (ap not c.is_empty-some.ensures ∙ some_left _ ∙ ap has_some c.waiters.ensures)
+      (sym (c.if-not-is_same.ensures.same refl)) c.in_ok-commit_wake.ensures c.is_held-held.ensures (ap not c.is_empty-some.ensures ∙ some_left _ ∙ ap has_some c.waiters.ensures)
       c.wake_waiters-seat.ensures.owed c.wake_waiters-seat.ensures.lists c.bits.ensures c.returned.ensures,
   refl,
 )
@@ -26,7 +26,7 @@ returns g c = (
 pub returns-in_err-commit_wake : goal.returns-in_err-commit_wake
 returns-in_err-commit_wake g c =
     let p = err_from_is_err_and c.from_residual.result c.from_residual.ensures.1 in
-    rw p.1 (sym (c.if-not-is_same.ensures.same refl), refl, refl, refl, c.in_err-commit_wake.ensures.err)
+    rw p.1 (sym (c.if-not-is_same.ensures.same refl), refl, refl, refl, c.in_err-commit_wake.ensures)
 
 pub bits-requires : goal.bits-requires
 bits-requires g c = g.met.C.Seated.queues_fit

@@ -11,7 +11,7 @@ leave_section-requires g c = (g.met.C.Fits.held_fits, (g.met.C.Fits.event_fits, 
 pub returns-in_err-leave_section : goal.returns-in_err-leave_section
 returns-in_err-leave_section g c =
     let p = err_from_is_err_and c.from_residual.result c.from_residual.ensures.1 in
-    let err = c.in_err-leave_section.ensures.err in
+    let err = c.in_err-leave_section.ensures in
     rw p.1 (err.0, refl, refl, rw err.1 (refl {a = c.args.seat.now}), err.2)
 
 pub returns : goal.returns
@@ -19,7 +19,7 @@ returns g c = (
   λ flags.
       waited _ c.args.seat.now.number c.args.wait c.args.again c.args.word.now c.args.word.now c.released_returning.result c.args.row.now flags c.args.history.now.items c.leave_section.new.history.items
       c.args.queues.now c.scan_and_queue-scan.new.queues c.args.seat.now.owed.items c.called-seat.result.items c.args.seat.now.held c.leave_section.new.held (not c.is_empty-owes.result) c.scan_and_queue-scan.result.tests c.bits.result
-      c.requires.can c.in_ok-leave_section.ensures.ok refl (rw (← c.of.ensures) c.released_returning.ensures) c.in_ok-leave_section.ensures.over
+      c.requires.can c.in_ok-leave_section.ensures.0 refl (rw (← c.of.ensures) c.released_returning.ensures) c.in_ok-leave_section.ensures.1
       c.scan_and_queue-scan.ensures.lists (are_called _ _ _ _ (c.called-seat.ensures ∙ (λ i. called_by (c.as_slice.ensures.value i) (c.as_slice-2.ensures.value i))) c.scan_and_queue-scan.ensures.woken c.scan_and_queue-scan.ensures.vias) (ap not c.is_empty-owes.ensures ∙ some_left _
       ∙ some_called _ _ _ c.scan_and_queue-scan.ensures.woken (are_called _ _ _ _ (c.called-seat.ensures ∙ (λ i. called_by (c.as_slice.ensures.value i) (c.as_slice-2.ensures.value i))) c.scan_and_queue-scan.ensures.woken c.scan_and_queue-scan.ensures.vias)) c.bits.ensures
       c.scan_and_queue-scan.ensures.tests,

@@ -17,8 +17,17 @@ step_objects-requires g c =
     let seat = c.index_mut.result.now in
     let within : c.args.seat < length c.self.inside.seats.items = subst (λ n. c.args.seat < n) (c.len.ensures ∙ c.self.inside.seats.ok.0) c.if-at-len.false in
     let stands = rw ((same_element c.self.inside.seats.items c.args.seat c.index.result.now seat within c.index.ensures c.index_mut.ensures.value), c.index_mut.ensures.value) at c.in-Some.is in
-    let fits = operates_fit g.C.Condition.means c.self.inside.word c.self.inside.row c.self.inside.queues c.self.inside.flags c.self.inside.env c.self.inside.seats.items c.self.inside.history.items c.self.inside.objects c.self.invariant c.args.seat seat within c.in-Some.walk stands in
-    (g.met.C.Seated.seat_fits, (fits.0, (fits.1, rw c.index_mut.ensures.value (can_tell g.C.Condition.means c.self.inside.word c.self.inside.row c.self.inside.queues c.self.inside.flags c.self.inside.env c.self.inside.seats.items c.self.inside.history.items c.self.inside.objects c.self.invariant c.args.seat seat within c.in-Some.walk stands g.met.C.Condition.has_cells.1))))
+    let fits = operates_fit g.C.Condition.means c.self.inside.word c.self.inside.row c.self.inside.queues c.self.inside.flags c.self.inside.env c.self.inside.seats.items c.self.inside.history.items c.self.inside.objects c.self.invariant c.args.seat seat within c.in-Some.walk stands in (
+      g.met.C.Seated.seat_fits,
+      (
+        fits.0,
+        (
+          fits.1,
+          rw c.index_mut.ensures.value (can_tell g.C.Condition.means
+              c.self.inside.word c.self.inside.row c.self.inside.queues c.self.inside.flags c.self.inside.env c.self.inside.seats.items c.self.inside.history.items c.self.inside.objects c.self.invariant c.args.seat seat within c.in-Some.walk stands g.met.C.Condition.has_cells.1),
+        ),
+      ),
+    )
 
 pub returns-in-Some-clause-ok : goal.returns-in-Some-clause-ok
 returns-in-Some-clause-ok g c =
@@ -44,7 +53,8 @@ step_env-requires g c =
     let stands = rw ((same_element c.self.inside.seats.items c.args.seat c.index-2.result.now seat within c.index-2.ensures c.index_mut-in-Some-asking.ensures.value), c.index_mut-in-Some-asking.ensures.value) at c.in-Some-asking.is in (
       g.met.C.Seated.seat_fits,
       (
-        rw c.index_mut-in-Some-asking.ensures.value (asks_for g.C.Condition.means c.self.inside.word c.self.inside.row c.self.inside.queues c.self.inside.flags c.self.inside.env c.self.inside.seats.items c.self.inside.history.items c.self.invariant.lock c.args.seat seat within (Some c.in-Some-asking.place) stands),
+        rw c.index_mut-in-Some-asking.ensures.value (asks_for g.C.Condition.means
+            c.self.inside.word c.self.inside.row c.self.inside.queues c.self.inside.flags c.self.inside.env c.self.inside.seats.items c.self.inside.history.items c.self.invariant.lock c.args.seat seat within (Some c.in-Some-asking.place) stands),
         ask_here g.C.Condition.means c.self.inside.word c.self.inside.row c.self.inside.queues c.self.inside.flags c.self.inside.env c.self.inside.seats.items c.self.inside.history.items c.self.invariant.lock c.args.seat seat within c.in-Some-asking.place stands,
       ),
     )
@@ -89,7 +99,8 @@ perform-requires g c =
     let walks = rw ((same_element c.self.inside.seats.items c.args.seat c.index-3.result.now seat within c.index-3.ensures c.index_mut-2.ensures.value)) at c.in-Some-walk.is in
     let here = rw c.index_mut-2.ensures.value at walks in
     let act = act_here g.C.Condition.means c.self.inside.word c.self.inside.row c.self.inside.queues c.self.inside.flags c.self.inside.env c.self.inside.seats.items c.self.inside.history.items c.self.invariant.lock c.args.seat seat within c.in-Some-walk.walk here in
-    let looks = looks_not g.C.Condition.means c.self.inside.word c.self.inside.row c.self.inside.queues c.self.inside.flags c.self.inside.env c.self.inside.seats.items c.self.inside.history.items c.self.inside.objects c.self.invariant c.args.seat seat within nowhere c.in-Some-walk.walk here unasked in
+    let looks = looks_not g.C.Condition.means
+    c.self.inside.word c.self.inside.row c.self.inside.queues c.self.inside.flags c.self.inside.env c.self.inside.seats.items c.self.inside.history.items c.self.inside.objects c.self.invariant c.args.seat seat within nowhere c.in-Some-walk.walk here unasked in
     (few, (g.met.C.Seated.queues_fit, (g.met.C.Seated.seat_fits, (g.met.C.Fits.event_fits, (walks, (rw c.index_mut-2.ensures.value act, looks))))))
 
 pub told_by_lock-requires : goal.told_by_lock-requires
@@ -97,8 +108,11 @@ told_by_lock-requires g c =
     let seat = c.index_mut-2.result.now in
     let within : c.args.seat < length c.self.inside.seats.items = subst (λ n. c.args.seat < n) (c.len.ensures ∙ c.self.inside.seats.ok.0) c.if-at-len.false in
     let then : ◌≡◌ c.index_mut-in-Ok.result.now c.perform.new.seat = c.index_mut-in-Ok.ensures.value ∙ get_or-set_same c.self.inside.seats.items c.args.seat c.perform.new.seat c.index_mut-in-Ok.result.now within in
-    let made = rw c.index_mut-2.ensures.value at c.in-Ok.ensures.ok in
-    (g.met.C.Seated.seat_fits, rw then (few_there g.C.Condition.means c.self.inside.word c.self.inside.row c.self.inside.queues c.self.inside.flags c.self.inside.env c.self.inside.seats.items c.self.inside.history.items c.self.inside.objects c.self.invariant c.args.seat seat within c.perform.new.seat (ap (λ (s : Seat _ _). s.awaits) made.goes)))
+    let made = rw c.index_mut-2.ensures.value at c.in-Ok.ensures.ok in (
+      g.met.C.Seated.seat_fits,
+      rw then (few_there g.C.Condition.means
+          c.self.inside.word c.self.inside.row c.self.inside.queues c.self.inside.flags c.self.inside.env c.self.inside.seats.items c.self.inside.history.items c.self.inside.objects c.self.invariant c.args.seat seat within c.perform.new.seat (ap (λ (s : Seat _ _). s.awaits) made.goes)),
+    )
 
 pub returns-in-Ok-clause-ok : goal.returns-in-Ok-clause-ok
 returns-in-Ok-clause-ok g c =
@@ -109,7 +123,8 @@ returns-in-Ok-clause-ok g c =
     let walks = rw ((same_element c.self.inside.seats.items c.args.seat c.index-3.result.now seat within c.index-3.ensures c.index_mut-2.ensures.value)) at c.in-Some-walk.is in
     let here = rw c.index_mut-2.ensures.value at walks in
     let then : ◌≡◌ c.index_mut-in-Ok.result.now c.perform.new.seat = c.index_mut-in-Ok.ensures.value ∙ get_or-set_same c.self.inside.seats.items c.args.seat c.perform.new.seat c.index_mut-in-Ok.result.now within in
-    let made = performed_here g.C.Condition.means c.self.inside.word c.self.inside.row c.self.inside.queues c.self.inside.flags c.self.inside.env c.self.inside.seats.items c.self.inside.history.items c.self.inside.objects c.self.invariant c.args.seat seat within nowhere c.in-Some-walk.walk here unasked
+    let made = performed_here g.C.Condition.means
+    c.self.inside.word c.self.inside.row c.self.inside.queues c.self.inside.flags c.self.inside.env c.self.inside.seats.items c.self.inside.history.items c.self.inside.objects c.self.invariant c.args.seat seat within nowhere c.in-Some-walk.walk here unasked
     c.perform.new.word c.perform.new.row c.perform.new.queues c.perform.new.flags c.perform.new.seat c.perform.new.history.items c.in-Ok.told (rw (← c.index_mut-2.ensures.value) c.in-Ok.ensures.ok)
     c.told_by_lock.new.seat c.told_by_lock.result (rw then at c.told_by_lock.ensures.after) (rw then at c.told_by_lock.ensures.step) in
     rw (← c.self.view_is) (rw (set_again c.self.inside.seats.items c.args.seat c.perform.new.seat c.told_by_lock.new.seat) made)
