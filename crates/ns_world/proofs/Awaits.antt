@@ -7,7 +7,8 @@ use Rattle.ns_world.specs.Prelude.{waited_after, waits_for_any, walk_after, walk
 use Rattle.ns_world.proofs.AnyLooks.{LeadsOn, LooksOut, leads_on, looks_out, unlooked}
 use Rattle.ns_world.proofs.Turns.{whole_stays}
 use Rattle.ns_world.proofs.Wholes.{IsAlone, moves_alone, operates_stand, stands_nowhere, stood_lawful}
-use Rattle.ns_world.proofs.Others.{low_walks, moves_still, moves_stood, over_stood, put_stood, stood_still}
+use Rattle.ns_world.proofs.Others.{low_walks, moves_aside, moves_still, over_stood, put_stood}
+use Rattle.ns_world.specs.Prelude.{Objects, wait_in, walk_in}
 use Rattle.ns_world.proofs.EnvGrows.{led_makes}
 use Rattle.ns_world.proofs.WorldLaw.{begun_keeps, is_settled, moves_keep, place_fits}
 use Rattle.ns_world.proofs.Places.{StartFits}
@@ -87,7 +88,7 @@ module _ {C : Type 0} {N : ℕ} (old new : Whole C N) (seat : ℕ) (lawful : IsL
           asked = refl;
           among = p.among;
           unasked = ap (λ (w : Now C N). slice_get w.asking seat) p.begins ∙ p.unasked;
-          there = there_still put.setup (ap (λ (w : Now C N). w.env) p.begins) p.round (lawful.objects_lawful.each seat (InRound p.round p.place) p.walks).0;
+          there = there_still put.aside.setup (ap (λ (w : Now C N). w.env) p.begins) p.round (lawful.objects_lawful.each seat (InRound p.round p.place) p.walks).0;
           looks = subst (λ w. LooksWhere p.round w (want_of (wait_first {C = C} N (waits_for_any (mode_waited (mode_of p.view.held)) p.cvs)))) (sym put.stands) refl;
         } in
         subst (StandsBy new seat) (sym put.awaits) here
@@ -177,7 +178,7 @@ module _ {C : Type 0} {N : ℕ} (old new : Whole C N) (seat : ℕ) (lawful : IsL
     ends_here : StandsBy new seat (wait_in new.objects.waits seat)
     ends_here =
         let put = over_stood old new seat lawful p.walk p.walks p.then p.told p.operated (Some wait_shown) p.becomes in
-        subst (StandsBy new seat) (sym put.awaits) (waits_at p.wait p.waits step p.acts leads.after leads_there None wait_shown refl put.stands leads.looks_not put.setup)
+        subst (StandsBy new seat) (sym put.awaits) (waits_at p.wait p.waits step p.acts leads.after leads_there None wait_shown refl put.stands leads.looks_not put.aside.setup)
 
   -- ---- it makes a step of its own
 
@@ -204,16 +205,15 @@ module _ {C : Type 0} {N : ℕ} (old new : Whole C N) (seat : ℕ) (lawful : IsL
       by (Some walk) is =
           let at = round_due p.wait walk in
           let put = put_stood old new seat lawful at (Some p.wait) low (becomes_as (Some walk) is) in
-          subst (StandsBy new seat) (sym put.awaits) (waits_at p.wait p.waits p.told p.acts walk is at p.wait refl put.stands (due walk (is_some (looks_at (want_of walk))) refl) put.setup)
+          subst (StandsBy new seat) (sym put.awaits) (waits_at p.wait p.waits p.told p.acts walk is at p.wait refl put.stands (due walk (is_some (looks_at (want_of walk))) refl) put.aside.setup)
 
   -- ---- any step
 
   -- where the seat stands then
   stands_then : (step : Step) → WholeMoves old new seat step → StandsBy new seat (wait_in new.objects.waits seat)
   stands_then step (inl p) =
-      let s = stood_still seat old.objects new.objects p.same in
       let was : StandsAlone old seat = subst (StandsBy old seat) p.waits_not (lawful.stands seat) in
-      subst (StandsBy new seat) (sym (s.awaits ∙ p.waits_not)) (stands_nowhere new seat (s.stands ∙ p.elsewhere) (moves_alone old.lock new.lock seat step p.moves was.alone))
+      subst (StandsBy new seat) (sym (ap (λ (o : Objects). wait_in o.waits seat) p.same ∙ p.waits_not)) (stands_nowhere new seat (ap (λ (o : Objects). walk_in o.walks seat) p.same ∙ p.elsewhere) (moves_alone old.lock new.lock seat step p.moves was.alone))
   stands_then step (inr (inl p)) = operates_stand old new seat step lawful p
   stands_then step (inr (inr (inl p))) = begins_here step p
   stands_then step (inr (inr (inr (inl p)))) = ends_here step p
@@ -224,7 +224,7 @@ module _ {C : Type 0} {N : ℕ} (old new : Whole C N) (seat : ℕ) (lawful : IsL
   step_keeps some quiet step (inr p) =
       let on = (whole_led past old new seat step lawful led p).2 in
       stood_lawful old new seat lawful (now_lawful p) (whole_stays old new seat step p) (led_makes lawful.lock.events (notes_done p) old.lock new.lock lawful.lock.env_lawful on.0)
-      (moves_stood old new seat lawful step p) (moves_still old new seat lawful step p) (lawful.events ++ objects_done p) on.1 (stands_then step p) where
+      (moves_aside old new seat step p) (moves_still old new seat step p) (lawful.events ++ objects_done p) on.1 (stands_then step p) where
         now_lawful : WholeMoves old new seat step → IsLawfulWorld new.lock
         now_lawful (inl p) = moves_keep old.lock seat lawful.lock some quiet new.lock step p.moves
         now_lawful (inr (inl p)) = subst IsLawfulWorld (sym p.same) lawful.lock

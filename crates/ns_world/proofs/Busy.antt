@@ -1,5 +1,5 @@
 -- Which seats are busy, after another in the place of one, and one after another.
-use Rattle.std.proofs.Common.{◌≤◌, ◌≡◌, ◌≢◌, ℕ, zero, suc, ◌<◌, Bool, true, false, eqb, ◌||◌, List, [], ◌∷◌, Option, Some, None, is_some, length, slice_set, slice_get, refl, ap, sym, ◌∙◌, arith, eq-eqb, inl, inr, ◌+◌, map, get_or}
+use Rattle.std.proofs.Common.{◌≤◌, ◌≡◌, ℕ, zero, suc, ◌<◌, Bool, true, false, eqb, ◌||◌, List, [], ◌∷◌, Option, Some, None, is_some, length, slice_set, slice_get, refl, ap, sym, ◌∙◌, arith, eq-eqb, inl, inr, ◌+◌, map, get_or}
 use Rattle.ns_world.proofs.Below.{cases_eq, cases_lt, length-map, ne_eqb, slice_get_past}
 use Rattle.std.specs.Option.{option_map_or}
 use Rattle.std.specs.Prelude.{unwrap_or}
@@ -25,13 +25,6 @@ module _ {A : Type 0} (f : A → Bool) where
   bit_set_same (y ∷ xs) zero x within = refl
   bit_set_same (y ∷ xs) (suc i) x within = bit_set_same xs i x (omega arith)
 
-  bit_set_other : (xs : List A) (i : ℕ) (x : A) (j : ℕ) → j ≢ i → bit (slice_set xs i x) j ≡ bit xs j
-  bit_set_other [] i x j ne = refl
-  bit_set_other (y ∷ xs) zero x zero ne = absurd (ne refl)
-  bit_set_other (y ∷ xs) zero x (suc j) ne = refl
-  bit_set_other (y ∷ xs) (suc i) x zero ne = refl
-  bit_set_other (y ∷ xs) (suc i) x (suc j) ne = bit_set_other xs i x j (λ e. ne (ap suc e))
-
   bit_at : (xs : List A) (i : ℕ) (x : A) → slice_get xs i ≡ Some x → bit xs i ≡ f x
   bit_at xs i x e = ap (λ o. option_map_or f o false) e
 
@@ -39,9 +32,6 @@ module _ {A : Type 0} (f : A → Bool) where
 
 pub asking_set_same : (askings : List (Option EnvWalk)) (i : ℕ) (walk : Option EnvWalk) → i < length askings → is_asking (slice_set askings i walk) i ≡ is_some walk
 asking_set_same askings i walk within = bit_set_same is_some askings i walk within
-
-pub asking_set_other : (askings : List (Option EnvWalk)) (i : ℕ) (walk : Option EnvWalk) (seat : ℕ) → seat ≢ i → is_asking (slice_set askings i walk) seat ≡ is_asking askings seat
-asking_set_other askings i walk seat ne = bit_set_other is_some askings i walk seat ne
 
 pub asking_set_none : (askings : List (Option EnvWalk)) (i : ℕ) → is_asking (slice_set askings i None) i ≡ false
 asking_set_none [] i = refl
@@ -56,9 +46,6 @@ asking_at askings seat walk e = bit_at is_some askings seat walk e
 module _ {C : Type 0} {N : ℕ} where
   pub walking_set_same : (views : List (SeatView C N)) (i : ℕ) (view : SeatView C N) → i < length views → is_walking (slice_set views i view) i ≡ is_some view.walk
   walking_set_same views i view within = bit_set_same (λ v. is_some v.walk) views i view within
-
-  pub walking_set_other : (views : List (SeatView C N)) (i : ℕ) (view : SeatView C N) (seat : ℕ) → seat ≢ i → is_walking (slice_set views i view) seat ≡ is_walking views seat
-  walking_set_other views i view seat ne = bit_set_other (λ v. is_some v.walk) views i view seat ne
 
   pub walking_at : (views : List (SeatView C N)) (seat : ℕ) (view : SeatView C N) → slice_get views seat ≡ Some view → is_walking views seat ≡ is_some view.walk
   walking_at views seat view e = bit_at (λ v. is_some v.walk) views seat view e

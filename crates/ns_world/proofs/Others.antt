@@ -53,44 +53,45 @@ module _ {C : Type 0} {N : ℕ} (seat : ℕ) where
 
 -- ---- on the counters and once cells
 
--- the seat is put at this place on the objects, or at none, and into this wait, or into none; and nothing of the others has changed
-pub record Stood (seat : ℕ) (old new : Objects) (walk : Option ObjectWalk) (wait : Option AnyWait) : Type 0 where
+-- there are as many, and nothing has changed of the seats but this one
+pub record Aside (seat : ℕ) (old new : Objects) : Type 0 where
   pub setup : new.setup ≡ old.setup
   pub places : length new.walks ≡ length old.walks
   pub wait_places : length new.waits ≡ length old.waits
   pub walks : (other : ℕ) → other ≢ seat → walk_in new.walks other ≡ walk_in old.walks other
   pub waits : (other : ℕ) → other ≢ seat → wait_in new.waits other ≡ wait_in old.waits other
-  pub stands : walk_in new.walks seat ≡ walk
-  pub awaits : wait_in new.waits seat ≡ wait
 
 -- it stays where it was
-pub stood_still : (seat : ℕ) (old new : Objects) → new ≡ old → Stood seat old new (walk_in old.walks seat) (wait_in old.waits seat)
-stood_still seat old new is = subst (λ (o : Objects). Stood seat old o (walk_in old.walks seat) (wait_in old.waits seat)) (sym is)
-    (record { setup = refl; places = refl; wait_places = refl; walks = λ other ne. refl; waits = λ other ne. refl; stands = refl; awaits = refl })
+aside_still : (seat : ℕ) (old new : Objects) → new ≡ old → Aside seat old new
+aside_still seat old new is = subst (λ (o : Objects). Aside seat old o) (sym is) (record { setup = refl; places = refl; wait_places = refl; walks = λ other ne. refl; waits = λ other ne. refl })
 
 -- it stays in its wait, or in none
-stood_on : (seat : ℕ) (old new : Objects) (words : List ℕ) (walk : Option ObjectWalk) → seat < length old.walks → new ≡ record old { words = words; walks = slice_set old.walks seat walk } → Stood seat old new walk (wait_in old.waits seat)
-stood_on seat old new words walk low is = subst (λ (o : Objects). Stood seat old o walk (wait_in old.waits seat)) (sym is) (record {
-  setup = refl;
-  places = length-set old.walks seat walk;
-  wait_places = refl;
-  walks = λ other ne. put_there old.walks seat walk other ne;
-  waits = λ other ne. refl;
-  stands = put_here old.walks seat walk low;
-  awaits = refl;
-})
+aside_on : (seat : ℕ) (old new : Objects) (words : List ℕ) (walk : Option ObjectWalk) → new ≡ record old { words = words; walks = slice_set old.walks seat walk } → Aside seat old new
+aside_on seat old new words walk is = subst (λ (o : Objects). Aside seat old o) (sym is)
+    (record { setup = refl; places = length-set old.walks seat walk; wait_places = refl; walks = λ other ne. put_there old.walks seat walk other ne; waits = λ other ne. refl })
 
 -- it is put elsewhere in both, after it may have been put at another place
-stood_in : (seat : ℕ) (old then new : Objects) (was walk : Option ObjectWalk) (wait : Option AnyWait) → seat < length old.walks → seat < length old.waits → Stood seat old then was (wait_in old.waits seat) → new ≡ stood_at then seat walk wait → Stood seat old new walk wait
-stood_in seat old then new was walk wait low few s is = subst (λ (o : Objects). Stood seat old o walk wait) (sym is) (record {
+aside_in : (seat : ℕ) (old then new : Objects) (walk : Option ObjectWalk) (wait : Option AnyWait) → Aside seat old then → new ≡ stood_at then seat walk wait → Aside seat old new
+aside_in seat old then new walk wait s is = subst (λ (o : Objects). Aside seat old o) (sym is) (record {
   setup = s.setup;
   places = length-set then.walks seat walk ∙ s.places;
   wait_places = length-set then.waits seat wait ∙ s.wait_places;
   walks = λ other ne. put_there then.walks seat walk other ne ∙ s.walks other ne;
   waits = λ other ne. wait_there then.waits seat wait other ne ∙ s.waits other ne;
-  stands = put_here then.walks seat walk (subst (λ n. seat < n) (sym s.places) low);
-  awaits = wait_here then.waits seat wait (subst (λ n. seat < n) (sym s.wait_places) few);
 })
+
+-- the seat is put at this place on the objects, or at none, and into this wait, or into none
+pub record Stood (seat : ℕ) (old new : Objects) (walk : Option ObjectWalk) (wait : Option AnyWait) : Type 0 where
+  pub aside : Aside seat old new
+  pub stands : walk_in new.walks seat ≡ walk
+  pub awaits : wait_in new.waits seat ≡ wait
+
+stood_in : (seat : ℕ) (old then new : Objects) (walk : Option ObjectWalk) (wait : Option AnyWait) → seat < length old.walks → seat < length old.waits → Aside seat old then → new ≡ stood_at then seat walk wait → Stood seat old new walk wait
+stood_in seat old then new walk wait low few s is = record {
+  aside = aside_in seat old then new walk wait s is;
+  stands = ap (λ (o : Objects). walk_in o.walks seat) is ∙ put_here then.walks seat walk (subst (λ n. seat < n) (sym s.places) low);
+  awaits = ap (λ (o : Objects). wait_in o.waits seat) is ∙ wait_here then.waits seat wait (subst (λ n. seat < n) (sym s.wait_places) few);
+}
 
 -- ---- in a whole world
 
@@ -104,30 +105,60 @@ pub record Still {C : Type 0} {N : ℕ} (seat : ℕ) (old new : Whole C N) : Typ
 pub still_here : {C : Type 0} {N : ℕ} (seat : ℕ) (world : Whole C N) → Still seat world world
 still_here seat world = record { setup = refl; lock = same_world seat world.lock; walks = refl; waits = refl }
 
--- the seat is put somewhere on the objects, or stays
-abbrev pub IsStood : {C : Type 0} {N : ℕ} → ℕ → Whole C N → Whole C N → Type 0
-IsStood seat old new = (at : Option ObjectWalk × Option AnyWait) × Stood seat old.objects new.objects at.0 at.1
-
 module _ {C : Type 0} {N : ℕ} (old new : Whole C N) (seat : ℕ) where
-  still_if : (other : ℕ) → other ≢ seat → Untouched other old.lock new.lock → IsStood seat old new → Still other old new
-  still_if other ne lock s = record { setup = s.1.setup; lock = lock; walks = s.1.walks other ne; waits = s.1.waits other ne }
+  still_if : (other : ℕ) → other ≢ seat → Untouched other old.lock new.lock → Aside seat old.objects new.objects → Still other old new
+  still_if other ne lock s = record { setup = s.setup; lock = lock; walks = s.walks other ne; waits = s.waits other ne }
 
   -- ---- a call begins
 
+  begun_aside : (place : Option ObjectWalk) → new.objects ≡ objects_begun old.objects seat place → Aside seat old.objects new.objects
+  begun_aside None is = aside_still seat old.objects new.objects is
+  begun_aside (Some walk) is = aside_on seat old.objects new.objects old.objects.words (Some walk) is
+
   pub begun_stood : (place : Option ObjectWalk) → seat < length old.objects.walks → walk_in old.objects.walks seat ≡ None → new.objects ≡ objects_begun old.objects seat place → Stood seat old.objects new.objects place (wait_in old.objects.waits seat)
-  begun_stood None low nowhere is = subst (λ w. Stood seat old.objects new.objects w (wait_in old.objects.waits seat)) nowhere (stood_still seat old.objects new.objects is)
-  begun_stood (Some walk) low nowhere is = stood_on seat old.objects new.objects old.objects.words (Some walk) low is
+  begun_stood None low nowhere is = record { aside = begun_aside None is; stands = ap (λ (o : Objects). walk_in o.walks seat) is ∙ nowhere; awaits = ap (λ (o : Objects). wait_in o.waits seat) is }
+  begun_stood (Some walk) low nowhere is = record {
+    aside = begun_aside (Some walk) is;
+    stands = ap (λ (o : Objects). walk_in o.walks seat) is ∙ put_here old.objects.walks seat (Some walk) low;
+    awaits = ap (λ (o : Objects). wait_in o.waits seat) is;
+  }
 
   pub starts_stood : (call : Call C) → WholeStarts old new seat call → seat < length old.objects.walks → Stood seat old.objects new.objects (object_start call) (wait_in old.objects.waits seat)
   starts_stood call p low = begun_stood (object_start call) low p.elsewhere p.becomes
 
-  pub starts_still : (call : Call C) → WholeStarts old new seat call → seat < length old.objects.walks → (other : ℕ) → other ≢ seat → Still other old new
-  starts_still call p low other ne =
+  pub starts_still : (call : Call C) → WholeStarts old new seat call → (other : ℕ) → other ≢ seat → Still other old new
+  starts_still call p other ne =
       let s = p.starts in
-      still_if other ne (subst (λ (world : Now C N). Untouched other old.lock world) (sym s.begins) (begun_there other old.lock seat s.view (start_of N (mode_of s.view.held) call) ne))
-      ((object_start call, wait_in old.objects.waits seat), starts_stood call p low)
+      still_if other ne (subst (λ (world : Now C N). Untouched other old.lock world) (sym s.begins) (begun_there other old.lock seat s.view (start_of N (mode_of s.view.held) call) ne)) (begun_aside (object_start call) p.becomes)
 
   -- ---- a step
+
+  -- the objects after a step on them
+  operated_aside : (walk : ObjectWalk) (then : Objects) (told : Step) → HasOperated old.lock.env seat walk old.objects then told → Aside seat old.objects then
+  operated_aside walk then told q = aside_on seat old.objects then q.words (object_after (object_got walk q.found)) q.becomes
+
+  waited_aside : (wait : AnyWait) (walk : Option (Walk C)) → new.objects ≡ waited_after old.objects seat wait walk → Aside seat old.objects new.objects
+  waited_aside wait None is = aside_in seat old.objects old.objects new.objects None None (aside_still seat old.objects old.objects refl) is
+  waited_aside wait (Some walk) is = aside_in seat old.objects old.objects new.objects (round_due wait walk) (Some wait) (aside_still seat old.objects old.objects refl) is
+
+  pub moves_aside : (step : Step) → WholeMoves old new seat step → Aside seat old.objects new.objects
+  moves_aside step (inl p) = aside_still seat old.objects new.objects p.same
+  moves_aside step (inr (inl p)) = operated_aside p.walk new.objects step p.operated
+  moves_aside step (inr (inr (inl p))) = aside_in seat old.objects p.then new.objects None _ (operated_aside (InRound p.round p.place) p.then Idle p.operated) p.becomes
+  moves_aside step (inr (inr (inr (inl p)))) = aside_in seat old.objects p.then new.objects None _ (operated_aside p.walk p.then p.told p.operated) p.becomes
+  moves_aside step (inr (inr (inr (inr p)))) = waited_aside p.wait (walk_after (got_of N p.acts.goes.makes.walk p.acts.goes.found)) p.becomes
+
+  lock_still : (step : Step) → WholeMoves old new seat step → (other : ℕ) → other ≢ seat → Untouched other old.lock new.lock
+  lock_still step (inl p) other ne = moves_there other old.lock new.lock seat step ne p.moves
+  lock_still step (inr (inl p)) other ne = subst (λ (world : Now C N). Untouched other old.lock world) (sym p.same) (same_world other old.lock)
+  lock_still step (inr (inr (inl p))) other ne = subst (λ (world : Now C N). Untouched other old.lock world) (sym p.begins) (begun_there other old.lock seat p.view (OnLock _) ne)
+  lock_still step (inr (inr (inr (inl p)))) other ne = moves_there other old.lock new.lock seat step ne (inl p.acts)
+  lock_still step (inr (inr (inr (inr p)))) other ne = moves_there other old.lock new.lock seat p.told ne (inl p.acts)
+
+  pub moves_still : (step : Step) → WholeMoves old new seat step → (other : ℕ) → other ≢ seat → Still other old new
+  moves_still step p other ne = still_if other ne (lock_still step p other ne) (moves_aside step p)
+
+  -- ---- where the seat of a lawful world stands then
 
   module _ (lawful : IsLawfulWhole old) where
     as_many : length old.objects.waits ≡ length old.objects.walks
@@ -138,34 +169,10 @@ module _ {C : Type 0} {N : ℕ} (old new : Whole C N) (seat : ℕ) where
 
     -- it is put elsewhere
     pub put_stood : (walk : Option ObjectWalk) (wait : Option AnyWait) → seat < length old.objects.walks → new.objects ≡ stood_at old.objects seat walk wait → Stood seat old.objects new.objects walk wait
-    put_stood walk wait low is = stood_in seat old.objects old.objects new.objects (walk_in old.objects.walks seat) walk wait low (subst (λ n. seat < n) (sym as_many) low) (stood_still seat old.objects old.objects refl) is
+    put_stood walk wait low is = stood_in seat old.objects old.objects new.objects walk wait low (subst (λ n. seat < n) (sym as_many) low) (aside_still seat old.objects old.objects refl) is
 
     -- where a round is over, it is put nowhere
     pub over_stood : (walk : ObjectWalk) → walk_in old.objects.walks seat ≡ Some walk → (then : Objects) (told : Step) → HasOperated old.lock.env seat walk old.objects then told → (wait : Option AnyWait) → new.objects ≡ stood_at then seat None wait → Stood seat old.objects new.objects None wait
     over_stood walk stands then told q wait is =
         let low = stands_within old.objects.walks seat walk stands in
-        let next = object_after (object_got walk q.found) in
-        stood_in seat old.objects then new.objects next None wait low (subst (λ n. seat < n) (sym as_many) low) (stood_on seat old.objects then q.words next low q.becomes) is
-
-    waited_stood : (wait : AnyWait) (walk : Option (Walk C)) → seat < length old.objects.walks → new.objects ≡ waited_after old.objects seat wait walk → IsStood seat old new
-    waited_stood wait None low is = ((None, None), put_stood None None low is)
-    waited_stood wait (Some walk) low is = ((round_due wait walk, Some wait), put_stood (round_due wait walk) (Some wait) low is)
-
-    pub moves_stood : (step : Step) → WholeMoves old new seat step → IsStood seat old new
-    moves_stood step (inl p) = ((walk_in old.objects.walks seat, wait_in old.objects.waits seat), stood_still seat old.objects new.objects p.same)
-    moves_stood step (inr (inl p)) =
-        let next = object_after (object_got p.walk p.operated.found) in
-        ((next, wait_in old.objects.waits seat), stood_on seat old.objects new.objects p.operated.words next (stands_within old.objects.walks seat p.walk p.walks) p.operated.becomes)
-    moves_stood step (inr (inr (inl p))) = let wait : AnyWait = record { round = p.round; shown = None } in ((None, Some wait), over_stood (InRound p.round p.place) p.walks p.then Idle p.operated (Some wait) p.becomes)
-    moves_stood step (inr (inr (inr (inl p)))) = ((None, _), over_stood p.walk p.walks p.then p.told p.operated _ p.becomes)
-    moves_stood step (inr (inr (inr (inr p)))) = waited_stood p.wait (walk_after (got_of N p.acts.goes.makes.walk p.acts.goes.found)) (low_walks p.acts.goes.view p.acts.goes.at) p.becomes
-
-    lock_still : (step : Step) → WholeMoves old new seat step → (other : ℕ) → other ≢ seat → Untouched other old.lock new.lock
-    lock_still step (inl p) other ne = moves_there other old.lock new.lock seat step ne p.moves
-    lock_still step (inr (inl p)) other ne = subst (λ (world : Now C N). Untouched other old.lock world) (sym p.same) (same_world other old.lock)
-    lock_still step (inr (inr (inl p))) other ne = subst (λ (world : Now C N). Untouched other old.lock world) (sym p.begins) (begun_there other old.lock seat p.view (OnLock _) ne)
-    lock_still step (inr (inr (inr (inl p)))) other ne = moves_there other old.lock new.lock seat step ne (inl p.acts)
-    lock_still step (inr (inr (inr (inr p)))) other ne = moves_there other old.lock new.lock seat p.told ne (inl p.acts)
-
-    pub moves_still : (step : Step) → WholeMoves old new seat step → (other : ℕ) → other ≢ seat → Still other old new
-    moves_still step p other ne = still_if other ne (lock_still step p other ne) (moves_stood step p)
+        stood_in seat old.objects then new.objects None wait low (subst (λ n. seat < n) (sym as_many) low) (operated_aside walk then told q) is

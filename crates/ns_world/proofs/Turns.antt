@@ -6,7 +6,7 @@ use Rattle.ns_world.specs.Prelude.{AnyWait, Ask, Call, Commits, EnvNext, Fault, 
 use Rattle.ns_world.specs.Prelude.{NoSuchSeat, Nothing, Now, ObjectWalk, OnCondition, OnEntry, OnLock, OnObjects, OutOfMemory, Progress, QuietCells, QuietLast, SeatView, Start, Step, StepLimit, TestCells}
 use Rattle.ns_world.specs.Prelude.{TestLast, ToRelease, TooManySeats, TurnOf, TurnsWith, UnlockQuiet, Wait, Went, Whole, WholeFault, WholeIsBusy, WholeIsIdle, WholeMoves, WholeStarts, WholeStep, Word, begun_at, env_got_of, is_asking, is_busy, is_walking}
 use Rattle.ns_world.specs.Prelude.{Next, ObjectNext, On, env_step_of, got_of, object_got, object_step_of, step_of, step_told, mode_of, mode_waited, object_start, progress, progressed, start_of, walk_in, want_of, whole_busy}
-use Rattle.ns_world.proofs.Busy.{or_true, both, walking_at, walking_set_same, walking_set_other, asking_at, asking_set_same, asking_set_other}
+use Rattle.ns_world.proofs.Busy.{or_true, both, walking_at, walking_set_same, asking_at, asking_set_same}
 use Rattle.ns_counters.specs.declared.walk.ObjectNext.TheVariants as TheObject
 
 -- the first step of a call may commit an event
@@ -107,12 +107,6 @@ module _ {C : Type 0} {N : ℕ} where
   begun_busy old seat view (OnLock walk) at asks = ap (λ b. (b || is_asking old.asking seat) || false) (walking_set_same old.state.views seat (record view { walk = Some walk }) (slice_get_within old.state.views seat view at))
   begun_busy old seat view (Ask walk) at asks = ap (λ b. b || false) (ap (λ b. is_walking old.state.views seat || b) (asking_set_same old.asking seat (Some walk) (slice_get_within old.asking seat None asks)) ∙ or_true (is_walking old.state.views seat))
   begun_busy old seat view (OnObjects walk) at asks = or_true (is_busy old.state.views old.asking seat)
-
-  pub begun_others : (old : Now C N) (seat : ℕ) (view : SeatView C N) (start : Start C) (other : ℕ) → other ≢ seat →
-      is_busy (begun_at old seat view start).state.views (begun_at old seat view start).asking other ≡ is_busy old.state.views old.asking other
-  begun_others old seat view (OnLock walk) other ne = ap (λ b. b || is_asking old.asking other) (walking_set_other old.state.views seat (record view { walk = Some walk }) other ne)
-  begun_others old seat view (Ask walk) other ne = ap (λ b. is_walking old.state.views other || b) (asking_set_other old.asking seat (Some walk) other ne)
-  begun_others old seat view (OnObjects walk) other ne = refl
 
   pub begun_stays : (old : Now C N) (seat : ℕ) (view : SeatView C N) (start : Start C) → length (begun_at old seat view start).state.views ≡ length old.state.views
   begun_stays old seat view (OnLock walk) = length-set old.state.views seat _

@@ -524,24 +524,29 @@ module _ (C : Type 0) (N : ℕ) (before : Now C N) (earlier : List EnvEvent) (se
       let mode = mode_of p.view.held in
       subst (λ world. LedTo events world) (sym p.begins) (begins_led events old who p.view (start_of N mode call) p.unasked (first_at setup old.env.notes mode call p.fits) led)
 
-  -- a call has come so far as it begins
-  starts_at : (asked : Asked C) (start : Start C) (view : SeatView C N) → IsAskedAt asked start → IsFirstAt before.env.notes start → slice_get before.state.views seat ≡ Some view → view.walk ≡ None → slice_get before.asking seat ≡ Some None → Underway asked earlier (begun_at before seat view start)
-  starts_at (OfLock request) (OnLock walk) view asked first at idle unasked = record {
+  -- a call has come so far on the lock as it begins there, or goes on to it
+  begun_lock : (request : Request C) (events : List EnvEvent) (old : Now C N) (view : SeatView C N) (walk : Walk C) → asked_of walk ≡ request → IsFirst N walk → slice_get old.state.views seat ≡ Some view → slice_get old.asking seat ≡ Some None →
+      view.held ≡ held_at before seat → own old.history seat ≡ own before.history seat → env_own events seat ≡ env_own earlier seat → LockUnderway request events (begun_at old seat view (OnLock walk))
+  begun_lock request events old view walk asked first at unasked same silent still = record {
     view = record view { walk = Some walk };
-    at = set_here before.state.views seat (record view { walk = Some walk }) (slice_get_within before.state.views seat view at);
+    at = set_here old.state.views seat (record view { walk = Some walk }) (slice_get_within old.state.views seat view at);
     walk = walk;
     walks = refl;
     asked = asked;
     course = course_from view.held;
-    began = sym (ap held_in at);
-    added = sym (append-nil (own before.history seat));
-    so_far = begins_unchanged C N before.truths seat view.held walk first;
+    began = same;
+    added = silent ∙ sym (append-nil (own before.history seat));
+    so_far = begins_unchanged C N old.truths seat view.held walk first;
     shown = tt;
     asking = None;
     asks = unasked;
     looking = tt;
-    still = refl;
+    still = still;
   }
+
+  -- a call has come so far as it begins
+  starts_at : (asked : Asked C) (start : Start C) (view : SeatView C N) → IsAskedAt asked start → IsFirstAt before.env.notes start → slice_get before.state.views seat ≡ Some view → view.walk ≡ None → slice_get before.asking seat ≡ Some None → Underway asked earlier (begun_at before seat view start)
+  starts_at (OfLock request) (OnLock walk) view asked first at idle unasked = begun_lock request earlier before view walk asked first at unasked (sym (ap held_in at)) refl refl
   starts_at (OfNotes request) (Ask walk) view asked first at idle unasked = record {
     view = view;
     at = at;
@@ -566,28 +571,11 @@ module _ (C : Type 0) (N : ℕ) (before : Now C N) (earlier : List EnvEvent) (se
   pub goes_to_lock : (request : Request C) (events : List EnvEvent) (old new : Now C N) (view : SeatView C N) (walk : Walk C) → asked_of walk ≡ request → IsFirst N walk → slice_get old.state.views seat ≡ Some view →
       slice_get old.asking seat ≡ Some None → new ≡ begun_at old seat view (OnLock walk) → Elsewhere events old →
       (u : LockUnderway request (events ++ []) new) × (u.course.looked ≡ None)
+  unfolding begun_lock
   goes_to_lock request events old new view walk asked first at unasked is u =
-      let view_is : u.view ≡ view = same_Some _ _ (sym u.at ∙ at) in
-      let same : view.held ≡ held_at before seat = ap (λ (v : SeatView C N). v.held) (sym view_is) ∙ u.same in
-      subst (λ (world : Now C N). (u : LockUnderway request (events ++ []) world) × (u.course.looked ≡ None)) (sym is) (
-        record {
-          view = record view { walk = Some walk };
-          at = set_here old.state.views seat (record view { walk = Some walk }) (slice_get_within old.state.views seat view at);
-          walk = walk;
-          walks = refl;
-          asked = asked;
-          course = course_from view.held;
-          began = same;
-          added = u.silent ∙ sym (append-nil (own before.history seat));
-          so_far = begins_unchanged C N old.truths seat view.held walk first;
-          shown = tt;
-          asking = None;
-          asks = unasked;
-          looking = tt;
-          still = no_more events ∙ u.still;
-        },
-        refl,
-      )
+      let same : view.held ≡ held_at before seat = ap (λ (v : SeatView C N). v.held) (same_Some _ _ (sym at ∙ u.at)) ∙ u.same in
+      subst (λ (world : Now C N). (u : LockUnderway request (events ++ []) world) × (u.course.looked ≡ None)) (sym is)
+      (begun_lock request (events ++ []) old view walk asked first at unasked same u.silent (no_more events ∙ u.still), refl)
 
   -- these events have led to a world in which the call is under way, and this holds of what its last look on the lock has shown
   pub record IsUnderway (P : Option (Option Cause) → Type 0) (asked : Asked C) (events : List EnvEvent) (world : Now C N) : Type 0 where

@@ -205,12 +205,12 @@ module _ (C : Type 0) (N : ℕ) (before : Whole C N) (earlier : Past) (seat : �
           stays_in phase past (done_in old new other step p) old new (by p) led.2 (others_env_own past.notes (done_in old new other step p).notes other ne led.0) (others_own past.objects (done_in old new other step p).objects other ne led.1) u where
             by : WholeStep old new other step → Still seat old new
             by (inl q) = subst (Still seat old) (sym q.1) (still_here seat old)
-            by (inr q) = moves_still old new other lawful step q seat there
+            by (inr q) = moves_still old new other step q seat there
 
       starts_there : (call : Call C) → WholeStarts old new other call → UnderwayIn phase (past_and past nothing_done) new
       starts_there call p =
           let led : HasLedTo past new = (started_led C N before.lock earlier.notes seat old.objects.setup past.notes old.lock new.lock other call p.starts u.lock.led, starts_led past.objects old new other call lawful p u.led) in
-          stays_in phase past nothing_done old new (starts_still old new other call p (low_walks old new other lawful p.starts.view p.starts.at) seat there) (no_more past new led)
+          stays_in phase past nothing_done old new (starts_still old new other call p seat there) (no_more past new led)
           (no_more_notes C N before.lock earlier.notes seat past.notes) (no_own past.objects) u
 
   -- ---- the seat's own step
@@ -371,7 +371,7 @@ module _ (C : Type 0) (N : ℕ) (before : Whole C N) (earlier : Past) (seat : �
             let wait : Option AnyWait = Some (record { round = p.round; shown = None }) in
             let put = over_stood old new seat lawful (InRound p.round p.place) p.walks p.then Idle p.operated wait p.becomes in
             record {
-              setup = put.setup ∙ u.setup;
+              setup = put.aside.setup ∙ u.setup;
               since = begins_on earlier.objects past.objects p.operated.events u.since;
               led = led.1;
               lock = on_lock led;
@@ -497,7 +497,7 @@ module _ (C : Type 0) (N : ℕ) (before : Whole C N) (earlier : Past) (seat : �
         let wait : Option AnyWait = Some (record { round = p.wait.round; shown = shown_by p.told }) in
         let put = over_stood old new seat lawful p.walk p.walks p.then p.told p.operated wait p.becomes in
         let more : Past = record { notes = []; objects = p.operated.events } in
-        wait_goes_on p.operated.events (put.setup) led (shown_by p.told) (looked_after p.acts.goes.found u.lock.underway.course.looked) (subst (AsShown (shown_by p.told)) (sym looked) refl)
+        wait_goes_on p.operated.events (put.aside.setup) led (shown_by p.told) (looked_after p.acts.goes.found u.lock.underway.course.looked) (subst (AsShown (shown_by p.told)) (sym looked) refl)
         (record {
           waits = put.awaits ∙ ap (λ (x : AnyWait). Some (record { round = x.round; shown = shown_by p.told })) (same_wait p.wait p.waits);
           left = u.objects.left;
@@ -564,7 +564,7 @@ module _ (C : Type 0) (N : ℕ) (before : Whole C N) (earlier : Past) (seat : �
           let at = round_due wait after.0 in
           let put = put_stood old new seat lawful at (Some wait) low_here (becomes ∙ ap (waited_after old.objects seat wait) after.1) in
           let o = acts_on C N before.lock earlier.notes seat (wait_for w.cvs) refl past.notes old.lock new.lock told lawful.lock u.lock.since u.lock.underway acts in
-          wait_goes_on [] put.setup led w.shown (looked_after acts.goes.found u.lock.underway.course.looked) (subst (AsShown w.shown) (sym (quiet told acts)) u.lock.looks)
+          wait_goes_on [] put.aside.setup led w.shown (looked_after acts.goes.found u.lock.underway.course.looked) (subst (AsShown w.shown) (sym (quiet told acts)) u.lock.looks)
           (record {
             waits = put.awaits ∙ ap Some (same_wait wait waits);
             left = u.objects.left;
@@ -707,7 +707,7 @@ module _ (C : Type 0) (N : ℕ) (before : Whole C N) (earlier : Past) (seat : �
       let stood = starts_stood before begun seat call p (low_walks before begun seat lawful p.starts.view p.starts.at) in
       let waits = stood.awaits ∙ begun_waits_not before begun seat call lawful p in
       record {
-        setup = stood.setup;
+        setup = stood.aside.setup;
         since = begins_itself earlier.objects;
         led = starts_led earlier.objects before begun seat call lawful p led.1;
         lock = begins_underway C N before.lock earlier.notes seat before.objects.setup begun.lock call led.0 p.starts;

@@ -14,7 +14,7 @@ use Rattle.ns_world.proofs.Fresh.{lawful_new, length_views, no_walk}
 use Rattle.ns_world.proofs.Turns.{begun_stays, place_of, placed_by}
 use Rattle.ns_world.proofs.Walks.{none_stand}
 use Rattle.ns_world.proofs.WorldLaw.{starts_keep}
-use Rattle.ns_world.proofs.Others.{IsStood, Still, Untouched, low_walks, starts_still, starts_stood}
+use Rattle.ns_world.proofs.Others.{Aside, Still, Untouched, low_walks, starts_still, starts_stood}
 use Rattle.ns_world.proofs.WholeLed.{begun_env, starts_led}
 use Rattle.ns_env.specs.declared.walk.EnvNext.TheVariants as TheEnv
 use Rattle.ns_counters.proofs.Needs.{may_step}
@@ -113,12 +113,12 @@ module _ {C : Type 0} {N : ℕ} where
 
   -- The law holds where the seat stands as it may, and nothing of the others has changed.
   pub stood_lawful : (old new : Whole C N) (seat : ℕ) → IsLawfulWhole old → IsLawfulWorld new.lock → length new.lock.state.views ≡ length old.lock.state.views → ((n : ℕ) → (old.lock.env.notes n).made ≡ true → (new.lock.env.notes n).made ≡ true) →
-      IsStood seat old new → ((other : ℕ) → other ≢ seat → Still other old new) → (events : List ObjectEvent) → HaveLedTo events new → StandsBy new seat (wait_in new.objects.waits seat) → IsLawfulWhole new
+      Aside seat old.objects new.objects → ((other : ℕ) → other ≢ seat → Still other old new) → (events : List ObjectEvent) → HaveLedTo events new → StandsBy new seat (wait_in new.objects.waits seat) → IsLawfulWhole new
   stood_lawful old new seat lawful now_lawful same more s still events led here = record {
     lock = now_lawful;
-    seats = ap (λ (setup : Setup). setup.seats) s.1.setup ∙ lawful.seats ∙ sym same;
-    places = s.1.places ∙ lawful.places ∙ sym same;
-    wait_places = s.1.wait_places ∙ lawful.wait_places ∙ sym same;
+    seats = ap (λ (setup : Setup). setup.seats) s.setup ∙ lawful.seats ∙ sym same;
+    places = s.places ∙ lawful.places ∙ sym same;
+    wait_places = s.wait_places ∙ lawful.wait_places ∙ sym same;
     stands = λ other. elim (cases_eq other seat) [
       | inl e ↦ subst (λ n. StandsBy new n (wait_in new.objects.waits n)) (sym e) here
       | inr ne ↦ (let rests = still other ne in subst (StandsBy new other) (sym rests.waits) (stands_on old new other rests more (wait_in old.objects.waits other) (lawful.stands other)))
@@ -218,7 +218,7 @@ module _ {C : Type 0} {N : ℕ} where
         let low = low_walks old new seat lawful view p.starts.at in
         let s = starts_stood old new seat call p low in
         stood_lawful old new seat lawful (starts_keep old.lock seat lawful.lock some old.objects.setup new.lock call range p.starts) (ap (λ (world : Now C N). length world.state.views) p.starts.begins ∙ begun_stays old.lock seat view start)
-        (λ n made. subst (λ (env : EnvPlain). (env.notes n).made ≡ true) (sym (begun_env old.lock new.lock seat view start p.starts.begins)) made) ((object_start call, wait_in old.objects.waits seat), s) (starts_still old new seat call p low)
+        (λ n made. subst (λ (env : EnvPlain). (env.notes n).made ≡ true) (sym (begun_env old.lock new.lock seat view start p.starts.begins)) made) s.aside (starts_still old new seat call p)
         lawful.events (starts_led lawful.events old new seat call lawful p lawful.objects_lawful) (subst (StandsBy new seat) (sym (s.awaits ∙ begun_waits_not)) begun_here)
 
   -- ---- a step
