@@ -9,6 +9,7 @@ use Rattle.ns_replay.specs.Prelude.{Ask, Call, GoesOnOrBegins, IsRunFault, IsRun
 use Rattle.ns_replay.specs.Prelude.{begun_at, fault_of_world, fresh_views, fresh_whole, is_asking, is_busy, is_end, is_walking, mode_of, plan_of, progressed, rest_of, script_truths, start, start_of, whole_busy, world_for}
 use Rattle.ns_world.proofs.Turns.{whole_stays}
 use Rattle.ns_world.proofs.Walks.{none_stand}
+use Rattle.ns_world.specs.Prelude.{ObjectWalk}
 use Rattle.ns_world.specs.Runs.{Item, items_of}
 use Rattle.ns_world.proofs.Fresh.{length_views}
 use Rattle.ns_world.specs.declared.fault.Fault.TheVariants as world
@@ -130,7 +131,7 @@ idle_fresh : (n seat : ℕ) → is_busy (fresh_views {C = ScriptCondition} {N = 
 idle_fresh n seat = rw (unwalked 0 n seat, unasked n seat) refl
 
 pub idle_world : (n seat : ℕ) (counters : List ℕ) (onces : ℕ) (now : Whole ScriptCondition 8) → now ≡ fresh_whole script_truths n counters onces → whole_busy now seat ≡ false
-idle_world n seat counters onces now first = rw first (λ i. idle_fresh n seat i || is_some (none_stand 64 seat i))
+idle_world n seat counters onces now first = rw first (λ i. idle_fresh n seat i || is_some (none_stand {A = ObjectWalk} n seat i))
 
 pub lists_fit : (lists : List (Vec (Call ScriptCondition))) → All IsShort (map (λ calls. calls.items) lists) → All (λ calls. ListFits 8 calls.items) lists
 lists_fit lists h = All-from_recursion _ lists (lists_by lists (recursion_from_All _ _ h))

@@ -1,10 +1,14 @@
 -- The looks of a wait for any of a set of variables: it looks as it rests, and nowhere else; and while it does, its seat stands nowhere on the clock and the notes.
-use Rattle.std.proofs.Common.{◌≡◌, ℕ, Bool, true, cond, Option, None, Some, refl, ap, sym, subst}
-use Rattle.ns_world.specs.Prelude.{Act, Await, AwaitWakeInWait, Cause, Cvs, Held, InAcquire, InCells, InLeaving, InQueuing, InRelease, InShow, InSignal, InTry, InWait, IsForCondition, IsUnfinished, LeaveLoad, Limits, Look, LookIn, LookOut, Looked, Mode}
-use Rattle.ns_world.specs.Prelude.{PlaceFits, TestLast, Truths, Walk, asked_of, asks_for_any, got_of, judge_of, look_of, look_place, looks_at, step_of, waits_for_any, walk_after, want_acquiring, want_in_cells, want_leaving, want_of, want_releasing, want_showing}
+use Rattle.std.proofs.Common.{◌≡◌, ℕ, Bool, true, false, cond, Option, None, Some, refl, ap, sym, subst}
+use Rattle.ns_world.specs.Prelude.{Act, Await, AwaitWakeInWait, Cause, Cvs, EnvWalk, Held, InAcquire, InCells, InLeaving, InQueuing, InRelease, InShow, InSignal, InTry, InWait, IsForCondition, IsUnfinished, LeaveLoad, Limits, Look, LookIn, LookOut, Looked, Mode}
+use Rattle.ns_world.specs.Prelude.{PlaceFits, TestLast, Truths, Walk, asked_of, asks_for_any, got_of, judge_of, look_of, look_place, looks_at, step_of, waits_among, waits_for_any, walk_after, want_acquiring, want_in_cells, want_leaving, want_of, want_releasing, want_showing}
 use Rattle.ns_world.specs.Prelude.{want_signaling, want_trying}
 use Rattle.ns_word.specs.declared.wait.Wait.{Wait}
 use Rattle.ns_word.proofs.Answers.{look_of_act, try_looks_not, acquire_looks_not, release_looks_not, cells_look_not, leaver_looks_not, judge_looks_not, signal_looks_not, show_looks_not}
+
+nowhere : (b : Bool) (place : Option EnvWalk) → place ≡ None → cond b None place ≡ None
+nowhere true place is = refl
+nowhere false place is = is
 
 module _ {C : Type 0} where
   -- ---- where a wait looks
@@ -58,16 +62,10 @@ module _ {C : Type 0} where
 
   -- ---- where its seat stands on the clock and the notes
 
-  no_place : (act : Act C) → look_of_act act ≡ None → look_place act ≡ None
-  no_place (Look by again) e = absurd (cc)
-  no_place act e = refl
-
   -- nowhere
   pub unlooked : (walk : Walk C) → asks_for_any (asked_of walk) ≡ true → look_of (Some walk) ≡ None
-  unlooked (InWait wait place) e = ap (λ b. cond b None (look_place (want_of (InWait wait place)))) e
-  unlooked (InTry mode place) e = no_place (want_trying mode place) (try_looks_not C mode place)
-  unlooked (InAcquire aim place) e = no_place (want_acquiring aim place) (acquire_looks_not aim place)
-  unlooked (InRelease releasing place) e = no_place (want_releasing releasing place) (release_looks_not C releasing place)
-  unlooked (InCells place) e = no_place (want_in_cells place) (cells_look_not C place)
-  unlooked (InSignal waking k place) e = no_place (want_signaling waking k place) (signal_looks_not C waking k place)
-  unlooked (InShow place) e = no_place (want_showing place) (show_looks_not C place)
+  unlooked walk e = by (want_of walk) refl where
+    by : (act : Act C) → want_of walk ≡ act → look_of (Some walk) ≡ None
+    by (Look limits again) is = where_looks (λ w. asks_for_any (asked_of w) ≡ true → look_of (Some w) ≡ None)
+        (λ wait again e. ap (λ b. cond b None (look_place (want_of (InWait wait (InQueuing again LookIn))))) e) (λ wait e. ap (λ b. cond b None (look_place (want_of (InWait wait LookOut)))) e) walk limits (ap looks_at is) e
+    by act is = nowhere (waits_among walk) (look_place (want_of walk)) (ap look_place is)

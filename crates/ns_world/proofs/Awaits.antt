@@ -1,14 +1,23 @@
 -- A wait for condition variables among notes and counters keeps the law of a whole world, by each of its steps that concern the lock: it begins to wait there, a round tells it what it has shown, or it makes a step of its own.
-use Rattle.std.proofs.Common.{◌≡◌, ◌≢◌, ℕ, suc, ◌<◌, List, ◌++◌, Bool, true, false, cond, Option, None, Some, IsSome, is_some, length, take, drop, slice_get, slice_set, refl, ap, sym, ◌∙◌, subst, arith, inl}
-use Rattle.ns_world.proofs.Below.{append-nil, asked_stays, length-set, put_here, put_there, same_Some, set_here, slice_get_within, split_at, stands_within, view_fits}
-use Rattle.ns_world.specs.Prelude.{Act, Acts, AnyWait, AreAmong, AreThere, Await, BeginsToWait, EndsLook, EnvPlain, FirstClock, Found, HasLedTo, HasOperated, HaveLedTo, Idle, InRound, IsLawfulWhole, IsLawfulWorld, Limits, LooksWhere, Now, ObjectEvent, ObjectWalk, Objects, OnLock, Past, PlaceFits}
-use Rattle.ns_world.specs.Prelude.{Round, SeatView, Setup, StandsBy, Step, WaitSteps, WaitsOnLock, Walk, Whole, asked_of, asks_for_any, cause_of, got_of, is_alone, items_of, look_of, looks_at, mode_of, mode_waited, object_after, object_got, round_due, shown_by, stood_at, wait_first, wait_in}
+use Rattle.std.proofs.Common.{◌≡◌, ℕ, ◌<◌, List, ◌++◌, Bool, true, false, cond, Option, None, Some, IsSome, is_some, length, slice_get, refl, ap, sym, ◌∙◌, subst, arith, inl}
+use Rattle.ns_world.proofs.Below.{asked_stays, same_Some, set_here, slice_get_within}
+use Rattle.ns_world.specs.Prelude.{Act, Acts, AnyWait, AreAmong, AreThere, Await, BeginsToWait, EndsLook, EnvPlain, FirstClock, Found, HasLedTo, Idle, InRound, IsLawfulWhole, IsLawfulWorld, Limits, LooksWhere, Now, ObjectWalk, OnLock, Past, PlaceFits}
+use Rattle.ns_world.specs.Prelude.{Round, SeatView, Setup, StandsBy, Step, WaitSteps, WaitsOnLock, Walk, Whole, asked_of, asks_for_any, cause_of, got_of, is_alone, items_of, look_of, looks_at, mode_of, mode_waited, round_due, shown_by, wait_first, wait_in}
 use Rattle.ns_world.specs.Prelude.{waited_after, waits_for_any, walk_after, walk_in, want_of}
 use Rattle.ns_world.proofs.AnyLooks.{LeadsOn, LooksOut, leads_on, looks_out, unlooked}
-use Rattle.ns_world.proofs.Turns.{moves_stay}
-use Rattle.ns_world.proofs.Walks.{wait_here, wait_there}
-use Rattle.ns_world.proofs.Wholes.{IsAlone, Rests, begun_rests, each_stands, goes_rests, stands_nowhere, stands_on}
-use Rattle.ns_world.proofs.WholeLed.{begins_to_wait_led, ends_look_led, wait_steps_led}
+use Rattle.ns_world.proofs.Turns.{whole_stays}
+use Rattle.ns_world.proofs.Wholes.{IsAlone, moves_alone, operates_stand, stands_nowhere, stood_lawful}
+use Rattle.ns_world.proofs.Others.{low_walks, moves_aside, moves_still, over_stood, put_stood}
+use Rattle.ns_world.specs.Prelude.{Objects, wait_in, walk_in}
+use Rattle.ns_world.proofs.EnvGrows.{led_makes}
+use Rattle.ns_world.proofs.WorldLaw.{begun_keeps, is_settled, moves_keep, place_fits}
+use Rattle.ns_world.proofs.Places.{StartFits}
+use Rattle.ns_word.proofs.Enters.{are_some}
+use Rattle.std.specs.List.{list_all}
+use Rattle.std.proofs.Common.{[], ◌∷◌, inr}
+use Rattle.ns_world.proofs.Below.{first_of_all, low_if_among, ltb-true, rest_of_all, some_among}
+use Rattle.ns_world.specs.Prelude.{Any, AreVariables, Cvs, Every, Held, IsLow, IsSettled, Item, MayWait, MayWaitOnLock, NoteStanding, OnCounter, OnNote, OnVariable, QuietKeeps, StandsAlone, Truths, WholeMoves, WholeStep, notes_done, objects_done, is_there}
+use Rattle.ns_world.proofs.WholeLed.{whole_led}
 
 -- which it is
 which : {A : Type 0} (o : Option A) → IsSome o → (x : A) × (o ≡ Some x)
@@ -24,6 +33,24 @@ pub looks_some : {C : Type 0} (round : Round) (walk : ObjectWalk) (act : Act C) 
 looks_some round (InRound by place) act looks = looks.1
 looks_some round walk act looks = absurd looks
 
+-- ---- where a call may begin to wait
+
+low_if_there : (setup : Setup) (notes : ℕ → NoteStanding) (item : Item) → is_there setup notes item ≡ true → IsLow item
+low_if_there setup notes (OnNote note) is = tt
+low_if_there setup notes (OnCounter counter) is = tt
+low_if_there setup notes (OnVariable k) is = ltb-true k 4 is
+
+pub all_low : (setup : Setup) (notes : ℕ → NoteStanding) (items : List Item) → list_all (is_there setup notes) items ≡ true → Every IsLow items
+all_low setup notes [] all = tt
+all_low setup notes (item ∷ items) all = (low_if_there setup notes item (first_of_all (is_there setup notes item) (list_all (is_there setup notes) items) all), all_low setup notes items (rest_of_all (is_there setup notes item) (list_all (is_there setup notes) items) all))
+
+-- a wait for variables begins where there is a section in hand
+section_fits : {C : Type 0} {N : ℕ} (truths : Truths C) (notes : ℕ → NoteStanding) (cvs : Cvs) (held : Option (Held C N)) → IsSome held → AreVariables (Any cvs) → IsSettled truths held → StartFits truths notes (OnLock (wait_first N (waits_for_any (mode_waited (mode_of held)) cvs))) held
+section_fits truths notes cvs None some there settled = absurd (cc)
+section_fits truths notes cvs (Some section) some there settled =
+    let may : MayWait truths (waits_for_any section.mode cvs) false section = record { mode = refl; unmet = there; settled = λ e. settled; back = λ e. absurd (cc) } in
+    ((refl, tt), ((may, tt), tt), tt, refl)
+
 module _ {C : Type 0} {N : ℕ} (old new : Whole C N) (seat : ℕ) (lawful : IsLawfulWhole old) where
   -- what has led to the world
   abbrev past : Past
@@ -32,63 +59,9 @@ module _ {C : Type 0} {N : ℕ} (old new : Whole C N) (seat : ℕ) (lawful : IsL
   led : HasLedTo past old
   led = (lawful.lock.env_lawful, lawful.objects_lawful)
 
-  pub low_if : (view : SeatView C N) → slice_get old.lock.state.views seat ≡ Some view → seat < 64
-  low_if view at = let few = lawful.lock.few in let below = slice_get_within old.lock.state.views seat view at in omega (arith, few, below)
-
-  -- The seat is put at a place on the objects, or at none, and into a wait on the lock, or into none.
-  pub record IsPut (walk : Option ObjectWalk) (wait : Option AnyWait) : Type 0 where
-    pub low : seat < 64
-    pub words : List ℕ
-    pub walks : List (Option ObjectWalk)
-    pub many : length walks ≡ 64
-    pub others : (other : ℕ) → other ≢ seat → walk_in walks other ≡ walk_in old.objects.walks other
-    pub becomes : new.objects ≡ record old.objects { words = words; walks = slice_set walks seat walk; waits = slice_set old.objects.waits seat wait }
-
-  module _ {walk : Option ObjectWalk} {wait : Option AnyWait} (put : IsPut walk wait) where
-    pub setup_same : new.objects.setup ≡ old.objects.setup
-    setup_same = ap (λ (o : Objects). o.setup) put.becomes
-
-    pub stands_here : walk_in new.objects.walks seat ≡ walk
-    stands_here = ap (λ (o : Objects). walk_in o.walks seat) put.becomes ∙ put_here put.walks seat walk (let low = put.low in let many = put.many in omega (arith, low, many))
-
-    pub waits_here : wait_in new.objects.waits seat ≡ wait
-    waits_here = ap (λ (o : Objects). wait_in o.waits seat) put.becomes ∙ wait_here old.objects.waits seat wait (let low = put.low in let all = lawful.wait_places in omega (arith, low, all))
-
-    stands_there : (other : ℕ) → other ≢ seat → walk_in new.objects.walks other ≡ walk_in old.objects.walks other
-    stands_there other ne = ap (λ (o : Objects). walk_in o.walks other) put.becomes ∙ put_there put.walks seat walk other ne ∙ put.others other ne
-
-    waits_there : (other : ℕ) → other ≢ seat → wait_in new.objects.waits other ≡ wait_in old.objects.waits other
-    waits_there other ne = ap (λ (o : Objects). wait_in o.waits other) put.becomes ∙ wait_there old.objects.waits seat wait other ne
-
-    -- The law holds where the seat stands as it may, and nothing of the others has changed.
-    stood_lawful : IsLawfulWorld new.lock → length new.lock.state.views ≡ length old.lock.state.views → new.lock.env ≡ old.lock.env → ((other : ℕ) → other ≢ seat → Rests old.lock new.lock other) → (events : List ObjectEvent) → HaveLedTo events new → StandsBy new seat wait → IsLawfulWhole new
-    stood_lawful now_lawful same env rests events led_to here = record {
-      lock = now_lawful;
-      seats = ap (λ (o : Objects). o.setup.seats) put.becomes ∙ lawful.seats ∙ sym same;
-      places = ap (λ (o : Objects). length o.walks) put.becomes ∙ length-set put.walks seat walk ∙ put.many;
-      wait_places = ap (λ (o : Objects). length o.waits) put.becomes ∙ length-set old.objects.waits seat wait ∙ lawful.wait_places;
-      stands = each_stands new seat wait waits_here here (λ other ne. subst (StandsBy new other) (sym (waits_there other ne))
-          (stands_on old new other (rests other ne) (stands_there other ne) setup_same (λ n made. subst (λ (e : EnvPlain). (e.notes n).made ≡ true) (sym env) made) (wait_in old.objects.waits other) (lawful.stands other)));
-      events = events;
-      objects_lawful = led_to;
-    }
-
-    there_still : (round : Round) → new.lock.env ≡ old.lock.env → AreThere old.objects.setup old.lock.env.notes round.items → AreThere new.objects.setup new.lock.env.notes round.items
-    there_still round env there = subst (λ (s : Setup). AreThere s new.lock.env.notes round.items) (sym setup_same) (subst (λ (e : EnvPlain). AreThere old.objects.setup e.notes round.items) (sym env) there)
-
-  pub put_once : seat < 64 → (walk : Option ObjectWalk) (wait : Option AnyWait) → new.objects ≡ stood_at old.objects seat walk wait → IsPut walk wait
-  put_once low walk wait becomes = record { low = low; words = old.objects.words; walks = old.objects.walks; many = lawful.places; others = λ other ne. refl; becomes = becomes }
-
-  -- where a round is over, it is put nowhere
-  pub put_over : (walk : ObjectWalk) → walk_in old.objects.walks seat ≡ Some walk → (then : Objects) (told : Step) → HasOperated old.lock.env seat walk old.objects then told → (wait : Option AnyWait) → new.objects ≡ stood_at then seat None wait → IsPut None wait
-  put_over walk stands then told q wait becomes = record {
-    low = let all = lawful.places in let low = stands_within old.objects.walks seat walk stands in omega (arith, all, low);
-    words = q.words;
-    walks = slice_set old.objects.walks seat (object_after (object_got walk q.found));
-    many = length-set old.objects.walks seat _ ∙ lawful.places;
-    others = λ other ne. put_there old.objects.walks seat (object_after (object_got walk q.found)) other ne;
-    becomes = becomes ∙ ap (λ (o : Objects). stood_at o seat None wait) q.becomes;
-  }
+  -- what objects there are is the same
+  there_still : new.objects.setup ≡ old.objects.setup → new.lock.env ≡ old.lock.env → (round : Round) → AreThere old.objects.setup old.lock.env.notes round.items → AreThere new.objects.setup new.lock.env.notes round.items
+  there_still setup env round there = subst (λ (s : Setup). AreThere s new.lock.env.notes round.items) (sym setup) (subst (λ (e : EnvPlain). AreThere old.objects.setup e.notes round.items) (sym env) there)
 
   -- ---- a call begins to wait on the lock
 
@@ -102,14 +75,10 @@ module _ {C : Type 0} {N : ℕ} (old new : Whole C N) (seat : ℕ) (lawful : IsL
     begun_at_seat : slice_get new.lock.state.views seat ≡ Some begun
     begun_at_seat = ap (λ (w : Now C N). slice_get w.state.views seat) p.begins ∙ set_here old.lock.state.views seat begun (slice_get_within old.lock.state.views seat p.view p.at)
 
-    begun_env : new.lock.env ≡ old.lock.env
-    begun_env = ap (λ (w : Now C N). w.env) p.begins
-
-    waits_now : WaitsOnLock new seat wait_begun
-    waits_now =
-        let put = put_over (InRound p.round p.place) p.walks p.then Idle p.operated (Some wait_begun) p.becomes in
-        let nowhere = stands_here put in
-        record {
+    begins_here : StandsBy new seat (wait_in new.objects.waits seat)
+    begins_here =
+        let put = over_stood old new seat lawful (InRound p.round p.place) p.walks p.then Idle p.operated (Some wait_begun) p.becomes in
+        let here : WaitsOnLock new seat wait_begun = record {
           view = begun;
           at = begun_at_seat;
           walk = wait_first N (waits_for_any (mode_waited (mode_of p.view.held)) p.cvs);
@@ -119,22 +88,25 @@ module _ {C : Type 0} {N : ℕ} (old new : Whole C N) (seat : ℕ) (lawful : IsL
           asked = refl;
           among = p.among;
           unasked = ap (λ (w : Now C N). slice_get w.asking seat) p.begins ∙ p.unasked;
-          there = there_still put p.round begun_env (lawful.objects_lawful.each seat (InRound p.round p.place) p.walks).0;
-          looks = subst (λ w. LooksWhere p.round w (want_of (wait_first {C = C} N (waits_for_any (mode_waited (mode_of p.view.held)) p.cvs)))) (sym nowhere) refl;
-        }
+          there = there_still put.aside.setup (ap (λ (w : Now C N). w.env) p.begins) p.round (lawful.objects_lawful.each seat (InRound p.round p.place) p.walks).0;
+          looks = subst (λ w. LooksWhere p.round w (want_of (wait_first {C = C} N (waits_for_any (mode_waited (mode_of p.view.held)) p.cvs)))) (sym put.stands) refl;
+        } in
+        subst (StandsBy new seat) (sym put.awaits) here
 
-    pub begins_to_wait_keeps : IsLawfulWorld new.lock → IsLawfulWhole new
-    begins_to_wait_keeps now_lawful =
-        let put = put_over (InRound p.round p.place) p.walks p.then Idle p.operated (Some wait_begun) p.becomes in
-        stood_lawful put now_lawful (ap (λ (w : Now C N). length w.state.views) p.begins ∙ length-set old.lock.state.views seat begun) begun_env
-        (λ other ne. subst (λ (w : Now C N). Rests old.lock w other) (sym p.begins) (begun_rests old.lock seat p.view (OnLock (wait_first N (waits_for_any (mode_waited (mode_of p.view.held)) p.cvs))) other ne))
-        (lawful.events ++ p.operated.events) (begins_to_wait_led past old new seat step lawful led p).1.1 waits_now
+    -- the call leaves a section to wait, and there are variables that it waits for
+    begun_lawful : IsLawfulWorld new.lock
+    begun_lawful =
+        let alone : StandsAlone old seat = subst (StandsBy old seat) p.waits_not (lawful.stands seat) in
+        let holds = subst (λ w. MayWaitOnLock w p.view.held) p.walks (alone.may p.view p.at) in
+        let fits = (lawful.objects_lawful.each seat (InRound p.round p.place) p.walks).0 in
+        let few : p.cvs.0 < 256 = let low = p.low in omega (arith, low) in
+        let one = some_among (items_of p.round.items) p.named in
+        let all = all_low old.objects.setup old.lock.env.notes (items_of p.round.items) fits.1 in
+        let some = are_some p.cvs one.0 few (p.among one.0 ∙ one.1) (λ j is. low_if_among (items_of p.round.items) j all (sym (p.among j) ∙ is)) in
+        subst IsLawfulWorld (sym p.begins) (begun_keeps old.lock seat lawful.lock p.view (OnLock (wait_first N (waits_for_any (mode_waited (mode_of p.view.held)) p.cvs))) p.at p.idle p.unasked
+        (section_fits old.lock.truths old.lock.env.notes p.cvs p.view.held (holds p.named) some (is_settled old.lock seat lawful.lock p.view p.at p.idle)))
 
   -- ---- a step of a wait that is there
-
-  -- what the law says of the seat's place on the lock
-  place_fits : (view : SeatView C N) → slice_get old.lock.state.views seat ≡ Some view → PlaceFits old.lock.truths view.walk view.held
-  place_fits view at = (view_fits old.lock.truths (length old.lock.state.views) lawful.lock.few old.lock.history old.lock.state (take seat old.lock.state.views) view (drop (suc seat) old.lock.state.views) (split_at old.lock.state.views seat view at) lawful.lock.lawful).place
 
   module _ (wait : AnyWait) (waits : wait_in old.objects.waits seat ≡ Some wait) where
     pub there_as : WaitsOnLock old seat wait
@@ -149,7 +121,7 @@ module _ {C : Type 0} {N : ℕ} (old new : Whole C N) (seat : ℕ) (lawful : IsL
       limits_so = which (looks_at (want_of there_as.walk)) looks_so
 
       pub out : LooksOut there_as.walk
-      out = looks_out old.lock.truths there_as.view.held there_as.mode there_as.cvs there_as.walk limits_so.0 limits_so.1 there_as.asked (subst (λ w. PlaceFits old.lock.truths w there_as.view.held) there_as.walks (place_fits there_as.view there_as.at))
+      out = looks_out old.lock.truths there_as.view.held there_as.mode there_as.cvs there_as.walk limits_so.0 limits_so.1 there_as.asked (subst (λ w. PlaceFits old.lock.truths w there_as.view.held) there_as.walks (place_fits old.lock seat lawful.lock there_as.view there_as.at))
 
     -- a step on the lock
     module _ (told : Step) (acts : Acts old.lock new.lock seat told) where
@@ -187,16 +159,9 @@ module _ {C : Type 0} {N : ℕ} (old new : Whole C N) (seat : ℕ) (lawful : IsL
         asked = asked_still walk is;
         among = subst (λ (r : Round). AreAmong there_as.cvs (items_of r.items)) (sym same) there_as.among;
         unasked = unasked_still walk is;
-        there = subst (λ (r : Round). AreThere new.objects.setup new.lock.env.notes r.items) (sym same) (subst (λ (s : Setup). AreThere s new.lock.env.notes wait.round.items) (sym setup) (subst (λ (e : EnvPlain). AreThere old.objects.setup e.notes wait.round.items) (sym
-            acts.goes.env) there_as.there));
+        there = subst (λ (r : Round). AreThere new.objects.setup new.lock.env.notes r.items) (sym same) (there_still setup acts.goes.env wait.round there_as.there);
         looks = subst (λ (r : Round). LooksWhere r (walk_in new.objects.walks seat) (want_of walk)) (sym same) (subst (λ w. LooksWhere wait.round w (want_of walk)) (sym stands) looks);
       }
-
-      views_same : length new.lock.state.views ≡ length old.lock.state.views
-      views_same = moves_stay old.lock new.lock seat told (inl acts)
-
-      rests_so : (other : ℕ) → other ≢ seat → Rests old.lock new.lock other
-      rests_so other ne = goes_rests old.lock new.lock seat told other ne acts.goes
 
   -- ---- its look is over
 
@@ -210,22 +175,18 @@ module _ {C : Type 0} {N : ℕ} (old new : Whole C N) (seat : ℕ) (lawful : IsL
     leads_there : walk_after (got_of N p.acts.goes.makes.walk p.acts.goes.found) ≡ Some leads.after
     leads_there = ap (λ (f : Found). walk_after (got_of N p.acts.goes.makes.walk f)) p.looked ∙ leads.is
 
-    pub ends_look_keeps : IsLawfulWorld new.lock → IsLawfulWhole new
-    ends_look_keeps now_lawful =
-        let put = put_over p.walk p.walks p.then p.told p.operated (Some wait_shown) p.becomes in
-        let setup = setup_same put in
-        let nowhere = stands_here put in
-        stood_lawful put now_lawful (views_same p.wait p.waits step p.acts) p.acts.goes.env (rests_so p.wait p.waits step p.acts)
-        (lawful.events ++ p.operated.events) (ends_look_led past old new seat step lawful led p).1.1
-        (waits_at p.wait p.waits step p.acts leads.after leads_there None wait_shown refl nowhere leads.looks_not setup)
+    ends_here : StandsBy new seat (wait_in new.objects.waits seat)
+    ends_here =
+        let put = over_stood old new seat lawful p.walk p.walks p.then p.told p.operated (Some wait_shown) p.becomes in
+        subst (StandsBy new seat) (sym put.awaits) (waits_at p.wait p.waits step p.acts leads.after leads_there None wait_shown refl put.stands leads.looks_not put.aside.setup)
 
   -- ---- it makes a step of its own
 
   module _ (step : Step) (p : WaitSteps old new seat step) where
-    pub wait_steps_keeps : IsLawfulWorld new.lock → IsLawfulWhole new
-    wait_steps_keeps now_lawful = by (after p.wait p.waits p.told p.acts) refl where
-      low : seat < 64
-      low = low_if (there_as p.wait p.waits).view (there_as p.wait p.waits).at
+    waits_here : StandsBy new seat (wait_in new.objects.waits seat)
+    waits_here = by (after p.wait p.waits p.told p.acts) refl where
+      low : seat < length old.objects.walks
+      low = low_walks old new seat lawful (there_as p.wait p.waits).view (there_as p.wait p.waits).at
 
       due : (walk : Walk C) (b : Bool) → is_some (looks_at (want_of walk)) ≡ b → LooksWhere p.wait.round (cond b (Some (InRound p.wait.round FirstClock)) None) (want_of walk)
       due walk true is = (refl, is)
@@ -234,19 +195,39 @@ module _ {C : Type 0} {N : ℕ} (old new : Whole C N) (seat : ℕ) (lawful : IsL
       becomes_as : (walk : Option (Walk C)) → after p.wait p.waits p.told p.acts ≡ walk → new.objects ≡ waited_after old.objects seat p.wait walk
       becomes_as walk is = p.becomes ∙ ap (waited_after old.objects seat p.wait) is
 
-      still : HaveLedTo lawful.events new
-      still = subst (λ es. HaveLedTo es new) (append-nil lawful.events) (wait_steps_led past old new seat step lawful led p).1
-
-      by : (walk : Option (Walk C)) → after p.wait p.waits p.told p.acts ≡ walk → IsLawfulWhole new
+      by : (walk : Option (Walk C)) → after p.wait p.waits p.told p.acts ≡ walk → StandsBy new seat (wait_in new.objects.waits seat)
       by None is =
-          let nowhere = stands_here (put_once low None None (becomes_as None is)) in
-          let alone : IsAlone new.lock seat = λ view at. let same : Some (next p.wait p.waits p.told p.acts) ≡ Some view = sym (next_at p.wait p.waits p.told p.acts)
-          ∙ at in let is_view : next p.wait p.waits p.told p.acts ≡ view = cc in subst (λ (v : SeatView C N). is_alone v.walk ≡ true) is_view (ap is_alone is) in
-          stood_lawful (put_once low None None (becomes_as None is)) now_lawful (views_same p.wait p.waits p.told p.acts) p.acts.goes.env (rests_so p.wait p.waits p.told p.acts) lawful.events still
-          (stands_nowhere new seat nowhere alone)
+          let put = put_stood old new seat lawful None None low (becomes_as None is) in
+          let alone : IsAlone new.lock seat = λ view at.
+          let same : next p.wait p.waits p.told p.acts ≡ view = same_Some _ _ (sym (next_at p.wait p.waits p.told p.acts) ∙ at) in
+          subst (λ (v : SeatView C N). is_alone v.walk ≡ true) same (ap is_alone is) in
+          subst (StandsBy new seat) (sym put.awaits) (stands_nowhere new seat put.stands alone)
       by (Some walk) is =
           let at = round_due p.wait walk in
-          let here = stands_here (put_once low at (Some p.wait) (becomes_as (Some walk) is)) in
-          let setup = setup_same (put_once low at (Some p.wait) (becomes_as (Some walk) is)) in
-          stood_lawful (put_once low at (Some p.wait) (becomes_as (Some walk) is)) now_lawful (views_same p.wait p.waits p.told p.acts) p.acts.goes.env (rests_so p.wait p.waits p.told p.acts) lawful.events still
-          (waits_at p.wait p.waits p.told p.acts walk is at p.wait refl here (due walk (is_some (looks_at (want_of walk))) refl) setup)
+          let put = put_stood old new seat lawful at (Some p.wait) low (becomes_as (Some walk) is) in
+          subst (StandsBy new seat) (sym put.awaits) (waits_at p.wait p.waits p.told p.acts walk is at p.wait refl put.stands (due walk (is_some (looks_at (want_of walk))) refl) put.aside.setup)
+
+  -- ---- any step
+
+  -- where the seat stands then
+  stands_then : (step : Step) → WholeMoves old new seat step → StandsBy new seat (wait_in new.objects.waits seat)
+  stands_then step (inl p) =
+      let was : StandsAlone old seat = subst (StandsBy old seat) p.waits_not (lawful.stands seat) in
+      subst (StandsBy new seat) (sym (ap (λ (o : Objects). wait_in o.waits seat) p.same ∙ p.waits_not)) (stands_nowhere new seat (ap (λ (o : Objects). walk_in o.walks seat) p.same ∙ p.elsewhere) (moves_alone old.lock new.lock seat step p.moves was.alone))
+  stands_then step (inr (inl p)) = operates_stand old new seat step lawful p
+  stands_then step (inr (inr (inl p))) = begins_here step p
+  stands_then step (inr (inr (inr (inl p)))) = ends_here step p
+  stands_then step (inr (inr (inr (inr p)))) = waits_here step p
+
+  pub step_keeps : 0 < N → QuietKeeps N old.lock.truths → (step : Step) → WholeStep old new seat step → IsLawfulWhole new
+  step_keeps some quiet step (inl p) = subst IsLawfulWhole (sym p.1) lawful
+  step_keeps some quiet step (inr p) =
+      let on = (whole_led past old new seat step lawful led p).2 in
+      stood_lawful old new seat lawful (now_lawful p) (whole_stays old new seat step p) (led_makes lawful.lock.events (notes_done p) old.lock new.lock lawful.lock.env_lawful on.0)
+      (moves_aside old new seat step p) (moves_still old new seat step p) (lawful.events ++ objects_done p) on.1 (stands_then step p) where
+        now_lawful : WholeMoves old new seat step → IsLawfulWorld new.lock
+        now_lawful (inl p) = moves_keep old.lock seat lawful.lock some quiet new.lock step p.moves
+        now_lawful (inr (inl p)) = subst IsLawfulWorld (sym p.same) lawful.lock
+        now_lawful (inr (inr (inl p))) = begun_lawful step p
+        now_lawful (inr (inr (inr (inl p)))) = moves_keep old.lock seat lawful.lock some quiet new.lock step (inl p.acts)
+        now_lawful (inr (inr (inr (inr p)))) = moves_keep old.lock seat lawful.lock some quiet new.lock p.told (inl p.acts)

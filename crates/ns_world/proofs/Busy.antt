@@ -1,8 +1,9 @@
 -- Which seats are busy, after another in the place of one, and one after another.
-use Rattle.std.proofs.Common.{◌≤◌, ◌≡◌, ◌≢◌, ℕ, zero, suc, ◌<◌, Bool, true, false, eqb, ◌||◌, List, [], ◌∷◌, Option, Some, None, is_some, length, slice_set, slice_get, refl, ap, sym, ◌∙◌, arith, eq-eqb, inl, inr, ◌+◌, map, get_or}
+use Rattle.std.proofs.Common.{◌≤◌, ◌≡◌, ℕ, zero, suc, ◌<◌, Bool, true, false, eqb, ◌||◌, List, [], ◌∷◌, Option, Some, None, is_some, length, slice_set, slice_get, refl, ap, sym, ◌∙◌, arith, eq-eqb, inl, inr, ◌+◌, map, get_or}
 use Rattle.ns_world.proofs.Below.{cases_eq, cases_lt, length-map, ne_eqb, slice_get_past}
 use Rattle.std.specs.Option.{option_map_or}
-use Rattle.ns_world.specs.Prelude.{EnvWalk, ObjectWalk, Seat, SeatView, is_asking, is_busy, is_walking, view_of, walk_in}
+use Rattle.std.specs.Prelude.{unwrap_or}
+use Rattle.ns_world.specs.Prelude.{EnvWalk, Seat, SeatView, is_asking, is_busy, is_walking, view_of, walk_in}
 use Rattle.ns_world.proofs.Mapped.{got-map}
 
 or_false : (b : Bool) → (b || false) ≡ b
@@ -24,13 +25,6 @@ module _ {A : Type 0} (f : A → Bool) where
   bit_set_same (y ∷ xs) zero x within = refl
   bit_set_same (y ∷ xs) (suc i) x within = bit_set_same xs i x (omega arith)
 
-  bit_set_other : (xs : List A) (i : ℕ) (x : A) (j : ℕ) → j ≢ i → bit (slice_set xs i x) j ≡ bit xs j
-  bit_set_other [] i x j ne = refl
-  bit_set_other (y ∷ xs) zero x zero ne = absurd (ne refl)
-  bit_set_other (y ∷ xs) zero x (suc j) ne = refl
-  bit_set_other (y ∷ xs) (suc i) x zero ne = refl
-  bit_set_other (y ∷ xs) (suc i) x (suc j) ne = bit_set_other xs i x j (λ e. ne (ap suc e))
-
   bit_at : (xs : List A) (i : ℕ) (x : A) → slice_get xs i ≡ Some x → bit xs i ≡ f x
   bit_at xs i x e = ap (λ o. option_map_or f o false) e
 
@@ -38,9 +32,6 @@ module _ {A : Type 0} (f : A → Bool) where
 
 pub asking_set_same : (askings : List (Option EnvWalk)) (i : ℕ) (walk : Option EnvWalk) → i < length askings → is_asking (slice_set askings i walk) i ≡ is_some walk
 asking_set_same askings i walk within = bit_set_same is_some askings i walk within
-
-pub asking_set_other : (askings : List (Option EnvWalk)) (i : ℕ) (walk : Option EnvWalk) (seat : ℕ) → seat ≢ i → is_asking (slice_set askings i walk) seat ≡ is_asking askings seat
-asking_set_other askings i walk seat ne = bit_set_other is_some askings i walk seat ne
 
 pub asking_set_none : (askings : List (Option EnvWalk)) (i : ℕ) → is_asking (slice_set askings i None) i ≡ false
 asking_set_none [] i = refl
@@ -55,9 +46,6 @@ asking_at askings seat walk e = bit_at is_some askings seat walk e
 module _ {C : Type 0} {N : ℕ} where
   pub walking_set_same : (views : List (SeatView C N)) (i : ℕ) (view : SeatView C N) → i < length views → is_walking (slice_set views i view) i ≡ is_some view.walk
   walking_set_same views i view within = bit_set_same (λ v. is_some v.walk) views i view within
-
-  pub walking_set_other : (views : List (SeatView C N)) (i : ℕ) (view : SeatView C N) (seat : ℕ) → seat ≢ i → is_walking (slice_set views i view) seat ≡ is_walking views seat
-  walking_set_other views i view seat ne = bit_set_other (λ v. is_some v.walk) views i view seat ne
 
   pub walking_at : (views : List (SeatView C N)) (seat : ℕ) (view : SeatView C N) → slice_get views seat ≡ Some view → is_walking views seat ≡ is_some view.walk
   walking_at views seat view e = bit_at (λ v. is_some v.walk) views seat view e
@@ -90,22 +78,21 @@ pub first_all : (so bits : ℕ → Bool) (i m n : ℕ) → m ≤ i → AreFirst 
 first_all so bits i m n all first none = elim (cases_lt n i) [ inl below ↦ (first n).0 below | inr past ↦ (first n).1 past ∙ sym (none (omega (arith, all, past))) ]
 
 -- a seat is in a call
-module _ {C : Type 0} {N : ℕ} (seats : List (Seat C N)) (walks : List (Option ObjectWalk)) where
+module _ {C : Type 0} {N : ℕ} (seats : List (Seat C N)) where
   abbrev pub in_call : ℕ → Bool
-  in_call n = is_busy (map view_of seats) (map (λ s. s.asking) seats) n || is_some (walk_in walks n)
+  in_call n = is_busy (map view_of seats) (map (λ s. s.asking) seats) n || is_some (walk_in (map (λ s. s.operating) seats) n)
 
-  pub in_call_here : (i : ℕ) (seat : Seat C N) → i < length seats → seat ≡ get_or seats i seat → in_call i ≡ ((is_some seat.walk || is_some seat.asking) || is_some (walk_in walks i))
+  pub in_call_here : (i : ℕ) (seat : Seat C N) → i < length seats → seat ≡ get_or seats i seat → in_call i ≡ ((is_some seat.walk || is_some seat.asking) || is_some seat.operating)
   in_call_here i seat within is =
       let views = walking_at (map view_of seats) i (view_of seat) (got-map view_of seats i seat within ∙ ap (λ s. Some (view_of s)) (sym is)) in
       let asks = asking_at (map (λ s. s.asking) seats) i seat.asking (got-map (λ s. s.asking) seats i seat within ∙ ap (λ (s : Seat C N). Some s.asking) (sym is)) in
-      ap (λ b. b || is_some (walk_in walks i)) (both (map view_of seats) (map (λ s. s.asking) seats) i (is_some seat.walk) (is_some seat.asking) views asks)
+      let operates : walk_in (map (λ s. s.operating) seats) i ≡ seat.operating = ap (λ o. unwrap_or o None) (got-map (λ s. s.operating) seats i seat within ∙ ap (λ (s : Seat C N). Some s.operating) (sym is)) in
+      (λ j. both (map view_of seats) (map (λ s. s.asking) seats) i (is_some seat.walk) (is_some seat.asking) views asks j || is_some (operates j))
 
   -- who is no seat is in none
-  pub in_no_call : ((n : ℕ) (walk : ObjectWalk) → walk_in walks n ≡ Some walk → n < length seats) → (n : ℕ) → length seats ≤ n → in_call n ≡ false
-  in_no_call there n past = by (walk_in walks n) refl where
-    by : (walk : Option ObjectWalk) → walk_in walks n ≡ walk → in_call n ≡ false
-    by None is =
-        let views = ap (λ o. option_map_or (λ (v : SeatView C N). is_some v.walk) o false) (slice_get_past (map view_of seats) n (omega (arith, past, length-map seats view_of))) in
-        let asks = ap (λ o. option_map_or (λ (w : Option EnvWalk). is_some w) o false) (slice_get_past (map (λ s. s.asking) seats) n (omega (arith, past, length-map seats (λ s. s.asking)))) in
-        (λ i. both (map view_of seats) (map (λ s. s.asking) seats) n false false views asks i || is_some (is i))
-    by (Some walk) is = let below = there n walk is in absurd (omega (arith, below, past))
+  pub in_no_call : (n : ℕ) → length seats ≤ n → in_call n ≡ false
+  in_no_call n past =
+      let views = ap (λ o. option_map_or (λ (v : SeatView C N). is_some v.walk) o false) (slice_get_past (map view_of seats) n (omega (arith, past, length-map seats view_of))) in
+      let asks = ap (λ o. option_map_or (λ (w : Option EnvWalk). is_some w) o false) (slice_get_past (map (λ s. s.asking) seats) n (omega (arith, past, length-map seats (λ s. s.asking)))) in
+      let operates : walk_in (map (λ s. s.operating) seats) n ≡ None = ap (λ o. unwrap_or o None) (slice_get_past (map (λ s. s.operating) seats) n (omega (arith, past, length-map seats (λ s. s.operating)))) in
+      (λ j. both (map view_of seats) (map (λ s. s.asking) seats) n false false views asks j || is_some (operates j))

@@ -1,15 +1,18 @@
 -- No seat is past its last call.
 use Rattle.std.proofs.Common.{◌≡◌, ◌≢◌, ℕ, zero, suc, ◌+◌, ◌<◌, ◌≤◌, inl, inr, Bool, true, false, cond, List, [], ◌∷◌, None, Some, is_some, ◌||◌, Option, Vec, Global, length, map, get_or, slice_set, slice_get, slice_index, replicate, refl, ap, sym, ◌∙◌, subst, arith}
 use Rattle.std.specs.Prelude.{All, IfSome}
-use Rattle.ns_world.proofs.Below.{cases_eq, get_or-set_other, get_or-set_same, length-set, put_none, put_there, slice_get_within}
+use Rattle.ns_world.proofs.Below.{cases_eq, get_or-set_other, get_or-set_same, length-set, put_none, slice_get_within}
 use Rattle.std.proofs.lemmas.List.Elements.{All-head, All-tail, All-nil}
-use Rattle.ns_world.specs.Prelude.{Acts, AnyWait, Awaits, Call, CallInRange, Counts, EnvNext, Finished, Go, Goes, GoesOnOrBegins, HasOperated, Idle, InRound, IsCounted, Line, ListFits, LookGoes, LookOver, Moves, Next, Now, ObjectNext, ObjectWalk, Objects, On, OnLock, Progress, Reply}
-use Rattle.ns_world.specs.Prelude.{Step, TurnOf, Walk, Went, Whole, WholeMoves, calls_of, env_got_of, env_step_of, env_walk_after, got_of, is_asking, is_busy, is_for_lock, is_walking, look_of, mode_of, mode_waited, object_after, object_got, object_start, object_step_of, objects_begun, progress}
-use Rattle.ns_world.specs.Prelude.{progressed, round_due, shown_by, start_of, step_of, step_told, stood_at, wait_first, wait_in, waited_after, waits_for_any, walk_after, walk_in, whole_busy}
+use Rattle.ns_world.specs.Prelude.{Acts, AnyWait, Awaits, Call, CallInRange, Counts, EnvNext, Finished, Go, Goes, GoesOnOrBegins, IsCounted, Line, ListFits, LookGoes, LookOver, Moves, Next, Now, ObjectNext, ObjectWalk, Objects, On, Progress, Reply}
+use Rattle.ns_world.specs.Prelude.{Step, TurnOf, Went, Whole, WholeMoves, calls_of, env_got_of, env_step_of, env_walk_after, got_of, is_asking, is_busy, is_for_lock, is_walking, look_of, object_after, object_got, object_step_of, progress}
+use Rattle.ns_world.specs.Prelude.{progressed, shown_by, step_of, step_told, stood_at, wait_in, waited_after, walk_after, walk_in, whole_busy}
 use Rattle.ns_word.specs.declared.walk.Next.TheVariants.{Done}
 use Rattle.ns_env.specs.declared.walk.EnvNext.TheVariants.{Repeat, Over}
-use Rattle.ns_world.proofs.Busy.{both, walking_at, walking_set_same, walking_set_other, asking_set_same, asking_set_other, asking_set_none}
-use Rattle.ns_world.proofs.Turns.{is_idle_of, is_whole_busy, is_whole_idle, begun_others}
+use Rattle.ns_world.proofs.Busy.{both, walking_at, walking_set_same, asking_set_same, asking_set_none}
+use Rattle.ns_world.proofs.Turns.{is_idle_of, is_whole_busy, is_whole_idle}
+use Rattle.ns_world.proofs.Others.{Still, moves_still, starts_still}
+use Rattle.std.specs.Option.{option_map_or}
+use Rattle.ns_world.specs.Prelude.{EnvWalk, SeatView}
 use Rattle.ns_word.specs.declared.walk.Next.TheVariants as TheNext
 use Rattle.ns_counters.specs.declared.walk.ObjectNext.TheVariants as TheObject
 
@@ -51,15 +54,6 @@ over_nowhere (TheObject.Go walk) reply e = absurd (cc)
 over_nowhere (TheObject.Repeat walk) reply e = absurd (cc)
 over_nowhere (TheObject.Over answer) reply e = refl
 
-begun_elsewhere : (objects : Objects) (seat : ℕ) (place : Option ObjectWalk) (other : ℕ) → other ≢ seat → walk_in (objects_begun objects seat place).walks other ≡ walk_in objects.walks other
-begun_elsewhere objects seat None other ne = refl
-begun_elsewhere objects seat (Some walk) other ne = put_there objects.walks seat (Some walk) other ne
-
--- a step of a wait on the lock leaves where others stand
-waited_others : {C : Type 0} (objects : Objects) (seat : ℕ) (wait : AnyWait) (walk : Option (Walk C)) (other : ℕ) → other ≢ seat → walk_in (waited_after objects seat wait walk).walks other ≡ walk_in objects.walks other
-waited_others objects seat wait None other ne = put_there objects.walks seat None other ne
-waited_others objects seat wait (Some walk) other ne = put_there objects.walks seat (round_due wait walk) other ne
-
 -- who waits for a set of variables is told nothing by the last step of a round
 waits_nowhere : (wait : Option AnyWait) (walk : ObjectWalk) (reply : Reply) → is_for_lock wait walk (Finished reply) ≡ false → wait ≡ None
 waits_nowhere None walk reply not = refl
@@ -85,27 +79,11 @@ module _ {C : Type 0} {N : ℕ} where
         | inr ne ↦ rw (same other ne, count other ne) (p other)
       ]
 
-  -- what a step leaves of who is busy
-  goes_others : (old new : Now C N) (seat : ℕ) (step : Step) → Goes old new seat step → (other : ℕ) → other ≢ seat → is_busy new.state.views new.asking other ≡ is_busy old.state.views old.asking other
-  goes_others old new seat step goes other ne =
-      both new.state.views new.asking other (is_walking old.state.views other) (is_asking old.asking other)
-      (ap (λ views. is_walking views other) goes.others ∙ walking_set_other old.state.views seat _ other ne) (ap (λ askings. is_asking askings other) goes.asking ∙ asking_set_other old.asking seat _ other ne)
+  -- a seat of which nothing has changed is as busy as it was
+  busy_still : (old new : Whole C N) (other : ℕ) → Still other old new → whole_busy new other ≡ whole_busy old other
+  busy_still old new other still = λ i. (option_map_or (λ (v : SeatView C N). is_some v.walk) (still.lock.views i) false || option_map_or (λ (w : Option EnvWalk). is_some w) (still.lock.asking i) false) || is_some (still.walks i)
 
-  look_others : (old new : Now C N) (seat : ℕ) (step : Step) (next : EnvNext) → LookGoes next old new seat step → (other : ℕ) → other ≢ seat → is_busy new.state.views new.asking other ≡ is_busy old.state.views old.asking other
-  look_others old new seat step (Go walk) p other ne =
-      both new.state.views new.asking other (is_walking old.state.views other) (is_asking old.asking other)
-      (ap (λ (world : Now C N). is_walking world.state.views other) p.0) (ap (λ (world : Now C N). is_asking world.asking other) p.0 ∙ asking_set_other old.asking seat (Some walk) other ne)
-  look_others old new seat step (LookOver cause) p other ne = goes_others old new seat step p.0 other ne
-  look_others old new seat step next p other ne = absurd p
-
-  moves_others : (old new : Now C N) (seat : ℕ) (step : Step) → Moves old new seat step → (other : ℕ) → other ≢ seat → is_busy new.state.views new.asking other ≡ is_busy old.state.views old.asking other
-  moves_others old new seat step (inl acts) other ne = goes_others old new seat step acts.goes other ne
-  moves_others old new seat step (inr (inr looks)) other ne = look_others old new seat step (env_got_of looks.place looks.found) looks.goes other ne
-  moves_others old new seat step (inr (inl asks)) other ne =
-      both new.state.views new.asking other (is_walking old.state.views other) (is_asking old.asking other)
-      (ap (λ (world : Now C N). is_walking world.state.views other) asks.others) (ap (λ askings. is_asking askings other) asks.makes.becomes ∙ asking_set_other old.asking seat _ other ne)
-
-  -- and what the last one of a call leaves
+  -- what the last step of a call leaves of who is busy
   goes_over : (old new : Now C N) (seat : ℕ) (reply : Reply) → Goes old new seat (Finished reply) → is_busy new.state.views new.asking seat ≡ false
   goes_over old new seat reply goes =
       let over = over_idle (got_of N goes.makes.walk goes.found) reply goes.answers in
@@ -126,30 +104,9 @@ module _ {C : Type 0} {N : ℕ} where
       (ap (λ (world : Now C N). is_walking world.state.views seat) asks.others ∙ walking_at old.state.views seat asks.view asks.at ∙ ap is_some asks.idle)
       (ap (λ askings. is_asking askings seat) asks.makes.becomes ∙ asking_set_same old.asking seat _ (slice_get_within old.asking seat (Some asks.makes.walk) asks.makes.walks) ∙ over_unasked (env_got_of asks.makes.walk asks.found) reply asks.answers)
 
-  -- a step of a round that tells the lock what it has shown leaves where others stand, and its seat nowhere
-  module _ (old new : Whole C N) (seat : ℕ) (told : Step) (walk : ObjectWalk) (then : Objects) (wait : Option AnyWait) (q : HasOperated old.lock.env seat walk old.objects then told) (becomes : new.objects ≡ stood_at then seat None wait) where
-    told_others : (other : ℕ) → other ≢ seat → walk_in new.objects.walks other ≡ walk_in old.objects.walks other
-    told_others other ne =
-        ap (λ (o : Objects). walk_in o.walks other) becomes ∙ put_there then.walks seat None other ne ∙ ap (λ (o : Objects). walk_in o.walks other) q.becomes ∙ put_there old.objects.walks seat (object_after (object_got walk q.found)) other ne
-
-    told_nowhere : walk_in new.objects.walks seat ≡ None
-    told_nowhere = ap (λ (o : Objects). walk_in o.walks seat) becomes ∙ put_none then.walks seat
-
-  awaits_others : (old new : Whole C N) (seat : ℕ) (step : Step) → Awaits old new seat step → (other : ℕ) → other ≢ seat → whole_busy new other ≡ whole_busy old other
-  awaits_others old new seat step (inl p) other ne =
-      (λ i. (ap (λ (world : Now C N). is_busy world.state.views world.asking other) p.begins ∙ begun_others old.lock seat p.view (OnLock (wait_first N (waits_for_any (mode_waited (mode_of p.view.held)) p.cvs))) other ne) i
-      || is_some (told_others old new seat Idle (InRound p.round p.place) p.then (Some (record { round = p.round; shown = None })) p.operated p.becomes other ne i))
-  awaits_others old new seat step (inr (inl p)) other ne =
-      (λ i. moves_others old.lock new.lock seat step (inl p.acts) other ne i || is_some (told_others old new seat p.told p.walk p.then (Some (record { round = p.wait.round; shown = shown_by p.told })) p.operated p.becomes other ne i))
-  awaits_others old new seat step (inr (inr p)) other ne =
-      (λ i. moves_others old.lock new.lock seat p.told (inl p.acts) other ne i
-      || is_some ((ap (λ (o : Objects). walk_in o.walks other) p.becomes ∙ waited_others old.objects seat p.wait (walk_after (got_of N p.acts.goes.makes.walk p.acts.goes.found)) other ne) i))
-
-  whole_others : (old new : Whole C N) (seat : ℕ) (step : Step) → WholeMoves old new seat step → (other : ℕ) → other ≢ seat → whole_busy new other ≡ whole_busy old other
-  whole_others old new seat step (inl p) other ne = (λ i. moves_others old.lock new.lock seat step p.moves other ne i || is_some (walk_in (p.same i).walks other))
-  whole_others old new seat step (inr (inl p)) other ne =
-      (λ i. is_busy (p.same i).state.views (p.same i).asking other || is_some ((ap (λ (o : Objects). walk_in o.walks other) p.operated.becomes ∙ put_there old.objects.walks seat (object_after (object_got p.walk p.operated.found)) other ne) i))
-  whole_others old new seat step (inr (inr p)) other ne = awaits_others old new seat step p other ne
+  -- where a round tells the lock what it has shown, its seat stands nowhere
+  told_nowhere : (old new : Whole C N) (seat : ℕ) (then : Objects) (wait : Option AnyWait) → new.objects ≡ stood_at then seat None wait → walk_in new.objects.walks seat ≡ None
+  told_nowhere old new seat then wait becomes = ap (λ (o : Objects). walk_in o.walks seat) becomes ∙ put_none then.walks seat
 
   -- a wait on the lock that is over
   waited_over : (old new : Whole C N) (seat : ℕ) (reply : Reply) (wait : AnyWait) (told : Step) (acts : Acts old.lock new.lock seat told) →
@@ -162,7 +119,7 @@ module _ {C : Type 0} {N : ℕ} where
   awaits_over : (old new : Whole C N) (seat : ℕ) (reply : Reply) → Awaits old new seat (Finished reply) → whole_busy new seat ≡ false
   awaits_over old new seat reply (inl p) = let no : Finished reply ≡ Went = p.answer in absurd (cc)
   awaits_over old new seat reply (inr (inl p)) =
-      (λ i. goes_over old.lock new.lock seat reply p.acts.goes i || is_some (told_nowhere old new seat p.told p.walk p.then (Some (record { round = p.wait.round; shown = shown_by p.told })) p.operated p.becomes i))
+      (λ i. goes_over old.lock new.lock seat reply p.acts.goes i || is_some (told_nowhere old new seat p.then (Some (record { round = p.wait.round; shown = shown_by p.told })) p.becomes i))
   awaits_over old new seat reply (inr (inr p)) = waited_over old new seat reply p.wait p.told p.acts p.becomes p.answer
 
   whole_over : (old new : Whole C N) (seat : ℕ) (reply : Reply) → WholeMoves old new seat (Finished reply) → whole_busy new seat ≡ false
@@ -186,10 +143,7 @@ module _ {C : Type 0} {N : ℕ} where
   leads_others : (lists : List (List (Call C))) (p : Progress C N) (seat : ℕ) (begun : Whole C N) → GoesOnOrBegins lists p seat begun →
       (other : ℕ) → other ≢ seat → whole_busy begun other ≡ whole_busy p.world other
   leads_others lists p seat begun (inl busy) other ne = ap (λ (world : Whole C N). whole_busy world other) busy.1
-  leads_others lists p seat begun (inr called) other ne =
-      let s = called.2.starts in
-      (λ i. (ap (λ (world : Now C N). is_busy world.state.views world.asking other) s.begins ∙ begun_others p.world.lock seat s.view (start_of N (mode_of s.view.held) called.0) other ne) i
-      || is_some ((ap (λ (o : Objects). walk_in o.walks other) called.2.becomes ∙ begun_elsewhere p.world.objects seat (object_start called.0) other ne) i))
+  leads_others lists p seat begun (inr called) other ne = busy_still p.world begun other (starts_still p.world begun seat called.0 called.2 other ne)
 
   -- a turn keeps the count
   pub turn_counted : (lists : List (List (Call C))) (p q : Progress C N) (seat : ℕ) (step : Step) → length (calls_of lists seat) ≤ 256 → seat < 64 → TurnOf lists p seat step q →
@@ -198,7 +152,7 @@ module _ {C : Type 0} {N : ℕ} where
       subst (λ (x : Progress C N). IsCounted x.world x.over) (sym t.after) (record {
         many = length-set p.over seat _ ∙ c.many;
         most = changes p.world t.world p.over (slice_set p.over seat (slice_index p.over seat + 1)) seat
-            (λ other ne. whole_others t.begun t.world seat (Finished reply) t.moves other ne ∙ leads_others lists p seat t.begun t.leads other ne)
+            (λ other ne. busy_still t.begun t.world other (moves_still t.begun t.world seat (Finished reply) t.moves other ne) ∙ leads_others lists p seat t.begun t.leads other ne)
             (λ other ne. set_others p.over seat (slice_index p.over seat + 1) other ne)
             (rw (whole_over t.begun t.world seat reply t.moves, get_or-set_same p.over seat (slice_index p.over seat + 1) 0 (omega (arith, c.many, low)))
             (let below = leads_below lists p seat t.begun few t.leads (c.most seat) in omega (arith, below)))
@@ -208,7 +162,7 @@ module _ {C : Type 0} {N : ℕ} where
       subst (λ (x : Progress C N). IsCounted x.world x.over) (sym t.after) (record {
         many = c.many;
         most = changes p.world t.world p.over p.over seat
-            (λ other ne. whole_others t.begun t.world seat step t.moves other ne ∙ leads_others lists p seat t.begun t.leads other ne)
+            (λ other ne. busy_still t.begun t.world other (moves_still t.begun t.world seat step t.moves other ne) ∙ leads_others lists p seat t.begun t.leads other ne)
             (λ other ne. refl)
             (let below = leads_below lists p seat t.begun few t.leads (c.most seat) in omega (arith, below, bit_most (whole_busy t.world seat)))
             c.most;

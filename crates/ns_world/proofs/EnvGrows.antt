@@ -1,11 +1,16 @@
 -- Each step extends what has happened to the clock and the notes.
-use Rattle.std.proofs.Common.{ℕ, ◌<◌, inl, inr, List, [], ◌++◌, Some, None, length, slice_set, refl, sym, ◌∙◌, subst}
-use Rattle.ns_world.proofs.Below.{append-nil, keeps_env, set_again, set_here, set_same, slice_get_within}
-use Rattle.ns_world.specs.Prelude.{Acts, AreEnvBy, Asks, EnvAct, EnvEffect, EnvEvent, EnvFound, EnvNext, EnvPlain, Go, Goes, IfMade, IsLawfulEnv, IsLawfulWorld, LedTo, LookGoes, LookOver, Looks, Moves, Now, Step, env_done, env_got_of, env_state, env_walk_after, env_want_of, got_of, look_of}
-use Rattle.ns_world.specs.Prelude.{note_in, walk_after}
+use Rattle.std.proofs.Common.{◌≡◌, ℕ, ◌<◌, inl, inr, true, List, [], ◌++◌, Option, Some, None, length, slice_get, slice_set, refl, sym, ◌∙◌, subst}
+use Rattle.ns_world.proofs.Below.{append-nil, begins_env, keeps_env, made_begins, set_again, set_here, set_same, slice_get_within}
+use Rattle.ns_world.specs.Prelude.{Acts, AreEnvBy, Asks, EnvAct, EnvEffect, EnvEvent, EnvFound, EnvNext, EnvPlain, EnvWalk, Go, Goes, IfMade, IsLawfulEnv, IsLawfulWorld, LedTo, LookGoes, LookOver, Looks, Moves, NoteStanding, Now, Step, env_done, env_got_of}
+use Rattle.ns_world.specs.Prelude.{env_state, env_walk_after, env_want_of, got_of, look_of, note_in, walk_after}
 use Rattle.ns_env.proofs.Keeps.{outcome_by}
-use Rattle.ns_world.proofs.Looking.{first_if, noted}
-use Rattle.ns_world.proofs.Worlds.{env_begins}
+use Rattle.ns_world.proofs.Looking.{FirstIf, first_if, noted}
+
+-- a seat that stands nowhere there is put at the beginning of a look, if one is to begin
+pub env_begins : (events : List EnvEvent) (plain : EnvPlain) (askings : List (Option EnvWalk)) (i : ℕ) (ask : Option EnvWalk) → slice_get askings i ≡ Some None → FirstIf plain.notes ask → IsLawfulEnv events (env_state plain askings) →
+    IsLawfulEnv events (env_state plain (slice_set askings i ask))
+env_begins events plain askings i None at first p = subst (λ xs. IsLawfulEnv events (env_state plain xs)) (sym (set_same askings i None at)) p
+env_begins events plain askings i (Some walk) at first p = begins_env events (env_state plain askings) (env_state plain (slice_set askings i (Some walk))) i walk (record { over = at; first = first; becomes = refl }) p
 
 -- what a step does to the clock and the notes is its seat's
 pub events_by : (seat : ℕ) (act : EnvAct) (old : EnvPlain) (found : EnvFound) (new : EnvPlain) (events : List EnvEvent) → EnvEffect seat act old found new events → AreEnvBy seat events
@@ -50,3 +55,8 @@ module _ {C : Type 0} {N : ℕ} (events : List EnvEvent) (old new : Now C N) (se
   moves_led (inl p) = nothing_more (acts_led p)
   moves_led (inr (inl p)) = (events_by seat (env_want_of p.makes.walk) (env_state old.env old.asking).plain p.found (env_state new.env new.asking).plain p.events p.makes.effect, asks_led p)
   moves_led (inr (inr p)) = nothing_more (looks_led p)
+
+-- notes that are made stay made
+pub led_makes : {C : Type 0} {N : ℕ} (events more : List EnvEvent) (old new : Now C N) → LedTo events old → LedTo (events ++ more) new → (n : ℕ) → (old.env.notes n).made ≡ true → (new.env.notes n).made ≡ true
+led_makes events more old new was now n made = subst (λ (notes : ℕ → NoteStanding). (notes n).made ≡ true) (sym now.lawful.meets.notes)
+    (made_begins (events ++ more) events n now.lawful.meets.legal (more, refl) (subst (λ (notes : ℕ → NoteStanding). (notes n).made ≡ true) was.lawful.meets.notes made))

@@ -1,7 +1,7 @@
 -- A new world's seats, one after another.
-use Rattle.ns_world.proofs.Below.{append_assoc, fresh_lawful, lawful_fresh, map-append, same_Some}
-use Rattle.std.proofs.Common.{◌≡◌, ℕ, zero, suc, ◌+◌, ◌-◌, ◌<◌, List, [], ◌∷◌, ◌++◌, None, Some, slice_get, subst, map, replicate, refl, sym, ap, ◌∙◌, arith, sub-one, get_or, length, ◌≤◌}
-use Rattle.ns_world.specs.Prelude.{AreNumbered, AsksFor, IfMade, IsLawfulWorld, NoteStanding, Seat, SeatView, Truths, flag_at, fresh, fresh_views, no_note, note_at, note_in, standing_of, state_of, view_of}
+use Rattle.ns_world.proofs.Below.{append_assoc, fresh_lawful, lawful_fresh, length-replicate, map-append, same_Some}
+use Rattle.std.proofs.Common.{◌≡◌, ℕ, zero, suc, ◌+◌, ◌-◌, ◌<◌, List, [], ◌∷◌, ◌++◌, Option, None, Some, slice_get, subst, map, replicate, refl, sym, ap, ◌∙◌, arith, sub-one, get_or, length, ◌≤◌}
+use Rattle.ns_world.specs.Prelude.{AreNumbered, AsksFor, EnvWalk, IfMade, IsLawfulWorld, NoteStanding, Seat, SeatView, Truths, flag_at, fresh, fresh_views, no_note, note_at, note_in, standing_of, state_of, view_of}
 
 pub views_next : {C : Type 0} {N : ℕ} (first n : ℕ) → 0 < n → fresh_views {C = C} {N = N} first n ≡ record { seat = first; walk = None; held = None; owed = [] } ∷ fresh_views (first + 1) (n - 1)
 views_next first zero some = absurd (omega arith)
@@ -39,10 +39,6 @@ no_note_of (suc n) (suc note) = no_note_of n note
 pub no_notes : ◌≡◌ {A = ℕ → NoteStanding} (note_at (replicate 64 (state_of no_note))) (λ note. no_note)
 no_notes i note = no_note_of 64 note i
 
-many : {A : Type 0} (x : A) (n : ℕ) → length (replicate n x) ≡ n
-many x zero = refl
-many x (suc n) = ap suc (many x n)
-
 module _ (C : Type 0) (N : ℕ) where
   pub length_views : (first n : ℕ) → length (fresh_views {C = C} {N = N} first n) ≡ n
   length_views first zero = refl
@@ -66,7 +62,7 @@ module _ (C : Type 0) (N : ℕ) where
     few = rw (length_views 0 n) few;
     numbered = numbered 0 n;
     lawful = rw (length_views 0 n) (lawful_fresh C N truths n few);
-    as_many = many None n ∙ sym (length_views 0 n);
+    as_many = length-replicate {A = Option EnvWalk} n None ∙ sym (length_views 0 n);
     right = λ seat view asking at asks. subst (λ w. AsksFor w asking) (sym (no_walk 0 n seat view at)) tt;
     noted = λ seat view at. subst (λ w. IfMade (fresh {C = C} {N = N} truths n).env.notes (note_in w)) (sym (no_walk 0 n seat view at)) tt;
     events = [];

@@ -7,6 +7,7 @@ pub mod EnvGrows
 pub mod Fresh
 pub mod Looking
 pub mod Mapped
+pub mod Others
 pub mod Placed
 pub mod Places
 pub mod Released
@@ -22,4 +23,5 @@ pub mod Walks
 pub mod WholeCalls
 pub mod WholeLed
 pub mod Wholes
+pub mod WorldLaw
 pub mod Worlds

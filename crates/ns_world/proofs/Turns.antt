@@ -6,7 +6,7 @@ use Rattle.ns_world.specs.Prelude.{AnyWait, Ask, Call, Commits, EnvNext, Fault, 
 use Rattle.ns_world.specs.Prelude.{NoSuchSeat, Nothing, Now, ObjectWalk, OnCondition, OnEntry, OnLock, OnObjects, OutOfMemory, Progress, QuietCells, QuietLast, SeatView, Start, Step, StepLimit, TestCells}
 use Rattle.ns_world.specs.Prelude.{TestLast, ToRelease, TooManySeats, TurnOf, TurnsWith, UnlockQuiet, Wait, Went, Whole, WholeFault, WholeIsBusy, WholeIsIdle, WholeMoves, WholeStarts, WholeStep, Word, begun_at, env_got_of, is_asking, is_busy, is_walking}
 use Rattle.ns_world.specs.Prelude.{Next, ObjectNext, On, env_step_of, got_of, object_got, object_step_of, step_of, step_told, mode_of, mode_waited, object_start, progress, progressed, start_of, walk_in, want_of, whole_busy}
-use Rattle.ns_world.proofs.Busy.{or_true, both, walking_at, walking_set_same, walking_set_other, asking_at, asking_set_same, asking_set_other}
+use Rattle.ns_world.proofs.Busy.{or_true, both, walking_at, walking_set_same, asking_at, asking_set_same}
 use Rattle.ns_counters.specs.declared.walk.ObjectNext.TheVariants as TheObject
 
 -- the first step of a call may commit an event
@@ -30,16 +30,14 @@ starts_apart {C} N mode UnlockQuiet seat word lists p = quiet_apart C N (nat_lt 
 starts_apart N mode (Wait c limits) seat word lists p = wait_apart N (mode_waited mode) c limits (nat_lt 0 (N - 1)) seat word lists p
 starts_apart N mode other seat word lists p = p
 
--- a call begins on counters and once cells just where its first place is there
-abbrev pub Pairs : {C : Type 0} → Start C → Option ObjectWalk → Type 0
-Pairs (OnLock walk) None = Unit {0}
-Pairs (Ask walk) None = Unit {0}
-Pairs (OnObjects walk) (Some place) = Unit {0}
-Pairs start place = ⊥
+-- the place on counters and once cells at which a call begins, if it is one on them
+abbrev pub place_of : {C : Type 0} → Start C → Option ObjectWalk
+place_of (OnObjects walk) = Some walk
+place_of start = None
 
-pub pairs : {C : Type 0} (N : ℕ) (mode : Option Mode) (call : Call C) → Pairs (start_of N mode call) (object_start call)
-pairs N mode Lock = tt
-pairs N mode other = tt
+pub placed_by : {C : Type 0} (N : ℕ) (mode : Option Mode) (call : Call C) → place_of (start_of N mode call) ≡ object_start call
+placed_by N mode Lock = refl
+placed_by N mode other = refl
 
 -- what holds of an answer's value, and of its fault, as something else
 pub map_ok : {X E : Type 0} {P Q : X → Type 0} (r : Result X E) → ((x : X) → P x → Q x) → IfOk r P → IfOk r Q
@@ -104,18 +102,11 @@ module _ {C : Type 0} {N : ℕ} where
   is_idle_of world seat idle = both world.state.views world.asking seat false false (walking_at world.state.views seat idle.view idle.at ∙ ap is_some idle.idle) (asking_at world.asking seat None idle.unasked)
 
   -- a seat that is put at the first place of a call is busy, and no other is more or less so
-  begun_busy : (old : Now C N) (seat : ℕ) (view : SeatView C N) (start : Start C) (place : Option ObjectWalk) → Pairs start place → slice_get old.state.views seat ≡ Some view → slice_get old.asking seat ≡ Some None →
-      (is_busy (begun_at old seat view start).state.views (begun_at old seat view start).asking seat || is_some place) ≡ true
-  begun_busy old seat view (OnLock walk) place pair at asks = ap (λ b. (b || is_asking old.asking seat) || is_some place) (walking_set_same old.state.views seat (record view { walk = Some walk }) (slice_get_within old.state.views seat view at))
-  begun_busy old seat view (Ask walk) place pair at asks = ap (λ b. b || is_some place) (ap (λ b. is_walking old.state.views seat || b) (asking_set_same old.asking seat (Some walk) (slice_get_within old.asking seat None asks)) ∙ or_true (is_walking old.state.views seat))
-  begun_busy old seat view (OnObjects walk) (Some place) pair at asks = or_true (is_busy old.state.views old.asking seat)
-  begun_busy old seat view (OnObjects walk) None pair at asks = absurd pair
-
-  pub begun_others : (old : Now C N) (seat : ℕ) (view : SeatView C N) (start : Start C) (other : ℕ) → other ≢ seat →
-      is_busy (begun_at old seat view start).state.views (begun_at old seat view start).asking other ≡ is_busy old.state.views old.asking other
-  begun_others old seat view (OnLock walk) other ne = ap (λ b. b || is_asking old.asking other) (walking_set_other old.state.views seat (record view { walk = Some walk }) other ne)
-  begun_others old seat view (Ask walk) other ne = ap (λ b. is_walking old.state.views other || b) (asking_set_other old.asking seat (Some walk) other ne)
-  begun_others old seat view (OnObjects walk) other ne = refl
+  begun_busy : (old : Now C N) (seat : ℕ) (view : SeatView C N) (start : Start C) → slice_get old.state.views seat ≡ Some view → slice_get old.asking seat ≡ Some None →
+      (is_busy (begun_at old seat view start).state.views (begun_at old seat view start).asking seat || is_some (place_of start)) ≡ true
+  begun_busy old seat view (OnLock walk) at asks = ap (λ b. (b || is_asking old.asking seat) || false) (walking_set_same old.state.views seat (record view { walk = Some walk }) (slice_get_within old.state.views seat view at))
+  begun_busy old seat view (Ask walk) at asks = ap (λ b. b || false) (ap (λ b. is_walking old.state.views seat || b) (asking_set_same old.asking seat (Some walk) (slice_get_within old.asking seat None asks)) ∙ or_true (is_walking old.state.views seat))
+  begun_busy old seat view (OnObjects walk) at asks = or_true (is_busy old.state.views old.asking seat)
 
   pub begun_stays : (old : Now C N) (seat : ℕ) (view : SeatView C N) (start : Start C) → length (begun_at old seat view start).state.views ≡ length old.state.views
   begun_stays old seat view (OnLock walk) = length-set old.state.views seat _
@@ -141,8 +132,8 @@ module _ {C : Type 0} {N : ℕ} where
   pub started_busy : (old new : Whole C N) (seat : ℕ) (call : Call C) → WholeStarts old new seat call → whole_busy new seat ≡ true
   started_busy old new seat call p =
       let s = p.starts in
-      (λ i. is_busy (s.begins i).state.views (s.begins i).asking seat || is_some (p.stands i))
-      ∙ begun_busy old.lock seat s.view (start_of N (mode_of s.view.held) call) (object_start call) (pairs N (mode_of s.view.held) call) s.at s.unasked
+      (λ i. is_busy (s.begins i).state.views (s.begins i).asking seat || is_some ((p.stands ∙ sym (placed_by N (mode_of s.view.held) call)) i))
+      ∙ begun_busy old.lock seat s.view (start_of N (mode_of s.view.held) call) s.at s.unasked
 
   -- a step of the call in progress, whatever would have come next
   pub turns_going : (next : Option (Call C)) (old new : Whole C N) (seat : ℕ) (step : Step) → step ≢ Nothing → WholeStep old new seat step → TurnsWith next old seat step new

@@ -1,22 +1,22 @@
 -- From its beginning to its answer a call is under way, whatever others do, and its answer means what it says.
 use Rattle.std.specs.Prelude.{slice_get}
-use Rattle.std.proofs.Common.{◌≡◌, ◌≢◌, inl, inr, ℕ, List, [], ◌++◌, Option, None, Some, slice_set, refl, ap, sym, ◌∙◌, subst, Bool, true, false, length}
-use Rattle.ns_world.proofs.Below.{append-nil, append_assoc, begins_itself, begins_through, env_own-append, env_own_all, looks_by_asked, quiet_asks, quiet_is_first, same_Some, set_here, set_there, slice_get_within, test_asks, wait_is_first}
-use Rattle.ns_world.specs.Prelude.{Act, Acts, Add, Advance, AnswersOfLock, AnswersOfNotes, Any, AreBy, Ask, Asked, Asks, AsksFor, AtSomePoint, BeginsWith, Call, CallFits, CallGoes, Cause, ClockLoad, CounterWait, Course, CvWait, Done, Effect, EnvCourse, EnvEvent, EnvGoes}
-use Rattle.ns_world.specs.Prelude.{EnvGoesOn, EnvNext, EnvPlain, EnvRequest, EnvSoFar, EnvWalk, Event, Expiry, Finished, ForLook, Found, Go, Goes, GoesOn, Held, IfMade, InWait, IsFirst, IsFirstAsk, IsLawfulWorld, IsNotified}
+use Rattle.std.proofs.Common.{◌≡◌, inl, inr, ℕ, List, [], ◌++◌, Option, None, Some, slice_set, refl, ap, sym, ◌∙◌, subst, Bool, true, false, length}
+use Rattle.ns_world.proofs.Below.{append-nil, append_assoc, begins_itself, begins_through, env_own-append, env_own_all, looks_by_asked, quiet_asks, quiet_is_first, same_Some, set_here, slice_get_within, test_asks, wait_is_first}
+use Rattle.ns_world.specs.Prelude.{Act, Acts, Advance, AnswersOfLock, AnswersOfNotes, Any, AreBy, Ask, Asked, Asks, AsksFor, AtSomePoint, BeginsWith, Call, CallFits, CallGoes, Cause, ClockLoad, Course, CvWait, Done, Effect, EnvCourse, EnvEvent, EnvGoes}
+use Rattle.ns_world.specs.Prelude.{EnvGoesOn, EnvNext, EnvRequest, EnvSoFar, EnvWalk, Event, Expiry, Finished, ForLook, Found, Go, Goes, GoesOn, Held, IfMade, InWait, IsFirst, IsFirstAsk, IsLawfulWorld, IsNotified}
 use Rattle.ns_world.specs.Prelude.{LedTo, Limits, Lock, Look, LookFits, LookGoes, LookMeans, LookOver, Looked, Means, Mode, Moves, NewNote, Next, NoteLoad, NoteStanding, NoteWait, Notify, Now, OfLock, OfNotes, OfObjects, On, OnCondition, OnEntry, OnLock}
-use Rattle.ns_world.specs.Prelude.{OnObjects, OnVariables, Once, Only, Owed, Part, RLock, Reply, Request, SeatView, Setup, Shows, SoFar, Start, Starts, Step, Subject, ToRelease, Truths, UnlockQuiet, Value, Wait, WaitAny}
+use Rattle.ns_world.specs.Prelude.{OnObjects, OnVariables, Only, Owed, Part, RLock, Reply, Request, SeatView, Setup, Shows, SoFar, Start, Starts, Step, Subject, ToRelease, Truths, UnlockQuiet, Wait}
 use Rattle.ns_world.specs.Prelude.{Walk, WasShown, asked_of, asks_of, begun_at, course_after, course_from, env_asked_of, env_course_after, env_course_at, env_done, env_got_of, env_own, env_state, env_step_of, env_walk_after, env_want_of, got_of, held_at, held_in, is_for_any}
 use Rattle.ns_world.specs.Prelude.{limits_for, limits_of, look_of, looked_after, looks_at, mode_of, mode_waited, note_in, own, part_of, row_after, start_of, step_of, waits_among, walk_after, want_of}
 use Rattle.ns_word.proofs.Courses.{takes_on, begins_unchanged}
 use Rattle.ns_env.proofs.Chains.{looked_shows}
 use Rattle.ns_env.proofs.Courses.{begins_course, others_leave_course, step_takes_on}
-use Rattle.ns_word.proofs.ToldAfter.{own_append, own_none, step_by, own_all}
+use Rattle.ns_word.proofs.ToldAfter.{own_append, step_by, own_all}
 use Rattle.ns_env.specs.declared.walk.EnvNext.TheVariants.{Repeat, Over}
 use Rattle.ns_word.specs.declared.walk.Next.TheVariants.{Done}
-use Rattle.ns_world.proofs.EnvGrows.{events_by}
+use Rattle.ns_world.proofs.EnvGrows.{env_begins, events_by}
+use Rattle.ns_world.proofs.Others.{Untouched, same_world}
 use Rattle.ns_world.proofs.Looking.{FirstIf, first_if, noted}
-use Rattle.ns_world.proofs.Worlds.{env_begins}
 use Rattle.ns_env.specs.declared.request.EnvRequest.TheVariants as TheEnvRequest
 use Rattle.ns_word.specs.declared.walk.Next.TheVariants as TheNext
 
@@ -169,14 +169,7 @@ module _ (C : Type 0) (N : ℕ) (before : Now C N) (earlier : List EnvEvent) (se
 
   -- ---- what others do
 
-  -- nothing of the seat has changed
-  pub record Untouched (old new : Now C N) : Type 0 where
-    pub views : slice_get new.state.views seat ≡ slice_get old.state.views seat
-    pub asking : slice_get new.asking seat ≡ slice_get old.asking seat
-    pub own_same : own new.history seat ≡ own old.history seat
-    pub means : new.truths ≡ old.truths
-
-  lock_rests : (request : Request C) (events more : List EnvEvent) (old new : Now C N) → Untouched old new → env_own (events ++ more) seat ≡ env_own events seat → LockUnderway request events old → LockUnderway request (events ++ more) new
+  lock_rests : (request : Request C) (events more : List EnvEvent) (old new : Now C N) → Untouched seat old new → env_own (events ++ more) seat ≡ env_own events seat → LockUnderway request events old → LockUnderway request (events ++ more) new
   lock_rests request events more old new same own_same u = record {
     view = u.view;
     at = same.views ∙ u.at;
@@ -194,7 +187,7 @@ module _ (C : Type 0) (N : ℕ) (before : Now C N) (earlier : List EnvEvent) (se
     still = own_same ∙ u.still;
   }
 
-  notes_rest : (request : EnvRequest) (events more : List EnvEvent) (old new : Now C N) → Untouched old new → env_own (events ++ more) seat ≡ env_own events seat → NotesUnderway request events old → NotesUnderway request (events ++ more) new
+  notes_rest : (request : EnvRequest) (events more : List EnvEvent) (old new : Now C N) → Untouched seat old new → env_own (events ++ more) seat ≡ env_own events seat → NotesUnderway request events old → NotesUnderway request (events ++ more) new
   notes_rest request events more old new same own_same u = record {
     view = u.view;
     at = same.views ∙ u.at;
@@ -211,54 +204,20 @@ module _ (C : Type 0) (N : ℕ) (before : Now C N) (earlier : List EnvEvent) (se
     no_look = u.no_look;
   }
 
-  elsewhere_rests : (events more : List EnvEvent) (old new : Now C N) → Untouched old new → env_own (events ++ more) seat ≡ env_own events seat → Elsewhere events old → Elsewhere (events ++ more) new
+  elsewhere_rests : (events more : List EnvEvent) (old new : Now C N) → Untouched seat old new → env_own (events ++ more) seat ≡ env_own events seat → Elsewhere events old → Elsewhere (events ++ more) new
   elsewhere_rests events more old new same own_same u = record { view = u.view; at = same.views ∙ u.at; same = u.same; silent = same.own_same ∙ u.silent; still = own_same ∙ u.still }
 
-  pub rests : (asked : Asked C) (events more : List EnvEvent) (old new : Now C N) → Untouched old new → env_own (events ++ more) seat ≡ env_own events seat → Underway asked events old → Underway asked (events ++ more) new
+  pub rests : (asked : Asked C) (events more : List EnvEvent) (old new : Now C N) → Untouched seat old new → env_own (events ++ more) seat ≡ env_own events seat → Underway asked events old → Underway asked (events ++ more) new
   rests (OfLock request) events more old new same own_same u = lock_rests request events more old new same own_same u
   rests (OfNotes request) events more old new same own_same u = notes_rest request events more old new same own_same u
   rests (OfObjects asked) events more old new same own_same u = elsewhere_rests events more old new same own_same u
 
-  pub rests_look : (P : Option (Option Cause) → Type 0) (asked : Asked C) (events more : List EnvEvent) (old new : Now C N) (same : Untouched old new) (own_same : env_own (events ++ more) seat ≡ env_own events seat) (u : Underway asked events old) →
+  pub rests_look : (P : Option (Option Cause) → Type 0) (asked : Asked C) (events more : List EnvEvent) (old new : Now C N) (same : Untouched seat old new) (own_same : env_own (events ++ more) seat ≡ env_own events seat) (u : Underway asked events old) →
       LooksAs P asked events old u → LooksAs P asked (events ++ more) new (rests asked events more old new same own_same u)
   unfolding rests lock_rests
   rests_look P (OfLock request) events more old new same own_same u looks = looks
   rests_look P (OfNotes request) events more old new same own_same u looks = tt
   rests_look P (OfObjects asked) events more old new same own_same u looks = tt
-
-  -- another seat's step on the lock
-  goes_there : (old new : Now C N) (other : ℕ) (step : Step) → other ≢ seat → Goes old new other step → Untouched old new
-  goes_there old new other step ne p = record {
-    views = ap (λ vs. slice_get vs seat) p.others ∙ set_there old.state.views other seat _ (λ e. ne (sym e));
-    asking = ap (λ xs. slice_get xs seat) p.asking ∙ set_there old.asking other seat _ (λ e. ne (sym e));
-    own_same = ap (λ h. own h seat) p.grows ∙ own_append seat old.history p.commits ∙ ap (λ es. own old.history seat ++ es) (own_none p.view.seat seat p.commits (λ e. ne (sym p.number ∙ e)) (step_by old.truths old.state p.view p.found new.state p.commits p.makes))
-        ∙ append-nil (own old.history seat);
-    means = p.means;
-  }
-
-  -- a change of another seat's place on the clock and the notes
-  asks_there : (old : Now C N) (env : EnvPlain) (other : ℕ) (ask : Option EnvWalk) → other ≢ seat → Untouched old (record old { env = env; asking = slice_set old.asking other ask })
-  asks_there old env other ask ne = record { views = refl; asking = set_there old.asking other seat ask (λ e. ne (sym e)); own_same = refl; means = refl }
-
-  pub moves_there : (old new : Now C N) (other : ℕ) (step : Step) → other ≢ seat → Moves old new other step → Untouched old new
-  moves_there old new other step ne (inl p) = goes_there old new other step ne p.goes
-  moves_there old new other step ne (inr (inl p)) =
-      let asking : new.asking ≡ slice_set old.asking other (env_walk_after (env_got_of p.makes.walk p.found)) = p.makes.becomes in
-      let is : new ≡ record old { env = new.env; asking = slice_set old.asking other (env_walk_after (env_got_of p.makes.walk p.found)) } = p.others ∙ ap (λ xs. record old { env = new.env; asking = xs }) asking in
-      subst (λ world. Untouched old world) (sym is) (asks_there old new.env other (env_walk_after (env_got_of p.makes.walk p.found)) ne)
-  moves_there old new other step ne (inr (inr p)) = looks_there (env_got_of p.place p.found) p.goes where
-    looks_there : (next : EnvNext) → LookGoes next old new other step → Untouched old new
-    looks_there (Go next) q = subst (λ world. Untouched old world) (sym q.0) (asks_there old old.env other (Some next) ne)
-    looks_there (LookOver cause) q = goes_there old new other step ne q.0
-    looks_there next q = absurd q
-
-  -- another seat begins a call
-  pub begin_there : (setup : Setup) (old new : Now C N) (other : ℕ) (call : Call C) → other ≢ seat → Starts setup old new other call → Untouched old new
-  begin_there setup old new other call ne p = subst (λ world. Untouched old world) (sym p.begins) (at_start (start_of N (mode_of p.view.held) call)) where
-    at_start : (start : Start C) → Untouched old (begun_at old other p.view start)
-    at_start (OnLock walk) = record { views = set_there old.state.views other seat _ (λ e. ne (sym e)); asking = refl; own_same = refl; means = refl }
-    at_start (Ask walk) = record { views = refl; asking = set_there old.asking other seat _ (λ e. ne (sym e)); own_same = refl; means = refl }
-    at_start (OnObjects walk) = record { views = refl; asking = refl; own_same = refl; means = refl }
 
   -- ---- the seat's own step
 
@@ -451,9 +410,6 @@ module _ (C : Type 0) (N : ℕ) (before : Now C N) (earlier : List EnvEvent) (se
   pub no_more : (events : List EnvEvent) → env_own (events ++ []) seat ≡ env_own events seat
   no_more events = ap (λ es. env_own es seat) (append-nil events)
 
-  pub same_world : (world : Now C N) → Untouched world world
-  same_world world = record { views = refl; asking = refl; own_same = refl; means = refl }
-
   -- a step that is no look of its own leaves what was shown
   shown_by : (events : List EnvEvent) (b : Bool) {among : Bool} → among ≡ b → (o : Option Limits) (was now : Option (Option Cause)) → (among ≡ false → now ≡ was) → (among ≡ true → o ≡ None) → WasShown earlier events o was → WasShown earlier events o now
   shown_by events true is o was now same none shown = shown_none earlier events o now (none is)
@@ -464,7 +420,7 @@ module _ (C : Type 0) (N : ℕ) (before : Now C N) (earlier : List EnvEvent) (se
       (o : Outcome (OfLock request) step (events ++ []) new) × HasLooked request step (events ++ []) new o (looked_after p.goes.found u.course.looked)
   unfolding lock_rests
   acts_on request none events old new step lawful since u p =
-      lock_goes request (events ++ []) old new step lawful (begins_on earlier events [] since) (lock_rests request events [] old old (same_world old) (no_more events) u) p.goes (shown_none earlier (events ++ []) (limits_of request) (looked_after p.goes.found u.course.looked) none)
+      lock_goes request (events ++ []) old new step lawful (begins_on earlier events [] since) (lock_rests request events [] old old (same_world seat old) (no_more events) u) p.goes (shown_none earlier (events ++ []) (limits_of request) (looked_after p.goes.found u.course.looked) none)
 
   -- where it wants no look, it shows nothing
   pub acts_show_not : (old new : Now C N) (step : Step) (p : Acts old new seat step) (looked : Option (Option Cause)) → looks_at (want_of p.goes.makes.walk) ≡ None → looked_after p.goes.found looked ≡ looked
@@ -476,7 +432,7 @@ module _ (C : Type 0) (N : ℕ) (before : Now C N) (earlier : List EnvEvent) (se
   lock_moves : (request : Request C) (events : List EnvEvent) (old new : Now C N) (step : Step) → IsLawfulWorld old → LedTo events old → BeginsWith events earlier → LockUnderway request events old → (p : Moves old new seat step) → Outcome (OfLock request) step (events ++ env_done p) new
   unfolding lock_rests
   lock_moves request events old new step lawful led since u (inl p) =
-      let now = lock_rests request events [] old old (same_world old) (no_more events) u in
+      let now = lock_rests request events [] old old (same_world seat old) (no_more events) u in
       let same : waits_among p.goes.makes.walk ≡ false → looked_after p.goes.found u.course.looked ≡ u.course.looked = λ not. acts_show_not old new step p u.course.looked (p.is_no_look not) in
       let view_is : p.goes.view ≡ u.view = same_Some _ _ (sym p.goes.at ∙ u.at) in
       let walk_is : p.goes.makes.walk ≡ u.walk = same_Some _ _ (sym p.goes.makes.walks ∙ ap (λ v. v.walk) view_is ∙ u.walks) in
@@ -494,7 +450,7 @@ module _ (C : Type 0) (N : ℕ) (before : Now C N) (earlier : List EnvEvent) (se
       let for : AsksFor (Some u.walk) (Some p.place) = subst (λ w. AsksFor w (Some p.place)) u.walks (lawful.right seat u.view (Some p.place) u.at p.stands) in
       let next = env_got_of p.place p.found in
       let goes = step_takes_on events [] (env_state old.env old.asking) (env_state old.env (slice_set old.asking seat (env_walk_after next))) seat p.found look.0 (record { walk = p.place; walks = p.stands; effect = p.effect; becomes = refl }) led look.2 in
-      look_goes request (events ++ []) old new step lawful (begins_on earlier events [] since) (lock_rests request events [] old old (same_world old) (no_more events) u) u.walk u.view (env_course_after [] look.0) (env_asked_of p.place) for.0 next
+      look_goes request (events ++ []) old new step lawful (begins_on earlier events [] since) (lock_rests request events [] old old (same_world seat old) (no_more events) u) u.walk u.view (env_course_after [] look.0) (env_asked_of p.place) for.0 next
       (limits_are u.walk request for.0 u.asked for.1) (place_asks for.0 p.place for.2) look.1 goes p.goes
 
   -- of a call on the clock and the notes
@@ -524,7 +480,7 @@ module _ (C : Type 0) (N : ℕ) (before : Now C N) (earlier : List EnvEvent) (se
   abbrev IsAskedAt : Asked C → Start C → Type 0
   IsAskedAt (OfLock request) (OnLock walk) = asked_of walk ≡ request
   IsAskedAt (OfNotes request) (Ask walk) = (env_asked_of walk ≡ request) × IsNoLook request
-  IsAskedAt (OfObjects asked) (OnObjects walk) = Unit {0}
+  IsAskedAt (OfObjects asked) (OnObjects walk) = walk ≡ asked
   IsAskedAt asked start = ⊥
 
   asked_at : (mode : Option Mode) (call : Call C) → IsAskedAt (asks_of mode call) (start_of N mode call)
@@ -536,12 +492,6 @@ module _ (C : Type 0) (N : ℕ) (before : Now C N) (earlier : List EnvEvent) (se
   asked_at mode (IsNotified note) = (refl, tt)
   asked_at mode (Expiry note) = (refl, tt)
   asked_at mode (NoteWait note deadline) = (refl, tt)
-  asked_at mode (Add counter delta) = tt
-  asked_at mode (Value counter) = tt
-  asked_at mode (CounterWait counter deadline) = tt
-  asked_at mode (Once once) = tt
-  asked_at mode (Done once) = tt
-  asked_at mode (WaitAny items deadline) = tt
   asked_at mode other = refl
 
   -- it is a first place
@@ -574,24 +524,29 @@ module _ (C : Type 0) (N : ℕ) (before : Now C N) (earlier : List EnvEvent) (se
       let mode = mode_of p.view.held in
       subst (λ world. LedTo events world) (sym p.begins) (begins_led events old who p.view (start_of N mode call) p.unasked (first_at setup old.env.notes mode call p.fits) led)
 
-  -- a call has come so far as it begins
-  starts_at : (asked : Asked C) (start : Start C) (view : SeatView C N) → IsAskedAt asked start → IsFirstAt before.env.notes start → slice_get before.state.views seat ≡ Some view → view.walk ≡ None → slice_get before.asking seat ≡ Some None → Underway asked earlier (begun_at before seat view start)
-  starts_at (OfLock request) (OnLock walk) view asked first at idle unasked = record {
+  -- a call has come so far on the lock as it begins there, or goes on to it
+  begun_lock : (request : Request C) (events : List EnvEvent) (old : Now C N) (view : SeatView C N) (walk : Walk C) → asked_of walk ≡ request → IsFirst N walk → slice_get old.state.views seat ≡ Some view → slice_get old.asking seat ≡ Some None →
+      view.held ≡ held_at before seat → own old.history seat ≡ own before.history seat → env_own events seat ≡ env_own earlier seat → LockUnderway request events (begun_at old seat view (OnLock walk))
+  begun_lock request events old view walk asked first at unasked same silent still = record {
     view = record view { walk = Some walk };
-    at = set_here before.state.views seat (record view { walk = Some walk }) (slice_get_within before.state.views seat view at);
+    at = set_here old.state.views seat (record view { walk = Some walk }) (slice_get_within old.state.views seat view at);
     walk = walk;
     walks = refl;
     asked = asked;
     course = course_from view.held;
-    began = sym (ap held_in at);
-    added = sym (append-nil (own before.history seat));
-    so_far = begins_unchanged C N before.truths seat view.held walk first;
+    began = same;
+    added = silent ∙ sym (append-nil (own before.history seat));
+    so_far = begins_unchanged C N old.truths seat view.held walk first;
     shown = tt;
     asking = None;
     asks = unasked;
     looking = tt;
-    still = refl;
+    still = still;
   }
+
+  -- a call has come so far as it begins
+  starts_at : (asked : Asked C) (start : Start C) (view : SeatView C N) → IsAskedAt asked start → IsFirstAt before.env.notes start → slice_get before.state.views seat ≡ Some view → view.walk ≡ None → slice_get before.asking seat ≡ Some None → Underway asked earlier (begun_at before seat view start)
+  starts_at (OfLock request) (OnLock walk) view asked first at idle unasked = begun_lock request earlier before view walk asked first at unasked (sym (ap held_in at)) refl refl
   starts_at (OfNotes request) (Ask walk) view asked first at idle unasked = record {
     view = view;
     at = at;
@@ -616,28 +571,11 @@ module _ (C : Type 0) (N : ℕ) (before : Now C N) (earlier : List EnvEvent) (se
   pub goes_to_lock : (request : Request C) (events : List EnvEvent) (old new : Now C N) (view : SeatView C N) (walk : Walk C) → asked_of walk ≡ request → IsFirst N walk → slice_get old.state.views seat ≡ Some view →
       slice_get old.asking seat ≡ Some None → new ≡ begun_at old seat view (OnLock walk) → Elsewhere events old →
       (u : LockUnderway request (events ++ []) new) × (u.course.looked ≡ None)
+  unfolding begun_lock
   goes_to_lock request events old new view walk asked first at unasked is u =
-      let view_is : u.view ≡ view = same_Some _ _ (sym u.at ∙ at) in
-      let same : view.held ≡ held_at before seat = ap (λ (v : SeatView C N). v.held) (sym view_is) ∙ u.same in
-      subst (λ (world : Now C N). (u : LockUnderway request (events ++ []) world) × (u.course.looked ≡ None)) (sym is) (
-        record {
-          view = record view { walk = Some walk };
-          at = set_here old.state.views seat (record view { walk = Some walk }) (slice_get_within old.state.views seat view at);
-          walk = walk;
-          walks = refl;
-          asked = asked;
-          course = course_from view.held;
-          began = same;
-          added = u.silent ∙ sym (append-nil (own before.history seat));
-          so_far = begins_unchanged C N old.truths seat view.held walk first;
-          shown = tt;
-          asking = None;
-          asks = unasked;
-          looking = tt;
-          still = no_more events ∙ u.still;
-        },
-        refl,
-      )
+      let same : view.held ≡ held_at before seat = ap (λ (v : SeatView C N). v.held) (same_Some _ _ (sym at ∙ u.at)) ∙ u.same in
+      subst (λ (world : Now C N). (u : LockUnderway request (events ++ []) world) × (u.course.looked ≡ None)) (sym is)
+      (begun_lock request (events ++ []) old view walk asked first at unasked same u.silent (no_more events ∙ u.still), refl)
 
   -- these events have led to a world in which the call is under way, and this holds of what its last look on the lock has shown
   pub record IsUnderway (P : Option (Option Cause) → Type 0) (asked : Asked C) (events : List EnvEvent) (world : Now C N) : Type 0 where
@@ -659,7 +597,7 @@ module _ (C : Type 0) (N : ℕ) (before : Now C N) (earlier : List EnvEvent) (se
       }))
 
   -- it is so still where nothing of the seat has changed, and it has done nothing
-  pub stays_underway : (P : Option (Option Cause) → Type 0) (asked : Asked C) (events more : List EnvEvent) (old new : Now C N) → Untouched old new → env_own (events ++ more) seat ≡ env_own events seat → LedTo (events ++ more) new →
+  pub stays_underway : (P : Option (Option Cause) → Type 0) (asked : Asked C) (events more : List EnvEvent) (old new : Now C N) → Untouched seat old new → env_own (events ++ more) seat ≡ env_own events seat → LedTo (events ++ more) new →
       IsUnderway P asked events old → IsUnderway P asked (events ++ more) new
   stays_underway P asked events more old new same own_same led u = record {
     since = begins_on earlier events more u.since;

@@ -1,6 +1,6 @@
 -- What the exchanges do that put the queues back, over plain data.
 use Rattle.std.proofs.Common.{◌≡◌, ◌≢◌, ℕ, not, ◌&&◌, Bool, true, false, List, [], ◌∷◌, ◌++◌, Option, None, Some, refl, ap, sym, ◌∙◌, is_some}
-use Rattle.std.specs.Prelude.{IfSome, IfOk, OnErr, if◌then◌else◌}
+use Rattle.std.specs.Prelude.{IfSome, MatchResult, if◌then◌else◌}
 use Rattle.std.specs.declared.result.Result.{Result}
 use Rattle.std.specs.declared.result.Result.TheVariants.{Ok, Err}
 use Rattle.ns_world.proofs.Below.{append-nil, some_seats}
@@ -73,15 +73,10 @@ fits_there seat other word row row' flags flags' held owed queues p = p
 
 -- ---- one that queues
 
--- a fact of a refusal, by another
-pub on_err : {A B P Q : Type 0} (r : Result A B) → (P → Q) → OnErr r P → OnErr r Q
-on_err (Ok x) f p = tt
-on_err (Err e) f p = f p
-
--- and of a value
-pub on_ok : {A B : Type 0} {P Q : A → Type 0} (r : Result A B) → ((x : A) → P x → Q x) → IfOk r P → IfOk r Q
-on_ok (Ok x) f p = f x p
-on_ok (Err e) f p = tt
+-- a fact of what may have been refused, by another
+pub on_both : {A B X Y : Type 0} {P Q : A → Type 0} (r : Result A B) → ((x : A) → P x → Q x) → (X → Y) → MatchResult r P (λ fault. X) → MatchResult r Q (λ fault. Y)
+on_both (Ok x) f h p = f x p
+on_both (Err e) f h p = h p
 
 -- where nothing is committed the history stays
 pub none_more : {C : Type 0} {N : ℕ} (held : Option (Held C N)) (h : List (Event C N)) → IfSome held (λ section. h ≡ h ++ [])

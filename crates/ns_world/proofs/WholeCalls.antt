@@ -1,23 +1,23 @@
 -- From its beginning to its answer a call in a whole world is under way, whatever others do, and its answer means what it says.
-use Rattle.ns_world.proofs.Below.{append-nil, append_assoc, begins_itself, cases_eq, env_own-append, env_own_none, first_place, made_begins, put_here, put_there, same_Some, set_there, some_among, stands_within, there_more, wait_is_first}
-use Rattle.std.proofs.Common.{◌≡◌, ◌≢◌, ℕ, zero, suc, List, [], ◌++◌, Option, None, Some, slice_set, refl, ap, sym, ◌∙◌, subst, inl, inr, ◌⊎◌, true, false, cond, Bool, is_some, ◌<◌}
+use Rattle.ns_world.proofs.Below.{append-nil, append_assoc, begins_itself, cases_eq, env_own-append, env_own_none, first_place, made_begins, put_here, same_Some, some_among, stands_within, there_more, wait_is_first}
+use Rattle.std.proofs.Common.{◌≡◌, ◌≢◌, ℕ, zero, suc, List, [], ◌++◌, Option, None, Some, slice_set, refl, ap, sym, ◌∙◌, subst, inl, inr, ◌⊎◌, true, false, cond, Bool, is_some, ◌<◌, length}
 use Rattle.std.specs.Prelude.{unwrap_or}
 use Rattle.ns_world.specs.Prelude.{Acts, Add, Answer, AnswersCall, AnswersOfLock, AnswersTo, Any, AnyAnswers, AnyMeans, AnyWait, AreAmong, AreEnvBy, AreObjectsBy, AreThere}
 use Rattle.ns_world.specs.Prelude.{Asked, BeginsToWait, BeginsWith, Call, CallFits, Cause, CounterWait, Cvs, Done, EndsLook, EnvEvent, Finished, FirstClock, Found}
 use Rattle.ns_world.specs.Prelude.{Happens, HasLedTo, HasOperated, HaveLedTo, HaveShownNothing, Held, Idle, InHand, InRound, IsIdle, IsLater, IsLawful, IsLawfulWhole, IsReady, IsUnfinished, LockSteps, LooksWhere, MayEnd, Means, Meanwhile, Mode, Next, Nothing, Number, ObjectEvent, ObjectGoes}
 use Rattle.ns_world.specs.Prelude.{ObjectNext, ObjectSoFar, ObjectWalk, Objects, OfLock, OfNotes, OfObjects, On, OnVariables, Once, Operates, Over, Past, PlaceBy, Repeat, Reply, Request, Round, RoundGo, RoundNext, RoundOver, RoundPlace, RoundShows, RoundSoFar, SeatView, Started, Step, Value}
 use Rattle.ns_world.specs.Prelude.{WaitAny, WaitMeans, WaitSteps, Walk, WalkFits, WalkReply, Went, WereThere, Whole, WholeBegins, WholeMoves, WholeStarts, WholeStep, asked_of, asks_of, at_will, by_round, cause_of, done_by, done_in, env_after, env_done, env_own, env_state, got_of, happened, held_at}
-use Rattle.ns_world.specs.Prelude.{held_in, is_among, is_for_lock, items_of, looked_after, looks_at, mode_of, mode_waited, notes_done, nothing_done, object_after, object_asked, object_got, object_start, object_step_of, objects_after, objects_begun, objects_done, objects_own, past_and, place_in}
-use Rattle.ns_world.specs.Prelude.{place_told, reply_of_lock, reply_told, round_due, round_got, row_after, shown_by, step_of, step_told, stood_at, wait_first, wait_in, waited_after, waits_for_any, walk_after, walk_in, want_of, woken_by}
+use Rattle.ns_world.specs.Prelude.{held_in, is_among, is_for_lock, items_of, looked_after, looks_at, mode_of, mode_waited, notes_done, nothing_done, object_after, object_asked, object_got, object_start, object_step_of, objects_after, objects_done, objects_own, past_and, place_in}
+use Rattle.ns_world.specs.Prelude.{place_told, reply_of_lock, reply_told, round_due, round_got, row_after, shown_by, step_of, step_told, wait_first, wait_in, waited_after, waits_for_any, walk_after, walk_in, want_of, woken_by}
 use Rattle.ns_counters.proofs.Objects.{own-append, own_all, own_none}
 use Rattle.ns_counters.proofs.Rounds.{last_nothing, later_itself, later_through}
 use Rattle.ns_counters.specs.declared.walk.ObjectNext.TheVariants.{Go}
-use Rattle.ns_world.proofs.Underway.{IsOfLock, IsUnderway, Outcome, Underway, Untouched, begin_there, begins_on, begins_underway, moves_on, moves_there}
-use Rattle.ns_world.proofs.Underway.{no_more as no_more_notes, not_idle, same_world, started_led, stays_underway, HasLooked, LockUnderway, acts_on, acts_show_not, goes_to_lock, looks_any}
-use Rattle.ns_world.proofs.Walks.{wait_there}
+use Rattle.ns_world.proofs.Underway.{IsOfLock, IsUnderway, Outcome, Underway, begins_on, begins_underway, moves_on}
+use Rattle.ns_world.proofs.Underway.{no_more as no_more_notes, not_idle, started_led, stays_underway, HasLooked, LockUnderway, acts_on, acts_show_not, goes_to_lock, looks_any}
 use Rattle.ns_world.proofs.WholeLed.{no_more, starts_led, steps_led, whole_led}
 use Rattle.ns_word.specs.declared.walk.Next.TheVariants.{Done}
-use Rattle.ns_world.proofs.Awaits.{leads, low_if, put_once, put_over, same_walk, setup_same, stands_here, there_as, waits_here}
+use Rattle.ns_world.proofs.Awaits.{leads, same_walk, there_as}
+use Rattle.ns_world.proofs.Others.{Still, low_walks, moves_still, over_stood, put_stood, starts_still, starts_stood, still_here}
 use Rattle.ns_world.proofs.Wholes.{begun_waits_not}
 use Rattle.ns_word.specs.declared.request.Request.TheVariants as TheRequest
 use Rattle.ns_word.specs.declared.walk.Next.TheVariants as TheNext
@@ -47,15 +47,6 @@ goes_after : {C : Type 0} (next : Next C) → IsUnfinished (step_of next) → (w
 goes_after (On walk) goes = (walk, refl)
 goes_after (TheNext.Idle walk) goes = (walk, refl)
 goes_after (Done reply) goes = absurd goes
-
--- a call that begins leaves what objects there are, and who waits on the lock for variables
-begun_setup : (objects : Objects) (who : ℕ) (place : Option ObjectWalk) → (objects_begun objects who place).setup ≡ objects.setup
-begun_setup objects who None = refl
-begun_setup objects who (Some walk) = refl
-
-begun_waits : (objects : Objects) (who : ℕ) (place : Option ObjectWalk) → wait_in (objects_begun objects who place).waits who ≡ wait_in objects.waits who
-begun_waits objects who None = refl
-begun_waits objects who (Some walk) = refl
 
 module _ (C : Type 0) (N : ℕ) (before : Whole C N) (earlier : Past) (seat : ℕ) where
   -- the wait on the lock that a call goes on to, for these variables
@@ -187,18 +178,8 @@ module _ (C : Type 0) (N : ℕ) (before : Whole C N) (earlier : Past) (seat : �
   others_env_own : (past more : List EnvEvent) (other : ℕ) → other ≢ seat → AreEnvBy other more → env_own (past ++ more) seat ≡ env_own past seat
   others_env_own past more other ne by = env_own-append past more seat ∙ ap (λ es. env_own past seat ++ es) (env_own_none other seat more ne by) ∙ append-nil (env_own past seat)
 
-  -- nothing of the seat has changed
-  record Still (old new : Whole C N) : Type 0 where
-    setup : new.objects.setup ≡ old.objects.setup
-    lock : Untouched C N before.lock earlier.notes seat old.lock new.lock
-    walks : walk_in new.objects.walks seat ≡ walk_in old.objects.walks seat
-    waits : wait_in new.objects.waits seat ≡ wait_in old.objects.waits seat
-
-  still_here : (world : Whole C N) → Still world world
-  still_here world = record { setup = refl; lock = same_world C N before.lock earlier.notes seat world.lock; walks = refl; waits = refl }
-
   -- so its call is under way still, where it has done nothing
-  stays_in : (phase : Phase) (past more : Past) (old new : Whole C N) → Still old new → HasLedTo (past_and past more) new → env_own (past.notes ++ more.notes) seat ≡ env_own past.notes seat →
+  stays_in : (phase : Phase) (past more : Past) (old new : Whole C N) → Still seat old new → HasLedTo (past_and past more) new → env_own (past.notes ++ more.notes) seat ≡ env_own past.notes seat →
       objects_own (past.objects ++ more.objects) seat ≡ objects_own past.objects seat → UnderwayIn phase past old → UnderwayIn phase (past_and past more) new
   stays_in phase past more old new still led notes objects u = record {
     setup = still.setup ∙ u.setup;
@@ -209,7 +190,7 @@ module _ (C : Type 0) (N : ℕ) (before : Whole C N) (earlier : Past) (seat : �
   }
 
   rests_in : (phase : Phase) (past : Past) (world : Whole C N) → UnderwayIn phase past world → UnderwayIn phase (past_and past nothing_done) world
-  rests_in phase past world u = stays_in phase past nothing_done world world (still_here world) (no_more past world (u.lock.led, u.led)) (no_more_notes C N before.lock earlier.notes seat past.notes) (no_own past.objects) u
+  rests_in phase past world u = stays_in phase past nothing_done world world (still_here seat world) (no_more past world (u.lock.led, u.led)) (no_more_notes C N before.lock earlier.notes seat past.notes) (no_own past.objects) u
 
   -- ---- a step of another, and the beginning of its call
 
@@ -217,72 +198,19 @@ module _ (C : Type 0) (N : ℕ) (before : Whole C N) (earlier : Past) (seat : �
     there : seat ≢ other
     there e = ne (sym e)
 
-    -- it begins to wait on the lock, or its look there is over
-    still_over : (told : Step) (walk : ObjectWalk) (then : Objects) (wait : Option AnyWait) → HasOperated old.lock.env other walk old.objects then told → new.objects ≡ stood_at then other None wait →
-        Untouched C N before.lock earlier.notes seat old.lock new.lock → Still old new
-    still_over told walk then wait q becomes lock = record {
-      setup = ap (λ (o : Objects). o.setup) becomes ∙ ap (λ (o : Objects). o.setup) q.becomes;
-      lock = lock;
-      walks = ap (λ (o : Objects). walk_in o.walks seat) becomes ∙ put_there then.walks other None seat there ∙ ap (λ (o : Objects). walk_in o.walks seat) q.becomes
-          ∙ put_there old.objects.walks other (object_after (object_got walk q.found)) seat there;
-      waits = ap (λ (o : Objects). wait_in o.waits seat) becomes ∙ wait_there then.waits other wait seat there ∙ ap (λ (o : Objects). wait_in o.waits seat) q.becomes;
-    }
-
-    -- its wait makes a step on the lock
-    still_waited : (wait : AnyWait) (walk : Option (Walk C)) → new.objects ≡ waited_after old.objects other wait walk → Untouched C N before.lock earlier.notes seat old.lock new.lock → Still old new
-    still_waited wait None becomes lock = record {
-      setup = ap (λ (o : Objects). o.setup) becomes;
-      lock = lock;
-      walks = ap (λ (o : Objects). walk_in o.walks seat) becomes ∙ put_there old.objects.walks other None seat there;
-      waits = ap (λ (o : Objects). wait_in o.waits seat) becomes ∙ wait_there old.objects.waits other None seat there;
-    }
-    still_waited wait (Some walk) becomes lock = record {
-      setup = ap (λ (o : Objects). o.setup) becomes;
-      lock = lock;
-      walks = ap (λ (o : Objects). walk_in o.walks seat) becomes ∙ put_there old.objects.walks other (round_due wait walk) seat there;
-      waits = ap (λ (o : Objects). wait_in o.waits seat) becomes ∙ wait_there old.objects.waits other (Some wait) seat there;
-    }
-
-    still_moves : (step : Step) → WholeMoves old new other step → Still old new
-    still_moves step (inl p) = record {
-      setup = ap (λ (o : Objects). o.setup) p.same;
-      lock = moves_there C N before.lock earlier.notes seat old.lock new.lock other step ne p.moves;
-      walks = ap (λ (o : Objects). walk_in o.walks seat) p.same;
-      waits = ap (λ (o : Objects). wait_in o.waits seat) p.same;
-    }
-    still_moves step (inr (inl p)) = record {
-      setup = ap (λ (o : Objects). o.setup) p.operated.becomes;
-      lock = subst (λ world. Untouched C N before.lock earlier.notes seat old.lock world) (sym p.same) (same_world C N before.lock earlier.notes seat old.lock);
-      walks = ap (λ (o : Objects). walk_in o.walks seat) p.operated.becomes ∙ put_there old.objects.walks other (object_after (object_got p.walk p.operated.found)) seat there;
-      waits = ap (λ (o : Objects). wait_in o.waits seat) p.operated.becomes;
-    }
-    still_moves step (inr (inr (inl p))) = still_over Idle (InRound p.round p.place) p.then _ p.operated p.becomes
-        (subst (λ w. Untouched C N before.lock earlier.notes seat old.lock w) (sym p.begins) (record { views = set_there old.lock.state.views other seat _ there; asking = refl; own_same = refl; means = refl }))
-    still_moves step (inr (inr (inr (inl p)))) = still_over p.told p.walk p.then _ p.operated p.becomes (moves_there C N before.lock earlier.notes seat old.lock new.lock other step ne (inl p.acts))
-    still_moves step (inr (inr (inr (inr p)))) = still_waited p.wait _ p.becomes (moves_there C N before.lock earlier.notes seat old.lock new.lock other p.told ne (inl p.acts))
-
-    still_begun : (place : Option ObjectWalk) → new.objects ≡ objects_begun old.objects other place → Untouched C N before.lock earlier.notes seat old.lock new.lock → Still old new
-    still_begun None becomes lock = record { setup = ap (λ (o : Objects). o.setup) becomes; lock = lock; walks = ap (λ (o : Objects). walk_in o.walks seat) becomes; waits = ap (λ (o : Objects). wait_in o.waits seat) becomes }
-    still_begun (Some walk) becomes lock = record {
-      setup = ap (λ (o : Objects). o.setup) becomes;
-      lock = lock;
-      walks = ap (λ (o : Objects). walk_in o.walks seat) becomes ∙ put_there old.objects.walks other (Some walk) seat there;
-      waits = ap (λ (o : Objects). wait_in o.waits seat) becomes;
-    }
-
     module _ (phase : Phase) (past : Past) (lawful : IsLawfulWhole old) (u : UnderwayIn phase past old) where
       step_there : (step : Step) (p : WholeStep old new other step) → UnderwayIn phase (past_and past (done_in old new other step p)) new
       step_there step p =
           let led = steps_led past old new other step lawful (u.lock.led, u.led) p in
           stays_in phase past (done_in old new other step p) old new (by p) led.2 (others_env_own past.notes (done_in old new other step p).notes other ne led.0) (others_own past.objects (done_in old new other step p).objects other ne led.1) u where
-            by : WholeStep old new other step → Still old new
-            by (inl q) = subst (Still old) (sym q.1) (still_here old)
-            by (inr q) = still_moves step q
+            by : WholeStep old new other step → Still seat old new
+            by (inl q) = subst (Still seat old) (sym q.1) (still_here seat old)
+            by (inr q) = moves_still old new other step q seat there
 
-      starts_there : (call : Call C) → IsLawfulWhole new → WholeStarts old new other call → UnderwayIn phase (past_and past nothing_done) new
-      starts_there call now_lawful p =
-          let led : HasLedTo past new = (started_led C N before.lock earlier.notes seat old.objects.setup past.notes old.lock new.lock other call p.starts u.lock.led, starts_led past.objects old new other call lawful now_lawful p u.led) in
-          stays_in phase past nothing_done old new (still_begun (object_start call) p.becomes (begin_there C N before.lock earlier.notes seat old.objects.setup old.lock new.lock other call ne p.starts)) (no_more past new led)
+      starts_there : (call : Call C) → WholeStarts old new other call → UnderwayIn phase (past_and past nothing_done) new
+      starts_there call p =
+          let led : HasLedTo past new = (started_led C N before.lock earlier.notes seat old.objects.setup past.notes old.lock new.lock other call p.starts u.lock.led, starts_led past.objects old new other call lawful p u.led) in
+          stays_in phase past nothing_done old new (starts_still old new other call p seat there) (no_more past new led)
           (no_more_notes C N before.lock earlier.notes seat past.notes) (no_own past.objects) u
 
   -- ---- the seat's own step
@@ -441,14 +369,14 @@ module _ (C : Type 0) (N : ℕ) (before : Whole C N) (earlier : Past) (seat : �
         by (RoundOver (Some at)) answers goes there untouched led = absurd (cc)
         by (RoundOver None) answers goes there untouched led =
             let wait : Option AnyWait = Some (record { round = p.round; shown = None }) in
-            let put = put_over old new seat lawful (InRound p.round p.place) p.walks p.then Idle p.operated wait p.becomes in
+            let put = over_stood old new seat lawful (InRound p.round p.place) p.walks p.then Idle p.operated wait p.becomes in
             record {
-              setup = setup_same old new seat lawful put ∙ u.setup;
+              setup = put.aside.setup ∙ u.setup;
               since = begins_on earlier.objects past.objects p.operated.events u.since;
               led = led.1;
               lock = on_lock led;
               objects = record {
-                waits = waits_here old new seat lawful put;
+                waits = put.awaits;
                 left = record {
                   some = some_among (items_of p.round.items) p.named;
                   low = p.low;
@@ -459,7 +387,7 @@ module _ (C : Type 0) (N : ℕ) (before : Whole C N) (earlier : Past) (seat : �
                 };
                 until = later_itself now;
                 shown = (0, later_itself now);
-                round = subst (RoundOn p.round now now) (sym (stands_here old new seat lawful put)) tt;
+                round = subst (RoundOn p.round now now) (sym put.stands) tt;
                 untouched = untouched;
               };
             }
@@ -567,15 +495,15 @@ module _ (C : Type 0) (N : ℕ) (before : Whole C N) (earlier : Past) (seat : �
         let looked : looked_after p.acts.goes.found u.lock.underway.course.looked ≡ Some (cause_of (shown_by p.told)) = ap (λ (f : Found). looked_after f u.lock.underway.course.looked) p.looked in
         let shows = by p.walk (subst (RoundOn w.round u.objects.left.mid past) p.walks u.objects.round) p.walks p.then p.told p.operated in
         let wait : Option AnyWait = Some (record { round = p.wait.round; shown = shown_by p.told }) in
-        let put = put_over old new seat lawful p.walk p.walks p.then p.told p.operated wait p.becomes in
+        let put = over_stood old new seat lawful p.walk p.walks p.then p.told p.operated wait p.becomes in
         let more : Past = record { notes = []; objects = p.operated.events } in
-        wait_goes_on p.operated.events (setup_same old new seat lawful put) led (shown_by p.told) (looked_after p.acts.goes.found u.lock.underway.course.looked) (subst (AsShown (shown_by p.told)) (sym looked) refl)
+        wait_goes_on p.operated.events (put.aside.setup) led (shown_by p.told) (looked_after p.acts.goes.found u.lock.underway.course.looked) (subst (AsShown (shown_by p.told)) (sym looked) refl)
         (record {
-          waits = waits_here old new seat lawful put ∙ ap (λ (x : AnyWait). Some (record { round = x.round; shown = shown_by p.told })) (same_wait p.wait p.waits);
+          waits = put.awaits ∙ ap (λ (x : AnyWait). Some (record { round = x.round; shown = shown_by p.told })) (same_wait p.wait p.waits);
           left = u.objects.left;
           until = until_rests u.objects.left.mid past more u.objects.until;
           shown = shows.0;
-          round = subst (RoundOn w.round u.objects.left.mid (past_and past more)) (sym (stands_here old new seat lawful put)) tt;
+          round = subst (RoundOn w.round u.objects.left.mid (past_and past more)) (sym put.stands) tt;
           untouched = none_done p.operated.events shows.1;
         })
         step unfinished o.0 o.1 where
@@ -619,8 +547,8 @@ module _ (C : Type 0) (N : ℕ) (before : Whole C N) (earlier : Past) (seat : �
       still_shown : ShownOn w.round u.objects.left.mid here_now w.shown
       still_shown = shown_rests w.round u.objects.left.mid past (record { notes = []; objects = [] }) w.shown u.objects.shown
 
-      low_here : seat < 64
-      low_here = let s = there_as old new seat lawful wait waits in low_if old new seat lawful s.view s.at
+      low_here : seat < length old.objects.walks
+      low_here = let s = there_as old new seat lawful wait waits in low_walks old new seat lawful s.view s.at
 
       quiet : (told : Step) (acts : Acts old.lock new.lock seat told) → looked_after acts.goes.found u.lock.underway.course.looked ≡ u.lock.underway.course.looked
       quiet told acts =
@@ -634,15 +562,15 @@ module _ (C : Type 0) (N : ℕ) (before : Whole C N) (earlier : Past) (seat : �
       goes_on_there told acts becomes led unfinished =
           let after = goes_after (got_of N acts.goes.makes.walk acts.goes.found) (subst IsUnfinished acts.goes.answers unfinished) in
           let at = round_due wait after.0 in
-          let stood : new.objects ≡ waited_after old.objects seat wait (Some after.0) = becomes ∙ ap (waited_after old.objects seat wait) after.1 in
+          let put = put_stood old new seat lawful at (Some wait) low_here (becomes ∙ ap (waited_after old.objects seat wait) after.1) in
           let o = acts_on C N before.lock earlier.notes seat (wait_for w.cvs) refl past.notes old.lock new.lock told lawful.lock u.lock.since u.lock.underway acts in
-          wait_goes_on [] (ap (λ (x : Objects). x.setup) stood) led w.shown (looked_after acts.goes.found u.lock.underway.course.looked) (subst (AsShown w.shown) (sym (quiet told acts)) u.lock.looks)
+          wait_goes_on [] put.aside.setup led w.shown (looked_after acts.goes.found u.lock.underway.course.looked) (subst (AsShown w.shown) (sym (quiet told acts)) u.lock.looks)
           (record {
-            waits = waits_here old new seat lawful (put_once old new seat lawful low_here at (Some wait) stood) ∙ ap Some (same_wait wait waits);
+            waits = put.awaits ∙ ap Some (same_wait wait waits);
             left = u.objects.left;
             until = still_until;
             shown = still_shown;
-            round = subst (RoundOn w.round u.objects.left.mid here_now) (sym (stands_here old new seat lawful (put_once old new seat lawful low_here at (Some wait) stood))) (due (is_some (looks_at (want_of after.0))));
+            round = subst (RoundOn w.round u.objects.left.mid here_now) (sym put.stands) (due (is_some (looks_at (want_of after.0))));
             untouched = none_done [] refl;
           })
           told unfinished o.0 o.1 where
@@ -773,14 +701,15 @@ module _ (C : Type 0) (N : ℕ) (before : Whole C N) (earlier : Past) (seat : �
   }
   objects_begin begun mode other notes fits stands waits = record { nowhere = stands; waits_not = waits; untouched = refl }
 
-  begins_in : (begun : Whole C N) (call : Call C) → IsLawfulWhole before → IsLawfulWhole begun → HasLedTo earlier before → WholeStarts before begun seat call → UnderwayIn (inl (asks_of (mode_of (held_at before.lock seat)) call)) earlier begun
-  begins_in begun call lawful now_lawful led p =
+  begins_in : (begun : Whole C N) (call : Call C) → IsLawfulWhole before → HasLedTo earlier before → WholeStarts before begun seat call → UnderwayIn (inl (asks_of (mode_of (held_at before.lock seat)) call)) earlier begun
+  begins_in begun call lawful led p =
       let is : held_at before.lock seat ≡ p.starts.view.held = ap held_in p.starts.at in
-      let waits = ap (λ (o : Objects). wait_in o.waits seat) p.becomes ∙ begun_waits before.objects seat (object_start call) ∙ begun_waits_not before lawful begun.lock seat call p.starts now_lawful.lock p.elsewhere in
+      let stood = starts_stood before begun seat call p (low_walks before begun seat lawful p.starts.view p.starts.at) in
+      let waits = stood.awaits ∙ begun_waits_not before begun seat call lawful p in
       record {
-        setup = ap (λ (o : Objects). o.setup) p.becomes ∙ begun_setup before.objects seat (object_start call);
+        setup = stood.aside.setup;
         since = begins_itself earlier.objects;
-        led = starts_led earlier.objects before begun seat call lawful now_lawful p led.1;
+        led = starts_led earlier.objects before begun seat call lawful p led.1;
         lock = begins_underway C N before.lock earlier.notes seat before.objects.setup begun.lock call led.0 p.starts;
         objects = subst (λ held. OnObjects (inl (asks_of (mode_of held) call)) earlier begun) (sym is) (objects_begin begun (mode_of p.starts.view.held) call led.0.lawful.meets.notes p.starts.fits p.stands waits);
       }
@@ -810,7 +739,7 @@ module _ (C : Type 0) (N : ℕ) (before : Whole C N) (earlier : Past) (seat : �
         let s = begun.1.starts in
         let idle : IsIdle old.lock who = record { view = s.view; at = s.at; idle = s.idle; unasked = s.unasked } in
         absurd (busy_in u.0 past old u.2 (subst (IsIdle old.lock) e idle) (subst (λ n. walk_in old.objects.walks n ≡ None) e begun.1.elsewhere))
-    by_whom who (inl begun) (inr ne) = (u.0, u.1, starts_there old new who ne u.0 past lawful u.2 begun.0 h.lawful begun.1)
+    by_whom who (inl begun) (inr ne) = (u.0, u.1, starts_there old new who ne u.0 past lawful u.2 begun.0 begun.1)
     by_whom who (inr stepped) (inl e) = step_by_itself asked past old new who stepped.0 e lawful stepped.1 (stepped.2 e) u
     by_whom who (inr stepped) (inr ne) = (u.0, u.1, step_there old new who ne u.0 past lawful u.2 stepped.0 stepped.1)
 
@@ -831,7 +760,7 @@ pub calls_mean : {C : Type 0} {N : ℕ} (n seat : ℕ) (before begun last after 
     HasLedTo later after × AnswersCall before earlier seat call reply after later
 calls_mean {C} {N} n seat before begun last after earlier call reply lawful led starts now_lawful meanwhile finish =
     let asked = asks_of (mode_of (held_at before.lock seat)) call in
-    let on = meanwhile_on C N before earlier seat asked n earlier begun last now_lawful meanwhile (inl asked, refl, begins_in C N before earlier seat begun call lawful now_lawful led starts) in
+    let on = meanwhile_on C N before earlier seat asked n earlier begun last now_lawful meanwhile (inl asked, refl, begins_in C N before earlier seat begun call lawful led starts) in
     let past = past_and earlier (happened seat n begun last meanwhile) in
     let end = step_here C N before earlier seat asked past last after (Finished reply) on.0 finish on.1 in
     subst (λ es. HasLedTo es after × AnswersCall before earlier seat call reply after es) (past_assoc C N before earlier seat earlier (happened seat n begun last meanwhile) (done_in last after seat (Finished reply) finish)) end

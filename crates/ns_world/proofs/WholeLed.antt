@@ -4,8 +4,32 @@ use Rattle.ns_world.proofs.Below.{Fit, append-nil, led_more, length-set, operate
 use Rattle.ns_world.specs.Prelude.{objects_state, AnyWait, AreEnvBy, AreLedTo, AreObjectsBy, AreThere, BeginsToWait, Call, EndsLook, EnvPlain, FirstClock, HasLedTo, HasOperated, HaveLedTo, Idle, InRound, IsLawfulWhole, LedTo, LockSteps, Now, ObjectEvent, ObjectWalk, Objects}
 use Rattle.ns_world.specs.Prelude.{Operates, Past, StandsBy, Step, WaitSteps, WaitsOnLock, Walk, Whole, WholeMoves, WholeStarts, WholeStep, done_in, env_done, got_of, looks_at, notes_done, nothing_done, object_start, objects_after, objects_done, past_and, round_due, shown_by, stood_at}
 use Rattle.ns_world.specs.Prelude.{waited_after, walk_after, walk_in, want_of}
-use Rattle.ns_world.proofs.EnvGrows.{moves_led}
-use Rattle.ns_world.proofs.Wholes.{begun_led, led_stood, moves_make}
+use Rattle.ns_world.proofs.EnvGrows.{led_makes, moves_led}
+use Rattle.ns_world.proofs.Below.{put_keeps}
+use Rattle.std.proofs.Common.{◌∙◌, ap}
+use Rattle.ns_world.specs.Prelude.{Add, CallFits, CounterWait, Done, Mode, NoteStanding, ObjectStanding, OnLock, Once, SeatView, Setup, Start, Value, WaitAny, begun_at, mode_of, objects_begun, start_of}
+
+-- what has led to the objects has led to them where a seat is put at a place that fits, and into any wait or none
+led_stood : (history : List ObjectEvent) (objects : Objects) (notes : ℕ → NoteStanding) (seat : ℕ) (walk : Option ObjectWalk) (wait : Option AnyWait) → seat < length objects.walks → seat < objects.setup.seats →
+    Fit objects.setup (objects_after objects.setup history) notes seat walk → AreLedTo history objects notes → AreLedTo history (stood_at objects seat walk wait) notes
+led_stood history objects notes seat walk wait inside low fits led = put_keeps history (objects_state objects) notes seat walk inside low fits led
+
+first_fits : {C : Type 0} (setup : Setup) (now : ObjectStanding) (notes : ℕ → NoteStanding) (mode : Option Mode) (seat : ℕ) (call : Call C) → CallFits setup notes call mode → Fit setup now notes seat (object_start call)
+first_fits setup now notes mode seat (Add counter delta) fits = fits
+first_fits setup now notes mode seat (Value counter) fits = fits
+first_fits setup now notes mode seat (CounterWait counter deadline) fits = fits
+first_fits setup now notes mode seat (Once once) fits = fits
+first_fits setup now notes mode seat (Done once) fits = fits
+first_fits setup now notes mode seat (WaitAny items deadline) fits = (fits.0, tt)
+first_fits setup now notes mode seat other fits = tt
+
+-- a call that begins leaves the clock and the notes
+begun_notes : {C : Type 0} {N : ℕ} (old : Now C N) (seat : ℕ) (view : SeatView C N) (start : Start C) → (begun_at old seat view start).env ≡ old.env
+begun_notes old seat view (OnLock walk) = refl
+begun_notes old seat view other = refl
+
+pub begun_env : {C : Type 0} {N : ℕ} (old new : Now C N) (seat : ℕ) (view : SeatView C N) (start : Start C) → new ≡ begun_at old seat view start → new.env ≡ old.env
+begun_env {C} {N} old new seat view start begins = ap (λ (world : Now C N). world.env) begins ∙ begun_notes old seat view start
 
 pub no_more : {C : Type 0} {N : ℕ} (past : Past) (world : Whole C N) → HasLedTo past world → HasLedTo (past_and past nothing_done) world
 no_more past world led = (subst (λ es. LedTo es world.lock) (sym (append-nil past.notes)) led.0, subst (λ es. HaveLedTo es world) (sym (append-nil past.objects)) led.1)
@@ -15,7 +39,7 @@ module _ {C : Type 0} {N : ℕ} (past : Past) (old new : Whole C N) (seat : ℕ)
   pub lock_led : (p : LockSteps old new seat step) → AreEnvBy seat (env_done p.moves) × HasLedTo (past_and past (record { notes = env_done p.moves; objects = [] })) new
   lock_led p =
       let notes = moves_led past.notes old.lock new.lock seat step lawful.lock led.0 p.moves in
-      let objects = led_more past.objects (objects_state old.objects) old.lock.env.notes new.lock.env.notes (moves_make old.lock new.lock seat step p.moves) led.1 in
+      let objects = led_more past.objects (objects_state old.objects) old.lock.env.notes new.lock.env.notes (led_makes past.notes (env_done p.moves) old.lock new.lock led.0 notes.1) led.1 in
       (notes.0, (notes.1, subst (λ es. AreLedTo es new.objects new.lock.env.notes) (sym (append-nil past.objects)) (subst (λ (o : Objects). AreLedTo past.objects o new.lock.env.notes) (sym p.same) objects)))
 
   -- by one of a call on counters and once cells
@@ -108,6 +132,18 @@ steps_led past old new seat step lawful led (inl p) = (tt, tt, no_more past new 
 steps_led past old new seat step lawful led (inr p) = whole_led past old new seat step lawful led p
 
 -- and when a call has begun
-pub starts_led : {C : Type 0} {N : ℕ} (history : List ObjectEvent) (old new : Whole C N) (seat : ℕ) (call : Call C) → IsLawfulWhole old → IsLawfulWhole new → WholeStarts old new seat call → HaveLedTo history old → HaveLedTo history new
-starts_led history old new seat call lawful now_lawful p led =
-    subst (λ (o : Objects). AreLedTo history o new.lock.env.notes) (sym p.becomes) (begun_led old lawful new.lock seat call p.starts now_lawful.lock p.elsewhere history led (object_start call) refl)
+pub starts_led : {C : Type 0} {N : ℕ} (history : List ObjectEvent) (old new : Whole C N) (seat : ℕ) (call : Call C) → IsLawfulWhole old → WholeStarts old new seat call → HaveLedTo history old → HaveLedTo history new
+starts_led {C} {N} history old new seat call lawful p led =
+    let s = p.starts in
+    let mode = mode_of s.view.held in
+    let env = begun_env old.lock new.lock seat s.view (start_of N mode call) s.begins in
+    subst (λ (env : EnvPlain). AreLedTo history new.objects env.notes) (sym env) (subst (λ (o : Objects). AreLedTo history o old.lock.env.notes) (sym p.becomes)
+    (by (object_start call) (first_fits old.objects.setup (objects_after old.objects.setup history) old.lock.env.notes mode seat call s.fits))) where
+      by : (place : Option ObjectWalk) → Fit old.objects.setup (objects_after old.objects.setup history) old.lock.env.notes seat place → AreLedTo history (objects_begun old.objects seat place) old.lock.env.notes
+      by None fits = led
+      by (Some walk) fits =
+          let low = slice_get_within old.lock.state.views seat p.starts.view p.starts.at in
+          let few = lawful.lock.few in
+          let all = lawful.places in
+          let same = lawful.seats in
+          put_keeps history (objects_state old.objects) old.lock.env.notes seat (Some walk) (omega (arith, low, few, all)) (omega (arith, low, same)) fits led

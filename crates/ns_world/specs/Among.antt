@@ -1,13 +1,13 @@
 -- Waits for condition variables among notes and counters. As such a call begins, a round looks at the notes and counters; where that shows nothing, the call leaves its section and waits on the lock for the variables; and whenever that wait looks, another round does so.
 use Rattle.std.specs.Prelude.{◌≡◌, ℕ, ◌≤◌, Bool, true, false, if◌then◌else◌, Option, Some, None, IsSome, is_some, unwrap_or}
-use Rattle.ns_world.specs.Names.{Any, AnyWait, AreVariables, Cause, Cvs, Every, Expired, Finished, FirstClock, Idle, InRound, Limits, Mode, Number, ObjectWalk, Objects, OnLock, OnVariables, Reply, Request, Seat, Step, Walk, Went, wait_first, want_of}
+use Rattle.ns_world.specs.Names.{Any, AnyWait, AreVariables, Cause, Cvs, Every, Expired, Finished, FirstClock, Idle, InRound, Limits, Mode, Number, ObjectWalk, OnLock, OnVariables, Reply, Request, Seat, Step, Walk, Went, wait_first, want_of}
 use Rattle.ns_word.specs.declared.wait.Wait.{Wait}
 use Rattle.ns_world.specs.Begins.{placed}
 use Rattle.ns_world.specs.Calls.{mode_of, mode_waited}
 use Rattle.ns_world.specs.Names.{AreAmong, IsLow, have_variable, items_of, place_in}
 use Rattle.ns_world.specs.Looked.{Sees}
 use Rattle.ns_world.specs.Looks.{is_for_any, looks_at}
-use Rattle.ns_world.specs.Objects.{stood_at}
+use Rattle.ns_world.specs.Objects.{Objects, stood_at}
 use Rattle.ns_word.specs.declared.request.Request.TheVariants as TheRequest
 
 -- What ends such a wait early is for its caller to say: a deadline that has always come lets each of its looks end it.
@@ -73,18 +73,34 @@ abbrev pub step_told : AnyWait → Step → Step
 step_told wait (Finished reply) = Finished (reply_told wait reply)
 step_told wait told = told
 
+-- the same where it may be in no such wait
+abbrev pub told_to : Option AnyWait → Step → Step
+told_to None told = told
+told_to (Some wait) told = step_told wait told
+
+-- what a step on the lock leaves of a seat, by its wait and by where it stands
+abbrev pub waited_seat : {C : Type 0} {N : ℕ} → Option AnyWait → Option (Walk C) → Seat C N → Seat C N
+waited_seat None walk seat = seat
+waited_seat (Some wait) None seat = record seat { operating = None; awaits = None }
+waited_seat (Some wait) (Some walk) seat = record seat { operating = round_due wait walk }
+
 -- ---- what a round tells the lock
 
 -- A round may tell the lock what it has shown: of a call that waits there, or of one that has a section in hand, and condition variables among its objects.
-abbrev pub CanTell : {C : Type 0} {N : ℕ} → Seat C N → Option AnyWait → ObjectWalk → Type 0
-CanTell seat (Some wait) walk = IsSome seat.walk
-CanTell {C} {N} seat None (InRound round place) = (N ≤ 16) × IsSome seat.held × (round.items.count ≤ 16) × Every IsLow (items_of round.items) × (have_variable round.items ≡ true)
-CanTell seat None walk = ⊥
+abbrev pub CanTell : {C : Type 0} {N : ℕ} → Option AnyWait → Seat C N → ObjectWalk → Type 0
+CanTell (Some wait) seat walk = IsSome seat.walk
+CanTell {C} {N} None seat (InRound round place) = (N ≤ 16) × IsSome seat.held × (round.items.count ≤ 16) × Every IsLow (items_of round.items) × (have_variable round.items ≡ true)
+CanTell None seat walk = ⊥
 
 -- The seat has told what its round has shown, and it stands on the lock: its wait has seen that, or it begins to wait for just the variables among the objects.
-abbrev pub HasTold : {C : Type 0} {N : ℕ} → Seat C N → Objects → ℕ → Option AnyWait → ObjectWalk → Step → Seat C N → Objects → Step → Type 0
-HasTold {C} {N} seat objects number (Some wait) walk told seat' objects' step = (place : Walk C) × (seat.walk ≡ Some place) × Sees seat place (cause_of (shown_by told)) seat' step
-    × (objects' ≡ stood_at objects number None (Some (record { round = wait.round; shown = shown_by told })))
-HasTold {C} {N} seat objects number None (InRound round place) told seat' objects' step = (cvs : Cvs) × AreAmong cvs (items_of round.items) × AreVariables (Any cvs)
-    × (seat' ≡ placed seat (OnLock (wait_first N (waits_for_any (mode_waited (mode_of seat.held)) cvs)))) × (objects' ≡ stood_at objects number None (Some (record { round = round; shown = None }))) × (step ≡ Went)
-HasTold seat objects number None walk told seat' objects' step = ⊥
+abbrev pub HasTold : {C : Type 0} {N : ℕ} → Option AnyWait → Seat C N → ObjectWalk → Step → Seat C N → Step → Type 0
+HasTold {C} {N} (Some wait) seat walk told seat' step = (place : Walk C) × (seat.walk ≡ Some place)
+    × Sees (record seat { operating = None; awaits = Some (record { round = wait.round; shown = shown_by told }) }) place (cause_of (shown_by told)) seat' step
+HasTold {C} {N} None seat (InRound round place) told seat' step = (cvs : Cvs) × AreAmong cvs (items_of round.items) × AreVariables (Any cvs)
+    × (seat' ≡ record (placed seat (OnLock (wait_first N (waits_for_any (mode_waited (mode_of seat.held)) cvs)))) { operating = None; awaits = Some (record { round = round; shown = None }) }) × (step ≡ Went)
+HasTold None seat walk told seat' step = ⊥
+
+-- it has told the lock, where that is so, and else it stands where its round has led
+abbrev pub ToldIf : {C : Type 0} {N : ℕ} → Bool → Option AnyWait → Seat C N → ObjectWalk → Step → Seat C N → Step → Type 0
+ToldIf true wait seat walk told seat' step = HasTold wait seat walk told seat' step
+ToldIf false wait seat walk told seat' step = (seat' ≡ seat) × (step ≡ told)

@@ -4,11 +4,11 @@ use Rattle.ns_world.specs.Names.{Ask, Call, Fault, NoSuchSeat, OnLock, OnObjects
 use Rattle.ns_world.specs.Calls.{start_of, CallFits, mode_of}
 use Rattle.ns_world.specs.World.{Now}
 
--- A seat put at the first place of a call. One on counters and once cells stands elsewhere.
+-- a seat put at the first place of a call
 abbrev pub placed : {C : Type 0} {N : ℕ} → Seat C N → Start C → Seat C N
 placed seat (OnLock walk) = record seat { walk = Some walk; tests = 0 }
 placed seat (Ask walk) = record seat { asking = Some walk; tests = 0 }
-placed seat (OnObjects walk) = record seat { tests = 0 }
+placed seat (OnObjects walk) = record seat { operating = Some walk; tests = 0 }
 
 -- the world with the seat, whose view is this, at the first place of a call
 abbrev pub begun_at : {C : Type 0} {N : ℕ} → Now C N → ℕ → SeatView C N → Start C → Now C N

@@ -137,7 +137,7 @@ pub use Rattle.ns_world.specs.declared.environment.Environment.{Environment}
 pub use Rattle.ns_world.specs.declared.fault.Fault.{Fault}
 pub use Rattle.ns_world.specs.declared.fault.Fault.TheVariants.{NoSuchSeat, OutOfMemory, StepLimit, TooManySeats}
 pub use Rattle.ns_world.specs.declared.objects.AnyWait.{AnyWait}
-pub use Rattle.ns_world.specs.declared.objects.Objects.{Objects}
+pub use Rattle.ns_world.specs.declared.objects.Objects.{Objects as ObjectWords}
 pub use Rattle.ns_world.specs.declared.reply.Reply.{Reply}
 pub use Rattle.ns_world.specs.declared.reply.Reply.TheVariants.{Already, Answered, Is, Noisy, NotesFull, Number, Ran, Refused, Succeeded}
 pub use Rattle.ns_world.specs.declared.schedule.Line.{Line}

@@ -1,15 +1,30 @@
 -- The counters and once cells of a world, and one step of a seat in a call on them.
-use Rattle.std.specs.Prelude.{◌≡◌, ℕ, List, replicate, Option, None, Some, slice_get, slice_set, unwrap_or}
+use Rattle.std.specs.Prelude.{◌≡◌, ℕ, List, map, replicate, Option, None, Some, slice_get, slice_set, unwrap_or}
 use Rattle.ns_world.specs.Replies.{object_told}
 use Rattle.ns_world.specs.Names.{IsLawfulObjects, ObjectEffect, ObjectState, AnyWait, EnvPlain, Finished, Idle, NoteStanding}
-use Rattle.ns_world.specs.Names.{ObjectEvent, ObjectFound, ObjectNext, ObjectWalk, Objects, Over, Repeat, Step}
+use Rattle.ns_world.specs.Names.{ObjectEvent, ObjectFound, ObjectNext, ObjectWalk, ObjectWords, Over, Repeat, Seat, Setup, Step}
 use Rattle.ns_world.specs.Names.{Went, first_words, padded, setup_of}
 use Rattle.ns_counters.specs.declared.walk.ObjectNext.TheVariants.{Go}
 use Rattle.ns_world.specs.Names.{object_want, object_got, object_after, object_place}
 
--- a counter for each of the values, and so many once cells, for so many seats, none of which is in a call on them
+-- the counters and once cells of a world, and each seat's place in its call on them, and its wait on the lock for variables among objects, if it is in one
+pub record Objects : Type 0 where
+  pub setup : Setup
+  pub words : List ℕ
+  pub walks : List (Option ObjectWalk)
+  pub waits : List (Option AnyWait)
+
+-- the same, of the parts of a world
+abbrev pub objects_of : {C : Type 0} {N : ℕ} → ObjectWords → List (Seat C N) → Objects
+objects_of objects seats = record { setup = objects.setup; words = objects.words; walks = map (λ seat. seat.operating) seats; waits = map (λ seat. seat.awaits) seats }
+
+-- a counter for each of the values, and so many once cells, for so many seats
+abbrev pub fresh_words : ℕ → List ℕ → ℕ → ObjectWords
+fresh_words seats counters cells = record { setup = setup_of seats counters cells; words = first_words (padded counters) }
+
+-- the same, where none of the seats is in a call on them
 abbrev pub fresh_objects : ℕ → List ℕ → ℕ → Objects
-fresh_objects seats counters cells = record { setup = setup_of seats counters cells; words = first_words (padded counters); walks = replicate 64 None; waits = replicate 64 None }
+fresh_objects seats counters cells = record { setup = setup_of seats counters cells; words = first_words (padded counters); walks = replicate seats None; waits = replicate seats None }
 
 -- the seat's wait on the lock for variables among objects, if it is in one
 abbrev pub wait_in : List (Option AnyWait) → ℕ → Option AnyWait
@@ -36,6 +51,15 @@ pub record HasOperated (env : EnvPlain) (seat : ℕ) (walk : ObjectWalk) (old ne
   pub events : List ObjectEvent
   pub effect : ObjectEffect seat (object_place (Some walk)) (object_want walk) old.words env found words events
   pub becomes : new ≡ record old { words = words; walks = slice_set old.walks seat (object_after (object_got walk found)) }
+  pub answers : step ≡ object_step_of (object_got walk found)
+
+-- The same over the parts of a world: what it finds is so, and the seat stands where that leads.
+pub record SeatOperates {C : Type 0} {N : ℕ} (env : EnvPlain) (old : ObjectWords) (seat : Seat C N) (walk : ObjectWalk) (new : ObjectWords) (seat' : Seat C N) (step : Step) : Type 0 where
+  pub found : ObjectFound
+  pub events : List ObjectEvent
+  pub effect : ObjectEffect seat.number (object_place (Some walk)) (object_want walk) old.words env found new.words events
+  pub becomes : new ≡ record old { words = new.words }
+  pub goes : seat' ≡ record seat { operating = object_after (object_got walk found) }
   pub answers : step ≡ object_step_of (object_got walk found)
 
 -- the objects as a call begins: one on them stands at its first place

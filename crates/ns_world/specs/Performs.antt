@@ -1,6 +1,6 @@
 -- One step on the parts of a world.
 use Rattle.std.specs.Prelude.{◌≡◌, ℕ, List, ◌++◌, Option, get_or}
-use Rattle.ns_world.specs.Names.{Act, Effect, EnvWalk, Event, Finished, Found, Held, Idle, Lists, Next, On, Owed, Part, Scanned, Seat, SeatView, Step, Truths, Walk, Went, Word, got_of, walk_after, want_of}
+use Rattle.ns_world.specs.Names.{Act, Effect, Event, Finished, Found, Held, Idle, Lists, Next, On, Owed, Part, Scanned, Seat, SeatView, Step, Truths, Walk, Went, Word, got_of, walk_after, want_of}
 use Rattle.ns_word.specs.declared.walk.Next.TheVariants.{Done}
 use Rattle.ns_world.specs.Looks.{look_of}
 use Rattle.ns_world.specs.Replies.{told}
@@ -24,12 +24,9 @@ pub record Makes {C : Type 0} {N : ℕ} (truths : Truths C) (seat : ℕ) (act : 
   pub effect : Effect truths seat act old found new commits
   pub grows : history' ≡ history ++ commits
 
--- the seat has this number, these places and this count of tests
-pub record IsSeat {C : Type 0} {N : ℕ} (n : ℕ) (place : Option (Walk C)) (ask : Option EnvWalk) (count : ℕ) (seat : Seat C N) : Type 0 where
-  pub number : seat.number ≡ n
-  pub walk : seat.walk ≡ place
-  pub asking : seat.asking ≡ ask
-  pub tests : seat.tests ≡ count
+-- the seat may have another section and other wakes to pay, and all else of it is as it was
+abbrev pub StaysThere : {C : Type 0} {N : ℕ} → Seat C N → Seat C N → Type 0
+StaysThere old new = new ≡ record old { held = new.held; owed = new.owed }
 
 -- how many conditions the scan of a seat's call tested
 abbrev pub tests_after : Found → ℕ → ℕ
@@ -51,9 +48,12 @@ pub record Performs {C : Type 0} {N : ℕ} (truths : Truths C) (old : Part C N) 
   pub found : Found
   pub commits : List (Event C N)
   pub effect : Effect truths seat.number (want_of walk) old found new commits
-  pub number : seat'.number ≡ seat.number
-  pub goes : seat'.walk ≡ walk_after (got_of N walk found)
-  pub asking : seat'.asking ≡ look_of (walk_after (got_of N walk found))
-  pub tests : seat'.tests ≡ tests_after found seat.tests
+  pub goes : seat' ≡ record seat {
+    walk = walk_after (got_of N walk found);
+    asking = look_of (walk_after (got_of N walk found));
+    tests = tests_after found seat.tests;
+    held = seat'.held;
+    owed = seat'.owed;
+  }
   pub grows : history' ≡ history ++ commits
   pub answers : step ≡ step_of (got_of N walk found)

@@ -1,5 +1,5 @@
 -- The names that contracts and proofs cite, passed on from one place. Declares nothing.
-pub use Rattle.ns_world.specs.Among.{CanTell, HasTold, IsFew, asks_for_any, at_will, cause_of, is_for_lock, place_told, reply_told, round_due, shown_by, step_told, waited_after, waits_for_any, woken_by}
+pub use Rattle.ns_world.specs.Among.{CanTell, HasTold, IsFew, ToldIf, told_to, waited_seat, asks_for_any, at_will, cause_of, is_for_lock, place_told, reply_told, round_due, shown_by, step_told, waited_after, waits_for_any, woken_by}
 pub use Rattle.ns_world.specs.Asks.{env_state, env_step_of, note_at, plain_of}
 pub use Rattle.ns_world.specs.Begins.{Misuses, Starts, begun_at, placed}
 pub use Rattle.ns_world.specs.Calls.{CallFits, CallInRange, NamesAll, finds, mode_of, mode_waited, object_start, start_of}
@@ -7,8 +7,8 @@ pub use Rattle.ns_world.specs.Commits.{Commits}
 pub use Rattle.ns_world.specs.Looked.{EnvMoves, LookStep, MovesFrom, SeatLooks, Sees}
 pub use Rattle.ns_world.specs.Looks.{AsksFor, LookFits, came_back, is_for_any, look_of, look_place, looks_at, note_asked, note_in, waits_among}
 pub use Rattle.ns_world.specs.Meanings.{AnswersCall, AnswersOfLock, AnswersOfNotes, AnswersTo, Happens, HasLedTo, IsUnfinished, Meanwhile, PlaceBy, WasShown, asks_of, done_by, done_in, happened, held_at, held_in, limits_for, limits_of, nothing_done}
-pub use Rattle.ns_world.specs.Objects.{AreLedTo, HasOperated, object_step_of, objects_begun, objects_state, put_at, stood_at, wait_in}
-pub use Rattle.ns_world.specs.Performs.{Makes, Performs, flag_at, part, seat_part, step_of, tests_after, view_of}
+pub use Rattle.ns_world.specs.Objects.{AreLedTo, HasOperated, Objects, SeatOperates, fresh_words, objects_of, object_step_of, objects_begun, objects_state, put_at, stood_at, wait_in}
+pub use Rattle.ns_world.specs.Performs.{Makes, Performs, StaysThere, flag_at, part, seat_part, step_of, tests_after, view_of}
 pub use Rattle.ns_world.specs.Replies.{told as reply_of_lock}
 pub use Rattle.ns_world.specs.Runs.{Advances, Counts, EndFinished, GoesOnOrBegins, IsCounted, IsFinished, ListFits, Progress, Stops, StopsFor, TurnFault, TurnOf, Turned, TurnsOf, TurnsWith, calls_of, is_end, progress, progressed, rest_of, start, word_items}
 pub use Rattle.ns_world.specs.Shows.{hand_of, lists_by, wakes_by, wakes_owed}
@@ -20,7 +20,7 @@ pub use Rattle.ns_world.specs.Names.{Begun, Bits, Broadcast, Broadcasting, Busy,
 pub use Rattle.ns_world.specs.Names.{EnvNext, EnvPlain, EnvRequest, EnvSoFar, EnvStep, EnvWalk, Environment, Event, Every, Expired, Expiry, ExpiryLoad, Fault, Finished, FirstClock, ForIsNotified, ForLook, ForNoteWait, Found, Get, Go, GoesOn, HasList, HasMode, HaveShownNothing, Held, Home, Idle}
 pub use Rattle.ns_world.specs.Names.{IfMade, InAcquire, InCells, InHand, InLeaving, InQueuing, InRelease, InRound, InShow, InSignal, InTry, InWait, IsFirst, IsFirstAsk, IsForCondition, IsInRange, IsLater, IsLawful, IsLawfulEnv, IsLow, IsNotified, IsReady, IsSettled, IsUnmet, Item, Items, JudgeMet}
 pub use Rattle.ns_world.specs.Names.{JudgeQuiet, LeaveLoad, LeaveSelf, Left, Limits, Line, Lists, Load, LoadCell, LoadFlag, LoadToScan, LoadWord, Lock, LockState, Look, LookIn, LookMeans, LookOut, LookOver, Looked, Made, MayEnd, MayShow, MayWait, Means, Meets, Misuse, Mode, NewNote, Next}
-pub use Rattle.ns_world.specs.Names.{NextLoad, NoSuchSeat, NoteLoad, NoteStanding, NoteWait, Nothing, Notify, Notifying, Number, ObjectEvent, ObjectFound, ObjectGoes, ObjectNext, ObjectSoFar, ObjectStanding, ObjectWalk, Objects, OfLock, OfNotes, OfObjects, On, OnCondition, OnCounter, OnEntry}
+pub use Rattle.ns_world.specs.Names.{NextLoad, NoSuchSeat, NoteLoad, NoteStanding, NoteWait, Nothing, Notify, Notifying, Number, ObjectEvent, ObjectFound, ObjectGoes, ObjectNext, ObjectSoFar, ObjectStanding, ObjectWalk, ObjectWords, OfLock, OfNotes, OfObjects, On, OnCondition, OnCounter, OnEntry}
 pub use Rattle.ns_world.specs.Names.{OnLock, OnNote, OnObjects, OnVariable, OnVariables, Once, Only, OutOfMemory, Over, Owed, OwesOne, Part, Past, PayInWait, PayWake, PlaceFits, Plain, QueueSelf, QueueToWait, QuietCells, QuietKeeps, QuietLast, RLock, RUnlock, Read, Reader, Release}
 pub use Rattle.ns_world.specs.Names.{ReleaseReturning, Releasing, Repeat, Reply, Request, ReturnQueues, Round, RoundGo, RoundNext, RoundOver, RoundPlace, RoundShows, RoundSoFar, Saw, Scanned, Seat, SeatView, Set, Setup, Shows, Signal, Signaling, SoFar, Start, Started, Step, StepFits, StepLimit}
 pub use Rattle.ns_world.specs.Names.{StoreCell, Subject, Take, TakeQueues, TestCells, TestLast, ToRelease, TooManySeats, Truths, TryLock, TryRLock, Turn, Unlock, UnlockQuiet, Value, Wait, WaitAny, WaitFor, WaitMeans, WaitReturning, Waiter, WakeWaiters, Waking, Walk, WalkFits, WalkReply, Went}

@@ -1,14 +1,14 @@
 -- A world as a contract sees it: the lock with its row, the clock and the notes, and beside them counters and once cells; and a seat's step in it.
 use Rattle.std.specs.Prelude.{◌≡◌, ℕ, ◌⊎◌, Bool, true, false, not, ◌||◌, ◌<◌, ◌≤◌, List, [], Option, Some, None, IsSome, is_some, length, slice_get}
 use Rattle.std.proofs.Common.{inl, inr}
-use Rattle.ns_world.specs.Names.{Act, AnyWait, Begun, Busy, Call, Cvs, EnvEvent, Environment, Event, Every, Fault, Held, Idle, InRound, Lists, Looked, Misuse, Mode, NoSuchSeat, Nothing, ObjectEvent, ObjectWalk, Objects, OnLock, OutOfMemory, Round, RoundPlace, Seat, SeatView, Started}
+use Rattle.ns_world.specs.Names.{Act, AnyWait, Begun, Busy, Call, Cvs, EnvEvent, Environment, Event, Every, Fault, Held, Idle, InRound, Lists, Looked, Misuse, Mode, NoSuchSeat, Nothing, ObjectEvent, ObjectWalk, ObjectWords, OnLock, OutOfMemory, Round, RoundPlace, Seat, SeatView, Started}
 use Rattle.ns_world.specs.Names.{Step, StepLimit, TooManySeats, Truths, Walk, Went, Word, asked_of, got_of, object_who, wait_first, walk_after, want_of}
 use Rattle.ns_world.specs.Among.{asks_for_any, cause_of, is_for_lock, shown_by, step_told, waited_after, waits_for_any}
 use Rattle.ns_world.specs.Begins.{Starts, Misuses, begun_at}
 use Rattle.ns_world.specs.Calls.{mode_of, mode_waited, object_start}
 use Rattle.ns_world.specs.Names.{AreAmong, have_variable, items_of}
 use Rattle.ns_world.specs.Looks.{looks_at}
-use Rattle.ns_world.specs.Objects.{AreLedTo, HasOperated, fresh_objects, objects_begun, stood_at, wait_in}
+use Rattle.ns_world.specs.Objects.{AreLedTo, HasOperated, Objects, fresh_objects, objects_begun, objects_of, stood_at, wait_in}
 use Rattle.ns_world.specs.Names.{AreThere, walk_in}
 use Rattle.ns_world.specs.World.{Now, Kept, kept, now_of, fresh, Acts, IsLawfulWorld, IsIdle, IsBusy, Moves, CommitsNext, env_done, is_busy}
 use Rattle.ns_word.specs.declared.request.Request.TheVariants as TheRequest
@@ -32,11 +32,11 @@ abbrev pub whole_of : {C : Type 0} {N : ℕ} → Truths C → WholeKept C N → 
 whole_of truths world = whole (now_of truths world.lock) world.objects
 
 -- what a world keeps, of its parts
-abbrev pub whole_kept : {C : Type 0} {N : ℕ} → Word → List ℕ → Lists C → List ℕ → Environment → List (Seat C N) → List (Event C N) → Objects → WholeKept C N
-whole_kept word row queues flags env seats history objects = record { lock = kept word row queues flags env seats history; objects = objects }
+abbrev pub whole_kept : {C : Type 0} {N : ℕ} → Word → List ℕ → Lists C → List ℕ → Environment → List (Seat C N) → List (Event C N) → ObjectWords → WholeKept C N
+whole_kept word row queues flags env seats history objects = record { lock = kept word row queues flags env seats history; objects = objects_of objects seats }
 
 -- a world as the machine sees it, of its parts
-abbrev pub whole_with : {C : Type 0} {N : ℕ} → Truths C → Word → List ℕ → Lists C → List ℕ → Environment → List (Seat C N) → List (Event C N) → Objects → Whole C N
+abbrev pub whole_with : {C : Type 0} {N : ℕ} → Truths C → Word → List ℕ → Lists C → List ℕ → Environment → List (Seat C N) → List (Event C N) → ObjectWords → Whole C N
 whole_with truths word row queues flags env seats history objects = whole_of truths (whole_kept word row queues flags env seats history objects)
 
 -- ---- what holds of every world
@@ -90,8 +90,8 @@ HaveLedTo events world = AreLedTo events world.objects world.lock.env.notes
 pub record IsLawfulWhole {C : Type 0} {N : ℕ} (world : Whole C N) : Type 0 where
   pub lock : IsLawfulWorld world.lock
   pub seats : world.objects.setup.seats ≡ length world.lock.state.views
-  pub places : length world.objects.walks ≡ 64
-  pub wait_places : length world.objects.waits ≡ 64
+  pub places : length world.objects.walks ≡ length world.lock.state.views
+  pub wait_places : length world.objects.waits ≡ length world.lock.state.views
   pub stands : (seat : ℕ) → StandsBy world seat (wait_in world.objects.waits seat)
   pub events : List ObjectEvent
   pub objects_lawful : HaveLedTo events world

@@ -12,21 +12,28 @@
 //! | in a round, by which the wait looks | what the round has shown, or nothing | the wait has looked, and seen so |
 //! | on the lock | that the wait is over | the place of the variable which woke it, else what the last round has shown |
 
-ghost use Rattle.std.specs.Prelude.{◌≡◌, ◌<◌, ◌≤◌, IsSome, true, Some, None};
+ghost use Rattle.std.specs.Prelude.{◌≡◌, ◌≤◌, IsSome, IfSome, true, Some, None};
 ghost use Rattle.ns_model.specs.declared.cvs.Cvs.{Cvs as CvsOf};
 ghost use Rattle.ns_model.specs.declared.cvs.Variables.TheVariants.{Any};
 ghost use Rattle.ns_model.specs.Tallies.{Every};
 ghost use Rattle.ns_word.specs.Places.{AreVariables};
 ghost use Rattle.ns_word.specs.Walks.{wait_first};
-ghost use Rattle.ns_world.specs.Among.{CanTell, HasTold, IsFew, cause_of, is_for_lock, reply_told, round_due, shown_by, step_told, waited_after, waits_for_any};
+ghost use Rattle.ns_world.specs.Among.{CanTell, HasTold, IsFew, ToldIf, cause_of, is_for_lock, reply_told, round_due, shown_by, told_to, waited_seat, waits_for_any};
+ghost use Rattle.ns_world.specs.Asks.{plain_of};
 ghost use Rattle.ns_world.specs.Begins.{placed};
+ghost use Rattle.ns_world.specs.Objects.{SeatOperates};
+ghost use Rattle.ns_world.specs.declared.seat.Seat.{Seat as SeatOf};
+ghost use Rattle.ns_world.specs.declared.step.Step.{Step as StepOf};
+ghost use Rattle.ns_counters.specs.Asks.{StepFits};
 ghost use Rattle.ns_counters.specs.declared.walk.ObjectWalk.{ObjectWalk as ObjectWalkOf};
 ghost use Rattle.ns_world.specs.Calls.{mode_of, mode_waited};
 ghost use Rattle.ns_counters.specs.Items.{AreAmong, IsLow, have_variable, items_of};
 
 use crate::call::Start;
+use crate::environment::Environment;
 use crate::looks::see;
 use crate::objects::{AnyWait, Objects};
+use crate::operate::operate;
 use crate::reply::Reply;
 use crate::room::Seated;
 use crate::seat::Seat;
@@ -49,7 +56,7 @@ const AT_WILL: Limits = Limits {
 
 /// Whether what a round's last step has told is for the lock: where its call waits there, and else where it has
 /// found nothing, and condition variables are among the objects.
-pub(crate) fn is_for_lock(wait: &Option<AnyWait>, walk: &ObjectWalk, told: Step) -> bool
+fn is_for_lock(wait: &Option<AnyWait>, walk: &ObjectWalk, told: Step) -> bool
     requires { IsFew walk.now }
     ensures { result ≡ is_for_lock wait.now walk.now told }
 {
@@ -105,62 +112,58 @@ fn begin_wait<C: Seated<N>, const N: usize>(seat: &mut Seat<C, N>, items: &Items
 }
 
 /// The wait on the lock goes on with what a round has shown, by which it looked, and whose last step told this.
-fn end_look<C: Seated<N>, const N: usize>(
-    seat: &mut Seat<C, N>,
-    objects: &mut Objects,
-    number: u8,
-    wait: AnyWait,
-    told: Step,
-) -> Step
-    requires seat { number < 64 }
-    requires walks { IsSome seat.old.walk }
-    ensures { (walk : ObjectWalkOf) → HasTold seat.old objects.old number (Some wait) walk told seat.new objects.new result }
+fn end_look<C: Seated<N>, const N: usize>(seat: &mut Seat<C, N>, wait: AnyWait, told: Step) -> Step
+    requires { IsSome seat.old.walk }
+    ensures { (walk : ObjectWalkOf) → HasTold (Some wait) seat.old walk told seat.new result }
 {
     let Some(place) = seat.walk else {
         unreachable!()
     };
     let shown = shown_by(told);
     let round = wait.round;
-    objects.stand(number, None, Some(AnyWait { round, shown }));
+    seat.operating = None;
+    seat.awaits = Some(AnyWait { round, shown });
     see(seat, place, cause_of(shown))
 }
 
 /// The call goes on as a wait on the lock, whose first round has found nothing.
 fn go_to_lock<C: Seated<N>, const N: usize>(
     seat: &mut Seat<C, N>,
-    objects: &mut Objects,
-    number: u8,
     walk: ObjectWalk,
     _told: Step,
 ) -> Step
-    requires seat { number < 64 }
-    requires can { CanTell seat.old None walk }
-    ensures { HasTold seat.old objects.old number None walk _told seat.new objects.new result }
+    requires { CanTell None seat.old walk }
+    ensures { HasTold None seat.old walk _told seat.new result }
 {
     let ObjectWalk::InRound(round, _) = walk else {
         unreachable!()
     };
     begin_wait(seat, &round.items);
-    objects.stand(number, None, Some(AnyWait { round, shown: None }));
+    seat.operating = None;
+    seat.awaits = Some(AnyWait { round, shown: None });
     Step::Went
 }
 
-/// Tells the lock what a round has shown, whose last step told this, and puts the seat where its call goes on.
-pub(crate) fn tell_lock<C: Seated<N>, const N: usize>(
-    seat: &mut Seat<C, N>,
+/// Makes the step of a call on counters and once cells that the seat's walk wants; and where a round is over whose
+/// last step is for the lock, tells that what it has shown, and puts the seat where its call goes on.
+pub(crate) fn step_objects<C: Seated<N>, const N: usize>(
+    env: &Environment,
     objects: &mut Objects,
-    number: u8,
-    wait: Option<AnyWait>,
+    seat: &mut Seat<C, N>,
     walk: ObjectWalk,
-    told: Step,
 ) -> Step
-    requires seat { number < 64 }
-    requires can { CanTell seat.old wait walk }
-    ensures { HasTold seat.old objects.old number wait walk told seat.new objects.new result }
+    requires fits { StepFits env.now.next walk }
+    requires few { IsFew walk }
+    requires can { (told : StepOf) → is_for_lock seat.old.awaits walk told ≡ true → CanTell seat.old.awaits seat.old walk }
+    ensures { (then : SeatOf C N) × (told : StepOf) × SeatOperates (plain_of env.now) objects.old seat.old walk objects.new then told × ToldIf (is_for_lock seat.old.awaits walk told) seat.old.awaits then walk told seat.new result }
 {
-    match wait {
-        Some(wait) => end_look(seat, objects, number, wait, told),
-        None => go_to_lock(seat, objects, number, walk, told),
+    let told = operate(env, objects, seat, walk);
+    if !is_for_lock(&seat.awaits, &walk, told) {
+        return told;
+    }
+    match seat.awaits {
+        Some(wait) => end_look(seat, wait, told),
+        None => go_to_lock(seat, walk, told),
     }
 }
 
@@ -187,26 +190,23 @@ fn reply_told(wait: &AnyWait, reply: Reply) -> Reply
 }
 
 /// What the seat's step on the lock was for its call, and puts it where that goes on.
-pub(crate) fn told_by_lock<C: Seated<N>, const N: usize>(
-    seat: &Seat<C, N>,
-    objects: &mut Objects,
-    number: u8,
-    wait: AnyWait,
-    told: Step,
-) -> Step
-    requires seat { number < 64 }
-    requires few { wait.round.items.count ≤ 16 }
-    ensures after { objects.new ≡ waited_after objects.old number wait seat.now.walk }
-    ensures step { result ≡ step_told wait told }
+pub(crate) fn told_by_lock<C: Seated<N>, const N: usize>(seat: &mut Seat<C, N>, told: Step) -> Step
+    requires { IfSome seat.old.awaits (λ wait. wait.round.items.count ≤ 16) }
+    ensures after { seat.new ≡ waited_seat seat.old.awaits seat.old.walk seat.old }
+    ensures step { result ≡ told_to seat.old.awaits told }
 {
+    let Some(wait) = seat.awaits else {
+        return told;
+    };
     match seat.walk {
-        None => objects.stand(number, None, None),
-        Some(walk) => objects.stand(number, round_due(&wait, walk), Some(wait)),
+        None => {
+            seat.operating = None;
+            seat.awaits = None;
+        }
+        Some(walk) => seat.operating = round_due(&wait, walk),
     }
     match told {
-        Step::Went => Step::Went,
-        Step::Idle => Step::Idle,
         Step::Finished(reply) => Step::Finished(reply_told(&wait, reply)),
-        Step::Nothing => Step::Nothing,
+        _ => told,
     }
 }

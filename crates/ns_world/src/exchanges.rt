@@ -1,7 +1,7 @@
 //! The compare-exchanges on the lock word. One that finds the word which its seat has last seen is
 //! made; any other changes nothing.
 
-ghost use Rattle.std.specs.Prelude.{◌≡◌, ◌<◌, ◌++◌, ◌∷◌, ℕ, true, false, None, List, [], IsSome, IfSome, IfOk, OnOk, OnErr, if◌then◌else◌};
+ghost use Rattle.std.specs.Prelude.{◌≡◌, ◌<◌, ◌++◌, ◌∷◌, ℕ, true, false, None, List, [], IsSome, IfSome, MatchResult, if◌then◌else◌};
 ghost use Rattle.ns_queue.specs.Queues.{times};
 ghost use Rattle.ns_word.specs.declared.owed.Owed.{Owed};
 ghost use Rattle.ns_word.specs.Places.{CanLeave, CanWait, ChangeFits, IsInRange};
@@ -9,7 +9,7 @@ ghost use Rattle.ns_word.specs.Steps.{change_commits, entry_of, exit_for, leave_
 ghost use Rattle.ns_word.specs.Waits.{mode_for};
 ghost use Rattle.ns_word.specs.Words.{may_acquire};
 ghost use Rattle.ns_world.specs.Commits.{IsEvent};
-ghost use Rattle.ns_world.specs.Performs.{part, IsSeat, Makes};
+ghost use Rattle.ns_world.specs.Performs.{part, Makes, StaysThere};
 
 use crate::room::Seated;
 use crate::seat::Seat;
@@ -119,8 +119,7 @@ fn commit_leave<C: Seated<N>, const N: usize>(
     history: &mut Vec<Event<C, N>>,
     home: Home,
 ) -> Result<(), AllocError>
-    ensures ok { OnOk result (history.new.items ≡ history.old.items ++ change_commits seat (Change.LeaveSelf home) queues.now) }
-    ensures err { OnErr result (IsEvent seat (Change.LeaveSelf home) queues.now × (history.new.items ≡ history.old.items)) }
+    ensures { MatchResult result (λ done. history.new.items ≡ history.old.items ++ change_commits seat (Change.LeaveSelf home) queues.now) (λ fault. IsEvent seat (Change.LeaveSelf home) queues.now × (history.new.items ≡ history.old.items)) }
 {
     if let Home::AtVariables(variables) = home {
         let stands = queues.stands_at_variables(seat);
@@ -142,8 +141,7 @@ fn return_left<C: Seated<N>, const N: usize>(
     home: Home,
     last: Word,
 ) -> Result<Found, AllocError>
-    ensures ok { IfOk result (λ found. (row flags : List ℕ) (owed : List Owed) (held : _) → Makes C.means seat (Act.ReturnQueues (Change.LeaveSelf home) last) (part word.old row queues.old flags held owed) history.old.items found (part word.new row queues.new flags held owed) history.new.items) }
-    ensures err { OnErr result (IsEvent seat (Change.LeaveSelf home) queues.old × (last ≡ word.old) × (word.new ≡ word.old) × (queues.new ≡ queues.old) × (history.new.items ≡ history.old.items)) }
+    ensures { MatchResult result (λ found. (row flags : List ℕ) (owed : List Owed) (held : _) → Makes C.means seat (Act.ReturnQueues (Change.LeaveSelf home) last) (part word.old row queues.old flags held owed) history.old.items found (part word.new row queues.new flags held owed) history.new.items) (λ fault. IsEvent seat (Change.LeaveSelf home) queues.old × (last ≡ word.old) × (word.new ≡ word.old) × (queues.new ≡ queues.old) × (history.new.items ≡ history.old.items)) }
 {
     if !word.is_same(last) {
         return Ok(Found::Saw(*word));
@@ -164,8 +162,7 @@ fn commit_wake<C: Seated<N>, const N: usize>(
     k: u8,
 ) -> Result<(), AllocError>
     requires { k < 4 }
-    ensures ok { OnOk result (history.new.items ≡ history.old.items ++ change_commits seat (Change.WakeWaiters waking k) queues.now) }
-    ensures err { OnErr result (history.new.items ≡ history.old.items) }
+    ensures { MatchResult result (λ done. history.new.items ≡ history.old.items ++ change_commits seat (Change.WakeWaiters waking k) queues.now) (λ fault. history.new.items ≡ history.old.items) }
 {
     let event = match waking {
         Waking::Signaling => Event::Signal {
@@ -197,9 +194,7 @@ fn return_waking<C: Seated<N>, const N: usize>(
     last: Word,
 ) -> Result<Found, AllocError>
     requires { k < 4 }
-    ensures ok { IfOk result (λ found. (row flags : List ℕ) → Makes C.means seat.old.number (Act.ReturnQueues (Change.WakeWaiters waking k) last) (part word.old row queues.old flags seat.old.held seat.old.owed.items) history.old.items found (part word.new row queues.new flags seat.new.held seat.new.owed.items) history.new.items) }
-    ensures kept { IsSeat seat.old.number seat.old.walk seat.old.asking seat.old.tests seat.new }
-    ensures err { OnErr result ((last ≡ word.old) × (word.new ≡ word.old) × (queues.new ≡ queues.old) × (seat.new ≡ seat.old) × (history.new.items ≡ history.old.items)) }
+    ensures { MatchResult result (λ found. ((row flags : List ℕ) → Makes C.means seat.old.number (Act.ReturnQueues (Change.WakeWaiters waking k) last) (part word.old row queues.old flags seat.old.held seat.old.owed.items) history.old.items found (part word.new row queues.new flags seat.new.held seat.new.owed.items) history.new.items) × StaysThere seat.old seat.new) (λ fault. (last ≡ word.old) × (word.new ≡ word.old) × (queues.new ≡ queues.old) × (seat.new ≡ seat.old) × (history.new.items ≡ history.old.items)) }
 {
     if !word.is_same(last) {
         return Ok(Found::Saw(*word));
@@ -239,9 +234,7 @@ pub(crate) fn return_queues<C: Seated<N>, const N: usize>(
 ) -> Result<Found, AllocError>
     requires below { seat.old.number < 64 }
     requires fits { (row flags : List ℕ) → ChangeFits seat.old.number change (part word.old row queues.old flags seat.old.held seat.old.owed.items) }
-    ensures ok { IfOk result (λ found. (row flags : List ℕ) → Makes C.means seat.old.number (Act.ReturnQueues change last) (part word.old row queues.old flags seat.old.held seat.old.owed.items) history.old.items found (part word.new row queues.new flags seat.new.held seat.new.owed.items) history.new.items) }
-    ensures kept { IsSeat seat.old.number seat.old.walk seat.old.asking seat.old.tests seat.new }
-    ensures err { OnErr result (IsEvent seat.old.number change queues.old × (last ≡ word.old) × (word.new ≡ word.old) × (queues.new ≡ queues.old) × (seat.new ≡ seat.old) × (history.new.items ≡ history.old.items)) }
+    ensures { MatchResult result (λ found. ((row flags : List ℕ) → Makes C.means seat.old.number (Act.ReturnQueues change last) (part word.old row queues.old flags seat.old.held seat.old.owed.items) history.old.items found (part word.new row queues.new flags seat.new.held seat.new.owed.items) history.new.items) × StaysThere seat.old seat.new) (λ fault. IsEvent seat.old.number change queues.old × (last ≡ word.old) × (word.new ≡ word.old) × (queues.new ≡ queues.old) × (seat.new ≡ seat.old) × (history.new.items ≡ history.old.items)) }
 {
     match change {
         Change::QueueSelf(mode, arrival) => Ok(return_queued(
@@ -297,9 +290,7 @@ fn commit<C: Seated<N>, const N: usize>(
     exit: Exit<C>,
 ) -> Result<(), AllocError>
     requires { IsSome held.old }
-    ensures ok { OnOk result (IfSome held.old (λ section. history.new.items ≡ history.old.items ++ section_of C.means.holds seat section exit ∷ [])) }
-    ensures over { OnOk result (held.new ≡ None) }
-    ensures err { OnErr result ((held.new ≡ held.old) × (history.new.items ≡ history.old.items)) }
+    ensures { MatchResult result (λ done. IfSome held.old (λ section. history.new.items ≡ history.old.items ++ section_of C.means.holds seat section exit ∷ []) × (held.new ≡ None)) (λ fault. (held.new ≡ held.old) × (history.new.items ≡ history.old.items)) }
 {
     let Some(section) = *held else { unreachable!() };
     history.push(Event::Section {
@@ -325,8 +316,7 @@ pub(crate) fn release<C: Seated<N>, const N: usize>(
     last: Word,
 ) -> Result<Found, AllocError>
     requires { CanLeave C.means releasing held.old }
-    ensures ok { IfOk result (λ found. (row flags : List ℕ) (owed : List Owed) (queues : _) → Makes C.means seat (Act.Release releasing last) (part word.old row queues flags held.old owed) history.old.items found (part word.new row queues flags held.new owed) history.new.items) }
-    ensures err { OnErr result ((last ≡ word.old) × (word.new ≡ word.old) × (held.new ≡ held.old) × (history.new.items ≡ history.old.items)) }
+    ensures { MatchResult result (λ found. (row flags : List ℕ) (owed : List Owed) (queues : _) → Makes C.means seat (Act.Release releasing last) (part word.old row queues flags held.old owed) history.old.items found (part word.new row queues flags held.new owed) history.new.items) (λ fault. (last ≡ word.old) × (word.new ≡ word.old) × (held.new ≡ held.old) × (history.new.items ≡ history.old.items)) }
 {
     let is_last = word.is_same(last);
     if !is_last {
@@ -350,9 +340,7 @@ pub(crate) fn release_returning<C: Seated<N>, const N: usize>(
     last: Word,
 ) -> Result<Found, AllocError>
     requires { CanLeave C.means releasing seat.old.held }
-    ensures ok { IfOk result (λ found. (flags : List ℕ) → Makes C.means seat.old.number (Act.ReleaseReturning releasing last) (part word.old row.now queues.old flags seat.old.held seat.old.owed.items) history.old.items found (part word.new row.now queues.new flags seat.new.held seat.new.owed.items) history.new.items) }
-    ensures kept { IsSeat seat.old.number seat.old.walk seat.old.asking seat.old.tests seat.new }
-    ensures err { OnErr result ((last ≡ word.old) × (word.new ≡ word.old) × (queues.new ≡ queues.old) × (seat.new ≡ seat.old) × (history.new.items ≡ history.old.items)) }
+    ensures { MatchResult result (λ found. ((flags : List ℕ) → Makes C.means seat.old.number (Act.ReleaseReturning releasing last) (part word.old row.now queues.old flags seat.old.held seat.old.owed.items) history.old.items found (part word.new row.now queues.new flags seat.new.held seat.new.owed.items) history.new.items) × StaysThere seat.old seat.new) (λ fault. (last ≡ word.old) × (word.new ≡ word.old) × (queues.new ≡ queues.old) × (seat.new ≡ seat.old) × (history.new.items ≡ history.old.items)) }
 {
     if !word.is_same(last) {
         return Ok(Found::Saw(*word));
@@ -389,9 +377,7 @@ fn leave_section<C: Seated<N>, const N: usize>(
     again: bool,
 ) -> Result<(), AllocError>
     requires { IsSome held.old }
-    ensures ok { OnOk result (IfSome held.old (λ section. history.new.items ≡ history.old.items ++ (if again then [] else section_of C.means.holds seat section (exit_for on) ∷ []))) }
-    ensures over { OnOk result (held.new ≡ None) }
-    ensures err { OnErr result ((again ≡ false) × (held.new ≡ held.old) × (history.new.items ≡ history.old.items)) }
+    ensures { MatchResult result (λ done. IfSome held.old (λ section. history.new.items ≡ history.old.items ++ (if again then [] else section_of C.means.holds seat section (exit_for on) ∷ [])) × (held.new ≡ None)) (λ fault. (again ≡ false) × (held.new ≡ held.old) × (history.new.items ≡ history.old.items)) }
 {
     if again {
         *held = None;
@@ -417,9 +403,7 @@ pub(crate) fn wait_returning<C: Seated<N>, const N: usize>(
     requires list { IsInRange wait.on }
     requires below { seat.old.number < 64 }
     requires free { times seat.old.number queues.old ≡ 0 }
-    ensures ok { IfOk result (λ found. (flags : List ℕ) → Makes C.means seat.old.number (Act.WaitReturning wait again word.old) (part word.old row.now queues.old flags seat.old.held seat.old.owed.items) history.old.items found (part word.new row.now queues.new flags seat.new.held seat.new.owed.items) history.new.items) }
-    ensures kept { IsSeat seat.old.number seat.old.walk seat.old.asking seat.old.tests seat.new }
-    ensures err { OnErr result ((again ≡ false) × (word.new ≡ word.old) × (queues.new ≡ queues.old) × (seat.new ≡ seat.old) × (history.new.items ≡ history.old.items)) }
+    ensures { MatchResult result (λ found. ((flags : List ℕ) → Makes C.means seat.old.number (Act.WaitReturning wait again word.old) (part word.old row.now queues.old flags seat.old.held seat.old.owed.items) history.old.items found (part word.new row.now queues.new flags seat.new.held seat.new.owed.items) history.new.items) × StaysThere seat.old seat.new) (λ fault. (again ≡ false) × (word.new ≡ word.old) × (queues.new ≡ queues.old) × (seat.new ≡ seat.old) × (history.new.items ≡ history.old.items)) }
 {
     leave_section(seat.number, &mut seat.held, history, wait.on, again)?;
     let scan = scan_and_queue(queues, row, seat.number, wait, again);

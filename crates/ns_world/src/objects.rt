@@ -1,9 +1,9 @@
-//! The counters and once cells of a world, and where its seats stand in calls on them.
+//! The counters and once cells of a world.
 
 ghost use Rattle.std.specs.Prelude.{◌≡◌, ◌<◌, ◌≤◌, length, slice_index, slice_set};
 ghost use Rattle.ns_counters.specs.Steps.{word_at};
-ghost use Rattle.ns_world.specs.Objects.{fresh_objects, object_step_of, put_at, stood_at, wait_in};
-ghost use Rattle.ns_counters.specs.Asks.{walk_in, word_left};
+ghost use Rattle.ns_world.specs.Objects.{fresh_words, object_step_of};
+ghost use Rattle.ns_counters.specs.Asks.{word_left};
 ghost use Rattle.ns_counters.specs.Walks.{object_after};
 
 use crate::reply::object_told;
@@ -24,19 +24,13 @@ pub struct AnyWait {
     pub(crate) shown: Option<u64>,
 }
 
-/// The words of up to 16 counters and up to 16 once cells, and each seat's place in its call on them, if one
-/// is in progress.
+/// The words of up to 16 counters and up to 16 once cells.
 #[derive(Drop)]
 pub(crate) struct Objects {
     /// How many there are of each, and how they began.
     pub(crate) setup: Setup,
     /// Their words.
     pub(crate) words: [u64; 32],
-    /// Each seat's place.
-    pub(crate) walks: [Option<ObjectWalk>; 64],
-    /// Each seat's wait on the lock for condition variables among notes and counters, if it is in one. The
-    /// seat has a place beside it while it looks.
-    pub(crate) waits: [Option<AnyWait>; 64],
 }
 
 /// What a step was, by where it leads.
@@ -62,57 +56,14 @@ pub(crate) fn walk_after(next: ObjectNext) -> Option<ObjectWalk>
 }
 
 impl Objects {
-    /// A counter for each of the values, by number, and so many once cells, for so many seats, none of
-    /// which is in a call.
+    /// A counter for each of the values, by number, and so many once cells, for so many seats.
     pub(crate) fn new(seats: u8, counters: &[u32], cells: u8) -> Objects
         requires { length counters.now ≤ 16 }
-        ensures { result ≡ fresh_objects seats counters.now cells }
+        ensures { result ≡ fresh_words seats counters.now cells }
     {
         let setup = Setup::new(seats, counters, cells);
         let words = setup.words();
-        Objects {
-            setup,
-            words,
-            walks: [None; 64],
-            waits: [None; 64],
-        }
-    }
-
-    /// The seat's place in its call, if one is in progress.
-    pub(crate) fn walk(&self, seat: u8) -> Option<ObjectWalk>
-        ensures { result ≡ walk_in self.now.walks seat }
-    {
-        match self.walks.get(seat as usize) {
-            None => None,
-            Some(walk) => *walk,
-        }
-    }
-
-    /// The seat's wait for condition variables among notes and counters, if it is in one.
-    pub(crate) fn wait(&self, seat: u8) -> Option<AnyWait>
-        ensures { result ≡ wait_in self.now.waits seat }
-    {
-        match self.waits.get(seat as usize) {
-            None => None,
-            Some(wait) => *wait,
-        }
-    }
-
-    /// Puts the seat at a place, and into a wait.
-    pub(crate) fn stand(&mut self, seat: u8, walk: Option<ObjectWalk>, wait: Option<AnyWait>)
-        requires { seat < 64 }
-        ensures { self.new ≡ stood_at self.old seat walk wait }
-    {
-        self.walks[seat as usize] = walk;
-        self.waits[seat as usize] = wait;
-    }
-
-    /// Puts the seat at a place.
-    pub(crate) fn put(&mut self, seat: u8, walk: Option<ObjectWalk>)
-        requires { seat < 64 }
-        ensures { self.new ≡ put_at self.old seat walk }
-    {
-        self.walks[seat as usize] = walk;
+        Objects { setup, words }
     }
 
     /// Makes the step on a word; answers the word found.

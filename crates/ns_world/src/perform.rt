@@ -1,6 +1,6 @@
 //! One atomic step on the parts of a world, as the seat's walk wants it.
 
-ghost use Rattle.std.specs.Prelude.{◌≡◌, ◌<◌, ◌≤◌, Some, None, IsSome, IfOk, OnErr, ℕ, List, []};
+ghost use Rattle.std.specs.Prelude.{◌≡◌, ◌<◌, ◌≤◌, Some, None, IsSome, IfOk, MatchResult, OnErr, ℕ, List, []};
 ghost use Rattle.ns_model.specs.declared.event.Mode.TheVariants.{Write};
 ghost use Rattle.ns_word.specs.declared.owed.Owed.{Owed};
 ghost use Rattle.ns_word.specs.Places.{ActFits, HasMode, OwesOne};
@@ -8,7 +8,7 @@ ghost use Rattle.ns_word.specs.Steps.{Effect};
 ghost use Rattle.ns_word.specs.Walks.{want_of, walk_after};
 ghost use Rattle.ns_world.specs.Commits.{Commits};
 ghost use Rattle.ns_world.specs.Looks.{waits_among, look_of, looks_at};
-ghost use Rattle.ns_world.specs.Performs.{part, seat_part, step_of, tests_after, IsSeat, Makes, Performs};
+ghost use Rattle.ns_world.specs.Performs.{part, seat_part, step_of, tests_after, Makes, Performs, StaysThere};
 
 use crate::exchanges::{
     acquire, release, release_returning, return_queues, take_queues, wait_returning,
@@ -104,9 +104,7 @@ fn make<C: Seated<N>, const N: usize>(
 ) -> Result<Found, AllocError>
     requires fits { ActFits C.means 64 seat.old.number act (seat_part word.old row.old queues.old flags.old seat.old) }
     requires inside { looks_at act ≡ None }
-    ensures ok { IfOk result (λ found. Makes C.means seat.old.number act (seat_part word.old row.old queues.old flags.old seat.old) history.old.items found (seat_part word.new row.new queues.new flags.new seat.new) history.new.items) }
-    ensures kept { IsSeat seat.old.number seat.old.walk seat.old.asking seat.old.tests seat.new }
-    ensures err { OnErr result ((Commits seat.old.number act word.old queues.old) × (word.new ≡ word.old) × (row.new ≡ row.old) × (queues.new ≡ queues.old) × (flags.new ≡ flags.old) × (seat.new ≡ seat.old) × (history.new.items ≡ history.old.items)) }
+    ensures { MatchResult result (λ found. Makes C.means seat.old.number act (seat_part word.old row.old queues.old flags.old seat.old) history.old.items found (seat_part word.new row.new queues.new flags.new seat.new) history.new.items × StaysThere seat.old seat.new) (λ fault. (Commits seat.old.number act word.old queues.old) × (word.new ≡ word.old) × (row.new ≡ row.old) × (queues.new ≡ queues.old) × (flags.new ≡ flags.old) × (seat.new ≡ seat.old) × (history.new.items ≡ history.old.items)) }
 {
     match act {
         Act::LoadWord => Ok(Found::Saw(*word)),

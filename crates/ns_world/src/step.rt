@@ -54,6 +54,6 @@ pub(crate) fn place<C: Seated<N>, const N: usize>(seat: &mut Seat<C, N>, start: 
     match start {
         Start::OnLock(walk) => seat.walk = Some(walk),
         Start::Ask(walk) => seat.asking = Some(walk),
-        Start::OnObjects(_) => {}
+        Start::OnObjects(walk) => seat.operating = Some(walk),
     }
 }

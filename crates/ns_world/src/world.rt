@@ -1,24 +1,22 @@
 //! The world: the lock with its row, a clock and notes, and beside it counters and once cells, one
 //! step at a time.
 
-ghost use Rattle.std.specs.Prelude.{◌≡◌, ◌≤◌, ◌<◌, ℕ, Some, None, length, map, slice_index, MatchResult, IfOk, IfErr};
+ghost use Rattle.std.specs.Prelude.{◌≡◌, ◌≤◌, ◌<◌, ℕ, length, map, slice_index, MatchResult, IfOk, IfErr};
 ghost use Rattle.ns_model.specs.Histories.{IsLegal, IsBySeats};
 ghost use Rattle.ns_model.specs.Seats.{is_in};
 ghost use Rattle.ns_queue.specs.Waiters.{shown_of};
 ghost use Rattle.ns_world.specs.Begins.{BeginFault};
 ghost use Rattle.ns_world.specs.Calls.{CallInRange};
-ghost use Rattle.ns_counters.specs.Asks.{walk_in};
 ghost use Rattle.ns_world.specs.Shows.{lists_shown, wakes_owed};
 ghost use Rattle.ns_world.specs.Whole.{fresh_whole, whole_of, whole_busy, IsLawfulWhole, WholeBegins, WholeStep, WholeFault};
 ghost use Rattle.ns_world.specs.World.{now_of, RefusesWorld};
 
-use crate::among::{is_for_lock, tell_lock, told_by_lock};
+use crate::among::{step_objects, told_by_lock};
 use crate::call::Call;
 use crate::environment::Environment;
 use crate::fault::Fault;
 use crate::looks::step_env;
 use crate::objects::Objects;
-use crate::operate::{begin_on, operate};
 use crate::perform::perform;
 use crate::room::Seated;
 use crate::seat::Seat;
@@ -26,7 +24,6 @@ use crate::seats::{busy_seats, is_busy, new_seats};
 use crate::shows::{owed_wakes, shown_queues};
 use crate::state::State;
 use crate::step::{Begun, Step, mode_of, place};
-use ns_counters::walk::ObjectWalk;
 use ns_model::condition::Condition;
 use ns_model::event::Event;
 use ns_queue::queues::Queues;
@@ -117,14 +114,10 @@ impl<C: Seated<N>, const N: usize> World<C, N> {
         if is_busy(here) {
             return Ok(Begun::Busy);
         }
-        if self.objects.walk(seat).is_some() {
-            return Ok(Begun::Busy);
-        }
         match call.start::<N>(mode_of(&here.held), &self.env.notes, &self.objects.setup) {
             None => Ok(Begun::Misuse),
             Some(start) => {
                 place(&mut self.seats[at], start);
-                begin_on(&mut self.objects, seat, call.on_objects());
                 Ok(Begun::Started)
             }
         }
@@ -144,8 +137,8 @@ impl<C: Seated<N>, const N: usize> World<C, N> {
         if at >= self.seats.len() {
             return Err(Fault::NoSuchSeat);
         }
-        if let Some(walk) = self.objects.walk(seat) {
-            return Ok(self.step_objects(seat, walk));
+        if let Some(walk) = self.seats[at].operating {
+            return Ok(step_objects(&self.env, &mut self.objects, &mut self.seats[at], walk));
         }
         if let Some(place) = self.seats[at].asking {
             return Ok(step_env(&mut self.env, &mut self.seats[at], place));
@@ -162,40 +155,9 @@ impl<C: Seated<N>, const N: usize> World<C, N> {
             &mut self.history,
             walk,
         ) {
-            Ok(told) => match self.objects.wait(seat) {
-                None => Ok(told),
-                Some(wait) => Ok(told_by_lock(
-                    &self.seats[at],
-                    &mut self.objects,
-                    seat,
-                    wait,
-                    told,
-                )),
-            },
+            Ok(told) => Ok(told_by_lock(&mut self.seats[at], told)),
             Err(_) => Err(Fault::OutOfMemory),
         }
-    }
-
-    /// Makes the step that the seat's place on counters and once cells wants; and where a round is over that is
-    /// for the lock, tells that what it has shown.
-    fn step_objects(&mut self, seat: u8, walk: ObjectWalk) -> Step
-        requires { walk_in self.old.objects.walks seat ≡ Some walk }
-        ensures lawful { IsLawfulWhole (whole_of C.means self.new) }
-        ensures ok { WholeStep (whole_of C.means self.old) (whole_of C.means self.new) seat result }
-    {
-        let told = operate(&self.env, &mut self.objects, seat, walk);
-        let wait = self.objects.wait(seat);
-        if !is_for_lock(&wait, &walk, told) {
-            return told;
-        }
-        tell_lock(
-            &mut self.seats[seat as usize],
-            &mut self.objects,
-            seat,
-            wait,
-            walk,
-            told,
-        )
     }
 
     /// All that has happened to the row and the variables, which is a legal history by seats of this
@@ -239,7 +201,7 @@ impl<C: Seated<N>, const N: usize> World<C, N> {
             ],
             owed: owed_wakes(&self.seats),
             row: self.row,
-            busy: busy_seats(&self.seats, &self.objects),
+            busy: busy_seats(&self.seats),
         }
     }
 

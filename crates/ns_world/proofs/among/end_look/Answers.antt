@@ -10,11 +10,8 @@ see-requires g c = g.met.C.Seated.seat_fits
 pub shown_by-shown-requires : goal.shown_by-shown-requires
 shown_by-shown-requires g c = tt
 
-pub stand-requires : goal.stand-requires
-stand-requires g c = c.requires.seat
-
 pub unreachable-requires : goal.unreachable-requires
-unreachable-requires g c = absurd (false≢true (rw c.in_default.is at c.requires.walks))
+unreachable-requires g c = absurd (false≢true (rw c.in_default.is at c.requires))
 
 pub returns : goal.returns
-returns g c = λ walk. (c.in-Some.place, c.in-Some.is, rw (← c.shown_by-shown.ensures, ← c.cause_of.ensures) c.see.ensures, rw (← c.shown_by-shown.ensures) c.stand.ensures)
+returns g c = λ walk. (c.in-Some.place, c.in-Some.is, rw (← c.shown_by-shown.ensures, ← c.cause_of.ensures) c.see.ensures)

@@ -10,17 +10,8 @@ leaves_none : {C : Type 0} {N : ℕ} (seat : ℕ) (home : Home) (v : Variables) 
 leaves_none seat home v lists items is none = rw (is, none) (sym (ap (λ more. items ++ more) (not_leaving seat (AtVariables v)) ∙ append-nil items))
 
 -- found by what the call of the condition answers, whichever call that is
-pub returns-else-stands-clause-ok : goal.returns-else-stands-clause-ok
-returns-else-stands-clause-ok g c = leaves_none {C = g.row.C.Denot} {N = g.row.N} c.args.seat c.args.home c.in-AtVariables.variables c.args.queues.now c.args.history.now.items c.in-AtVariables.is (grind rules)
+pub returns-else-stands : goal.returns-else-stands
+returns-else-stands g c = leaves_none {C = g.row.C.Denot} {N = g.row.N} c.args.seat c.args.home c.in-AtVariables.variables c.args.queues.now c.args.history.now.items c.in-AtVariables.is (grind rules)
 
 pub leaving-requires : goal.leaving-requires
 leaving-requires g c = g.met.C.Fits.event_fits
-
-pub returns-in_ok-push-clause-err : goal.returns-in_ok-push-clause-err
-returns-in_ok-push-clause-err g c = tt
-
-pub returns-else-stands-clause-err : goal.returns-else-stands-clause-err
-returns-else-stands-clause-err g c = tt
-
-pub returns-in_default-clause-err : goal.returns-in_default-clause-err
-returns-in_default-clause-err g c = tt

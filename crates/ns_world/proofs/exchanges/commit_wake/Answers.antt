@@ -3,8 +3,8 @@ use Rattle.ns_model.specs.declared.event.Event.TheVariants.{Signal, Broadcast}
 use Rattle.ns_world.proofs.exchanges.commit_wake.Goals.{in-Signaling, in-Broadcasting}
 use Rattle.ns_world.proofs.exchanges.commit_wake.Goals as goal
 
-pub returns-clause-ok : goal.returns-clause-ok
-returns-clause-ok g c = elim c.match-waking.branch [
+pub returns : goal.returns
+returns g c = elim c.match-waking.branch [
   | in-Signaling w ↦ rw w.in-Signaling.is (c.in_ok-push.ensures.items ∙ ap (λ e. c.args.history.now.items ++ e ∷ []) (w.event-is ∙ ap (λ s. Signal c.args.seat c.args.k s) w.signaled_set.ensures))
   | in-Broadcasting w ↦ rw w.in-Broadcasting.is (c.in_ok-push.ensures.items ∙ ap (λ e. c.args.history.now.items ++ e ∷ []) (w.event-is ∙ ap (λ s. Broadcast c.args.seat c.args.k s) w.waiting_set.ensures))
 ]

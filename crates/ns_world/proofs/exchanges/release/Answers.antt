@@ -2,14 +2,14 @@ use Rattle.std.proofs.Common.{refl}
 use Rattle.ns_world.proofs.Released.{released, release_missed, can_some}
 use Rattle.ns_world.proofs.exchanges.release.Goals as goal
 
-pub returns-then-not-is_last-clause-ok : goal.returns-then-not-is_last-clause-ok
-returns-then-not-is_last-clause-ok g c = λ row flags owed queues.
+pub returns-then-not-is_last : goal.returns-then-not-is_last
+returns-then-not-is_last g c = λ row flags owed queues.
     release_missed _ c.args.seat c.args.releasing c.args.last c.args.word.now row flags owed c.args.history.now.items queues c.args.held.now (c.if-not-is_last.ensures.another refl)
 
 pub commit-requires : goal.commit-requires
 commit-requires g c = (g.met.C.Fits.held_fits, (g.met.C.Fits.event_fits, can_some g.C.Condition.means c.args.releasing c.args.held.now c.requires))
 
-pub returns-clause-ok : goal.returns-clause-ok
-returns-clause-ok g c = λ row flags owed queues.
+pub returns : goal.returns
+returns g c = λ row flags owed queues.
     released _ c.args.seat c.args.releasing c.args.last c.args.word.now c.released.result row flags c.args.history.now.items c.commit.new.history.items queues owed c.args.held.now c.commit.new.held
-    c.requires c.in_ok-commit.ensures.ok (c.if-not-is_last.ensures.same refl) c.released.ensures c.in_ok-commit.ensures.over
+    c.requires c.in_ok-commit.ensures.0 (c.if-not-is_last.ensures.same refl) c.released.ensures c.in_ok-commit.ensures.1

@@ -4,39 +4,33 @@ use Rattle.ns_world.specs.Prelude.{called_by}
 use Rattle.ns_world.proofs.Released.{scanned, missed, some_left, can_some}
 use Rattle.ns_world.proofs.exchanges.release_returning.Goals as goal
 
-pub returns-then-not-is_same-clause-ok : goal.returns-then-not-is_same-clause-ok
-returns-then-not-is_same-clause-ok g c = λ flags.
-    missed _ c.args.seat.now.number c.args.releasing c.args.last c.args.word.now c.args.word.now c.args.row.now flags c.args.history.now.items c.args.history.now.items c.args.queues.now c.args.seat.now.owed.items c.args.seat.now.held
-    (c.if-not-is_same.ensures.another refl)
+pub returns-then-not-is_same : goal.returns-then-not-is_same
+returns-then-not-is_same g c = (
+  λ flags.
+      missed _ c.args.seat.now.number c.args.releasing c.args.last c.args.word.now c.args.word.now c.args.row.now flags c.args.history.now.items c.args.history.now.items c.args.queues.now c.args.seat.now.owed.items c.args.seat.now.held
+      (c.if-not-is_same.ensures.another refl),
+  refl,
+)
 
 pub commit-requires : goal.commit-requires
 commit-requires g c = (g.met.C.Fits.held_fits, (g.met.C.Fits.event_fits, can_some g.C.Condition.means c.args.releasing c.args.seat.now.held c.requires))
 
-pub returns-in_err-commit-clause-err : goal.returns-in_err-commit-clause-err
-returns-in_err-commit-clause-err g c =
+pub returns-in_err-commit : goal.returns-in_err-commit
+returns-in_err-commit g c =
     let p = err_from_is_err_and c.from_residual.result c.from_residual.ensures.1 in
-    let err = c.in_err-commit.ensures.err in
+    let err = c.in_err-commit.ensures in
     rw p.1 (sym (c.if-not-is_same.ensures.same refl), refl, refl, rw err.0 (refl {a = c.args.seat.now}), err.1)
 
-pub returns-clause-ok : goal.returns-clause-ok
-returns-clause-ok g c = λ flags.
-    scanned _ c.args.seat.now.number c.args.releasing c.args.last c.args.word.now c.released_returning.result c.args.row.now flags c.args.history.now.items c.commit.new.history.items
-    c.args.queues.now c.scan-scan.new.self c.args.seat.now.owed.items c.called-seat.result.items c.args.seat.now.held c.commit.new.held (not c.is_empty-owes.result) c.scan-scan.result.tests c.bits.result
-    c.requires c.in_ok-commit.ensures.ok (c.if-not-is_same.ensures.same refl) c.released_returning.ensures c.in_ok-commit.ensures.over
-    c.scan-scan.ensures.left (are_called _ _ _ _ (c.called-seat.ensures ∙ (λ i. called_by (c.as_slice.ensures.value i) (c.as_slice-2.ensures.value i))) c.scan-scan.ensures.woken c.scan-scan.ensures.vias) (ap not c.is_empty-owes.ensures ∙ some_left _
-    ∙ some_called _ _ _ c.scan-scan.ensures.woken (are_called _ _ _ _ (c.called-seat.ensures ∙ (λ i. called_by (c.as_slice.ensures.value i) (c.as_slice-2.ensures.value i))) c.scan-scan.ensures.woken c.scan-scan.ensures.vias)) c.bits.ensures c.scan-scan.ensures.tests
-
-pub returns-then-not-is_same-clause-kept : goal.returns-then-not-is_same-clause-kept
-returns-then-not-is_same-clause-kept g c = record { number = refl; walk = refl; asking = refl; tests = refl }
-
-pub returns-in_err-commit-clause-kept : goal.returns-in_err-commit-clause-kept
-returns-in_err-commit-clause-kept g c = record { number = refl; walk = refl; asking = refl; tests = refl }
-
-pub returns-clause-kept : goal.returns-clause-kept
-returns-clause-kept g c = record { number = refl; walk = refl; asking = refl; tests = refl }
-
-pub returns-in_err-commit-clause-ok : goal.returns-in_err-commit-clause-ok
-returns-in_err-commit-clause-ok g c = let p = err_from_is_err_and c.from_residual.result c.from_residual.ensures.1 in rw p.1 tt
+pub returns : goal.returns
+returns g c = (
+  λ flags.
+      scanned _ c.args.seat.now.number c.args.releasing c.args.last c.args.word.now c.released_returning.result c.args.row.now flags c.args.history.now.items c.commit.new.history.items
+      c.args.queues.now c.scan-scan.new.self c.args.seat.now.owed.items c.called-seat.result.items c.args.seat.now.held c.commit.new.held (not c.is_empty-owes.result) c.scan-scan.result.tests c.bits.result
+      c.requires c.in_ok-commit.ensures.0 (c.if-not-is_same.ensures.same refl) c.released_returning.ensures c.in_ok-commit.ensures.1
+      c.scan-scan.ensures.left (are_called _ _ _ _ (c.called-seat.ensures ∙ (λ i. called_by (c.as_slice.ensures.value i) (c.as_slice-2.ensures.value i))) c.scan-scan.ensures.woken c.scan-scan.ensures.vias) (ap not c.is_empty-owes.ensures ∙ some_left _
+      ∙ some_called _ _ _ c.scan-scan.ensures.woken (are_called _ _ _ _ (c.called-seat.ensures ∙ (λ i. called_by (c.as_slice.ensures.value i) (c.as_slice-2.ensures.value i))) c.scan-scan.ensures.woken c.scan-scan.ensures.vias)) c.bits.ensures c.scan-scan.ensures.tests,
+  refl,
+)
 
 pub scan-scan-requires : goal.scan-scan-requires
 scan-scan-requires g c = (g.met.C.Seated.queues_fit, omega arith)

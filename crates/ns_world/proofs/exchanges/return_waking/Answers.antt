@@ -6,45 +6,33 @@ use Rattle.ns_world.proofs.Waited.{woken_back, change_missed}
 use Rattle.ns_queue.proofs.Orders.{list_small}
 use Rattle.ns_world.proofs.exchanges.return_waking.Goals as goal
 
-pub returns-then-not-is_same-clause-ok : goal.returns-then-not-is_same-clause-ok
-returns-then-not-is_same-clause-ok g c = λ row flags.
-    change_missed g.C.Condition.means c.args.seat.now.number c.args.last c.args.word.now row flags c.args.history.now.items (WakeWaiters c.args.waking c.args.k) c.args.seat.now.owed.items c.args.seat.now.held c.args.queues.now (c.if-not-is_same.ensures.another refl)
+pub returns-then-not-is_same : goal.returns-then-not-is_same
+returns-then-not-is_same g c = (
+  λ row flags.
+      change_missed g.C.Condition.means c.args.seat.now.number c.args.last c.args.word.now row flags c.args.history.now.items (WakeWaiters c.args.waking c.args.k) c.args.seat.now.owed.items c.args.seat.now.held c.args.queues.now (c.if-not-is_same.ensures.another refl),
+  refl,
+)
 
-pub returns-clause-ok : goal.returns-clause-ok
-returns-clause-ok g c = λ row flags.
-    woken_back g.C.Condition.means c.args.seat.now.number c.args.last c.args.word.now row flags c.args.history.now.items c.args.waking c.args.k c.returned.result c.commit_wake.new.history.items c.args.seat.now.owed.items c.wake_waiters-seat.result.items c.args.seat.now.held
-    c.args.queues.now c.wake_waiters-seat.new.queues c.is_held-held.result (not c.is_empty-some.result) c.bits.result
-    (sym (c.if-not-is_same.ensures.same refl)) c.in_ok-commit_wake.ensures.ok c.is_held-held.ensures (ap not c.is_empty-some.ensures ∙ some_left _ ∙ ap has_some c.waiters.ensures)
-    c.wake_waiters-seat.ensures.owed c.wake_waiters-seat.ensures.lists c.bits.ensures c.returned.ensures
+pub returns : goal.returns
+returns g c = (
+  λ row flags.
+      woken_back g.C.Condition.means c.args.seat.now.number c.args.last c.args.word.now row flags c.args.history.now.items c.args.waking c.args.k c.returned.result c.commit_wake.new.history.items c.args.seat.now.owed.items c.wake_waiters-seat.result.items c.args.seat.now.held
+      c.args.queues.now c.wake_waiters-seat.new.queues c.is_held-held.result (not c.is_empty-some.result) c.bits.result
+      (sym (c.if-not-is_same.ensures.same refl)) c.in_ok-commit_wake.ensures c.is_held-held.ensures (ap not c.is_empty-some.ensures ∙ some_left _ ∙ ap has_some c.waiters.ensures)
+      c.wake_waiters-seat.ensures.owed c.wake_waiters-seat.ensures.lists c.bits.ensures c.returned.ensures,
+  refl,
+)
 
-pub returns-then-not-is_same-clause-kept : goal.returns-then-not-is_same-clause-kept
-returns-then-not-is_same-clause-kept g c = record { number = refl; walk = refl; asking = refl; tests = refl }
-
-pub returns-clause-kept : goal.returns-clause-kept
-returns-clause-kept g c = record { number = refl; walk = refl; asking = refl; tests = refl }
-
-pub returns-in_err-commit_wake-clause-err : goal.returns-in_err-commit_wake-clause-err
-returns-in_err-commit_wake-clause-err g c =
+pub returns-in_err-commit_wake : goal.returns-in_err-commit_wake
+returns-in_err-commit_wake g c =
     let p = err_from_is_err_and c.from_residual.result c.from_residual.ensures.1 in
-    rw p.1 (sym (c.if-not-is_same.ensures.same refl), refl, refl, refl, c.in_err-commit_wake.ensures.err)
+    rw p.1 (sym (c.if-not-is_same.ensures.same refl), refl, refl, refl, c.in_err-commit_wake.ensures)
 
 pub bits-requires : goal.bits-requires
 bits-requires g c = g.met.C.Seated.queues_fit
 
 pub returned-requires : goal.returned-requires
 returned-requires g c = tt
-
-pub returns-then-not-is_same-clause-err : goal.returns-then-not-is_same-clause-err
-returns-then-not-is_same-clause-err g c = tt
-
-pub returns-in_err-commit_wake-clause-ok : goal.returns-in_err-commit_wake-clause-ok
-returns-in_err-commit_wake-clause-ok g c = let p = err_from_is_err_and c.from_residual.result c.from_residual.ensures.1 in rw p.1 tt
-
-pub returns-in_err-commit_wake-clause-kept : goal.returns-in_err-commit_wake-clause-kept
-returns-in_err-commit_wake-clause-kept g c = record { number = refl; walk = refl; asking = refl; tests = refl }
-
-pub returns-clause-err : goal.returns-clause-err
-returns-clause-err g c = tt
 
 pub commit_wake-requires : goal.commit_wake-requires
 commit_wake-requires g c = (g.met.C.Seated.queues_fit, (g.met.C.Fits.event_fits, c.requires))

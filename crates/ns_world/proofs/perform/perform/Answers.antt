@@ -1,5 +1,5 @@
 use Rattle.std.proofs.Common.{arith, ap, ◌∙◌}
-use Rattle.ns_world.specs.Prelude.{look_of, step_of, tests_after, walk_after}
+use Rattle.ns_world.specs.Prelude.{Seat, look_of, step_of, tests_after, walk_after}
 use Rattle.ns_world.proofs.perform.perform.Goals as goal
 
 pub make-requires : goal.make-requires
@@ -7,16 +7,17 @@ make-requires g c = (omega arith, (g.met.C.Seated.queues_fit, (g.met.C.Seated.se
 
 pub returns-clause-ok : goal.returns-clause-ok
 returns-clause-ok g c =
-    let made = c.in_ok-found.ensures.ok in
-    let kept = c.in_ok-found.ensures.kept in
+    let made = c.in_ok-found.ensures.0 in
+    let kept = c.in_ok-found.ensures.1 in
     rw c.settle.ensures.seat (record {
       found = c.in_ok-found.found;
       commits = made.commits;
       effect = rw (← c.want.ensures) made.effect;
-      number = kept.number;
-      goes = ap walk_after c.got.ensures;
-      asking = ap (λ next. look_of (walk_after next)) c.got.ensures;
-      tests = c.tests_after-seat.ensures ∙ ap (tests_after c.in_ok-found.found) kept.tests;
+      goes = λ i. record (kept i) {
+        walk = walk_after (c.got.ensures i);
+        asking = look_of (walk_after (c.got.ensures i));
+        tests = (c.tests_after-seat.ensures ∙ ap (λ (s : Seat _ _). tests_after c.in_ok-found.found s.tests) kept) i;
+      };
       grows = made.grows;
       answers = c.settle.ensures.step ∙ ap step_of c.got.ensures;
     })

@@ -2,36 +2,35 @@ use Rattle.ns_world.proofs.Sizes.{less_left}
 use Rattle.std.proofs.Common.{◌≤◌, length, sym, ◌∙◌, arith}
 use Rattle.ns_world.specs.Prelude.{is_in}
 use Rattle.ns_world.proofs.Busy.{first_all, first_with, first_without, in_call, in_call_here, in_no_call}
-use Rattle.ns_world.proofs.seats.busy_seats.Goals.{then-is_in_call, else-is_in_call}
+use Rattle.ns_world.proofs.seats.busy_seats.Goals.{then-is_busy, else-is_busy}
 use Rattle.ns_world.proofs.seats.busy_seats.Goals as goal
 
 pub loop-at-preserved : goal.loop-at-preserved
 loop-at-preserved g c =
-    let walks = c.args.objects.now.walks in
-    let here = in_call_here c.args.seats.now walks c.loop-at.at c.index-seats-at.result c.loop-at-test.true c.index-seats-at.is in
-    elim c.if-is_in_call.branch [
-      | then-is_in_call w ↦ rw w.busy-is (first_with (in_call c.args.seats.now walks) (λ n. is_in c.loop-at.busy n) (λ n. is_in w.with-busy.result n) c.loop-at.at w.with-busy.ensures
-          (here ∙ sym c.is_in_call.ensures ∙ w.if-is_in_call.true) c.loop-at.invariant)
-      | else-is_in_call w ↦ rw w.busy-is (first_without (in_call c.args.seats.now walks) (λ n. is_in c.loop-at.busy n) c.loop-at.at (here ∙ sym c.is_in_call.ensures ∙ w.if-is_in_call.false) c.loop-at.invariant)
+    let here = in_call_here c.args.seats.now c.loop-at.at c.index-seats-at.result c.loop-at-test.true c.index-seats-at.is in
+    elim c.if-is_busy.branch [
+      | then-is_busy w ↦ rw w.busy-is (first_with (in_call c.args.seats.now) (λ n. is_in c.loop-at.busy n) (λ n. is_in w.with-busy.result n) c.loop-at.at w.with-busy.ensures
+          (here ∙ sym c.is_busy.ensures ∙ w.if-is_busy.true) c.loop-at.invariant)
+      | else-is_busy w ↦ rw w.busy-is (first_without (in_call c.args.seats.now) (λ n. is_in c.loop-at.busy n) c.loop-at.at (here ∙ sym c.is_busy.ensures ∙ w.if-is_busy.false) c.loop-at.invariant)
     ]
 
 pub returns : goal.returns
 returns g c = λ number.
     let seats = c.args.seats.now in
     let all : length seats ≤ c.loop-at.at = omega arith in
-    first_all (in_call seats c.args.objects.now.walks) (λ n. is_in c.loop-at.busy n) c.loop-at.at (length seats) number all c.loop-at.invariant (in_no_call seats c.args.objects.now.walks c.requires.there number)
+    first_all (in_call seats) (λ n. is_in c.loop-at.busy n) c.loop-at.at (length seats) number all c.loop-at.invariant (in_no_call seats number)
 
 pub loop-at-init : goal.loop-at-init
 loop-at-init g c = λ number. (λ below. absurd (omega (arith, below)), λ past. c.none-busy.ensures number)
 
 pub overflow_cast-at : goal.overflow_cast-at
-overflow_cast-at g c = omega (arith, c.requires.few, c.loop-at-test.true)
+overflow_cast-at g c = omega (arith, c.requires, c.loop-at-test.true)
 
 pub with-busy-requires : goal.with-busy-requires
-with-busy-requires g c = omega (arith, c.requires.few, c.loop-at-test.true)
+with-busy-requires g c = omega (arith, c.requires, c.loop-at-test.true)
 
-pub is_in_call-requires : goal.is_in_call-requires
-is_in_call-requires g c = g.met.C.Seated.seat_fits
+pub is_busy-requires : goal.is_busy-requires
+is_busy-requires g c = g.met.C.Seated.seat_fits
 
 pub bounds-seats-at : goal.bounds-seats-at
 bounds-seats-at g c = c.loop-at-test.true

@@ -20,6 +20,8 @@ loop-number-preserved g c =
       seat_moved c.loop-number.made.items _ n (c.args.seats - n) _ refl refl refl c.new.ensures (omega arith) c.loop-number.invariant.0,
       moved (λ s. s.tests) c.loop-number.made.items _ _ _ _ (copies_next 0 (c.args.seats - n) (omega arith)) c.loop-number.invariant.1,
       moved (λ s. s.asking) c.loop-number.made.items _ _ _ _ (copies_next None (c.args.seats - n) (omega arith)) c.loop-number.invariant.2,
+      moved (λ s. s.operating) c.loop-number.made.items _ _ _ _ (copies_next None (c.args.seats - n) (omega arith)) c.loop-number.invariant.3,
+      moved (λ s. s.awaits) c.loop-number.made.items _ _ _ _ (copies_next None (c.args.seats - n) (omega arith)) c.loop-number.invariant.4,
     )
 
 pub returns-clause-views : goal.returns-clause-views
@@ -37,7 +39,17 @@ returns-clause-asking g c =
     let past : c.args.seats - c.loop-number.number ≡ 0 = omega arith in
     sym (append-nil (map (λ s. s.asking) c.loop-number.made.items)) ∙ rw past at c.loop-number.invariant.2
 
+pub returns-clause-operating : goal.returns-clause-operating
+returns-clause-operating g c =
+    let past : c.args.seats - c.loop-number.number ≡ 0 = omega arith in
+    sym (append-nil (map (λ s. s.operating) c.loop-number.made.items)) ∙ rw past at c.loop-number.invariant.3
+
+pub returns-clause-awaits : goal.returns-clause-awaits
+returns-clause-awaits g c =
+    let past : c.args.seats - c.loop-number.number ≡ 0 = omega arith in
+    sym (append-nil (map (λ s. s.awaits) c.loop-number.made.items)) ∙ rw past at c.loop-number.invariant.4
+
 pub loop-number-init : goal.loop-number-init
 loop-number-init g c =
     let all = all_left c.args.seats in
-    rw (c.new-made.ensures.items, all) (refl, refl, refl)
+    rw (c.new-made.ensures.items, all) (refl, refl, refl, refl, refl)

@@ -1,17 +1,10 @@
-use Rattle.std.proofs.Common.{◌≡◌, ◌<◌, ◌≤◌, sym, ◌∙◌, ap, inl, inr, length, refl, subst, Option, Some, None, is_some, true, false}
-use Rattle.ns_world.specs.Prelude.{walk_in}
-use Rattle.ns_world.proofs.Placed.{busy_here, idle_walk, idle_ask}
+use Rattle.std.proofs.Common.{◌<◌, ◌≤◌, sym, ◌∙◌, length, refl, subst}
+use Rattle.ns_world.specs.Prelude.{whole_of}
+use Rattle.ns_world.proofs.Tells.{busy_here, idle_by}
 use Rattle.ns_world.proofs.Tells.{begins_here, misused_here}
-use Rattle.ns_world.proofs.Worlds.{below_64, past_views, same_element}
+use Rattle.ns_world.proofs.Wholes.{start_keeps}
+use Rattle.ns_world.proofs.Worlds.{past_views, same_element}
 use Rattle.ns_world.proofs.world.World.begin.Goals as goal
-
-none_by : {A : Type 0} (walk : Option A) → is_some walk ≡ false → walk ≡ None
-none_by None e = refl
-none_by (Some walk) e = absurd (cc)
-
-some_by : {A : Type 0} (walk : Option A) → is_some walk ≡ true → (x : A) × (walk ≡ Some x)
-some_by (Some walk) e = (walk, refl)
-some_by None e = absurd (cc)
 
 pub returns-then-at-len-clause-err : goal.returns-then-at-len-clause-err
 returns-then-at-len-clause-err g c = let past : length c.self.inside.seats.items ≤ c.args.seat = subst (λ n. n ≤ c.args.seat) (c.len.ensures ∙ c.self.inside.seats.ok.0) c.if-at-len.true in rw (← c.self.view_is) (refl, past_views c.self.inside.seats.items c.args.seat past)
@@ -19,49 +12,22 @@ returns-then-at-len-clause-err g c = let past : length c.self.inside.seats.items
 pub returns-then-is_busy-clause-ok : goal.returns-then-is_busy-clause-ok
 returns-then-is_busy-clause-ok g c =
     let within : c.args.seat < length c.self.inside.seats.items = subst (λ n. c.args.seat < n) (c.len.ensures ∙ c.self.inside.seats.ok.0) c.if-at-len.false in
+    let busy = sym c.is_busy.ensures ∙ c.if-is_busy.true in
     rw (← c.self.view_is) (
       refl,
-      inl (busy_here g.C.Condition.means c.self.inside.word c.self.inside.row c.self.inside.queues c.self.inside.flags c.self.inside.env c.self.inside.seats.items c.self.inside.history.items c.args.seat c.index-here.result.now within c.index-here.ensures
-          (sym c.is_busy.ensures ∙ c.if-is_busy.true)),
+      busy_here g.C.Condition.means c.self.inside.word c.self.inside.row c.self.inside.queues c.self.inside.flags c.self.inside.env c.self.inside.seats.items c.self.inside.history.items c.self.inside.objects c.self.invariant c.args.seat c.index-here.result.now within
+          (rw c.index-here.ensures at busy),
     )
-
-pub returns-then-is_some-clause-ok : goal.returns-then-is_some-clause-ok
-returns-then-is_some-clause-ok g c =
-    rw (← c.self.view_is) (refl, inr (some_by (walk_in c.self.inside.objects.walks c.args.seat) (ap is_some (sym c.walk.ensures) ∙ sym c.is_some.ensures ∙ c.if-is_some.true)))
 
 pub returns-in-None-clause-ok : goal.returns-in-None-clause-ok
 returns-in-None-clause-ok g c =
     let here = c.index-here.result.now in
     let within : c.args.seat < length c.self.inside.seats.items = subst (λ n. c.args.seat < n) (c.len.ensures ∙ c.self.inside.seats.ok.0) c.if-at-len.false in
-    let idle = sym c.is_busy.ensures ∙ c.if-is_busy.false in
-    let over = rw c.index-here.ensures at (idle_walk here.walk here.asking idle) in
-    let unasked = rw c.index-here.ensures at (idle_ask here.walk here.asking idle) in
-    let nowhere = sym c.walk.ensures ∙ none_by c.walk.result (sym c.is_some.ensures ∙ c.if-is_some.false) in
-    rw (← c.self.view_is) (
-      refl,
-      misused_here g.C.Condition.means g.met.C.Condition.has_cells.0 g.met.C.Condition.quiet_keeps
-          c.self.inside.word c.self.inside.row c.self.inside.queues c.self.inside.flags c.self.inside.env c.self.inside.seats.items c.self.inside.history.items c.self.inside.objects c.self.invariant c.args.seat here within
-          c.args.call over unasked nowhere (rw (c.mode_of.ensures, c.index-here.ensures) at c.in-None.ensures),
-      nowhere,
-    )
-
-pub invariant_of-self : goal.invariant_of-self
-invariant_of-self g c =
-    let seat = c.index_mut.result.now in
-    let within : c.args.seat < length c.self.inside.seats.items = subst (λ n. c.args.seat < n) (c.len.ensures ∙ c.self.inside.seats.ok.0) c.if-at-len.false in
-    let same = same_element c.self.inside.seats.items c.args.seat c.index-here.result.now seat within c.index-here.ensures c.index_mut.ensures.value in
-    let is = c.index_mut.ensures.value in
-    let idle = sym c.is_busy.ensures ∙ c.if-is_busy.false in
-    let over = idle_walk c.index-here.result.now.walk c.index-here.result.now.asking idle in
-    let unasked = idle_ask c.index-here.result.now.walk c.index-here.result.now.asking idle in
-    let nowhere = sym c.walk.ensures ∙ none_by c.walk.result (sym c.is_some.ensures ∙ c.if-is_some.false) in
-    let begun = begins_here g.C.Condition.means g.met.C.Condition.has_cells.0 g.met.C.Condition.quiet_keeps
-    c.self.inside.word c.self.inside.row c.self.inside.queues c.self.inside.flags c.self.inside.env c.self.inside.seats.items c.self.inside.history.items c.self.inside.objects c.self.invariant c.args.seat seat within
-    c.args.call (rw (same, is) at over) (rw (same, is) at unasked) nowhere c.in-Some.start c.requires (rw (c.mode_of.ensures, same, is) at c.in-Some.ensures.0) (rw (c.mode_of.ensures, same, is) at c.in-Some.ensures.1) in
-    rw (c.place.ensures, is, c.begin_on.ensures, c.on_objects.ensures) begun.1
-
-pub returns-in-Some-clause-lawful : goal.returns-in-Some-clause-lawful
-returns-in-Some-clause-lawful g c = invariant_of-self g c
+    let idle = rw c.index-here.ensures at (idle_by here.walk here.asking here.operating (sym c.is_busy.ensures ∙ c.if-is_busy.false)) in
+    let misused = misused_here g.C.Condition.means
+    c.self.inside.word c.self.inside.row c.self.inside.queues c.self.inside.flags c.self.inside.env c.self.inside.seats.items c.self.inside.history.items c.self.inside.objects c.self.invariant c.args.seat here within
+    c.args.call idle.0 idle.1 idle.2 (rw (c.mode_of.ensures, c.index-here.ensures) at c.in-None.ensures) in
+    rw (← c.self.view_is) (refl, misused.0, misused.1)
 
 pub returns-in-Some-clause-ok : goal.returns-in-Some-clause-ok
 returns-in-Some-clause-ok g c =
@@ -69,14 +35,18 @@ returns-in-Some-clause-ok g c =
     let within : c.args.seat < length c.self.inside.seats.items = subst (λ n. c.args.seat < n) (c.len.ensures ∙ c.self.inside.seats.ok.0) c.if-at-len.false in
     let same = same_element c.self.inside.seats.items c.args.seat c.index-here.result.now seat within c.index-here.ensures c.index_mut.ensures.value in
     let is = c.index_mut.ensures.value in
-    let idle = sym c.is_busy.ensures ∙ c.if-is_busy.false in
-    let over = idle_walk c.index-here.result.now.walk c.index-here.result.now.asking idle in
-    let unasked = idle_ask c.index-here.result.now.walk c.index-here.result.now.asking idle in
-    let nowhere = sym c.walk.ensures ∙ none_by c.walk.result (sym c.is_some.ensures ∙ c.if-is_some.false) in
-    let begun = begins_here g.C.Condition.means g.met.C.Condition.has_cells.0 g.met.C.Condition.quiet_keeps
+    let here = c.index-here.result.now in
+    let idle = rw (same, is) at (idle_by here.walk here.asking here.operating (sym c.is_busy.ensures ∙ c.if-is_busy.false)) in
+    let begun = begins_here g.C.Condition.means
     c.self.inside.word c.self.inside.row c.self.inside.queues c.self.inside.flags c.self.inside.env c.self.inside.seats.items c.self.inside.history.items c.self.inside.objects c.self.invariant c.args.seat seat within
-    c.args.call (rw (same, is) at over) (rw (same, is) at unasked) nowhere c.in-Some.start c.requires (rw (c.mode_of.ensures, same, is) at c.in-Some.ensures.0) (rw (c.mode_of.ensures, same, is) at c.in-Some.ensures.1) in
-    rw (← c.self.view_is) (rw (c.place.ensures, is, c.begin_on.ensures, c.on_objects.ensures) begun.0)
+    c.args.call idle.0 idle.1 idle.2 c.in-Some.start (rw (c.mode_of.ensures, same, is) at c.in-Some.ensures.0) (rw (c.mode_of.ensures, same, is) at c.in-Some.ensures.1) in
+    rw (← c.self.view_is) (rw (c.place.ensures, is) begun)
+
+pub invariant_of-self : goal.invariant_of-self
+invariant_of-self g c = start_keeps (whole_of g.C.Condition.means c.args.self.now) _ c.args.seat c.args.call (rw (← c.self.view_is) c.self.invariant) (returns-in-Some-clause-ok g c) g.met.C.Condition.has_cells.0 c.requires
+
+pub returns-in-Some-clause-lawful : goal.returns-in-Some-clause-lawful
+returns-in-Some-clause-lawful g c = invariant_of-self g c
 
 pub is_busy-requires : goal.is_busy-requires
 is_busy-requires g c = g.met.C.Seated.seat_fits
@@ -86,9 +56,6 @@ place-requires g c = g.met.C.Seated.seat_fits
 
 pub mode_of-requires : goal.mode_of-requires
 mode_of-requires g c = g.met.C.Fits.held_fits
-
-pub begin_on-requires : goal.begin_on-requires
-begin_on-requires g c = below_64 c.self.inside.seats.items c.args.seat c.self.invariant.lock.few (subst (λ n. c.args.seat < n) (c.len.ensures ∙ c.self.inside.seats.ok.0) c.if-at-len.false)
 
 pub index-here-requires : goal.index-here-requires
 index-here-requires g c = rw (← c.len.ensures) c.if-at-len.false
@@ -117,17 +84,8 @@ returns-then-is_busy-clause-err g c = tt
 pub returns-then-is_busy-clause-lawful : goal.returns-then-is_busy-clause-lawful
 returns-then-is_busy-clause-lawful g c = rw (← c.self.view_is) c.self.invariant
 
-pub returns-then-is_some-clause-err : goal.returns-then-is_some-clause-err
-returns-then-is_some-clause-err g c = tt
-
-pub returns-then-is_some-clause-lawful : goal.returns-then-is_some-clause-lawful
-returns-then-is_some-clause-lawful g c = rw (← c.self.view_is) c.self.invariant
-
 pub start-requires-clause-range : goal.start-requires-clause-range
 start-requires-clause-range g c = c.requires
 
 pub start-requires-clause-row : goal.start-requires-clause-row
 start-requires-clause-row g c = g.met.C.Condition.has_cells.1
-
-pub walk-requires : goal.walk-requires
-walk-requires g c = tt
