@@ -55,7 +55,7 @@ pub use Rattle.ns_model.specs.Beginnings.{BeginsWith}
 pub use Rattle.ns_model.specs.Counters.{judged, most}
 pub use Rattle.ns_model.specs.Environments.{NoteStanding, env_after, env_own, env_who, is_due, is_over, no_note}
 pub use Rattle.ns_model.specs.Histories.{own, row_after}
-pub use Rattle.ns_model.specs.Room.{HasRoom, room, room_enough}
+pub use Rattle.ns_model.specs.Room.{HasRoom, room, small_by}
 pub use Rattle.ns_model.specs.Seats.{is_in}
 pub use Rattle.ns_model.specs.Tallies.{Every}
 pub use Rattle.ns_model.specs.Truths.{QuietKeeps, Truths}

@@ -2,9 +2,7 @@
 use Rattle.std.specs.Prelude.{◌<◌, ◌^◌}
 use Rattle.std.proofs.Common.{arith}
 use Rattle.std.specs.Mem.{FitsInMemory}
-use Rattle.ns_world.specs.Names.{HasRoom, room, room_enough}
-use prog.Memory.{size}
-use mir.Syntax.{Ty}
+use Rattle.ns_world.specs.Names.{HasRoom, room, small_by}
 use denote.RattleType.{RattleType}
 use denote.Param.{layout, copied, param}
 use Rattle.ns_world.specs.contracts.seat.Seat.{the_row as seat_row}
@@ -12,10 +10,6 @@ use Rattle.ns_world.specs.contracts.seat.Seat.{the_row as seat_row}
 -- a seat of a world fits in memory
 abbrev pub SeatFits : (C N : RattleType) → Type 0
 SeatFits C N = FitsInMemory (seat_row C N)
-
--- what takes little by the bound is small; of any type, so that no size is worked out
-small_by : (τ : Ty) → room τ < 2 ^ 63 → size τ < 2 ^ 63
-small_by τ few = let most = room_enough τ in omega (arith, most, few)
 
 -- a seat fits where a condition and a row have room
 pub seat_fits : (C N : RattleType) → HasRoom (copied 0 C) (param 1 N) → SeatFits (copied 0 C) (param 1 N)

@@ -1,4 +1,5 @@
-use Rattle.ns_world.proofs.Sizes.{row_fits}
+use Rattle.ns_queue.specs.Sizes.{row_fits}
+use denote.Param.{number}
 use Rattle.std.proofs.Common.{◌≡◌, ◌<◌, ◌≤◌, ◌∙◌, ap, inl, length, refl, subst, Some}
 use Rattle.ns_world.proofs.Below.{get_or-set_same, set-get_or, set_again}
 use Rattle.ns_world.proofs.Awaits.{step_keeps}
@@ -91,7 +92,7 @@ returns-in_default-walk-clause-ok g c =
 
 pub perform-requires : goal.perform-requires
 perform-requires g c =
-    let few = row_fits g.row.C g.row.N g.met.C.Condition.has_room in
+    let few = row_fits g.row.C (number g.row.N) g.met.C.Condition.has_room in
     let seat = c.index_mut-2.result.now in
     let within : c.args.seat < length c.self.inside.seats.items = subst (λ n. c.args.seat < n) (c.len.ensures ∙ c.self.inside.seats.ok.0) c.if-at-len.false in
     let nowhere = rw ((same_element c.self.inside.seats.items c.args.seat c.index.result.now seat within c.index.ensures c.index_mut-2.ensures.value), c.index_mut-2.ensures.value) at c.in_default.is in
