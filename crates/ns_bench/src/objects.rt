@@ -1,12 +1,11 @@
 //! A counter and a once cell that threads share: what each thread does, and how it is run.
 
-ghost use Rattle.std.specs.Prelude.{◌≡◌, ◌<◌, All};
+ghost use Rattle.std.specs.Prelude.{◌<◌, All};
 
 use crate::amount::{Amount, Count};
 use crate::running::{Job, Source, Work, play};
 use ns_objects::objects::Objects;
 use ns_objects::running::Once;
-use ns_objects::seat::ObjSeat;
 use ns_objects::sharer::{Sharer, Sharers};
 use std::alloc::Global;
 use std::sync::Wait;
@@ -60,29 +59,16 @@ fn count_down<R: Wait>(rt: &R, mate: Mate<'_>, times: u64) -> u64 {
 }
 
 /// Has a function run once, so many times, and counts how often it had run.
-fn ask_often<'o, R: Wait>(rt: &R, mate: Mate<'o>, times: u64) -> (Mate<'o>, u64) {
-    let Mate { sharer } = mate;
-    let Sharer { objects, seat } = sharer;
-    let (sharer, count) = ask_by(rt, objects, seat, times);
-    (Mate { sharer }, count)
-}
-
-/// The same by a handle that is made here. The objects are a parameter of their own, so the compiler knows that
-/// nothing changes them meanwhile, and loads once where their words lie.
 #[inline(never)]
-fn ask_by<'o, R: Wait>(rt: &R, objects: &'o Objects, seat: ObjSeat, times: u64) -> (Sharer<'o>, u64)
-    requires of { seat.objects ≡ objects.now }
-    requires cell { 0 < seat.setup.cells }
-    ensures { result.0.setup ≡ seat.setup }
-{
-    let mut sharer = Sharer::new(objects, seat);
+fn ask_often<'o, R: Wait>(rt: &R, mate: Mate<'o>, times: u64) -> (Mate<'o>, u64) {
+    let Mate { mut sharer } = mate;
     let mut count = 0u64;
     for _ in 0..times {
         if matches!(sharer.run_once(rt, 0, || ()), Once::Already) {
             count = count.wrapping_add(1);
         }
     }
-    (sharer, count)
+    (Mate { sharer }, count)
 }
 
 impl Sharing {
