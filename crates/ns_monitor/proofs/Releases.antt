@@ -4,7 +4,7 @@ use Rattle.std.proofs.lemmas.Bool.{cases_Bool}
 use Rattle.std.specs.List.{list_any}
 use Rattle.ns_word.specs.declared.request.Request.TheVariants.{Release}
 use Rattle.ns_word.proofs.Hands.{free_scanned}
-use Rattle.ns_monitor.specs.Prelude.{Await, HasReached, IsAtPlace, IsInRange, MayEnter, MayScan, OwesTheWoken, Paid, Pays, PutsBack, Scanning, ToRelease, ToWait, asked_of, entered, found_back, got_of, pay_releasing, pay_waiting, paying_at, returning_at, returning_for, returning_of, scanned_at, times}
+use Rattle.ns_monitor.specs.Prelude.{Await, HasReached, IsAtPlace, IsInRange, MayEnter, MayScan, OwesTheWoken, Paid, Pays, PutsBack, Scanning, ToRelease, ToWait, asked_of, entered, found_back, got_of, pay_releasing, pay_waiting, paying_at, returning_at, returning_for, returning_of, ready_at, times}
 use Rattle.ns_monitor.specs.Prelude.{Bits, Carries, Changed, GateView, HasInHand, HasRow, HasUnchangedQueues, IsReady, Lists, OnCondition, OnVariables, Owed, Released, Returning, ScansAs, SeatOf, Sought, Subject, Truths, Turned, Waited, Waiter, Walk, Word, begins_with_reader, bits_of}
 use Rattle.ns_monitor.specs.Prelude.{called_by, called_of, has_condition, has_queues, has_some, is_eligible, is_satisfied, lacks_row, left_of, lists_returned, lists_scanned, meets_at, reads, row_in, scanned_writer, seats_of, some_returned, the, waits_at, wake_told, with_lock, woken_of, writes}
 use Rattle.ns_gate.proofs.Calls.{works}
@@ -90,12 +90,12 @@ turned_writer truths row wake turned stood told =
 -- ---- a release, or a wait that leaves its section
 
 module _ {C : Type 0} where
-  pub scans_in_hand : (scanning : Scanning C) (last : Word) → has_queues (Some (scanned_at scanning last)) ≡ true
+  pub scans_in_hand : (scanning : Scanning C) (last : Word) → has_queues (Some (ready_at scanning last)) ≡ true
   scans_in_hand (ToRelease releasing) last = refl
   scans_in_hand (ToWait number wait again) last = refl
 
   -- it puts the queues back, and what for
-  puts_for : (scanning : Scanning C) (last : Word) → PutsBack (scanned_at scanning last) × (returning_for scanning ≡ returning_of (scanned_at scanning last)) × (returning_at (scanned_at scanning last) last ≡ scanned_at scanning last)
+  puts_for : (scanning : Scanning C) (last : Word) → PutsBack (ready_at scanning last) × (returning_for scanning ≡ returning_of (ready_at scanning last)) × (returning_at (ready_at scanning last) last ≡ ready_at scanning last)
   puts_for (ToRelease releasing) last = (tt, refl, refl)
   puts_for (ToWait number wait again) last = (tt, refl, refl)
 
@@ -126,15 +126,15 @@ module _ {C : Type 0} {N : ℕ} (truths : Truths C) where
     left : (last : Word) → lists_returned truths number returning last row (the me.0).stood ≡ lists_returned truths (the now.0).at.seat returning last (row_in (the now.0).at.held) (the now.0).stood
     left last = (same_hand truths returning number last row (row_in (the me.0).at.held) (the me.0).stood ready.scans).0 ∙ ((λ i. lists_returned truths (is i) returning last (row_in (the me.0).at.held) (the me.0).stood) ∙ (λ i. lists_returned truths (the (sym same i)).at.seat returning last (row_in (the (sym same i)).at.held) (the (sym same i)).stood))
 
-  -- so it is after a release, and after a wait that has queued
-  pub hand_scanned : (scanning : Scanning C) (last : Word) (row : List ℕ) (turned : Turned) (me now : SeatOf C N) → IsReady truths (scanned_at scanning last) row me → MayScan scanning me → now.0 ≡ me.0 → Carries (entered scanning (lists_scanned truths row (the me.0).stood)) now
+  -- so it is for a release, and for a wait that has queued
+  pub hand_scanned : (scanning : Scanning C) (last : Word) (row : List ℕ) (turned : Turned) (me now : SeatOf C N) → IsReady truths (ready_at scanning last) row me → MayScan scanning me → now.0 ≡ me.0 → Carries (entered scanning (lists_scanned truths row (the me.0).stood)) now
       → turned.some ≡ has_some (woken_of (meets_at truths row) (the me.0).stood.lock) → turned.bits ≡ bits_of (entered scanning (lists_scanned truths row (the me.0).stood)).lock → HasInHand truths (returning_for scanning) turned now
   hand_scanned (ToRelease releasing) last row turned me now ready may same carries took tells =
-      hand_at (Released releasing) (scanned_at (ToRelease releasing) last) row (the me.0).at.seat turned.some turned.bits me now ready refl same (λ _. carries) (λ _. took) (λ _. tells)
+      hand_at (Released releasing) (ready_at (ToRelease releasing) last) row (the me.0).at.seat turned.some turned.bits me now ready refl same (λ _. carries) (λ _. took) (λ _. tells)
   hand_scanned (ToWait number wait again) last row turned me now ready may same carries took tells =
-      hand_at (Waited wait again) (scanned_at (ToWait number wait again) last) row number turned.some turned.bits me now ready may.1.0 same (λ _. carries) (λ _. took) (λ _. tells)
+      hand_at (Waited wait again) (ready_at (ToWait number wait again) last) row number turned.some turned.bits me now ready may.1.0 same (λ _. carries) (λ _. took) (λ _. tells)
 
-  -- what may be scanned for may be so as the queues are looked at
+  -- what a call may scan for it still may where only the lists in hand have changed
   pub may_still : (scanning : Scanning C) (me now : SeatOf C N) → MayScan scanning me → now.0 ≡ me.0 → MayScan scanning now
   may_still (ToRelease releasing) me now may same = tt
   may_still (ToWait number wait again) me now may same = subst (λ (vs : List (GateView C N)). IsInRange wait.on × ((number ≡ (the vs).at.seat) × (number < 64)) × (times number (the vs).stood ≡ 0)) (sym same) may
@@ -145,8 +145,8 @@ module _ {C : Type 0} {N : ℕ} (truths : Truths C) where
   may_enter (ToWait number wait again) row me now may carries = (may.0, may.1.1, (lists_scanned truths row (the me.0).stood, carries, free_scanned number (meets_at truths row) (the me.0).stood _ refl may.2))
 
   -- the queues may go back, with what the scan has made of them
-  pub put_scanned : (scanning : Scanning C) (last : Word) (turned : Turned) (now : SeatOf C N) (place : Walk C) (returning : Returning C) → place ≡ scanned_at scanning last → returning ≡ returning_for scanning →
-      IsAtPlace truths (scanned_at scanning last) now → HasInHand truths (returning_for scanning) turned now →
+  pub put_scanned : (scanning : Scanning C) (last : Word) (turned : Turned) (now : SeatOf C N) (place : Walk C) (returning : Returning C) → place ≡ ready_at scanning last → returning ≡ returning_for scanning →
+      IsAtPlace truths (ready_at scanning last) now → HasInHand truths (returning_for scanning) turned now →
       PutsBack place × (returning ≡ returning_of place) × IsAtPlace truths (returning_at place last) now × HasInHand truths returning turned now
   put_scanned scanning last turned now place returning there for at hand = let puts = puts_for scanning last in
       subst (λ (x : Walk C × Returning C). PutsBack x.0 × (x.1 ≡ returning_of x.0) × IsAtPlace truths (returning_at x.0 last) now × HasInHand truths x.1 turned now) (λ i. (sym there i, sym for i))
@@ -154,12 +154,12 @@ module _ {C : Type 0} {N : ℕ} (truths : Truths C) where
 
   -- once they are back the call pays what its seat owes
   pays_next : (scanning : Scanning C) (last : Word) (me now : SeatOf C N) → OwesTheWoken truths (returning_for scanning) me (the now.0).at.owed →
-      HasReached truths (asked_of (scanned_at scanning last)) (got_of N (scanned_at scanning last) (found_back truths (returning_for scanning) last me)) now →
+      HasReached truths (asked_of (ready_at scanning last)) (got_of N (ready_at scanning last) (found_back truths (returning_for scanning) last me)) now →
       HasReached truths (asked_of (paying_at scanning)) (got_of N (paying_at scanning) (Paid (has_some (the now.0).at.owed))) now
   pays_next (ToRelease releasing) last me now owes back = subst (λ ns. HasReached truths (Release releasing) (pay_releasing releasing (has_some ns)) now) (sym owes) back
   pays_next (ToWait number wait again) last me now owes back = subst (λ ns. HasReached truths (Await wait) (pay_waiting wait (has_some ns)) now) (sym owes) back
 
-  pub pay_scanned : (scanning : Scanning C) (last : Word) (me now : SeatOf C N) (place : Walk C) (returning : Returning C) → place ≡ scanned_at scanning last → returning ≡ returning_for scanning →
+  pub pay_scanned : (scanning : Scanning C) (last : Word) (me now : SeatOf C N) (place : Walk C) (returning : Returning C) → place ≡ ready_at scanning last → returning ≡ returning_for scanning →
       OwesTheWoken truths returning me (the now.0).at.owed → HasReached truths (asked_of place) (got_of N place (found_back truths returning last me)) now →
       HasReached truths (asked_of (paying_at scanning)) (got_of N (paying_at scanning) (Paid (has_some (the now.0).at.owed))) now
   pay_scanned scanning last me now place returning there for owes back =
@@ -171,7 +171,7 @@ module _ {C : Type 0} {N : ℕ} (truths : Truths C) where
       Pays N paying × HasReached truths (asked_of paying) (got_of N paying (Paid owed)) now
   pays_at scanning paying now is owed at = subst (λ walk. Pays N walk × HasReached truths (asked_of walk) (got_of N walk (Paid owed)) now) (sym is) (pays_for N scanning, at)
 
-  -- which is owed to those whom the scan took
+  -- what is owed are the wakes of those whom the scan took
   owes_called : (scanning : Scanning C) (me : SeatOf C N) (owed : List Owed) → OwesTheWoken truths (returning_for scanning) me owed → owed ≡ called_of (woken_of (meets_at truths (row_in (the me.0).at.held)) (the me.0).stood.lock)
   owes_called (ToRelease releasing) me owed owes = owes
   owes_called (ToWait number wait again) me owed owes = owes

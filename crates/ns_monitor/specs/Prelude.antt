@@ -5,7 +5,7 @@ pub use Rattle.ns_monitor.specs.Limits.{HasLookedOn, IsLooking, LookShows}
 pub use Rattle.ns_monitor.specs.Looks.{may_show, none_shown, nothing_named, same_looker, shown_at_will, shown_since, still_looking, then_looker}
 pub use Rattle.ns_monitor.specs.Polls.{IfStill, IfWoken}
 pub use Rattle.ns_monitor.specs.Saved.{AreSaved, HasSaved, IsFresh, IsFreshIn, IsQuietFor, saved_after, value_before}
-pub use Rattle.ns_monitor.specs.Scans.{HasScanned, MayEnter, MayScan, entered, paying_at, returning_for, scanned_at}
+pub use Rattle.ns_monitor.specs.Scans.{HasScanned, MayEnter, MayScan, entered, paying_at, returning_for, ready_at}
 pub use Rattle.ns_monitor.specs.Several.{AreSome, HasBegunToWait, HasComeBackFromAny, HasSeenTrue, HasStoodUnwoken, IsByOneOf, IsWaitingForAny, SaysWoken, WaitKnown, WaitsOn, WaitsStill, any_waiting, at_will, waits_for_any}
 pub use Rattle.ns_monitor.specs.Shows.{HasStood, ShowsState}
 pub use Rattle.ns_monitor.specs.Standing.{AcquiresBy, Decides, HasAcquired, HasBegunBy, HasGoneBehind, HasInHand, HasTakenAt, IsNumberOf, MayGoAlone, OwesTheWoken, Pays, PutsBack, ReleasesBy, Sleeps, WentAtOnce, WentOrTook, found_back, going_act, going_at, going_of, gone_to, may_go, returning_at}
@@ -14,7 +14,7 @@ pub use Rattle.ns_monitor.specs.Tests.{AreRead, HasGone, HasLoaded, HasRow, HasT
 pub use Rattle.ns_monitor.specs.Variables.{HasComeBackFrom, HasWaitedForVariable, HasWoken, wake_event}
 pub use Rattle.ns_monitor.specs.Waits.{EndedBy, HadLooked, HasComeBack, HasStayed, HasWaitedFor, IfAnswered, IfEnded, QueuesOrEnds, WaitTells, WokenOrEnded}
 pub use Rattle.ns_monitor.specs.Wakes.{HasReturnedWoken, HasWokenInHand, is_held_by_one}
-pub use Rattle.ns_monitor.specs.Walks.{getting, judging, leaving, limits_of, locking, releasing_by, setting, showing, trying, variable_waiting, waiting, waits_by, waits_for_variable, waking_by}
+pub use Rattle.ns_monitor.specs.Walks.{getting, judging, limits_of, locking, queuing_first, releasing_by, setting, showing, trying, variable_waiting, waiting, waits_by, waits_for_variable, waking_by}
 pub use Rattle.ns_monitor.specs.Names.{Acquire, AcquireLoad, Acquiring, Act, Aim, Answer, Answered, AnyWait, AnyWaitMeans, Arm, ArmFlag, ArmToWait, Arrival, AsFresh, Await, AwaitWake, AwaitWakeInWait, AwaitWakeToLeave, BeginsWith, Bits, Broadcasting, Busy, CameByGuess, CanLeave, CanStep, Canceled}
 pub use Rattle.ns_monitor.specs.Names.{Carries, Cause, Cell, CellFits, Change, Changed, Changing, CondWait, ConditionWaitMeans, Course, CvWait, Cvs, Done, Effect, Ended, EnvEvent, EnvKnown, Event, Expired, Flag, ForLock, ForWait, Found, GateView, Get, Going, HasAnswered, HasLeft, HasMode}
 pub use Rattle.ns_monitor.specs.Names.{HasReached, HasSince, HasStepped, HasUnchangedQueues, HasWaited, Held, Home, Idle, InAcquire, InCells, InHand, InLeaving, InQueuing, InRelease, InShow, InSignal, InTry, InWait, Is, IsAtPlace, IsAtRest, IsFirst, IsInRange, IsLawful, IsOrderly, IsOwedNext}

@@ -1,4 +1,4 @@
--- A scan of the lock list by a release, or by a wait that leaves its section: it takes waiters out of the list, the wait queues, the queues go back, and those who were taken are paid their wakes.
+-- A scan of the lock list by a release, or by a wait that leaves its section: it takes waiters out of the list, the wait puts itself into its own, the queues go back, and those who were taken are paid their wakes.
 use Rattle.std.specs.Prelude.{◌≡◌, ℕ, ◌<◌, false, [], None}
 use Rattle.ns_monitor.specs.Names.{HasReached, HasSince, InQueuing, InRelease, InWait, IsInRange, Lists, Paid, Pay, PayInWait, QueueToWait, Released, Returning, ScanAndRelease, SeatOf, StandsNowhere, Truths, Waited, Walk, Word, asked_of, got_of, the, times, waits_at}
 use Rattle.ns_monitor.specs.Several.{HasSeenTrue}
@@ -12,9 +12,9 @@ returning_for (ToRelease releasing) = Released releasing
 returning_for (ToWait number wait again) = Waited wait again
 
 -- where its call stands with a row ready for it, by the word last seen
-abbrev pub scanned_at : {C : Type 0} → Scanning C → Word → Walk C
-scanned_at (ToRelease releasing) last = InRelease releasing (ScanAndRelease last)
-scanned_at (ToWait number wait again) last = InWait wait (InQueuing again (QueueToWait last))
+abbrev pub ready_at : {C : Type 0} → Scanning C → Word → Walk C
+ready_at (ToRelease releasing) last = InRelease releasing (ScanAndRelease last)
+ready_at (ToWait number wait again) last = InWait wait (InQueuing again (QueueToWait last))
 
 -- where its call pays the wakes
 abbrev pub paying_at : {C : Type 0} → Scanning C → Walk C
@@ -26,7 +26,7 @@ abbrev pub entered : {C : Type 0} → Scanning C → Lists C → Lists C
 entered (ToRelease releasing) lists = lists
 entered (ToWait number wait again) lists = waits_at wait.on number wait.mode again lists
 
--- a wait is for variables that there are, by its own seat, which stands in no list
+-- a wait is for variables that there are, if it is for variables, and by its own seat, which stands in no list
 abbrev pub MayScan : {C : Type 0} {N : ℕ} → Scanning C → SeatOf C N → Type 0
 MayScan (ToRelease releasing) me = Unit {0}
 MayScan (ToWait number wait again) me = IsInRange wait.on × IsNumberOf number me × (times number (the me.0).stood ≡ 0)

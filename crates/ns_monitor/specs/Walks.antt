@@ -47,9 +47,9 @@ waits_for_variable mode k limits = record { mode = mode; on = OnVariables (Only 
 abbrev pub variable_waiting : {C : Type 0} → ℕ → Mode → ℕ → Option ℕ → Option Note → Walk C
 variable_waiting N mode k deadline note = wait_first N (waits_for_variable mode k (limits_of deadline note))
 
--- a wait for variables that leaves its section at once
-abbrev pub leaving : {C : Type 0} → Wait C → Walk C
-leaving wait = InWait wait (InQueuing false Load)
+-- a wait that queues first, as one for variables does
+abbrev pub queuing_first : {C : Type 0} → Wait C → Walk C
+queuing_first wait = InWait wait (InQueuing false Load)
 
 -- a signal or a broadcast of this variable
 abbrev pub waking_by : {C : Type 0} → Waking → ℕ → Walk C

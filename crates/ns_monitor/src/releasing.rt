@@ -1,4 +1,4 @@
-//! A release, and the scan of the lock list where somebody may have to be woken.
+//! A release, and what leads to its scan of the lock list where somebody may have to be woken.
 
 ghost use Rattle.std.specs.Prelude.{◌≡◌, None};
 ghost use Rattle.ns_gate.specs.Prelude.{IsPackable, bits_of, Succeeded, InRelease, HasAnswered, HasSince, IsAtPlace, HasUnchangedQueues, the};

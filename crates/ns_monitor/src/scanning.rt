@@ -2,7 +2,7 @@
 
 ghost use Rattle.std.specs.Prelude.{◌≡◌, ⊤};
 ghost use Rattle.ns_gate.specs.Prelude.{Carries, IsPackable, bits_of, sought_at, the};
-ghost use Rattle.ns_monitor.specs.Prelude.{HasScanned, IsReady, MayEnter, MayScan, entered, paying_at, returning_for, scanned_at};
+ghost use Rattle.ns_monitor.specs.Prelude.{HasScanned, IsReady, MayEnter, MayScan, entered, paying_at, returning_for, ready_at};
 
 use crate::monitor::Monitor;
 use ns_gate::gate::GateSeat;
@@ -53,7 +53,7 @@ impl<C: Copy> Scanning<C> {
     /// Where its call stands with a row ready for it. No code reads the place.
     #[inline(always)]
     fn place(self, parts: Word) -> Walk<C>
-        ensures { result ≡ scanned_at self parts }
+        ensures { result ≡ ready_at self parts }
     {
         match self {
             Scanning::ToRelease(releasing) => {
@@ -116,7 +116,7 @@ impl<C: Condition<N>, const N: usize> Monitor<C, N> {
         requires of { seat.old.table_id ≡ self.now }
         requires word { IsPackable word }
         requires may { MayScan scanning seat.old.me }
-        requires ready { IsReady C.means (scanned_at scanning word) row.now seat.old.me }
+        requires ready { IsReady C.means (ready_at scanning word) row.now seat.old.me }
         ensures seat { seat.new.table_id ≡ self.now }
         ensures scanned { HasScanned C.means scanning seat.old.me seat.new.me }
     {
@@ -150,7 +150,7 @@ impl<C: Condition<N>, const N: usize> Monitor<C, N> {
         requires of { seat.old.table_id ≡ self.now }
         requires word { IsPackable word }
         requires may { MayScan scanning seat.old.me }
-        requires ready { IsReady C.means (scanned_at scanning word) row.now seat.old.me }
+        requires ready { IsReady C.means (ready_at scanning word) row.now seat.old.me }
         requires found { sought ≡ sought_at C.means row.now (the seat.old.me.0).stood }
         ensures seat { seat.new.table_id ≡ self.now }
         ensures scanned { HasScanned C.means scanning seat.old.me seat.new.me }

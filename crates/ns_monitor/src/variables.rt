@@ -3,7 +3,7 @@
 ghost use Rattle.std.specs.Prelude.{◌≡◌, ◌<◌, Some, [], true, IfSome};
 ghost use Rattle.ns_gate.specs.Prelude.{AwaitWakeInWait, ForWait, HasSince, InWait, IsAtPlace, IsAtRest, IsInRange, IsMade, PlaceFits, is_limited, the, wait_first};
 ghost use Rattle.ns_note.specs.Known.{Grows as EnvGrows};
-ghost use Rattle.ns_monitor.specs.Prelude.{EndedBy, Grows, HasAcquired, HasSeenTrue, HasWaitedForVariable, IfAnswered, IfEnded, IsForVariables, IsNumberOf, leaving, variable_waiting, waits_for_variable};
+ghost use Rattle.ns_monitor.specs.Prelude.{EndedBy, Grows, HasAcquired, HasSeenTrue, HasWaitedForVariable, IfAnswered, IfEnded, IsForVariables, IsNumberOf, queuing_first, variable_waiting, waits_for_variable};
 
 use crate::caller::{Caller, Renewed};
 use crate::monitor::Monitor;
@@ -21,7 +21,8 @@ use ns_word::walk::Walk;
 use std::sync::Wait;
 
 impl<C: Condition<N>, const N: usize> Monitor<C, N> {
-    /// Begins a wait for variables: leaves the section in hand, and wakes those waiters who can go on.
+    /// Begins a wait for variables: leaves the section in hand, puts the seat into the lists of the variables, and
+    /// wakes those waiters who can go on.
     pub(crate) fn queue_at_variables<R: Wait>(
         &self,
         rt: &R,
@@ -33,9 +34,9 @@ impl<C: Condition<N>, const N: usize> Monitor<C, N> {
         requires number { IsNumberOf number seat.old.me }
         requires rest { IsAtRest C.means seat.old.me }
         requires variables { IsForVariables wait.on × IsInRange wait.on }
-        requires fits { PlaceFits C.means (Some (leaving wait)) (the seat.old.me.0).at.held }
+        requires fits { PlaceFits C.means (Some (queuing_first wait)) (the seat.old.me.0).at.held }
         ensures seat { seat.new.table_id ≡ self.now }
-        ensures since { HasSince (Some (leaving wait)) (the seat.old.me.0) (the seat.new.me.0) }
+        ensures since { HasSince (Some (queuing_first wait)) (the seat.old.me.0) (the seat.new.me.0) }
         ensures waits { IsAtPlace C.means (InWait wait AwaitWakeInWait) seat.new.me }
         ensures owes { (the seat.new.me.0).at.owed ≡ [] }
         ensures true_to { HasSeenTrue C.means seat.new.me }
@@ -60,10 +61,10 @@ impl<C: Condition<N>, const N: usize> Monitor<C, N> {
         requires number { IsNumberOf number seat.old.me }
         requires rest { IsAtRest C.means seat.old.me }
         requires variables { IsForVariables wait.on × IsInRange wait.on }
-        requires fits { PlaceFits C.means (Some (leaving wait)) (the seat.old.me.0).at.held }
+        requires fits { PlaceFits C.means (Some (queuing_first wait)) (the seat.old.me.0).at.held }
         requires watches { W.watches watch.old wait.limits }
         ensures seat { seat.new.table_id ≡ self.now }
-        ensures since { HasSince (Some (leaving wait)) (the seat.old.me.0) (the seat.new.me.0) }
+        ensures since { HasSince (Some (queuing_first wait)) (the seat.old.me.0) (the seat.new.me.0) }
         ensures looked { W.since watch.old watch.new }
         ensures ended { IfEnded result (λ cause. (is_limited wait.limits ≡ true) × W.shows watch.old watch.new wait.limits (Some cause)) }
         ensures acquired { HasAcquired C.means (ForWait wait result) seat.new.me }

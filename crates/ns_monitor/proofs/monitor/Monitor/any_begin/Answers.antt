@@ -1,5 +1,5 @@
 use Rattle.std.proofs.Common.{◌≡◌, ◌∙◌, sym, subst, ap, arith, Some}
-use Rattle.ns_monitor.specs.Prelude.{AwaitWakeInWait, HasMode, HasSince, InWait, IsAtPlace, IsWaitingForAny, Known, TableId, Wait, any_waiting, leaving, the, waits_for_any}
+use Rattle.ns_monitor.specs.Prelude.{AwaitWakeInWait, HasMode, HasSince, InWait, IsAtPlace, IsWaitingForAny, Known, TableId, Wait, any_waiting, queuing_first, the, waits_for_any}
 use Rattle.ns_gate.proofs.Room.{queues_fit}
 use Rattle.ns_monitor.proofs.SeveralWaits.{has_begun_to_wait, may_wait_for_any}
 use Rattle.ns_monitor.proofs.Standing.{same_number}
@@ -18,7 +18,7 @@ wait_is g c = c.for_any-wait.ensures ∙ ap (λ m. waits_for_any m c.args.cvs) c
 
 -- it has left its section, and waits
 left : (g : Over) (c : After-drop-held-inside g) → HasSince (Some (any_waiting g.row.N g.H.Section.mode c.args.cvs)) (the c.held.inside.seat.me.0) (the c.queue_at_variables.new.seat.me.0)
-left g c = subst (λ (w : Wait g.row.C.Denot). HasSince (Some (leaving w)) (the c.held.inside.seat.me.0) (the c.queue_at_variables.new.seat.me.0)) (wait_is g c) c.queue_at_variables.ensures.since
+left g c = subst (λ (w : Wait g.row.C.Denot). HasSince (Some (queuing_first w)) (the c.held.inside.seat.me.0) (the c.queue_at_variables.new.seat.me.0)) (wait_is g c) c.queue_at_variables.ensures.since
 
 waits : (g : Over) (c : After-drop-held-inside g) → IsWaitingForAny g.C.Condition.means g.H.Section.mode c.args.cvs c.queue_at_variables.new.seat.me
 waits g c = record {

@@ -1,5 +1,5 @@
 use Rattle.std.proofs.Common.{◌≡◌, List, ◌∙◌, ap, sym, subst, arith, None, true, false}
-use Rattle.ns_monitor.specs.Prelude.{GateView, HasReached, HasSince, Paid, TableId, asked_of, got_of, has_some, lists_scanned, paying_at, scanned_at, sought_at, the}
+use Rattle.ns_monitor.specs.Prelude.{GateView, HasReached, HasSince, Paid, TableId, asked_of, got_of, has_some, lists_scanned, paying_at, ready_at, sought_at, the}
 use Rattle.ns_gate.proofs.Calls.{since_then, works}
 use Rattle.ns_gate.proofs.Room.{queues_fit}
 use Rattle.ns_monitor.proofs.Releases.{calls_few, found_first, hand_scanned, may_enter, may_still, owes_scanned, pay_scanned, pays_at, put_scanned, ready_still, scans_in_hand, told_list, turned_writer}
@@ -8,7 +8,7 @@ use Rattle.ns_monitor.proofs.monitor.Monitor.scan_and_return.Goals.{After-put_ba
 use Rattle.ns_monitor.proofs.monitor.Monitor.scan_and_return.Goals as goal
 
 pub scan_and_wake-requires : goal.scan_and_wake-requires
-scan_and_wake-requires g c = let t = g.C.Condition.means in let look = c.scan_writer_in_hand in let me = c.args.seat.now.me in let walk = scanned_at c.args.scanning c.args.word in (
+scan_and_wake-requires g c = let t = g.C.Condition.means in let look = c.scan_writer_in_hand in let me = c.args.seat.now.me in let walk = ready_at c.args.scanning c.args.word in (
   omega arith,
   (
     queues_fit g.row.C g.row.N g.met.C.Condition.has_room g.C.Condition,
@@ -51,21 +51,21 @@ put_back-requires g c = let t = g.C.Condition.means in let look = c.scan_writer_
     let left = lists_scanned t c.args.row.now (the me.0).stood in let same = entered.ensures.seat.1 ∙ look.ensures.seat.1 in
     let turned = turned_writer t c.args.row.now c.in-Ok.told.0 c.in-Ok.told.1 (the me.0).stood (sym look.ensures.told ∙ c.in-Ok.is) in
     let hand = hand_scanned t c.args.scanning c.args.word c.args.row.now entered.result me now c.requires.ready c.requires.may same (entered.ensures.lists left c.in-Ok.ensures.lists) (entered.ensures.some ∙ turned.0) (entered.ensures.bits left c.in-Ok.ensures.lists turned.1) in
-    let put = put_scanned t c.args.scanning c.args.word entered.result now c.place-place.result c.returning.result (c.place-place.ensures ∙ ap (scanned_at c.args.scanning) c.parts.ensures) c.returning.ensures
-    (works t (scanned_at c.args.scanning c.args.word) me now c.requires.ready.at (scans_in_hand c.args.scanning c.args.word) same) hand in
+    let put = put_scanned t c.args.scanning c.args.word entered.result now c.place-place.result c.returning.result (c.place-place.ensures ∙ ap (ready_at c.args.scanning) c.parts.ensures) c.returning.ensures
+    (works t (ready_at c.args.scanning c.args.word) me now c.requires.ready.at (scans_in_hand c.args.scanning c.args.word) same) hand in
     (omega arith, (queues_fit g.row.C g.row.N g.met.C.Condition.has_room g.C.Condition, (omega arith, (entered.ensures.seat.0, (put.0, (put.1, (c.requires.word, (put.2, put.3))))))))
 
 -- the wake that was told is all that is owed
 owed : (g : Over) (c : After-put_back g) → (the c.put_back.new.seat.me.0).at.owed ≡ told_list c.in-Ok.told.0
 owed g c = let t = g.C.Condition.means in let look = c.scan_writer_in_hand in let entered = c.enter-turned in
-    calls_few t (scanned_at c.args.scanning c.args.word) c.args.row.now c.in-Ok.told.0 c.in-Ok.told.1 _ c.args.seat.now.me entered.new.seat.me c.requires.ready (entered.ensures.seat.1 ∙ look.ensures.seat.1) (sym look.ensures.told ∙ c.in-Ok.is)
+    calls_few t (ready_at c.args.scanning c.args.word) c.args.row.now c.in-Ok.told.0 c.in-Ok.told.1 _ c.args.seat.now.me entered.new.seat.me c.requires.ready (entered.ensures.seat.1 ∙ look.ensures.seat.1) (sym look.ensures.told ∙ c.in-Ok.is)
     (owes_scanned t c.args.scanning c.returning.result entered.new.seat.me (the c.put_back.new.seat.me.0).at.owed c.returning.ensures c.put_back.ensures.owes)
 
 -- and the call stands where it pays it, if there is one
 pays : (g : Over) (c : After-put_back g) → HasReached g.C.Condition.means (asked_of (paying_at c.args.scanning)) (got_of g.row.N (paying_at c.args.scanning) (Paid (has_some (told_list c.in-Ok.told.0)))) c.put_back.new.seat.me
 pays g c = let t = g.C.Condition.means in let now = c.put_back.new.seat.me in
     subst (λ ns. HasReached t (asked_of (paying_at c.args.scanning)) (got_of g.row.N (paying_at c.args.scanning) (Paid (has_some ns))) now) (owed g c)
-    (pay_scanned t c.args.scanning c.args.word c.enter-turned.new.seat.me now c.place-place.result c.returning.result (c.place-place.ensures ∙ ap (scanned_at c.args.scanning) c.parts.ensures) c.returning.ensures c.put_back.ensures.owes c.put_back.ensures.returned)
+    (pay_scanned t c.args.scanning c.args.word c.enter-turned.new.seat.me now c.place-place.result c.returning.result (c.place-place.ensures ∙ ap (ready_at c.args.scanning) c.parts.ensures) c.returning.ensures c.put_back.ensures.owes c.put_back.ensures.returned)
 
 since : (g : Over) (c : After-put_back g) → HasSince None (the c.args.seat.now.me.0) (the c.put_back.new.seat.me.0)
 since g c = subst (λ vs. HasSince None (the vs) (the c.put_back.new.seat.me.0)) (c.enter-turned.ensures.seat.1 ∙ c.scan_writer_in_hand.ensures.seat.1) c.put_back.ensures.since

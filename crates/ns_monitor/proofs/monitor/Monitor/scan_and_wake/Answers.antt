@@ -1,5 +1,5 @@
 use Rattle.std.proofs.Common.{◌∙◌, ap, not, sym, subst, arith, None, false, rules}
-use Rattle.ns_monitor.specs.Prelude.{HasReached, HasSince, Paid, TableId, asked_of, called_by, got_of, has_some, lists_scanned, meets_at, scanned_at, the, woken_of}
+use Rattle.ns_monitor.specs.Prelude.{HasReached, HasSince, Paid, TableId, asked_of, called_by, got_of, has_some, lists_scanned, meets_at, ready_at, the, woken_of}
 use Rattle.ns_gate.proofs.Calls.{since_then, works}
 use Rattle.ns_gate.proofs.Room.{queues_fit}
 use Rattle.ns_word.proofs.Scans.{as_many}
@@ -15,18 +15,18 @@ put_back-requires g c = let t = g.C.Condition.means in let scan = c.scan_from_in
     let left = lists_scanned t c.args.row.now (the me.0).stood in let same = entered.ensures.seat.1 ∙ e.seat.1 in
     let some = entered.ensures.some ∙ (ap not c.is_empty-some.ensures ∙ took_some (woken_of (meets_at t c.args.row.now) (the me.0).stood.lock) scan.result.0.woken.items e.woken) in
     let hand = hand_scanned t c.args.scanning c.args.word c.args.row.now entered.result me now c.requires.ready c.requires.may same (entered.ensures.lists left e.lists) some (entered.ensures.bits left e.lists e.bits) in
-    let put = put_scanned t c.args.scanning c.args.word entered.result now c.place-place.result c.returning.result (c.place-place.ensures ∙ ap (scanned_at c.args.scanning) c.parts.ensures) c.returning.ensures
-    (works t (scanned_at c.args.scanning c.args.word) me now c.requires.ready.at (scans_in_hand c.args.scanning c.args.word) same) hand in
+    let put = put_scanned t c.args.scanning c.args.word entered.result now c.place-place.result c.returning.result (c.place-place.ensures ∙ ap (ready_at c.args.scanning) c.parts.ensures) c.returning.ensures
+    (works t (ready_at c.args.scanning c.args.word) me now c.requires.ready.at (scans_in_hand c.args.scanning c.args.word) same) hand in
     (omega arith, (queues_fit g.row.C g.row.N g.met.C.Condition.has_room g.C.Condition, (omega arith, (entered.ensures.seat.0, (put.0, (put.1, (c.requires.word, (put.2, put.3))))))))
 
 -- what is owed, and that its walk pays
 pub pay-requires : goal.pay-requires
 pay-requires g c = let t = g.C.Condition.means in let scan = c.scan_from_in_hand-scan in let e = c.put_back.ensures in let me = c.args.seat.now.me in let entered = c.enter-turned in let now = c.put_back.new.seat.me in
     let same = entered.ensures.seat.1 ∙ scan.ensures.seat.1 in
-    let next = pay_scanned t c.args.scanning c.args.word entered.new.seat.me now c.place-place.result c.returning.result (c.place-place.ensures ∙ ap (scanned_at c.args.scanning) c.parts.ensures) c.returning.ensures e.owes e.returned in
+    let next = pay_scanned t c.args.scanning c.args.word entered.new.seat.me now c.place-place.result c.returning.result (c.place-place.ensures ∙ ap (ready_at c.args.scanning) c.parts.ensures) c.returning.ensures e.owes e.returned in
     let at = pays_at t c.args.scanning c.paying.result now c.paying.ensures (has_some (the now.0).at.owed) next in
     let owed = owes_scanned t c.args.scanning c.returning.result entered.new.seat.me (the now.0).at.owed c.returning.ensures e.owes in
-    let called = calls_are t (scanned_at c.args.scanning c.args.word) c.args.row.now _ _ _ me entered.new.seat.me c.requires.ready same (c.called-owed.ensures ∙ (λ i. called_by (c.as_slice.ensures.value i) (c.as_slice-2.ensures.value i))) scan.ensures.woken scan.ensures.vias in
+    let called = calls_are t (ready_at c.args.scanning c.args.word) c.args.row.now _ _ _ me entered.new.seat.me c.requires.ready same (c.called-owed.ensures ∙ (λ i. called_by (c.as_slice.ensures.value i) (c.as_slice-2.ensures.value i))) scan.ensures.woken scan.ensures.vias in
     (omega arith, (queues_fit g.row.C g.row.N g.met.C.Condition.has_room g.C.Condition, (omega arith, (e.seat, (at.0, (at.1, owed ∙ sym called))))))
 
 pub called-owed-requires : goal.called-owed-requires

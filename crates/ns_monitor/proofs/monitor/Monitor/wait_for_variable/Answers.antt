@@ -1,5 +1,5 @@
 use Rattle.std.proofs.Common.{◌≡◌, ◌∙◌, sym, subst, ap, arith, true, Some, rules}
-use Rattle.ns_monitor.specs.Prelude.{Answered, Await, Grows, HasAnswered, HasMode, IsFreshIn, Known, TableId, answer_of_wait, is_limited, known_of, leaving, the, waits_for_variable}
+use Rattle.ns_monitor.specs.Prelude.{Answered, Await, Grows, HasAnswered, HasMode, IsFreshIn, Known, TableId, answer_of_wait, is_limited, known_of, queuing_first, the, waits_for_variable}
 use Rattle.ns_gate.proofs.Room.{queues_fit}
 use Rattle.ns_monitor.proofs.Callers.{grew}
 use Rattle.ns_monitor.proofs.Returns.{fits_fresh}
@@ -20,17 +20,17 @@ answered g c = c.wait_at_variables-outcome.ensures.acquired
 pub invariant_of-back : goal.invariant_of-back
 invariant_of-back g c = let t = g.C.Condition.means in let after = (goal.at.invariant_of-back g c).After-wait_at_variables-outcome in let now = c.wait_at_variables-outcome.new.seat.me in let a = answered g after in let mode = c.mode-mode.result in (
   a.rest,
-  same_number t (Some (leaving (waits_for_variable c.mode-mode.result c.args.k c.args.limits))) c.held.inside.number c.held.inside.seat.me now c.held.invariant.1 c.wait_at_variables-outcome.ensures.since,
+  same_number t (Some (queuing_first (waits_for_variable c.mode-mode.result c.args.k c.args.limits))) c.held.inside.number c.held.inside.seat.me now c.held.invariant.1 c.wait_at_variables-outcome.ensures.since,
   fits_fresh g.row.N g.H.Section.mode (the now.0).at.held (λ o. g.H.Hand.fits c.begun-hand.result o) c.begun-hand.ensures (subst (λ m. IsFreshIn g.row.N m (the now.0).at.held) c.mode-mode.ensures (back_fresh t mode c.args.k c.args.limits (answer_of_wait c.wait_at_variables-outcome.result) now a)),
 )
 
 pub returns : goal.returns
 returns g c = record {
   grows = let t = g.C.Condition.means in let after = (goal.at.returns g c).After-wait_at_variables-outcome in let s0 = c.held.inside.seat in let now = c.wait_at_variables-outcome.new.seat in
-      subst (λ m. Grows t (leaving (waits_for_variable m c.args.k c.args.limits)) c.args.held (known_of now.table_id now.me)) c.mode-mode.ensures
-      (grew t (leaving (waits_for_variable c.mode-mode.result c.args.k c.args.limits)) c.args.held s0.table_id now.table_id s0.me now.me c.held.view_is (◌∙◌ {A = TableId} c.wait_at_variables-outcome.ensures.seat (sym c.requires.of)) (answered g after).rest c.wait_at_variables-outcome.ensures.since);
+      subst (λ m. Grows t (queuing_first (waits_for_variable m c.args.k c.args.limits)) c.args.held (known_of now.table_id now.me)) c.mode-mode.ensures
+      (grew t (queuing_first (waits_for_variable c.mode-mode.result c.args.k c.args.limits)) c.args.held s0.table_id now.table_id s0.me now.me c.held.view_is (◌∙◌ {A = TableId} c.wait_at_variables-outcome.ensures.seat (sym c.requires.of)) (answered g after).rest c.wait_at_variables-outcome.ensures.since);
   waited = let t = g.C.Condition.means in let after = (goal.at.returns g c).After-wait_at_variables-outcome in let s0 = c.held.inside.seat in let now = c.wait_at_variables-outcome.new.seat in
-      variable_wait_tells t (leaving (waits_for_variable c.mode-mode.result c.args.k c.args.limits)) c.mode-mode.result c.args.k c.args.limits c.answer.result c.args.held s0.table_id now.table_id s0.me now.me c.held.view_is c.wait_at_variables-outcome.ensures.since
+      variable_wait_tells t (queuing_first (waits_for_variable c.mode-mode.result c.args.k c.args.limits)) c.mode-mode.result c.args.k c.args.limits c.answer.result c.args.held s0.table_id now.table_id s0.me now.me c.held.view_is c.wait_at_variables-outcome.ensures.since
       (subst (λ a. HasAnswered t (Await (waits_for_variable c.mode-mode.result c.args.k c.args.limits)) (Answered a) now.me) (sym c.answer.ensures) (answered g after));
   looked = search rules;
   ended = let new = c.wait_at_variables-outcome.new.watch in
