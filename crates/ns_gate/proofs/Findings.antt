@@ -23,8 +23,8 @@ first_slot lists [] = lists
 first_slot lists (slot ∷ slots) = slot.1
 
 -- what is lent are these lists
-pub was_in_hand : {C : Type 0} (lists was : Lists C) (slots : List (ℕ × Lists C)) → slots ≡ (0, lists) ∷ [] → slots ≡ (0, was) ∷ rest slots → was ≡ lists
-was_in_hand lists was slots carries value = ap (first_slot lists) (sym value ∙ carries)
+pub was_in_hand : {C : Type 0} (lists slot was : Lists C) (slots : List (ℕ × Lists C)) → slots ≡ (0, lists) ∷ [] → slots ≡ (0, slot) ∷ rest slots → was ≡ slot → was ≡ lists
+was_in_hand lists slot was slots carries value lent = lent ∙ ap (first_slot lists) (sym value ∙ carries)
 
 -- and once it is given back, what was made of them is in hand
 pub now_in_hand : {C : Type 0} (lists now wanted : Lists C) (slots : List (ℕ × Lists C)) → slots ≡ (0, lists) ∷ [] → now ≡ wanted → (0, now) ∷ rest slots ≡ (0, wanted) ∷ []

@@ -1,6 +1,7 @@
 pub mod Calls
 pub mod Endings
 pub mod Law
+pub mod Lending
 pub mod Meetings
 pub mod Names
 pub mod Performing

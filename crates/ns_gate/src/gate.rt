@@ -3,6 +3,7 @@
 ghost use Rattle.std.specs.Prelude.{◌≡◌, ◌+◌, ◌<◌, ◌≤◌, [], ◌∷◌, replicate, None, IfErr, IfOk, MatchResult, slice_index};
 ghost use Rattle.ns_gate.specs.Prelude.{word_of, IsPackable, before_in, exchanged, row_in, CameByGuess, MayGuess, MayShow, WantsNext, IsAtRest, EndsAs, first_of, fresh, no_lists, rest_of, RefusesGate, HaveMet, CanStep, IsOne, MayExchange, MayLoad, MayStore, Performed, PerformedWith, made_by, the, tried, tried_for};
 
+use crate::boxed::BoxedQueues;
 use crate::closed::{Closed, cells};
 use crate::fault::Fault;
 use crate::plays::{Both, FirstOut, Go, Law, Learn, Load, Look, Together};
@@ -10,7 +11,6 @@ use crate::view::View;
 use atomic_table::{Refused, Table};
 use ns_env::limits::{Cause, Limits};
 use ns_model::condition::Condition;
-use ns_queue::queues::Queues;
 use ns_seats::saying::{exchange_saying, load_saying};
 use ns_word::act::{Act, Found};
 use ns_word::codec::unpacked;
@@ -22,12 +22,12 @@ use std::alloc::{AllocError, Global};
 use std::marker::Model;
 
 /// A seat of a gate's table.
-pub type GateSeat<C, const N: usize> = atomic_table::Seat<Queues<C, N>, View<C, N>>;
+pub type GateSeat<C, const N: usize> = atomic_table::Seat<BoxedQueues<C, N>, View<C, N>>;
 
 /// A lock word, a row of `N` cells and 64 flags, shared by the threads that have its seats.
 #[derive(Drop)]
 pub struct Gate<C: Condition<N>, const N: usize> {
-    pub(crate) table: Table<Queues<C, N>, View<C, N>, u8, Law<C, N>, Global>,
+    pub(crate) table: Table<BoxedQueues<C, N>, View<C, N>, u8, Law<C, N>, Global>,
 }
 
 impl<C: Condition<N>, const N: usize> Model for Gate<C, N> {
@@ -65,11 +65,11 @@ fn zeros(alloc: Global, count: usize) -> Result<Vec<u64>, AllocError>
 /// Queues in which nobody stands.
 fn no_waiters<C: Condition<N>, const N: usize>(
     alloc: Global,
-) -> Result<Vec<Queues<C, N>>, AllocError>
+) -> Result<Vec<BoxedQueues<C, N>>, AllocError>
     ensures { IfOk result (λ slots. slots.items ≡ no_lists ∷ []) }
 {
     let mut slots = Vec::new(alloc);
-    slots.push(Queues::new())?;
+    slots.push(BoxedQueues::new(alloc)?)?;
     Ok(slots)
 }
 
@@ -145,7 +145,7 @@ impl<C: Condition<N>, const N: usize> Gate<C, N> {
         ensures did { (act : Act C) → CanStep C.means begins act seat.old.me → PerformedWith C.means begins act result seat.old.me seat.new.me }
     {
         let shared = &self.table.shared;
-        load_saying::<Queues<C, N>, View<C, N>, u8, Law<C, N>, Option<Walk<C>>, Load<C, N>>(
+        load_saying::<BoxedQueues<C, N>, View<C, N>, u8, Law<C, N>, Option<Walk<C>>, Load<C, N>>(
             shared, seat, word, &begins,
         )
     }
@@ -209,7 +209,7 @@ impl<C: Condition<N>, const N: usize> Gate<C, N> {
         let shared = &self.table.shared;
         let content = guess.number();
         let found = exchange_saying::<
-            Queues<C, N>,
+            BoxedQueues<C, N>,
             View<C, N>,
             u8,
             Law<C, N>,
@@ -406,7 +406,7 @@ impl<C: Condition<N>, const N: usize> Gate<C, N> {
     {
         let shared = &self.table.shared;
         let flag = Self::flag_at(seat, number);
-        load_saying::<Queues<C, N>, View<C, N>, u8, Law<C, N>, Option<Cause>, Look<C, N>>(
+        load_saying::<BoxedQueues<C, N>, View<C, N>, u8, Law<C, N>, Option<Cause>, Look<C, N>>(
             shared, seat, flag, &cause,
         );
     }

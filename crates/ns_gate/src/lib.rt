@@ -11,6 +11,7 @@
 //! and how its seats meet ns_seats'.
 #![tactic(auto)]
 
+pub mod boxed;
 pub mod closed;
 pub mod fault;
 pub mod flags;

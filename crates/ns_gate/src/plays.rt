@@ -3,11 +3,11 @@
 ghost use Rattle.std.specs.Prelude.{◌++◌, [], None};
 ghost use Rattle.ns_gate.specs.Prelude.{Holds, first_of, fresh, rest_of, HaveLearned, HasGuessed, HasLooked, PerformedWith, act_by, first_said, the};
 
+use crate::boxed::BoxedQueues;
 use crate::view::View;
 use atomic_table::{Join, Play, Split, TableRule};
 use ns_env::limits::Cause;
 use ns_model::condition::Condition;
-use ns_queue::queues::Queues;
 use ns_seats::saying::Telling;
 use ns_word::walk::Walk;
 use std::marker::PhantomData;
@@ -17,7 +17,7 @@ pub struct Law<C, const N: usize> {
     of: PhantomData<C>,
 }
 
-impl<C: Condition<N>, const N: usize> TableRule<Queues<C, N>, View<C, N>, u8> for Law<C, N> {
+impl<C: Condition<N>, const N: usize> TableRule<BoxedQueues<C, N>, View<C, N>, u8> for Law<C, N> {
     ghost holds = { λ seat_count s. Holds C.means seat_count s };
 
     ghost first = { λ seat_count. fresh seat_count 0 seat_count };
@@ -28,7 +28,7 @@ pub struct Go<C, const N: usize> {
     of: PhantomData<C>,
 }
 
-impl<C: Condition<N>, const N: usize> Play<Queues<C, N>, View<C, N>> for Go<C, N> {
+impl<C: Condition<N>, const N: usize> Play<BoxedQueues<C, N>, View<C, N>> for Go<C, N> {
     ghost then = { λ st me found now. PerformedWith C.means None (act_by None (the me.0)) found me now };
 }
 
@@ -37,7 +37,7 @@ pub struct Load<C, const N: usize> {
     of: PhantomData<C>,
 }
 
-impl<C: Condition<N>, const N: usize> Telling<Queues<C, N>, View<C, N>, Option<Walk<C>>>
+impl<C: Condition<N>, const N: usize> Telling<BoxedQueues<C, N>, View<C, N>, Option<Walk<C>>>
     for Load<C, N> {
     ghost after = { λ begins st me found now. PerformedWith C.means (first_said begins) (act_by (first_said begins) (the me.0)) found me now };
 }
@@ -48,7 +48,7 @@ pub struct Both<C, const N: usize> {
     of: PhantomData<C>,
 }
 
-impl<C: Condition<N>, const N: usize> Telling<Queues<C, N>, View<C, N>, Option<Walk<C>>>
+impl<C: Condition<N>, const N: usize> Telling<BoxedQueues<C, N>, View<C, N>, Option<Walk<C>>>
     for Both<C, N> {
     ghost after = { λ begins st me found now. HasGuessed C.means (first_said begins) st.first found me now };
 }
@@ -58,7 +58,7 @@ pub struct Look<C, const N: usize> {
     of: PhantomData<C>,
 }
 
-impl<C: Condition<N>, const N: usize> Telling<Queues<C, N>, View<C, N>, Option<Cause>>
+impl<C: Condition<N>, const N: usize> Telling<BoxedQueues<C, N>, View<C, N>, Option<Cause>>
     for Look<C, N> {
     ghost after = { λ causes st me found now. HasLooked C.means (first_said causes) me now };
 }
@@ -77,7 +77,7 @@ pub struct Learn<C, const N: usize> {
     of: PhantomData<C>,
 }
 
-impl<C: Condition<N>, const N: usize> Play<Queues<C, N>, View<C, N>> for Learn<C, N> {
+impl<C: Condition<N>, const N: usize> Play<BoxedQueues<C, N>, View<C, N>> for Learn<C, N> {
     ghost then = { λ st me found now. HaveLearned C.means me now };
 }
 

@@ -149,7 +149,7 @@ impl<C: Condition<N>, const N: usize> Gate<C, N> {
         ensures lists { (last : _) → Carries (changed number (Change.QueueSelf mode arrival) last (the seat.old.me.0).stood) seat.new.me }
         ensures bits { (last : _) → result ≡ bits_of (changed number (Change.QueueSelf mode arrival) last (the seat.old.me.0).stood).lock }
     {
-        let queues = seat.slot_mut(&self.table.shared, 0);
+        let queues = seat.slot_mut(&self.table.shared, 0).lists();
         queue_self(queues, number, mode, arrival);
         bits(queues)
     }
@@ -166,7 +166,7 @@ impl<C: Condition<N>, const N: usize> Gate<C, N> {
         ensures lists { (last : _) → Carries (changed number (Change.LeaveSelf home) last (the seat.old.me.0).stood) seat.new.me }
         ensures bits { (last : _) → result.1 ≡ bits_of (changed number (Change.LeaveSelf home) last (the seat.old.me.0).stood).lock }
     {
-        let queues = seat.slot_mut(&self.table.shared, 0);
+        let queues = seat.slot_mut(&self.table.shared, 0).lists();
         let stood = leave_self(queues, number, home);
         (stood, bits(queues))
     }
@@ -178,6 +178,7 @@ impl<C: Condition<N>, const N: usize> Gate<C, N> {
     /// [`Gate::scan_from_in_hand`] goes on from there.
     ///
     /// Needs a seat of this gate, which has the queues in hand as they stood.
+    #[inline(always)]
     pub fn scan_writer_in_hand(
         &self,
         seat: &mut GateSeat<C, N>,
@@ -190,7 +191,7 @@ impl<C: Condition<N>, const N: usize> Gate<C, N> {
         ensures lists { IfOk result (λ _. Carries (lists_scanned C.means row.now (the seat.old.me.0).stood) seat.new.me) }
         ensures still { IfErr result (λ _. HasUnchangedQueues seat.new.me) }
     {
-        let queues = seat.slot_mut(&self.table.shared, 0);
+        let queues = seat.slot_mut(&self.table.shared, 0).lists();
         match queues.take_writer(row) {
             Foremost::Reader(sought) => Err(sought),
             Foremost::Nobody => Ok((None, turned_with(queues, false))),
@@ -222,7 +223,7 @@ impl<C: Condition<N>, const N: usize> Gate<C, N> {
         ensures lists { Carries (lists_scanned C.means row.now (the seat.old.me.0).stood) seat.new.me }
         ensures bits { result.1 ≡ bits_of (lists_scanned C.means row.now (the seat.old.me.0).stood).lock }
     {
-        let queues = seat.slot_mut(&self.table.shared, 0);
+        let queues = seat.slot_mut(&self.table.shared, 0).lists();
         let scan = queues.scan_from(row, sought);
         (scan, bits(queues))
     }
@@ -247,7 +248,7 @@ impl<C: Condition<N>, const N: usize> Gate<C, N> {
         ensures lists { (lists : _) → Carries lists seat.old.me → Carries (waits_at wait.on number wait.mode again lists) seat.new.me }
         ensures bits { (lists : _) → Carries lists seat.old.me → result ≡ bits_of (waits_at wait.on number wait.mode again lists).lock }
     {
-        let queues = seat.slot_mut(&self.table.shared, 0);
+        let queues = seat.slot_mut(&self.table.shared, 0).lists();
         enter(queues, wait.on, number, wait.mode, again);
         bits(queues)
     }

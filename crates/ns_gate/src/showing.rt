@@ -47,7 +47,7 @@ impl<C: Condition<N>, const N: usize> Gate<C, N> {
         ensures shows { ShowsLists (the seat.old.me.0).stood result.0 }
         ensures bits { result.1 ≡ bits_of (the seat.old.me.0).stood.lock }
     {
-        let queues = seat.slot_mut(&self.table.shared, 0);
+        let queues = seat.slot_mut(&self.table.shared, 0).lists();
         (shown_lists(queues), bits(queues))
     }
 }

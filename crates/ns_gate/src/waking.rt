@@ -122,7 +122,7 @@ impl<C: Condition<N>, const N: usize> Gate<C, N> {
         ensures has { HasUnchangedQueues seat.new.me }
         ensures nobody { result ≡ woken_nobody k (the seat.old.me.0).stood }
     {
-        let queues = seat.slot_mut(&self.table.shared, 0);
+        let queues = seat.slot_mut(&self.table.shared, 0).lists();
         if has_waiters(queues, k) {
             return None;
         }
@@ -154,7 +154,7 @@ impl<C: Condition<N>, const N: usize> Gate<C, N> {
         ensures lists { OnSome result (Carries (lists_woken _waking k held (the seat.old.me.0).stood) seat.new.me) }
         ensures same { IfNone result (HasUnchangedQueues seat.new.me) }
     {
-        let queues = seat.slot_mut(&self.table.shared, 0);
+        let queues = seat.slot_mut(&self.table.shared, 0).lists();
         match queues.take_sole(k) {
             Some(waiter) => {
                 let taken = [waiter];
@@ -187,7 +187,7 @@ impl<C: Condition<N>, const N: usize> Gate<C, N> {
         ensures some { result.1.some ≡ (held && has_some (taken_from waking k (the seat.old.me.0).stood)) }
         ensures bits { result.1.bits ≡ bits_of (lists_woken waking k held (the seat.old.me.0).stood).lock }
     {
-        let queues = seat.slot_mut(&self.table.shared, 0);
+        let queues = seat.slot_mut(&self.table.shared, 0).lists();
         let taken = take_waiters(queues, waking, k);
         move_if(queues, taken.as_slice(), held);
         let turned = turned_by(queues, taken.as_slice(), held);
@@ -219,7 +219,7 @@ impl<C: Condition<N>, const N: usize> Gate<C, N> {
         ensures some { result.some ≡ (held && has_some (taken_from _waking _k (the seat.old.me.0).stood)) }
         ensures bits { result.bits ≡ bits_of (lists_woken _waking _k held (the seat.old.me.0).stood).lock }
     {
-        let queues = seat.slot_mut(&self.table.shared, 0);
+        let queues = seat.slot_mut(&self.table.shared, 0).lists();
         turn(queues, taken, held);
         turned_by(queues, taken, held)
     }

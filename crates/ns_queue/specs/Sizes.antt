@@ -16,8 +16,8 @@ use Rattle.ns_queue.specs.contracts.lock_list.LockList.{the_row as lock_row}
 use Rattle.ns_queue.specs.contracts.ring.Ring.{the_row as ring_row}
 use Rattle.ns_queue.specs.contracts.queues.Queues.{the_row as queues_row}
 
-much_less : (n few : ℕ) → n < few → few < 2 ^ 63 → n < 2 ^ 63
-much_less n few less small = omega (arith, less, small)
+below_trans : (n few most : ℕ) → n < few → few < most → n < most
+below_trans n few most less small = omega (arith, less, small)
 
 -- 64 entries of a type that takes little, and the links beside them
 entries_few : (τ : Ty) → room τ < 2 ^ 40 → (beside : ℕ) → beside < 2 ^ 20 → 2 + 3 * (room (ty_array τ 64) + beside) < 2 ^ 63
@@ -41,17 +41,18 @@ list_room C N small = let one = room_enough (layout (waiter_row (copied 0 C))) i
 five_small : (σ τ : Ty) → room σ < 2 ^ 52 → room τ < 2 ^ 50 → 2 + 3 * (room σ + (room (ty_array τ 4) + 0)) < 2 ^ 56
 five_small σ τ first few = let one = room_enough τ in omega (arith, one, few, first)
 
+-- how little: so a record with the queues in it fits, too
 pub queues_room : (C N : RattleType) (means : Ghosts (copied 0 C).Denot (value_of (param 1 N))) → HasRoom (copied 0 C) (param 1 N) → room (layout (queues_row (copied 0 C) (param 1 N) means)) < 2 ^ 56
 queues_room C N means small = five_small (layout (lock_row (copied 0 C) (param 1 N) means)) (layout (list_row (waiter_row (copied 0 C)) (number 64) unit)) (lock_room C N means small) (list_room C N small)
 
 -- they fit where a condition and a row have room
 pub queues_fit : (C N : RattleType) → HasRoom (copied 0 C) (param 1 N) → (means : Ghosts (copied 0 C).Denot (value_of (param 1 N))) → FitsInMemory (queues_row (copied 0 C) (param 1 N) means)
 queues_fit C N small means =
-    small_by (layout (queues_row (copied 0 C) (param 1 N) means)) (much_less _ (2 ^ 56) (queues_room C N means small) (omega arith))
+    small_by (layout (queues_row (copied 0 C) (param 1 N) means)) (below_trans _ (2 ^ 56) _ (queues_room C N means small) (omega arith))
 
 -- so does the lock list alone
 pub lock_fits : (C N : RattleType) → HasRoom (copied 0 C) (param 1 N) → (means : Ghosts (copied 0 C).Denot (value_of (param 1 N))) → FitsInMemory (lock_row (copied 0 C) (param 1 N) means)
-lock_fits C N small means = small_by (layout (lock_row (copied 0 C) (param 1 N) means)) (much_less _ (2 ^ 52) (lock_room C N means small) (omega arith))
+lock_fits C N small means = small_by (layout (lock_row (copied 0 C) (param 1 N) means)) (below_trans _ (2 ^ 52) _ (lock_room C N means small) (omega arith))
 
 -- and its row of links
 pub ring_fits : (C N : RattleType) → HasRoom (copied 0 C) (param 1 N) → FitsInMemory (ring_row (copied 0 C) (param 1 N))

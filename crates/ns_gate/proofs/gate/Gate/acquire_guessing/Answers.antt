@@ -1,6 +1,5 @@
 use Rattle.std.proofs.Common.{arith, ap, refl, ◌∙◌}
 use Rattle.ns_gate.specs.Prelude.{Acquire, word_acquired}
-use Rattle.ns_gate.proofs.Room.{queues_fit}
 use Rattle.ns_gate.proofs.gate.Gate.acquire_guessing.Goals as goal
 
 pub acquired-requires : goal.acquired-requires
@@ -8,7 +7,7 @@ acquired-requires g c = let few = c.requires.guess.few in omega (arith, few)
 
 pub exchange_guessing-requires : goal.exchange_guessing-requires
 exchange_guessing-requires g c = let new = c.acquired.ensures ∙ ap (λ mode. word_acquired mode c.args.arrival c.args.guess) c.mode.ensures in
-    (omega arith, (queues_fit g.row.C g.row.N g.met.C.Condition.has_room g.C.Condition, (omega arith, (c.requires.of, (c.requires.can, record { act = Acquire c.args.aim c.args.arrival c.args.guess; next = c.requires.next; plain = (refl, new) })))))
+    (omega arith, (omega arith, (omega arith, (c.requires.of, (c.requires.can, record { act = Acquire c.args.aim c.args.arrival c.args.guess; next = c.requires.next; plain = (refl, new) })))))
 
 pub returns : goal.returns
 returns g c = record {

@@ -2,14 +2,13 @@ use Rattle.std.proofs.Common.{arith, ap, ◌∙◌}
 use Rattle.std.specs.Prelude.{not}
 use Rattle.ns_gate.specs.Prelude.{is_held}
 use Rattle.ns_gate.proofs.Endings.{last_packs, ends}
-use Rattle.ns_gate.proofs.Room.{queues_fit}
 use Rattle.ns_gate.proofs.gate.Gate.close.Goals as goal
 
 pub close_with-closed-requires-room-P-TableRule : goal.close_with-closed-requires-room-P-TableRule
 close_with-closed-requires-room-P-TableRule g c = λ _ _. omega arith
 
 pub close_with-closed-requires-room-P-TableRule-2 : goal.close_with-closed-requires-room-P-TableRule-2
-close_with-closed-requires-room-P-TableRule-2 g c = λ _ _. queues_fit g.row.C g.row.N g.met.C.Condition.has_room g.C.Condition
+close_with-closed-requires-room-P-TableRule-2 g c = λ _ _. omega arith
 
 pub close_with-closed-requires-room-P-TableRule-3 : goal.close_with-closed-requires-room-P-TableRule-3
 close_with-closed-requires-room-P-TableRule-3 g c = λ _ _. omega arith

@@ -2,14 +2,13 @@ use Rattle.std.proofs.Common.{arith, sym, ◌∙◌}
 use Rattle.ns_gate.specs.Prelude.{TableId}
 use Rattle.ns_gate.proofs.Allowed.{may_exchange}
 use Rattle.ns_gate.proofs.Findings.{found_packs, exchange_told}
-use Rattle.ns_gate.proofs.Room.{queues_fit}
 use Rattle.ns_gate.proofs.gate.Gate.exchange.Goals as goal
 
 pub compare_exchange-found-requires-room-P-TableRule : goal.compare_exchange-found-requires-room-P-TableRule
 compare_exchange-found-requires-room-P-TableRule g c = λ _ _. omega arith
 
 pub compare_exchange-found-requires-room-P-TableRule-2 : goal.compare_exchange-found-requires-room-P-TableRule-2
-compare_exchange-found-requires-room-P-TableRule-2 g c = λ _ _. queues_fit g.row.C g.row.N g.met.C.Condition.has_room g.C.Condition
+compare_exchange-found-requires-room-P-TableRule-2 g c = λ _ _. omega arith
 
 pub compare_exchange-found-requires-room-P-TableRule-3 : goal.compare_exchange-found-requires-room-P-TableRule-3
 compare_exchange-found-requires-room-P-TableRule-3 g c = λ _ _. omega arith
@@ -18,7 +17,7 @@ pub compare_exchange-found-requires-room-M-Play : goal.compare_exchange-found-re
 compare_exchange-found-requires-room-M-Play g c = λ _ _. omega arith
 
 pub compare_exchange-found-requires-room-M-Play-2 : goal.compare_exchange-found-requires-room-M-Play-2
-compare_exchange-found-requires-room-M-Play-2 g c = λ _ _. queues_fit g.row.C g.row.N g.met.C.Condition.has_room g.C.Condition
+compare_exchange-found-requires-room-M-Play-2 g c = λ _ _. omega arith
 
 pub compare_exchange-found-requires-room-M-Play-3 : goal.compare_exchange-found-requires-room-M-Play-3
 compare_exchange-found-requires-room-M-Play-3 g c = λ _ _. omega arith

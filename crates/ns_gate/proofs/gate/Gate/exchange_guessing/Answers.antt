@@ -1,14 +1,13 @@
 use Rattle.std.proofs.Common.{arith, sym, ◌∙◌}
 use Rattle.ns_gate.specs.Prelude.{TableId}
 use Rattle.ns_gate.proofs.Guesses.{may_guess, guess_packs, came_so}
-use Rattle.ns_gate.proofs.Room.{queues_fit}
 use Rattle.ns_gate.proofs.gate.Gate.exchange_guessing.Goals as goal
 
 pub exchange_saying-found-requires-room-P-TableRule : goal.exchange_saying-found-requires-room-P-TableRule
 exchange_saying-found-requires-room-P-TableRule g c = λ _ _. omega arith
 
 pub exchange_saying-found-requires-room-P-TableRule-2 : goal.exchange_saying-found-requires-room-P-TableRule-2
-exchange_saying-found-requires-room-P-TableRule-2 g c = λ _ _. queues_fit g.row.C g.row.N g.met.C.Condition.has_room g.C.Condition
+exchange_saying-found-requires-room-P-TableRule-2 g c = λ _ _. omega arith
 
 pub exchange_saying-found-requires-room-P-TableRule-3 : goal.exchange_saying-found-requires-room-P-TableRule-3
 exchange_saying-found-requires-room-P-TableRule-3 g c = λ _ _. omega arith
@@ -17,7 +16,7 @@ pub exchange_saying-found-requires-room-M-Telling : goal.exchange_saying-found-r
 exchange_saying-found-requires-room-M-Telling g c = λ _ _. omega arith
 
 pub exchange_saying-found-requires-room-M-Telling-2 : goal.exchange_saying-found-requires-room-M-Telling-2
-exchange_saying-found-requires-room-M-Telling-2 g c = λ _ _. queues_fit g.row.C g.row.N g.met.C.Condition.has_room g.C.Condition
+exchange_saying-found-requires-room-M-Telling-2 g c = λ _ _. omega arith
 
 pub exchange_saying-found-requires-room-M-Telling-3 : goal.exchange_saying-found-requires-room-M-Telling-3
 exchange_saying-found-requires-room-M-Telling-3 g c = λ _ _. omega arith

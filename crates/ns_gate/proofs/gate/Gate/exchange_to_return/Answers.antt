@@ -2,7 +2,6 @@ use Rattle.std.proofs.Common.{ℕ, List, arith, refl, ◌∙◌}
 use Rattle.ns_gate.specs.Prelude.{Changed, GateView, IsExchange, Lists, Released, Returning, Truths, Waited, Word, act_returning, word_returning}
 use Rattle.ns_gate.specs.Steps.{PutsBack}
 use Rattle.ns_gate.proofs.Findings.{returned_so}
-use Rattle.ns_gate.proofs.Room.{queues_fit}
 use Rattle.ns_gate.proofs.gate.Gate.exchange_to_return.Goals as goal
 
 -- the act with which the queues are put back so is an exchange
@@ -14,7 +13,7 @@ puts_back truths (Waited wait again) last new view slots p = (refl, p)
 pub exchange-requires : goal.exchange-requires
 exchange-requires g c = let returning = c.args.returning in let last = c.args.last in
     let new = c.word.ensures ∙ (λ i. word_returning returning (c.requires.some i) (c.requires.bits i) last) in
-    (omega arith, (queues_fit g.row.C g.row.N g.met.C.Condition.has_room g.C.Condition, (omega arith, (c.requires.of, (c.requires.last, record { act = act_returning returning last; can = c.requires.can; exchanges = puts_back g.C.Condition.means returning last _ _ _ (record { carries = c.requires.carries; word = new }) })))))
+    (omega arith, (omega arith, (omega arith, (c.requires.of, (c.requires.last, record { act = act_returning returning last; can = c.requires.can; exchanges = puts_back g.C.Condition.means returning last _ _ _ (record { carries = c.requires.carries; word = new }) })))))
 
 pub returns : goal.returns
 returns g c = record {

@@ -1,12 +1,11 @@
 use Rattle.std.proofs.Common.{arith, ap, ◌+◌}
 use Rattle.ns_gate.specs.Prelude.{JudgeQuiet}
 use Rattle.ns_gate.proofs.Findings.{quiet_cell}
-use Rattle.ns_gate.proofs.Room.{queues_fit}
 use Rattle.ns_gate.proofs.gate.Gate.judge_quiet.Goals as goal
 
 pub load_at-requires : goal.load_at-requires
 load_at-requires g c = let cell = c.requires.cell in let is = c.from-quiet_cell.ensures in
-    (omega arith, (queues_fit g.row.C g.row.N g.met.C.Condition.has_room g.C.Condition, (omega arith, (c.requires.of, (omega (arith, cell, is), record { act = JudgeQuiet c.args.i; can = c.requires.can; loads = tt; there = ap (λ n. n + 1) is })))))
+    (omega arith, (omega arith, (omega arith, (c.requires.of, (omega (arith, cell, is), record { act = JudgeQuiet c.args.i; can = c.requires.can; loads = tt; there = ap (λ n. n + 1) is })))))
 
 pub returns : goal.returns
 returns g c = record {

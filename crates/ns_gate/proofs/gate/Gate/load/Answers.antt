@@ -1,11 +1,10 @@
 use Rattle.std.proofs.Common.{arith, refl, sym, subst}
 use Rattle.ns_gate.specs.Prelude.{IsPackable, LoadWord}
 use Rattle.ns_gate.proofs.Findings.{saw_word, word_packs}
-use Rattle.ns_gate.proofs.Room.{queues_fit}
 use Rattle.ns_gate.proofs.gate.Gate.load.Goals as goal
 
 pub load_at-requires : goal.load_at-requires
-load_at-requires g c = (omega arith, (queues_fit g.row.C g.row.N g.met.C.Condition.has_room g.C.Condition, (omega arith, (c.requires.of, (omega arith, record { act = LoadWord; can = c.requires.can; loads = tt; there = refl })))))
+load_at-requires g c = (omega arith, (omega arith, (omega arith, (c.requires.of, (omega arith, record { act = LoadWord; can = c.requires.can; loads = tt; there = refl })))))
 
 pub returns : goal.returns
 returns g c = record {

@@ -2,14 +2,13 @@ use Rattle.std.proofs.Common.{arith, sym, ◌∙◌}
 use Rattle.ns_gate.specs.Prelude.{TableId}
 use Rattle.ns_gate.proofs.Allowed.{may_load}
 use Rattle.ns_gate.proofs.Findings.{stepped}
-use Rattle.ns_gate.proofs.Room.{queues_fit}
 use Rattle.ns_gate.proofs.gate.Gate.load_at.Goals as goal
 
 pub load_saying-requires-room-P-TableRule : goal.load_saying-requires-room-P-TableRule
 load_saying-requires-room-P-TableRule g c = λ _ _. omega arith
 
 pub load_saying-requires-room-P-TableRule-2 : goal.load_saying-requires-room-P-TableRule-2
-load_saying-requires-room-P-TableRule-2 g c = λ _ _. queues_fit g.row.C g.row.N g.met.C.Condition.has_room g.C.Condition
+load_saying-requires-room-P-TableRule-2 g c = λ _ _. omega arith
 
 pub load_saying-requires-room-P-TableRule-3 : goal.load_saying-requires-room-P-TableRule-3
 load_saying-requires-room-P-TableRule-3 g c = λ _ _. omega arith
@@ -18,7 +17,7 @@ pub load_saying-requires-room-M-Telling : goal.load_saying-requires-room-M-Telli
 load_saying-requires-room-M-Telling g c = λ _ _. omega arith
 
 pub load_saying-requires-room-M-Telling-2 : goal.load_saying-requires-room-M-Telling-2
-load_saying-requires-room-M-Telling-2 g c = λ _ _. queues_fit g.row.C g.row.N g.met.C.Condition.has_room g.C.Condition
+load_saying-requires-room-M-Telling-2 g c = λ _ _. omega arith
 
 pub load_saying-requires-room-M-Telling-3 : goal.load_saying-requires-room-M-Telling-3
 load_saying-requires-room-M-Telling-3 g c = λ _ _. omega arith

@@ -1,15 +1,14 @@
 use Rattle.std.proofs.Common.{arith, ap, inl, ◌+◌, ◌∙◌}
 use Rattle.ns_gate.specs.Prelude.{LoadFlag}
 use Rattle.ns_gate.proofs.Findings.{small_flag}
-use Rattle.ns_gate.proofs.Room.{queues_fit}
 use Rattle.ns_gate.proofs.gate.Gate.load_flag.Goals as goal
 
 pub flag_at-flag-requires : goal.flag_at-flag-requires
-flag_at-flag-requires g c = (queues_fit g.row.C g.row.N g.met.C.Condition.has_room g.C.Condition, (omega arith, (inl c.requires.number.0, c.requires.number.1)))
+flag_at-flag-requires g c = (omega arith, (omega arith, (inl c.requires.number.0, c.requires.number.1)))
 
 pub load_at-requires : goal.load_at-requires
 load_at-requires g c =
-    (omega arith, (queues_fit g.row.C g.row.N g.met.C.Condition.has_room g.C.Condition, (omega arith, (c.requires.of, (c.flag_at-flag.ensures.1, record { act = LoadFlag; can = c.requires.can; loads = tt; there = c.flag_at-flag.ensures.0 ∙ ap (λ n. n + (g.row.N + 1)) c.requires.number.0 })))))
+    (omega arith, (omega arith, (omega arith, (c.requires.of, (c.flag_at-flag.ensures.1, record { act = LoadFlag; can = c.requires.can; loads = tt; there = c.flag_at-flag.ensures.0 ∙ ap (λ n. n + (g.row.N + 1)) c.requires.number.0 })))))
 
 pub overflow_cast-result : goal.overflow_cast-result
 overflow_cast-result g c = let small = small_flag _ _ _ _ (c.load_at.ensures.did LoadFlag c.requires.can).made in omega (arith, small)

@@ -1,14 +1,13 @@
 use Rattle.std.proofs.Common.{arith, inl, sym, ◌∙◌}
 use Rattle.ns_gate.specs.Prelude.{TableId}
 use Rattle.ns_gate.proofs.Looks.{may_look, has_looked}
-use Rattle.ns_gate.proofs.Room.{queues_fit}
 use Rattle.ns_gate.proofs.gate.Gate.look.Goals as goal
 
 pub load_saying-requires-room-P-TableRule : goal.load_saying-requires-room-P-TableRule
 load_saying-requires-room-P-TableRule g c = λ _ _. omega arith
 
 pub load_saying-requires-room-P-TableRule-2 : goal.load_saying-requires-room-P-TableRule-2
-load_saying-requires-room-P-TableRule-2 g c = λ _ _. queues_fit g.row.C g.row.N g.met.C.Condition.has_room g.C.Condition
+load_saying-requires-room-P-TableRule-2 g c = λ _ _. omega arith
 
 pub load_saying-requires-room-P-TableRule-3 : goal.load_saying-requires-room-P-TableRule-3
 load_saying-requires-room-P-TableRule-3 g c = λ _ _. omega arith
@@ -17,7 +16,7 @@ pub load_saying-requires-room-M-Telling : goal.load_saying-requires-room-M-Telli
 load_saying-requires-room-M-Telling g c = λ _ _. omega arith
 
 pub load_saying-requires-room-M-Telling-2 : goal.load_saying-requires-room-M-Telling-2
-load_saying-requires-room-M-Telling-2 g c = λ _ _. queues_fit g.row.C g.row.N g.met.C.Condition.has_room g.C.Condition
+load_saying-requires-room-M-Telling-2 g c = λ _ _. omega arith
 
 pub load_saying-requires-room-M-Telling-3 : goal.load_saying-requires-room-M-Telling-3
 load_saying-requires-room-M-Telling-3 g c = λ _ _. omega arith
@@ -29,7 +28,7 @@ pub load_saying-requires-clause-allows : goal.load_saying-requires-clause-allows
 load_saying-requires-clause-allows g c = may_look _ g.met.C.Condition.has_cells.0 g.met.C.Condition.quiet_keeps _ _ _ c.args._limits c.args._again c.args.cause c.requires.may c.flag_at-flag.result _ c.requires.can
 
 pub flag_at-flag-requires : goal.flag_at-flag-requires
-flag_at-flag-requires g c = (queues_fit g.row.C g.row.N g.met.C.Condition.has_room g.C.Condition, (omega arith, (inl c.requires.number.0, c.requires.number.1)))
+flag_at-flag-requires g c = (omega arith, (omega arith, (inl c.requires.number.0, c.requires.number.1)))
 
 pub load_saying-requires-clause-of : goal.load_saying-requires-clause-of
 load_saying-requires-clause-of g c = ◌∙◌ {A = TableId} c.requires.of (sym c.self.view_is)

@@ -3,7 +3,6 @@ use Rattle.ns_gate.specs.Prelude.{SeatOf, TableId}
 use Rattle.ns_seats.proofs.Meetings.{cuts, glues}
 use Rattle.ns_seats.proofs.Views.{pair_of}
 use Rattle.ns_gate.proofs.Meets.{by_sums, learns, met_at}
-use Rattle.ns_gate.proofs.Room.{queues_fit}
 use Rattle.ns_gate.proofs.gate.Gate.meet.Goals as goal
 
 pub split_seat-first-requires-room-M-Split : goal.split_seat-first-requires-room-M-Split
@@ -16,7 +15,7 @@ pub join_seat-requires-room-P-TableRule : goal.join_seat-requires-room-P-TableRu
 join_seat-requires-room-P-TableRule g c = λ _ _. omega arith
 
 pub join_seat-requires-room-P-TableRule-2 : goal.join_seat-requires-room-P-TableRule-2
-join_seat-requires-room-P-TableRule-2 g c = λ _ _. queues_fit g.row.C g.row.N g.met.C.Condition.has_room g.C.Condition
+join_seat-requires-room-P-TableRule-2 g c = λ _ _. omega arith
 
 pub join_seat-requires-room-P-TableRule-3 : goal.join_seat-requires-room-P-TableRule-3
 join_seat-requires-room-P-TableRule-3 g c = λ _ _. omega arith
@@ -25,7 +24,7 @@ pub load-requires-room-P-TableRule : goal.load-requires-room-P-TableRule
 load-requires-room-P-TableRule g c = λ _ _. omega arith
 
 pub load-requires-room-P-TableRule-2 : goal.load-requires-room-P-TableRule-2
-load-requires-room-P-TableRule-2 g c = λ _ _. queues_fit g.row.C g.row.N g.met.C.Condition.has_room g.C.Condition
+load-requires-room-P-TableRule-2 g c = λ _ _. omega arith
 
 pub load-requires-room-P-TableRule-3 : goal.load-requires-room-P-TableRule-3
 load-requires-room-P-TableRule-3 g c = λ _ _. omega arith
@@ -34,7 +33,7 @@ pub load-requires-room-M-Play : goal.load-requires-room-M-Play
 load-requires-room-M-Play g c = λ _ _. omega arith
 
 pub load-requires-room-M-Play-2 : goal.load-requires-room-M-Play-2
-load-requires-room-M-Play-2 g c = λ _ _. queues_fit g.row.C g.row.N g.met.C.Condition.has_room g.C.Condition
+load-requires-room-M-Play-2 g c = λ _ _. omega arith
 
 pub load-requires-room-M-Play-3 : goal.load-requires-room-M-Play-3
 load-requires-room-M-Play-3 g c = λ _ _. omega arith
@@ -43,7 +42,7 @@ pub split_seat-first-requires-room-P-TableRule : goal.split_seat-first-requires-
 split_seat-first-requires-room-P-TableRule g c = λ _ _. omega arith
 
 pub split_seat-first-requires-room-P-TableRule-2 : goal.split_seat-first-requires-room-P-TableRule-2
-split_seat-first-requires-room-P-TableRule-2 g c = λ _ _. queues_fit g.row.C g.row.N g.met.C.Condition.has_room g.C.Condition
+split_seat-first-requires-room-P-TableRule-2 g c = λ _ _. omega arith
 
 pub split_seat-first-requires-room-P-TableRule-3 : goal.split_seat-first-requires-room-P-TableRule-3
 split_seat-first-requires-room-P-TableRule-3 g c = λ _ _. omega arith

@@ -1,18 +1,17 @@
 use Rattle.std.proofs.Common.{arith, inl}
-use Rattle.ns_gate.proofs.Room.{queues_fit}
 use Rattle.ns_gate.proofs.gate.Gate.park_timeout.Goals as goal
 
 pub park_timeout-requires-room-P-TableRule : goal.park_timeout-requires-room-P-TableRule
 park_timeout-requires-room-P-TableRule g c = λ _ _. omega arith
 
 pub park_timeout-requires-room-P-TableRule-2 : goal.park_timeout-requires-room-P-TableRule-2
-park_timeout-requires-room-P-TableRule-2 g c = λ _ _. queues_fit g.row.C g.row.N g.met.C.Condition.has_room g.C.Condition
+park_timeout-requires-room-P-TableRule-2 g c = λ _ _. omega arith
 
 pub park_timeout-requires-room-P-TableRule-3 : goal.park_timeout-requires-room-P-TableRule-3
 park_timeout-requires-room-P-TableRule-3 g c = λ _ _. omega arith
 
 pub flag_at-flag-requires : goal.flag_at-flag-requires
-flag_at-flag-requires g c = (queues_fit g.row.C g.row.N g.met.C.Condition.has_room g.C.Condition, (omega arith, (inl c.requires.number.0, c.requires.number.1)))
+flag_at-flag-requires g c = (omega arith, (omega arith, (inl c.requires.number.0, c.requires.number.1)))
 
 pub park_timeout-requires : goal.park_timeout-requires
 park_timeout-requires g c = let wide = c.self.invariant.0 in let below = c.flag_at-flag.ensures.1 in omega (arith, wide, below)

@@ -1,7 +1,6 @@
 use Rattle.std.proofs.Common.{◌≡◌, ℕ, List, Bool, arith, refl, slice_index, slice_set}
 use Rattle.ns_gate.specs.Prelude.{Act, ArmFlag, IsOnWord, JudgeMet, JudgeQuiet, Limits, LoadCell, LoadFlag, LoadWord, Look, PayWake, StoreCell, before_in, row_in, the}
 use Rattle.ns_gate.proofs.Besides.{beside_fits}
-use Rattle.ns_gate.proofs.Room.{queues_fit}
 use Rattle.ns_gate.proofs.gate.Gate.perform.Goals as goal
 
 -- what a test says of a row in which this cell was set, it says of the whole row
@@ -24,39 +23,39 @@ on_word other word cell quiet met store arm pay flag look = tt
 
 pub load-requires : goal.load-requires
 load-requires g c = let is = c.in-LoadWord.is in
-    (omega arith, (queues_fit g.row.C g.row.N g.met.C.Condition.has_room g.C.Condition, (omega arith, (c.requires.of, rw is at c.requires.can))))
+    (omega arith, (omega arith, (omega arith, (c.requires.of, rw is at c.requires.can))))
 
 pub load_cell-requires : goal.load_cell-requires
 load_cell-requires g c = let is = c.in-LoadCell.is in let needs = rw is at c.requires.needs in
-    (omega arith, (queues_fit g.row.C g.row.N g.met.C.Condition.has_room g.C.Condition, (omega arith, (c.requires.of, (needs, rw is at c.requires.can)))))
+    (omega arith, (omega arith, (omega arith, (c.requires.of, (needs, rw is at c.requires.can)))))
 
 pub judge_quiet-requires : goal.judge_quiet-requires
 judge_quiet-requires g c = let is = c.in-JudgeQuiet.is in let needs = rw is at c.requires.needs in
-    (omega arith, (queues_fit g.row.C g.row.N g.met.C.Condition.has_room g.C.Condition, (omega arith, (c.requires.of, (needs.0, rw is at c.requires.can)))))
+    (omega arith, (omega arith, (omega arith, (c.requires.of, (needs.0, rw is at c.requires.can)))))
 
 pub judge_met-requires : goal.judge_met-requires
 judge_met-requires g c = let is = c.in-JudgeMet.is in let needs = rw is at c.requires.needs in
-    (omega arith, (queues_fit g.row.C g.row.N g.met.C.Condition.has_room g.C.Condition, (omega arith, (c.requires.of, (needs.0, rw is at c.requires.can)))))
+    (omega arith, (omega arith, (omega arith, (c.requires.of, (needs.0, rw is at c.requires.can)))))
 
 pub load_flag-requires : goal.load_flag-requires
 load_flag-requires g c = let is = c.in-LoadFlag.is in let needs = rw is at c.requires.needs in
-    (omega arith, (queues_fit g.row.C g.row.N g.met.C.Condition.has_room g.C.Condition, (omega arith, (c.requires.of, (needs.1, rw needs.0 at (rw is at c.requires.can))))))
+    (omega arith, (omega arith, (omega arith, (c.requires.of, (needs.1, rw needs.0 at (rw is at c.requires.can))))))
 
 pub look-requires : goal.look-requires
 look-requires g c = let is = c.in-Look.is in let needs = rw is at c.requires.needs in
-    (omega arith, (queues_fit g.row.C g.row.N g.met.C.Condition.has_room g.C.Condition, (omega arith, (c.requires.of, (needs.1, (needs.2, rw needs.0 at (rw is at c.requires.can)))))))
+    (omega arith, (omega arith, (omega arith, (c.requires.of, (needs.1, (needs.2, rw needs.0 at (rw is at c.requires.can)))))))
 
 pub store_cell-requires : goal.store_cell-requires
 store_cell-requires g c = let is = c.in-StoreCell.is in let needs = rw is at c.requires.needs in
-    (omega arith, (queues_fit g.row.C g.row.N g.met.C.Condition.has_room g.C.Condition, (omega arith, (c.requires.of, (needs.1, rw needs.0 at (rw is at c.requires.can))))))
+    (omega arith, (omega arith, (omega arith, (c.requires.of, (needs.1, rw needs.0 at (rw is at c.requires.can))))))
 
 pub arm_flag-requires : goal.arm_flag-requires
 arm_flag-requires g c = let is = c.in-ArmFlag.is in let needs = rw is at c.requires.needs in
-    (omega arith, (queues_fit g.row.C g.row.N g.met.C.Condition.has_room g.C.Condition, (omega arith, (c.requires.of, (needs.1, rw needs.0 at (rw is at c.requires.can))))))
+    (omega arith, (omega arith, (omega arith, (c.requires.of, (needs.1, rw needs.0 at (rw is at c.requires.can))))))
 
 pub pay_wake-requires : goal.pay_wake-requires
 pay_wake-requires g c = let is = c.in-PayWake.is in let needs = rw is at c.requires.needs in
-    (omega arith, (queues_fit g.row.C g.row.N g.met.C.Condition.has_room g.C.Condition, (omega arith, (c.requires.of, ((needs.1, needs.2), rw needs.0 at (rw is at c.requires.can))))))
+    (omega arith, (omega arith, (omega arith, (c.requires.of, ((needs.1, needs.2), rw needs.0 at (rw is at c.requires.can))))))
 
 pub offset_bounds-row-from : goal.offset_bounds-row-from
 offset_bounds-row-from g c = let needs = rw c.in-JudgeQuiet.is at c.requires.needs in let below = needs.0 in let is = c.from.ensures in let few = g.met.C.Condition.has_cells.1 in omega (arith, is, below, few)
@@ -78,7 +77,7 @@ test-requires g c = omega (arith, g.met.C.Condition.has_cells)
 
 pub perform_exchange-requires : goal.perform_exchange-requires
 perform_exchange-requires g c =
-    (omega arith, (queues_fit g.row.C g.row.N g.met.C.Condition.has_room g.C.Condition, (omega arith, (beside_fits g.row.C g.row.N g.met.C.Condition.has_room, (c.requires.of, (on_word c.args.act c.in_default.not-LoadWord c.in_default.not-LoadCell c.in_default.not-JudgeQuiet c.in_default.not-JudgeMet c.in_default.not-StoreCell c.in_default.not-ArmFlag c.in_default.not-PayWake c.in_default.not-LoadFlag c.in_default.not-Look, (c.requires.can, c.requires.needs)))))))
+    (omega arith, (omega arith, (omega arith, (beside_fits g.row.C g.row.N g.met.C.Condition.has_room, (c.requires.of, (on_word c.args.act c.in_default.not-LoadWord c.in_default.not-LoadCell c.in_default.not-JudgeQuiet c.in_default.not-JudgeMet c.in_default.not-StoreCell c.in_default.not-ArmFlag c.in_default.not-PayWake c.in_default.not-LoadFlag c.in_default.not-Look, (c.requires.can, c.requires.needs)))))))
 
 pub parts-requires : goal.parts-requires
 parts-requires g c = c.load.ensures.word

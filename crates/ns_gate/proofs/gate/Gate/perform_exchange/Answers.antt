@@ -2,7 +2,6 @@ use Rattle.std.proofs.Common.{◌≡◌, Bool, arith, refl}
 use Rattle.ns_gate.specs.Prelude.{Acquire, Act, Arrival, Change, IsOnWord, Release, ReleaseReturning, Releasing, ReturnQueues, TakeQueues, Taking, Wait, WaitReturning, Word}
 use Rattle.ns_word.specs.declared.wait.Aim.{Aim}
 use Rattle.ns_gate.proofs.Besides.{beside_fits}
-use Rattle.ns_gate.proofs.Room.{queues_fit}
 use Rattle.ns_gate.proofs.gate.Gate.perform_exchange.Goals as goal
 
 -- an exchange is one of these
@@ -18,27 +17,27 @@ off_word other kind acquire take release back leave wait = kind
 
 pub exchange_to_acquire-tries-requires : goal.exchange_to_acquire-tries-requires
 exchange_to_acquire-tries-requires g c = let is = c.in-Acquire.is in let needs = rw is at c.requires.needs in let word = c.new-last.ensures in
-    (omega arith, (queues_fit g.row.C g.row.N g.met.C.Condition.has_room g.C.Condition, (omega arith, (c.requires.of, (rw word needs.1, rw word (rw needs.0 at (rw is at c.requires.can)))))))
+    (omega arith, (omega arith, (omega arith, (c.requires.of, (rw word needs.1, rw word (rw needs.0 at (rw is at c.requires.can)))))))
 
 pub exchange_to_take-requires : goal.exchange_to_take-requires
 exchange_to_take-requires g c = let is = c.in-TakeQueues.is in let needs = rw is at c.requires.needs in let word = c.new.ensures in
-    (omega arith, (queues_fit g.row.C g.row.N g.met.C.Condition.has_room g.C.Condition, (omega arith, (c.requires.of, (rw word needs.1, rw word (rw needs.0 at (rw is at c.requires.can)))))))
+    (omega arith, (omega arith, (omega arith, (c.requires.of, (rw word needs.1, rw word (rw needs.0 at (rw is at c.requires.can)))))))
 
 pub exchange_to_release-requires : goal.exchange_to_release-requires
 exchange_to_release-requires g c = let is = c.in-Release.is in let needs = rw is at c.requires.needs in let word = c.new-in-Release.ensures in
-    (omega arith, (queues_fit g.row.C g.row.N g.met.C.Condition.has_room g.C.Condition, (omega arith, (c.requires.of, (rw word needs.1, rw word (rw needs.0 at (rw is at c.requires.can)))))))
+    (omega arith, (omega arith, (omega arith, (c.requires.of, (rw word needs.1, rw word (rw needs.0 at (rw is at c.requires.can)))))))
 
 pub put_back-requires : goal.put_back-requires
 put_back-requires g c = let is = c.in-ReturnQueues.is in let needs = rw is at c.requires.needs in
-    (omega arith, (queues_fit g.row.C g.row.N g.met.C.Condition.has_room g.C.Condition, (omega arith, (beside_fits g.row.C g.row.N g.met.C.Condition.has_room, (c.requires.of, (rw needs.0 at (rw is at c.requires.can), needs.1))))))
+    (omega arith, (omega arith, (omega arith, (beside_fits g.row.C g.row.N g.met.C.Condition.has_room, (c.requires.of, (rw needs.0 at (rw is at c.requires.can), needs.1))))))
 
 pub put_back-requires-in-ReleaseReturning : goal.put_back-requires-in-ReleaseReturning
 put_back-requires-in-ReleaseReturning g c = let is = c.in-ReleaseReturning.is in let needs = rw is at c.requires.needs in
-    (omega arith, (queues_fit g.row.C g.row.N g.met.C.Condition.has_room g.C.Condition, (omega arith, (beside_fits g.row.C g.row.N g.met.C.Condition.has_room, (c.requires.of, (rw needs.0 at (rw is at c.requires.can), needs.1))))))
+    (omega arith, (omega arith, (omega arith, (beside_fits g.row.C g.row.N g.met.C.Condition.has_room, (c.requires.of, (rw needs.0 at (rw is at c.requires.can), needs.1))))))
 
 pub put_back-requires-in-WaitReturning : goal.put_back-requires-in-WaitReturning
 put_back-requires-in-WaitReturning g c = let is = c.in-WaitReturning.is in let needs = rw is at c.requires.needs in
-    (omega arith, (queues_fit g.row.C g.row.N g.met.C.Condition.has_room g.C.Condition, (omega arith, (beside_fits g.row.C g.row.N g.met.C.Condition.has_room, (c.requires.of, (rw needs.0 at (rw is at c.requires.can), needs.1))))))
+    (omega arith, (omega arith, (omega arith, (beside_fits g.row.C g.row.N g.met.C.Condition.has_room, (c.requires.of, (rw needs.0 at (rw is at c.requires.can), needs.1))))))
 
 pub found_by-requires : goal.found_by-requires
 found_by-requires g c = c.exchange_to_acquire-tries.ensures.word

@@ -1,10 +1,9 @@
 use Rattle.std.proofs.Common.{arith}
-use Rattle.ns_gate.proofs.Room.{queues_fit}
 use Rattle.ns_gate.proofs.gate.Gate.put_back.Goals as goal
 
 pub exchange_to_return-tries-requires : goal.exchange_to_return-tries-requires
 exchange_to_return-tries-requires g c = let turned = c.requires.turned in let is = c.new-last.ensures in
-    (omega arith, (queues_fit g.row.C g.row.N g.met.C.Condition.has_room g.C.Condition, (omega arith, (c.requires.of, (rw is turned.number, (rw is c.requires.can, (rw is turned.carries, (rw is turned.moved, rw is turned.bits))))))))
+    (omega arith, (omega arith, (omega arith, (c.requires.of, (rw is turned.number, (rw is c.requires.can, (rw is turned.carries, (rw is turned.moved, rw is turned.bits))))))))
 
 pub found_by-requires : goal.found_by-requires
 found_by-requires g c = c.exchange_to_return-tries.ensures.word

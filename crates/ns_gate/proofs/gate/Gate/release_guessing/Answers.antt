@@ -1,11 +1,10 @@
 use Rattle.std.proofs.Common.{arith, refl}
 use Rattle.ns_gate.specs.Prelude.{Release}
-use Rattle.ns_gate.proofs.Room.{queues_fit}
 use Rattle.ns_gate.proofs.gate.Gate.release_guessing.Goals as goal
 
 pub exchange_guessing-requires : goal.exchange_guessing-requires
 exchange_guessing-requires g c =
-    (omega arith, (queues_fit g.row.C g.row.N g.met.C.Condition.has_room g.C.Condition, (omega arith, (c.requires.of, (c.requires.can, record { act = Release c.args.releasing c.args.guess; next = c.requires.next; plain = (refl, c.released.ensures) })))))
+    (omega arith, (omega arith, (omega arith, (c.requires.of, (c.requires.can, record { act = Release c.args.releasing c.args.guess; next = c.requires.next; plain = (refl, c.released.ensures) })))))
 
 pub returns : goal.returns
 returns g c = record {

@@ -5,17 +5,11 @@ use Rattle.ns_gate.proofs.Scans.{lists_few, lists_kept, told_nobody, told_reader
 use Rattle.ns_gate.proofs.Room.{queues_fit}
 use Rattle.ns_gate.proofs.gate.Gate.scan_writer_in_hand.Goals as goal
 
-pub slot_mut-queues-requires-room-P-TableRule : goal.slot_mut-queues-requires-room-P-TableRule
-slot_mut-queues-requires-room-P-TableRule g c = λ _ _. omega arith
+pub slot_mut-requires : goal.slot_mut-requires
+slot_mut-requires g c = (◌∙◌ {A = TableId} c.requires.of (sym c.self.view_is), has_slot _ _ c.requires.has)
 
-pub slot_mut-queues-requires-room-P-TableRule-2 : goal.slot_mut-queues-requires-room-P-TableRule-2
-slot_mut-queues-requires-room-P-TableRule-2 g c = λ _ _. queues_fit g.row.C g.row.N g.met.C.Condition.has_room g.C.Condition
-
-pub slot_mut-queues-requires-room-P-TableRule-3 : goal.slot_mut-queues-requires-room-P-TableRule-3
-slot_mut-queues-requires-room-P-TableRule-3 g c = λ _ _. omega arith
-
-pub slot_mut-queues-requires : goal.slot_mut-queues-requires
-slot_mut-queues-requires g c = (◌∙◌ {A = TableId} c.requires.of (sym c.self.view_is), has_slot _ _ c.requires.has)
+pub lists-queues-requires : goal.lists-queues-requires
+lists-queues-requires g c = (omega arith, queues_fit g.row.C g.row.N g.met.C.Condition.has_room g.C.Condition)
 
 pub take_writer-requires : goal.take_writer-requires
 take_writer-requires g c = (queues_fit g.row.C g.row.N g.met.C.Condition.has_room g.C.Condition, omega (arith, g.met.C.Condition.has_cells))
@@ -29,21 +23,21 @@ turned_with-requires-in-Writer g c = queues_fit g.row.C g.row.N g.met.C.Conditio
 pub returns-in-Reader-clause-told : goal.returns-in-Reader-clause-told
 returns-in-Reader-clause-told g c =
     let t = g.C.Condition.means in let meets = meets_at t c.args.row.now in let stood = (the c.args.seat.now.me.0).stood in
-    let was = was_in_hand _ _ c.args.seat.now.me.1 c.requires.has c.slot_mut-queues.ensures.value in
+    let was = was_in_hand _ _ _ c.args.seat.now.me.1 c.requires.has c.slot_mut.ensures.value c.lists-queues.ensures.value in
     let first = sym c.in-Reader.is ∙ c.take_writer.ensures.told in
     told_reader (sought_at t c.args.row.now stood) c.in-Reader.sought (woken_of meets stood.lock) (left_of meets stood.lock) (first ∙ ap (λ lists. foremost_of (sought_at t c.args.row.now lists) (woken_of meets lists.lock)) was)
 
 pub returns-in-Reader-clause-still : goal.returns-in-Reader-clause-still
 returns-in-Reader-clause-still g c =
     let t = g.C.Condition.means in let stood = (the c.args.seat.now.me.0).stood in
-    let was = was_in_hand _ _ c.args.seat.now.me.1 c.requires.has c.slot_mut-queues.ensures.value in
+    let was = was_in_hand _ _ _ c.args.seat.now.me.1 c.requires.has c.slot_mut.ensures.value c.lists-queues.ensures.value in
     let first = sym c.in-Reader.is ∙ c.take_writer.ensures.told in
     now_in_hand stood c.take_writer.new.self _ c.args.seat.now.me.1 c.requires.has (lists_kept _ t c.args.row.now _ _ c.take_writer.new.self first refl c.take_writer.ensures.left ∙ was)
 
 pub returns-in-Nobody-clause-told : goal.returns-in-Nobody-clause-told
 returns-in-Nobody-clause-told g c =
     let t = g.C.Condition.means in let meets = meets_at t c.args.row.now in let stood = (the c.args.seat.now.me.0).stood in
-    let was = was_in_hand _ _ c.args.seat.now.me.1 c.requires.has c.slot_mut-queues.ensures.value in
+    let was = was_in_hand _ _ _ c.args.seat.now.me.1 c.requires.has c.slot_mut.ensures.value c.lists-queues.ensures.value in
     let first = sym c.in-Nobody.is ∙ c.take_writer.ensures.told in
     let left = lists_few _ t c.args.row.now _ _ c.take_writer.new.self first refl c.take_writer.ensures.left ∙ ap (lists_scanned t c.args.row.now) was in
     ap (λ (made : Turned). Ok (None, made)) c.turned_with.ensures ∙ told_nobody (sought_at t c.args.row.now stood) (woken_of meets stood.lock) (left_of meets stood.lock) _ (first ∙ ap (λ lists. foremost_of (sought_at t c.args.row.now lists) (woken_of meets lists.lock)) was) (ap (λ lists. bits_of lists.lock) left)
@@ -51,7 +45,7 @@ returns-in-Nobody-clause-told g c =
 pub returns-in-Nobody-clause-lists : goal.returns-in-Nobody-clause-lists
 returns-in-Nobody-clause-lists g c =
     let t = g.C.Condition.means in let meets = meets_at t c.args.row.now in let stood = (the c.args.seat.now.me.0).stood in
-    let was = was_in_hand _ _ c.args.seat.now.me.1 c.requires.has c.slot_mut-queues.ensures.value in
+    let was = was_in_hand _ _ _ c.args.seat.now.me.1 c.requires.has c.slot_mut.ensures.value c.lists-queues.ensures.value in
     let first = sym c.in-Nobody.is ∙ c.take_writer.ensures.told in
     let left = lists_few _ t c.args.row.now _ _ c.take_writer.new.self first refl c.take_writer.ensures.left ∙ ap (lists_scanned t c.args.row.now) was in
     now_in_hand stood c.take_writer.new.self _ c.args.seat.now.me.1 c.requires.has left
@@ -59,7 +53,7 @@ returns-in-Nobody-clause-lists g c =
 pub returns-in-Writer-clause-told : goal.returns-in-Writer-clause-told
 returns-in-Writer-clause-told g c =
     let t = g.C.Condition.means in let meets = meets_at t c.args.row.now in let stood = (the c.args.seat.now.me.0).stood in
-    let was = was_in_hand _ _ c.args.seat.now.me.1 c.requires.has c.slot_mut-queues.ensures.value in
+    let was = was_in_hand _ _ _ c.args.seat.now.me.1 c.requires.has c.slot_mut.ensures.value c.lists-queues.ensures.value in
     let first = sym c.in-Writer.is ∙ c.take_writer.ensures.told in
     let left = lists_few _ t c.args.row.now _ _ c.take_writer.new.self first refl c.take_writer.ensures.left ∙ ap (lists_scanned t c.args.row.now) was in
     ap (λ (made : Turned). Ok (Some c.called_one-wake.result, made)) c.turned_with-in-Writer.ensures ∙ told_writer (sought_at t c.args.row.now stood) (woken_of meets stood.lock) (left_of meets stood.lock) c.in-Writer.number c.in-Writer.via c.called_one-wake.result _ (first ∙ ap (λ lists. foremost_of (sought_at t c.args.row.now lists) (woken_of meets lists.lock)) was) c.called_one-wake.ensures (ap (λ lists. bits_of lists.lock) left)
@@ -67,7 +61,7 @@ returns-in-Writer-clause-told g c =
 pub returns-in-Writer-clause-lists : goal.returns-in-Writer-clause-lists
 returns-in-Writer-clause-lists g c =
     let t = g.C.Condition.means in let meets = meets_at t c.args.row.now in let stood = (the c.args.seat.now.me.0).stood in
-    let was = was_in_hand _ _ c.args.seat.now.me.1 c.requires.has c.slot_mut-queues.ensures.value in
+    let was = was_in_hand _ _ _ c.args.seat.now.me.1 c.requires.has c.slot_mut.ensures.value c.lists-queues.ensures.value in
     let first = sym c.in-Writer.is ∙ c.take_writer.ensures.told in
     let left = lists_few _ t c.args.row.now _ _ c.take_writer.new.self first refl c.take_writer.ensures.left ∙ ap (lists_scanned t c.args.row.now) was in
     now_in_hand stood c.take_writer.new.self _ c.args.seat.now.me.1 c.requires.has left

@@ -3,14 +3,13 @@ use Rattle.ns_gate.specs.Prelude.{TableId}
 use Rattle.std.specs.Prelude.{None}
 use Rattle.ns_gate.proofs.Allowed.{may_store}
 use Rattle.ns_gate.proofs.Findings.{stepped}
-use Rattle.ns_gate.proofs.Room.{queues_fit}
 use Rattle.ns_gate.proofs.gate.Gate.store_at.Goals as goal
 
 pub store-requires-room-P-TableRule : goal.store-requires-room-P-TableRule
 store-requires-room-P-TableRule g c = λ _ _. omega arith
 
 pub store-requires-room-P-TableRule-2 : goal.store-requires-room-P-TableRule-2
-store-requires-room-P-TableRule-2 g c = λ _ _. queues_fit g.row.C g.row.N g.met.C.Condition.has_room g.C.Condition
+store-requires-room-P-TableRule-2 g c = λ _ _. omega arith
 
 pub store-requires-room-P-TableRule-3 : goal.store-requires-room-P-TableRule-3
 store-requires-room-P-TableRule-3 g c = λ _ _. omega arith
@@ -19,7 +18,7 @@ pub store-requires-room-M-Play : goal.store-requires-room-M-Play
 store-requires-room-M-Play g c = λ _ _. omega arith
 
 pub store-requires-room-M-Play-2 : goal.store-requires-room-M-Play-2
-store-requires-room-M-Play-2 g c = λ _ _. queues_fit g.row.C g.row.N g.met.C.Condition.has_room g.C.Condition
+store-requires-room-M-Play-2 g c = λ _ _. omega arith
 
 pub store-requires-room-M-Play-3 : goal.store-requires-room-M-Play-3
 store-requires-room-M-Play-3 g c = λ _ _. omega arith

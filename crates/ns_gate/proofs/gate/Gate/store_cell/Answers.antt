@@ -1,11 +1,10 @@
 use Rattle.std.proofs.Common.{arith, ap, refl, ◌+◌}
 use Rattle.ns_gate.specs.Prelude.{StoreCell}
-use Rattle.ns_gate.proofs.Room.{queues_fit}
 use Rattle.ns_gate.proofs.gate.Gate.store_cell.Goals as goal
 
 pub store_at-requires : goal.store_at-requires
 store_at-requires g c = let cell = c.requires.cell in let is = c.from.ensures in
-    (omega arith, (queues_fit g.row.C g.row.N g.met.C.Condition.has_room g.C.Condition, (omega arith, (c.requires.of, (omega (arith, cell, is), record { act = StoreCell c.args.i c.args.value; can = c.requires.can; stores = refl; there = ap (λ n. n + 1) is })))))
+    (omega arith, (omega arith, (omega arith, (c.requires.of, (omega (arith, cell, is), record { act = StoreCell c.args.i c.args.value; can = c.requires.can; stores = refl; there = ap (λ n. n + 1) is })))))
 
 pub returns : goal.returns
 returns g c = record {

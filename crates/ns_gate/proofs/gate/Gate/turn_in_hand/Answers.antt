@@ -5,23 +5,17 @@ use Rattle.ns_gate.proofs.Wakes.{may_turn, turned_over}
 use Rattle.ns_gate.proofs.Room.{queues_fit}
 use Rattle.ns_gate.proofs.gate.Gate.turn_in_hand.Goals as goal
 
-pub slot_mut-queues-requires-room-P-TableRule : goal.slot_mut-queues-requires-room-P-TableRule
-slot_mut-queues-requires-room-P-TableRule g c = λ _ _. omega arith
+pub slot_mut-requires : goal.slot_mut-requires
+slot_mut-requires g c = (◌∙◌ {A = TableId} c.requires.of (sym c.self.view_is), has_slot _ _ c.requires.lists)
 
-pub slot_mut-queues-requires-room-P-TableRule-2 : goal.slot_mut-queues-requires-room-P-TableRule-2
-slot_mut-queues-requires-room-P-TableRule-2 g c = λ _ _. queues_fit g.row.C g.row.N g.met.C.Condition.has_room g.C.Condition
-
-pub slot_mut-queues-requires-room-P-TableRule-3 : goal.slot_mut-queues-requires-room-P-TableRule-3
-slot_mut-queues-requires-room-P-TableRule-3 g c = λ _ _. omega arith
-
-pub slot_mut-queues-requires : goal.slot_mut-queues-requires
-slot_mut-queues-requires g c = (◌∙◌ {A = TableId} c.requires.of (sym c.self.view_is), has_slot _ _ c.requires.lists)
+pub lists-queues-requires : goal.lists-queues-requires
+lists-queues-requires g c = (omega arith, queues_fit g.row.C g.row.N g.met.C.Condition.has_room g.C.Condition)
 
 pub turn-requires : goal.turn-requires
 turn-requires g c = (
   queues_fit g.row.C g.row.N g.met.C.Condition.has_room g.C.Condition,
-  may_turn c.args._waking c.args._k c.args.held (the c.args.seat.now.me.0).stood c.slot_mut-queues.result.now c.args.taken.now c.requires.orderly c.requires.variable
-      c.requires.taken (was_in_hand _ _ c.args.seat.now.me.1 c.requires.lists c.slot_mut-queues.ensures.value),
+  may_turn c.args._waking c.args._k c.args.held (the c.args.seat.now.me.0).stood c.lists-queues.result.now c.args.taken.now c.requires.orderly c.requires.variable
+      c.requires.taken (was_in_hand _ _ _ c.args.seat.now.me.1 c.requires.lists c.slot_mut.ensures.value c.lists-queues.ensures.value),
 )
 
 pub turned_by-requires : goal.turned_by-requires
@@ -31,10 +25,10 @@ pub returns : goal.returns
 returns g c = record {
   seat = (refl, refl);
   lists = now_in_hand (lists_woken c.args._waking c.args._k (not c.args.held) (the c.args.seat.now.me.0).stood) _ _ c.args.seat.now.me.1 c.requires.lists (c.turn.ensures
-      ∙ turned_over c.args._waking c.args._k c.args.held (the c.args.seat.now.me.0).stood c.slot_mut-queues.result.now c.args.taken.now c.requires.orderly c.requires.variable
-      c.requires.taken (was_in_hand _ _ c.args.seat.now.me.1 c.requires.lists c.slot_mut-queues.ensures.value));
+      ∙ turned_over c.args._waking c.args._k c.args.held (the c.args.seat.now.me.0).stood c.lists-queues.result.now c.args.taken.now c.requires.orderly c.requires.variable
+      c.requires.taken (was_in_hand _ _ _ c.args.seat.now.me.1 c.requires.lists c.slot_mut.ensures.value c.lists-queues.ensures.value));
   some = search rules;
   bits = c.turned_by.ensures.bits ∙ ap (λ lists. bits_of lists.lock) (c.turn.ensures
-      ∙ turned_over c.args._waking c.args._k c.args.held (the c.args.seat.now.me.0).stood c.slot_mut-queues.result.now c.args.taken.now c.requires.orderly c.requires.variable
-      c.requires.taken (was_in_hand _ _ c.args.seat.now.me.1 c.requires.lists c.slot_mut-queues.ensures.value));
+      ∙ turned_over c.args._waking c.args._k c.args.held (the c.args.seat.now.me.0).stood c.lists-queues.result.now c.args.taken.now c.requires.orderly c.requires.variable
+      c.requires.taken (was_in_hand _ _ _ c.args.seat.now.me.1 c.requires.lists c.slot_mut.ensures.value c.lists-queues.ensures.value));
 }

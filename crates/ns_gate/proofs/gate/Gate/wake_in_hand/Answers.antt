@@ -10,28 +10,22 @@ use Rattle.ns_gate.proofs.gate.Gate.wake_in_hand.Given.{Over}
 use Rattle.ns_gate.proofs.gate.Gate.wake_in_hand.Goals.{After-move_if}
 use Rattle.ns_gate.proofs.gate.Gate.wake_in_hand.Goals as goal
 
-pub slot_mut-queues-requires-room-P-TableRule : goal.slot_mut-queues-requires-room-P-TableRule
-slot_mut-queues-requires-room-P-TableRule g c = λ _ _. omega arith
+pub slot_mut-requires : goal.slot_mut-requires
+slot_mut-requires g c = (◌∙◌ {A = TableId} c.requires.of (sym c.self.view_is), has_slot _ _ c.requires.has)
 
-pub slot_mut-queues-requires-room-P-TableRule-2 : goal.slot_mut-queues-requires-room-P-TableRule-2
-slot_mut-queues-requires-room-P-TableRule-2 g c = λ _ _. queues_fit g.row.C g.row.N g.met.C.Condition.has_room g.C.Condition
-
-pub slot_mut-queues-requires-room-P-TableRule-3 : goal.slot_mut-queues-requires-room-P-TableRule-3
-slot_mut-queues-requires-room-P-TableRule-3 g c = λ _ _. omega arith
-
-pub slot_mut-queues-requires : goal.slot_mut-queues-requires
-slot_mut-queues-requires g c = (◌∙◌ {A = TableId} c.requires.of (sym c.self.view_is), has_slot _ _ c.requires.has)
+pub lists-queues-requires : goal.lists-queues-requires
+lists-queues-requires g c = (omega arith, queues_fit g.row.C g.row.N g.met.C.Condition.has_room g.C.Condition)
 
 pub move_if-requires : goal.move_if-requires
 move_if-requires g c = (
   queues_fit g.row.C g.row.N g.met.C.Condition.has_room g.C.Condition,
-  may_move c.args.waking c.args.k c.slot_mut-queues.result.now c.take_waiters-taken.new.queues c.as_slice.result.now c.take_waiters-taken.ensures.orderly c.requires.variable
+  may_move c.args.waking c.args.k c.lists-queues.result.now c.take_waiters-taken.new.queues c.as_slice.result.now c.take_waiters-taken.ensures.orderly c.requires.variable
       (c.as_slice.ensures.value ∙ c.take_waiters-taken.ensures.taken) c.take_waiters-taken.ensures.left,
 )
 
 -- the queues in hand were those that stood
-was : (g : Over) (c : After-move_if g) → c.slot_mut-queues.result.now ≡ (the c.args.seat.now.me.0).stood
-was g c = was_in_hand _ _ c.args.seat.now.me.1 c.requires.has c.slot_mut-queues.ensures.value
+was : (g : Over) (c : After-move_if g) → c.lists-queues.result.now ≡ (the c.args.seat.now.me.0).stood
+was g c = was_in_hand _ _ _ c.args.seat.now.me.1 c.requires.has c.slot_mut.ensures.value c.lists-queues.ensures.value
 
 -- and are those that are put back
 put : (g : Over) (c : After-move_if g) → c.move_if.new.queues ≡ lists_woken c.args.waking c.args.k c.args.held (the c.args.seat.now.me.0).stood
