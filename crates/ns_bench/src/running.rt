@@ -5,7 +5,7 @@
 ghost use Rattle.std.specs.Thread.{IsSend, IsSync};
 
 use crate::amount::{Amount, Count, total};
-use ns_monitor::{Gated, Handle, Handles};
+use ns_monitor::{Condition, Handle, Handles};
 use ns_note::watcher::{Watcher, Watchers};
 use std::alloc::{AllocError, Global};
 use std::sync::{Barrier, Wait};
@@ -57,13 +57,13 @@ impl<'e> Source<Watcher<'e>> for Watchers<'e> {
     }
 }
 
-impl<'m, C: Gated<N>, const N: usize> Source<Handle<'m, C, N>> for Handles<'m, C, N> {
+impl<'m, C: Condition<N>, const N: usize> Source<Handle<'m, C, N>> for Handles<'m, C, N> {
     fn take(&mut self) -> Option<Handle<'m, C, N>> {
         self.next()
     }
 }
 
-impl<'m, 'e, C: Gated<N>, const N: usize> Source<(Handle<'m, C, N>, Watcher<'e>)>
+impl<'m, 'e, C: Condition<N>, const N: usize> Source<(Handle<'m, C, N>, Watcher<'e>)>
     for (Handles<'m, C, N>, Watchers<'e>) {
     fn take(&mut self) -> Option<(Handle<'m, C, N>, Watcher<'e>)> {
         self.0.next().zip(self.1.next())
@@ -138,7 +138,7 @@ pub fn play<
 }
 
 /// Takes the lock for good, and answers the row that it is round; nothing where it isn't free.
-pub fn last_row<C: Gated<N>, const N: usize>(handle: Handle<'_, C, N>) -> Option<[u64; N]> {
+pub fn last_row<C: Condition<N>, const N: usize>(handle: Handle<'_, C, N>) -> Option<[u64; N]> {
     let mut held = handle.try_lock().ok()?;
     let mut row = [0; N];
     for i in 0..N {

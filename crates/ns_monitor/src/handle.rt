@@ -13,7 +13,6 @@ ghost use Rattle.ns_monitor.specs.Prelude.{AreOfOneHistory, Grows, HasLearned, H
 use crate::caller::{Caller, Free, Hand, Reading as Reads, Seat, Section, Writing as Writes};
 use crate::going::Begun;
 use crate::monitor::{Monitor, holding, seated};
-use crate::room::Gated;
 use crate::showing::DebugState;
 use ns_model::condition::Condition;
 use ns_model::event::Mode;
@@ -53,7 +52,7 @@ pub type Writing<'m, C, const N: usize> = Acting<'m, Writes<N>, C, N>;
 /// A handle with a read section in hand.
 pub type Reading<'m, C, const N: usize> = Acting<'m, Reads, C, N>;
 
-impl<'m, H: Hand<C, N>, C: Gated<N>, const N: usize> Acting<'m, H, C, N> {
+impl<'m, H: Hand<C, N>, C: Condition<N>, const N: usize> Acting<'m, H, C, N> {
     /// How the monitor stands at one moment of the call, as [`Monitor::debug_state_and_waiters`] tells it.
     pub fn debug_state_and_waiters<R: Wait>(&mut self, rt: &R) -> DebugState
         ensures saw { HasSeenMore C.means showing self.old self.new }
@@ -87,7 +86,7 @@ impl<'m, H: Hand<C, N>, C: Gated<N>, const N: usize> Acting<'m, H, C, N> {
     }
 }
 
-impl<'m, C: Gated<N>, const N: usize> Acting<'m, Free, C, N> {
+impl<'m, C: Condition<N>, const N: usize> Acting<'m, Free, C, N> {
     /// A seat together with its monitor.
     #[inline(always)]
     pub fn new(monitor: &'m Monitor<C, N>, seat: Seat<C, N>) -> Self
@@ -204,7 +203,7 @@ impl<'m, C: Gated<N>, const N: usize> Acting<'m, Free, C, N> {
     }
 }
 
-impl<'m, H: Section<C, N>, C: Gated<N>, const N: usize> Acting<'m, H, C, N> {
+impl<'m, H: Section<C, N>, C: Condition<N>, const N: usize> Acting<'m, H, C, N> {
     /// The value of a cell of the section's row, as by [`Monitor::get`].
     ///
     /// Needs a cell below `N`.
@@ -249,7 +248,7 @@ impl<'m, H: Section<C, N>, C: Gated<N>, const N: usize> Acting<'m, H, C, N> {
     }
 }
 
-impl<'m, C: Gated<N>, const N: usize> Acting<'m, Reads, C, N> {
+impl<'m, C: Condition<N>, const N: usize> Acting<'m, Reads, C, N> {
     /// Ends a read section, as [`Monitor::runlock`].
     #[inline(always)]
     pub fn runlock<R: Wait>(self, rt: &R) -> Handle<'m, C, N>
@@ -273,7 +272,7 @@ impl<'m, C: Gated<N>, const N: usize> Acting<'m, Reads, C, N> {
     }
 }
 
-impl<'m, C: Gated<N>, const N: usize> Acting<'m, Writes<N>, C, N> {
+impl<'m, C: Condition<N>, const N: usize> Acting<'m, Writes<N>, C, N> {
     /// Sets a cell of the section's row to a value, as [`Monitor::set`].
     ///
     /// Needs a cell below `N`.

@@ -8,10 +8,10 @@ ghost use Rattle.ns_monitor.specs.Prelude.{AreSome, EndedBy, Grows, HadLooked, H
 use crate::caller::Renewed;
 use crate::handle::Acting;
 use crate::monitor::Monitor;
-use crate::room::Gated;
 use crate::several::{AnyPoll, AnyWaiting};
 use crate::watching::Looker;
 use ns_env::limits::Limits;
+use ns_model::condition::Condition;
 use ns_model::cvs::Cvs;
 use ns_model::event::Answer;
 use ns_note::note::{Note, index_of};
@@ -23,14 +23,14 @@ use std::sync::Wait;
 ///
 /// For contracts it is what the wait is. Where it is dropped, what [`AnyWaiting`] says of that is so.
 #[derive(Drop)]
-pub struct WaitingForAny<'m, H: Renewed<C, N>, C: Gated<N>, const N: usize> {
+pub struct WaitingForAny<'m, H: Renewed<C, N>, C: Condition<N>, const N: usize> {
     /// The monitor.
     pub monitor: &'m Monitor<C, N>,
     /// The wait, which is of this monitor.
     pub waiting: AnyWaiting<H, C, N>,
 }
 
-impl<'m, H: Renewed<C, N>, C: Gated<N>, const N: usize> Model for WaitingForAny<'m, H, C, N> {
+impl<'m, H: Renewed<C, N>, C: Condition<N>, const N: usize> Model for WaitingForAny<'m, H, C, N> {
     ghost use Rattle.std.specs.Prelude.{◌≡◌};
     ghost use Rattle.ns_monitor.specs.Several.{WaitKnown};
 
@@ -41,7 +41,7 @@ impl<'m, H: Renewed<C, N>, C: Gated<N>, const N: usize> Model for WaitingForAny<
     ghost invariant = { λ w. w.waiting.known.monitor ≡ w.monitor.now };
 }
 
-impl<'m, H: Renewed<C, N>, C: Gated<N>, const N: usize> Acting<'m, H, C, N> {
+impl<'m, H: Renewed<C, N>, C: Condition<N>, const N: usize> Acting<'m, H, C, N> {
     /// Waits until the condition is true of the row, as [`Monitor::wait`].
     #[inline(always)]
     pub fn wait<R: Wait>(self, rt: &R, condition: C) -> Self
@@ -139,7 +139,7 @@ impl<'m, H: Renewed<C, N>, C: Gated<N>, const N: usize> Acting<'m, H, C, N> {
     }
 }
 
-impl<'m, H: Renewed<C, N>, C: Gated<N>, const N: usize> WaitingForAny<'m, H, C, N> {
+impl<'m, H: Renewed<C, N>, C: Condition<N>, const N: usize> WaitingForAny<'m, H, C, N> {
     /// Asks whether the wait was woken, and gives the section or the wait back, as [`Monitor::any_poll`].
     pub fn any_poll<R: Wait>(self, rt: &R) -> AnyPoll<Acting<'m, H, C, N>, Self>
         ensures woken { IfWoken result (λ back k. HasComeBackFromAny C.means H.mode (Some k) self.entry back) }

@@ -5,7 +5,6 @@ ghost use Rattle.std.specs.Prelude.{◌≡◌, ◌↔◌, ◌<◌, ◌++◌, [],
 use crate::caller::Seat;
 use crate::handle::{Acting, Handle};
 use crate::monitor::Monitor;
-use crate::room::Gated;
 use ns_model::condition::Condition;
 use std::marker::Model;
 
@@ -29,7 +28,7 @@ impl<'m, C: Condition<N>, const N: usize> Model for Handles<'m, C, N> {
     ghost invariant = { λ h. All (λ seat. seat.monitor ≡ h.monitor.now) h.seats.items };
 }
 
-impl<C: Gated<N>, const N: usize> Monitor<C, N> {
+impl<C: Condition<N>, const N: usize> Monitor<C, N> {
     /// Handles with these seats, which threads take by [`Handles::next`] or [`Handles::pair`]. It takes no memory.
     ///
     /// Needs seats of this monitor, as [`Monitor::new`] gives them.
@@ -44,7 +43,7 @@ impl<C: Gated<N>, const N: usize> Monitor<C, N> {
     }
 }
 
-impl<'m, C: Gated<N>, const N: usize> Handles<'m, C, N> {
+impl<'m, C: Condition<N>, const N: usize> Handles<'m, C, N> {
     /// A handle with the last of these seats, or none where no seat is left.
     pub fn next(&mut self) -> Option<Handle<'m, C, N>>
         ensures taken { self.old ≡ self.new ++ option_to_list result }

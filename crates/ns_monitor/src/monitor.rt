@@ -7,7 +7,6 @@ ghost use Rattle.ns_monitor.specs.Prelude.{AreNew, AreOfOneHistory, EndsAs, Grow
 
 use crate::caller::{Caller, Free, Hand, ReadHeld, Renewed, Seat, Section, WriteHeld};
 use crate::going::{Begun, Going};
-use crate::room::Gated;
 use crate::{Closed, Fault};
 use ns_gate::gate::{Gate, GateSeat};
 use ns_model::condition::Condition;
@@ -72,7 +71,7 @@ pub(crate) fn holding<H: Renewed<C, N>, C: Condition<N>, const N: usize>(
 }
 
 /// Puts a seat behind the others.
-fn add<C: Gated<N>, const N: usize>(
+fn add<C: Condition<N>, const N: usize>(
     seats: &mut Vec<Seat<C, N>>,
     seat: Seat<C, N>,
 ) -> Result<(), AllocError>
@@ -82,7 +81,7 @@ fn add<C: Gated<N>, const N: usize>(
     Ok(())
 }
 
-impl<C: Gated<N>, const N: usize> Monitor<C, N> {
+impl<C: Condition<N>, const N: usize> Monitor<C, N> {
     /// A monitor with a free lock round a row of zeros, and its seats, one for each caller.
     ///
     /// Needs at least one seat. Refuses more than 64 seats (`TooManySeats`) before it takes any

@@ -6,7 +6,6 @@ ghost use Rattle.ns_monitor.specs.Prelude.{HasSeenMore, HasStood, ShowsState, kn
 
 use crate::caller::{Caller, Hand};
 use crate::monitor::Monitor;
-use crate::room::Gated;
 use arrayvec::ArrayVec;
 use crossbeam_utils::Backoff;
 use ns_gate::gate::GateSeat;
@@ -62,7 +61,7 @@ impl<C: Condition<N>, const N: usize> Monitor<C, N> {
     }
 }
 
-impl<C: Gated<N>, const N: usize> Monitor<C, N> {
+impl<C: Condition<N>, const N: usize> Monitor<C, N> {
     /// How the monitor stands at one moment of the call: its lock word, and who waits in the lock list
     /// and for each condition variable.
     ///

@@ -7,7 +7,6 @@ ghost use Rattle.ns_monitor.specs.Prelude.{Grows, HasReturnedWoken, HasTakenAt, 
 
 use crate::caller::{Caller, Hand};
 use crate::monitor::Monitor;
-use crate::room::Gated;
 use arrayvec::ArrayVec;
 use ns_gate::gate::GateSeat;
 use ns_gate::queues::{Returning, Turned};
@@ -186,7 +185,7 @@ impl<C: Condition<N>, const N: usize> Monitor<C, N> {
     }
 }
 
-impl<C: Gated<N>, const N: usize> Monitor<C, N> {
+impl<C: Condition<N>, const N: usize> Monitor<C, N> {
     /// Wakes at least one of those who wait for a condition variable, if any do: the first of them, and
     /// if that one reads, every other reader and the first writer.
     ///

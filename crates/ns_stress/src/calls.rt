@@ -11,7 +11,7 @@ use crate::sections::{LAST_MOMENT, do_some, leave};
 use crate::waits::wait_until_met;
 use crate::wish::{DONE, Wish};
 use ns_monitor::caller::Hand;
-use ns_monitor::{Acting, Answer, Gated, Mode};
+use ns_monitor::{Acting, Answer, Condition, Mode};
 use std::sync::Wait;
 
 /// The variable of the call of this number: not that of the last or the next, nor one by which is roused.
@@ -77,7 +77,7 @@ pub fn sleep<'m, R: Wait>(
 }
 
 /// Wakes all of so many sleepers, or some, as is drawn, and counts them.
-fn wake<H: Hand<C, N>, C: Gated<N>, const N: usize, R: Wait>(
+fn wake<H: Hand<C, N>, C: Condition<N>, const N: usize, R: Wait>(
     rt: &R,
     caller: &mut Acting<'_, H, C, N>,
     kit: &mut Kit<'_, '_>,

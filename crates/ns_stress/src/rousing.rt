@@ -5,7 +5,7 @@ ghost use Rattle.std.specs.Prelude.{◌<◌};
 use crate::kit::{Kit, RowHandle};
 use crate::sections::{leave, tick};
 use ns_monitor::caller::Hand;
-use ns_monitor::{Acting, Gated, Mode};
+use ns_monitor::{Acting, Condition, Mode};
 use std::sync::Wait;
 use std::thread::yield_now;
 
@@ -17,7 +17,7 @@ pub fn draw_variable(kit: &mut Kit<'_, '_>) -> u8
 }
 
 /// Signals or broadcasts one of the two variables, with or without a section in hand.
-pub fn rouse<H: Hand<C, N>, C: Gated<N>, const N: usize, R: Wait>(
+pub fn rouse<H: Hand<C, N>, C: Condition<N>, const N: usize, R: Wait>(
     rt: &R,
     caller: &mut Acting<'_, H, C, N>,
     kit: &mut Kit<'_, '_>,

@@ -6,13 +6,13 @@ ghost use Rattle.ns_model.specs.Environments.{IsMade};
 use crate::kit::Kit;
 use crate::rousing::draw_variable;
 use ns_monitor::caller::Renewed;
-use ns_monitor::{Acting, Answer, AnyPoll, Cvs, Gated};
+use ns_monitor::{Acting, Answer, AnyPoll, Condition, Cvs};
 use ns_note::note::Note;
 use std::sync::Wait;
 use std::thread::yield_now;
 
 /// The row of the section in hand.
-pub fn row<H: Renewed<C, N>, C: Gated<N>, const N: usize>(
+pub fn row<H: Renewed<C, N>, C: Condition<N>, const N: usize>(
     held: &mut Acting<'_, H, C, N>,
 ) -> [u64; N] {
     let mut row = [0; N];
@@ -70,7 +70,7 @@ fn is_right(
 }
 
 /// Waits in a section, with limits that are drawn, and answers whether the condition is true now.
-fn wait_limited<'m, H: Renewed<C, N>, C: Gated<N>, const N: usize, R: Wait>(
+fn wait_limited<'m, H: Renewed<C, N>, C: Condition<N>, const N: usize, R: Wait>(
     rt: &R,
     held: Acting<'m, H, C, N>,
     wish: C,
@@ -95,7 +95,7 @@ fn is_rousing(variable: u8) -> bool {
 
 /// Waits in a section for either of the two variables by which somebody is roused again and again: asks some
 /// times, and then ends it.
-fn wait_for_either<'m, H: Renewed<C, N>, C: Gated<N>, const N: usize, R: Wait>(
+fn wait_for_either<'m, H: Renewed<C, N>, C: Condition<N>, const N: usize, R: Wait>(
     rt: &R,
     held: Acting<'m, H, C, N>,
     kit: &mut Kit<'_, '_>,
@@ -123,7 +123,7 @@ fn wait_for_either<'m, H: Renewed<C, N>, C: Gated<N>, const N: usize, R: Wait>(
 
 /// Waits in a section for a variable by which somebody is roused again and again, with limits that are drawn,
 /// or for either of them.
-pub fn wait_to_be_roused<'m, H: Renewed<C, N>, C: Gated<N>, const N: usize, R: Wait>(
+pub fn wait_to_be_roused<'m, H: Renewed<C, N>, C: Condition<N>, const N: usize, R: Wait>(
     rt: &R,
     held: Acting<'m, H, C, N>,
     kit: &mut Kit<'_, '_>,
@@ -144,7 +144,7 @@ pub fn wait_to_be_roused<'m, H: Renewed<C, N>, C: Gated<N>, const N: usize, R: W
 }
 
 /// Waits in a section until the condition is true, some times with limits and then with none.
-pub fn wait_until_met<'m, H: Renewed<C, N>, C: Gated<N>, const N: usize, R: Wait>(
+pub fn wait_until_met<'m, H: Renewed<C, N>, C: Condition<N>, const N: usize, R: Wait>(
     rt: &R,
     mut held: Acting<'m, H, C, N>,
     wish: C,

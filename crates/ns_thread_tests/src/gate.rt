@@ -17,7 +17,7 @@ use ns_gate::gate::{Gate, GateSeat};
 use ns_gate::perform::Beside;
 use ns_gate::queues::Turned;
 use ns_model::event::Mode;
-use ns_monitor::room::Gated;
+use ns_model::condition::Condition;
 use ns_word::act::{Act, Found};
 use ns_word::owed::Owed;
 use ns_word::walk::{Next, Reply, Walk};
@@ -68,7 +68,7 @@ const NOTHING: Beside<1> = Beside {
 };
 
 /// Whether the act needs nothing beside itself, and leaves the queues alone.
-fn is_plain<C: Gated<1>>(begins: Option<Walk<C>>, act: Act<C>) -> bool
+fn is_plain<C: Condition<1>>(begins: Option<Walk<C>>, act: Act<C>) -> bool
     ensures needs { result ≡ true → (beside : _) (me : SeatOf C 1) → Needs C.means begins act beside me }
     ensures keeps { result ≡ true → (found : _) (lists : Lists C) → carried_by act found lists [] ≡ [] }
 {
@@ -87,7 +87,7 @@ fn is_plain<C: Gated<1>>(begins: Option<Walk<C>>, act: Act<C>) -> bool
 }
 
 /// Makes the step that the place wants, and tells where its walk goes.
-fn step<A: Abort, C: Gated<1>>(
+fn step<A: Abort, C: Condition<1>>(
     rt: &A,
     gate: &Gate<C, 1>,
     seat: &mut GateSeat<C, 1>,
@@ -110,7 +110,7 @@ fn step<A: Abort, C: Gated<1>>(
 }
 
 /// Drives a call from its first place to its answer.
-fn call<A: Abort, C: Gated<1>>(
+fn call<A: Abort, C: Condition<1>>(
     rt: &A,
     gate: &Gate<C, 1>,
     seat: &mut GateSeat<C, 1>,

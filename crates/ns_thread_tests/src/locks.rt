@@ -3,7 +3,7 @@
 ghost use Rattle.std.specs.Prelude.{◌≡◌, ◌<◌, All};
 
 use ns_fixtures::AtLeast;
-use ns_monitor::{Gated, Handle, Monitor, Reading, Seat, Writing};
+use ns_monitor::{Condition, Handle, Monitor, Reading, Seat, Writing};
 use std::alloc::Global;
 use std::process::Abort;
 use std::sync::Wait;
@@ -24,7 +24,7 @@ pub const MANY_TRIES: u32 = 1_000_000;
 pub const TICK: u64 = 10;
 
 /// A monitor and so many seats.
-pub fn new_monitor<C: Gated<2>, R: Abort>(
+pub fn new_monitor<C: Condition<2>, R: Abort>(
     rt: &R,
     alloc: Global,
     seats: usize,
@@ -51,7 +51,7 @@ pub fn two_locks<'m, R: Abort>(
 }
 
 /// The cells, where the lock is free.
-pub fn row_at_end<C: Gated<2>>(lock: Handle<'_, C, 2>) -> Option<[u64; 2]> {
+pub fn row_at_end<C: Condition<2>>(lock: Handle<'_, C, 2>) -> Option<[u64; 2]> {
     let mut held = lock.try_lock().ok()?;
     Some([held.get(0), held.get(1)])
 }

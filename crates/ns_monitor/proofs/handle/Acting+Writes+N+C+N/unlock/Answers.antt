@@ -1,7 +1,6 @@
 use Rattle.std.proofs.Common.{Some, arith, refl, subst, sym, ◌∙◌}
 use Rattle.ns_monitor.specs.Prelude.{HasUnlocked, TableId, Writer, releasing_by}
 use Rattle.ns_gate.proofs.Calls.{since_then}
-use Rattle.ns_gate.proofs.Room.{queues_fit}
 use Rattle.ns_monitor.proofs.Callers.{CameSo, came_at_once, released_so}
 use Rattle.ns_monitor.proofs.handle.Acting+Writes+N+C+N.unlock.Given.{Over}
 use Rattle.ns_monitor.proofs.handle.Acting+Writes+N+C+N.unlock.Goals.{Joined-last, in-Some, in-None}
@@ -17,7 +16,7 @@ came g c = let t = g.C.Condition.means in let b = c.begin_unlock-seat.ensures in
 
 pub seated-caller-requires : goal.seated-caller-requires
 seated-caller-requires g c = let so = released_so g.C.Condition.means Writer c.self.inside.caller c.self.inside.monitor.now c.begin_unlock-seat.result.seat.table_id c.begin_unlock-seat.result.number c.begin_unlock-seat.result.seat.me (c.match-last.seat.table_id, c.match-last.seat.me) c.self.invariant c.begin_unlock-seat.ensures.begun (came g (goal.at.seated-caller-requires g c).Joined-last) in
-    (queues_fit g.row.C g.row.N g.met.C.Condition.has_room g.C.Condition, (omega arith, (omega arith, so.0)))
+    (omega arith, (omega arith, (omega arith, so.0)))
 
 pub returns : goal.returns
 returns g c = let so = released_so g.C.Condition.means Writer c.self.inside.caller c.self.inside.monitor.now c.begin_unlock-seat.result.seat.table_id c.begin_unlock-seat.result.number c.begin_unlock-seat.result.seat.me (c.match-last.seat.table_id, c.match-last.seat.me) c.self.invariant c.begin_unlock-seat.ensures.begun (came g (goal.at.returns g c).Joined-last) in
@@ -27,7 +26,7 @@ pub begin_unlock-seat-requires : goal.begin_unlock-seat-requires
 begin_unlock-seat-requires g c = (omega arith, (omega (arith, g.met.C.Condition.has_cells), (omega (arith, g.met.C.Condition.has_cells), (c.self.invariant, (refl, tt)))))
 
 pub unlock_slow-seat-requires : goal.unlock_slow-seat-requires
-unlock_slow-seat-requires g c = let b = c.begin_unlock-seat.ensures in let went = rw c.in-Some.is at b.went in (omega arith, (queues_fit g.row.C g.row.N g.met.C.Condition.has_room g.C.Condition, (omega arith, (b.of, (went.0, went.1)))))
+unlock_slow-seat-requires g c = let b = c.begin_unlock-seat.ensures in let went = rw c.in-Some.is at b.went in (omega arith, (omega arith, (omega arith, (b.of, (went.0, went.1)))))
 
 pub invariant_of-result : goal.invariant_of-result
 invariant_of-result g c = let so = released_so g.C.Condition.means Writer c.self.inside.caller c.self.inside.monitor.now c.begin_unlock-seat.result.seat.table_id c.begin_unlock-seat.result.number c.begin_unlock-seat.result.seat.me (c.match-last.seat.table_id, c.match-last.seat.me) c.self.invariant c.begin_unlock-seat.ensures.begun (came g (goal.at.invariant_of-result g c).Joined-last) in

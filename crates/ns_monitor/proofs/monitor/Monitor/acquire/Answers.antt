@@ -1,21 +1,20 @@
 use Rattle.std.proofs.Common.{◌∙◌, sym, arith, None, rules}
 use Rattle.ns_monitor.specs.Prelude.{AcquireLoad, HasSince, InAcquire, LoadWord, Saw, TableId, the}
 use Rattle.ns_gate.proofs.Calls.{since, since_then}
-use Rattle.ns_gate.proofs.Room.{queues_fit}
 use Rattle.ns_monitor.proofs.Standing.{can_load, loads, same_number}
 use Rattle.ns_monitor.proofs.monitor.Monitor.acquire.Given.{Over}
 use Rattle.ns_monitor.proofs.monitor.Monitor.acquire.Goals.{After-load-word}
 use Rattle.ns_monitor.proofs.monitor.Monitor.acquire.Goals as goal
 
 pub load-word-requires : goal.load-word-requires
-load-word-requires g c = (omega arith, (queues_fit g.row.C g.row.N g.met.C.Condition.has_room g.C.Condition, (omega arith, (◌∙◌ {A = TableId} c.requires.of (sym c.self.view_is), can_load g.C.Condition.means (InAcquire c.args.aim (AcquireLoad c.args.arrival)) c.args.seat.now.me tt c.requires.at))))
+load-word-requires g c = (omega arith, (omega arith, (omega arith, (◌∙◌ {A = TableId} c.requires.of (sym c.self.view_is), can_load g.C.Condition.means (InAcquire c.args.aim (AcquireLoad c.args.arrival)) c.args.seat.now.me tt c.requires.at))))
 
 since_load : (g : Over) (c : After-load-word g) → HasSince None (the c.args.seat.now.me.0) (the c.load-word.new.seat.me.0)
 since_load g c = since g.C.Condition.means None LoadWord (Saw c.load-word.result) c.args.seat.now.me c.load-word.new.seat.me c.load-word.ensures.did
 
 pub acquire_on-requires : goal.acquire_on-requires
 acquire_on-requires g c = let t = g.C.Condition.means in
-    (omega arith, (queues_fit g.row.C g.row.N g.met.C.Condition.has_room g.C.Condition, (omega arith, (◌∙◌ {A = TableId} c.load-word.ensures.seat c.requires.of, (same_number t None c.args.number c.args.seat.now.me c.load-word.new.seat.me c.requires.number (since_load g (goal.at.acquire_on-requires g c).After-load-word), (c.load-word.ensures.word, loads t (InAcquire c.args.aim (AcquireLoad c.args.arrival)) c.load-word.result c.args.seat.now.me c.load-word.new.seat.me tt c.requires.at c.load-word.ensures.did))))))
+    (omega arith, (omega arith, (omega arith, (◌∙◌ {A = TableId} c.load-word.ensures.seat c.requires.of, (same_number t None c.args.number c.args.seat.now.me c.load-word.new.seat.me c.requires.number (since_load g (goal.at.acquire_on-requires g c).After-load-word), (c.load-word.ensures.word, loads t (InAcquire c.args.aim (AcquireLoad c.args.arrival)) c.load-word.result c.args.seat.now.me c.load-word.new.seat.me tt c.requires.at c.load-word.ensures.did))))))
 
 pub returns : goal.returns
 returns g c = record {

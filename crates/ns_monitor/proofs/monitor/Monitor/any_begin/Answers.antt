@@ -1,6 +1,5 @@
 use Rattle.std.proofs.Common.{◌≡◌, ◌∙◌, sym, subst, ap, arith, Some}
 use Rattle.ns_monitor.specs.Prelude.{AwaitWakeInWait, HasMode, HasSince, InWait, IsAtPlace, IsWaitingForAny, Known, TableId, Wait, any_waiting, queuing_first, the, waits_for_any}
-use Rattle.ns_gate.proofs.Room.{queues_fit}
 use Rattle.ns_monitor.proofs.SeveralWaits.{has_begun_to_wait, may_wait_for_any}
 use Rattle.ns_monitor.proofs.Standing.{same_number}
 use Rattle.ns_monitor.proofs.monitor.Monitor.any_begin.Given.{Over}
@@ -10,7 +9,7 @@ use Rattle.ns_monitor.proofs.monitor.Monitor.any_begin.Goals as goal
 pub queue_at_variables-requires : goal.queue_at_variables-requires
 queue_at_variables-requires g c = let held = c.held.inside in let mode = c.mode-mode.result in
     let in_mode = subst (λ m. HasMode m (the held.seat.me.0).at.held) (sym c.mode-mode.ensures) (g.met.H.Section.in_mode held.hand (the held.seat.me.0).at.held c.held.invariant.2) in
-    rw c.for_any-wait.ensures (omega arith, (queues_fit g.row.C g.row.N g.met.C.Condition.has_room g.C.Condition, (omega arith, (◌∙◌ {A = TableId} (ap (λ (k : Known _ _). k.monitor) c.held.view_is) c.requires.of, (c.held.invariant.1, (c.held.invariant.0, ((tt, c.requires.variables), may_wait_for_any g.C.Condition.means mode c.args.cvs (the held.seat.me.0).at.held c.requires.variables in_mode c.held.invariant.0.settled)))))))
+    rw c.for_any-wait.ensures (omega arith, (omega arith, (omega arith, (◌∙◌ {A = TableId} (ap (λ (k : Known _ _). k.monitor) c.held.view_is) c.requires.of, (c.held.invariant.1, (c.held.invariant.0, ((tt, c.requires.variables), may_wait_for_any g.C.Condition.means mode c.args.cvs (the held.seat.me.0).at.held c.requires.variables in_mode c.held.invariant.0.settled)))))))
 
 -- what it waits for
 wait_is : (g : Over) (c : After-drop-held-inside g) → c.for_any-wait.result ≡ waits_for_any g.H.Section.mode c.args.cvs

@@ -1,6 +1,5 @@
 use Rattle.std.proofs.Common.{◌∙◌, sym, subst, ap, arith, None}
 use Rattle.ns_monitor.specs.Prelude.{Await, AwaitWakeInWait, ForWait, HasAcquired, HasAnswered, HasComeBackFromAny, InWait, IsAtPlace, IsInRange, TableId, Wait, WaitKnown, WokenBy, known_of, the, variable_in, waits_for_any}
-use Rattle.ns_gate.proofs.Room.{queues_fit}
 use Rattle.ns_monitor.proofs.Returns.{fits_fresh}
 use Rattle.ns_monitor.proofs.SeveralWaits.{any_back_fresh, has_come_back}
 use Rattle.ns_monitor.proofs.Standing.{same_number}
@@ -13,7 +12,7 @@ come_back-outcome-requires g c = let t = g.C.Condition.means in let w = c.waitin
     let is = c.for_any-wait.ensures ∙ ap (λ m. waits_for_any {C = g.row.C.Denot} m cvs) c.mode-mode.ensures in (
       omega arith,
       (
-        queues_fit g.row.C g.row.N g.met.C.Condition.has_room g.C.Condition,
+        omega arith,
         (
           omega arith,
           (

@@ -2,7 +2,6 @@ use Rattle.std.proofs.Common.{◌∙◌, sym, subst, ap, refl, arith, false, Som
 use Rattle.ns_monitor.specs.Prelude.{AcquireLoad, Await, AwaitWakeInWait, CanStep, Flag, ForWait, HasAcquired, HasAnswered, HasSince, InAcquire, InWait, IsAtPlace, IsWaitingForAny, Limits, LoadFlag, Look, LookOut, Looked, Performed, TableId, Wait, WaitKnown, Woken, WokenBy, at_will, got_of, the}
 use Rattle.ns_monitor.specs.Prelude.{waits_for_any}
 use Rattle.ns_gate.proofs.Calls.{can_go, goes, since, since_then}
-use Rattle.ns_gate.proofs.Room.{queues_fit}
 use Rattle.ns_monitor.proofs.SeveralWaits.{has_come_back, still_waits, tells_still}
 use Rattle.ns_monitor.proofs.Standing.{same_number}
 use Rattle.ns_monitor.proofs.Waits.{looks_out, woken_next}
@@ -12,7 +11,7 @@ use Rattle.ns_monitor.proofs.monitor.Monitor.any_poll.Goals as goal
 
 pub load_flag-flag-requires : goal.load_flag-flag-requires
 load_flag-flag-requires g c = let of = ◌∙◌ {A = TableId} (ap (λ (k : WaitKnown _ _). k.known.monitor) c.waiting.view_is) (◌∙◌ {A = TableId} c.requires.of (sym c.self.view_is)) in
-    (omega arith, (queues_fit g.row.C g.row.N g.met.C.Condition.has_room g.C.Condition, (omega arith, (of, (c.waiting.invariant.1, can_go g.C.Condition.means (InWait (waits_for_any g.H.Section.mode c.waiting.inside.cvs) AwaitWakeInWait) LoadFlag c.waiting.inside.seat.me refl c.waiting.invariant.0.at)))))
+    (omega arith, (omega arith, (omega arith, (of, (c.waiting.invariant.1, can_go g.C.Condition.means (InWait (waits_for_any g.H.Section.mode c.waiting.inside.cvs) AwaitWakeInWait) LoadFlag c.waiting.inside.seat.me refl c.waiting.invariant.0.at)))))
 
 pub look-requires : goal.look-requires
 look-requires g c = let t = g.C.Condition.means in let cvs = c.waiting.inside.cvs in let wait : Wait g.row.C.Denot = waits_for_any g.H.Section.mode cvs in let flag = c.load_flag-flag in let me = c.waiting.inside.seat.me in let mid = flag.new.seat.me in
@@ -21,7 +20,7 @@ look-requires g c = let t = g.C.Condition.means in let cvs = c.waiting.inside.cv
     let out = looks_out t wait flag.result me mid c.if-flag-eq1.true refl c.waiting.invariant.0.at flag.ensures.did in (
       omega arith,
       (
-        queues_fit g.row.C g.row.N g.met.C.Condition.has_room g.C.Condition,
+        omega arith,
         (
           omega arith,
           (
@@ -61,7 +60,7 @@ acquire-requires g c = let t = g.C.Condition.means in let cvs = c.waiting.inside
     let next = woken_next t wait flag.result (Woken (Some c.variable_told-k.result)) c.arrival_of.result mid c.if-flag-eq1.false (ap (λ n. Woken (Some n)) c.variable_told-k.ensures) c.arrival_of.ensures led in (
       omega arith,
       (
-        queues_fit g.row.C g.row.N g.met.C.Condition.has_room g.C.Condition,
+        omega arith,
         (
           omega arith,
           (

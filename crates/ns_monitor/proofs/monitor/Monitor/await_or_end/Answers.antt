@@ -1,7 +1,6 @@
 use Rattle.std.proofs.Common.{◌≡◌, ◌∙◌, sym, subst, refl, arith, None, Some, false, rules}
 use Rattle.ns_monitor.specs.Prelude.{AwaitWakeInWait, Flag, HasSince, InWait, IsAtPlace, LoadFlag, Look, LookOut, Looked, TableId, the}
 use Rattle.ns_gate.proofs.Calls.{can_go, goes, since, since_itself, since_then}
-use Rattle.ns_gate.proofs.Room.{queues_fit}
 use Rattle.ns_monitor.proofs.Standing.{same_number}
 use Rattle.ns_monitor.proofs.Waits.{goes_to_leave, looks_out, waits_on}
 use Rattle.ns_monitor.proofs.monitor.Monitor.await_or_end.Given.{Over}
@@ -13,7 +12,7 @@ loop-init g c = (tt, tt, refl, since_itself (the c.args.seat.now.me.0), g.W.Watc
 
 pub load_flag-flag-requires : goal.load_flag-flag-requires
 load_flag-flag-requires g c = let t = g.C.Condition.means in let inv = c.loop.invariant in
-    (omega arith, (queues_fit g.row.C g.row.N g.met.C.Condition.has_room g.C.Condition, (omega arith, (◌∙◌ {A = TableId} inv.2 (◌∙◌ {A = TableId} c.requires.of (sym c.self.view_is)), (same_number t None c.args.number c.args.seat.now.me c.loop.seat.me c.requires.number inv.3, can_go t (InWait c.args.wait AwaitWakeInWait) LoadFlag c.loop.seat.me refl inv.5)))))
+    (omega arith, (omega arith, (omega arith, (◌∙◌ {A = TableId} inv.2 (◌∙◌ {A = TableId} c.requires.of (sym c.self.view_is)), (same_number t None c.args.number c.args.seat.now.me c.loop.seat.me c.requires.number inv.3, can_go t (InWait c.args.wait AwaitWakeInWait) LoadFlag c.loop.seat.me refl inv.5)))))
 
 since_flag : (g : Over) (c : After-load_flag-flag g) → HasSince None (the c.args.seat.now.me.0) (the c.load_flag-flag.new.seat.me.0)
 since_flag g c = since_then None _ _ _ c.loop.invariant.3 (since g.C.Condition.means None LoadFlag (Flag c.load_flag-flag.result) c.loop.seat.me c.load_flag-flag.new.seat.me c.load_flag-flag.ensures.did)
@@ -36,7 +35,7 @@ look-shown-requires g c = record { watches = g.W.Watch.still c.args.watch.now c.
 
 pub look-requires : goal.look-requires
 look-requires g c = let t = g.C.Condition.means in let me = c.load_flag-flag.new.seat.me in let after = (goal.at.look-requires g c).After-load_flag-flag in
-    (omega arith, (queues_fit g.row.C g.row.N g.met.C.Condition.has_room g.C.Condition, (omega arith, (◌∙◌ {A = TableId} c.load_flag-flag.ensures.seat (◌∙◌ {A = TableId} c.loop.invariant.2 (◌∙◌ {A = TableId} c.requires.of (sym c.self.view_is))), (same_number t None c.args.number c.args.seat.now.me me c.requires.number (since_flag g after), (g.W.Watch.names c.loop.watch c.look-shown.new.self c.args.wait.limits c.look-shown.result (g.W.Watch.still c.args.watch.now c.loop.watch c.args.wait.limits c.loop.invariant.4 c.requires.watches) c.look-shown.ensures.shown, can_go t (InWait c.args.wait LookOut) (Look c.args.wait.limits false) me refl (looking g after c.if-flag-ne1.false)))))))
+    (omega arith, (omega arith, (omega arith, (◌∙◌ {A = TableId} c.load_flag-flag.ensures.seat (◌∙◌ {A = TableId} c.loop.invariant.2 (◌∙◌ {A = TableId} c.requires.of (sym c.self.view_is))), (same_number t None c.args.number c.args.seat.now.me me c.requires.number (since_flag g after), (g.W.Watch.names c.loop.watch c.look-shown.new.self c.args.wait.limits c.look-shown.result (g.W.Watch.still c.args.watch.now c.loop.watch c.args.wait.limits c.loop.invariant.4 c.requires.watches) c.look-shown.ensures.shown, can_go t (InWait c.args.wait LookOut) (Look c.args.wait.limits false) me refl (looking g after c.if-flag-ne1.false)))))))
 
 pub returns-in-Some-shown : goal.returns-in-Some-shown
 returns-in-Some-shown g c = record {
@@ -60,4 +59,4 @@ loop-preserved g c = let t = g.C.Condition.means in let me = c.load_flag-flag.ne
 -- the flag is set, and the look has shown nothing
 pub rest-requires : goal.rest-requires
 rest-requires g c = let t = g.C.Condition.means in let me = c.load_flag-flag.new.seat.me in let after = (goal.at.rest-requires g c).After-load_flag-flag in
-    (omega arith, (queues_fit g.row.C g.row.N g.met.C.Condition.has_room g.C.Condition, (omega arith, (◌∙◌ {A = TableId} c.look.ensures.seat (◌∙◌ {A = TableId} c.load_flag-flag.ensures.seat (◌∙◌ {A = TableId} c.loop.invariant.2 c.requires.of)), same_number t None c.args.number c.args.seat.now.me c.look.new.seat.me c.requires.number (since_then None _ _ _ (since_flag g after) (since t None (Look c.args.wait.limits false) (Looked c.look-shown.result) me c.look.new.seat.me c.look.ensures.did))))))
+    (omega arith, (omega arith, (omega arith, (◌∙◌ {A = TableId} c.look.ensures.seat (◌∙◌ {A = TableId} c.load_flag-flag.ensures.seat (◌∙◌ {A = TableId} c.loop.invariant.2 c.requires.of)), same_number t None c.args.number c.args.seat.now.me c.look.new.seat.me c.requires.number (since_then None _ _ _ (since_flag g after) (since t None (Look c.args.wait.limits false) (Looked c.look-shown.result) me c.look.new.seat.me c.look.ensures.did))))))

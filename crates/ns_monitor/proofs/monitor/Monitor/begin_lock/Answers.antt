@@ -1,6 +1,5 @@
 use Rattle.std.proofs.Common.{◌∙◌, Some, ap, arith, rules, subst, sym}
 use Rattle.ns_monitor.specs.Prelude.{HasSince, Known, TableId, WentAtOnce, known_of, locking, the}
-use Rattle.ns_gate.proofs.Room.{queues_fit}
 use Rattle.ns_monitor.proofs.Begins.{may_lock}
 use Rattle.ns_monitor.proofs.Standing.{same_number}
 use Rattle.ns_monitor.proofs.monitor.Monitor.begin_lock.Goals as goal
@@ -9,7 +8,7 @@ pub go_at_once-last-requires : goal.go_at_once-last-requires
 go_at_once-last-requires g c = let seat = c.seat.inside.seat in (
   omega arith,
   (
-    queues_fit g.row.C g.row.N g.met.C.Condition.has_room g.C.Condition,
+    omega arith,
     (
       omega arith,
       (

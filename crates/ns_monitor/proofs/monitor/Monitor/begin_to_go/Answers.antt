@@ -1,6 +1,5 @@
 use Rattle.std.proofs.Common.{◌∙◌, arith, sym}
 use Rattle.ns_monitor.specs.Prelude.{TableId}
-use Rattle.ns_gate.proofs.Room.{queues_fit}
 use Rattle.ns_monitor.proofs.Standing.{began_by}
 use Rattle.ns_monitor.proofs.monitor.Monitor.begin_to_go.Goals as goal
 
@@ -12,10 +11,10 @@ returns-then-alone-clause-seat g c = c.guess_to_go-tried.ensures.seat
 
 pub guess_to_go-tried-requires : goal.guess_to_go-tried-requires
 guess_to_go-tried-requires g c = let guess = c.word_alone-guess in let may = guess.ensures.lets c.requires.alone in
-    (omega arith, (queues_fit g.row.C g.row.N g.met.C.Condition.has_room g.C.Condition, (omega arith, (c.requires.of, (c.requires.can, (guess.ensures.packs, (may, c.requires.next guess.result may)))))))
+    (omega arith, (omega arith, (omega arith, (c.requires.of, (c.requires.can, (guess.ensures.packs, (may, c.requires.next guess.result may)))))))
 
 pub load-word-requires : goal.load-word-requires
-load-word-requires g c = (omega arith, (queues_fit g.row.C g.row.N g.met.C.Condition.has_room g.C.Condition, (omega arith, (◌∙◌ {A = TableId} c.requires.of (sym c.self.view_is), c.requires.can))))
+load-word-requires g c = (omega arith, (omega arith, (omega arith, (◌∙◌ {A = TableId} c.requires.of (sym c.self.view_is), c.requires.can))))
 
 pub returns : goal.returns
 returns g c = record { seat = c.load-word.ensures.seat ∙ c.requires.of; began = (c.load-word.ensures.word, c.load-word.ensures.did) }

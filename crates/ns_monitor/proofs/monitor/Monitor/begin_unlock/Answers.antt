@@ -1,6 +1,5 @@
 use Rattle.std.proofs.Common.{◌∙◌, Some, ap, arith, rules, subst, sym}
 use Rattle.ns_monitor.specs.Prelude.{HasSince, IsQuietFor, Known, TableId, WentAtOnce, known_of, releasing_by, the}
-use Rattle.ns_gate.proofs.Room.{queues_fit}
 use Rattle.ns_monitor.proofs.Begins.{may_release}
 use Rattle.ns_monitor.proofs.Standing.{same_number}
 use Rattle.ns_monitor.proofs.monitor.Monitor.begin_unlock.Goals as goal
@@ -10,7 +9,7 @@ go_at_once-last-requires g c = let seat = c.held.inside.seat in let held = (the 
     let quiet = subst (λ (k : Known g.row.C.Denot g.row.N). IsQuietFor g.C.Condition.means c.args.releasing k.held) (sym c.held.view_is) c.requires.quiet in (
       omega arith,
       (
-        queues_fit g.row.C g.row.N g.met.C.Condition.has_room g.C.Condition,
+        omega arith,
         (
           omega arith,
           (

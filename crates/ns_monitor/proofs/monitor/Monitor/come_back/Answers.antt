@@ -1,12 +1,11 @@
 use Rattle.std.proofs.Common.{arith, None, rules}
 use Rattle.ns_gate.proofs.Calls.{since_then}
-use Rattle.ns_gate.proofs.Room.{queues_fit}
 use Rattle.ns_monitor.proofs.Standing.{same_number}
 use Rattle.ns_monitor.proofs.monitor.Monitor.come_back.Goals as goal
 
 pub acquire-requires : goal.acquire-requires
 acquire-requires g c = let came = c.await_in-arrival in
-    (omega arith, (queues_fit g.row.C g.row.N g.met.C.Condition.has_room g.C.Condition, (omega arith, (came.ensures.seat, (same_number g.C.Condition.means None c.args.number c.args.seat.now.me came.new.seat.me c.requires.number came.ensures.since, came.ensures.comes)))))
+    (omega arith, (omega arith, (omega arith, (came.ensures.seat, (same_number g.C.Condition.means None c.args.number c.args.seat.now.me came.new.seat.me c.requires.number came.ensures.since, came.ensures.comes)))))
 
 pub returns : goal.returns
 returns g c = record {

@@ -1,7 +1,6 @@
 use Rattle.std.proofs.Common.{◌∙◌, ap, sym, subst, refl, arith, Some, None, rules}
 use Rattle.ns_monitor.specs.Prelude.{HasAnswered, HasSince, HasStood, InShow, IsAtPlace, IsPackable, Known, ReturnShown, Succeeded, TableId, ToChange, Word, bits_of, known_of, showing, the}
 use Rattle.ns_gate.proofs.Calls.{since_itself, since_then, works}
-use Rattle.ns_gate.proofs.Room.{queues_fit}
 use Rattle.ns_monitor.proofs.Callers.{saw_more}
 use Rattle.ns_monitor.proofs.Shows.{stood_since}
 use Rattle.ns_monitor.proofs.Standing.{still_since, taken_packs}
@@ -15,7 +14,7 @@ put_back-requires g c = let t = g.C.Condition.means in let took = c.take_to_show
     let at = subst (λ (w : Word). IsAtPlace t (InShow (ReturnShown w)) me) (sym c.taken-taken.ensures) took.ensures.at in (
       omega arith,
       (
-        queues_fit g.row.C g.row.N g.met.C.Condition.has_room g.C.Condition,
+        omega arith,
         (
           omega arith,
           (
@@ -58,8 +57,8 @@ returns g c = record {
 
 pub take_to_show-word-requires : goal.take_to_show-word-requires
 take_to_show-word-requires g c = let of = ap (λ (k : Known g.row.C.Denot g.row.N). k.monitor) c.caller.view_is ∙ c.requires in
-    (omega arith, (queues_fit g.row.C g.row.N g.met.C.Condition.has_room g.C.Condition, (omega arith, (of, c.caller.invariant.0))))
+    (omega arith, (omega arith, (omega arith, (of, c.caller.invariant.0))))
 
 pub show_in_hand-lists-requires : goal.show_in_hand-lists-requires
 show_in_hand-lists-requires g c = let took = c.take_to_show-word in
-    (omega arith, (queues_fit g.row.C g.row.N g.met.C.Condition.has_room g.C.Condition, (omega arith, (◌∙◌ {A = TableId} took.ensures.seat (sym c.self.view_is), search rules))))
+    (omega arith, (omega arith, (omega arith, (◌∙◌ {A = TableId} took.ensures.seat (sym c.self.view_is), search rules))))

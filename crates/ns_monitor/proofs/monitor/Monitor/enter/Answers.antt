@@ -1,8 +1,7 @@
 use Rattle.std.proofs.Common.{◌∙◌, arith, sym}
 use Rattle.ns_monitor.specs.Prelude.{TableId}
-use Rattle.ns_gate.proofs.Room.{queues_fit}
 use Rattle.ns_monitor.proofs.monitor.Monitor.enter.Goals as goal
 
 pub enter_in_hand-bits-requires : goal.enter_in_hand-bits-requires
 enter_in_hand-bits-requires g c = let may = rw c.in-ToWait.is at c.requires.may in
-    (omega arith, (queues_fit g.row.C g.row.N g.met.C.Condition.has_room g.C.Condition, (omega arith, (◌∙◌ {A = TableId} c.requires.of (sym c.self.view_is), (may.2, (may.0, may.1))))))
+    (omega arith, (omega arith, (omega arith, (◌∙◌ {A = TableId} c.requires.of (sym c.self.view_is), (may.2, (may.0, may.1))))))

@@ -1,15 +1,14 @@
 use Rattle.std.proofs.Common.{◌≡◌, ◌∙◌, sym, arith, true, false}
 use Rattle.ns_monitor.specs.Prelude.{TableId}
-use Rattle.ns_gate.proofs.Room.{queues_fit}
 use Rattle.ns_monitor.proofs.monitor.Monitor.exchange_to_go.Goals as goal
 
 pub exchange_to_acquire-requires : goal.exchange_to_acquire-requires
 exchange_to_acquire-requires g c =
-    (omega arith, (queues_fit g.row.C g.row.N g.met.C.Condition.has_room g.C.Condition, (omega arith, (◌∙◌ {A = TableId} c.requires.of (sym c.self.view_is), (c.requires.last, rw c.in-Acquiring.is at c.requires.can)))))
+    (omega arith, (omega arith, (omega arith, (◌∙◌ {A = TableId} c.requires.of (sym c.self.view_is), (c.requires.last, rw c.in-Acquiring.is at c.requires.can)))))
 
 pub exchange_to_release-requires : goal.exchange_to_release-requires
 exchange_to_release-requires g c =
-    (omega arith, (queues_fit g.row.C g.row.N g.met.C.Condition.has_room g.C.Condition, (omega arith, (◌∙◌ {A = TableId} c.requires.of (sym c.self.view_is), (c.requires.last, rw c.in-Leaving.is at c.requires.can)))))
+    (omega arith, (omega arith, (omega arith, (◌∙◌ {A = TableId} c.requires.of (sym c.self.view_is), (c.requires.last, rw c.in-Leaving.is at c.requires.can)))))
 
 pub unreachable-requires : goal.unreachable-requires
 unreachable-requires g c = let may : false ≡ true = rw c.in-Changing.is at c.requires.may in cc

@@ -1,6 +1,5 @@
 use Rattle.std.proofs.Common.{refl, arith, Some, rules}
 use Rattle.ns_gate.proofs.Calls.{since_then}
-use Rattle.ns_gate.proofs.Room.{queues_fit}
 use Rattle.ns_monitor.proofs.Standing.{goes_behind, loads_first, may_decide, wants_to_go}
 use Rattle.ns_monitor.proofs.monitor.Monitor.go_at_once.Goals as goal
 
@@ -8,7 +7,7 @@ pub begin_to_go-requires : goal.begin_to_go-requires
 begin_to_go-requires g c = (
   omega arith,
   (
-    queues_fit g.row.C g.row.N g.met.C.Condition.has_room g.C.Condition,
+    omega arith,
     (omega arith, (c.requires.of, (c.requires.alone, (may_decide g.C.Condition.means c.args.walk c.args.seat.now.me c.requires.decides c.requires.first c.requires.fits c.requires.rest, λ word may. wants_to_go g.C.Condition.means c.args.walk c.args.going word c.requires.decides c.requires.going may)))),
   ),
 )
@@ -22,7 +21,7 @@ returns-in-Ok g c = let gone = goes_behind g.C.Condition.means c.args.walk c.arg
 
 pub go_by-requires : goal.go_by-requires
 go_by-requires g c = let led = loads_first g.C.Condition.means c.args.walk c.args.walk c.in-Err.word c.args.seat.now.me c.begin_to_go.new.seat.me refl c.requires.rest c.in-Err.ensures.began.1 in
-    (omega arith, (queues_fit g.row.C g.row.N g.met.C.Condition.has_room g.C.Condition, (omega arith, (c.begin_to_go.ensures.seat, (c.requires.decides, (c.requires.going, (c.in-Err.ensures.began.0, led.0)))))))
+    (omega arith, (omega arith, (omega arith, (c.begin_to_go.ensures.seat, (c.requires.decides, (c.requires.going, (c.in-Err.ensures.began.0, led.0)))))))
 
 pub returns-in-Err : goal.returns-in-Err
 returns-in-Err g c = let led = loads_first g.C.Condition.means c.args.walk c.args.walk c.in-Err.word c.args.seat.now.me c.begin_to_go.new.seat.me refl c.requires.rest c.in-Err.ensures.began.1 in record {

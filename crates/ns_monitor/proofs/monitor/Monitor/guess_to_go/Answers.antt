@@ -1,15 +1,14 @@
 use Rattle.std.proofs.Common.{◌≡◌, ◌∙◌, sym, arith, true, false}
 use Rattle.ns_monitor.specs.Prelude.{TableId}
-use Rattle.ns_gate.proofs.Room.{queues_fit}
 use Rattle.ns_monitor.proofs.monitor.Monitor.guess_to_go.Goals as goal
 
 pub acquire_guessing-requires : goal.acquire_guessing-requires
 acquire_guessing-requires g c =
-    (omega arith, (queues_fit g.row.C g.row.N g.met.C.Condition.has_room g.C.Condition, (omega arith, (◌∙◌ {A = TableId} c.requires.of (sym c.self.view_is), (c.requires.guess, (c.requires.can, rw c.in-Acquiring.is at c.requires.next))))))
+    (omega arith, (omega arith, (omega arith, (◌∙◌ {A = TableId} c.requires.of (sym c.self.view_is), (c.requires.guess, (c.requires.can, rw c.in-Acquiring.is at c.requires.next))))))
 
 pub release_guessing-requires : goal.release_guessing-requires
 release_guessing-requires g c =
-    (omega arith, (queues_fit g.row.C g.row.N g.met.C.Condition.has_room g.C.Condition, (omega arith, (◌∙◌ {A = TableId} c.requires.of (sym c.self.view_is), (c.requires.can, rw c.in-Leaving.is at c.requires.next)))))
+    (omega arith, (omega arith, (omega arith, (◌∙◌ {A = TableId} c.requires.of (sym c.self.view_is), (c.requires.can, rw c.in-Leaving.is at c.requires.next)))))
 
 pub unreachable-requires : goal.unreachable-requires
 unreachable-requires g c = let may : false ≡ true = rw c.in-Changing.is at c.requires.may in cc

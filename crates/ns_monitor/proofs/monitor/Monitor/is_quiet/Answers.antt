@@ -4,7 +4,7 @@ use Rattle.ns_monitor.proofs.monitor.Monitor.is_quiet.Goals as goal
 
 pub load_to_judge-row-requires : goal.load_to_judge-row-requires
 load_to_judge-row-requires g c = let wide = g.met.C.Condition.has_cells in
-    (omega arith, (g.met.C.Gated.queues_fit, (omega arith, (omega (arith, wide), (◌∙◌ {A = TableId} (ap (λ (k : Known g.row.C.Denot g.row.N). k.monitor) c.held.view_is) c.requires, (c.held.invariant.0, c.held.invariant.2.0))))))
+    (omega arith, (omega arith, (omega arith, (omega (arith, wide), (◌∙◌ {A = TableId} (ap (λ (k : Known g.row.C.Denot g.row.N). k.monitor) c.held.view_is) c.requires, (c.held.invariant.0, c.held.invariant.2.0))))))
 
 pub before-before-requires : goal.before-before-requires
 before-before-requires g c = let wide = g.met.C.Condition.has_cells in (omega (arith, wide), omega (arith, wide))

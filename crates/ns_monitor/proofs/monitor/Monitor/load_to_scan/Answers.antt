@@ -1,6 +1,5 @@
 use Rattle.std.proofs.Common.{◌∙◌, ap, arith, cond, subst, sym, rules}
 use Rattle.ns_monitor.specs.Prelude.{IsAtPlace, loading, loading_at, row_in, the}
-use Rattle.ns_gate.proofs.Room.{queues_fit}
 use Rattle.ns_monitor.proofs.Releases.{scans_row}
 use Rattle.ns_monitor.proofs.Tests.{is_scanned}
 use Rattle.ns_monitor.proofs.monitor.Monitor.load_to_scan.Goals as goal
@@ -16,7 +15,7 @@ returns-then-not-needed g c = record {
 
 pub load_cells-requires : goal.load_cells-requires
 load_cells-requires g c = let t = g.C.Condition.means in
-    (omega arith, (queues_fit g.row.C g.row.N g.met.C.Condition.has_room g.C.Condition, (omega arith, (omega (arith, g.met.C.Condition.has_cells), (c.requires.of, ((omega arith, sym c.requires.scans), subst (λ b. IsAtPlace t (cond b (loading_at g.row.N c.args.walk 0) (loading g.row.N c.args.walk).last) c.args.seat.now.me) c.if-not-needed.false c.requires.at))))))
+    (omega arith, (omega arith, (omega arith, (omega (arith, g.met.C.Condition.has_cells), (c.requires.of, ((omega arith, sym c.requires.scans), subst (λ b. IsAtPlace t (cond b (loading_at g.row.N c.args.walk 0) (loading g.row.N c.args.walk).last) c.args.seat.now.me) c.if-not-needed.false c.requires.at))))))
 
 pub returns : goal.returns
 returns g c = record {

@@ -1,7 +1,6 @@
 use Rattle.std.proofs.Common.{Some, arith, subst, sym}
 use Rattle.ns_monitor.specs.Prelude.{HasLocked, Write, locking}
 use Rattle.ns_gate.proofs.Calls.{since_then}
-use Rattle.ns_gate.proofs.Room.{queues_fit}
 use Rattle.ns_monitor.proofs.Callers.{CameSo, came_at_once, locked_so}
 use Rattle.ns_monitor.proofs.monitor.Monitor.lock.Given.{Over}
 use Rattle.ns_monitor.proofs.monitor.Monitor.lock.Goals.{Joined-last, in-Some, in-None}
@@ -17,7 +16,7 @@ came g c = let t = g.C.Condition.means in let b = c.begin_lock-seat.ensures in l
 
 pub holding-requires : goal.holding-requires
 holding-requires g c = let so = locked_so g.C.Condition.means Write c.args.seat c.args.self.now c.begin_lock-seat.result.seat.table_id c.begin_lock-seat.result.number c.begin_lock-seat.result.seat.me (c.match-last.seat.table_id, c.match-last.seat.me) c.requires c.begin_lock-seat.ensures.begun (came g (goal.at.holding-requires g c).Joined-last) in
-    (queues_fit g.row.C g.row.N g.met.C.Condition.has_room g.C.Condition, (omega arith, (omega arith, (so.0, so.1))))
+    (omega arith, (omega arith, (omega arith, (so.0, so.1))))
 
 pub returns : goal.returns
 returns g c = let so = locked_so g.C.Condition.means Write c.args.seat c.args.self.now c.begin_lock-seat.result.seat.table_id c.begin_lock-seat.result.number c.begin_lock-seat.result.seat.me (c.match-last.seat.table_id, c.match-last.seat.me) c.requires c.begin_lock-seat.ensures.begun (came g (goal.at.returns g c).Joined-last) in
@@ -27,7 +26,7 @@ pub begin_lock-seat-requires : goal.begin_lock-seat-requires
 begin_lock-seat-requires g c = (omega arith, (omega arith, (omega arith, c.requires)))
 
 pub lock_slow-seat-requires : goal.lock_slow-seat-requires
-lock_slow-seat-requires g c = let b = c.begin_lock-seat.ensures in let went = rw c.in-Some.is at b.went in (omega arith, (queues_fit g.row.C g.row.N g.met.C.Condition.has_room g.C.Condition, (omega arith, (b.of, (b.begun.own, (went.0, went.1))))))
+lock_slow-seat-requires g c = let b = c.begin_lock-seat.ensures in let went = rw c.in-Some.is at b.went in (omega arith, (omega arith, (omega arith, (b.of, (b.begun.own, (went.0, went.1))))))
 
 pub holding-requires-room-H-Renewed : goal.holding-requires-room-H-Renewed
 holding-requires-room-H-Renewed g c = λ κs lives. omega (arith, g.met.C.Condition.has_cells)

@@ -1,6 +1,5 @@
 use Rattle.std.proofs.Common.{arith}
-use Rattle.ns_gate.proofs.Room.{queues_fit}
 use Rattle.ns_monitor.proofs.monitor.Monitor.lock_slow.Goals as goal
 
 pub acquire_on-requires : goal.acquire_on-requires
-acquire_on-requires g c = (omega arith, (queues_fit g.row.C g.row.N g.met.C.Condition.has_room g.C.Condition, (omega arith, (c.requires.of, (c.requires.number, (c.requires.last, c.requires.at))))))
+acquire_on-requires g c = (omega arith, (omega arith, (omega arith, (c.requires.of, (c.requires.number, (c.requires.last, c.requires.at))))))

@@ -2,7 +2,6 @@ use Rattle.std.proofs.Common.{◌≡◌, ◌∙◌, sym, refl, arith, IfSome, No
 use Rattle.ns_monitor.specs.Prelude.{Cause, InQueuing, InWait, Limits, Look, LookIn, Looked, TableId, is_limited, the}
 use Rattle.ns_gate.proofs.Calls.{can_go, since, since_itself}
 use Rattle.ns_gate.proofs.Findings.{does}
-use Rattle.ns_gate.proofs.Room.{queues_fit}
 use Rattle.ns_monitor.proofs.Standing.{commits_none}
 use Rattle.ns_monitor.proofs.Returns.{by_limits, look_fresh, looks_in}
 use Rattle.ns_monitor.proofs.monitor.Monitor.look_before.Goals as goal
@@ -21,7 +20,7 @@ returns-then-not-is_some g c = record {
 
 pub look-requires : goal.look-requires
 look-requires g c = let t = g.C.Condition.means in let me = c.args.seat.now.me in let wait = c.args.wait in
-    (omega arith, (queues_fit g.row.C g.row.N g.met.C.Condition.has_room g.C.Condition, (omega arith, (◌∙◌ {A = TableId} c.requires.of (sym c.self.view_is), (c.requires.number, (g.W.Watch.names c.args.watch.now c.look-shown.new.self wait.limits c.look-shown.result c.requires.watches c.look-shown.ensures.shown, can_go t (InWait wait (InQueuing c.args.again LookIn)) (Look wait.limits c.args.again) me refl (by_limits t wait c.args.again true me (sym c.is_some.ensures ∙ c.if-not-is_some.false) c.requires.at)))))))
+    (omega arith, (omega arith, (omega arith, (◌∙◌ {A = TableId} c.requires.of (sym c.self.view_is), (c.requires.number, (g.W.Watch.names c.args.watch.now c.look-shown.new.self wait.limits c.look-shown.result c.requires.watches c.look-shown.ensures.shown, can_go t (InWait wait (InQueuing c.args.again LookIn)) (Look wait.limits c.args.again) me refl (by_limits t wait c.args.again true me (sym c.is_some.ensures ∙ c.if-not-is_some.false) c.requires.at)))))))
 
 -- what a look has shown, it has shown for a limit
 is_limited_if : (limits : Limits) (shown : Option Cause) → is_limited limits ≡ true → IfSome shown (λ cause. is_limited limits ≡ true)

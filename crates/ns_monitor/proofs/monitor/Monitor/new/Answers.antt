@@ -1,6 +1,5 @@
 use Rattle.std.proofs.Common.{rules, arith, ap, sym, refl, subst, ◌∙◌, ◌≡◌, ◌+◌, ◌<◌, ℕ, List, [], ◌∷◌, length, length-append}
 use Rattle.ns_monitor.specs.Prelude.{AreNew, GateView, IsNumberOf, Known, SeatOf, TableId, first_of, fresh_seat, known_of, new_seat, rest_of, the}
-use Rattle.ns_gate.proofs.Room.{queues_fit}
 use Rattle.ns_seats.proofs.Numbered.{all_new, new_more, numbered_first, numbered_rest}
 use Rattle.ns_monitor.proofs.Made.{new_rests}
 use Rattle.ns_monitor.proofs.monitor.Monitor.new.Goals as goal
@@ -10,7 +9,7 @@ seated-requires g c = let few = c.in_ok-gate.ensures.2 in let n = c.args.seats i
     let is = c.part-seat.ensures.part.1 ∙ ap (λ (vs : List (GateView g.row.C.Denot g.row.N)). (vs, [])) (ap first_of c.loop-number.invariant.1 ∙ numbered_first (fresh_seat {C = g.row.C.Denot} {N = g.row.N} n) n i lt) in
     let number : IsNumberOf i c.part-seat.result.me = (ap (λ (m : SeatOf g.row.C.Denot g.row.N). (the m.0).at.seat) (sym is), omega (arith, lt, few)) in
     let rests = new_rests g.row.C.Denot g.row.N g.C.Condition.means n i c.part-seat.result.me is in
-    (queues_fit g.row.C g.row.N g.met.C.Condition.has_room g.C.Condition, (search rules, (search rules, (rests.0, number, rests.1))))
+    (omega arith, (search rules, (search rules, (rests.0, number, rests.1))))
 
 pub loop-number-preserved : goal.loop-number-preserved
 loop-number-preserved g c = let v = c.loop-number.invariant in let n = c.args.seats in let i = c.loop-number.number in let lt : i < n = omega arith in let p = c.in_ok-add.ensures in let t = c.in_ok-gate.all.table_id in
@@ -31,7 +30,7 @@ returns g c = record {
 }
 
 pub new-requires : goal.new-requires
-new-requires g c = (omega arith, (queues_fit g.row.C g.row.N g.met.C.Condition.has_room g.C.Condition, (omega arith, c.requires)))
+new-requires g c = (omega arith, (omega arith, (omega arith, c.requires)))
 
 pub part-seat-requires : goal.part-seat-requires
-part-seat-requires g c = (omega arith, (queues_fit g.row.C g.row.N g.met.C.Condition.has_room g.C.Condition, (omega arith, ◌∙◌ {A = TableId} c.loop-number.invariant.0 c.in_ok-gate.ensures.0)))
+part-seat-requires g c = (omega arith, (omega arith, (omega arith, ◌∙◌ {A = TableId} c.loop-number.invariant.0 c.in_ok-gate.ensures.0)))

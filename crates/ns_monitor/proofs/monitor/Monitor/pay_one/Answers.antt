@@ -1,7 +1,6 @@
 use Rattle.std.proofs.Common.{◌∙◌, [], arith, subst, sym, None}
 use Rattle.ns_monitor.specs.Prelude.{HasReached, Paid, PayWake, TableId, asked_of, got_of, has_some, owes_more, the}
 use Rattle.ns_gate.proofs.Calls.{can_go, since}
-use Rattle.ns_gate.proofs.Room.{queues_fit}
 use Rattle.ns_monitor.proofs.SeveralWaits.{true_now}
 use Rattle.ns_monitor.proofs.Standing.{all_paid, can_pay, is_paid, owes_next}
 use Rattle.ns_monitor.proofs.monitor.Monitor.pay_one.Goals as goal
@@ -10,7 +9,7 @@ pub pay_wake-requires : goal.pay_wake-requires
 pay_wake-requires g c = let t = g.C.Condition.means in let me = c.args.seat.now.me in
     let here = subst (λ ns. HasReached t (asked_of c.args._walk) (got_of g.row.N c.args._walk (Paid (has_some ns))) me) (sym c.requires.owed) c.requires.at in
     let at = can_pay t c.args._walk c.args.wake [] me c.requires.pays c.requires.owed here in
-    (omega arith, (queues_fit g.row.C g.row.N g.met.C.Condition.has_room g.C.Condition, (omega arith, (◌∙◌ {A = TableId} c.requires.of (sym c.self.view_is), (owes_next t c.args.wake [] me c.requires.owed at.owes, can_go t c.args._walk PayWake me c.requires.pays.pays at)))))
+    (omega arith, (omega arith, (omega arith, (◌∙◌ {A = TableId} c.requires.of (sym c.self.view_is), (owes_next t c.args.wake [] me c.requires.owed at.owes, can_go t c.args._walk PayWake me c.requires.pays.pays at)))))
 
 pub returns : goal.returns
 returns g c = let t = g.C.Condition.means in let me = c.args.seat.now.me in let now = c.pay_wake.new.seat.me in

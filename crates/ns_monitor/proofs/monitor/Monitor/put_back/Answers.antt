@@ -2,7 +2,6 @@ use Rattle.std.proofs.Common.{◌∙◌, sym, subst, refl, arith, None}
 use Rattle.ns_monitor.specs.Prelude.{CanStep, Performed, Saw, TableId, act_returning, found_back, the}
 use Rattle.ns_gate.proofs.Calls.{since, since_itself, since_then}
 use Rattle.ns_gate.proofs.Stays.{stays_itself, stays_through}
-use Rattle.ns_gate.proofs.Room.{queues_fit}
 use Rattle.ns_monitor.proofs.SeveralWaits.{true_now}
 use Rattle.ns_monitor.proofs.Standing.{can_put_back, hand_stays, is_back_for, misses_back}
 use Rattle.ns_monitor.proofs.monitor.Monitor.put_back.Goals as goal
@@ -14,7 +13,7 @@ pub exchange_to_return-requires : goal.exchange_to_return-requires
 exchange_to_return-requires g c = let t = g.C.Condition.means in let inv = c.loop.invariant in let me = c.loop.seat.me in let last = c.loop.word in
     let hand = hand_stays t c.args.returning c.args.turned c.args.seat.now.me me inv.5 c.requires.hand in
     let can = subst (λ r. CanStep t None (act_returning r last) me) (sym c.requires.returning) (can_put_back t c.args._walk last me c.requires.puts inv.6) in
-    (omega arith, (queues_fit g.row.C g.row.N g.met.C.Condition.has_room g.C.Condition, (omega arith, (◌∙◌ {A = TableId} inv.2 (◌∙◌ {A = TableId} c.requires.of (sym c.self.view_is)), (inv.3, (can, (hand.carries last, (hand.some last, hand.bits last))))))))
+    (omega arith, (omega arith, (omega arith, (◌∙◌ {A = TableId} inv.2 (◌∙◌ {A = TableId} c.requires.of (sym c.self.view_is)), (inv.3, (can, (hand.carries last, (hand.some last, hand.bits last))))))))
 
 pub returns-in-Ok : goal.returns-in-Ok
 returns-in-Ok g c = record {

@@ -1,17 +1,16 @@
 use Rattle.std.proofs.Common.{refl, arith, Some}
 use Rattle.ns_monitor.specs.Prelude.{queuing_first}
 use Rattle.ns_gate.proofs.Calls.{since_then}
-use Rattle.ns_gate.proofs.Room.{queues_fit}
 use Rattle.ns_monitor.proofs.Standing.{same_number}
 use Rattle.ns_monitor.proofs.VariableWaits.{needs_no_row, taken_now}
 use Rattle.ns_monitor.proofs.monitor.Monitor.queue_at_variables.Goals as goal
 
 pub begin_to_take-word-requires : goal.begin_to_take-word-requires
-begin_to_take-word-requires g c = (omega arith, (queues_fit g.row.C g.row.N g.met.C.Condition.has_room g.C.Condition, (omega arith, (c.requires.of, (c.requires.rest, (tt, (refl, ((refl, c.requires.variables.0), c.requires.fits))))))))
+begin_to_take-word-requires g c = (omega arith, (omega arith, (omega arith, (c.requires.of, (c.requires.rest, (tt, (refl, ((refl, c.requires.variables.0), c.requires.fits))))))))
 
 pub leave_section-requires : goal.leave_section-requires
 leave_section-requires g c = let t = g.C.Condition.means in let took = c.begin_to_take-word in let me = c.args.seat.now.me in let now = took.new.seat.me in let walk = queuing_first c.args.wait in
-    (omega arith, (queues_fit g.row.C g.row.N g.met.C.Condition.has_room g.C.Condition, (omega arith, (omega (arith, g.met.C.Condition.has_cells), (took.ensures.seat, (same_number t (Some walk) c.args.number me now c.requires.number took.ensures.since, (c.requires.variables.1, (taken_now t walk took.result me now took.ensures.taken, needs_no_row c.args.wait.on _ _ c.requires.variables.0))))))))
+    (omega arith, (omega arith, (omega arith, (omega (arith, g.met.C.Condition.has_cells), (took.ensures.seat, (same_number t (Some walk) c.args.number me now c.requires.number took.ensures.since, (c.requires.variables.1, (taken_now t walk took.result me now took.ensures.taken, needs_no_row c.args.wait.on _ _ c.requires.variables.0))))))))
 
 pub returns : goal.returns
 returns g c = let e = c.leave_section.ensures in record {

@@ -1,17 +1,16 @@
 use Rattle.std.proofs.Common.{ap, refl, sym, subst, arith, None}
 use Rattle.ns_monitor.specs.Prelude.{HasRow, InQueuing, InWait, Load, row_in}
 use Rattle.ns_gate.proofs.Calls.{since_then}
-use Rattle.ns_gate.proofs.Room.{queues_fit}
 use Rattle.ns_monitor.proofs.Standing.{same_number}
 use Rattle.ns_monitor.proofs.VariableWaits.{taken_now}
 use Rattle.ns_monitor.proofs.monitor.Monitor.queue_to_wait.Goals as goal
 
 pub leave_section-requires : goal.leave_section-requires
 leave_section-requires g c = let t = g.C.Condition.means in let took = c.take-word in let me = took.new.seat.me in
-    (omega arith, (queues_fit g.row.C g.row.N g.met.C.Condition.has_room g.C.Condition, (omega arith, (omega (arith, g.met.C.Condition.has_cells), (took.ensures.seat, (same_number t None c.args.number c.args.seat.now.me me c.requires.number took.ensures.since, (c.requires.range, (taken_now t (InWait c.args.wait (InQueuing c.args.again Load)) took.result c.args.seat.now.me me took.ensures.taken, subst (HasRow c.args.wait.on c.args.row.now) (ap row_in (sym took.ensures.taken.held)) c.requires.row))))))))
+    (omega arith, (omega arith, (omega arith, (omega (arith, g.met.C.Condition.has_cells), (took.ensures.seat, (same_number t None c.args.number c.args.seat.now.me me c.requires.number took.ensures.since, (c.requires.range, (taken_now t (InWait c.args.wait (InQueuing c.args.again Load)) took.result c.args.seat.now.me me took.ensures.taken, subst (HasRow c.args.wait.on c.args.row.now) (ap row_in (sym took.ensures.taken.held)) c.requires.row))))))))
 
 pub take-word-requires : goal.take-word-requires
-take-word-requires g c = (omega arith, (queues_fit g.row.C g.row.N g.met.C.Condition.has_room g.C.Condition, (omega arith, (c.requires.of, (tt, (refl, c.requires.at))))))
+take-word-requires g c = (omega arith, (omega arith, (omega arith, (c.requires.of, (tt, (refl, c.requires.at))))))
 
 pub returns : goal.returns
 returns g c = let left = c.leave_section.ensures in record { seat = left.seat; since = since_then None _ _ _ c.take-word.ensures.since left.since; waits = left.waits }

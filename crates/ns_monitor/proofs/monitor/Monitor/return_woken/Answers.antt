@@ -2,7 +2,6 @@ use Rattle.std.proofs.Common.{◌≡◌, ◌∙◌, not, sym, subst, refl, ap, a
 use Rattle.ns_monitor.specs.Prelude.{Carries, HasReturnedWoken, HasSince, HasWokenInHand, InSignal, IsAtPlace, IsOrderly, ReturnQueues, Saw, TableId, WakeAndReturn, WakeWaiters, change_found, is_held, lists_woken, taken_from, the}
 use Rattle.ns_gate.proofs.Calls.{since, since_itself, since_then, works}
 use Rattle.ns_gate.proofs.Stays.{HasKeptItsQueues}
-use Rattle.ns_gate.proofs.Room.{queues_fit}
 use Rattle.ns_monitor.proofs.Standing.{still_since}
 use Rattle.ns_monitor.proofs.Wakes.{by_both, by_one, can_return, hand_kept, hand_made, is_returned, misses_return}
 use Rattle.ns_monitor.proofs.monitor.Monitor.return_woken.Given.{Over}
@@ -14,7 +13,7 @@ loop-init g c = (tt, tt, refl, c.requires.word, since_itself (the c.args.seat.no
 
 pub exchange_to_return-requires : goal.exchange_to_return-requires
 exchange_to_return-requires g c = let t = g.C.Condition.means in let inv = c.loop.invariant in let hand = inv.7 in
-    (omega arith, (queues_fit g.row.C g.row.N g.met.C.Condition.has_room g.C.Condition, (omega arith, (◌∙◌ {A = TableId} inv.2 (◌∙◌ {A = TableId} c.requires.of (sym c.self.view_is)), (inv.3, (can_return t c.args.waking c.args.k c.loop.word c.loop.seat.me inv.6, (hand.carries, (hand.some, hand.bits))))))))
+    (omega arith, (omega arith, (omega arith, (◌∙◌ {A = TableId} inv.2 (◌∙◌ {A = TableId} c.requires.of (sym c.self.view_is)), (inv.3, (can_return t c.args.waking c.args.k c.loop.word c.loop.seat.me inv.6, (hand.carries, (hand.some, hand.bits))))))))
 
 pub returns-in-Ok : goal.returns-in-Ok
 returns-in-Ok g c = record {
@@ -45,7 +44,7 @@ turn_in_hand-turned-requires g c = let after = (goal.at.turn_in_hand-turned-requ
     let other : is_held c.loop.word ≡ not held = sym (ap not c.is_held-held.ensures ∙ differs) in (
       omega arith,
       (
-        queues_fit g.row.C g.row.N g.met.C.Condition.has_room g.C.Condition,
+        omega arith,
         (
           omega arith,
           (

@@ -1,18 +1,17 @@
 use Rattle.std.proofs.Common.{◌∙◌, sym, subst, refl, arith, None}
 use Rattle.ns_monitor.specs.Prelude.{InRelease, IsAtPlace, ScanAndRelease, row_in, scan_place, the}
 use Rattle.ns_gate.proofs.Calls.{since_then}
-use Rattle.ns_gate.proofs.Room.{queues_fit}
 use Rattle.ns_monitor.proofs.Releases.{scans_plain}
 use Rattle.ns_monitor.proofs.Tests.{moves_in}
 use Rattle.ns_monitor.proofs.monitor.Monitor.scan_and_release.Goals as goal
 
 pub load_to_scan-requires : goal.load_to_scan-requires
 load_to_scan-requires g c = let t = g.C.Condition.means in let word = c.args.word in let me = c.args.seat.now.me in
-    rw c.parts-parts.ensures (omega arith, (queues_fit g.row.C g.row.N g.met.C.Condition.has_room g.C.Condition, (omega arith, (omega (arith, g.met.C.Condition.has_cells), (c.requires.of, (refl, (subst (λ w. IsAtPlace t w me) (moves_in (λ place. InRelease c.args.releasing place) word.cond (scan_place g.row.N word 0) (ScanAndRelease word)) c.requires.at, (c.requires.taken, λ none. scans_plain t _ (row_in (the me.0).at.held) (the me.0).stood.lock (sym c.requires.tells ∙ none)))))))))
+    rw c.parts-parts.ensures (omega arith, (omega arith, (omega arith, (omega (arith, g.met.C.Condition.has_cells), (c.requires.of, (refl, (subst (λ w. IsAtPlace t w me) (moves_in (λ place. InRelease c.args.releasing place) word.cond (scan_place g.row.N word 0) (ScanAndRelease word)) c.requires.at, (c.requires.taken, λ none. scans_plain t _ (row_in (the me.0).at.held) (the me.0).stood.lock (sym c.requires.tells ∙ none)))))))))
 
 pub scan_and_return-requires : goal.scan_and_return-requires
 scan_and_return-requires g c =
-    (omega arith, (queues_fit g.row.C g.row.N g.met.C.Condition.has_room g.C.Condition, (omega arith, (omega (arith, g.met.C.Condition.has_cells), (c.load_to_scan.ensures.seat, (c.requires.word, (tt, rw c.parts-parts.ensures at c.load_to_scan.ensures.ready)))))))
+    (omega arith, (omega arith, (omega arith, (omega (arith, g.met.C.Condition.has_cells), (c.load_to_scan.ensures.seat, (c.requires.word, (tt, rw c.parts-parts.ensures at c.load_to_scan.ensures.ready)))))))
 
 pub returns : goal.returns
 returns g c = let e = c.scan_and_return.ensures in record {

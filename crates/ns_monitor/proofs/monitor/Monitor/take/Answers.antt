@@ -1,15 +1,14 @@
 use Rattle.std.proofs.Common.{◌∙◌, sym, subst, arith, None}
 use Rattle.ns_monitor.specs.Prelude.{LoadWord, MayGoAlone, Saw, TableId}
 use Rattle.ns_gate.proofs.Calls.{since, since_then}
-use Rattle.ns_gate.proofs.Room.{queues_fit}
 use Rattle.ns_monitor.proofs.Standing.{can_load, loads, saw_held}
 use Rattle.ns_monitor.proofs.monitor.Monitor.take.Goals as goal
 
 pub load-first-requires : goal.load-first-requires
-load-first-requires g c = (omega arith, (queues_fit g.row.C g.row.N g.met.C.Condition.has_room g.C.Condition, (omega arith, (◌∙◌ {A = TableId} c.requires.of (sym c.self.view_is), can_load g.C.Condition.means c.args._walk c.args.seat.now.me c.requires.decides c.requires.at))))
+load-first-requires g c = (omega arith, (omega arith, (omega arith, (◌∙◌ {A = TableId} c.requires.of (sym c.self.view_is), can_load g.C.Condition.means c.args._walk c.args.seat.now.me c.requires.decides c.requires.at))))
 
 pub go_or_take-requires : goal.go_or_take-requires
-go_or_take-requires g c = (omega arith, (queues_fit g.row.C g.row.N g.met.C.Condition.has_room g.C.Condition, (omega arith, (◌∙◌ {A = TableId} c.load-first.ensures.seat c.requires.of, (c.requires.decides, (sym c.requires.going, (c.load-first.ensures.word, loads g.C.Condition.means c.args._walk c.load-first.result c.args.seat.now.me c.load-first.new.seat.me c.requires.decides c.requires.at c.load-first.ensures.did)))))))
+go_or_take-requires g c = (omega arith, (omega arith, (omega arith, (◌∙◌ {A = TableId} c.load-first.ensures.seat c.requires.of, (c.requires.decides, (sym c.requires.going, (c.load-first.ensures.word, loads g.C.Condition.means c.args._walk c.load-first.result c.args.seat.now.me c.load-first.new.seat.me c.requires.decides c.requires.at c.load-first.ensures.did)))))))
 
 pub unreachable-requires : goal.unreachable-requires
 unreachable-requires g c = subst MayGoAlone c.requires.going c.in-None.ensures.came.0

@@ -1,14 +1,13 @@
 use Rattle.std.proofs.Common.{None, arith, refl}
 use Rattle.ns_gate.proofs.Calls.{since_then}
-use Rattle.ns_gate.proofs.Room.{queues_fit}
 use Rattle.ns_monitor.proofs.monitor.Monitor.unlock_slow.Goals as goal
 
 pub go_or_take-requires : goal.go_or_take-requires
-go_or_take-requires g c = (omega arith, (queues_fit g.row.C g.row.N g.met.C.Condition.has_room g.C.Condition, (omega arith, (c.requires.of, (tt, (refl, (c.requires.last, c.requires.at)))))))
+go_or_take-requires g c = (omega arith, (omega arith, (omega arith, (c.requires.of, (tt, (refl, (c.requires.last, c.requires.at)))))))
 
 pub scan_and_release-requires : goal.scan_and_release-requires
 scan_and_release-requires g c = let came = c.in-Some.ensures.came in
-    (omega arith, (queues_fit g.row.C g.row.N g.met.C.Condition.has_room g.C.Condition, (omega arith, (c.go_or_take.ensures.seat, (came.packs, (came.at, (came.taken, came.tells)))))))
+    (omega arith, (omega arith, (omega arith, (c.go_or_take.ensures.seat, (came.packs, (came.at, (came.taken, came.tells)))))))
 
 pub returns-in-Some : goal.returns-in-Some
 returns-in-Some g c = let then = c.scan_and_release.ensures in record { seat = then.seat; since = since_then None _ _ _ c.go_or_take.ensures.since then.since; released = then.released }

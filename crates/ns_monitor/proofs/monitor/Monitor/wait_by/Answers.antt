@@ -1,7 +1,6 @@
 use Rattle.std.proofs.Common.{◌≡◌, ◌∙◌, inl, inr, sym, subst, ap, refl, arith, Some, IfSome, true, false, rules}
 use Rattle.ns_monitor.specs.Prelude.{Answer, Answered, Await, Cause, Grows, HasAnswered, HasMode, HasSince, HasWaitedFor, IsAtRest, IsFreshIn, Known, Met, OnEntry, QueuesOrEnds, SeatOf, TableId, answer_of, is_limited, known_of, row_in, the, wait_first, waits_by}
 use Rattle.ns_gate.proofs.Calls.{since_then}
-use Rattle.ns_gate.proofs.Room.{queues_fit}
 use Rattle.ns_monitor.proofs.Callers.{grew}
 use Rattle.ns_monitor.proofs.Returns.{ended_as, ended_since, fits_fresh, tested_so, wait_tells}
 use Rattle.ns_monitor.proofs.Standing.{same_number}
@@ -14,7 +13,7 @@ in_mode : (g : Over) (c : After-wait g) → HasMode c.mode-mode.result (the c.he
 in_mode g c = subst (λ m. HasMode m (the c.held.inside.seat.me.0).at.held) (sym c.mode-mode.ensures) (g.met.H.Section.in_mode c.held.inside.hand (the c.held.inside.seat.me.0).at.held c.held.invariant.2)
 
 pub test-requires : goal.test-requires
-test-requires g c = (omega arith, (queues_fit g.row.C g.row.N g.met.C.Condition.has_room g.C.Condition, (omega arith, (omega (arith, g.met.C.Condition.has_cells), (◌∙◌ {A = TableId} (ap (λ (k : Known _ _). k.monitor) c.held.view_is) c.requires.of, (refl, (c.wait.ensures.first, refl, c.held.invariant.0, in_mode g (goal.at.test-requires g c).After-wait)))))))
+test-requires g c = (omega arith, (omega arith, (omega arith, (omega (arith, g.met.C.Condition.has_cells), (◌∙◌ {A = TableId} (ap (λ (k : Known _ _). k.monitor) c.held.view_is) c.requires.of, (refl, (c.wait.ensures.first, refl, c.held.invariant.0, in_mode g (goal.at.test-requires g c).After-wait)))))))
 
 -- the call that it began
 began : (g : Over) (c : After-test g) → HasSince (Some (wait_first g.row.N (waits_by c.mode-mode.result c.args.condition c.args.limits))) (the c.held.inside.seat.me.0) (the c.test.new.seat.me.0)
@@ -49,7 +48,7 @@ returns-then-test g c = record {
 }
 
 pub look_before-requires : goal.look_before-requires
-look_before-requires g c = (omega arith, (queues_fit g.row.C g.row.N g.met.C.Condition.has_room g.C.Condition, search rules))
+look_before-requires g c = (omega arith, (omega arith, search rules))
 
 -- it has looked
 looked : (g : Over) (c : After-look_before g) → HasSince (Some (wait_first g.row.N (waits_by c.mode-mode.result c.args.condition c.args.limits))) (the c.held.inside.seat.me.0) (the c.look_before.new.seat.me.0)
@@ -77,7 +76,7 @@ returns-in-Some g c = record {
 pub wait_on-answer-requires : goal.wait_on-answer-requires
 wait_on-answer-requires g c = let t = g.C.Condition.means in let wait = waits_by c.mode-mode.result c.args.condition c.args.limits in let now = c.look_before.new.seat.me in let after = (goal.at.wait_on-answer-requires g c).After-look_before in
     let led = subst (λ o. QueuesOrEnds t wait false o c.test.new.seat.me now) c.in_default.is c.look_before.ensures.leads in
-    (omega arith, (queues_fit g.row.C g.row.N g.met.C.Condition.has_room g.C.Condition, (omega arith, (omega (arith, g.met.C.Condition.has_cells), (c.look_before.ensures.seat, (same_number t (Some (wait_first g.row.N wait)) c.held.inside.number c.held.inside.seat.me now c.held.invariant.1 (looked g after), (refl, (g.W.Watch.still c.args.watch.now c.look_before.new.watch c.args.limits c.look_before.ensures.looked c.requires.watches, (c.test.ensures.tested.row_is ∙ ap row_in (sym (led.1 ∙ c.test.ensures.tested.held)), led.0)))))))))
+    (omega arith, (omega arith, (omega arith, (omega (arith, g.met.C.Condition.has_cells), (c.look_before.ensures.seat, (same_number t (Some (wait_first g.row.N wait)) c.held.inside.number c.held.inside.seat.me now c.held.invariant.1 (looked g after), (refl, (g.W.Watch.still c.args.watch.now c.look_before.new.watch c.args.limits c.look_before.ensures.looked c.requires.watches, (c.test.ensures.tested.row_is ∙ ap row_in (sym (led.1 ∙ c.test.ensures.tested.held)), led.0)))))))))
 
 -- it has waited
 over : (g : Over) (c : After-wait_on-answer g) → HasSince (Some (wait_first g.row.N (waits_by c.mode-mode.result c.args.condition c.args.limits))) (the c.held.inside.seat.me.0) (the c.wait_on-answer.new.seat.me.0)

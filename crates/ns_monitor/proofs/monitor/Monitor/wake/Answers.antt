@@ -2,7 +2,6 @@ use Rattle.std.proofs.Common.{◌∙◌, sym, arith, Some, rules}
 use Rattle.ns_monitor.specs.Prelude.{HasSince, TableId, is_held, taken_from, the, waking_by, woken_nobody}
 use Rattle.ns_gate.proofs.Calls.{since_then}
 use Rattle.ns_gate.proofs.Wakes.{found_nobody, takes_nobody}
-use Rattle.ns_gate.proofs.Room.{queues_fit}
 use Rattle.ns_monitor.proofs.Standing.{still_since}
 use Rattle.ns_monitor.proofs.Wakes.{hand_of_nobody, nobody_woken, taken_still}
 use Rattle.ns_monitor.proofs.monitor.Monitor.wake.Given.{Over}
@@ -17,7 +16,7 @@ pub return_woken-requires : goal.return_woken-requires
 return_woken-requires g c = let t = g.C.Condition.means in let took = c.begin_to_take-word in let look = c.wake_nobody_in_hand in let e = look.ensures in let me = took.new.seat.me in let now = look.new.seat.me in let nobody = sym e.nobody ∙ c.in-Some.is in
     let still = taken_still t c.args.waking c.args.k took.result c.args.seat.now.me me now took.ensures.taken e.seat.1 e.has in
     let none = (takes_nobody c.args.waking c.args.k (the me.0).stood (found_nobody c.args.k (the me.0).stood c.in-Some.made nobody).0).0 in
-    (omega arith, (queues_fit g.row.C g.row.N g.met.C.Condition.has_room g.C.Condition, (omega arith, (◌∙◌ {A = TableId} e.seat.0 took.ensures.seat, (c.requires.variable, (still.packs, (still.at, (still.orderly, (sym none ∙ (λ i. taken_from c.args.waking c.args.k (the (sym e.seat.1 i)).stood), hand_of_nobody c.args.waking c.args.k (is_held took.result) c.in-Some.made me now e.seat.1 e.has nobody)))))))))
+    (omega arith, (omega arith, (omega arith, (◌∙◌ {A = TableId} e.seat.0 took.ensures.seat, (c.requires.variable, (still.packs, (still.at, (still.orderly, (sym none ∙ (λ i. taken_from c.args.waking c.args.k (the (sym e.seat.1 i)).stood), hand_of_nobody c.args.waking c.args.k (is_held took.result) c.in-Some.made me now e.seat.1 e.has nobody)))))))))
 
 pub returns-in-Some : goal.returns-in-Some
 returns-in-Some g c = record {
@@ -30,7 +29,7 @@ returns-in-Some g c = record {
 
 pub wake_some-requires : goal.wake_some-requires
 wake_some-requires g c = let t = g.C.Condition.means in let took = c.begin_to_take-word in let look = c.wake_nobody_in_hand in let e = look.ensures in
-    (omega arith, (queues_fit g.row.C g.row.N g.met.C.Condition.has_room g.C.Condition, (omega arith, (◌∙◌ {A = TableId} e.seat.0 took.ensures.seat, (c.requires.variable, taken_still t c.args.waking c.args.k took.result c.args.seat.now.me took.new.seat.me look.new.seat.me took.ensures.taken e.seat.1 e.has)))))
+    (omega arith, (omega arith, (omega arith, (◌∙◌ {A = TableId} e.seat.0 took.ensures.seat, (c.requires.variable, taken_still t c.args.waking c.args.k took.result c.args.seat.now.me took.new.seat.me look.new.seat.me took.ensures.taken e.seat.1 e.has)))))
 
 pub returns : goal.returns
 returns g c = record {

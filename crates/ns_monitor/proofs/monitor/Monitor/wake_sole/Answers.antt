@@ -1,17 +1,21 @@
 use Rattle.std.proofs.Common.{sym, refl, arith, None}
 use Rattle.ns_monitor.specs.Prelude.{the}
+use denote.Param.{number}
+use Rattle.ns_queue.specs.Room.{waiter_fits}
 use Rattle.ns_gate.proofs.Calls.{since_then}
-use Rattle.ns_gate.proofs.Room.{queues_fit}
 use Rattle.ns_monitor.proofs.Wakes.{owes_sole}
 use Rattle.ns_monitor.proofs.monitor.Monitor.wake_sole.Goals as goal
 
 pub return_woken-moved-requires : goal.return_woken-moved-requires
-return_woken-moved-requires g c = (omega arith, (queues_fit g.row.C g.row.N g.met.C.Condition.has_room g.C.Condition, (omega arith, (c.requires.of, (c.requires.variable, (c.requires.word, (c.requires.at, (c.requires.orderly, (sym c.requires.alone, c.requires.hand)))))))))
+return_woken-moved-requires g c = (omega arith, (omega arith, (omega arith, (c.requires.of, (c.requires.variable, (c.requires.word, (c.requires.at, (c.requires.orderly, (sym c.requires.alone, c.requires.hand)))))))))
 
 pub pay_one-requires : goal.pay_one-requires
 pay_one-requires g c = let t = g.C.Condition.means in let back = c.return_woken-moved.ensures in let now = c.return_woken-moved.new.seat.me in
     let owes = owes_sole t c.args.waking c.args.k c.return_woken-moved.result (the c.args.seat.now.me.0).stood c.args.sole c.wake_by.result now c.requires.alone c.if-not-moved.true c.wake_by.ensures back.returned in
-    (omega arith, (queues_fit g.row.C g.row.N g.met.C.Condition.has_room g.C.Condition, (omega arith, (back.seat, (record { pays = refl; free = refl; more = refl }, (owes.1, owes.0))))))
+    (omega arith, (omega arith, (omega arith, (back.seat, (record { pays = refl; free = refl; more = refl }, (owes.1, owes.0))))))
 
 pub returns-then-not-moved-clause-since : goal.returns-then-not-moved-clause-since
 returns-then-not-moved-clause-since g c = since_then None _ _ _ c.return_woken-moved.ensures.since c.pay_one.ensures.since
+
+pub shared_whole_as_slice-return_woken : goal.shared_whole_as_slice-return_woken
+shared_whole_as_slice-return_woken g c = let one = waiter_fits g.row.C (number g.row.N) g.met.C.Condition.has_room in omega (arith, one)

@@ -1,7 +1,6 @@
 use Rattle.std.proofs.Common.{◌∙◌, sym, subst, refl, arith, None, rules}
 use Rattle.ns_monitor.specs.Prelude.{HasSince, HasWokenInHand, InSignal, IsOrderly, TableId, WakeAndReturn, taken_from, the}
 use Rattle.ns_gate.proofs.Calls.{since_itself, since_then, works}
-use Rattle.ns_gate.proofs.Room.{queues_fit}
 use Rattle.ns_gate.proofs.Wakes.{found_sole}
 use Rattle.ns_monitor.proofs.Standing.{still_since}
 use Rattle.ns_monitor.proofs.Wakes.{hand_made, taken_still}
@@ -16,7 +15,7 @@ since_look g c = let me = c.args.seat.now.me in still_since g.C.Condition.means 
 pub wake_sole-requires : goal.wake_sole-requires
 wake_sole-requires g c = let t = g.C.Condition.means in let waking = c.args.waking in let k = c.args.k in let taken = c.requires.taken in let look = c.wake_sole_in_hand in let e = c.in-Some.ensures in let me = c.args.seat.now.me in let now = look.new.seat.me in let same = e.seat.1 in
     let held = c.is_held-held.result in let found = found_sole waking k held (the me.0).stood c.in-Some.sole c.in-Some.made (sym e.sole) in
-    (omega arith, (queues_fit g.row.C g.row.N g.met.C.Condition.has_room g.C.Condition, (omega arith, (◌∙◌ {A = TableId} e.seat.0 c.requires.of, (c.requires.variable, (taken.packs, (works t (InSignal waking k (WakeAndReturn c.args.word)) me now taken.at refl same, (subst IsOrderly (λ i. (the (sym same i)).stood) e.orderly, ((λ i. taken_from waking k (the (same i)).stood) ∙ found.0, subst (λ b. HasWokenInHand waking k b c.in-Some.made now) c.is_held-held.ensures (hand_made waking k held c.in-Some.made me now same e.lists found.1 found.2))))))))))
+    (omega arith, (omega arith, (omega arith, (◌∙◌ {A = TableId} e.seat.0 c.requires.of, (c.requires.variable, (taken.packs, (works t (InSignal waking k (WakeAndReturn c.args.word)) me now taken.at refl same, (subst IsOrderly (λ i. (the (sym same i)).stood) e.orderly, ((λ i. taken_from waking k (the (same i)).stood) ∙ found.0, subst (λ b. HasWokenInHand waking k b c.in-Some.made now) c.is_held-held.ensures (hand_made waking k held c.in-Some.made me now same e.lists found.1 found.2))))))))))
 
 pub returns-in-Some : goal.returns-in-Some
 returns-in-Some g c = record {
@@ -27,7 +26,7 @@ returns-in-Some g c = record {
 
 pub wake_waiters-requires : goal.wake_waiters-requires
 wake_waiters-requires g c = let t = g.C.Condition.means in let look = c.wake_sole_in_hand in let e = c.in-None.ensures in let me = c.args.seat.now.me in let now = look.new.seat.me in
-    (omega arith, (queues_fit g.row.C g.row.N g.met.C.Condition.has_room g.C.Condition, (omega arith, (◌∙◌ {A = TableId} e.seat.0 c.requires.of, (c.requires.variable, taken_still t c.args.waking c.args.k c.args.word me me now c.requires.taken e.seat.1 e.same)))))
+    (omega arith, (omega arith, (omega arith, (◌∙◌ {A = TableId} e.seat.0 c.requires.of, (c.requires.variable, taken_still t c.args.waking c.args.k c.args.word me me now c.requires.taken e.seat.1 e.same)))))
 
 pub returns-in-None : goal.returns-in-None
 returns-in-None g c = record {

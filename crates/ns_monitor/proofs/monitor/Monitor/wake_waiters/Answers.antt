@@ -1,7 +1,9 @@
 use Rattle.std.proofs.Common.{◌≡◌, ◌∙◌, ap, sym, subst, refl, arith, Bool, None, rules}
 use Rattle.ns_monitor.specs.Prelude.{HasReached, HasWokenInHand, InSignal, IsOrderly, TableId, WakeAndReturn, has_some, owed_woken, pay_woken, taken_from, the, wakes_of}
+use denote.Param.{number}
+use Rattle.ns_queue.specs.Room.{list_fits}
+use Rattle.ns_queue.proofs.Orders.{list_small}
 use Rattle.ns_gate.proofs.Calls.{since_itself, since_then, works}
-use Rattle.ns_gate.proofs.Room.{queues_fit}
 use Rattle.ns_monitor.proofs.Standing.{still_since}
 use Rattle.ns_monitor.proofs.Wakes.{hand_made}
 use Rattle.ns_monitor.proofs.monitor.Monitor.wake_waiters.Given.{Over}
@@ -13,7 +15,7 @@ pub return_woken-moved-requires : goal.return_woken-moved-requires
 return_woken-moved-requires g c = let t = g.C.Condition.means in let taken = c.requires.taken in let made = c.wake_in_hand-taken in let e = made.ensures in let me = c.args.seat.now.me in let now = made.new.seat.me in let same = e.seat.1 in (
   omega arith,
   (
-    queues_fit g.row.C g.row.N g.met.C.Condition.has_room g.C.Condition,
+    omega arith,
     (
       omega arith,
       (
@@ -51,7 +53,7 @@ paid g c = let made = c.wake_in_hand-taken in let waking = c.args.waking in let 
 
 pub pay-requires : goal.pay-requires
 pay-requires g c = let t = g.C.Condition.means in let back = c.return_woken-moved.ensures in let now = c.return_woken-moved.new.seat.me in
-    (omega arith, (queues_fit g.row.C g.row.N g.met.C.Condition.has_room g.C.Condition, (omega arith, (back.seat, (record { pays = refl; free = refl; more = refl }, (subst (λ ns. HasReached t (TheRequest.Wake c.args.waking c.args.k) (pay_woken c.args.waking c.args.k (has_some ns)) now) (sym back.returned.owed) back.returned.leads, back.returned.owed ∙ sym (paid g (goal.at.pay-requires g c).Joined-moved)))))))
+    (omega arith, (omega arith, (omega arith, (back.seat, (record { pays = refl; free = refl; more = refl }, (subst (λ ns. HasReached t (TheRequest.Wake c.args.waking c.args.k) (pay_woken c.args.waking c.args.k (has_some ns)) now) (sym back.returned.owed) back.returned.leads, back.returned.owed ∙ sym (paid g (goal.at.pay-requires g c).Joined-moved)))))))
 
 pub returns : goal.returns
 returns g c = record {
@@ -62,4 +64,10 @@ returns g c = record {
 }
 
 pub wake_in_hand-taken-requires : goal.wake_in_hand-taken-requires
-wake_in_hand-taken-requires g c = (omega arith, (queues_fit g.row.C g.row.N g.met.C.Condition.has_room g.C.Condition, (omega arith, (search rules, (◌∙◌ {A = TableId} c.requires.of (sym c.self.view_is), (c.requires.taken.taken, c.requires.variable))))))
+wake_in_hand-taken-requires g c = (omega arith, (omega arith, (omega arith, (list_small _ (list_fits g.row.C (number g.row.N) g.met.C.Condition.has_room), (◌∙◌ {A = TableId} c.requires.of (sym c.self.view_is), (c.requires.taken.taken, c.requires.variable))))))
+
+pub as_slice-requires : goal.as_slice-requires
+as_slice-requires g c = list_small _ (list_fits g.row.C (number g.row.N) g.met.C.Condition.has_room)
+
+pub as_slice-requires-else-moved : goal.as_slice-requires-else-moved
+as_slice-requires-else-moved g c = list_small _ (list_fits g.row.C (number g.row.N) g.met.C.Condition.has_room)
