@@ -291,7 +291,6 @@ impl Env {
 
     /// Whether the note or an ancestor is notified by a call, or has a deadline that the clock,
     /// which was loaded before, has reached.
-    #[inline(always)]
     fn stops(&self, seat: &mut EnvSeat, note: Note, clock: u64) -> bool
         requires env { seat.old.env ≡ self.now }
         requires made { IsMade seat.old.seen note.index }
@@ -310,21 +309,6 @@ impl Env {
             }
         }
         true
-    }
-
-    /// The same, as a call of its own: where its loop is compiled into a wait, the wait has too few registers left.
-    #[inline(never)]
-    fn stops_apart(&self, seat: &mut EnvSeat, note: Note, clock: u64) -> bool
-        requires env { seat.old.env ≡ self.now }
-        requires made { IsMade seat.old.seen note.index }
-        requires clock { clock ≡ clock_of seat.old.seen }
-        requires true_to { IsTrueToHistory seat.old }
-        ensures grows { Grows seat.old seat.new }
-        ensures mine { seat.new.mine ≡ seat.old.mine }
-        ensures over { result ≡ true → IsNotified seat.new.seen note.index }
-        ensures not_yet { result ≡ false → is_notified seat.old.seen note.index ≡ false }
-    {
-        self.stops(seat, note, clock)
     }
 
     /// Whether the note is notified: it or an ancestor, by a call or by its deadline. nsync's
@@ -383,7 +367,7 @@ impl Env {
     {
         let clock = self.now(seat);
         if let Some(note) = note {
-            if self.stops_apart(seat, note, clock) {
+            if self.stops(seat, note, clock) {
                 return Some(Answer::Canceled);
             }
         }
