@@ -26,33 +26,46 @@ pub enum EarlyEnd {
 /// What a thread has of its own.
 type Own<'m, 'e> = (OneHandle<'m>, Watcher<'e>);
 
-/// Waits so many times in one section, and counts how often the note has ended it, where that is asked, else the
-/// deadline.
+/// Waits so many times in one section, and counts how often a deadline that has come has ended it.
 ///
-/// The loop has one call, which the compiler inlines, and stands by itself, so that it has all registers.
+/// Here and in the next the loop has one call, which the compiler inlines, and stands by itself, so that it has all
+/// registers.
 #[inline(never)]
-#[tactic(auto, using(ns_note::proofs::Rests::made_grows))]
-fn count_ended<R: Wait>(
+fn count_late<R: Wait>(
     rt: &R,
     handle: OneHandle<'_>,
-    watched: Watched<'_>,
-    for_note: bool,
+    mut watcher: Watcher<'_>,
     times: u64,
 ) -> u64 {
-    let Watched { mut watcher, note } = watched;
-    let wanted = if for_note {
-        Answer::Canceled
-    } else {
-        Answer::TimedOut
-    };
     let mut held = handle.lock(rt);
     let mut count = 0u64;
     for _ in 0..times {
-        let note = if for_note { Some(note) } else { None };
-        let deadline = if for_note { None } else { Some(0) };
-        let (back, answer) = held.wait_with_deadline(rt, Never, deadline, note, &mut watcher);
+        let (back, answer) = held.wait_with_deadline(rt, Never, Some(0), None, &mut watcher);
         held = back;
-        if answer == wanted {
+        if answer == Answer::TimedOut {
+            count = count.wrapping_add(1);
+        }
+    }
+    held.unlock(rt);
+    count
+}
+
+/// Waits so many times in one section, and counts how often the note has ended it.
+#[inline(never)]
+#[tactic(auto, using(ns_note::proofs::Rests::made_grows))]
+fn count_canceled<R: Wait>(
+    rt: &R,
+    handle: OneHandle<'_>,
+    watched: Watched<'_>,
+    times: u64,
+) -> u64 {
+    let Watched { mut watcher, note } = watched;
+    let mut held = handle.lock(rt);
+    let mut count = 0u64;
+    for _ in 0..times {
+        let (back, answer) = held.wait_with_deadline(rt, Never, None, Some(note), &mut watcher);
+        held = back;
+        if answer == Answer::Canceled {
             count = count.wrapping_add(1);
         }
     }
@@ -85,13 +98,13 @@ impl<'m, 'e> Work<Own<'m, 'e>> for EarlyEnd {
     fn work<R: Wait>(self, rt: &R, job: Job<Own<'m, 'e>>, amount: Amount) -> Count {
         let (handle, watcher) = job.own;
         let times = amount.operations;
-        if matches!(self, EarlyEnd::DeadlineAtVariable) {
-            return Count::of_writes(count_late_at_variable(rt, handle, watcher, times));
-        }
-        let for_note = matches!(self, EarlyEnd::Note);
-        Count::of_writes(match Watched::new(watcher, Looks::Notified) {
-            Some(watched) => count_ended(rt, handle, watched, for_note, times),
-            None => 0,
+        Count::of_writes(match self {
+            EarlyEnd::Deadline => count_late(rt, handle, watcher, times),
+            EarlyEnd::DeadlineAtVariable => count_late_at_variable(rt, handle, watcher, times),
+            EarlyEnd::Note => match Watched::new(watcher, Looks::Notified) {
+                Some(watched) => count_canceled(rt, handle, watched, times),
+                None => 0,
+            },
         })
     }
 

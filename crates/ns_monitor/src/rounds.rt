@@ -99,6 +99,7 @@ impl<C: Condition<N>, const N: usize> Monitor<C, N> {
     /// Waits until the condition is true, or what watches for its limits ends the wait. Where the
     /// condition is true of the section in hand, nothing is released, nor where the first look shows
     /// what ends it.
+    #[inline(always)]
     pub(crate) fn wait_by<H: Renewed<C, N>, R: Wait, W: Watch>(
         &self,
         rt: &R,

@@ -1,5 +1,5 @@
 use Rattle.ns_model.specs.Environments.{IsMade}
-use Rattle.ns_bench.proofs.limits.count_ended.Given as goal
+use Rattle.ns_bench.proofs.limits.count_canceled.Given as goal
 
 abbrev pub invariant-loop : goal.invariant-loop
 invariant-loop g l = IsMade l.watcher.seen l.note.index
