@@ -14,4 +14,4 @@ loop-preserved g c = (c.step-next-in-On.ensures.of, driven_on _ c.args.first c.i
 pub step-next-requires-in-On : goal.step-next-requires-in-On
 step-next-requires-in-On g c = let t = g.C.Condition.means in let driven = c.loop.invariant.1 in
     let at = at_walk t (asked_of c.args.first) c.loop.next c.in-On.walk c.loop.seat.me (⊎_elim (λ e. ap walk_after e) (λ e. ap walk_after e) c.in-On.is) driven.leads in
-    (omega arith, (c.loop.invariant.0, (can_go t c.in-On.walk (want_of c.in-On.walk) c.loop.seat.me refl at, driven.empty)))
+    record { of = c.loop.invariant.0; can = can_go t c.in-On.walk (want_of c.in-On.walk) c.loop.seat.me refl at; empty = driven.empty }
