@@ -31,12 +31,7 @@ type Own<'m, 'e> = (OneHandle<'m>, Watcher<'e>);
 /// Here and in the next the loop has one call, which the compiler inlines, and stands by itself, so that it has all
 /// registers.
 #[inline(never)]
-fn count_late<R: Wait>(
-    rt: &R,
-    handle: OneHandle<'_>,
-    mut watcher: Watcher<'_>,
-    times: u64,
-) -> u64 {
+fn count_late<R: Wait>(rt: &R, handle: OneHandle<'_>, mut watcher: Watcher<'_>, times: u64) -> u64 {
     let mut held = handle.lock(rt);
     let mut count = 0u64;
     for _ in 0..times {
@@ -53,12 +48,7 @@ fn count_late<R: Wait>(
 /// Waits so many times in one section, and counts how often the note has ended it.
 #[inline(never)]
 #[tactic(auto, using(ns_note::proofs::Rests::made_grows))]
-fn count_canceled<R: Wait>(
-    rt: &R,
-    handle: OneHandle<'_>,
-    watched: Watched<'_>,
-    times: u64,
-) -> u64 {
+fn count_canceled<R: Wait>(rt: &R, handle: OneHandle<'_>, watched: Watched<'_>, times: u64) -> u64 {
     let Watched { mut watcher, note } = watched;
     let mut held = handle.lock(rt);
     let mut count = 0u64;

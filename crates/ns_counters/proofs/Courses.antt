@@ -356,7 +356,9 @@ module _ (setup : Setup) (earlier : Past) (seat : ℕ) (now : Past) (words : Lis
     word_takes_on (DoneLoad once) word words' fits so effect =
         (joined events more [] so effect.2, moment_now (λ standing. is_done (standing.onces once) ≡ has_run (stage_of word)) (sym (ap (λ w. has_run (stage_of w)) effect.0 ∙ ap has_run (stage_is setup words now.objects law once fits) ∙ has_run_is (stands.onces once))))
     word_takes_on (InRound round place) word words' fits so effect =
-        round_goes setup earlier seat now more round (round_got round place (Word word)) (events ++ more) (joined events more [] so.0 (round_makes_none setup earlier seat now words law state led more place (Word word) words' effect)) so.1 (round_by setup earlier seat now words law state led more round place (Word word) words' fits so.1 so.2 effect)
+        round_goes setup earlier seat now more round (round_got round place (Word word)) (events ++ more)
+        (joined events more [] so.0 (round_makes_none setup earlier seat now words law state led more place (Word word) words' effect)) so.1
+        (round_by setup earlier seat now words law state led more round place (Word word) words' fits so.1 so.2 effect)
 
     -- And so does a load of the clock or of a note.
     pub env_takes_on : (walk : ObjectWalk) (found : EnvFound) (words' : List ℕ) → WalkFits setup stands state.plain.notes seat walk → ObjectSoFar setup earlier now seat events walk → ObjectEffect seat (object_place (Some walk)) (object_want walk) words state.plain (Env found) words' more →
@@ -375,7 +377,9 @@ module _ (setup : Setup) (earlier : Past) (seat : ℕ) (now : Past) (words : Lis
       by true early = (refl, done)
       by false due = (done, had_on setup earlier seat now (record { notes = []; objects = more }) counter value so.1, λ ne. point_now setup earlier seat now more (λ point. moment ≤ clock_of point) since (subst (λ c. moment ≤ c) clock_is (ltb-false clock moment due)))
     env_takes_on (InRound round place) found words' fits so effect =
-        round_goes setup earlier seat now more round (round_got round place (Env found)) (events ++ more) (joined events more [] so.0 (round_makes_none setup earlier seat now words law state led more place (Env found) words' effect)) so.1 (round_by setup earlier seat now words law state led more round place (Env found) words' fits so.1 so.2 effect)
+        round_goes setup earlier seat now more round (round_got round place (Env found)) (events ++ more)
+        (joined events more [] so.0 (round_makes_none setup earlier seat now words law state led more place (Env found) words' effect)) so.1
+        (round_by setup earlier seat now words law state led more round place (Env found) words' fits so.1 so.2 effect)
     env_takes_on (AddLoad counter delta) found words' fits so effect = absurd effect
     env_takes_on (AddExchange counter delta seen value) found words' fits so effect = absurd effect
     env_takes_on (ValueLoad counter) found words' fits so effect = absurd effect

@@ -42,10 +42,11 @@ pub place_still : (setup : Setup) (now : ObjectStanding) (event : ObjectEvent) (
 place_still setup now event seat Free apart legal fits = tt
 place_still setup now event seat (Adding counter delta) apart legal fits = fits
 place_still setup now (OnCounter counter event) seat (Running once) apart legal fits = fits
-place_still setup now (OnOnce cell event) seat (Running once) apart legal fits = (fits.0, but_cases (λ (z : OnceState). z ≡ TheOnce.Running seat) cell once (once_next (now.onces cell) event) now.onces (λ here. absurd (taken event apart (subst (λ (z : OnceState). IsLegalOnceEvent z event) (ap now.onces (sym here) ∙ fits.1) legal.1))) (λ _. fits.1)) where
-  taken : (event : OnceEvent) → object_who (OnOnce cell event) ≢ seat → IsLegalOnceEvent (TheOnce.Running seat) event → ⊥
-  taken (Began who) apart legal = legal
-  taken (Ran who) apart legal = apart legal
+place_still setup now (OnOnce cell event) seat (Running once) apart legal fits =
+    (fits.0, but_cases (λ (z : OnceState). z ≡ TheOnce.Running seat) cell once (once_next (now.onces cell) event) now.onces (λ here. absurd (taken event apart (subst (λ (z : OnceState). IsLegalOnceEvent z event) (ap now.onces (sym here) ∙ fits.1) legal.1))) (λ _. fits.1)) where
+      taken : (event : OnceEvent) → object_who (OnOnce cell event) ≢ seat → IsLegalOnceEvent (TheOnce.Running seat) event → ⊥
+      taken (Began who) apart legal = legal
+      taken (Ran who) apart legal = apart legal
 
 pub places_still : (setup : Setup) (now : ObjectStanding) (events : List ObjectEvent) (who seat : ℕ) (place : Place) → who ≢ seat → Every (λ event. object_who event ≡ who) events →
     IsLegalFrom (IsLegalObjectEvent setup) object_next now events → PlaceFits setup now seat place → PlaceFits setup (objects_from now events) seat place
@@ -91,7 +92,8 @@ module _ (setup : Setup) (now : ObjectStanding) (words : List ℕ) (who : ℕ) (
     exchanges : (delta : ℤ) (seen : CounterState) (value : ℕ) (place : Place) → judged seen delta ≡ Ok value → seen.value ≤ most → StepKeeps setup now words who counter (outcome who (ExchangeToAdd counter delta seen value) place (slice_index words counter))
     exchanges delta seen value place fits few = by (eqb (slice_index words counter) (counter_word seen)) (λ same. eqb-true (slice_index words counter) (counter_word seen) same) where
       by : (b : Bool) → (b ≡ true → slice_index words counter ≡ counter_word seen)
-          → StepKeeps setup now words who counter (cond b (record { word = counter_word (record { value = value; waited = seen.waited }); events = OnCounter counter (Add who delta (Ok value)) ∷ []; place = Free }) (tried who counter delta (slice_index words counter) (judged (counter_of (slice_index words counter)) delta)))
+          → StepKeeps setup now words who counter (cond b (record { word = counter_word (record { value = value; waited = seen.waited }); events = OnCounter counter (Add who delta (Ok value)) ∷ []; place = Free })
+          (tried who counter delta (slice_index words counter) (judged (counter_of (slice_index words counter)) delta)))
       by true same = let is : now.counters counter ≡ seen = sym found_is ∙ (ap counter_of (same refl) ∙ counter_of-counter_word seen few) in record {
         legal = ((there, sym (ap (λ (z : CounterState). judged z delta) is ∙ fits)), tt);
         words_are = counter_set now words counter (counter_word (record { value = value; waited = seen.waited })) (record { value = value; waited = (now.counters counter).waited }) low are

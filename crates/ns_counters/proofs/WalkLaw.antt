@@ -168,7 +168,8 @@ module _ (setup : Setup) (now : ObjectStanding) (env : EnvPlain) (happened : Lis
   env_leads (InRound round FirstClock) (Clock clock) words' events words fits effect = round_stands setup now env.notes seat round (from_place round clock 0) fits.0 (from_stands setup env.notes round clock 0 fits.0)
   env_leads (InRound round FirstClock) found words' events words fits effect = let no = effect.0.found_is in absurd (cc)
   env_leads (InRound round (AtNote at clock asked note)) (Note state) words' events words fits effect =
-      round_stands setup now env.notes seat round (by_chain round at clock asked (env_got_of (chain_from asked clock note) (Note state))) fits.0 (note_leads round at clock asked note (env_got_of (chain_from asked clock note) (Note state)) state fits.0 (note_found state (env.notes note) effect.0.found_is) refl fits.1.0)
+      round_stands setup now env.notes seat round (by_chain round at clock asked (env_got_of (chain_from asked clock note) (Note state))) fits.0
+      (note_leads round at clock asked note (env_got_of (chain_from asked clock note) (Note state)) state fits.0 (note_found state (env.notes note) effect.0.found_is) refl fits.1.0)
   env_leads (InRound round (AtNote at clock asked note)) found words' events words fits effect = let no = effect.0.found_is in absurd (cc)
   env_leads (InRound round (AtCounter at clock counter)) found words' events words fits effect = absurd effect
 
@@ -259,7 +260,9 @@ round_leads round (RoundOver (Some at)) = refl
 leads : (seat : ℕ) (walk : ObjectWalk) (word : ℕ) → Leads seat walk word (object_want walk)
 leads seat (AddLoad counter delta) word = judged_leads seat counter delta word (counter_of word) (judged (counter_of word) delta)
 leads seat (AddExchange counter delta seen value) word = by (eqb word (counter_word seen)) where
-  by : (b : Bool) → object_place (object_after (cond b (Over (Number value)) (by_judging counter delta word))) ≡ (cond {A = Outcome} b (record { word = counter_word (record { value = value; waited = seen.waited }); events = TheEvent.OnCounter counter (Add seat delta (Ok value)) ∷ []; place = Free }) (tried seat counter delta word (judged (counter_of word) delta))).place
+  by : (b : Bool) → object_place (object_after (cond b (Over (Number value)) (by_judging counter delta word))) ≡
+      (cond {A = Outcome} b (record { word = counter_word (record { value = value; waited = seen.waited }); events = TheEvent.OnCounter counter (Add seat delta (Ok value)) ∷ []; place = Free })
+      (tried seat counter delta word (judged (counter_of word) delta))).place
   by true = refl
   by false = judged_leads seat counter delta word (counter_of word) (judged (counter_of word) delta)
 leads seat (WaitMark counter deadline) word = waited_leads counter deadline (counter_of word).value
@@ -267,7 +270,8 @@ leads seat (WaitLoad counter deadline) word = waited_leads counter deadline (cou
 leads seat (WaitClock counter moment value) word = tt
 leads seat (OnceLoad once) word = stage_leads once (stage_of word)
 leads seat (OnceBegin once) word = by (eqb word 0) (eqb word 1) where
-  by : (b c : Bool) → object_place (object_after (by_begun once (cond b TheStage.Unused (cond c TheStage.Running TheStage.Done)))) ≡ (cond {A = Outcome} b (record { word = 1; events = TheEvent.OnOnce once (Began seat) ∷ []; place = Running once }) (record { word = word; events = []; place = Free })).place
+  by : (b c : Bool) → object_place (object_after (by_begun once (cond b TheStage.Unused (cond c TheStage.Running TheStage.Done)))) ≡
+      (cond {A = Outcome} b (record { word = 1; events = TheEvent.OnOnce once (Began seat) ∷ []; place = Running once }) (record { word = word; events = []; place = Free })).place
   by true c = refl
   by false true = refl
   by false false = refl
@@ -280,7 +284,8 @@ leads seat other word = refl
 pub left_is : (seat : ℕ) (act : ObjectAct) (place : Place) (word : ℕ) → (outcome seat act place word).word ≡ word_left act word
 left_is seat (LoadToAdd counter delta) place word = tried_left seat counter delta word (judged (counter_of word) delta)
 left_is seat (ExchangeToAdd counter delta seen value) place word = by (eqb word (counter_word seen)) where
-  by : (b : Bool) → (cond {A = Outcome} b (record { word = counter_word (record { value = value; waited = seen.waited }); events = TheEvent.OnCounter counter (Add seat delta (Ok value)) ∷ []; place = Free }) (tried seat counter delta word (judged (counter_of word) delta))).word ≡ cond b (counter_word (record { value = value; waited = seen.waited })) word
+  by : (b : Bool) → (cond {A = Outcome} b (record { word = counter_word (record { value = value; waited = seen.waited }); events = TheEvent.OnCounter counter (Add seat delta (Ok value)) ∷ []; place = Free })
+      (tried seat counter delta word (judged (counter_of word) delta))).word ≡ cond b (counter_word (record { value = value; waited = seen.waited })) word
   by true = refl
   by false = tried_left seat counter delta word (judged (counter_of word) delta)
 left_is seat (BeginOnce once) place word = by (eqb word 0) where

@@ -30,7 +30,8 @@ acted act found history view = record {
   mine = view.mine ++ events_of act found view;
 }
 
--- The step was made at one point of the history, which goes on from what the caller had seen: there its object was as it has found it, and just what happened by the step has come behind that. The caller has seen so far, and this is a legal history, by the seats that there are, in which its own events are just its own.
+-- The step was made at one point of the history, which goes on from what the caller had seen: there its object was as it has found it, and just what happened by the step has come behind that. The
+-- caller has seen so far, and this is a legal history, by the seats that there are, in which its own events are just its own.
 pub record HasActed (act : ObjectAct) (found : ℕ) (old new : ObjectView) : Type 0 where
   pub setup : new.setup ≡ old.setup
   pub seat : new.seat ≡ old.seat

@@ -18,7 +18,8 @@ acted act plain history view = record {
   mine = view.mine ++ events_of act plain view;
 }
 
--- The step was made at one point of the history, which goes on from what the caller had seen: there the clock and the notes stood so, and just what happened by the step has come behind that. The caller has seen so far, and this is a legal history, by the seats that there are, in which its own events are just its own.
+-- The step was made at one point of the history, which goes on from what the caller had seen: there the clock and the notes stood so, and just what happened by the step has come behind that. The
+-- caller has seen so far, and this is a legal history, by the seats that there are, in which its own events are just its own.
 pub record HasActed (act : EnvAct) (plain : EnvPlain) (old new : EnvView) : Type 0 where
   pub seat_count : new.seat_count ≡ old.seat_count
   pub seat : new.seat ≡ old.seat

@@ -47,7 +47,8 @@ AtSomePoint before now P = (point : List EnvEvent) × IsBetween before point now
 abbrev pub Shows : Limits → Option Cause → List EnvEvent → Type 0
 Shows limits cause point = HasFound limits cause point point
 
--- What an answer means, of what has happened to the clock and the notes by now. A new note has the parent and the deadline that were asked, and the number that its caller took; where there is none, all 64 are taken. Who notifies or advances does just that. What is asked of a note was so at some point of the call; and its expiry is as it stands.
+-- What an answer means, of what has happened to the clock and the notes by now. A new note has the parent and the deadline that were asked, and the number that its caller took; where there is none,
+-- all 64 are taken. Who notifies or advances does just that. What is asked of a note was so at some point of the call; and its expiry is as it stands.
 abbrev pub EnvMeans : List EnvEvent → ℕ → EnvRequest → EnvCourse → EnvReply → Type 0
 EnvMeans now seat (TheRequest.NewNote parent deadline) course (Number note) = course.events ≡ Take seat note ∷ New seat note parent deadline ∷ []
 EnvMeans now seat (TheRequest.NewNote parent deadline) course NotesFull = (course.events ≡ []) × (takes_in now ≡ 64)

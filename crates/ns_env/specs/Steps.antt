@@ -25,7 +25,8 @@ pub record Outcome : Type 0 where
 abbrev pub loaded : EnvFound → EnvPlain → Outcome
 loaded found plain = record { found = found; plain = plain; events = [] }
 
--- What this step of the seat comes to. A number past the last is no note's, so by taking it nothing happens. It is a function and no relation, since how the clock and the notes stand determines both what is found and what is left. How far a caller has come in making a note is told by `making_after`, since who keeps the clock and the notes knows no caller.
+-- What this step of the seat comes to. A number past the last is no note's, so by taking it nothing happens. It is a function and no relation, since how the clock and the notes stand determines both
+-- what is found and what is left. How far a caller has come in making a note is told by `making_after`, since who keeps the clock and the notes knows no caller.
 abbrev pub outcome : ℕ → EnvAct → EnvPlain → Outcome
 outcome seat LoadNext plain = loaded (NextNumber plain.next) plain
 outcome seat TakeNext plain = record { found = Taken plain.next; plain = record plain { next = plain.next + 1 }; events = if nat_lt plain.next 64 then Take seat plain.next ∷ [] else [] }

@@ -148,7 +148,8 @@ module _ {C : Type 0} {N : ℕ} (truths : Truths C) (cells : 0 < N) (quiet : Qui
             (record { made = record { one = tt; carried = r.4; did = d; act_is = r.5.1; finds = λ other. ap (found_of truths act (the me.0).at (the me.0).stood) r.5.2 }; tells = r.5.2 }),
       )
 
-  module _ (v : GateView C N) (may : MayBegin truths b v.at) (walk : Walk C) (walks : walk_by b v.at.walk ≡ Some walk) (words : List ℕ) (homes : Homes C) (views : Views C N) (g : Underlying C N) (r : IsRuled truths seat_count words homes views g) (at : get_elem? views id ≡ some (v ∷ [])) (cs : Slots) where
+  module _ (v : GateView C N) (may : MayBegin truths b v.at) (walk : Walk C) (walks : walk_by b v.at.walk ≡ Some walk) (words : List ℕ) (homes : Homes C) (views : Views C N)
+      (g : Underlying C N) (r : IsRuled truths seat_count words homes views g) (at : get_elem? views id ≡ some (v ∷ [])) (cs : Slots) where
     abbrev old : Part C N
     old = part_of g.state v.at.held v.at.owed
 
@@ -159,7 +160,8 @@ module _ {C : Type 0} {N : ℕ} (truths : Truths C) (cells : 0 < N) (quiet : Qui
       of_seat x may' walks' is =
           let stands = stands_between truths cells quiet seat_count words homes views g r id v at b may in
           let s = between truths cells quiet seat_count words homes views g r id v at b may in
-          let a = act_fits truths seat_count r.few g.history s (take v.at.seat s.views) (view_in v.at b) (drop (suc v.at.seat) s.views) (split_at s.views v.at.seat (view_in v.at b) stands) (lawful_between truths cells quiet seat_count words homes views g r id v at b may) walk (walk_in b v.at ∙ walks) in
+          let a = act_fits truths seat_count r.few g.history s (take v.at.seat s.views) (view_in v.at b) (drop (suc v.at.seat) s.views) (split_at s.views v.at.seat (view_in v.at b) stands)
+          (lawful_between truths cells quiet seat_count words homes views g r id v at b may) walk (walk_in b v.at ∙ walks) in
           plain b a
         where
           plain : (x : Option (Walk C)) →
@@ -276,7 +278,9 @@ module _ {C : Type 0} {N : ℕ} (truths : Truths C) (cells : 0 < N) (quiet : Qui
         → Owes homes views v cs (swapped x y) act (get_or words 0 0)
     exchanges act wants last made part commits x y is_x is_y tells is miss idle hit rows flags slot = subst (λ (z : ℕ × ℕ). Owes homes views v cs (swapped z.0 z.1) act k) (λ i. (sym is_x i, sym is_y i)) (elim (cases_eq k (number_of last)) [
       | inl e ↦ (let same : last ≡ g.state.word = same_word last g.state.word (sym e ∙ r.shows.word_is) in let yes_same = eq-eqb k (number_of last) e in let yes_other = eq-eqb (number_of last) k (sym e) in let s = slot same in
-          let shows : Shows N (set words 0 (number_of part.word)) part.word part.row part.flags = subst (λ (z : List ℕ × (ℕ → ℕ)). Shows N (set words 0 (number_of part.word)) part.word z.0 z.1) (λ i. (sym rows i, sym flags i)) (shows_word N words g.state.word part.word g.state.row g.state.flags r.shows) in
+          let shows : Shows N (set words 0 (number_of part.word)) part.word part.row part.flags = subst
+          (λ (z : List ℕ × (ℕ → ℕ)). Shows N (set words 0 (number_of part.word)) part.word z.0 z.1) (λ i. (sym rows i, sym flags i))
+          (shows_word N words g.state.word part.word g.state.row g.state.flags r.shows) in
           finish act wants k made part commits (hit same) (is k ∙ ap (λ (c : Bool). cond c made (Saw (word_of k))) yes_other) told
           (swapped (number_of last) (number_of part.word)) (subst (λ (c : Bool). Shows N (set words 0 (either c (number_of part.word) k)) part.word part.row part.flags) (sym yes_same) shows)
           s.does s.valid s.home s.kept s.carried)
@@ -354,7 +358,8 @@ module _ {C : Type 0} {N : ℕ} (truths : Truths C) (cells : 0 < N) (quiet : Qui
         })
     changes_word (ReturnQueues change seen) last new x y is_x is_y has e wants =
         puts_back (ReturnQueues change seen) wants seen (Lists C) v.stood g.state.lists (stood_is (has refl)) (λ l. changed v.at.seat change seen l) (λ l. change_found v.at.seat change seen l)
-        (λ l. word_returned (moves change seen l) (bits_of (changed v.at.seat change seen l).lock) seen) v.at.held (owed_after change seen g.state.lists v.at.owed) (change_commits v.at.seat change g.state.lists) x y (is_x ∙ ap number_of (sym e.0)) (is_y ∙ ap number_of e.1.word) (has refl) e.1.carries refl refl
+        (λ l. word_returned (moves change seen l) (bits_of (changed v.at.seat change seen l).lock) seen) v.at.held (owed_after change seen g.state.lists v.at.owed)
+        (change_commits v.at.seat change g.state.lists) x y (is_x ∙ ap number_of (sym e.0)) (is_y ∙ ap number_of e.1.word) (has refl) e.1.carries refl refl
         (λ k. refl) (λ w s ne. (s, ne, refl, refl)) (λ w. refl) (λ same. returned_effect truths v.at.seat change seen old same) (sym (carried_returned v.at.seat change seen g.state.lists (changed v.at.seat change seen g.state.lists) cs))
     changes_word (ReleaseReturning releasing seen) last new x y is_x is_y has e wants =
         let h = hand_of (CanLeave truths releasing) v.at.held (λ e. e) (fits (ReleaseReturning releasing seen) wants).0 in
@@ -365,7 +370,8 @@ module _ {C : Type 0} {N : ℕ} (truths : Truths C) (cells : 0 < N) (quiet : Qui
         let h = hand_of (CanWait truths wait again) v.at.held (λ e. e) (fits (WaitReturning wait again seen) wants).0 in
         puts_back (WaitReturning wait again seen) wants seen (List ℕ × Lists C) (row_in v.at.held, v.stood) (g.state.row, g.state.lists) (λ i. (has_row h.0 h.1 i, stood_is (has refl) i)) (λ z. waited_in truths v.at.seat wait again z.0 z.1) (λ z. scanned truths z.0 z.1.lock)
         (λ z. word_released_returning (releasing_of wait.mode) (has_some (woken_of (meets_at truths z.0) z.1.lock)) (bits_of (waited_in truths v.at.seat wait again z.0 z.1).lock) seen) None (called_of (woken_of (meets_at truths g.state.row) g.state.lists.lock))
-        (if again then [] else section_of truths.holds v.at.seat h.0 (exit_for wait.on) ∷ []) x y (is_x ∙ ap number_of (sym e.0)) (is_y ∙ ap number_of e.1.word) (has refl) e.1.carries refl refl (λ k. refl) (λ w s ne. (s, ne, refl, refl)) (λ w. refl) (λ same. (h.0, h.1, h.2.mode, same, refl, refl, refl, refl)) refl
+        (if again then [] else section_of truths.holds v.at.seat h.0 (exit_for wait.on) ∷ []) x y (is_x ∙ ap number_of (sym e.0)) (is_y ∙ ap number_of e.1.word)
+        (has refl) e.1.carries refl refl (λ k. refl) (λ w s ne. (s, ne, refl, refl)) (λ w. refl) (λ same. (h.0, h.1, h.2.mode, same, refl, refl, refl, refl)) refl
     changes_word act last new x y is_x is_y has e wants = absurd e
 
 -- ---- as the functions ask it
@@ -377,7 +383,8 @@ module _ {C : Type 0} {N : ℕ} (truths : Truths C) (cells : 0 < N) (quiet : Qui
 
   pub may_store : (i content : ℕ) → MayStore truths i content me → Allows (Holds truths seat_count) slots id me i (λ _. content) (λ _ now. PerformedWith truths None (act_by None (the me.0)) content me now)
   may_store i content m = subst (λ j. Allows (Holds truths seat_count) slots id me j (λ _. content) (λ _ now. PerformedWith truths None (act_by None (the me.0)) content me now)) (sym m.there)
-      (allows truths cells quiet seat_count id None slots (word_at m.act (the me.0)) (λ _. content) (λ _. content) m.act me m.can (λ words homes views g r at. stores truths cells quiet seat_count id None (the me.0) m.can.may m.can.walk m.can.walks words homes views g r at me.1 content m.act m.stores m.can.wants))
+      (allows truths cells quiet seat_count id None slots (word_at m.act (the me.0)) (λ _. content) (λ _. content) m.act me m.can
+      (λ words homes views g r at. stores truths cells quiet seat_count id None (the me.0) m.can.may m.can.walk m.can.walks words homes views g r at me.1 content m.act m.stores m.can.wants))
 
   pub may_exchange : (last new : Word) (x y : ℕ) → MayExchange truths last new me → x ≡ number_of last → y ≡ number_of new → Allows (Holds truths seat_count) slots id me 0 (λ n. either (eqb n x) y n) (λ k now. PerformedWith truths None (act_by None (the me.0)) k me now)
   may_exchange last new x y m is_x is_y = allows truths cells quiet seat_count id None slots 0 (λ n. either (eqb n x) y n) (λ n. n) m.act me m.can

@@ -34,7 +34,8 @@ module _ (C : Type 0) (N : ℕ) where
         flags_are = λ seat low. ap (λ (ws : List ℕ). get_or ws (seat + (N + 1)) 0) is ∙ get_or-replicate (N + 65) (seat + (N + 1)) 0 0 (omega (arith, low));
       };
       home = ap (λ (xs : List (Lists C)). map some xs) home;
-      seats = λ seat. let o = one_of_each (fresh_seat {C = C} {N = N} seat_count) number_of_seat (λ k. refl) 0 seat_count seat (omega arith) in let same : one_if (nat_lt seat (0 + seat_count)) ≡ one_if (nat_lt seat seat_count) = ap (λ k. one_if (nat_lt seat k)) (omega arith) in omega (arith, o, same);
+      seats = λ seat. let o = one_of_each (fresh_seat {C = C} {N = N} seat_count) number_of_seat (λ k. refl) 0 seat_count seat (omega arith) in
+          let same : one_if (nat_lt seat (0 + seat_count)) ≡ one_if (nat_lt seat seat_count) = ap (λ k. one_if (nat_lt seat k)) (omega arith) in omega (arith, o, same);
       each = (fits_fresh truths seat_count 0 seat_count (omega arith), tt);
     },
   )

@@ -9,7 +9,8 @@ pub use Rattle.ns_gate.specs.Law.{AtHome, Fits, GateView, HasCome, Holds, Homes,
 pub use Rattle.ns_gate.specs.Meetings.{HasLearned, HaveLearned, HaveMet, ShareTheLock, sight_of}
 pub use Rattle.ns_gate.specs.Performing.{IsOnWord, IsTurned, Needs}
 pub use Rattle.ns_gate.specs.Showing.{ShowsLists}
-pub use Rattle.ns_gate.specs.Steps.{CameByGuess, CanStep, Carries, HasGuessed, HasLooked, HasMadeBoth, HasStepped, HasUnchangedQueues, HasUseFor, IsExchange, IsLoad, IsOwedNext, IsPlainExchange, IsStoreOf, MayBegin, MayExchange, MayGuess, MayLoad, MayStore, Performed, PerformedBoth, PerformedWith, StandsNowhere}
+pub use Rattle.ns_gate.specs.Steps.{CameByGuess, CanStep, Carries, HasGuessed, HasLooked, HasMadeBoth, HasStepped, HasUnchangedQueues, HasUseFor, IsExchange, IsLoad}
+pub use Rattle.ns_gate.specs.Steps.{IsOwedNext, IsPlainExchange, IsStoreOf, MayBegin, MayExchange, MayGuess, MayLoad, MayStore, Performed, PerformedBoth, PerformedWith, StandsNowhere}
 pub use Rattle.ns_gate.specs.Steps.{WantsNext, act_by, act_of, act_returning, carried_by, content_by, course_by, first_said, found_returned, lists_returned, lists_scanned, made_by, next_owed, some_returned, the, tried, tried_for, walk_by, word_at, word_returning}
 pub use Rattle.ns_gate.specs.Wakes.{lists_left, lists_woken, owed_woken, scanned_writer, sought_at, taken_from, turned_to, wake_told, without_each, woken_nobody, woken_sole}
 pub use Rattle.ns_model.specs.Environments.{IsMade}

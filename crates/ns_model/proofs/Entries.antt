@@ -31,7 +31,8 @@ waited_at_wait holds before mode c answer (Woken j m) other fits = fits
 waited_at_wait holds before mode c answer (Left variables m) other fits = fits
 
 -- a return from a variable fits one that is woken or has left
-pub after_cv_at_end : {C : Type 0} (holds : C → List ℕ → Bool) (before : List ℕ) (mode : Mode) (k : ℕ) (answer : Answer) (phase : Phase C) → ((j : ℕ) (m : Mode) → phase ≡ Woken j m → ⊥) → ((variables : Variables) (m : Mode) → phase ≡ Left variables m → ⊥) → EntryFits holds before mode (AfterCv k answer) phase → ⊥
+pub after_cv_at_end : {C : Type 0} (holds : C → List ℕ → Bool) (before : List ℕ) (mode : Mode) (k : ℕ) (answer : Answer) (phase : Phase C) → ((j : ℕ) (m : Mode) → phase ≡ Woken j m → ⊥)
+    → ((variables : Variables) (m : Mode) → phase ≡ Left variables m → ⊥) → EntryFits holds before mode (AfterCv k answer) phase → ⊥
 after_cv_at_end holds before mode k answer Idle unwoken stayed fits = fits
 after_cv_at_end holds before mode k answer (Cond d m) unwoken stayed fits = fits
 after_cv_at_end holds before mode k answer (Waiting variables m) unwoken stayed fits = fits

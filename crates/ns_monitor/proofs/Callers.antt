@@ -17,7 +17,8 @@ made_of (Err e) = false
 module _ {C : Type 0} {N : ℕ} (truths : Truths C) where
   -- a call that is over has let its caller see more
   pub grew : (first : Walk C) (old : Known C N) (was is : TableId) (me now : SeatOf C N) → known_of was me ≡ old → is ≡ old.monitor → IsAtRest truths now → HasSince (Some first) (the me.0) (the now.0) → Grows truths first old (known_of is now)
-  grew first old was is me now view same rest s = subst (λ (k : Known C N). is ≡ k.monitor → Grows truths first k (known_of is now)) view (λ same. record { monitor = same; seat_count = s.seat_count; seat = s.seat; begins = s.begins; begun = s.calls; true_to = rest.true_to; over = rest.over; owes = rest.owes; empty = rest.empty }) same
+  grew first old was is me now view same rest s = subst (λ (k : Known C N). is ≡ k.monitor → Grows truths first k (known_of is now)) view
+      (λ same. record { monitor = same; seat_count = s.seat_count; seat = s.seat; begins = s.begins; begun = s.calls; true_to = rest.true_to; over = rest.over; owes = rest.owes; empty = rest.empty }) same
 
   -- one that has committed nothing leaves its own events
   silent : (first : Walk C) (old : Known C N) (was : TableId) (me now : SeatOf C N) → known_of was me ≡ old → HasSince (Some first) (the me.0) (the now.0) → (the now.0).course.committed ≡ [] → (the now.0).told.mine ≡ old.mine

@@ -124,7 +124,9 @@ module _ {C : Type 0} {N : ℕ} (truths : Truths C) where
     bits = λ last. tells last ∙ ap (λ (lists : Lists C). bits_of lists.lock) (left last);
   } where
     left : (last : Word) → lists_returned truths number returning last row (the me.0).stood ≡ lists_returned truths (the now.0).at.seat returning last (row_in (the now.0).at.held) (the now.0).stood
-    left last = (same_hand truths returning number last row (row_in (the me.0).at.held) (the me.0).stood ready.scans).0 ∙ ((λ i. lists_returned truths (is i) returning last (row_in (the me.0).at.held) (the me.0).stood) ∙ (λ i. lists_returned truths (the (sym same i)).at.seat returning last (row_in (the (sym same i)).at.held) (the (sym same i)).stood))
+    left last = (same_hand truths returning number last row (row_in (the me.0).at.held) (the me.0).stood ready.scans).0
+        ∙ ((λ i. lists_returned truths (is i) returning last (row_in (the me.0).at.held) (the me.0).stood)
+        ∙ (λ i. lists_returned truths (the (sym same i)).at.seat returning last (row_in (the (sym same i)).at.held) (the (sym same i)).stood))
 
   -- so it is for a release, and for a wait that has queued
   pub hand_scanned : (scanning : Scanning C) (last : Word) (row : List ℕ) (turned : Turned) (me now : SeatOf C N) → IsReady truths (ready_at scanning last) row me → MayScan scanning me → now.0 ≡ me.0 → Carries (entered scanning (lists_scanned truths row (the me.0).stood)) now
@@ -183,7 +185,8 @@ module _ {C : Type 0} {N : ℕ} (truths : Truths C) where
   -- and the wakes of those whom it told are those that a scan at the row in hand owes
   pub calls_are : (walk : Walk C) (row seats : List ℕ) (vias : List (Option ℕ)) (owed : List Owed) (me now : SeatOf C N) → IsReady truths walk row me → now.0 ≡ me.0 → owed ≡ called_by seats vias
       → seats ≡ seats_of (woken_of (meets_at truths row) (the me.0).stood.lock) → vias ≡ map (λ (w : Waiter C). w.via) (woken_of (meets_at truths row) (the me.0).stood.lock) → owed ≡ called_of (woken_of (meets_at truths (row_in (the now.0).at.held)) (the now.0).stood.lock)
-  calls_are walk row seats vias owed me now ready same is told names = are_called (woken_of (meets_at truths row) (the me.0).stood.lock) seats vias owed is told names ∙ (ap called_of ready.scans.woken ∙ (λ i. called_of (woken_of (meets_at truths (row_in (the (sym same i)).at.held)) (the (sym same i)).stood.lock)))
+  calls_are walk row seats vias owed me now ready same is told names = are_called (woken_of (meets_at truths row) (the me.0).stood.lock) seats vias owed is told names
+      ∙ (ap called_of ready.scans.woken ∙ (λ i. called_of (woken_of (meets_at truths (row_in (the (sym same i)).at.held)) (the (sym same i)).stood.lock)))
 
   -- and the wake that was told is all that is owed
   pub calls_few : (walk : Walk C) (row : List ℕ) (wake : Option Owed) (turned : Turned) (owed : List Owed) (me now : SeatOf C N) → IsReady truths walk row me → now.0 ≡ me.0 → scanned_writer truths row (the me.0).stood ≡ Ok (wake, turned)

@@ -67,7 +67,8 @@ record DecidesAt {C : Type 0} (N : ℕ) (walk : Walk C) : Type 0 where
 
 decides_at : {C : Type 0} (N : ℕ) (walk : Walk C) → Decides walk → DecidesAt N walk
 decides_at N (InAcquire (ForLock mode) (AcquireLoad arrival)) d = record { wants = refl; free = refl; by_word = λ word. refl; goes = λ last may. record { wants = refl; free = refl; missed = λ word. refl; made = refl; asked = refl }; takes = λ last. record { wants = refl; free = refl; missed = λ word. refl; made = refl; has = refl; asked = refl } }
-decides_at N (InAcquire (ForWait wait outcome) (AcquireLoad arrival)) d = record { wants = refl; free = refl; by_word = λ word. refl; goes = λ last may. record { wants = refl; free = refl; missed = λ word. refl; made = refl; asked = refl }; takes = λ last. record { wants = refl; free = refl; missed = λ word. refl; made = refl; has = refl; asked = refl } }
+decides_at N (InAcquire (ForWait wait outcome)
+    (AcquireLoad arrival)) d = record { wants = refl; free = refl; by_word = λ word. refl; goes = λ last may. record { wants = refl; free = refl; missed = λ word. refl; made = refl; asked = refl }; takes = λ last. record { wants = refl; free = refl; missed = λ word. refl; made = refl; has = refl; asked = refl } }
 decides_at N (InRelease releasing ReleaseLoad) d = record { wants = refl; free = refl; by_word = λ word. refl; goes = λ last may. record { wants = refl; free = refl; missed = λ word. refl; made = refl; asked = refl }; takes = λ last. record { wants = refl; free = refl; missed = λ word. refl; made = refl; has = scanning_has N (word_taken ToChange last); asked = refl } }
 decides_at N (InWait wait (InQueuing again Load)) d = record { wants = refl; free = refl; by_word = λ word. refl; goes = λ last may. absurd (cc); takes = λ last. record { wants = refl; free = refl; missed = λ word. refl; made = refl; has = refl; asked = refl } }
 decides_at N (InWait wait (InLeaving cause LeaveLoad)) d = record { wants = refl; free = refl; by_word = λ word. refl; goes = λ last may. absurd (cc); takes = λ last. record { wants = refl; free = refl; missed = λ word. refl; made = refl; has = refl; asked = refl } }
@@ -137,7 +138,9 @@ module _ {C : Type 0} {N : ℕ} (truths : Truths C) where
 
   -- a step that saw a word leaves the section in hand
   pub saw_held : (act : Act C) (word : Word) (me now : SeatOf C N) → Performed truths None act (Saw word) me now → (the now.0).at.held ≡ (the me.0).at.held
-  saw_held act word me now p = let d = p.did in same_held None act (Saw word) me now p (ap (λ (q : Part C N). q.held) (saw_keeps truths (the me.0).at.seat act (part_of d.made.between (the me.0).at.held (the me.0).at.owed) (part_of d.new d.made.step.held d.made.step.owed) word d.commits (does truths None act (Saw word) me now p)))
+  saw_held act word me now p = let d = p.did in same_held None act (Saw word) me now p (ap (λ (q : Part C N). q.held)
+      (saw_keeps truths (the me.0).at.seat act (part_of d.made.between (the me.0).at.held (the me.0).at.owed) (part_of d.new d.made.step.held d.made.step.owed) word d.commits
+      (does truths None act (Saw word) me now p)))
 
   -- a step that commits nothing leaves the caller's own events
   pub commits_none : (b : Option (Walk C)) (act : Act C) (found : Found) (me now : SeatOf C N) (p : Performed truths b act found me now) → p.did.commits ≡ [] → (the now.0).told.mine ≡ (the me.0).told.mine
@@ -150,7 +153,9 @@ module _ {C : Type 0} {N : ℕ} (truths : Truths C) where
   -- the word last seen decides where it goes
   pub decided : (walk : Walk C) (word : Word) (may spin : Bool) (me : SeatOf C N) → Decides walk → may_go (going_of walk) word ≡ may → word.spin ≡ spin → HasReached truths (asked_of walk) (got_of N walk (Saw word)) me →
       HasReached truths (asked_of walk) (cond may (On (going_at walk word)) (cond spin (Idle walk) (On (taking_at walk word)))) me
-  decided walk word may spin me d may_is spin_is led = subst (λ (b : Bool × Bool). HasReached truths (asked_of walk) (cond b.0 (On (going_at walk word)) (cond b.1 (Idle walk) (On (taking_at walk word)))) me) (λ i. (may_is i, spin_is i)) (subst (λ next. HasReached truths (asked_of walk) next me) ((decides_at N walk d).by_word word) led)
+  decided walk word may spin me d may_is spin_is led = subst (λ (b : Bool × Bool). HasReached truths (asked_of walk)
+      (cond b.0 (On (going_at walk word)) (cond b.1 (Idle walk) (On (taking_at walk word)))) me) (λ i. (may_is i, spin_is i))
+      (subst (λ next. HasReached truths (asked_of walk) next me) ((decides_at N walk d).by_word word) led)
 
   pub can_load : (walk : Walk C) (me : SeatOf C N) → Decides walk → IsAtPlace truths walk me → CanStep truths None LoadWord me
   can_load walk me d at = can_go truths walk LoadWord me (decides_at N walk d).wants at
@@ -160,7 +165,8 @@ module _ {C : Type 0} {N : ℕ} (truths : Truths C) where
 
   -- the same as a call begins
   pub loads_first : (first walk : Walk C) (word : Word) (me now : SeatOf C N) → walk ≡ first → IsAtRest truths me → Performed truths (Some walk) LoadWord (Saw word) me now → HasReached truths (asked_of first) (got_of N first (Saw word)) now × HasSince (Some first) (the me.0) (the now.0)
-  loads_first first walk word me now is rest did = let p = subst (λ w. Performed truths (Some w) LoadWord (Saw word) me now) is did in (begins truths first LoadWord (Saw word) (got_of N first (Saw word)) me now refl (λ _. p.carried ∙ rest.empty) p, since truths (Some first) LoadWord (Saw word) me now p)
+  loads_first first walk word me now is rest did = let p = subst (λ w. Performed truths (Some w) LoadWord (Saw word) me now) is did in
+      (begins truths first LoadWord (Saw word) (got_of N first (Saw word)) me now refl (λ _. p.carried ∙ rest.empty) p, since truths (Some first) LoadWord (Saw word) me now p)
 
   -- ---- it goes
 
@@ -311,7 +317,8 @@ module _ {C : Type 0} {N : ℕ} (truths : Truths C) where
       let lists = (hand_stays returning turned start me s hand).carries last in
       let same : found ≡ found_back truths returning first start = (λ i. found_returned truths (s.seat i) returning last (row_in (s.held i)) (s.stood i)) ∙ r.same truths first (the start.0).at.seat (row_in (the start.0).at.held) (the start.0).stood in (
         subst (λ (x : Found × Request C). HasReached truths x.1 (got_of N walk x.0) now) (λ i. (same i, r.asked i))
-            (goes_on truths (returning_at walk last) act found (got_of N walk found) me now at (r.made truths (the me.0).at.seat (row_in (the me.0).at.held) (the me.0).stood) (λ _. p.carried ∙ (r.empties truths (the me.0).at.seat (row_in (the me.0).at.held) (the me.0).stood (the now.0).stood me.1 ∙ ap rest lists)) p),
+            (goes_on truths (returning_at walk last) act found (got_of N walk found) me now at (r.made truths (the me.0).at.seat (row_in (the me.0).at.held) (the me.0).stood)
+            (λ _. p.carried ∙ (r.empties truths (the me.0).at.seat (row_in (the me.0).at.held) (the me.0).stood (the now.0).stood me.1 ∙ ap rest lists)) p),
         same_owed truths returning start me (the now.0).at.owed s (owes_woken returning last me now has p),
       )
 

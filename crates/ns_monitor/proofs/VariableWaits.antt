@@ -1,6 +1,7 @@
 -- A wait for a condition variable that is over: what its caller sees.
 use Rattle.std.proofs.Common.{◌≡◌, ℕ, ◌<◌, true, false, List, ◌∷◌, ◌++◌, Option, None, Some, refl, ap, sym, ◌∙◌, subst}
-use Rattle.ns_monitor.specs.Prelude.{Answer, Answered, Await, Cause, Course, CvWait, Ended, Event, Expired, HasAnswered, HasComeBackFrom, HasMode, HasRow, HasSince, HasTakenAt, HasWaitedForVariable, Held, IfAnswered, IfEnded, InHand, InQueuing, InWait, IsForVariables, IsFreshIn, IsSettled, IsWide, Known, Limits, Load}
+use Rattle.ns_monitor.specs.Prelude.{Answer, Answered, Await, Cause, Course, CvWait, Ended, Event, Expired, HasAnswered, HasComeBackFrom, HasMode, HasRow, HasSince}
+use Rattle.ns_monitor.specs.Prelude.{HasTakenAt, HasWaitedForVariable, Held, IfAnswered, IfEnded, InHand, InQueuing, InWait, IsForVariables, IsFreshIn, IsSettled, IsWide, Known, Limits, Load}
 use Rattle.ns_monitor.specs.Prelude.{Mode, Notified, OnCondition, OnVariables, Outcome, PlaceFits, SeatOf, Subject, TableId, Truths, VariableWaitMeans, Walk, Woken, Word, answer_of_wait, is_met, known_of, leave_told, row_after, section_of, the, waits_for_variable}
 use Rattle.ns_gate.proofs.Keeps.{hand_of}
 

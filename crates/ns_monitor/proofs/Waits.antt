@@ -17,7 +17,8 @@ module _ {C : Type 0} where
   -- with the queues in hand, in either case
   armed_has : (N : ℕ) (again : Bool) (on : Subject C) (last : Word) → wait_has_queues (InQueuing again (armed_place N on last)) ≡ true
   armed_has N again (OnCondition c) last = refl
-  armed_has N again (OnVariables variables) last = cond_both _ (load_place N last 0) (QueueToWait last) (λ place. wait_has_queues (InQueuing again place) ≡ true) (λ _. cond_both _ (LoadToScan last 0) (QueueToWait last) (λ place. wait_has_queues (InQueuing again place) ≡ true) (λ _. refl) (λ _. refl)) (λ _. refl)
+  armed_has N again (OnVariables variables) last = cond_both _ (load_place N last 0) (QueueToWait last) (λ place. wait_has_queues (InQueuing again place) ≡ true)
+      (λ _. cond_both _ (LoadToScan last 0) (QueueToWait last) (λ place. wait_has_queues (InQueuing again place) ≡ true) (λ _. refl) (λ _. refl)) (λ _. refl)
 
   -- one that was taken while it left was ended by this cause, if it was ended
   pub taken_ended : (on : Subject C) (cause : Cause) (flag : ℕ) (outcome : Outcome) → outcome ≡ outcome_taken on cause flag → IfEnded outcome (λ other. other ≡ cause)
@@ -35,7 +36,9 @@ module _ {C : Type 0} {N : ℕ} (truths : Truths C) where
 
   pub loads_or_queues : (wait : Wait C) (again : Bool) (last : Word) (lacks : Bool) (me : SeatOf C N) → lacks ≡ lacks_row wait.on last → IsAtPlace truths (InWait wait (InQueuing again (armed_place N wait.on last))) me →
       IsAtPlace truths (cond lacks (InWait wait (InQueuing again (load_place N last 0))) (InWait wait (InQueuing again (QueueToWait last)))) me
-  loads_or_queues wait again last lacks me is at = subst (λ w. IsAtPlace truths w me) (ap (λ place. InWait wait (InQueuing again place)) (armed_at N wait.on last ∙ ap (λ b. cond b (load_place N last 0) (QueueToWait last)) (sym is)) ∙ moves_in (λ place. InWait wait (InQueuing again place)) lacks (load_place N last 0) (QueueToWait last)) at
+  loads_or_queues wait again last lacks me is at = subst (λ w. IsAtPlace truths w me) (ap (λ place. InWait wait (InQueuing again place))
+      (armed_at N wait.on last ∙ ap (λ b. cond b (load_place N last 0) (QueueToWait last)) (sym is))
+      ∙ moves_in (λ place. InWait wait (InQueuing again place)) lacks (load_place N last 0) (QueueToWait last)) at
 
   -- ---- it leaves its list
 

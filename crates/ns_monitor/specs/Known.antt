@@ -4,7 +4,8 @@ use Rattle.ns_monitor.specs.Names.{AreNewBy, AreOfOneHistoryBy, BeginsWith, Even
 use Rattle.ns_monitor.specs.Walks.{releasing_by}
 use Rattle.ns_model.specs.declared.event.Exit.TheVariants as TheExit
 
--- what contracts see of a seat or a section: its monitor, how many seats that has, its own number, the history that it has seen, its own events, the calls that it has begun, by their first places, the section in hand, the place in the call that is in progress, what it carries of the monitor, by number: the waiter queues, while it has them in hand, and the seats to which it owes wakes
+-- what contracts see of a seat or a section: its monitor, how many seats that has, its own number, the history that it has seen, its own events, the calls that it has begun, by their first places,
+-- the section in hand, the place in the call that is in progress, what it carries of the monitor, by number: the waiter queues, while it has them in hand, and the seats to which it owes wakes
 pub record Known (C : Type 0) (N : ℕ) : Type 0 where
   pub monitor : TableId
   pub seat_count : ℕ

@@ -3,7 +3,8 @@ use Rattle.std.specs.Prelude.{◌≡◌, ℕ, [], ◌∷◌, ◌++◌}
 use Rattle.ns_monitor.specs.Names.{AfterCv, Answer, Broadcast, Broadcasting, CvWait, Event, Held, InHand, IsBack, Seats, Signal, Signaling, Truths, Waking, entry_of, is_met, leave_told, row_after, section_of}
 use Rattle.ns_monitor.specs.Known.{Known}
 
--- The section that was in hand was committed, with the wait for the variable as its exit, and behind it, unless the answer says that the caller was woken, that it left the variable; nothing else. A section in the same mode is in hand, at the row after all that the caller has seen, with nothing changed in it, which says just this answer of the wait.
+-- The section that was in hand was committed, with the wait for the variable as its exit, and behind it, unless the answer says that the caller was woken, that it left the variable; nothing else. A
+-- section in the same mode is in hand, at the row after all that the caller has seen, with nothing changed in it, which says just this answer of the wait.
 pub record HasComeBackFrom {C : Type 0} {N : ℕ} (truths : Truths C) (k : ℕ) (answer : Answer) (was back : Held C N) (old new : Known C N) : Type 0 where
   pub mine : new.mine ≡ old.mine ++ section_of truths.holds old.seat was (CvWait k) ∷ leave_told old.seat k (is_met answer)
   pub begins : IsBack (row_after new.seen) was.mode back

@@ -1,6 +1,7 @@
 -- The first place of each call of a monitor, by which a caller's calls are told.
 use Rattle.std.specs.Prelude.{ℕ, false, Option, option_map}
-use Rattle.ns_monitor.specs.Names.{AcquireLoad, AsFresh, ForLock, GetLoad, InAcquire, InCells, InQueuing, InRelease, InShow, InSignal, InTry, InWait, Limits, Load, Mode, Note, OnCondition, OnVariables, Only, ReleaseLoad, Releasing, SetLoad, ShowLoad, SignalLoad, ToTell, TryLoad, Wait, Waking, Walk, quiet_first}
+use Rattle.ns_monitor.specs.Names.{AcquireLoad, AsFresh, ForLock, GetLoad, InAcquire, InCells, InQueuing, InRelease, InShow, InSignal, InTry, InWait, Limits, Load, Mode}
+use Rattle.ns_monitor.specs.Names.{Note, OnCondition, OnVariables, Only, ReleaseLoad, Releasing, SetLoad, ShowLoad, SignalLoad, ToTell, TryLoad, Wait, Waking, Walk, quiet_first}
 use Rattle.ns_monitor.specs.Names.{wait_first}
 
 -- a try for this mode

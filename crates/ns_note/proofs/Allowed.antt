@@ -124,7 +124,8 @@ module _ (S : Type 0) (seat_count slots id : ℕ) (me : Me S (List EnvView)) whe
 
   pub marks : (n : ℕ) → IsOne me.0 → (the me.0).making ≡ Nothing → n < 64 → IsMade (the me.0).seen n → Allows (Holds seat_count) slots id me (n + 2) (λ k. bit_or k 1) (λ found now. OneActs (NotifyNote ((n + 2) - 2)) found me now)
   marks n one idle low made = subst (λ k. Allows (Holds seat_count) slots id me (n + 2) (λ k. bit_or k 1) (λ found now. OneActs (NotifyNote k) found me now)) (sym (back n))
-      (allows (NotifyNote n) (λ k. bit_or k 1) (omega (arith, low)) one (idle, made) (λ plain word few is. subst (λ (s : NoteStanding). IsNoteWord (bit_or word 1) (state_of s)) (sym (but-here n (notified_note (plain.notes n)) plain.notes)) (ap (λ k. bit_or k 1) is.0 ∙ marked (state_of (plain.notes n)), is.1)))
+      (allows (NotifyNote n) (λ k. bit_or k 1) (omega (arith, low)) one (idle, made) (λ plain word few is. subst (λ (s : NoteStanding). IsNoteWord (bit_or word 1) (state_of s))
+      (sym (but-here n (notified_note (plain.notes n)) plain.notes)) (ap (λ k. bit_or k 1) is.0 ∙ marked (state_of (plain.notes n)), is.1)))
 
   -- a step that tells less
   tells_less : (i : ℕ) (f : ℕ → ℕ) (P Q : ℕ → Me S (List EnvView) → Type 0) → ((found : ℕ) (now : Me S (List EnvView)) → P found now → Q found now) → Allows (Holds seat_count) slots id me i f P → Allows (Holds seat_count) slots id me i f Q

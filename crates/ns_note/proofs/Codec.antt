@@ -39,4 +39,6 @@ or_one n rest h = let sum = or_add_and (n + 2 * rest) 1 in let mask : bit_and (n
 
 pub marked : (note : NoteWord) → bit_or (word_of note) 1 ≡ word_of (record { notified = true; made = note.made; parent = note.parent; deadline = note.deadline })
 marked note = let rest = flag note.made + 2 * parent_code note.parent + 256 * deadline_code note.deadline in
-    let is : word_of note ≡ flag note.notified + 2 * rest = omega arith in ap (λ (k : ℕ). bit_or k 1) is ∙ (or_one (flag note.notified) rest (flag_most note.notified) ∙ (let same : 1 + 2 * rest ≡ 1 + 2 * flag note.made + 4 * parent_code note.parent + 512 * deadline_code note.deadline = omega arith in same))
+    let is : word_of note ≡ flag note.notified + 2 * rest = omega arith in ap (λ (k : ℕ). bit_or k 1) is
+    ∙ (or_one (flag note.notified) rest (flag_most note.notified)
+    ∙ (let same : 1 + 2 * rest ≡ 1 + 2 * flag note.made + 4 * parent_code note.parent + 512 * deadline_code note.deadline = omega arith in same))

@@ -107,7 +107,8 @@ pub exchanges_word : (S : Type 0) (setup : Setup) (slots id : ℕ) (me : Me S (L
     (the me.0).place ≡ Adding counter delta → judged (counter_of old) delta ≡ Ok value → IsCounterWord old
     → new ≡ counter_word (record { value = value; waited = (counter_of old).waited }) → Allows (Holds setup) slots id me word (λ n. either (n == old) new n) (λ found now. OneActs (ExchangeToAdd word delta (counter_of old) (value_of new)) found me now)
 exchanges_word S setup slots id me word counter delta value old new is one there place fits coded becomes =
-    subst (λ (z : ℕ × ℕ). Allows (Holds setup) slots id me z.0 (λ n. either (n == old) new n) (λ found now. OneActs (ExchangeToAdd z.0 delta (counter_of old) z.1) found me now)) (λ i. (sym is i, sym (value_made value new (counter_of old).waited (accepted (counter_of old) delta value fits).1 becomes) i))
+    subst (λ (z : ℕ × ℕ). Allows (Holds setup) slots id me z.0 (λ n. either (n == old) new n) (λ found now. OneActs (ExchangeToAdd z.0 delta (counter_of old) z.1) found me now))
+    (λ i. (sym is i, sym (value_made value new (counter_of old).waited (accepted (counter_of old) delta value fits).1 becomes) i))
     (exchanges S setup slots id me counter delta (counter_of old) value old new one there place fits coded.1 coded.0 becomes)
 
 -- ---- once cells, which the table names by their words

@@ -28,7 +28,8 @@ module _ {S : Type 0} (counter : ℕ) (delta : ℤ) (me now next : Me S (List Ob
   comes : OneComes {S = S} (left_by (eqb found (counter_word (counter_of word)))).events (left_by (eqb found (counter_word (counter_of word)))).place me next
   comes = let d : change_in_hand (the now.0).place ≡ delta = ap change_in_hand goes.2.place_is in
       let here = came (ExchangeToAdd counter (change_in_hand (the now.0).place) (counter_of word) value) found (the now.0) (the next.0) acts.2 in
-      let named = subst (λ (z : ℕ × ℤ). HasCome (outcome z.0 (ExchangeToAdd counter z.1 (counter_of word) value) (the now.0).place found).events (outcome z.0 (ExchangeToAdd counter z.1 (counter_of word) value) (the now.0).place found).place (the now.0) (the next.0)) (λ i. (goes.2.seat i, d i)) here in
+      let named = subst (λ (z : ℕ × ℤ). HasCome (outcome z.0 (ExchangeToAdd counter z.1 (counter_of word) value) (the now.0).place found).events
+      (outcome z.0 (ExchangeToAdd counter z.1 (counter_of word) value) (the now.0).place found).place (the now.0) (the next.0)) (λ i. (goes.2.seat i, d i)) here in
       (acts.0, acts.1 ∙ goes.1, came_through [] _ (Adding counter delta) _ (the me.0) (the now.0) (the next.0) goes.2 named)
 
   -- where the word is not the one seen the change is judged anew, by the word found

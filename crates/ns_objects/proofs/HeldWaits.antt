@@ -1,7 +1,8 @@
 -- Waits for condition variables among notes and counters: which variables those are, and what the parts of such a wait tell together.
 use Rattle.std.proofs.Common.{map, Bool, false, cond, ◌||◌, zero, suc, slice_get, ap, refl, eq-eqb, ◌≡◌, ℕ, ◌+◌, ◌-◌, ◌%◌, ◌^◌, ◌<◌, ◌≤◌, max, true, List, [], ◌∷◌, ◌++◌, append_assoc, Option, None, Some, sym, ◌∙◌, subst, arith}
 use Rattle.std.proofs.lemmas.Bool.{eqb-true, false≢true}
-use Rattle.ns_objects.specs.Prelude.{PlainItem, is_this, item_of, AnyItem, AnyWait, AreAmong, AreSome, BothKnown, Counter, Cv, Cvs, Every, HasBegunToWait, HasComeBackFromAny, HasWaitedForAny, Held, InHand, IsByOneOf, IsLow, IsNamed, Known, KnowsTruly, Mode, Note, Past, PlaceBy, Setup, Truths, WaitKnown, WaitsOn, is_among}
+use Rattle.ns_objects.specs.Prelude.{PlainItem, is_this, item_of, AnyItem, AnyWait, AreAmong, AreSome, BothKnown, Counter, Cv, Cvs, Every, HasBegunToWait, HasComeBackFromAny, HasWaitedForAny}
+use Rattle.ns_objects.specs.Prelude.{Held, InHand, IsByOneOf, IsLow, IsNamed, Known, KnowsTruly, Mode, Note, Past, PlaceBy, Setup, Truths, WaitKnown, WaitsOn, is_among}
 use Rattle.ns_objects.specs.Prelude.{leave_any_told, place_in, room, room_enough, section_of}
 use prog.Memory.{align, size, up}
 use mir.Syntax.{Ty}

@@ -91,7 +91,8 @@ module _ {C : Type 0} where
       let new = shape lock (set cvs k v) in
       let more : (seat : ℕ) → times_in seat v.items ≡ times_in seat (get_or cvs k d).items + one_if (eqb w.seat seat) = λ seat. ap (times_in seat) is ∙ times_in_push (get_or cvs k d).items w seat in
       let here : (seat : ℕ) → beside new seat k ≤ 1 = λ seat. let most = put_beside lock cvs k d v (one_if (eqb w.seat seat)) seat orderly within (omega (arith, more seat)) k within in elim (cases_eq w.seat seat) [
-        | inl e ↦ (let P : ℕ → Type 0 = λ s. beside new s k ≤ 1 in subst P e (let own = put_beside lock cvs k d v (one_if (eqb w.seat w.seat)) w.seat orderly within (omega (arith, more w.seat)) k within in let one : one_if (eqb w.seat w.seat) ≡ 1 = rw (eq-eqb w.seat w.seat refl) refl in omega (arith, own, one, free)))
+        | inl e ↦ (let P : ℕ → Type 0 = λ s. beside new s k ≤ 1 in subst P e (let own = put_beside lock cvs k d v (one_if (eqb w.seat w.seat)) w.seat orderly within
+            (omega (arith, more w.seat)) k within in let one : one_if (eqb w.seat w.seat) ≡ 1 = rw (eq-eqb w.seat w.seat refl) refl in omega (arith, own, one, free)))
         | inr ne ↦ (let no : one_if (eqb w.seat seat) ≡ 0 = rw (ne_eqb w.seat seat ne) refl in omega (arith, most, no, orderly.once seat k within))
       ] in
       record {

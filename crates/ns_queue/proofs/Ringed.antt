@@ -267,8 +267,12 @@ module _ {C : Type 0} where
       let parts = times_in-append p.w.seat p.xs p.ys in
       let left : without_in s ws ≡ p.xs ++ p.ys = ap (without_in s) p.is ∙ (let P : ℕ → Type 0 = λ t. without_in t (p.xs ++ p.w ∷ p.ys) ≡ p.xs ++ p.ys in
       subst P p.here (without_among p.xs p.ys p.w (omega (arith, here, one, parts, whole.ring.once p.w.seat)) (omega (arith, here, one, parts, whole.ring.once p.w.seat)))) in
-      let nexts : nx' ≡ set nx (last_seat 64 p.xs) (first_seat 64 p.ys) = n ∙ ap (λ t. set nx t (get_or nx s 0)) (at_seat pv p.w.seat s _ p.here (prev_at nx pv ws p.xs p.ys p.w p.is h.ring.hops)) ∙ ap (λ t. set nx (last_seat 64 p.xs) t) (at_seat nx p.w.seat s _ p.here (next_at nx pv ws p.xs p.ys p.w p.is h.ring.hops)) in
-      let prevs : pv' ≡ set pv (first_seat 64 p.ys) (last_seat 64 p.xs) = q ∙ ap (λ t. set pv t (get_or pv s 0)) (at_seat nx p.w.seat s _ p.here (next_at nx pv ws p.xs p.ys p.w p.is h.ring.hops)) ∙ ap (λ t. set pv (first_seat 64 p.ys) t) (at_seat pv p.w.seat s _ p.here (prev_at nx pv ws p.xs p.ys p.w p.is h.ring.hops)) in
+      let nexts : nx' ≡ set nx (last_seat 64 p.xs) (first_seat 64 p.ys) = n ∙ ap (λ t. set nx t (get_or nx s 0))
+      (at_seat pv p.w.seat s _ p.here (prev_at nx pv ws p.xs p.ys p.w p.is h.ring.hops)) ∙ ap (λ t. set nx (last_seat 64 p.xs) t)
+      (at_seat nx p.w.seat s _ p.here (next_at nx pv ws p.xs p.ys p.w p.is h.ring.hops)) in
+      let prevs : pv' ≡ set pv (first_seat 64 p.ys) (last_seat 64 p.xs) = q ∙ ap (λ t. set pv t (get_or pv s 0))
+      (at_seat nx p.w.seat s _ p.here (next_at nx pv ws p.xs p.ys p.w p.is h.ring.hops)) ∙ ap (λ t. set pv (first_seat 64 p.ys) t)
+      (at_seat pv p.w.seat s _ p.here (prev_at nx pv ws p.xs p.ys p.w p.is h.ring.hops)) in
       let gone : held' ≡ set held p.w.seat None = e ∙ ap (λ t. set held t None) (sym p.here) in
       let counts : c' ≡ counts_less c p.w = k ∙ ap (counts_less c) (sym same) in
       rw (left, nexts, prevs, gone, counts) (less_holds held nx pv c p.xs p.ys p.w whole)

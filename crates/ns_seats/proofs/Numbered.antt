@@ -38,7 +38,8 @@ module _ {V : Type 0} (new : ℕ → V) where
     one_of_each from zero seat low = sym (ap one_if (le-ltb seat (from + zero) (omega (arith, low))))
     one_of_each from (suc n) seat low = let here = of_one seat from in elim (cases_eq from seat) [
       | inl e ↦ (let r = none_before (suc from) n seat (omega (arith, e)) in let o : one_if (eqb from seat) ≡ 1 = ap one_if (eq-eqb from seat e) in let is : one_if (nat_lt seat (from + suc n)) ≡ 1 = ap one_if (lt-ltb seat (from + suc n) (omega (arith, e))) in omega (arith, r, o, is, here))
-      | inr ne ↦ (let r = one_of_each (suc from) n seat (above from seat low ne) in let z : one_if (eqb from seat) ≡ 0 = ap one_if (ne_eqb from seat ne) in let same : one_if (nat_lt seat (suc from + n)) ≡ one_if (nat_lt seat (from + suc n)) = ap (λ k. one_if (nat_lt seat k)) (omega arith) in omega (arith, r, z, same, here))
+      | inr ne ↦ (let r = one_of_each (suc from) n seat (above from seat low ne) in let z : one_if (eqb from seat) ≡ 0 = ap one_if (ne_eqb from seat ne) in
+          let same : one_if (nat_lt seat (suc from + n)) ≡ one_if (nat_lt seat (from + suc n)) = ap (λ k. one_if (nat_lt seat k)) (omega arith) in omega (arith, r, z, same, here))
     ]
 
     pub none_twice : (n seat : ℕ) → total (is_numbered number_of seat) (numbered new 0 n) ≤ 1

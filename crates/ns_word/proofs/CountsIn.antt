@@ -122,7 +122,8 @@ module _ {C : Type 0} where
   -- those who are taken from one list count no more, and the others as before
   pub counts_taken : (took : List (Waiter C)) (k : ℕ) (lists : Lists C) (seat : ℕ) → length lists.cvs ≡ 4 → k < 4 → OnceInEach lists → times_in seat took ≤ times_in seat (waiters_of lists (Cv k)) → counts_in seat (cvs_without (taken_set took) lists) + times_in seat took ≡ counts_in seat lists
   counts_taken took k lists seat four low once part = elim (cases_eq (times_in seat took) 0) [
-    | inl none ↦ let same : ◌≡◌ {A = ℕ} (one_if (ltb 0 (sum_by (times_in seat) (map (outside (taken_set took)) lists.cvs)))) (one_if (ltb 0 (sum_by (times_in seat) lists.cvs))) = ap (λ n. one_if (ltb 0 n)) (sums_same (taken_set took) lists.cvs seat (not_in_list took seat none)) in omega (arith, none, same)
+    | inl none ↦ let same : ◌≡◌ {A = ℕ} (one_if (ltb 0 (sum_by (times_in seat) (map (outside (taken_set took)) lists.cvs)))) (one_if (ltb 0 (sum_by (times_in seat) lists.cvs))) = ap
+        (λ n. one_if (ltb 0 n)) (sums_same (taken_set took) lists.cvs seat (not_in_list took seat none)) in omega (arith, none, same)
     | inr some ↦
         let gone = none_one (sum_by (times_in seat) (map (outside (taken_set took)) lists.cvs)) (gone_each (taken_set took) lists.cvs seat (in_list took seat (omega (arith, some)))) in
         let there = counts_there seat k lists four low (omega (arith, some, part)) in

@@ -352,9 +352,11 @@ module _ (C : Type 0) (N : ℕ) (truths : Truths C) (seat : ℕ) (row : List ℕ
     acquires_on : (aim : Aim C) (place : AcquirePlace) (found : Found) → Effect truths seat (want_acquiring aim place) part found next commits → AimFits aim → AcquireSoFar truths seat aim course part.held →
         Comes (asked_of (InAcquire aim place)) (course_after found commits course) (got_acquiring N aim place found) next.held
     acquires_on aim (AcquireLoad arrival) (Saw word) e given so_far = finds (asked_of (InAcquire aim (AcquireLoad arrival))) (Saw word) (acquire_by aim arrival word) refl (held_in part e.1) e.2 (acquire_comes (asked_of (InAcquire aim (AcquireLoad arrival))) course part.held aim arrival word so_far)
-    acquires_on aim (AcquireExchange arrival last) (Saw word) e given so_far = finds (asked_of (InAcquire aim (AcquireExchange arrival last))) (Saw word) (acquire_by aim arrival word) refl (held_in part e.2) e.3 (acquire_comes (asked_of (InAcquire aim (AcquireExchange arrival last))) course part.held aim arrival word so_far)
+    acquires_on aim (AcquireExchange arrival last) (Saw word) e given so_far = finds (asked_of (InAcquire aim (AcquireExchange arrival last))) (Saw word)
+        (acquire_by aim arrival word) refl (held_in part e.2) e.3 (acquire_comes (asked_of (InAcquire aim (AcquireExchange arrival last))) course part.held aim arrival word so_far)
     acquires_on aim (AcquireExchange arrival last) Made e given so_far = acquired_on aim arrival last e given so_far
-    acquires_on aim (TakeToQueue arrival last) (Saw word) e given so_far = finds (asked_of (InAcquire aim (TakeToQueue arrival last))) (Saw word) (acquire_by aim arrival word) refl (held_in part e.2) e.3 (acquire_comes (asked_of (InAcquire aim (TakeToQueue arrival last))) course part.held aim arrival word so_far)
+    acquires_on aim (TakeToQueue arrival last) (Saw word) e given so_far = finds (asked_of (InAcquire aim (TakeToQueue arrival last))) (Saw word) (acquire_by aim arrival word) refl
+        (held_in part e.2) e.3 (acquire_comes (asked_of (InAcquire aim (TakeToQueue arrival last))) course part.held aim arrival word so_far)
     acquires_on aim (TakeToQueue arrival last) Made e given so_far = finds (asked_of (InAcquire aim (TakeToQueue arrival last))) Made (On (InAcquire aim (Arm arrival (word_taken (ToQueue (mode_for aim) arrival) last)))) refl (ap (λ p. p.held) e.2) e.3 so_far
     acquires_on aim (Arm arrival last) Made e given so_far = finds (asked_of (InAcquire aim (Arm arrival last))) Made (On (InAcquire aim (Queue arrival last))) refl (ap (λ p. p.held) e.0) e.1 so_far
     acquires_on aim (Queue arrival last) (Saw word) e given so_far = finds (asked_of (InAcquire aim (Queue arrival last))) (Saw word) (On (InAcquire aim (Queue arrival word))) refl (held_in part e.2) e.3 so_far
@@ -509,7 +511,8 @@ module _ (C : Type 0) (N : ℕ) (truths : Truths C) (seat : ℕ) (row : List ℕ
             began = left.began;
             mode = left.mode;
             unmet = left.unmet;
-            committed = ap (λ events. course.committed ++ events) (told ∙ left_of variables) ∙ ap (λ events. events ++ left_by {C = C} {N = N} seat (OnVariables variables) (Some cause)) (left.committed ∙ ap (λ events. section_of truths.holds seat left.was (exit_for {C = C} (OnVariables variables)) ∷ events) (sym (untold variables)));
+            committed = ap (λ events. course.committed ++ events) (told ∙ left_of variables) ∙ ap (λ events. events ++ left_by {C = C} {N = N} seat (OnVariables variables) (Some cause))
+                (left.committed ∙ ap (λ events. section_of truths.holds seat left.was (exit_for {C = C} (OnVariables variables)) ∷ events) (sym (untold variables)));
           };
           shown = so_far.1;
         }

@@ -372,21 +372,28 @@ module _ {C : Type 0} {N : ℕ} (truths : Truths C) (seats : ℕ) (h : List (Eve
   woken_up waking k last owes part next commits few e p =
       let took = taken_by waking (waiters_of part.lists (Cv k)) in
       let change = WakeWaiters waking k in
-      let same = subst (λ word. (change_found who change word part.lists ≡ Woke owes) × (next ≡ record part { word = word_returned (moves change word part.lists) (bits_of (changed who change word part.lists).lock) word; lists = changed who change word part.lists; owed = owed_after change word part.lists part.owed })) e.1 (e.0, e.2) in
-      moved (walk_after (pay_woken waking k owes)) (record part { word = word_returned (moves change part.word part.lists) (bits_of (changed who change part.word part.lists).lock) part.word; lists = changed who change part.word part.lists; owed = owed_after change part.word part.lists part.owed }) next
+      let same = subst (λ word. (change_found who change word part.lists ≡ Woke owes)
+      × (next ≡ record part { word = word_returned (moves change word part.lists) (bits_of (changed who change word part.lists).lock) word; lists = changed who change word part.lists; owed = owed_after change word part.lists part.owed })) e.1
+      (e.0, e.2) in
+      moved (walk_after (pay_woken waking k owes))
+      (record part { word = word_returned (moves change part.word part.lists) (bits_of (changed who change part.word part.lists).lock) part.word; lists = changed who change part.word part.lists; owed = owed_after change part.word part.lists part.owed }) next
       (wake_of who waking k took ∷ []) commits same.1 e.3
       (woken_at waking k last owes part (is_held part.word) (has_some took) few refl refl (ap owes_in same.0) p)
 
   by_wait : (wait : Wait C) (at_place : WaitPlace) (found : Found) (part next : Part C N) (commits : List (Event C N)) → seats ≤ 64 → 0 < N →
       Effect truths who (want_waiting wait at_place) part found next commits → Groups truths seats h (at part (Some (InWait wait at_place))) → Kept commits next (walk_after (got_waiting N wait at_place found))
   -- it tests its condition
-  by_wait wait (TestCells visit i) (Cell v) part next commits few some e p = finds (InWait wait (TestCells visit i)) _ part next commits e.1 e.2 refl (test_leads truths wait visit part.held (i + 1) some (place (InWait wait (TestCells visit i)) part p).0.0 (place (InWait wait (TestCells visit i)) part p).1 (place (InWait wait (TestCells visit i)) part p).0.2) p
+  by_wait wait (TestCells visit i) (Cell v) part next commits few some e p = finds (InWait wait (TestCells visit i)) _ part next commits e.1 e.2 refl
+      (test_leads truths wait visit part.held (i + 1) some (place (InWait wait (TestCells visit i)) part p).0.0 (place (InWait wait (TestCells visit i)) part p).1
+      (place (InWait wait (TestCells visit i)) part p).0.2) p
   by_wait wait (TestLast visit i) found part next commits few some e p = tested wait.mode wait.on wait.limits visit i found part next commits e p
   -- it looks
   by_wait wait (InQueuing again LookIn) (Looked None) part next commits few some e p = finds (InWait wait (InQueuing again LookIn)) _ part next commits e.1 e.2 refl ((((place (InWait wait (InQueuing again LookIn)) part p).0.0, tt), tt), (refl, refl, refl, refl), refl, λ flag n f. f, λ none. refl) p
   by_wait wait (InQueuing again LookIn) (Looked (Some cause)) part next commits few some e p =
       moved None (record part { held = held_after again (Some cause) part.held }) next [] commits e.1 e.2
-      (none_more _ (rests truths seats h front who (Some (InWait wait (InQueuing again LookIn))) None back part.word part.row part.lists part.flags part.held (held_after again (Some cause) part.held) part.owed refl (shown_settled truths wait again cause part.held (place (InWait wait (InQueuing again LookIn)) part p).0.0) (refl, refl, refl, refl) refl (λ flag n f. f)
+      (none_more _ (rests truths seats h front who (Some (InWait wait (InQueuing again LookIn))) None back part.word part.row part.lists part.flags part.held
+      (held_after again (Some cause) part.held) part.owed refl (shown_settled truths wait again cause part.held (place (InWait wait (InQueuing again LookIn)) part p).0.0)
+      (refl, refl, refl, refl) refl (λ flag n f. f)
       (shown_section truths wait again cause part.held (place (InWait wait (InQueuing again LookIn)) part p).0.0) p))
   by_wait wait LookOut (Looked None) part next commits few some e p = finds (InWait wait LookOut) _ part next commits e.1 e.2 refl (place (InWait wait LookOut) part p, (refl, refl, refl, refl), refl, λ flag n f. f, λ none. refl) p
   by_wait wait LookOut (Looked (Some cause)) part next commits few some e p =
@@ -395,13 +402,22 @@ module _ {C : Type 0} {N : ℕ} (truths : Truths C) (seats : ℕ) (h : List (Eve
   -- it sees the word
   by_wait wait (InQueuing again Load) (Saw word) part next commits few some e p = finds (InWait wait (InQueuing again Load)) _ part next commits e.1 e.2 refl (queue_leads truths wait again word part.held (place (InWait wait (InQueuing again Load)) part p).0.0) p
   by_wait wait (InQueuing again (Take last)) (Saw word) part next commits few some e p = finds (InWait wait (InQueuing again (Take last))) _ part next commits e.2 e.3 refl (queue_leads truths wait again word part.held (place (InWait wait (InQueuing again (Take last))) part p).0.0) p
-  by_wait wait (InQueuing again (QueueToWait last)) (Saw word) part next commits few some e p = finds (InWait wait (InQueuing again (QueueToWait last))) _ part next commits e.2 e.3 refl (place (InWait wait (InQueuing again (QueueToWait last))) part p, (refl, refl, refl, refl), refl, λ flag n f. f, λ none. refl) p
-  by_wait wait (InLeaving cause LeaveLoad) (Saw word) part next commits few some e p = finds (InWait wait (InLeaving cause LeaveLoad)) _ part next commits e.1 e.2 refl (leave_leads truths wait cause word part.held (place (InWait wait (InLeaving cause LeaveLoad)) part p).0.0 (place (InWait wait (InLeaving cause LeaveLoad)) part p).0.2 (place (InWait wait (InLeaving cause LeaveLoad)) part p).1) p
-  by_wait wait (InLeaving cause (TakeToLeave last)) (Saw word) part next commits few some e p = finds (InWait wait (InLeaving cause (TakeToLeave last))) _ part next commits e.2 e.3 refl (leave_leads truths wait cause word part.held (place (InWait wait (InLeaving cause (TakeToLeave last))) part p).0.0 (place (InWait wait (InLeaving cause (TakeToLeave last))) part p).0.2 (place (InWait wait (InLeaving cause (TakeToLeave last))) part p).1) p
+  by_wait wait (InQueuing again (QueueToWait last)) (Saw word) part next commits few some e p = finds (InWait wait (InQueuing again (QueueToWait last))) _ part next commits e.2 e.3 refl
+      (place (InWait wait (InQueuing again (QueueToWait last))) part p, (refl, refl, refl, refl), refl, λ flag n f. f, λ none. refl) p
+  by_wait wait (InLeaving cause LeaveLoad) (Saw word) part next commits few some e p = finds (InWait wait (InLeaving cause LeaveLoad)) _ part next commits e.1 e.2 refl
+      (leave_leads truths wait cause word part.held (place (InWait wait (InLeaving cause LeaveLoad)) part p).0.0 (place (InWait wait (InLeaving cause LeaveLoad)) part p).0.2
+      (place (InWait wait (InLeaving cause LeaveLoad)) part p).1) p
+  by_wait wait (InLeaving cause (TakeToLeave last)) (Saw word) part next commits few some e p = finds (InWait wait (InLeaving cause (TakeToLeave last))) _ part next commits e.2 e.3 refl
+      (leave_leads truths wait cause word part.held (place (InWait wait (InLeaving cause (TakeToLeave last))) part p).0.0
+      (place (InWait wait (InLeaving cause (TakeToLeave last))) part p).0.2 (place (InWait wait (InLeaving cause (TakeToLeave last))) part p).1) p
   by_wait wait (InLeaving cause (Leave last)) (Saw word) part next commits few some e p = finds (InWait wait (InLeaving cause (Leave last))) _ part next commits e.2 e.3 refl (place (InWait wait (InLeaving cause (Leave last))) part p, (refl, refl, refl, refl), refl, λ flag n f. f, λ none. refl) p
   -- it takes the queues, and sets its flag
-  by_wait wait (InQueuing again (Take last)) Made part next commits few some e p = wait_took wait (InQueuing again (Take last)) (InQueuing again (ArmToWait (word_taken ToChange last))) last part next commits e.0 e.1 e.2 e.3 refl (((place (InWait wait (InQueuing again (Take last))) part p).0.0, tt), tt) refl refl refl refl refl p
-  by_wait wait (InLeaving cause (TakeToLeave last)) Made part next commits few some e p = wait_took wait (InLeaving cause (TakeToLeave last)) (InLeaving cause (Leave (word_taken ToChange last))) last part next commits e.0 e.1 e.2 e.3 refl (((place (InWait wait (InLeaving cause (TakeToLeave last))) part p).0.0, tt, (place (InWait wait (InLeaving cause (TakeToLeave last))) part p).0.2), (place (InWait wait (InLeaving cause (TakeToLeave last))) part p).1) refl refl refl refl refl p
+  by_wait wait (InQueuing again (Take last)) Made part next commits few some e p = wait_took wait (InQueuing again (Take last))
+      (InQueuing again (ArmToWait (word_taken ToChange last))) last part next commits e.0 e.1 e.2 e.3 refl
+      (((place (InWait wait (InQueuing again (Take last))) part p).0.0, tt), tt) refl refl refl refl refl p
+  by_wait wait (InLeaving cause (TakeToLeave last)) Made part next commits few some e p = wait_took wait (InLeaving cause (TakeToLeave last))
+      (InLeaving cause (Leave (word_taken ToChange last))) last part next commits e.0 e.1 e.2 e.3 refl
+      (((place (InWait wait (InLeaving cause (TakeToLeave last))) part p).0.0, tt, (place (InWait wait (InLeaving cause (TakeToLeave last))) part p).0.2), (place (InWait wait (InLeaving cause (TakeToLeave last))) part p).1) refl refl refl refl refl p
   by_wait wait (InQueuing again (ArmToWait last)) Made part next commits few some e p =
       let walk = InWait wait (InQueuing again (ArmToWait last)) in
       let to = armed_leads truths wait wait.on again last part.held (place walk part p).0.0 in
@@ -422,7 +438,8 @@ module _ {C : Type 0} {N : ℕ} (truths : Truths C) (seats : ℕ) (h : List (Eve
   -- it looks at its flag
   by_wait wait AwaitWakeInWait (Flag v) part next commits few some e p =
       let here = (place (InWait wait AwaitWakeInWait) part p).0 in
-      checks (InWait wait AwaitWakeInWait) (ForWait wait (woken_by wait.on v)) 0 (rest_or_look wait) v (eqb v 1) part next commits refl e.0 e.1 e.2 here.0 refl refl refl refl (λ ph told. let is = woken_so wait.on wait.mode v ph told in (is.0, (is.1, tt))) (rest_leads truths wait part.held here.0 here.1) p
+      checks (InWait wait AwaitWakeInWait) (ForWait wait (woken_by wait.on v)) 0 (rest_or_look wait) v (eqb v 1) part next commits refl e.0 e.1 e.2 here.0 refl refl refl refl
+      (λ ph told. let is = woken_so wait.on wait.mode v ph told in (is.0, (is.1, tt))) (rest_leads truths wait part.held here.0 here.1) p
   by_wait wait (InLeaving cause AwaitWakeToLeave) (Flag v) part next commits few some e p =
       let here = place (InWait wait (InLeaving cause AwaitWakeToLeave)) part p in
       checks (InWait wait (InLeaving cause AwaitWakeToLeave)) (ForWait wait (outcome_taken wait.on cause v)) 0 (Idle (InWait wait (InLeaving cause AwaitWakeToLeave))) v (eqb v 1) part next commits refl e.0 e.1 e.2 here.0.0 refl refl refl refl
@@ -432,7 +449,9 @@ module _ {C : Type 0} {N : ℕ} (truths : Truths C) (seats : ℕ) (h : List (Eve
       let here = place (InWait wait (InLeaving cause (Leave last))) part p in
       let whole = at part (Some (InWait wait (InLeaving cause (Leave last)))) in
       let stands = ap stood_in e.0 in
-      withdrawn wait.mode wait.on wait.limits cause last stood part next commits stands e.1 (e.2 ∙ ap (λ b. record part { word = word_returned false (bits_of (cond b (without who part.lists) part.lists).lock) last; lists = cond b (without who part.lists) part.lists }) stands) e.3 here.0.0 here.1 here.0.2 few (counts_once truths seats h whole p.placed p.safe.one_history.each who) p
+      withdrawn wait.mode wait.on wait.limits cause last stood part next commits stands e.1 (e.2 ∙ ap
+      (λ b. record part { word = word_returned false (bits_of (cond b (without who part.lists) part.lists).lock) last; lists = cond b (without who part.lists) part.lists }) stands) e.3 here.0.0 here.1 here.0.2 few
+      (counts_once truths seats h whole p.placed p.safe.one_history.each who) p
   by_wait wait (InLeaving cause (Leave last)) Made part next commits few some e p = let never : Left (stands_at who (home_of wait.on) part.lists) ≡ Made = e.0 in absurd (cc)
   by_wait wait (InLeaving cause (Leave last)) (Woke owes) part next commits few some e p = let never : Left (stands_at who (home_of wait.on) part.lists) ≡ Woke owes = e.0 in absurd (cc)
   by_wait wait _ _ part next commits few some e p = absurd e
@@ -501,15 +520,21 @@ module _ {C : Type 0} {N : ℕ} (truths : Truths C) (seats : ℕ) (h : List (Eve
       Effect truths who (want_of walk) part found next commits → Groups truths seats h (at part (Some walk)) → Kept commits next (walk_after (got_of N walk found))
   -- found and no more
   by_walk (InTry mode TryLoad) (Saw word) part next commits few some quiet e p = finds (InTry mode TryLoad) _ part next commits e.1 e.2 refl (try_leads truths mode word part.held (may_acquire mode AsFresh word) refl (place (InTry mode TryLoad) part p).0) p
-  by_walk (InTry mode (TryAcquire last)) (Saw word) part next commits few some quiet e p = finds (InTry mode (TryAcquire last)) _ part next commits e.2 e.3 refl (none_settled truths part.held (place (InTry mode (TryAcquire last)) part p).0, (refl, refl, refl, refl), refl, λ flag n f. f, λ none. refl) p
-  by_walk (InAcquire aim (AcquireLoad arrival)) (Saw word) part next commits few some quiet e p = finds (InAcquire aim (AcquireLoad arrival)) _ part next commits e.1 e.2 refl (acquire_leads truths aim arrival word part.held (place (InAcquire aim (AcquireLoad arrival)) part p).0 (place (InAcquire aim (AcquireLoad arrival)) part p).2) p
-  by_walk (InAcquire aim (AcquireExchange arrival last)) (Saw word) part next commits few some quiet e p = finds (InAcquire aim (AcquireExchange arrival last)) _ part next commits e.2 e.3 refl (acquire_leads truths aim arrival word part.held (place (InAcquire aim (AcquireExchange arrival last)) part p).0 (place (InAcquire aim (AcquireExchange arrival last)) part p).2) p
-  by_walk (InAcquire aim (TakeToQueue arrival last)) (Saw word) part next commits few some quiet e p = finds (InAcquire aim (TakeToQueue arrival last)) _ part next commits e.2 e.3 refl (acquire_leads truths aim arrival word part.held (place (InAcquire aim (TakeToQueue arrival last)) part p).0 (place (InAcquire aim (TakeToQueue arrival last)) part p).2) p
+  by_walk (InTry mode (TryAcquire last)) (Saw word) part next commits few some quiet e p = finds (InTry mode (TryAcquire last)) _ part next commits e.2 e.3 refl
+      (none_settled truths part.held (place (InTry mode (TryAcquire last)) part p).0, (refl, refl, refl, refl), refl, λ flag n f. f, λ none. refl) p
+  by_walk (InAcquire aim (AcquireLoad arrival)) (Saw word) part next commits few some quiet e p = finds (InAcquire aim (AcquireLoad arrival)) _ part next commits e.1 e.2 refl
+      (acquire_leads truths aim arrival word part.held (place (InAcquire aim (AcquireLoad arrival)) part p).0 (place (InAcquire aim (AcquireLoad arrival)) part p).2) p
+  by_walk (InAcquire aim (AcquireExchange arrival last)) (Saw word) part next commits few some quiet e p = finds
+      (InAcquire aim (AcquireExchange arrival last)) _ part next commits e.2 e.3 refl (acquire_leads truths aim arrival word part.held
+      (place (InAcquire aim (AcquireExchange arrival last)) part p).0 (place (InAcquire aim (AcquireExchange arrival last)) part p).2) p
+  by_walk (InAcquire aim (TakeToQueue arrival last)) (Saw word) part next commits few some quiet e p = finds (InAcquire aim (TakeToQueue arrival last)) _ part next commits e.2 e.3 refl
+      (acquire_leads truths aim arrival word part.held (place (InAcquire aim (TakeToQueue arrival last)) part p).0 (place (InAcquire aim (TakeToQueue arrival last)) part p).2) p
   by_walk (InAcquire aim (Queue arrival last)) (Saw word) part next commits few some quiet e p = finds (InAcquire aim (Queue arrival last)) _ part next commits e.2 e.3 refl (place (InAcquire aim (Queue arrival last)) part p, (refl, refl, refl, refl), refl, λ flag n f. f, λ none. refl) p
   by_walk (InRelease releasing ReleaseLoad) (Saw word) part next commits few some quiet e p = finds (InRelease releasing ReleaseLoad) _ part next commits e.1 e.2 refl (release_leads truths releasing word part.held (place (InRelease releasing ReleaseLoad) part p)) p
   by_walk (InRelease releasing (ReleaseExchange last)) (Saw word) part next commits few some quiet e p = finds (InRelease releasing (ReleaseExchange last)) _ part next commits e.2 e.3 refl (release_leads truths releasing word part.held (place (InRelease releasing (ReleaseExchange last)) part p).0) p
   by_walk (InRelease releasing (TakeToScan last)) (Saw word) part next commits few some quiet e p = finds (InRelease releasing (TakeToScan last)) _ part next commits e.2 e.3 refl (release_leads truths releasing word part.held (place (InRelease releasing (TakeToScan last)) part p).0) p
-  by_walk (InRelease releasing (ScanAndRelease last)) (Saw word) part next commits few some quiet e p = finds (InRelease releasing (ScanAndRelease last)) _ part next commits e.2 e.3 refl (place (InRelease releasing (ScanAndRelease last)) part p, (refl, refl, refl, refl), refl, λ flag n f. f, λ none. refl) p
+  by_walk (InRelease releasing (ScanAndRelease last)) (Saw word) part next commits few some quiet e p = finds (InRelease releasing (ScanAndRelease last)) _ part next commits e.2 e.3 refl
+      (place (InRelease releasing (ScanAndRelease last)) part p, (refl, refl, refl, refl), refl, λ flag n f. f, λ none. refl) p
   by_walk (InCells (GetLoad i)) (Cell v) part next commits few some quiet e p = finds (InCells (GetLoad i)) _ part next commits e.1 e.2 refl ((place (InCells (GetLoad i)) part p).1, (refl, refl, refl, refl), refl, λ flag n f. f, λ none. refl) p
   by_walk (InCells (SetLoad i v)) (Cell w) part next commits few some quiet e p = finds (InCells (SetLoad i v)) _ part next commits e.1 e.2 refl (place (InCells (SetLoad i v)) part p, (refl, refl, refl, refl), refl, λ flag n f. f, λ none. refl) p
   by_walk (InRelease releasing (ScanCells last i)) (Cell v) part next commits few some quiet e p = finds (InRelease releasing (ScanCells last i)) _ part next commits e.1 e.2 refl (scan_leads truths releasing last part.held (i + 1) (place (InRelease releasing (ScanCells last i)) part p).0) p
@@ -532,7 +557,8 @@ module _ {C : Type 0} {N : ℕ} (truths : Truths C) (seats : ℕ) (h : List (Eve
       let as_writer = subst (λ m. Groups truths seats h (at (record part { held = Some (section m held.entry held.before held.row) }) (Some (InCells (SetStore i v))))) e.2 (with_held (InCells (SetStore i v)) part (Some held) e.1 p) in
       moved None (record part { row = slice_set part.row i v; held = Some (section Write held.entry held.before (slice_set held.row i v)) }) next [] commits
       (e.3 ∙ ap (λ m. record part { row = slice_set part.row i v; held = Some (section m held.entry held.before (slice_set held.row i v)) }) e.2) e.4
-      (none_more _ (stores truths seats h front who (Some (InCells (SetStore i v))) None back part.word part.row part.lists part.flags held.entry held.before held.row part.owed i v refl (subst (λ x. IsSettled truths x) e.1 (place (InCells (SetStore i v)) part p).1) (refl, refl, refl, refl) refl (λ flag n f. f) as_writer))
+      (none_more _ (stores truths seats h front who (Some (InCells (SetStore i v))) None back part.word part.row part.lists part.flags held.entry held.before held.row part.owed i v refl
+      (subst (λ x. IsSettled truths x) e.1 (place (InCells (SetStore i v)) part p).1) (refl, refl, refl, refl) refl (λ flag n f. f) as_writer))
   -- a release without a scan
   by_walk (InRelease releasing (ReleaseExchange last)) Made part next commits few some quiet e p =
       let held = e.0 in
@@ -547,21 +573,31 @@ module _ {C : Type 0} {N : ℕ} (truths : Truths C) (seats : ℕ) (h : List (Eve
   -- the queues are taken
   by_walk (InAcquire aim (TakeToQueue arrival last)) Made part next commits few some quiet e p =
       took (InAcquire aim (TakeToQueue arrival last)) _ (ToQueue (mode_for aim) arrival) last part next commits e.0 e.1 e.2 e.3 refl ((place (InAcquire aim (TakeToQueue arrival last)) part p).0, tt, (place (InAcquire aim (TakeToQueue arrival last)) part p).2) refl refl refl refl refl (λ none. refl)
-      (λ apart homed known. known_takes truths.holds front who (Some (InAcquire aim (TakeToQueue arrival last))) part.held part.owed (Some (InAcquire aim (Arm arrival (word_taken (ToQueue (mode_for aim) arrival) last)))) part.held part.owed back (mode_for aim) arrival part.word (standing_after h).row part.lists.lock part.flags apart (λ seat. refl)
-      (subst (λ word. may_acquire (mode_for aim) arrival word ≡ false) e.0 (place (InAcquire aim (TakeToQueue arrival last)) part p).1.1) (ap (λ word. word.spin) (sym e.0) ∙ e.1) homed (long_eligible (λ c. truths.holds c (standing_after h).row) part.lists.lock _ p.own) (λ flag n w f. absurd (not_way (is_woken arrival) false false w refl f)) known) p
+      (λ apart homed known. known_takes truths.holds front who (Some (InAcquire aim (TakeToQueue arrival last))) part.held part.owed
+      (Some (InAcquire aim (Arm arrival (word_taken (ToQueue (mode_for aim) arrival) last)))) part.held part.owed back (mode_for aim) arrival part.word
+      (standing_after h).row part.lists.lock part.flags apart (λ seat. refl)
+      (subst (λ word. may_acquire (mode_for aim) arrival word ≡ false) e.0 (place (InAcquire aim (TakeToQueue arrival last)) part p).1.1) (ap (λ word. word.spin) (sym e.0) ∙ e.1) homed
+      (long_eligible (λ c. truths.holds c (standing_after h).row) part.lists.lock _ p.own) (λ flag n w f. absurd (not_way (is_woken arrival) false false w refl f)) known) p
   by_walk (InRelease releasing (TakeToScan last)) Made part next commits few some quiet e p =
       let fits = taken_leads truths releasing (word_taken ToChange last) part.held last.cond (place (InRelease releasing (TakeToScan last)) part p).0 in
       took (InRelease releasing (TakeToScan last)) _ ToChange last part next commits e.0 e.1 e.2 e.3 refl fits.0 fits.1.0 refl fits.1.1 fits.1.2 fits.1.3 fits.4
-      (λ apart homed known. known_rests truths.holds front who (Some (InRelease releasing (TakeToScan last))) part.held part.owed (walk_after (got_of N (InRelease releasing (TakeToScan last)) Made)) part.held part.owed back part.word (word_taken ToChange part.word) (standing_after h).row part.lists.lock part.flags apart (λ seat. refl) refl refl refl refl refl fits.2 fits.3 known) p
+      (λ apart homed known. known_rests truths.holds front who (Some (InRelease releasing (TakeToScan last))) part.held part.owed
+      (walk_after (got_of N (InRelease releasing (TakeToScan last)) Made)) part.held part.owed back part.word (word_taken ToChange part.word)
+      (standing_after h).row part.lists.lock part.flags apart (λ seat. refl) refl refl refl refl refl fits.2 fits.3 known) p
   -- a flag is set, a seat queues
   by_walk (InAcquire aim (Arm arrival last)) Made part next commits few some quiet e p =
       moved (Some (InAcquire aim (Queue arrival last))) (record part { flags = flags_with part.flags who 1 }) next [] commits e.0 e.1
-      (none_more _ (arms truths seats h front who (Some (InAcquire aim (Arm arrival last))) (Some (InAcquire aim (Queue arrival last))) back part.word part.row part.lists part.flags part.held part.owed refl (place (InAcquire aim (Arm arrival last)) part p) refl refl refl refl refl (λ flag n. refl) (λ none. refl) p))
+      (none_more _ (arms truths seats h front who (Some (InAcquire aim (Arm arrival last))) (Some (InAcquire aim
+      (Queue arrival last))) back part.word part.row part.lists part.flags part.held part.owed refl (place (InAcquire aim (Arm arrival last)) part p) refl refl refl refl refl
+      (λ flag n. refl) (λ none. refl) p))
   by_walk (InAcquire aim (Queue arrival last)) Made part next commits few some quiet e p =
       let lock = queued who (mode_for aim) None (tries_of arrival) (is_woken arrival) part.lists.lock in
       let here = place (InAcquire aim (Queue arrival last)) part p in
-      moved (Some (InAcquire aim (AwaitWake (tries_of arrival)))) (record part { word = word_returned false (bits_of lock) part.word; lists = with_lock part.lists lock }) next [] commits (e.2 ∙ ap (λ word. record part { word = word_returned false (bits_of lock) word; lists = with_lock part.lists lock }) e.1) e.3
-      (none_more _ (enqueues truths seats h front who (Some (InAcquire aim (Queue arrival last))) (Some (InAcquire aim (AwaitWake (tries_of arrival)))) back (mode_for aim) arrival part.word part.row part.lists part.flags part.held part.owed refl (here.0, tries_most arrival, here.2) refl refl refl refl refl refl refl refl (λ flag n. refl) (λ none. refl) p))
+      moved (Some (InAcquire aim (AwaitWake (tries_of arrival)))) (record part { word = word_returned false (bits_of lock) part.word; lists = with_lock part.lists lock }) next [] commits
+      (e.2 ∙ ap (λ word. record part { word = word_returned false (bits_of lock) word; lists = with_lock part.lists lock }) e.1) e.3
+      (none_more _ (enqueues truths seats h front who (Some (InAcquire aim (Queue arrival last))) (Some (InAcquire aim (AwaitWake (tries_of arrival)))) back
+      (mode_for aim) arrival part.word part.row part.lists part.flags part.held part.owed refl (here.0, tries_most arrival, here.2) refl refl refl refl refl refl refl refl
+      (λ flag n. refl) (λ none. refl) p))
   by_walk (InAcquire aim (Queue arrival last)) (Left stood) part next commits few some quiet e p = let never : Made ≡ Left stood = e.0 in absurd (cc)
   by_walk (InAcquire aim (Queue arrival last)) (Woke owes) part next commits few some quiet e p = let never : Made ≡ Woke owes = e.0 in absurd (cc)
   by_walk (InAcquire aim (AwaitWake tries)) (Flag v) part next commits few some quiet e p =

@@ -230,7 +230,9 @@ module _ {C : Type 0} where
 
       -- lists of four that hold the same at each place hold the same in all
       four_sum : (seat : ℕ) (cvs : List (List (Waiter C))) (lock : List (Waiter C)) → length cvs ≡ 4 →
-          sum_by (times_in seat) cvs ≡ times_in seat (waiters_of (record { lock = lock; cvs = cvs }) (Cv 0)) + (times_in seat (waiters_of (record { lock = lock; cvs = cvs }) (Cv 1)) + (times_in seat (waiters_of (record { lock = lock; cvs = cvs }) (Cv 2)) + times_in seat (waiters_of (record { lock = lock; cvs = cvs }) (Cv 3))))
+          sum_by (times_in seat) cvs ≡ times_in seat (waiters_of (record { lock = lock; cvs = cvs }) (Cv 0)) +
+          (times_in seat (waiters_of (record { lock = lock; cvs = cvs }) (Cv 1)) + (times_in seat (waiters_of (record { lock = lock; cvs = cvs }) (Cv 2)) + times_in seat
+          (waiters_of (record { lock = lock; cvs = cvs }) (Cv 3))))
       four_sum seat (a ∷ b ∷ c ∷ d ∷ []) lock four = omega (arith, sum_by-cons (times_in seat) a (b ∷ c ∷ d ∷ []), sum_by-cons (times_in seat) b (c ∷ d ∷ []), sum_by-cons (times_in seat) c (d ∷ []), sum_by-cons (times_in seat) d [])
       four_sum seat [] lock four = absurd (omega (arith, four))
       four_sum seat (a ∷ []) lock four = absurd (omega (arith, four))

@@ -301,7 +301,8 @@ module _ {C : Type 0} {N : ℕ} (truths : Truths C) (seats : ℕ) (h : List (Eve
   -- the queues are taken
   pub takes : (taking : Taking) (word : Word) (row : List ℕ) (lists : Lists C) (flags : ℕ → ℕ) (held : Option (Held C N)) (owed : List Owed) → pays walk ≡ false → word.spin ≡ false →
       PlaceFits truths walk' held → pays walk' ≡ pays walk → has_queues walk ≡ false → has_queues walk' ≡ true → waits_in walk' ≡ waits_in walk → has_armed walk' ≡ false → Stays walk walk' held →
-      (NoneIs who front → Homed word lists.lock (front ++ view_of who walk held owed ∷ back) → Known truths.holds word (standing_after h).row lists.lock flags (front ++ view_of who walk held owed ∷ back) → Known truths.holds (word_taken taking word) (standing_after h).row lists.lock flags (front ++ view_of who walk' held owed ∷ back)) →
+      (NoneIs who front → Homed word lists.lock (front ++ view_of who walk held owed ∷ back) → Known truths.holds word (standing_after h).row lists.lock flags
+      (front ++ view_of who walk held owed ∷ back) → Known truths.holds (word_taken taking word) (standing_after h).row lists.lock flags (front ++ view_of who walk' held owed ∷ back)) →
       Groups truths seats h (st walk word row lists flags held owed) → Groups truths seats h (st walk' (word_taken taking word) row lists flags held owed)
   takes taking word row lists flags held owed idle none place pay a a' wait set stays knows p =
       let fit = fits word row held owed p.safe in
@@ -336,7 +337,9 @@ module _ {C : Type 0} {N : ℕ} (truths : Truths C) (seats : ℕ) (h : List (Eve
 
   -- a seat puts itself into the lock list, and puts the queues back
   pub enqueues : (mode : Mode) (arrival : Arrival) (word : Word) (row : List ℕ) (lists : Lists C) (flags : ℕ → ℕ) (held : Option (Held C N)) (owed : List Owed) → pays walk ≡ false →
-      PlaceFits truths walk' held → pays walk' ≡ pays walk → has_queues walk ≡ true → has_queues walk' ≡ false → awaits walk ≡ false → waits_in walk' ≡ Some (record { mode = mode; on = None; tries = tries_of arrival }) → has_armed walk ≡ true → has_armed walk' ≡ false → is_queuing walk ≡ true → NoWay walk → Stays walk walk' held →
+      PlaceFits truths walk' held → pays walk' ≡ pays walk → has_queues walk ≡ true → has_queues walk' ≡ false → awaits walk ≡ false
+      → waits_in walk' ≡ Some (record { mode = mode; on = None; tries = tries_of arrival }) → has_armed walk ≡ true → has_armed walk' ≡ false → is_queuing walk ≡ true
+      → NoWay walk → Stays walk walk' held →
       let lock' = queued who mode None (tries_of arrival) (is_woken arrival) lists.lock in
       Groups truths seats h (st walk word row lists flags held owed) → Groups truths seats h (st walk' (word_returned false (bits_of lock') word) row (with_lock lists lock') flags held owed)
   enqueues mode arrival word row lists flags held owed idle place pay s s' a a' set set' q o stays p =
@@ -353,7 +356,9 @@ module _ {C : Type 0} {N : ℕ} (truths : Truths C) (seats : ℕ) (h : List (Eve
         own = own_queued front who walk held owed walk' held owed back mode None (tries_of arrival) (is_woken arrival) lists.lock apart (lock_nowhere lists none) (ap lock_stance a') p.own;
         told = tell_moves front who walk held owed walk' held owed back (standing_after h).phases (standing_after h).phases lists (with_lock lists lock') p.placed.four refl none (λ seat ne. refl) (waits_not lists _ p.placed.four none p.told) p.told;
         taken = told_enters front who walk held owed walk' held owed back (standing_after h).phases (standing_after h).phases flags lists.lock lock' (λ seat ne. refl) (lock_nowhere lists none) (unowed lists flags held owed apart a p.placed) (armed_now lists flags held owed apart set p.placed)
-            (λ due listed. due) (λ listed. listed_queued (WaiterNames (standing_after h).phases (front ++ view_of who walk' held owed ∷ back)) who mode None (tries_of arrival) (is_woken arrival) lists.lock (subst (λ s. IsNamed s ((standing_after h).phases who) None) (sym (ap waits_in (walk_here front (view_of who walk' held owed) back apart) ∙ a')) refl) listed) p.taken;
+            (λ due listed. due) (λ listed. listed_queued (WaiterNames (standing_after h).phases (front ++ view_of who walk' held owed ∷ back)) who mode None (tries_of arrival)
+            (is_woken arrival) lists.lock (subst (λ s. IsNamed s ((standing_after h).phases who) None)
+            (sym (ap waits_in (walk_here front (view_of who walk' held owed) back apart) ∙ a')) refl) listed) p.taken;
         known = puts truths.holds front who walk held owed walk' held owed back mode None (tries_of arrival) (is_woken arrival) word (standing_after h).row lists.lock flags apart (calls word row held owed idle p.safe) q o p.known;
       }
 
@@ -381,7 +386,8 @@ module _ {C : Type 0} {N : ℕ} (truths : Truths C) (seats : ℕ) (h : List (Eve
         own = own_without front who walk None owed walk' None owed back lists.lock p.own;
         told = let as_put = tell_lists (standing_after h).phases lists (with_lock lists lock') (front ++ view_of who walk None owed ∷ back) refl p.told in
             tell_moves front who walk None owed walk' None owed back (standing_after h).phases (standing_after h).phases (with_lock lists lock') (with_lock lists lock') p.placed.four refl nowhere_now (λ seat ne. refl) (waits_not (with_lock lists lock') _ p.placed.four nowhere_now as_put) as_put;
-        taken = told_stays front who walk None owed walk' None owed back (standing_after h).phases (standing_after h).phases flags lists.lock lock' (left_stays front who walk None owed walk' None owed back (standing_after h).phases (standing_after h).phases apart (not_waiting (waits_in walk') a') (λ seat ne. refl))
+        taken = told_stays front who walk None owed walk' None owed back (standing_after h).phases (standing_after h).phases flags lists.lock lock'
+            (left_stays front who walk None owed walk' None owed back (standing_after h).phases (standing_after h).phases apart (not_waiting (waits_in walk') a') (λ seat ne. refl))
             (λ due listed. due) (λ listed. listed_without (WaiterNames (standing_after h).phases (front ++ view_of who walk' None owed ∷ back)) who lists.lock listed) p.taken;
         known = known_withdraws truths.holds front who walk None owed walk' None owed back word (standing_after h).row lists.lock lock' flags apart (calls word row None owed idle p.safe) s q q'
             (λ f. absurd (both_ways (is_on_way walk 1 0) o (subst (λ n. is_on_way walk 1 n ≡ true) unowed (subst (λ n. is_on_way walk n (called_to who (front ++ view_of who walk None owed ∷ back)) ≡ true) flag f))))
@@ -402,13 +408,15 @@ module _ {C : Type 0} {N : ℕ} (truths : Truths C) (seats : ℕ) (h : List (Eve
         own = own_same front who walk held owed walk' held owed back lists.lock apart wait p.own;
         told = tell_same front who walk held owed walk' held owed back (standing_after h).phases lists lists apart refl wait p.told;
         taken = taken_still held held owed (standing_after h).phases flags lists.lock apart wait p.taken;
-        known = known_withdraws truths.holds front who walk held owed walk' held owed back word (standing_after h).row lists.lock lists.lock flags apart (calls word row held owed idle p.safe) s q q' (λ f. o (flags who) (called_to who (front ++ view_of who walk held owed ∷ back)) f) (λ e. e) p.homed p.known;
+        known = known_withdraws truths.holds front who walk held owed walk' held owed back word (standing_after h).row lists.lock lists.lock flags apart
+            (calls word row held owed idle p.safe) s q q' (λ f. o (flags who) (called_to who (front ++ view_of who walk held owed ∷ back)) f) (λ e. e) p.homed p.known;
       }
 
   -- a seat that leaves takes itself out of the lists of variables, and commits that
   pub leaves : (variables : Variables) (mode : Mode) (word : Word) (row : List ℕ) (lists : Lists C) (flags : ℕ → ℕ) (owed : List Owed) → seats ≤ 64 → pays walk ≡ false → 1 ≤ sum_by (times_in who) lists.cvs →
       waits_in walk ≡ Some (record { mode = mode; on = Some (OnVariables variables); tries = 0 }) →
-      PlaceFits {C = C} {N = N} truths walk' None → pays walk' ≡ pays walk → has_queues walk ≡ true → has_queues walk' ≡ false → has_armed walk' ≡ false → is_queuing walk ≡ false → is_queuing walk' ≡ false → awaits walk' ≡ false → is_on_way walk 1 0 ≡ false → IsExpected (phase_by walk') (Left variables mode) →
+      PlaceFits {C = C} {N = N} truths walk' None → pays walk' ≡ pays walk → has_queues walk ≡ true → has_queues walk' ≡ false → has_armed walk' ≡ false → is_queuing walk ≡ false
+      → is_queuing walk' ≡ false → awaits walk' ≡ false → is_on_way walk 1 0 ≡ false → IsExpected (phase_by walk') (Left variables mode) →
       let lists' = cvs_left who lists in
       Groups truths seats h (st walk word row lists flags None owed) → Groups truths seats (h ++ left_event who variables ∷ []) (st walk' (word_returned false (bits_of lists.lock) word) row lists' flags None owed)
   leaves variables mode word row lists flags owed few idle stood wait place pay s s' set' q q' a' o phase p =
@@ -423,7 +431,9 @@ module _ {C : Type 0} {N : ℕ} (truths : Truths C) (seats : ℕ) (h : List (Eve
       let flag : flags who ≡ 1 = due_flag walk (flags who) (omega (arith, here, most, there)) in
       let unowed : called_to who (front ++ view_of who walk None owed ∷ back) ≡ 0 = let less = called_most who (front ++ view_of who walk None owed ∷ back) in omega (arith, here, most, there, less) in
       let waiter = one_of (VariableWaiterFits (standing_after h).phases (front ++ view_of who walk None owed ∷ back) list.0) who (waiters_of lists (Cv list.0)) list.2 (p.told.own list.0 list.1) in
-      let stance : Some (record { mode = waiter.0.mode; on = Some (OnVariables waiter.2.among); tries = 0 }) ≡ Some (record { mode = mode; on = Some (OnVariables variables); tries = 0 }) = sym waiter.2.stands ∙ ap (λ seat. waits_in (walk_at seat (front ++ view_of who walk None owed ∷ back))) waiter.1 ∙ ap waits_in (walk_here front (view_of who walk None owed) back apart) ∙ wait in
+      let stance : Some (record { mode = waiter.0.mode; on = Some (OnVariables waiter.2.among); tries = 0 }) ≡ Some
+      (record { mode = mode; on = Some (OnVariables variables); tries = 0 }) = sym waiter.2.stands
+      ∙ ap (λ seat. waits_in (walk_at seat (front ++ view_of who walk None owed ∷ back))) waiter.1 ∙ ap waits_in (walk_here front (view_of who walk None owed) back apart) ∙ wait in
       let same_mode : waiter.0.mode ≡ mode = ap stance_mode stance in
       let same_among : waiter.2.among ≡ variables = ap stance_variables stance in
       let was : (standing_after h).phases who ≡ Waiting variables mode = subst (λ seat. (standing_after h).phases seat ≡ Waiting waiter.2.among waiter.0.mode) waiter.1 waiter.2.waits ∙ (λ i. Waiting (same_among i) (same_mode i)) in
@@ -475,8 +485,12 @@ module _ {C : Type 0} {N : ℕ} (truths : Truths C) (seats : ℕ) (h : List (Eve
         own = own_scanned front who walk held owed walk' None took back meets lists.lock (lock_nowhere lists none) p.own;
         told = tell_moves front who walk held owed walk' None took back (standing_after h).phases (standing_after (h ++ section_of truths.holds who section_is Plain ∷ [])).phases lists (with_lock lists stay) p.placed.four refl none
             (phases_there section_is Plain) (λ k m e. let clash : Idle ≡ Waiting k m = sym (phases_here section_is Plain) ∙ e in absurd (cc)) p.told;
-        taken = told_stays front who walk held owed walk' None took back (standing_after h).phases (standing_after (h ++ section_of truths.holds who section_is Plain ∷ [])).phases flags lists.lock stay (left_stays front who walk held owed walk' None took back (standing_after h).phases (standing_after (h ++ section_of truths.holds who section_is Plain ∷ [])).phases apart (not_waiting (waits_in walk') a') (phases_there section_is Plain))
-            (λ due listed. listed_woken (standing_after (h ++ section_of truths.holds who section_is Plain ∷ [])).phases (front ++ view_of who walk' None took ∷ back) meets lists.lock listed) (λ listed. listed_left (WaiterNames (standing_after (h ++ section_of truths.holds who section_is Plain ∷ [])).phases (front ++ view_of who walk' None took ∷ back)) meets lists.lock listed) p.taken;
+        taken = told_stays front who walk held owed walk' None took back (standing_after h).phases (standing_after
+            (h ++ section_of truths.holds who section_is Plain ∷ [])).phases flags lists.lock stay (left_stays front who walk held owed walk' None took back (standing_after h).phases
+            (standing_after (h ++ section_of truths.holds who section_is Plain ∷ [])).phases apart (not_waiting (waits_in walk') a') (phases_there section_is Plain))
+            (λ due listed. listed_woken (standing_after (h ++ section_of truths.holds who section_is Plain ∷ [])).phases
+            (front ++ view_of who walk' None took ∷ back) meets lists.lock listed) (λ listed. listed_left
+            (WaiterNames (standing_after (h ++ section_of truths.holds who section_is Plain ∷ [])).phases (front ++ view_of who walk' None took ∷ back)) meets lists.lock listed) p.taken;
         known = subst (λ r. Known truths.holds word' r stay flags (front ++ view_of who walk' None took ∷ back)) (sym fit.section.cells ∙ sym (ap (λ s. s.row) (left_by truths seats h who section_is Plain)))
             (known_scans truths.holds front who walk held owed walk' None took back releasing word (standing_after h).row row lists stay flags apart s q' a o owing refl from (λ e. e) p.homed p.placed p.known);
       }
@@ -486,7 +500,8 @@ module _ {C : Type 0} {N : ℕ} (truths : Truths C) (seats : ℕ) (h : List (Eve
       let meets : C → Bool = meets_at truths row in let took = called_of (woken_of meets lists.lock) in let lock' = queued who mode (Some c) 0 again (left_of meets lists.lock) in let word' = word_released_returning releasing (has_some (woken_of meets lists.lock)) (bits_of lock') word in
       truths.holds c row ≡ false → row ≡ (standing_after h').row → Safe truths seats h' word' row (front ++ view_of who walk' None took ∷ back) →
       ((seat : ℕ) → who ≢ seat → (standing_after h').phases seat ≡ (standing_after h).phases seat) → ((vs : Variables) (m : Mode) → (standing_after h').phases who ≡ Waiting vs m → ⊥) →
-      pays walk ≡ false → calls_from_lock walk' ≡ true → has_queues walk ≡ true → has_queues walk' ≡ false → awaits walk ≡ false → waits_in walk' ≡ Some (record { mode = mode; on = Some (OnCondition c); tries = 0 }) → has_armed walk ≡ true → has_armed walk' ≡ false → is_queuing walk' ≡ false → NoWay walk →
+      pays walk ≡ false → calls_from_lock walk' ≡ true → has_queues walk ≡ true → has_queues walk' ≡ false → awaits walk ≡ false
+      → waits_in walk' ≡ Some (record { mode = mode; on = Some (OnCondition c); tries = 0 }) → has_armed walk ≡ true → has_armed walk' ≡ false → is_queuing walk' ≡ false → NoWay walk →
       Groups truths seats h (st walk word row lists flags held owed) → Groups truths seats h' (st walk' word' row (with_lock lists lock') flags None took)
   queues_scanned releasing mode c again h' word row lists flags held owed unmet now safe there idles idle from s s' a a' set set' q' o p =
       let meets : C → Bool = meets_at truths row in
@@ -504,7 +519,10 @@ module _ {C : Type 0} {N : ℕ} (truths : Truths C) (seats : ℕ) (h : List (Eve
         own = own_waited front who walk held owed walk' None took back meets mode (Some c) 0 again lists.lock apart (lock_nowhere lists none) (ap lock_stance a') p.own;
         told = tell_moves front who walk held owed walk' None took back (standing_after h).phases (standing_after h').phases lists (with_lock lists lock') p.placed.four refl none there idles p.told;
         taken = told_enters front who walk held owed walk' None took back (standing_after h).phases (standing_after h').phases flags lists.lock lock' there (lock_nowhere lists none) (unowed lists flags held owed apart a p.placed) (armed_now lists flags held owed apart set p.placed)
-            (λ due listed. listed_woken (standing_after h').phases (front ++ view_of who walk' None took ∷ back) meets lists.lock listed) (λ listed. listed_queued (WaiterNames (standing_after h').phases (front ++ view_of who walk' None took ∷ back)) who mode (Some c) 0 again (left_of meets lists.lock) (subst (λ s. IsNamed s ((standing_after h').phases who) None) (sym (ap waits_in (walk_here front (view_of who walk' None took) back apart) ∙ a')) refl) (listed_left (WaiterNames (standing_after h').phases (front ++ view_of who walk' None took ∷ back)) meets lists.lock listed)) p.taken;
+            (λ due listed. listed_woken (standing_after h').phases (front ++ view_of who walk' None took ∷ back) meets lists.lock listed)
+            (λ listed. listed_queued (WaiterNames (standing_after h').phases (front ++ view_of who walk' None took ∷ back)) who mode (Some c) 0 again (left_of meets lists.lock)
+            (subst (λ s. IsNamed s ((standing_after h').phases who) None) (sym (ap waits_in (walk_here front (view_of who walk' None took) back apart) ∙ a')) refl)
+            (listed_left (WaiterNames (standing_after h').phases (front ++ view_of who walk' None took ∷ back)) meets lists.lock listed)) p.taken;
         known = subst (λ r. Known truths.holds word' r lock' flags (front ++ view_of who walk' None took ∷ back)) now
             (known_scans truths.holds front who walk held owed walk' None took back releasing word (standing_after h).row row lists lock' flags apart s q' a o owing refl from
             (λ e. queued_eligible meets who mode c 0 again (left_of meets lists.lock) unmet e) p.homed p.placed p.known);
@@ -514,7 +532,9 @@ module _ {C : Type 0} {N : ℕ} (truths : Truths C) (seats : ℕ) (h : List (Eve
   pub waits : (releasing : Releasing) (mode : Mode) (c : C) (again : Bool) (word : Word) (row : List ℕ) (lists : Lists C) (flags : ℕ → ℕ) (entry : Opening C) (before cells : List ℕ) (owed : List Owed) → seats ≤ 64 → IsSettledBy truths.holds before entry →
       let meets : C → Bool = meets_at truths row in let lock' = queued who mode (Some c) 0 again (left_of meets lists.lock) in
       truths.holds c cells ≡ false → mode_released releasing ≡ mode → IsExpected (phase_by walk') (Cond c mode) →
-      PlaceFits {C = C} {N = N} truths walk' None → pays walk ≡ false → pays walk' ≡ has_some (called_of (woken_of meets lists.lock)) → calls_from_lock walk' ≡ true → has_queues walk ≡ true → has_queues walk' ≡ false → awaits walk ≡ false → waits_in walk' ≡ Some (record { mode = mode; on = Some (OnCondition c); tries = 0 }) → has_armed walk ≡ true → has_armed walk' ≡ false → is_queuing walk' ≡ false → NoWay walk →
+      PlaceFits {C = C} {N = N} truths walk' None → pays walk ≡ false → pays walk' ≡ has_some (called_of (woken_of meets lists.lock)) → calls_from_lock walk' ≡ true
+      → has_queues walk ≡ true → has_queues walk' ≡ false → awaits walk ≡ false → waits_in walk' ≡ Some (record { mode = mode; on = Some (OnCondition c); tries = 0 })
+      → has_armed walk ≡ true → has_armed walk' ≡ false → is_queuing walk' ≡ false → NoWay walk →
       Groups truths seats h (st walk word row lists flags (Some (section mode entry before cells)) owed) →
       Groups truths seats (h ++ section_of truths.holds who (section mode entry before cells) (CondWait c) ∷ [])
       (st walk' (word_released_returning releasing (has_some (woken_of meets lists.lock)) (bits_of lock') word) row (with_lock lists lock') flags None (called_of (woken_of meets lists.lock)))
@@ -536,7 +556,9 @@ module _ {C : Type 0} {N : ℕ} (truths : Truths C) (seats : ℕ) (h : List (Eve
   pub waits_on : (releasing : Releasing) (mode : Mode) (c : C) (again : Bool) (word : Word) (row : List ℕ) (lists : Lists C) (flags : ℕ → ℕ) (entry : Opening C) (before cells : List ℕ) (owed : List Owed) →
       let meets : C → Bool = meets_at truths row in let lock' = queued who mode (Some c) 0 again (left_of meets lists.lock) in
       truths.holds c cells ≡ false → mode_released releasing ≡ mode → cells ≡ before → phase_before mode entry ≡ Cond c mode → IsExpected (phase_by walk') (Cond c mode) →
-      PlaceFits {C = C} {N = N} truths walk' None → pays walk ≡ false → pays walk' ≡ has_some (called_of (woken_of meets lists.lock)) → calls_from_lock walk' ≡ true → has_queues walk ≡ true → has_queues walk' ≡ false → awaits walk ≡ false → waits_in walk' ≡ Some (record { mode = mode; on = Some (OnCondition c); tries = 0 }) → has_armed walk ≡ true → has_armed walk' ≡ false → is_queuing walk' ≡ false → NoWay walk →
+      PlaceFits {C = C} {N = N} truths walk' None → pays walk ≡ false → pays walk' ≡ has_some (called_of (woken_of meets lists.lock)) → calls_from_lock walk' ≡ true
+      → has_queues walk ≡ true → has_queues walk' ≡ false → awaits walk ≡ false → waits_in walk' ≡ Some (record { mode = mode; on = Some (OnCondition c); tries = 0 })
+      → has_armed walk ≡ true → has_armed walk' ≡ false → is_queuing walk' ≡ false → NoWay walk →
       Groups truths seats h (st walk word row lists flags (Some (section mode entry before cells)) owed) →
       Groups truths seats h (st walk' (word_released_returning releasing (has_some (woken_of meets lists.lock)) (bits_of lock') word) row (with_lock lists lock') flags None (called_of (woken_of meets lists.lock)))
   waits_on releasing mode c again word row lists flags entry before cells owed unmet is same comes phase place idle pay' from s s' a a' set set' q' o p =
@@ -558,7 +580,9 @@ module _ {C : Type 0} {N : ℕ} (truths : Truths C) (seats : ℕ) (h : List (Eve
       let meets : C → Bool = meets_at truths row in let stay = with_lock lists (left_of meets lists.lock) in
       let lists' = waits_at (OnVariables variables) who mode false stay in
       mode_released releasing ≡ mode → IsExpected (phase_by walk') (Waiting variables mode) →
-      PlaceFits {C = C} {N = N} truths walk' None → pays walk ≡ false → pays walk' ≡ has_some (called_of (woken_of meets lists.lock)) → calls_from_lock walk' ≡ true → has_queues walk ≡ true → has_queues walk' ≡ false → awaits walk ≡ false → waits_in walk' ≡ Some (record { mode = mode; on = Some (OnVariables variables); tries = 0 }) → has_armed walk ≡ true → has_armed walk' ≡ false → is_queuing walk' ≡ false → NoWay walk →
+      PlaceFits {C = C} {N = N} truths walk' None → pays walk ≡ false → pays walk' ≡ has_some (called_of (woken_of meets lists.lock)) → calls_from_lock walk' ≡ true
+      → has_queues walk ≡ true → has_queues walk' ≡ false → awaits walk ≡ false → waits_in walk' ≡ Some (record { mode = mode; on = Some (OnVariables variables); tries = 0 })
+      → has_armed walk ≡ true → has_armed walk' ≡ false → is_queuing walk' ≡ false → NoWay walk →
       Groups truths seats h (st walk word row lists flags (Some (section mode entry before cells)) owed) →
       Groups truths seats (h ++ section_of truths.holds who (section mode entry before cells) (exit_for (OnVariables variables)) ∷ [])
       (st walk' (word_released_returning releasing (has_some (woken_of meets lists.lock)) (bits_of lists'.lock) word) row lists' flags None (called_of (woken_of meets lists.lock)))
@@ -587,8 +611,13 @@ module _ {C : Type 0} {N : ℕ} (truths : Truths C) (seats : ℕ) (h : List (Eve
         own = subst (λ lock. WaitersOwn lock (front ++ view_of who walk' None took ∷ back)) (sym in_lists.lock) (own_scanned front who walk (Some held) owed walk' None took back meets lists.lock (lock_nowhere lists none) p.own);
         told = tell_enters front who walk (Some held) owed walk' None took back (standing_after h).phases (standing_after (h ++ section_of truths.holds who held exit ∷ [])).phases stay lists' variables mode apart p.placed.four are out in_lists a'
             (phases_here held exit ∙ waits_now) (phases_there held exit) (tell_lists (standing_after h).phases lists stay (front ++ view_of who walk (Some held) owed ∷ back) refl p.told);
-        taken = subst (λ lock. TakenTold (standing_after (h ++ section_of truths.holds who held exit ∷ [])).phases flags lock (front ++ view_of who walk' None took ∷ back)) (sym in_lists.lock) (told_enters front who walk (Some held) owed walk' None took back (standing_after h).phases (standing_after (h ++ section_of truths.holds who held exit ∷ [])).phases flags lists.lock (left_of meets lists.lock) (phases_there held exit) (lock_nowhere lists none) (unowed lists flags (Some held) owed apart a p.placed) (armed_now lists flags (Some held) owed apart set p.placed)
-            (λ due listed. listed_woken (standing_after (h ++ section_of truths.holds who held exit ∷ [])).phases (front ++ view_of who walk' None took ∷ back) meets lists.lock listed) (λ listed. listed_left (WaiterNames (standing_after (h ++ section_of truths.holds who held exit ∷ [])).phases (front ++ view_of who walk' None took ∷ back)) meets lists.lock listed) p.taken);
+        taken = subst (λ lock. TakenTold (standing_after (h ++ section_of truths.holds who held exit ∷ [])).phases flags lock (front ++ view_of who walk' None took ∷ back))
+            (sym in_lists.lock) (told_enters front who walk (Some held) owed walk' None took back (standing_after h).phases
+            (standing_after (h ++ section_of truths.holds who held exit ∷ [])).phases flags lists.lock (left_of meets lists.lock) (phases_there held exit) (lock_nowhere lists none)
+            (unowed lists flags (Some held) owed apart a p.placed) (armed_now lists flags (Some held) owed apart set p.placed)
+            (λ due listed. listed_woken (standing_after (h ++ section_of truths.holds who held exit ∷ [])).phases (front ++ view_of who walk' None took ∷ back) meets lists.lock listed)
+            (λ listed. listed_left (WaiterNames (standing_after (h ++ section_of truths.holds who held exit ∷ [])).phases
+            (front ++ view_of who walk' None took ∷ back)) meets lists.lock listed) p.taken);
         known = subst (λ (x : List ℕ × List (Waiter C)). Known truths.holds (word_released_returning releasing (has_some (woken_of meets lists.lock)) (bits_of x.1) word) x.0 x.1 flags (front ++ view_of who walk' None took ∷ back)) (λ i. (row_is i, sym in_lists.lock i))
             (known_scans truths.holds front who walk (Some held) owed walk' None took back releasing word (standing_after h).row row lists (left_of meets lists.lock) flags apart s q' a o owing refl from (λ e. e) p.homed p.placed p.known);
       }
@@ -597,7 +626,9 @@ module _ {C : Type 0} {N : ℕ} (truths : Truths C) (seats : ℕ) (h : List (Eve
 
   -- a seat pays a wake that it owes
   pub wakes : (word : Word) (row : List ℕ) (lists : Lists C) (flags : ℕ → ℕ) (held : Option (Held C N)) (wake : Owed) (rest : List Owed) → ((seat : ℕ) → ◌≡◌ {A = ℕ} (cond (calls_from_lock walk') (times_among seat rest) 0) (cond (calls_from_lock walk) (times_among seat rest) 0)) →
-      PlaceFits truths walk' held → pays walk' ≡ has_some rest → (Every (Tells (calls_from_lock walk)) rest → Every (Tells (calls_from_lock walk')) rest) → has_queues walk' ≡ has_queues walk → waits_in walk' ≡ waits_in walk → was_woken walk' ≡ was_woken walk → has_armed walk' ≡ false → is_queuing walk' ≡ is_queuing walk → Stays walk walk' held →
+      PlaceFits truths walk' held → pays walk' ≡ has_some rest → (Every (Tells (calls_from_lock walk)) rest → Every (Tells (calls_from_lock walk')) rest)
+      → has_queues walk' ≡ has_queues walk → waits_in walk' ≡ waits_in walk → was_woken walk' ≡ was_woken walk → has_armed walk' ≡ false → is_queuing walk' ≡ is_queuing walk
+      → Stays walk walk' held →
       Groups truths seats h (st walk word row lists flags held (wake ∷ rest)) → Groups truths seats h (st walk' word row lists (flags_with flags wake.seat wake.value) held rest)
   wakes word row lists flags held wake rest after_all place pay tell spin a w set' q stays p =
       let apart = others word row held (wake ∷ rest) p.safe in
@@ -615,7 +646,8 @@ module _ {C : Type 0} {N : ℕ} (truths : Truths C) (seats : ℕ) (h : List (Eve
 
   -- a seat sees its flag cleared: it stands nowhere then
   pub sees : (word : Word) (row : List ℕ) (lists : Lists C) (flags : ℕ → ℕ) (owed : List Owed) → flags who ≢ 1 → pays walk ≡ false →
-      PlaceFits {C = C} {N = N} truths walk' None → pays walk' ≡ pays walk → has_queues walk' ≡ has_queues walk → awaits walk' ≡ false → waits_in walk' ≡ None → has_armed walk' ≡ false → is_queuing walk' ≡ is_queuing walk → (is_on_way walk (flags who) 0 ≡ true → is_on_way walk' (flags who) 0 ≡ true) →
+      PlaceFits {C = C} {N = N} truths walk' None → pays walk' ≡ pays walk → has_queues walk' ≡ has_queues walk → awaits walk' ≡ false → waits_in walk' ≡ None
+      → has_armed walk' ≡ false → is_queuing walk' ≡ is_queuing walk → (is_on_way walk (flags who) 0 ≡ true → is_on_way walk' (flags who) 0 ≡ true) →
       (IsExpected (phase_by walk) ((standing_after h).phases who) → IsExpected (phase_by walk') ((standing_after h).phases who)) →
       Groups truths seats h (st walk word row lists flags None owed) → Groups truths seats h (st walk' word row lists flags None owed)
   sees word row lists flags owed clear idle place pay spin a' gone set' q o phase p =
@@ -640,7 +672,8 @@ module _ {C : Type 0} {N : ℕ} (truths : Truths C) (seats : ℕ) (h : List (Eve
       Every (VariableWaiterFits (standing_after h).phases (front ++ view_of who walk held owed ∷ back) k) took → pays walk ≡ false →
       -- moved, or owed
       ((moved ≡ true) × (is_held word ≡ true) × (has_some took ≡ true) × (lock' ≡ lists.lock ++ took) × (owed' ≡ [])) ⊎ ((moved ≡ false) × (lock' ≡ lists.lock) × (owed' ≡ wakes_of k took)) →
-      PlaceFits truths walk' held → pays walk' ≡ has_some owed' → calls_from_lock walk' ≡ false ⊎ (owed' ≡ []) → has_queues walk ≡ true → has_queues walk' ≡ false → waits_in walk ≡ None → waits_in walk' ≡ None → has_armed walk' ≡ false → is_queuing walk ≡ false → is_queuing walk' ≡ false → Way walk walk' → Stays walk walk' held →
+      PlaceFits truths walk' held → pays walk' ≡ has_some owed' → calls_from_lock walk' ≡ false ⊎ (owed' ≡ []) → has_queues walk ≡ true → has_queues walk' ≡ false
+      → waits_in walk ≡ None → waits_in walk' ≡ None → has_armed walk' ≡ false → is_queuing walk ≡ false → is_queuing walk' ≡ false → Way walk walk' → Stays walk walk' held →
       Groups truths seats h (st walk word row lists flags held owed) →
       Groups truths seats (h ++ e ∷ []) (st walk' (word_returned moved (bits_of lock') word) row (with_lock (cvs_without (taken_set took) lists) lock') flags held owed')
   wakes_waiters e k took word row lists flags held owed owed' lock' moved few low by legal after_it part takes idle ways place pay from s s' a a' set' q q' o stays p =

@@ -177,7 +177,8 @@ module _ {C : Type 0} {N : ℕ} (truths : Truths C) where
   rest_leads wait held p range = rest_place wait held (is_limited wait.limits) p range
 
   pub pay_waiting_leads : (wait : Wait C) (held : Option (Held C N)) (b : Bool) → let next = walk_after (pay_waiting wait b) in
-      (held ≡ None → IsInRange wait.on → PlaceFits truths next held) × (pays next ≡ b) × (has_queues next ≡ false) × (waits_in next ≡ waits_in (outside wait)) × (has_armed next ≡ false) × (is_queuing next ≡ false) × (calls_from_lock next ≡ true) × (phase_by next ≡ expected_for wait.on wait.mode) × (was_woken next ≡ false)
+      (held ≡ None → IsInRange wait.on → PlaceFits truths next held) × (pays next ≡ b) × (has_queues next ≡ false) × (waits_in next ≡ waits_in (outside wait))
+      × (has_armed next ≡ false) × (is_queuing next ≡ false) × (calls_from_lock next ≡ true) × (phase_by next ≡ expected_for wait.on wait.mode) × (was_woken next ≡ false)
   pay_waiting_leads wait held true = (λ e range. ((e, range), tt), refl, refl, refl, refl, refl, refl, refl, refl)
   pay_waiting_leads wait held false = (λ e range. ((e, range), tt), refl, refl, refl, refl, refl, refl, refl, refl)
 

@@ -33,7 +33,8 @@ module _ {C : Type 0} {N : ℕ} (phases : ℕ → Phase C) (lists : Lists C) (vi
       absurd (omega (arith, part, none, there.1))
   stands_no_more p four (inr woken) none = (woken.0, woken.1, woken.2)
 
-module _ {C : Type 0} {N : ℕ} (truths : Truths C) (old new : LockState C N) (view : SeatView C N) (commits : List (Event C N)) (wait : Wait C) (cause : Cause) (last : Word) (stood : Bool) (step : Step truths old view (Left stood) new commits) (walks : step.walk ≡ InWait wait (InLeaving cause (Leave last))) where
+module _ {C : Type 0} {N : ℕ} (truths : Truths C) (old new : LockState C N) (view : SeatView C N) (commits : List (Event C N)) (wait : Wait C) (cause : Cause) (last : Word)
+    (stood : Bool) (step : Step truths old view (Left stood) new commits) (walks : step.walk ≡ InWait wait (InLeaving cause (Leave last))) where
   -- it finds whether it stands there
   found_so : stands_at view.seat (home_of wait.on) old.lists ≡ stood
   found_so = let e = effect_at truths old new view (Left stood) commits (InWait wait (InLeaving cause (Leave last))) step walks in let found : Left (stands_at view.seat (home_of wait.on) old.lists) ≡ Left stood = e.0 in cc

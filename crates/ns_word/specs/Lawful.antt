@@ -141,7 +141,8 @@ pub record VariablesTell {C : Type 0} {N : ℕ} (phases : ℕ → Phase C) (list
 
 -- ---- what the taken are told
 
--- What a flag of this value tells one that waits so, in this phase, and was taken from a list: one that waits for variables was woken by one of them, and finds its number in one of two values; any other finds 0. Which of the two it is says from where it was taken, and that is said of the wakes that are owed (`OwesAs`).
+-- What a flag of this value tells one that waits so, in this phase, and was taken from a list: one that waits for variables was woken by one of them, and finds its number in one of two values; any
+-- other finds 0. Which of the two it is says from where it was taken, and that is said of the wakes that are owed (`OwesAs`).
 abbrev pub ToldOn : {C : Type 0} → Option (Subject C) → Mode → Phase C → ℕ → Type 0
 ToldOn None mode phase value = value ≡ 0
 ToldOn (Some (OnCondition c)) mode phase value = value ≡ 0

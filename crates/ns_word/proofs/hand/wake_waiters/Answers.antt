@@ -43,8 +43,10 @@ are_owed held k owed ws taken is seats same = rw is (seats ∙ ap (wakes_of k) s
 
 pub returns-then-held-clause-lists : goal.returns-then-held-clause-lists
 returns-then-held-clause-lists g c = elim c.match-waking.branch [
-  | in-Signaling w ↦ rw w.in-Signaling.is (were_moved c.args.held _ c.match-waking.queues c.append.new.self c.as_slice.result.now _ c.if-held.true (c.as_slice.ensures.value ∙ ap (λ v. v.items) w.taken-is ∙ w.take_signal-taken.ensures.taken) (w.queues-is ∙ w.take_signal-taken.ensures.left) c.append.ensures)
-  | in-Broadcasting w ↦ rw w.in-Broadcasting.is (were_moved c.args.held _ c.match-waking.queues c.append.new.self c.as_slice.result.now _ c.if-held.true (c.as_slice.ensures.value ∙ ap (λ v. v.items) w.taken-is ∙ w.take_all-taken.ensures.taken) (w.queues-is ∙ w.take_all-taken.ensures.left) c.append.ensures)
+  | in-Signaling w ↦ rw w.in-Signaling.is (were_moved c.args.held _ c.match-waking.queues c.append.new.self c.as_slice.result.now _ c.if-held.true
+      (c.as_slice.ensures.value ∙ ap (λ v. v.items) w.taken-is ∙ w.take_signal-taken.ensures.taken) (w.queues-is ∙ w.take_signal-taken.ensures.left) c.append.ensures)
+  | in-Broadcasting w ↦ rw w.in-Broadcasting.is (were_moved c.args.held _ c.match-waking.queues c.append.new.self c.as_slice.result.now _ c.if-held.true
+      (c.as_slice.ensures.value ∙ ap (λ v. v.items) w.taken-is ∙ w.take_all-taken.ensures.taken) (w.queues-is ∙ w.take_all-taken.ensures.left) c.append.ensures)
 ]
 
 pub returns-else-held-clause-owed : goal.returns-else-held-clause-owed

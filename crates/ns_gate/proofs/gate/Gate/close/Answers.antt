@@ -4,15 +4,6 @@ use Rattle.ns_gate.specs.Prelude.{is_held}
 use Rattle.ns_gate.proofs.Endings.{last_packs, ends}
 use Rattle.ns_gate.proofs.gate.Gate.close.Goals as goal
 
-pub close_with-closed-requires-room-P-TableRule : goal.close_with-closed-requires-room-P-TableRule
-close_with-closed-requires-room-P-TableRule g c = λ _ _. omega arith
-
-pub close_with-closed-requires-room-P-TableRule-2 : goal.close_with-closed-requires-room-P-TableRule-2
-close_with-closed-requires-room-P-TableRule-2 g c = λ _ _. omega arith
-
-pub close_with-closed-requires-room-P-TableRule-3 : goal.close_with-closed-requires-room-P-TableRule-3
-close_with-closed-requires-room-P-TableRule-3 g c = λ _ _. omega arith
-
 pub unpacked-word-requires : goal.unpacked-word-requires
 unpacked-word-requires g c = last_packs g.C.Condition.means _ _ _ _ _ _ c.close_with-closed.ensures.values.2 c.word.ensures
 

@@ -4,24 +4,6 @@ use Rattle.ns_gate.proofs.Allowed.{may_exchange}
 use Rattle.ns_gate.proofs.Findings.{found_packs, exchange_told}
 use Rattle.ns_gate.proofs.gate.Gate.exchange.Goals as goal
 
-pub compare_exchange-found-requires-room-P-TableRule : goal.compare_exchange-found-requires-room-P-TableRule
-compare_exchange-found-requires-room-P-TableRule g c = λ _ _. omega arith
-
-pub compare_exchange-found-requires-room-P-TableRule-2 : goal.compare_exchange-found-requires-room-P-TableRule-2
-compare_exchange-found-requires-room-P-TableRule-2 g c = λ _ _. omega arith
-
-pub compare_exchange-found-requires-room-P-TableRule-3 : goal.compare_exchange-found-requires-room-P-TableRule-3
-compare_exchange-found-requires-room-P-TableRule-3 g c = λ _ _. omega arith
-
-pub compare_exchange-found-requires-room-M-Play : goal.compare_exchange-found-requires-room-M-Play
-compare_exchange-found-requires-room-M-Play g c = λ _ _. omega arith
-
-pub compare_exchange-found-requires-room-M-Play-2 : goal.compare_exchange-found-requires-room-M-Play-2
-compare_exchange-found-requires-room-M-Play-2 g c = λ _ _. omega arith
-
-pub compare_exchange-found-requires-room-M-Play-3 : goal.compare_exchange-found-requires-room-M-Play-3
-compare_exchange-found-requires-room-M-Play-3 g c = λ _ _. omega arith
-
 pub compare_exchange-found-requires : goal.compare_exchange-found-requires
 compare_exchange-found-requires g c = let wide = c.self.invariant.0 in
     (◌∙◌ {A = TableId} c.requires.of (sym c.self.view_is), omega (arith, wide), may_exchange _ g.met.C.Condition.has_cells.0 g.met.C.Condition.quiet_keeps _ _ _ _ c.args.last c.args.new _ _ c.requires.may c.number-content.ensures c.number.ensures)

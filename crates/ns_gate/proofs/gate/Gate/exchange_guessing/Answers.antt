@@ -3,24 +3,6 @@ use Rattle.ns_gate.specs.Prelude.{TableId}
 use Rattle.ns_gate.proofs.Guesses.{may_guess, guess_packs, came_so}
 use Rattle.ns_gate.proofs.gate.Gate.exchange_guessing.Goals as goal
 
-pub exchange_saying-found-requires-room-P-TableRule : goal.exchange_saying-found-requires-room-P-TableRule
-exchange_saying-found-requires-room-P-TableRule g c = λ _ _. omega arith
-
-pub exchange_saying-found-requires-room-P-TableRule-2 : goal.exchange_saying-found-requires-room-P-TableRule-2
-exchange_saying-found-requires-room-P-TableRule-2 g c = λ _ _. omega arith
-
-pub exchange_saying-found-requires-room-P-TableRule-3 : goal.exchange_saying-found-requires-room-P-TableRule-3
-exchange_saying-found-requires-room-P-TableRule-3 g c = λ _ _. omega arith
-
-pub exchange_saying-found-requires-room-M-Telling : goal.exchange_saying-found-requires-room-M-Telling
-exchange_saying-found-requires-room-M-Telling g c = λ _ _. omega arith
-
-pub exchange_saying-found-requires-room-M-Telling-2 : goal.exchange_saying-found-requires-room-M-Telling-2
-exchange_saying-found-requires-room-M-Telling-2 g c = λ _ _. omega arith
-
-pub exchange_saying-found-requires-room-M-Telling-3 : goal.exchange_saying-found-requires-room-M-Telling-3
-exchange_saying-found-requires-room-M-Telling-3 g c = λ _ _. omega arith
-
 pub exchange_saying-found-requires-clause-allows : goal.exchange_saying-found-requires-clause-allows
 exchange_saying-found-requires-clause-allows g c = may_guess _ g.met.C.Condition.has_cells.0 g.met.C.Condition.quiet_keeps _ _ _ _ c.args.first c.args.guess c.args.new _ _ c.requires.can c.requires.may c.number-content.ensures c.number.ensures
 

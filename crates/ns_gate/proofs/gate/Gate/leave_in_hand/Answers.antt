@@ -20,6 +20,8 @@ pub returns : goal.returns
 returns g c = record {
   seat = (refl, refl);
   stood = c.leave_self-stood.ensures.stood ∙ ap (stands_at c.args.number c.args.home) (was_in_hand _ _ _ c.args.seat.now.me.1 c.requires.has c.slot_mut.ensures.value c.lists-queues.ensures.value);
-  lists = λ last. now_in_hand (the c.args.seat.now.me.0).stood _ _ c.args.seat.now.me.1 c.requires.has (c.leave_self-stood.ensures.left last ∙ ap (λ lists. changed c.args.number (LeaveSelf c.args.home) last lists) (was_in_hand _ _ _ c.args.seat.now.me.1 c.requires.has c.slot_mut.ensures.value c.lists-queues.ensures.value));
+  lists = λ last. now_in_hand (the c.args.seat.now.me.0).stood _ _ c.args.seat.now.me.1 c.requires.has
+      (c.leave_self-stood.ensures.left last ∙ ap (λ lists. changed c.args.number (LeaveSelf c.args.home) last lists)
+      (was_in_hand _ _ _ c.args.seat.now.me.1 c.requires.has c.slot_mut.ensures.value c.lists-queues.ensures.value));
   bits = λ last. c.bits.ensures ∙ ap (λ lists. bits_of lists.lock) (c.leave_self-stood.ensures.left last ∙ ap (λ lists. changed c.args.number (LeaveSelf c.args.home) last lists) (was_in_hand _ _ _ c.args.seat.now.me.1 c.requires.has c.slot_mut.ensures.value c.lists-queues.ensures.value));
 }

@@ -4,24 +4,6 @@ use Rattle.ns_gate.proofs.Allowed.{may_load}
 use Rattle.ns_gate.proofs.Findings.{stepped}
 use Rattle.ns_gate.proofs.gate.Gate.load_at.Goals as goal
 
-pub load_saying-requires-room-P-TableRule : goal.load_saying-requires-room-P-TableRule
-load_saying-requires-room-P-TableRule g c = λ _ _. omega arith
-
-pub load_saying-requires-room-P-TableRule-2 : goal.load_saying-requires-room-P-TableRule-2
-load_saying-requires-room-P-TableRule-2 g c = λ _ _. omega arith
-
-pub load_saying-requires-room-P-TableRule-3 : goal.load_saying-requires-room-P-TableRule-3
-load_saying-requires-room-P-TableRule-3 g c = λ _ _. omega arith
-
-pub load_saying-requires-room-M-Telling : goal.load_saying-requires-room-M-Telling
-load_saying-requires-room-M-Telling g c = λ _ _. omega arith
-
-pub load_saying-requires-room-M-Telling-2 : goal.load_saying-requires-room-M-Telling-2
-load_saying-requires-room-M-Telling-2 g c = λ _ _. omega arith
-
-pub load_saying-requires-room-M-Telling-3 : goal.load_saying-requires-room-M-Telling-3
-load_saying-requires-room-M-Telling-3 g c = λ _ _. omega arith
-
 pub load_saying-requires-clause-allows : goal.load_saying-requires-clause-allows
 load_saying-requires-clause-allows g c = may_load _ g.met.C.Condition.has_cells.0 g.met.C.Condition.quiet_keeps _ _ _ _ c.args.begins c.args.word c.requires.may
 

@@ -3,24 +3,6 @@ use Rattle.ns_gate.specs.Prelude.{TableId}
 use Rattle.ns_gate.proofs.Looks.{may_look, has_looked}
 use Rattle.ns_gate.proofs.gate.Gate.look.Goals as goal
 
-pub load_saying-requires-room-P-TableRule : goal.load_saying-requires-room-P-TableRule
-load_saying-requires-room-P-TableRule g c = λ _ _. omega arith
-
-pub load_saying-requires-room-P-TableRule-2 : goal.load_saying-requires-room-P-TableRule-2
-load_saying-requires-room-P-TableRule-2 g c = λ _ _. omega arith
-
-pub load_saying-requires-room-P-TableRule-3 : goal.load_saying-requires-room-P-TableRule-3
-load_saying-requires-room-P-TableRule-3 g c = λ _ _. omega arith
-
-pub load_saying-requires-room-M-Telling : goal.load_saying-requires-room-M-Telling
-load_saying-requires-room-M-Telling g c = λ _ _. omega arith
-
-pub load_saying-requires-room-M-Telling-2 : goal.load_saying-requires-room-M-Telling-2
-load_saying-requires-room-M-Telling-2 g c = λ _ _. omega arith
-
-pub load_saying-requires-room-M-Telling-3 : goal.load_saying-requires-room-M-Telling-3
-load_saying-requires-room-M-Telling-3 g c = λ _ _. omega arith
-
 pub load_saying-requires-clause-word : goal.load_saying-requires-clause-word
 load_saying-requires-clause-word g c = let wide = c.self.invariant.0 in let below = c.flag_at-flag.ensures.1 in omega (arith, wide, below)
 

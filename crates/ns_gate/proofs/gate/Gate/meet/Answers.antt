@@ -5,48 +5,6 @@ use Rattle.ns_seats.proofs.Views.{pair_of}
 use Rattle.ns_gate.proofs.Meets.{by_sums, learns, met_at}
 use Rattle.ns_gate.proofs.gate.Gate.meet.Goals as goal
 
-pub split_seat-first-requires-room-M-Split : goal.split_seat-first-requires-room-M-Split
-split_seat-first-requires-room-M-Split g c = λ _ _. omega arith
-
-pub join_seat-requires-room-M-Join : goal.join_seat-requires-room-M-Join
-join_seat-requires-room-M-Join g c = λ _ _. omega arith
-
-pub join_seat-requires-room-P-TableRule : goal.join_seat-requires-room-P-TableRule
-join_seat-requires-room-P-TableRule g c = λ _ _. omega arith
-
-pub join_seat-requires-room-P-TableRule-2 : goal.join_seat-requires-room-P-TableRule-2
-join_seat-requires-room-P-TableRule-2 g c = λ _ _. omega arith
-
-pub join_seat-requires-room-P-TableRule-3 : goal.join_seat-requires-room-P-TableRule-3
-join_seat-requires-room-P-TableRule-3 g c = λ _ _. omega arith
-
-pub load-requires-room-P-TableRule : goal.load-requires-room-P-TableRule
-load-requires-room-P-TableRule g c = λ _ _. omega arith
-
-pub load-requires-room-P-TableRule-2 : goal.load-requires-room-P-TableRule-2
-load-requires-room-P-TableRule-2 g c = λ _ _. omega arith
-
-pub load-requires-room-P-TableRule-3 : goal.load-requires-room-P-TableRule-3
-load-requires-room-P-TableRule-3 g c = λ _ _. omega arith
-
-pub load-requires-room-M-Play : goal.load-requires-room-M-Play
-load-requires-room-M-Play g c = λ _ _. omega arith
-
-pub load-requires-room-M-Play-2 : goal.load-requires-room-M-Play-2
-load-requires-room-M-Play-2 g c = λ _ _. omega arith
-
-pub load-requires-room-M-Play-3 : goal.load-requires-room-M-Play-3
-load-requires-room-M-Play-3 g c = λ _ _. omega arith
-
-pub split_seat-first-requires-room-P-TableRule : goal.split_seat-first-requires-room-P-TableRule
-split_seat-first-requires-room-P-TableRule g c = λ _ _. omega arith
-
-pub split_seat-first-requires-room-P-TableRule-2 : goal.split_seat-first-requires-room-P-TableRule-2
-split_seat-first-requires-room-P-TableRule-2 g c = λ _ _. omega arith
-
-pub split_seat-first-requires-room-P-TableRule-3 : goal.split_seat-first-requires-room-P-TableRule-3
-split_seat-first-requires-room-P-TableRule-3 g c = λ _ _. omega arith
-
 pub join_seat-requires : goal.join_seat-requires
 join_seat-requires g c = let wide = c.self.invariant.0 in (◌∙◌ {A = TableId} c.requires.first.0 (sym c.self.view_is), ◌∙◌ {A = TableId} c.requires.second.0 (sym c.self.view_is), c.requires.second.1.empty, omega (arith, wide), glues (by_sums _ _) _ _ _ _)
 

@@ -2,15 +2,6 @@ use Rattle.std.proofs.Common.{arith, ◌∙◌}
 use Rattle.ns_gate.proofs.Starts.{begins_with}
 use Rattle.ns_gate.proofs.gate.Gate.new.Goals as goal
 
-pub new-requires-room-P-TableRule : goal.new-requires-room-P-TableRule
-new-requires-room-P-TableRule g c = λ _ _. omega arith
-
-pub new-requires-room-P-TableRule-2 : goal.new-requires-room-P-TableRule-2
-new-requires-room-P-TableRule-2 g c = λ _ _. omega arith
-
-pub new-requires-room-P-TableRule-3 : goal.new-requires-room-P-TableRule-3
-new-requires-room-P-TableRule-3 g c = λ _ _. omega arith
-
 pub new-requires : goal.new-requires
 new-requires g c = begins_with _ _ _ _ _ _ (omega arith) (c.as_slice.ensures.value ∙ c.in_ok-words.ensures) c.in_ok-slots.ensures
 

@@ -1,15 +1,6 @@
 use Rattle.std.proofs.Common.{arith, inl}
 use Rattle.ns_gate.proofs.gate.Gate.park_timeout.Goals as goal
 
-pub park_timeout-requires-room-P-TableRule : goal.park_timeout-requires-room-P-TableRule
-park_timeout-requires-room-P-TableRule g c = λ _ _. omega arith
-
-pub park_timeout-requires-room-P-TableRule-2 : goal.park_timeout-requires-room-P-TableRule-2
-park_timeout-requires-room-P-TableRule-2 g c = λ _ _. omega arith
-
-pub park_timeout-requires-room-P-TableRule-3 : goal.park_timeout-requires-room-P-TableRule-3
-park_timeout-requires-room-P-TableRule-3 g c = λ _ _. omega arith
-
 pub flag_at-flag-requires : goal.flag_at-flag-requires
 flag_at-flag-requires g c = (omega arith, (omega arith, (inl c.requires.number.0, c.requires.number.1)))
 

@@ -3,15 +3,6 @@ use Rattle.ns_gate.specs.Prelude.{PayWake}
 use Rattle.ns_gate.proofs.Findings.{owed_next}
 use Rattle.ns_gate.proofs.gate.Gate.pay_wake.Goals as goal
 
-pub wake_one-requires-room-P-TableRule : goal.wake_one-requires-room-P-TableRule
-wake_one-requires-room-P-TableRule g c = λ _ _. omega arith
-
-pub wake_one-requires-room-P-TableRule-2 : goal.wake_one-requires-room-P-TableRule-2
-wake_one-requires-room-P-TableRule-2 g c = λ _ _. omega arith
-
-pub wake_one-requires-room-P-TableRule-3 : goal.wake_one-requires-room-P-TableRule-3
-wake_one-requires-room-P-TableRule-3 g c = λ _ _. omega arith
-
 pub flag_at-flag-requires : goal.flag_at-flag-requires
 flag_at-flag-requires g c = (omega arith, (omega arith, (inr (c.args.wake.value, c.requires.owed.0), c.requires.owed.1)))
 

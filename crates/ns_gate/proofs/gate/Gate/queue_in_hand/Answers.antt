@@ -19,6 +19,8 @@ bits-requires g c = queues_fit g.row.C g.row.N g.met.C.Condition.has_room g.C.Co
 pub returns : goal.returns
 returns g c = record {
   seat = (refl, refl);
-  lists = λ last. now_in_hand (the c.args.seat.now.me.0).stood _ _ c.args.seat.now.me.1 c.requires.has (c.queue_self.ensures last ∙ ap (λ lists. changed c.args.number (QueueSelf c.args.mode c.args.arrival) last lists) (was_in_hand _ _ _ c.args.seat.now.me.1 c.requires.has c.slot_mut.ensures.value c.lists-queues.ensures.value));
+  lists = λ last. now_in_hand (the c.args.seat.now.me.0).stood _ _ c.args.seat.now.me.1 c.requires.has
+      (c.queue_self.ensures last ∙ ap (λ lists. changed c.args.number (QueueSelf c.args.mode c.args.arrival) last lists)
+      (was_in_hand _ _ _ c.args.seat.now.me.1 c.requires.has c.slot_mut.ensures.value c.lists-queues.ensures.value));
   bits = λ last. c.bits.ensures ∙ ap (λ lists. bits_of lists.lock) (c.queue_self.ensures last ∙ ap (λ lists. changed c.args.number (QueueSelf c.args.mode c.args.arrival) last lists) (was_in_hand _ _ _ c.args.seat.now.me.1 c.requires.has c.slot_mut.ensures.value c.lists-queues.ensures.value));
 }

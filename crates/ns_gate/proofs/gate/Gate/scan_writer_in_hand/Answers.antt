@@ -40,7 +40,8 @@ returns-in-Nobody-clause-told g c =
     let was = was_in_hand _ _ _ c.args.seat.now.me.1 c.requires.has c.slot_mut.ensures.value c.lists-queues.ensures.value in
     let first = sym c.in-Nobody.is ∙ c.take_writer.ensures.told in
     let left = lists_few _ t c.args.row.now _ _ c.take_writer.new.self first refl c.take_writer.ensures.left ∙ ap (lists_scanned t c.args.row.now) was in
-    ap (λ (made : Turned). Ok (None, made)) c.turned_with.ensures ∙ told_nobody (sought_at t c.args.row.now stood) (woken_of meets stood.lock) (left_of meets stood.lock) _ (first ∙ ap (λ lists. foremost_of (sought_at t c.args.row.now lists) (woken_of meets lists.lock)) was) (ap (λ lists. bits_of lists.lock) left)
+    ap (λ (made : Turned). Ok (None, made)) c.turned_with.ensures ∙ told_nobody (sought_at t c.args.row.now stood) (woken_of meets stood.lock) (left_of meets stood.lock) _
+    (first ∙ ap (λ lists. foremost_of (sought_at t c.args.row.now lists) (woken_of meets lists.lock)) was) (ap (λ lists. bits_of lists.lock) left)
 
 pub returns-in-Nobody-clause-lists : goal.returns-in-Nobody-clause-lists
 returns-in-Nobody-clause-lists g c =
@@ -56,7 +57,9 @@ returns-in-Writer-clause-told g c =
     let was = was_in_hand _ _ _ c.args.seat.now.me.1 c.requires.has c.slot_mut.ensures.value c.lists-queues.ensures.value in
     let first = sym c.in-Writer.is ∙ c.take_writer.ensures.told in
     let left = lists_few _ t c.args.row.now _ _ c.take_writer.new.self first refl c.take_writer.ensures.left ∙ ap (lists_scanned t c.args.row.now) was in
-    ap (λ (made : Turned). Ok (Some c.called_one-wake.result, made)) c.turned_with-in-Writer.ensures ∙ told_writer (sought_at t c.args.row.now stood) (woken_of meets stood.lock) (left_of meets stood.lock) c.in-Writer.number c.in-Writer.via c.called_one-wake.result _ (first ∙ ap (λ lists. foremost_of (sought_at t c.args.row.now lists) (woken_of meets lists.lock)) was) c.called_one-wake.ensures (ap (λ lists. bits_of lists.lock) left)
+    ap (λ (made : Turned). Ok (Some c.called_one-wake.result, made)) c.turned_with-in-Writer.ensures
+    ∙ told_writer (sought_at t c.args.row.now stood) (woken_of meets stood.lock) (left_of meets stood.lock) c.in-Writer.number c.in-Writer.via c.called_one-wake.result _
+    (first ∙ ap (λ lists. foremost_of (sought_at t c.args.row.now lists) (woken_of meets lists.lock)) was) c.called_one-wake.ensures (ap (λ lists. bits_of lists.lock) left)
 
 pub returns-in-Writer-clause-lists : goal.returns-in-Writer-clause-lists
 returns-in-Writer-clause-lists g c =

@@ -59,7 +59,8 @@ returns-in-None-clause-orderly g c = rw (was_in_hand _ _ _ c.args.seat.now.me.1 
 
 pub returns-in-None-clause-sole : goal.returns-in-None-clause-sole
 returns-in-None-clause-sole g c =
-    let none : sole_of (waiters_of (the c.args.seat.now.me.0).stood (Cv c.args.k)) ≡ None = ap (λ lists. sole_of (waiters_of lists (Cv c.args.k))) (sym (was_in_hand _ _ _ c.args.seat.now.me.1 c.requires.has c.slot_mut.ensures.value c.lists-queues.ensures.value)) ∙ sym c.in-None.ensures.sole in rw none refl
+    let none : sole_of (waiters_of (the c.args.seat.now.me.0).stood (Cv c.args.k)) ≡ None = ap (λ lists. sole_of (waiters_of lists (Cv c.args.k)))
+    (sym (was_in_hand _ _ _ c.args.seat.now.me.1 c.requires.has c.slot_mut.ensures.value c.lists-queues.ensures.value)) ∙ sym c.in-None.ensures.sole in rw none refl
 
 pub returns-in-None-clause-lists : goal.returns-in-None-clause-lists
 returns-in-None-clause-lists g c = tt

@@ -15,11 +15,13 @@ came g c = let t = g.C.Condition.means in let b = c.begin_lock-seat.ensures in l
     ]
 
 pub holding-caller-requires : goal.holding-caller-requires
-holding-caller-requires g c = let so = locked_so g.C.Condition.means Read c.self.inside.caller c.self.inside.monitor.now c.begin_lock-seat.result.seat.table_id c.begin_lock-seat.result.number c.begin_lock-seat.result.seat.me (c.match-last.seat.table_id, c.match-last.seat.me) c.self.invariant c.begin_lock-seat.ensures.begun (came g (goal.at.holding-caller-requires g c).Joined-last) in
+holding-caller-requires g c = let so = locked_so g.C.Condition.means Read c.self.inside.caller c.self.inside.monitor.now c.begin_lock-seat.result.seat.table_id c.begin_lock-seat.result.number c.begin_lock-seat.result.seat.me
+    (c.match-last.seat.table_id, c.match-last.seat.me) c.self.invariant c.begin_lock-seat.ensures.begun (came g (goal.at.holding-caller-requires g c).Joined-last) in
     (omega arith, (omega arith, (omega arith, (so.0, so.1))))
 
 pub returns : goal.returns
-returns g c = let so = locked_so g.C.Condition.means Read c.self.inside.caller c.self.inside.monitor.now c.begin_lock-seat.result.seat.table_id c.begin_lock-seat.result.number c.begin_lock-seat.result.seat.me (c.match-last.seat.table_id, c.match-last.seat.me) c.self.invariant c.begin_lock-seat.ensures.begun (came g (goal.at.returns g c).Joined-last) in
+returns g c = let so = locked_so g.C.Condition.means Read c.self.inside.caller c.self.inside.monitor.now c.begin_lock-seat.result.seat.table_id c.begin_lock-seat.result.number c.begin_lock-seat.result.seat.me
+    (c.match-last.seat.table_id, c.match-last.seat.me) c.self.invariant c.begin_lock-seat.ensures.begun (came g (goal.at.returns g c).Joined-last) in
     rw (← c.self.view_is) (subst (HasLocked g.C.Condition.means (locking Read) Read c.self.inside.caller) (sym c.holding-caller.ensures) so.2)
 
 pub begin_lock-seat-requires : goal.begin_lock-seat-requires
@@ -29,5 +31,6 @@ pub lock_slow-seat-requires : goal.lock_slow-seat-requires
 lock_slow-seat-requires g c = let b = c.begin_lock-seat.ensures in let went = rw c.in-Some.is at b.went in (omega arith, (omega arith, (omega arith, (b.of, (b.begun.own, (went.0, went.1))))))
 
 pub invariant_of-result : goal.invariant_of-result
-invariant_of-result g c = let so = locked_so g.C.Condition.means Read c.self.inside.caller c.self.inside.monitor.now c.begin_lock-seat.result.seat.table_id c.begin_lock-seat.result.number c.begin_lock-seat.result.seat.me (c.match-last.seat.table_id, c.match-last.seat.me) c.self.invariant c.begin_lock-seat.ensures.begun (came g (goal.at.invariant_of-result g c).Joined-last) in
+invariant_of-result g c = let so = locked_so g.C.Condition.means Read c.self.inside.caller c.self.inside.monitor.now c.begin_lock-seat.result.seat.table_id c.begin_lock-seat.result.number c.begin_lock-seat.result.seat.me
+    (c.match-last.seat.table_id, c.match-last.seat.me) c.self.invariant c.begin_lock-seat.ensures.begun (came g (goal.at.invariant_of-result g c).Joined-last) in
     ◌∙◌ {A = TableId} (subst (HasLocked g.C.Condition.means (locking Read) Read c.self.inside.caller) (sym c.holding-caller.ensures) so.2).grows.monitor c.self.invariant

@@ -15,11 +15,13 @@ came g c = let t = g.C.Condition.means in let b = c.begin_unlock-seat.ensures in
     ]
 
 pub seated-caller-requires : goal.seated-caller-requires
-seated-caller-requires g c = let so = released_so g.C.Condition.means QuietWriter c.self.inside.caller c.self.inside.monitor.now c.begin_unlock-seat.result.seat.table_id c.begin_unlock-seat.result.number c.begin_unlock-seat.result.seat.me (c.match-last.seat.table_id, c.match-last.seat.me) c.self.invariant c.begin_unlock-seat.ensures.begun (came g (goal.at.seated-caller-requires g c).Joined-last) in
+seated-caller-requires g c = let so = released_so g.C.Condition.means QuietWriter c.self.inside.caller c.self.inside.monitor.now c.begin_unlock-seat.result.seat.table_id c.begin_unlock-seat.result.number c.begin_unlock-seat.result.seat.me
+    (c.match-last.seat.table_id, c.match-last.seat.me) c.self.invariant c.begin_unlock-seat.ensures.begun (came g (goal.at.seated-caller-requires g c).Joined-last) in
     (omega arith, (omega arith, (omega arith, so.0)))
 
 pub returns : goal.returns
-returns g c = let so = released_so g.C.Condition.means QuietWriter c.self.inside.caller c.self.inside.monitor.now c.begin_unlock-seat.result.seat.table_id c.begin_unlock-seat.result.number c.begin_unlock-seat.result.seat.me (c.match-last.seat.table_id, c.match-last.seat.me) c.self.invariant c.begin_unlock-seat.ensures.begun (came g (goal.at.returns g c).Joined-last) in
+returns g c = let so = released_so g.C.Condition.means QuietWriter c.self.inside.caller c.self.inside.monitor.now c.begin_unlock-seat.result.seat.table_id c.begin_unlock-seat.result.number c.begin_unlock-seat.result.seat.me
+    (c.match-last.seat.table_id, c.match-last.seat.me) c.self.invariant c.begin_unlock-seat.ensures.begun (came g (goal.at.returns g c).Joined-last) in
     let over = subst (HasUnlocked g.C.Condition.means QuietWriter c.self.inside.caller) (sym c.seated-caller.ensures) so.1 in rw (← c.self.view_is) record { grows = over.grows; mine = over.mine }
 
 pub begin_unlock-seat-requires : goal.begin_unlock-seat-requires
@@ -29,5 +31,6 @@ pub unlock_slow-seat-requires : goal.unlock_slow-seat-requires
 unlock_slow-seat-requires g c = let b = c.begin_unlock-seat.ensures in let went = rw c.in-Some.is at b.went in (omega arith, (omega arith, (omega arith, (b.of, (went.0, went.1)))))
 
 pub invariant_of-result : goal.invariant_of-result
-invariant_of-result g c = let so = released_so g.C.Condition.means QuietWriter c.self.inside.caller c.self.inside.monitor.now c.begin_unlock-seat.result.seat.table_id c.begin_unlock-seat.result.number c.begin_unlock-seat.result.seat.me (c.match-last.seat.table_id, c.match-last.seat.me) c.self.invariant c.begin_unlock-seat.ensures.begun (came g (goal.at.invariant_of-result g c).Joined-last) in
+invariant_of-result g c = let so = released_so g.C.Condition.means QuietWriter c.self.inside.caller c.self.inside.monitor.now c.begin_unlock-seat.result.seat.table_id c.begin_unlock-seat.result.number c.begin_unlock-seat.result.seat.me
+    (c.match-last.seat.table_id, c.match-last.seat.me) c.self.invariant c.begin_unlock-seat.ensures.begun (came g (goal.at.invariant_of-result g c).Joined-last) in
     ◌∙◌ {A = TableId} (subst (HasUnlocked g.C.Condition.means QuietWriter c.self.inside.caller) (sym c.seated-caller.ensures) so.1).grows.monitor c.self.invariant

@@ -9,7 +9,8 @@ pub invariant_of-first : goal.invariant_of-first
 invariant_of-first g c = ◌∙◌ {A = TableId} c.both_read-first.ensures.learned.0.monitor c.self.invariant
 
 pub invariant_of-second : goal.invariant_of-second
-invariant_of-second g c = ◌∙◌ {A = TableId} c.both_read-first.ensures.learned.1.monitor (◌∙◌ {A = TableId} (ap (λ (k : Known g.row.C.Denot g.row.N). k.monitor) c.other.view_is) (◌∙◌ {A = TableId} (sym c.requires) (◌∙◌ {A = TableId} (sym (ap (λ (k : Known g.row.C.Denot g.row.N). k.monitor) c.self.view_is)) c.self.invariant)))
+invariant_of-second g c = ◌∙◌ {A = TableId} c.both_read-first.ensures.learned.1.monitor (◌∙◌ {A = TableId} (ap (λ (k : Known g.row.C.Denot g.row.N). k.monitor) c.other.view_is)
+    (◌∙◌ {A = TableId} (sym c.requires) (◌∙◌ {A = TableId} (sym (ap (λ (k : Known g.row.C.Denot g.row.N). k.monitor) c.self.view_is)) c.self.invariant)))
 
 pub returns-clause-read : goal.returns-clause-read
 returns-clause-read g c = rw (← c.self.view_is, ← c.other.view_is) c.both_read-first.ensures.read

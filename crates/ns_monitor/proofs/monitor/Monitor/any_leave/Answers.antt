@@ -42,4 +42,5 @@ invariant_of-back g c = let t = g.C.Condition.means in let now = c.come_back-out
 pub returns : goal.returns
 returns g c = let t = g.C.Condition.means in let s0 = c.waiting.inside.seat in let now = c.come_back-outcome.new.seat in let mode = g.H.Section.mode in
     subst (λ by. HasComeBackFromAny t mode by c.args.waiting (known_of now.table_id now.me)) (sym c.variable-by.ensures)
-    (has_come_back t mode c.waiting.inside.cvs (variable_in c.come_back-outcome.result) c.args.waiting s0.table_id now.table_id s0.me now.me c.waiting.view_is (◌∙◌ {A = TableId} c.come_back-outcome.ensures.seat (sym c.requires.of)) c.waiting.invariant.0 c.come_back-outcome.ensures.since (answered g c))
+    (has_come_back t mode c.waiting.inside.cvs (variable_in c.come_back-outcome.result) c.args.waiting s0.table_id now.table_id s0.me now.me c.waiting.view_is
+    (◌∙◌ {A = TableId} c.come_back-outcome.ensures.seat (sym c.requires.of)) c.waiting.invariant.0 c.come_back-outcome.ensures.since (answered g c))

@@ -25,12 +25,16 @@ returns-then-stood g c = record {
   since = since_back g (goal.at.returns-then-stood g c).After-put_back;
   ended = search rules;
   left = let t = g.C.Condition.means in let took = c.take-word in let left = c.leave_in_hand-stood in
-      subst (λ next. HasReached t (Await c.args.wait) next c.put_back.new.seat.me) (left_next t c.args.wait c.args.cause took.result c.home-home.result c.args.number left.result.0 true took.new.seat.me left.new.seat.me c.home-home.ensures (c.requires.number.0 ∙ sym took.ensures.since.seat) left.ensures.seat.1 left.ensures.stood c.if-stood.true) c.put_back.ensures.returned;
+      subst (λ next. HasReached t (Await c.args.wait) next c.put_back.new.seat.me)
+      (left_next t c.args.wait c.args.cause took.result c.home-home.result c.args.number left.result.0 true took.new.seat.me left.new.seat.me c.home-home.ensures
+      (c.requires.number.0 ∙ sym took.ensures.since.seat) left.ensures.seat.1 left.ensures.stood c.if-stood.true) c.put_back.ensures.returned;
 }
 
 pub await_flag-flag-requires : goal.await_flag-flag-requires
 await_flag-flag-requires g c = let t = g.C.Condition.means in let took = c.take-word in let left = c.leave_in_hand-stood in
-    let at : IsAtPlace t (InWait c.args.wait (InLeaving c.args.cause AwaitWakeToLeave)) c.put_back.new.seat.me = subst (λ next. HasReached t (Await c.args.wait) next c.put_back.new.seat.me) (left_next t c.args.wait c.args.cause took.result c.home-home.result c.args.number left.result.0 false took.new.seat.me left.new.seat.me c.home-home.ensures (c.requires.number.0 ∙ sym took.ensures.since.seat) left.ensures.seat.1 left.ensures.stood c.if-stood.false) c.put_back.ensures.returned in
+    let at : IsAtPlace t (InWait c.args.wait (InLeaving c.args.cause AwaitWakeToLeave)) c.put_back.new.seat.me = subst (λ next. HasReached t (Await c.args.wait) next c.put_back.new.seat.me)
+    (left_next t c.args.wait c.args.cause took.result c.home-home.result c.args.number left.result.0 false took.new.seat.me left.new.seat.me c.home-home.ensures
+    (c.requires.number.0 ∙ sym took.ensures.since.seat) left.ensures.seat.1 left.ensures.stood c.if-stood.false) c.put_back.ensures.returned in
     (omega arith, (omega arith, (omega arith, (c.put_back.ensures.seat, (same_number t None c.args.number c.args.seat.now.me c.put_back.new.seat.me c.requires.number (since_back g (goal.at.await_flag-flag-requires g c).After-put_back), (record { loads = refl; free = refl; rests = refl }, at))))))
 
 pub returns : goal.returns

@@ -20,7 +20,8 @@ number_is : (g : Over) (c : After-load_to_scan g) → c.args.number ≡ (the c.l
 number_is g c = c.requires.number.0 ∙ sym (since_start g c).seat
 
 pub load_to_scan-requires : goal.load_to_scan-requires
-load_to_scan-requires g c = let t = g.C.Condition.means in let word = c.args.word in let me = c.arm_flag.new.seat.me in let took = c.requires.taken in let is = arms_to_wait t c.args.wait c.args.again word c.args.seat.now.me c.args.seat.now.me me took c.arm_flag.ensures.did in let lock = (the me.0).stood.lock in
+load_to_scan-requires g c = let t = g.C.Condition.means in let word = c.args.word in let me = c.arm_flag.new.seat.me in let took = c.requires.taken in
+    let is = arms_to_wait t c.args.wait c.args.again word c.args.seat.now.me c.args.seat.now.me me took c.arm_flag.ensures.did in let lock = (the me.0).stood.lock in
     let tells = took.tells ∙ ap (λ (l : Lists g.row.C.Denot). (bits_of l.lock).conditional) (sym is.kept.stood) in
     let has = subst (HasRow c.args.wait.on c.args.row.now) (ap row_in (sym is.kept.held)) c.requires.row in
     let lacks = rw c.parts-parts.ensures at c.lacks_row.ensures in

@@ -15,11 +15,13 @@ came g c = let t = g.C.Condition.means in let b = c.begin_lock-seat.ensures in l
     ]
 
 pub holding-requires : goal.holding-requires
-holding-requires g c = let so = locked_so g.C.Condition.means Write c.args.seat c.args.self.now c.begin_lock-seat.result.seat.table_id c.begin_lock-seat.result.number c.begin_lock-seat.result.seat.me (c.match-last.seat.table_id, c.match-last.seat.me) c.requires c.begin_lock-seat.ensures.begun (came g (goal.at.holding-requires g c).Joined-last) in
+holding-requires g c = let so = locked_so g.C.Condition.means Write c.args.seat c.args.self.now c.begin_lock-seat.result.seat.table_id c.begin_lock-seat.result.number c.begin_lock-seat.result.seat.me
+    (c.match-last.seat.table_id, c.match-last.seat.me) c.requires c.begin_lock-seat.ensures.begun (came g (goal.at.holding-requires g c).Joined-last) in
     (omega arith, (omega arith, (omega arith, (so.0, so.1))))
 
 pub returns : goal.returns
-returns g c = let so = locked_so g.C.Condition.means Write c.args.seat c.args.self.now c.begin_lock-seat.result.seat.table_id c.begin_lock-seat.result.number c.begin_lock-seat.result.seat.me (c.match-last.seat.table_id, c.match-last.seat.me) c.requires c.begin_lock-seat.ensures.begun (came g (goal.at.returns g c).Joined-last) in
+returns g c = let so = locked_so g.C.Condition.means Write c.args.seat c.args.self.now c.begin_lock-seat.result.seat.table_id c.begin_lock-seat.result.number c.begin_lock-seat.result.seat.me
+    (c.match-last.seat.table_id, c.match-last.seat.me) c.requires c.begin_lock-seat.ensures.begun (came g (goal.at.returns g c).Joined-last) in
     subst (HasLocked g.C.Condition.means (locking Write) Write c.args.seat) (sym c.holding.ensures) so.2
 
 pub begin_lock-seat-requires : goal.begin_lock-seat-requires

@@ -34,7 +34,8 @@ returns g c = record {
   looked = search rules;
   shown = search rules;
   ends = is_limited_if c.args.wait.limits c.look-shown.result (sym c.is_some.ensures ∙ c.if-not-is_some.false);
-  mine = commits_none g.C.Condition.means None (Look c.args.wait.limits c.args.again) (Looked c.look-shown.result) c.args.seat.now.me c.look.new.seat.me c.look.ensures.did (does g.C.Condition.means None (Look c.args.wait.limits c.args.again) (Looked c.look-shown.result) c.args.seat.now.me c.look.new.seat.me c.look.ensures.did).2;
+  mine = commits_none g.C.Condition.means None (Look c.args.wait.limits c.args.again) (Looked c.look-shown.result) c.args.seat.now.me c.look.new.seat.me c.look.ensures.did
+      (does g.C.Condition.means None (Look c.args.wait.limits c.args.again) (Looked c.look-shown.result) c.args.seat.now.me c.look.new.seat.me c.look.ensures.did).2;
   leads = let t = g.C.Condition.means in let me = c.args.seat.now.me in looks_in t c.args.wait c.args.again c.look-shown.result me c.look.new.seat.me (by_limits t c.args.wait c.args.again true me (sym c.is_some.ensures ∙ c.if-not-is_some.false) c.requires.at) c.look.ensures.did;
   fresh = look_fresh g.C.Condition.means c.args.wait c.args.again c.look-shown.result c.args.seat.now.me c.look.new.seat.me c.look.ensures.did;
 }

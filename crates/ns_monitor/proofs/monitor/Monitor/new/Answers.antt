@@ -25,7 +25,8 @@ loop-number-preserved g c = let v = c.loop-number.invariant in let n = c.args.se
 pub returns : goal.returns
 returns g c = record {
   made = search rules;
-  seats = all_new (new_seat {C = g.row.C.Denot} {N = g.row.N} c.in_ok-gate.gate c.args.seats) (λ (seat : Known g.row.C.Denot g.row.N). seat.monitor ≡ c.in_ok-gate.gate) (λ seat. refl) 0 c.loop-number.given.items (subst (λ (t : TableId). AreNew c.args.seats t 0 c.loop-number.given.items) c.in_ok-gate.ensures.0 c.loop-number.invariant.3);
+  seats = all_new (new_seat {C = g.row.C.Denot} {N = g.row.N} c.in_ok-gate.gate c.args.seats) (λ (seat : Known g.row.C.Denot g.row.N). seat.monitor ≡ c.in_ok-gate.gate)
+      (λ seat. refl) 0 c.loop-number.given.items (subst (λ (t : TableId). AreNew c.args.seats t 0 c.loop-number.given.items) c.in_ok-gate.ensures.0 c.loop-number.invariant.3);
   refused = search rules;
 }
 

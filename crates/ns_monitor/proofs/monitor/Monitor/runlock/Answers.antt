@@ -15,11 +15,13 @@ came g c = let t = g.C.Condition.means in let b = c.begin_unlock-seat.ensures in
     ]
 
 pub seated-requires : goal.seated-requires
-seated-requires g c = let so = released_so g.C.Condition.means Reader c.args.held c.args.self.now c.begin_unlock-seat.result.seat.table_id c.begin_unlock-seat.result.number c.begin_unlock-seat.result.seat.me (c.match-last.seat.table_id, c.match-last.seat.me) c.requires c.begin_unlock-seat.ensures.begun (came g (goal.at.seated-requires g c).Joined-last) in
+seated-requires g c = let so = released_so g.C.Condition.means Reader c.args.held c.args.self.now c.begin_unlock-seat.result.seat.table_id c.begin_unlock-seat.result.number c.begin_unlock-seat.result.seat.me
+    (c.match-last.seat.table_id, c.match-last.seat.me) c.requires c.begin_unlock-seat.ensures.begun (came g (goal.at.seated-requires g c).Joined-last) in
     (omega arith, (omega arith, (omega arith, so.0)))
 
 pub returns : goal.returns
-returns g c = let so = released_so g.C.Condition.means Reader c.args.held c.args.self.now c.begin_unlock-seat.result.seat.table_id c.begin_unlock-seat.result.number c.begin_unlock-seat.result.seat.me (c.match-last.seat.table_id, c.match-last.seat.me) c.requires c.begin_unlock-seat.ensures.begun (came g (goal.at.returns g c).Joined-last) in
+returns g c = let so = released_so g.C.Condition.means Reader c.args.held c.args.self.now c.begin_unlock-seat.result.seat.table_id c.begin_unlock-seat.result.number c.begin_unlock-seat.result.seat.me
+    (c.match-last.seat.table_id, c.match-last.seat.me) c.requires c.begin_unlock-seat.ensures.begun (came g (goal.at.returns g c).Joined-last) in
     let over = subst (HasUnlocked g.C.Condition.means Reader c.args.held) (sym c.seated.ensures) so.1 in record { grows = over.grows; mine = over.mine }
 
 pub begin_unlock-seat-requires : goal.begin_unlock-seat-requires

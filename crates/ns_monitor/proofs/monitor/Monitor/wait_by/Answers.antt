@@ -29,14 +29,16 @@ waited : (g : Over) (c : After-test g) (answer : Answer) (table : TableId) (now 
     HasSince (Some (wait_first g.row.N (waits_by c.mode-mode.result c.args.condition c.args.limits))) (the c.held.inside.seat.me.0) (the now.0) → HasAnswered g.C.Condition.means (Await (waits_by c.mode-mode.result c.args.condition c.args.limits)) (Answered answer) now
     → HasWaitedFor g.C.Condition.means c.args.condition answer c.args.held (known_of table now)
 waited g c answer table now s a = let s0 = c.held.inside.seat in let wait = waits_by c.mode-mode.result c.args.condition c.args.limits in
-    wait_tells g.C.Condition.means (wait_first g.row.N wait) wait c.args.condition answer c.args.held s0.table_id table s0.me now c.held.view_is refl (subst (λ m. HasMode m (the s0.me.0).at.held) (sym c.mode-mode.ensures) (g.met.H.Section.in_mode c.held.inside.hand (the s0.me.0).at.held c.held.invariant.2)) s a
+    wait_tells g.C.Condition.means (wait_first g.row.N wait) wait c.args.condition answer c.args.held s0.table_id table s0.me now c.held.view_is refl
+    (subst (λ m. HasMode m (the s0.me.0).at.held) (sym c.mode-mode.ensures) (g.met.H.Section.in_mode c.held.inside.hand (the s0.me.0).at.held c.held.invariant.2)) s a
 
 -- the condition is true
 met : (g : Over) (c : After-test g) → c.test.result ≡ true → HasAnswered g.C.Condition.means (Await (waits_by c.mode-mode.result c.args.condition c.args.limits)) (Answered Met) c.test.new.seat.me
 met g c is = tested_so g.C.Condition.means (waits_by c.mode-mode.result c.args.condition c.args.limits) OnEntry c.args.condition c.test.result true c.test.new.row c.held.inside.seat.me c.test.new.seat.me is c.test.ensures.tested
 
 pub invariant_of-back : goal.invariant_of-back
-invariant_of-back g c = let after = (goal.at.invariant_of-back g c).After-test in ((met g after c.if-test.true).rest, same_number g.C.Condition.means (Some (wait_first g.row.N (waits_by c.mode-mode.result c.args.condition c.args.limits))) c.held.inside.number c.held.inside.seat.me c.test.new.seat.me c.held.invariant.1 (began g after), subst (λ o. g.H.Hand.fits c.held.inside.hand o) (sym c.test.ensures.tested.held) c.held.invariant.2)
+invariant_of-back g c = let after = (goal.at.invariant_of-back g c).After-test in
+    ((met g after c.if-test.true).rest, same_number g.C.Condition.means (Some (wait_first g.row.N (waits_by c.mode-mode.result c.args.condition c.args.limits))) c.held.inside.number c.held.inside.seat.me c.test.new.seat.me c.held.invariant.1 (began g after), subst (λ o. g.H.Hand.fits c.held.inside.hand o) (sym c.test.ensures.tested.held) c.held.invariant.2)
 
 pub returns-then-test : goal.returns-then-test
 returns-then-test g c = record {
@@ -60,7 +62,8 @@ ended : (g : Over) (c : After-look_before g) (cause : Cause) → c.look_before.r
 ended g c cause is = let led = subst (λ o. QueuesOrEnds g.C.Condition.means (waits_by c.mode-mode.result c.args.condition c.args.limits) false o c.test.new.seat.me c.look_before.new.seat.me) is c.look_before.ensures.leads in (led.0, led.1 refl ∙ c.test.ensures.tested.held)
 
 pub invariant_of-back-in-Some : goal.invariant_of-back-in-Some
-invariant_of-back-in-Some g c = let after = (goal.at.invariant_of-back-in-Some g c).After-look_before in let e = ended g after c.in-Some.cause c.in-Some.is in (e.0.rest, same_number g.C.Condition.means (Some (wait_first g.row.N (waits_by c.mode-mode.result c.args.condition c.args.limits))) c.held.inside.number c.held.inside.seat.me c.look_before.new.seat.me c.held.invariant.1 (looked g after), subst (λ o. g.H.Hand.fits c.held.inside.hand o) (sym e.1) c.held.invariant.2)
+invariant_of-back-in-Some g c = let after = (goal.at.invariant_of-back-in-Some g c).After-look_before in let e = ended g after c.in-Some.cause c.in-Some.is in
+    (e.0.rest, same_number g.C.Condition.means (Some (wait_first g.row.N (waits_by c.mode-mode.result c.args.condition c.args.limits))) c.held.inside.number c.held.inside.seat.me c.look_before.new.seat.me c.held.invariant.1 (looked g after), subst (λ o. g.H.Hand.fits c.held.inside.hand o) (sym e.1) c.held.invariant.2)
 
 pub returns-in-Some : goal.returns-in-Some
 returns-in-Some g c = record {
@@ -80,7 +83,9 @@ wait_on-answer-requires g c = let t = g.C.Condition.means in let wait = waits_by
 
 -- it has waited
 over : (g : Over) (c : After-wait_on-answer g) → HasSince (Some (wait_first g.row.N (waits_by c.mode-mode.result c.args.condition c.args.limits))) (the c.held.inside.seat.me.0) (the c.wait_on-answer.new.seat.me.0)
-over g c = since_then (Some (wait_first g.row.N (waits_by c.mode-mode.result c.args.condition c.args.limits))) _ _ _ (since_then (Some (wait_first g.row.N (waits_by c.mode-mode.result c.args.condition c.args.limits))) _ _ _ (subst (λ w. HasSince (Some w) (the c.held.inside.seat.me.0) (the c.test.new.seat.me.0)) c.wait.ensures.first c.test.ensures.since) c.look_before.ensures.since) c.wait_on-answer.ensures.since
+over g c = since_then (Some (wait_first g.row.N (waits_by c.mode-mode.result c.args.condition c.args.limits))) _ _ _
+    (since_then (Some (wait_first g.row.N (waits_by c.mode-mode.result c.args.condition c.args.limits))) _ _ _
+    (subst (λ w. HasSince (Some w) (the c.held.inside.seat.me.0) (the c.test.new.seat.me.0)) c.wait.ensures.first c.test.ensures.since) c.look_before.ensures.since) c.wait_on-answer.ensures.since
 
 pub invariant_of-back-2 : goal.invariant_of-back-2
 invariant_of-back-2 g c = let now = c.wait_on-answer.new.seat.me in (

@@ -27,11 +27,14 @@ pub returns : goal.returns
 returns g c = record {
   grows = let t = g.C.Condition.means in let after = (goal.at.returns g c).After-wait_at_variables-outcome in let s0 = c.held.inside.seat in let now = c.wait_at_variables-outcome.new.seat in
       subst (λ m. Grows t (queuing_first (waits_for_variable m c.args.k c.args.limits)) c.args.held (known_of now.table_id now.me)) c.mode-mode.ensures
-      (grew t (queuing_first (waits_for_variable c.mode-mode.result c.args.k c.args.limits)) c.args.held s0.table_id now.table_id s0.me now.me c.held.view_is (◌∙◌ {A = TableId} c.wait_at_variables-outcome.ensures.seat (sym c.requires.of)) (answered g after).rest c.wait_at_variables-outcome.ensures.since);
+      (grew t (queuing_first (waits_for_variable c.mode-mode.result c.args.k c.args.limits)) c.args.held s0.table_id now.table_id s0.me now.me c.held.view_is
+      (◌∙◌ {A = TableId} c.wait_at_variables-outcome.ensures.seat (sym c.requires.of)) (answered g after).rest c.wait_at_variables-outcome.ensures.since);
   waited = let t = g.C.Condition.means in let after = (goal.at.returns g c).After-wait_at_variables-outcome in let s0 = c.held.inside.seat in let now = c.wait_at_variables-outcome.new.seat in
       variable_wait_tells t (queuing_first (waits_for_variable c.mode-mode.result c.args.k c.args.limits)) c.mode-mode.result c.args.k c.args.limits c.answer.result c.args.held s0.table_id now.table_id s0.me now.me c.held.view_is c.wait_at_variables-outcome.ensures.since
       (subst (λ a. HasAnswered t (Await (waits_for_variable c.mode-mode.result c.args.k c.args.limits)) (Answered a) now.me) (sym c.answer.ensures) (answered g after));
   looked = search rules;
   ended = let new = c.wait_at_variables-outcome.new.watch in
-      ended_so (λ cause. (is_limited c.args.limits ≡ true) × g.W.Watch.shows c.args.watch.now new c.args.limits (Some cause)) (λ cause. g.W.Watch.shows c.args.watch.now new c.args.limits (Some cause)) c.wait_at_variables-outcome.result c.answer.result c.answer.ensures (λ cause shown. shown.1) c.wait_at_variables-outcome.ensures.ended;
+      ended_so (λ cause. (is_limited c.args.limits ≡ true) × g.W.Watch.shows c.args.watch.now new c.args.limits (Some cause))
+      (λ cause. g.W.Watch.shows c.args.watch.now new c.args.limits (Some cause)) c.wait_at_variables-outcome.result c.answer.result c.answer.ensures
+      (λ cause shown. shown.1) c.wait_at_variables-outcome.ensures.ended;
 }

@@ -32,4 +32,5 @@ loop-number-preserved c = let v = c.loop-number.invariant in let n = c.args.seat
     )
 
 pub returns-clause-seats : goal.returns-clause-seats
-returns-clause-seats c = let e = c.in_ok-table in all_new (λ seat. known e.table.shared.table_id c.args.seats seat [] []) (λ (k : EnvKnown). k.env ≡ e.table.shared.table_id) (λ seat. refl) 0 c.loop-number.given.items (subst (λ (t : TableId). AreNew t c.args.seats 0 c.loop-number.given.items) e.ensures.2 c.loop-number.invariant.3)
+returns-clause-seats c = let e = c.in_ok-table in all_new (λ seat. known e.table.shared.table_id c.args.seats seat [] []) (λ (k : EnvKnown). k.env ≡ e.table.shared.table_id)
+    (λ seat. refl) 0 c.loop-number.given.items (subst (λ (t : TableId). AreNew t c.args.seats 0 c.loop-number.given.items) e.ensures.2 c.loop-number.invariant.3)

@@ -30,7 +30,8 @@ both_added parent deadline above number index word old v u w is below coded same
 
 pub invariant_of-seat-2 : goal.invariant_of-seat-2
 invariant_of-seat-2 c = let e = c.in_ok-index.ensures in let t = c.store.ensures.2.1 in
-    rests _ _ _ c.seat.inside.seat.me _ c.seat.invariant.0.empty c.seat.invariant.1 t.0 (t.1 ∙ e.seat.2) t.2.acted.making (both_added c.args.parent c.args.deadline c.index_of.result c.from.result c.in_ok-index.index c.encode_note-word.result _ _ _ _ c.index_of.ensures c.requires.deadline c.encode_note-word.ensures c.from.ensures e.taken.1 t.2)
+    rests _ _ _ c.seat.inside.seat.me _ c.seat.invariant.0.empty c.seat.invariant.1 t.0 (t.1 ∙ e.seat.2) t.2.acted.making
+    (both_added c.args.parent c.args.deadline c.index_of.result c.from.result c.in_ok-index.index c.encode_note-word.result _ _ _ _ c.index_of.ensures c.requires.deadline c.encode_note-word.ensures c.from.ensures e.taken.1 t.2)
 
 pub returns-clause-grows : goal.returns-clause-grows
 returns-clause-grows c = let e = c.in_ok-index.ensures in let t = c.store.ensures.2.1 in

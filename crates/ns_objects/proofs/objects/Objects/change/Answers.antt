@@ -16,4 +16,5 @@ compare_exchange-requires c = let q = c.requires in let there = q.counter in let
 pub returns-clause-acted : goal.returns-clause-acted
 returns-clause-acted c = let q = c.requires in let delta = change_in_hand (the c.args.seat.now.me.0).place in
     let few = (accepted (counter_of c.args.word) delta c.args.value q.fits).1 in
-    has_exchanged c.args.counter c.from.result delta (counter_of c.args.word) c.args.value _ c.compare_exchange.result c.args.seat.now.me c.compare_exchange.new.seat.me c.from.ensures (value_made c.args.value c.encode_counter-new.result c.decode_counter-seen.result.waited few c.encode_counter-new.ensures) c.compare_exchange.ensures.2
+    has_exchanged c.args.counter c.from.result delta (counter_of c.args.word) c.args.value _ c.compare_exchange.result c.args.seat.now.me c.compare_exchange.new.seat.me c.from.ensures
+    (value_made c.args.value c.encode_counter-new.result c.decode_counter-seen.result.waited few c.encode_counter-new.ensures) c.compare_exchange.ensures.2

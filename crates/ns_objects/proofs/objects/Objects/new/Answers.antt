@@ -24,7 +24,8 @@ seated-requires c = let n = c.args.seats in let setup = setup_of n c.args.counte
     subst (λ (m : Seated). IsAtRest c.split_seat-seat.result.table_id m) (sym is) (record { one = tt; empty = refl; free = refl; true_to = record { room = (c.requires.counters, c.requires.onces); legal = tt; by_seats = tt; own = refl } })
 
 pub loop-number-preserved : goal.loop-number-preserved
-loop-number-preserved c = let v = c.loop-number.invariant in let n = c.args.seats in let setup = setup_of n c.args.counters.now c.args.onces in let i = c.loop-number._number in let lt : i < n = omega arith in let s = c.split_seat-seat.ensures in let p = c.in_ok-add.ensures in let t = c.in_ok-table.rest.table_id in
+loop-number-preserved c = let v = c.loop-number.invariant in let n = c.args.seats in let setup = setup_of n c.args.counters.now c.args.onces in let i = c.loop-number._number in
+    let lt : i < n = omega arith in let s = c.split_seat-seat.ensures in let p = c.in_ok-add.ensures in let t = c.in_ok-table.rest.table_id in
     let is = ap (λ (m : Seated). the m.0) (s.4 ∙ ap (λ (vs : List ObjectView). (vs, [])) (ap first_of v.1 ∙ numbered_first (fresh_seat setup) n i lt)) in
     let k : c.seated.result ≡ known t setup i [] [] = c.seated.ensures ∙ (λ j. known_of ((s.3 ∙ v.0) j) (is j)) in
     let e : i ≡ 0 + length c.loop-number.given.items = omega arith in (
@@ -36,4 +37,5 @@ loop-number-preserved c = let v = c.loop-number.invariant in let n = c.args.seat
 
 pub returns-clause-seats : goal.returns-clause-seats
 returns-clause-seats c = let e = c.in_ok-table in let setup = setup_of c.args.seats c.args.counters.now c.args.onces in
-    all_new (λ seat. known e.table.shared.table_id setup seat [] []) (λ (k : ObjectsKnown). (k.objects ≡ e.table.shared.table_id) × (k.setup ≡ setup)) (λ seat. (refl, refl)) 0 c.loop-number.given.items (subst (λ (t : TableId). AreNew t setup 0 c.loop-number.given.items) e.ensures.2 c.loop-number.invariant.3)
+    all_new (λ seat. known e.table.shared.table_id setup seat [] []) (λ (k : ObjectsKnown). (k.objects ≡ e.table.shared.table_id) × (k.setup ≡ setup))
+    (λ seat. (refl, refl)) 0 c.loop-number.given.items (subst (λ (t : TableId). AreNew t setup 0 c.loop-number.given.items) e.ensures.2 c.loop-number.invariant.3)

@@ -27,7 +27,9 @@ returns-then-is_met g c =
     let same = g.C.Condition.means.same in
     let w = c.in-Some.waiter.now in
     let met = answered same meets w.cond (option_copied c.as_ref-cond.result) c.is_met.result true c.as_ref-cond.ensures.value c.is_met.ensures c.if-is_met.true in
-    rw (← c.self.view_is) (sought_here same meets (λ d e is. g.met.C.Condition.same_agrees d e c.args.row.now c.told-row is) _ _ c.loop-waiter.seat c.loop-waiter.tests c.tests_for-tests.result c.self.inside.ring w (sym c.in-Some.ensures.waiter) met (counted g.C.Condition.means.same meets w.cond (option_copied c.as_ref-cond.result) c.tests_for-tests.result c.as_ref-cond.ensures.value c.tests_for-tests.ensures) c.loop-waiter.invariant)
+    rw (← c.self.view_is) (sought_here same meets (λ d e is. g.met.C.Condition.same_agrees d e c.args.row.now c.told-row is) _ _ c.loop-waiter.seat c.loop-waiter.tests c.tests_for-tests.result c.self.inside.ring w
+    (sym c.in-Some.ensures.waiter) met (counted g.C.Condition.means.same meets w.cond
+    (option_copied c.as_ref-cond.result) c.tests_for-tests.result c.as_ref-cond.ensures.value c.tests_for-tests.ensures) c.loop-waiter.invariant)
 
 pub beyond-seat-requires : goal.beyond-seat-requires
 beyond-seat-requires g c =

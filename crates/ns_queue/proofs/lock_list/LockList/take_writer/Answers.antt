@@ -30,13 +30,15 @@ pub returns-clause-told : goal.returns-clause-told
 returns-clause-told g c =
     let meets = λ (d : g.row.C.Denot). g.C.Condition.means.holds d c.args.row.now in
     let alone = sym c.is_write.ensures ∙ c.if-not-is_write.false in
-    rw (← c.self.view_is) (writer_first g.C.Condition.means.same meets c.seek-sought.result c.in-Some.found.now.via c.self.inside.ring _ c.in-Some.found.now c.get.ensures.orderly (rw (← c.self.view_is) at c.seek-sought.ensures) (sym c.in-Some.ensures.waiter) alone refl (rw (← c.self.view_is) at c.remove.ensures.removed)).0
+    rw (← c.self.view_is) (writer_first g.C.Condition.means.same meets c.seek-sought.result c.in-Some.found.now.via c.self.inside.ring _ c.in-Some.found.now c.get.ensures.orderly
+    (rw (← c.self.view_is) at c.seek-sought.ensures) (sym c.in-Some.ensures.waiter) alone refl (rw (← c.self.view_is) at c.remove.ensures.removed)).0
 
 pub returns-clause-left : goal.returns-clause-left
 returns-clause-left g c =
     let meets = λ (d : g.row.C.Denot). g.C.Condition.means.holds d c.args.row.now in
     let alone = sym c.is_write.ensures ∙ c.if-not-is_write.false in
-    rw (← c.self.view_is) (writer_first g.C.Condition.means.same meets c.seek-sought.result c.in-Some.found.now.via c.self.inside.ring _ c.in-Some.found.now c.get.ensures.orderly (rw (← c.self.view_is) at c.seek-sought.ensures) (sym c.in-Some.ensures.waiter) alone refl (rw (← c.self.view_is) at c.remove.ensures.removed)).1
+    rw (← c.self.view_is) (writer_first g.C.Condition.means.same meets c.seek-sought.result c.in-Some.found.now.via c.self.inside.ring _ c.in-Some.found.now c.get.ensures.orderly
+    (rw (← c.self.view_is) at c.seek-sought.ensures) (sym c.in-Some.ensures.waiter) alone refl (rw (← c.self.view_is) at c.remove.ensures.removed)).1
 
 pub seek-sought-requires : goal.seek-sought-requires
 seek-sought-requires g c = (lock_fits g.row.C (number g.row.N) g.met.C.Condition.has_room g.C.Condition, row_fits g.row.C (number g.row.N) g.met.C.Condition.has_room)

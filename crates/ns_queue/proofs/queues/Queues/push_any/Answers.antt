@@ -15,7 +15,9 @@ push_to-requires g c =
 
 pub loop-k-preserved : goal.loop-k-preserved
 loop-k-preserved g c = elim c.if-contains.branch [
-  | then-contains w ↦ rw w.self-is (each_more c.loop-k.k c.args.cvs c.args.waiter c.args.self.now c.loop-k.self w.push_to.new.self (sym c.contains.ensures ∙ w.if-contains.true) c.loop-k.invariant (w.push_to.ensures ∙ ap (λ v. with_waiters c.loop-k.self (Cv c.loop-k.k) (waiters_of c.loop-k.self (Cv c.loop-k.k) ++ v ∷ [])) w.named.ensures))
+  | then-contains w ↦ rw w.self-is (each_more c.loop-k.k c.args.cvs c.args.waiter c.args.self.now c.loop-k.self w.push_to.new.self
+      (sym c.contains.ensures ∙ w.if-contains.true) c.loop-k.invariant (w.push_to.ensures ∙ ap (λ v. with_waiters c.loop-k.self (Cv c.loop-k.k)
+      (waiters_of c.loop-k.self (Cv c.loop-k.k) ++ v ∷ [])) w.named.ensures))
   | else-contains w ↦ rw w.self-is (each_less c.loop-k.k c.args.cvs c.args.waiter c.args.self.now c.loop-k.self (sym c.contains.ensures ∙ w.if-contains.false) c.loop-k.invariant)
 ]
 

@@ -62,7 +62,8 @@ pub returns-then-not-stands_in_any-clause-absent : goal.returns-then-not-stands_
 returns-then-not-stands_in_any-clause-absent g c = rw (rw c.if-remove.false at c.remove.ensures.absent) c.self.view_is
 
 pub returns-clause-removed : goal.returns-clause-removed
-returns-clause-removed g c = rw (← c.self.view_is) (out_of_all c.self.inside.lock c.remove.new.self (map (λ v. v.items) c.self.inside.cvs) (map (λ v. v.items) c.drop_from_all.new.lists) c.args.seat c.none.result c.with.result c.none.ensures c.with.ensures c.remove.ensures.removed c.drop_from_all.ensures)
+returns-clause-removed g c = rw (← c.self.view_is) (out_of_all c.self.inside.lock c.remove.new.self (map (λ v. v.items) c.self.inside.cvs)
+    (map (λ v. v.items) c.drop_from_all.new.lists) c.args.seat c.none.result c.with.result c.none.ensures c.with.ensures c.remove.ensures.removed c.drop_from_all.ensures)
 
 pub none-requires : goal.none-requires
 none-requires g c = tt
