@@ -1,10 +1,9 @@
 -- The looks of a wait for any of a set of variables: it looks as it rests, and nowhere else; and while it does, its seat stands nowhere on the clock and the notes.
-use Rattle.std.proofs.Common.{◌≡◌, ℕ, Bool, true, false, cond, Option, None, Some, refl, ap, sym, subst}
-use Rattle.ns_world.specs.Prelude.{Act, Await, AwaitWakeInWait, Cause, Cvs, EnvWalk, Held, InAcquire, InCells, InLeaving, InQueuing, InRelease, InShow, InSignal, InTry, InWait, IsForCondition, IsUnfinished, LeaveLoad, Limits, Look, LookIn, LookOut, Looked, Mode}
-use Rattle.ns_world.specs.Prelude.{PlaceFits, TestLast, Truths, Walk, asked_of, asks_for_any, got_of, judge_of, look_of, look_place, looks_at, step_of, waits_among, waits_for_any, walk_after, want_acquiring, want_in_cells, want_leaving, want_of, want_releasing, want_showing}
-use Rattle.ns_world.specs.Prelude.{want_signaling, want_trying}
+use Rattle.std.proofs.Common.{Bool, None, Option, Some, ap, cond, false, refl, subst, sym, true, ℕ, ◌≡◌}
+use Rattle.ns_world.specs.Prelude.{Act, Await, AwaitWakeInWait, Cause, Cvs, EnvWalk, Held, InAcquire, InCells, InLeaving, InQueuing, InRelease, InShow, InSignal, InTry, InWait, IsForCondition, IsUnfinished, LeaveLoad, Limits, Look, LookIn, LookOut, Looked, Mode, PlaceFits, TestLast, Truths, Walk}
+use Rattle.ns_world.specs.Prelude.{asked_of, asks_for_any, got_of, judge_of, look_of, look_place, looks_at, step_of, waits_among, waits_for_any, walk_after, want_acquiring, want_in_cells, want_leaving, want_of, want_releasing, want_showing, want_signaling, want_trying}
 use Rattle.ns_word.specs.declared.wait.Wait.{Wait}
-use Rattle.ns_word.proofs.Answers.{look_of_act, try_looks_not, acquire_looks_not, release_looks_not, cells_look_not, leaver_looks_not, judge_looks_not, signal_looks_not, show_looks_not}
+use Rattle.ns_word.proofs.Answers.{acquire_looks_not, cells_look_not, judge_looks_not, leaver_looks_not, look_of_act, release_looks_not, show_looks_not, signal_looks_not, try_looks_not}
 
 nowhere : (b : Bool) (place : Option EnvWalk) → place ≡ None → cond b None place ≡ None
 nowhere true place is = refl

@@ -1,18 +1,17 @@
 -- No seat is past its last call.
-use Rattle.std.proofs.Common.{◌≡◌, ◌≢◌, ℕ, zero, suc, ◌+◌, ◌<◌, ◌≤◌, inl, inr, Bool, true, false, cond, List, [], ◌∷◌, None, Some, is_some, ◌||◌, Option, Vec, Global, length, map, get_or, slice_set, slice_get, slice_index, replicate, refl, ap, sym, ◌∙◌, subst, arith}
+use Rattle.std.proofs.Common.{Bool, Global, List, None, Option, Some, Vec, [], ap, arith, cond, false, get_or, inl, inr, is_some, length, map, refl, replicate, slice_get, slice_index, slice_set, subst, suc, sym, true, zero, ℕ, ◌+◌, ◌<◌, ◌||◌, ◌∙◌, ◌∷◌, ◌≡◌, ◌≢◌, ◌≤◌}
 use Rattle.std.specs.Prelude.{All, IfSome}
 use Rattle.ns_world.proofs.Below.{cases_eq, get_or-set_other, get_or-set_same, length-set, put_none, slice_get_within}
-use Rattle.std.proofs.lemmas.List.Elements.{All-head, All-tail, All-nil}
-use Rattle.ns_world.specs.Prelude.{Acts, AnyWait, Awaits, Call, CallInRange, Counts, EnvNext, Finished, Go, Goes, GoesOnOrBegins, IsCounted, Line, ListFits, LookGoes, LookOver, Moves, Next, Now, ObjectNext, ObjectWalk, Objects, On, Progress, Reply}
-use Rattle.ns_world.specs.Prelude.{Step, TurnOf, Went, Whole, WholeMoves, calls_of, env_got_of, env_step_of, env_walk_after, got_of, is_asking, is_busy, is_for_lock, is_walking, look_of, object_after, object_got, object_step_of, progress}
-use Rattle.ns_world.specs.Prelude.{progressed, shown_by, step_of, step_told, stood_at, wait_in, waited_after, walk_after, walk_in, whole_busy}
+use Rattle.std.proofs.lemmas.List.Elements.{All-head, All-nil, All-tail}
+use Rattle.ns_world.specs.Prelude.{Acts, AnyWait, Awaits, Call, CallInRange, Counts, EnvNext, EnvWalk, Finished, Go, Goes, GoesOnOrBegins, IsCounted, Line, ListFits, LookGoes, LookOver, Moves, Next, Now, ObjectNext, ObjectWalk, Objects, On, Progress, Reply, SeatView, Step, TurnOf, Went, Whole}
+use Rattle.ns_world.specs.Prelude.{WholeMoves, calls_of, env_got_of, env_step_of, env_walk_after, got_of, is_asking, is_busy, is_for_lock, is_walking, look_of, object_after, object_got, object_step_of, progress, progressed, shown_by, step_of, step_told, stood_at, wait_in, waited_after, walk_after}
+use Rattle.ns_world.specs.Prelude.{walk_in, whole_busy}
 use Rattle.ns_word.specs.declared.walk.Next.TheVariants.{Done}
-use Rattle.ns_env.specs.declared.walk.EnvNext.TheVariants.{Repeat, Over}
-use Rattle.ns_world.proofs.Busy.{both, walking_at, walking_set_same, asking_set_same, asking_set_none}
+use Rattle.ns_env.specs.declared.walk.EnvNext.TheVariants.{Over, Repeat}
+use Rattle.ns_world.proofs.Busy.{asking_set_none, asking_set_same, both, walking_at, walking_set_same}
 use Rattle.ns_world.proofs.Turns.{is_idle_of, is_whole_busy, is_whole_idle}
 use Rattle.ns_world.proofs.Others.{Still, moves_still, starts_still}
 use Rattle.std.specs.Option.{option_map_or}
-use Rattle.ns_world.specs.Prelude.{EnvWalk, SeatView}
 use Rattle.ns_word.specs.declared.walk.Next.TheVariants as TheNext
 use Rattle.ns_counters.specs.declared.walk.ObjectNext.TheVariants as TheObject
 

@@ -1,25 +1,20 @@
 -- What a step on the parts of a world, or the beginning of a call, is in that world.
-use Rattle.std.proofs.Common.{◌≡◌, ℕ, ◌<◌, ◌≤◌, not, Bool, true, false, List, Option, None, Some, IsSome, length, map, get_or, slice_get, slice_set, refl, ap, sym, ◌∙◌, subst, arith, inl, inr}
-use Rattle.ns_world.proofs.Below.{length-map, same_Some, set_here}
-use Rattle.ns_world.specs.Prelude.{Call, CallFits, Commits, EnvMoves, EnvWalk, Misuses, OutOfMemory, Start, WholeFault, WholeIsIdle, WholeStarts, object_start, objects_begun, placed, start_of}
-use Rattle.ns_world.specs.Prelude.{Acts, AnyWait, Await, CanTell, Cvs, EnvPlain, Environment, Event, HasOperated, HasTold, Idle, InRound, InWait, IsFew, IsLawfulWhole, Lists}
-use Rattle.ns_world.specs.Prelude.{Looked, LooksWhere, MayShow, MayWaitOnLock, Mode, NoteStanding, Now, ObjectStanding, ObjectWalk, Objects, OnLock, Performs, Seat, SeatView, Sees, Setup, StandsAlone, StandsBy}
-use Rattle.ns_world.specs.Prelude.{Step, Truths, WaitsOnLock, Walk, WalkFits, Whole, WholeStep, Word, asked_of, asks_for_any, at_will, cause_of, is_alone, is_for_lock, items_of, looks_at, mode_of, mode_waited, now_with, objects_after}
-use Rattle.ns_world.specs.Prelude.{plain_of, seat_part, shown_by, step_told, view_of, wait_first, wait_in, waited_after, waits_among, waits_for_any, walk_in, want_of, whole, whole_with}
+use Rattle.std.proofs.Common.{Bool, IsSome, List, None, Option, Some, ap, arith, false, get_or, inl, inr, is_some, length, map, not, refl, slice_get, slice_set, subst, sym, true, ℕ, ◌<◌, ◌||◌, ◌∙◌, ◌≡◌, ◌≤◌}
+use Rattle.ns_world.proofs.Below.{length-map, same_Some, set-get_or, set_again, set_here}
+use Rattle.ns_world.specs.Prelude.{Acts, AnyWait, Ask, Await, Call, CallFits, CanTell, Commits, Cvs, EnvMoves, EnvNext, EnvPlain, EnvWalk, Environment, Event, Go, HasOperated, HasTold, Idle, InRound, InWait, IsFew, IsLawfulWhole, Lists, LookOver, Looked, LooksWhere, MayShow, MayWaitOnLock, Misuses}
+use Rattle.ns_world.specs.Prelude.{Mode, MovesFrom, NoteStanding, Now, ObjectStanding, ObjectWalk, ObjectWords, Objects, OnLock, OnObjects, OutOfMemory, Performs, Seat, SeatLooks, SeatOperates, SeatView, Sees, Setup, StandsAlone, StandsBy, Start, Step, StepFits, ToldIf, Truths, WaitsOnLock, Walk}
+use Rattle.ns_world.specs.Prelude.{WalkFits, Whole, WholeFault, WholeIsBusy, WholeIsIdle, WholeStarts, WholeStep, Word, asked_of, asks_for_any, at_will, came_back, cause_of, env_got_of, got_of, held_after, is_alone, is_for_lock, items_of, look_of, looks_at, mode_of, mode_waited, now_with}
+use Rattle.ns_world.specs.Prelude.{object_after, object_got, object_place, object_start, objects_after, objects_begun, objects_of, placed, plain_of, seat_part, shown_by, start_of, step_told, stood_at, told_to, view_of, wait_first, wait_in, waited_after, waited_seat, waits_among, waits_for_any}
+use Rattle.ns_world.specs.Prelude.{walk_after, walk_in, want_of, whole, whole_with}
 use Rattle.ns_word.specs.declared.wait.Wait.{Wait}
 use Rattle.ns_world.proofs.AnyLooks.{LooksOut}
 use Rattle.ns_world.proofs.Awaits.{all_low, next as view_after, next_at, out, there_as}
 use Rattle.ns_world.proofs.Others.{begun_stood, low_walks}
 use Rattle.ns_world.proofs.Mapped.{got-map, map-as, map-set, map-stays}
-use Rattle.std.proofs.Common.{◌||◌, is_some}
-use Rattle.std.specs.Prelude.{unwrap_or}
-use Rattle.ns_world.proofs.Below.{set-get_or, set_again}
+use Rattle.std.specs.Prelude.{IfSome, unwrap_or}
 use Rattle.ns_world.proofs.Turns.{place_of, placed_by}
 use Rattle.ns_world.proofs.Wholes.{may_operate}
-use Rattle.ns_world.specs.Prelude.{Ask, EnvNext, Go, LookOver, MovesFrom, ObjectWords, OnObjects, SeatLooks, SeatOperates, StepFits, ToldIf, WholeIsBusy, came_back, got_of, held_after, look_of, object_after, object_got, object_place, objects_of, stood_at}
 use Rattle.ns_world.specs.Names.{ObjectEffect, object_want}
-use Rattle.std.specs.Prelude.{IfSome}
-use Rattle.ns_world.specs.Prelude.{env_got_of, told_to, waited_seat, walk_after}
 use Rattle.ns_world.proofs.Placed.{begun_here, starts_here}
 use Rattle.ns_world.proofs.Worlds.{acts_found, acts_here, inside_here, moved_here, number_here, sees_performs}
 

@@ -1,12 +1,11 @@
 -- A turn of a run, by what beginning a call and a step promise.
-use Rattle.std.proofs.Common.{◌≡◌, ℕ, ◌-◌, nat_lt, inl, inr, ◌≢◌, ◌||◌, Bool, true, false, cond, List, Option, None, Some, is_some, length, slice_get, refl, ap, sym, ◌∙◌, subst, arith, Result, Ok, Err}
-use Rattle.std.specs.Prelude.{IfOk, IfErr}
+use Rattle.std.proofs.Common.{Bool, Err, List, None, Ok, Option, Result, Some, ap, arith, cond, false, inl, inr, is_some, length, nat_lt, refl, slice_get, subst, sym, true, ℕ, ◌-◌, ◌||◌, ◌∙◌, ◌≡◌, ◌≢◌}
+use Rattle.std.specs.Prelude.{IfErr, IfOk}
 use Rattle.ns_world.proofs.Below.{length-set, same_Some, set_here, slice_get_within}
-use Rattle.ns_world.specs.Prelude.{AnyWait, Ask, Call, Commits, EnvNext, Fault, Go, GoesOnOrBegins, InCells, InRound, InWait, IsBusy, IsIdle, IsWalking, Limits, Lists, Lock, LookGoes, LookOver, Mode, Moves}
-use Rattle.ns_world.specs.Prelude.{NoSuchSeat, Nothing, Now, ObjectWalk, OnCondition, OnEntry, OnLock, OnObjects, OutOfMemory, Progress, QuietCells, QuietLast, SeatView, Start, Step, StepLimit, TestCells}
-use Rattle.ns_world.specs.Prelude.{TestLast, ToRelease, TooManySeats, TurnOf, TurnsWith, UnlockQuiet, Wait, Went, Whole, WholeFault, WholeIsBusy, WholeIsIdle, WholeMoves, WholeStarts, WholeStep, Word, begun_at, env_got_of, is_asking, is_busy, is_walking}
-use Rattle.ns_world.specs.Prelude.{Next, ObjectNext, On, env_step_of, got_of, object_got, object_step_of, step_of, step_told, mode_of, mode_waited, object_start, progress, progressed, start_of, walk_in, want_of, whole_busy}
-use Rattle.ns_world.proofs.Busy.{or_true, both, walking_at, walking_set_same, asking_at, asking_set_same}
+use Rattle.ns_world.specs.Prelude.{AnyWait, Ask, Call, Commits, EnvNext, Fault, Go, GoesOnOrBegins, InCells, InRound, InWait, IsBusy, IsIdle, IsWalking, Limits, Lists, Lock, LookGoes, LookOver, Mode, Moves, Next, NoSuchSeat, Nothing, Now, ObjectNext, ObjectWalk, On, OnCondition, OnEntry, OnLock}
+use Rattle.ns_world.specs.Prelude.{OnObjects, OutOfMemory, Progress, QuietCells, QuietLast, SeatView, Start, Step, StepLimit, TestCells, TestLast, ToRelease, TooManySeats, TurnOf, TurnsWith, UnlockQuiet, Wait, Went, Whole, WholeFault, WholeIsBusy, WholeIsIdle, WholeMoves, WholeStarts, WholeStep}
+use Rattle.ns_world.specs.Prelude.{Word, begun_at, env_got_of, env_step_of, got_of, is_asking, is_busy, is_walking, mode_of, mode_waited, object_got, object_start, object_step_of, progress, progressed, start_of, step_of, step_told, walk_in, want_of, whole_busy}
+use Rattle.ns_world.proofs.Busy.{asking_at, asking_set_same, both, or_true, walking_at, walking_set_same}
 use Rattle.ns_counters.specs.declared.walk.ObjectNext.TheVariants as TheObject
 
 -- the first step of a call may commit an event

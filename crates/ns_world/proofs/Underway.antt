@@ -1,18 +1,17 @@
 -- From its beginning to its answer a call is under way, whatever others do, and its answer means what it says.
 use Rattle.std.specs.Prelude.{slice_get}
-use Rattle.std.proofs.Common.{◌≡◌, inl, inr, ℕ, List, [], ◌++◌, Option, None, Some, slice_set, refl, ap, sym, ◌∙◌, subst, Bool, true, false, length}
+use Rattle.std.proofs.Common.{Bool, List, None, Option, Some, [], ap, false, inl, inr, length, refl, slice_set, subst, sym, true, ℕ, ◌++◌, ◌∙◌, ◌≡◌}
 use Rattle.ns_world.proofs.Below.{append-nil, append_assoc, begins_itself, begins_through, env_own-append, env_own_all, looks_by_asked, quiet_asks, quiet_is_first, same_Some, set_here, slice_get_within, test_asks, wait_is_first}
-use Rattle.ns_world.specs.Prelude.{Act, Acts, Advance, AnswersOfLock, AnswersOfNotes, Any, AreBy, Ask, Asked, Asks, AsksFor, AtSomePoint, BeginsWith, Call, CallFits, CallGoes, Cause, ClockLoad, Course, CvWait, Done, Effect, EnvCourse, EnvEvent, EnvGoes}
-use Rattle.ns_world.specs.Prelude.{EnvGoesOn, EnvNext, EnvRequest, EnvSoFar, EnvWalk, Event, Expiry, Finished, ForLook, Found, Go, Goes, GoesOn, Held, IfMade, InWait, IsFirst, IsFirstAsk, IsLawfulWorld, IsNotified}
-use Rattle.ns_world.specs.Prelude.{LedTo, Limits, Lock, Look, LookFits, LookGoes, LookMeans, LookOver, Looked, Means, Mode, Moves, NewNote, Next, NoteLoad, NoteStanding, NoteWait, Notify, Now, OfLock, OfNotes, OfObjects, On, OnCondition, OnEntry, OnLock}
-use Rattle.ns_world.specs.Prelude.{OnObjects, OnVariables, Only, Owed, Part, RLock, Reply, Request, SeatView, Setup, Shows, SoFar, Start, Starts, Step, Subject, ToRelease, Truths, UnlockQuiet, Wait}
-use Rattle.ns_world.specs.Prelude.{Walk, WasShown, asked_of, asks_of, begun_at, course_after, course_from, env_asked_of, env_course_after, env_course_at, env_done, env_got_of, env_own, env_state, env_step_of, env_walk_after, env_want_of, got_of, held_at, held_in, is_for_any}
-use Rattle.ns_world.specs.Prelude.{limits_for, limits_of, look_of, looked_after, looks_at, mode_of, mode_waited, note_in, own, part_of, row_after, start_of, step_of, waits_among, walk_after, want_of}
-use Rattle.ns_word.proofs.Courses.{takes_on, begins_unchanged}
+use Rattle.ns_world.specs.Prelude.{Act, Acts, Advance, AnswersOfLock, AnswersOfNotes, Any, AreBy, Ask, Asked, Asks, AsksFor, AtSomePoint, BeginsWith, Call, CallFits, CallGoes, Cause, ClockLoad, Course, CvWait, Done, Effect, EnvCourse, EnvEvent, EnvGoes, EnvGoesOn, EnvNext, EnvRequest, EnvSoFar}
+use Rattle.ns_world.specs.Prelude.{EnvWalk, Event, Expiry, Finished, ForLook, Found, Go, Goes, GoesOn, Held, IfMade, InWait, IsFirst, IsFirstAsk, IsLawfulWorld, IsNotified, LedTo, Limits, Lock, Look, LookFits, LookGoes, LookMeans, LookOver, Looked, Means, Mode, Moves, NewNote, Next, NoteLoad}
+use Rattle.ns_world.specs.Prelude.{NoteStanding, NoteWait, Notify, Now, OfLock, OfNotes, OfObjects, On, OnCondition, OnEntry, OnLock, OnObjects, OnVariables, Only, Owed, Part, RLock, Reply, Request, SeatView, Setup, Shows, SoFar, Start, Starts, Step, Subject, ToRelease, Truths, UnlockQuiet, Wait}
+use Rattle.ns_world.specs.Prelude.{Walk, WasShown, asked_of, asks_of, begun_at, course_after, course_from, env_asked_of, env_course_after, env_course_at, env_done, env_got_of, env_own, env_state, env_step_of, env_walk_after, env_want_of, got_of, held_at, held_in, is_for_any, limits_for, limits_of}
+use Rattle.ns_world.specs.Prelude.{look_of, looked_after, looks_at, mode_of, mode_waited, note_in, own, part_of, row_after, start_of, step_of, waits_among, walk_after, want_of}
+use Rattle.ns_word.proofs.Courses.{begins_unchanged, takes_on}
 use Rattle.ns_env.proofs.Chains.{looked_shows}
 use Rattle.ns_env.proofs.Courses.{begins_course, others_leave_course, step_takes_on}
-use Rattle.ns_word.proofs.ToldAfter.{own_append, step_by, own_all}
-use Rattle.ns_env.specs.declared.walk.EnvNext.TheVariants.{Repeat, Over}
+use Rattle.ns_word.proofs.ToldAfter.{own_all, own_append, step_by}
+use Rattle.ns_env.specs.declared.walk.EnvNext.TheVariants.{Over, Repeat}
 use Rattle.ns_word.specs.declared.walk.Next.TheVariants.{Done}
 use Rattle.ns_world.proofs.EnvGrows.{env_begins, events_by}
 use Rattle.ns_world.proofs.Others.{Untouched, same_world}

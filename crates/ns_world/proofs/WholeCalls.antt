@@ -1,19 +1,17 @@
 -- From its beginning to its answer a call in a whole world is under way, whatever others do, and its answer means what it says.
 use Rattle.ns_world.proofs.Below.{append-nil, append_assoc, begins_itself, cases_eq, env_own-append, env_own_none, first_place, made_begins, put_here, same_Some, some_among, stands_within, there_more, wait_is_first}
-use Rattle.std.proofs.Common.{◌≡◌, ◌≢◌, ℕ, zero, suc, List, [], ◌++◌, Option, None, Some, slice_set, refl, ap, sym, ◌∙◌, subst, inl, inr, ◌⊎◌, true, false, cond, Bool, is_some, ◌<◌, length}
+use Rattle.std.proofs.Common.{Bool, List, None, Option, Some, [], ap, cond, false, inl, inr, is_some, length, refl, slice_set, subst, suc, sym, true, zero, ℕ, ◌++◌, ◌<◌, ◌∙◌, ◌≡◌, ◌≢◌, ◌⊎◌}
 use Rattle.std.specs.Prelude.{unwrap_or}
-use Rattle.ns_world.specs.Prelude.{Acts, Add, Answer, AnswersCall, AnswersOfLock, AnswersTo, Any, AnyAnswers, AnyMeans, AnyWait, AreAmong, AreEnvBy, AreObjectsBy, AreThere}
-use Rattle.ns_world.specs.Prelude.{Asked, BeginsToWait, BeginsWith, Call, CallFits, Cause, CounterWait, Cvs, Done, EndsLook, EnvEvent, Finished, FirstClock, Found}
-use Rattle.ns_world.specs.Prelude.{Happens, HasLedTo, HasOperated, HaveLedTo, HaveShownNothing, Held, Idle, InHand, InRound, IsIdle, IsLater, IsLawful, IsLawfulWhole, IsReady, IsUnfinished, LockSteps, LooksWhere, MayEnd, Means, Meanwhile, Mode, Next, Nothing, Number, ObjectEvent, ObjectGoes}
+use Rattle.ns_world.specs.Prelude.{Acts, Add, Answer, AnswersCall, AnswersOfLock, AnswersTo, Any, AnyAnswers, AnyMeans, AnyWait, AreAmong, AreEnvBy, AreObjectsBy, AreThere, Asked, BeginsToWait, BeginsWith, Call, CallFits, Cause, CounterWait, Cvs, Done, EndsLook, EnvEvent, Finished, FirstClock}
+use Rattle.ns_world.specs.Prelude.{Found, Happens, HasLedTo, HasOperated, HaveLedTo, HaveShownNothing, Held, Idle, InHand, InRound, IsIdle, IsLater, IsLawful, IsLawfulWhole, IsReady, IsUnfinished, LockSteps, LooksWhere, MayEnd, Means, Meanwhile, Mode, Next, Nothing, Number, ObjectEvent, ObjectGoes}
 use Rattle.ns_world.specs.Prelude.{ObjectNext, ObjectSoFar, ObjectWalk, Objects, OfLock, OfNotes, OfObjects, On, OnVariables, Once, Operates, Over, Past, PlaceBy, Repeat, Reply, Request, Round, RoundGo, RoundNext, RoundOver, RoundPlace, RoundShows, RoundSoFar, SeatView, Started, Step, Value}
 use Rattle.ns_world.specs.Prelude.{WaitAny, WaitMeans, WaitSteps, Walk, WalkFits, WalkReply, Went, WereThere, Whole, WholeBegins, WholeMoves, WholeStarts, WholeStep, asked_of, asks_of, at_will, by_round, cause_of, done_by, done_in, env_after, env_done, env_own, env_state, got_of, happened, held_at}
-use Rattle.ns_world.specs.Prelude.{held_in, is_among, is_for_lock, items_of, looked_after, looks_at, mode_of, mode_waited, notes_done, nothing_done, object_after, object_asked, object_got, object_start, object_step_of, objects_after, objects_done, objects_own, past_and, place_in}
-use Rattle.ns_world.specs.Prelude.{place_told, reply_of_lock, reply_told, round_due, round_got, row_after, shown_by, step_of, step_told, wait_first, wait_in, waited_after, waits_for_any, walk_after, walk_in, want_of, woken_by}
+use Rattle.ns_world.specs.Prelude.{held_in, is_among, is_for_lock, items_of, looked_after, looks_at, mode_of, mode_waited, notes_done, nothing_done, object_after, object_asked, object_got, object_start, object_step_of, objects_after, objects_done, objects_own, past_and, place_in, place_told}
+use Rattle.ns_world.specs.Prelude.{reply_of_lock, reply_told, round_due, round_got, row_after, shown_by, step_of, step_told, wait_first, wait_in, waited_after, waits_for_any, walk_after, walk_in, want_of, woken_by}
 use Rattle.ns_counters.proofs.Objects.{own-append, own_all, own_none}
 use Rattle.ns_counters.proofs.Rounds.{last_nothing, later_itself, later_through}
 use Rattle.ns_counters.specs.declared.walk.ObjectNext.TheVariants.{Go}
-use Rattle.ns_world.proofs.Underway.{IsOfLock, IsUnderway, Outcome, Underway, begins_on, begins_underway, moves_on}
-use Rattle.ns_world.proofs.Underway.{no_more as no_more_notes, not_idle, started_led, stays_underway, HasLooked, LockUnderway, acts_on, acts_show_not, goes_to_lock, looks_any}
+use Rattle.ns_world.proofs.Underway.{HasLooked, IsOfLock, IsUnderway, LockUnderway, Outcome, Underway, acts_on, acts_show_not, begins_on, begins_underway, goes_to_lock, looks_any, moves_on, no_more as no_more_notes, not_idle, started_led, stays_underway}
 use Rattle.ns_world.proofs.WholeLed.{no_more, starts_led, steps_led, whole_led}
 use Rattle.ns_word.specs.declared.walk.Next.TheVariants.{Done}
 use Rattle.ns_world.proofs.Awaits.{leads, same_walk, there_as}

@@ -1,13 +1,12 @@
 -- What a step on the parts of a world is in it.
-use Rattle.std.proofs.Common.{false, ◌≡◌, ℕ, suc, inl, inr, ◌<◌, ◌≤◌, List, [], Option, Some, None, length, map, get_or, take, drop, slice_set, slice_get, refl, ap, sym, ◌∙◌, subst, arith}
+use Rattle.std.proofs.Common.{List, None, Option, Some, [], ap, arith, drop, false, get_or, inl, inr, length, map, refl, slice_get, slice_set, subst, suc, sym, take, ℕ, ◌<◌, ◌∙◌, ◌≡◌, ◌≤◌}
 use Rattle.ns_world.proofs.Below.{act_fits, append-nil, length-map, number_at, slice_get-get_or, split_at, step_at}
-use Rattle.ns_world.specs.Prelude.{ActFits, Acts, Asks, AsksFor, Cause, Effect, EnvActFits, EnvEffect, EnvMoves, EnvNext, EnvPlain, EnvWalk, Environment, Event, Go, Goes, IsLawfulWorld, Limits}
-use Rattle.ns_world.specs.Prelude.{Lists, LookGoes, LookOver, LookStep, Looks, MayShow, Moves, MovesFrom, Now, Performs, Seat, SeatLooks, SeatView, Sees, Step}
-use Rattle.ns_world.specs.Prelude.{Truths, Walk, Went, Word, env_got_of, env_state, env_want_of, got_of, look_of, looks_at, now_with, outcome, plain_of, seat_part, tests_after, view_of, waits_among, walk_after, want_of}
+use Rattle.ns_world.specs.Prelude.{ActFits, Acts, Asks, AsksFor, Cause, Effect, EnvActFits, EnvEffect, EnvMoves, EnvNext, EnvPlain, EnvWalk, Environment, Event, Go, Goes, IsLawfulWorld, Limits, Lists, LookGoes, LookOver, LookStep, Looks, MayShow, Moves, MovesFrom, Now, Performs, Seat, SeatLooks}
+use Rattle.ns_world.specs.Prelude.{SeatView, Sees, Step, Truths, Walk, Went, Word, env_got_of, env_state, env_want_of, got_of, look_of, looks_at, now_with, outcome, plain_of, seat_part, tests_after, view_of, waits_among, walk_after, want_of}
 use Rattle.ns_env.proofs.Ranges.{asks_in_range}
 use Rattle.ns_world.specs.Asks.{Asked}
 use Rattle.ns_world.proofs.Looking.{LookLeads, look_leads, look_stays, shown_effect}
-use Rattle.ns_world.proofs.Mapped.{got-map, map-set, map-stays, index-map}
+use Rattle.ns_world.proofs.Mapped.{got-map, index-map, map-set, map-stays}
 use Rattle.ns_world.proofs.Places.{fits_more}
 use Rattle.ns_word.specs.declared.act.Found.TheVariants as TheFound
 

@@ -1,16 +1,14 @@
 -- A world as a contract sees it: the lock with its row, the clock and the notes, and beside them counters and once cells; and a seat's step in it.
-use Rattle.std.specs.Prelude.{◌≡◌, ℕ, ◌⊎◌, Bool, true, false, not, ◌||◌, ◌<◌, ◌≤◌, List, [], Option, Some, None, IsSome, is_some, length, slice_get}
+use Rattle.std.specs.Prelude.{Bool, IsSome, List, None, Option, Some, [], false, is_some, length, not, slice_get, true, ℕ, ◌<◌, ◌||◌, ◌≡◌, ◌≤◌, ◌⊎◌}
 use Rattle.std.proofs.Common.{inl, inr}
-use Rattle.ns_world.specs.Names.{Act, AnyWait, Begun, Busy, Call, Cvs, EnvEvent, Environment, Event, Every, Fault, Held, Idle, InRound, Lists, Looked, Misuse, Mode, NoSuchSeat, Nothing, ObjectEvent, ObjectWalk, ObjectWords, OnLock, OutOfMemory, Round, RoundPlace, Seat, SeatView, Started}
-use Rattle.ns_world.specs.Names.{Step, StepLimit, TooManySeats, Truths, Walk, Went, Word, asked_of, got_of, object_who, wait_first, walk_after, want_of}
+use Rattle.ns_world.specs.Names.{Act, AnyWait, AreAmong, AreThere, Begun, Busy, Call, Cvs, EnvEvent, Environment, Event, Every, Fault, Held, Idle, InRound, Lists, Looked, Misuse, Mode, NoSuchSeat, Nothing, ObjectEvent, ObjectWalk, ObjectWords, OnLock, OutOfMemory, Round, RoundPlace, Seat, SeatView}
+use Rattle.ns_world.specs.Names.{Started, Step, StepLimit, TooManySeats, Truths, Walk, Went, Word, asked_of, got_of, have_variable, items_of, object_who, wait_first, walk_after, walk_in, want_of}
 use Rattle.ns_world.specs.Among.{asks_for_any, cause_of, is_for_lock, shown_by, step_told, waited_after, waits_for_any}
-use Rattle.ns_world.specs.Begins.{Starts, Misuses, begun_at}
+use Rattle.ns_world.specs.Begins.{Misuses, Starts, begun_at}
 use Rattle.ns_world.specs.Calls.{mode_of, mode_waited, object_start}
-use Rattle.ns_world.specs.Names.{AreAmong, have_variable, items_of}
 use Rattle.ns_world.specs.Looks.{looks_at}
 use Rattle.ns_world.specs.Objects.{AreLedTo, HasOperated, Objects, fresh_objects, objects_begun, objects_of, stood_at, wait_in}
-use Rattle.ns_world.specs.Names.{AreThere, walk_in}
-use Rattle.ns_world.specs.World.{Now, Kept, kept, now_of, fresh, Acts, IsLawfulWorld, IsIdle, IsBusy, Moves, CommitsNext, env_done, is_busy}
+use Rattle.ns_world.specs.World.{Acts, CommitsNext, IsBusy, IsIdle, IsLawfulWorld, Kept, Moves, Now, env_done, fresh, is_busy, kept, now_of}
 use Rattle.ns_word.specs.declared.request.Request.TheVariants as TheRequest
 
 -- a world: the lock with the clock and the notes, and the counters and once cells

@@ -1,7 +1,6 @@
-use Rattle.std.proofs.Common.{◌<◌, ◌≤◌, sym, ◌∙◌, length, refl, subst}
+use Rattle.std.proofs.Common.{length, refl, subst, sym, ◌<◌, ◌∙◌, ◌≤◌}
 use Rattle.ns_world.specs.Prelude.{whole_of}
-use Rattle.ns_world.proofs.Tells.{busy_here, idle_by}
-use Rattle.ns_world.proofs.Tells.{begins_here, misused_here}
+use Rattle.ns_world.proofs.Tells.{begins_here, busy_here, idle_by, misused_here}
 use Rattle.ns_world.proofs.Wholes.{start_keeps}
 use Rattle.ns_world.proofs.Worlds.{past_views, same_element}
 use Rattle.ns_world.proofs.world.World.begin.Goals as goal
