@@ -20,7 +20,6 @@ pub mod Turns
 pub mod Underway
 pub mod Waited
 pub mod Walks
-pub mod WholeCalls
 pub mod WholeLed
 pub mod Wholes
 pub mod WorldLaw
