@@ -1,8 +1,8 @@
 -- The exchanges that were made, over plain data.
-use Rattle.std.proofs.Common.{◌≡◌, ◌≢◌, ℕ, Bool, true, not, List, [], ◌∷◌, ◌++◌, length, Option, None, Some, refl, ap, sym, ◌∙◌, arith, is_some}
+use Rattle.std.proofs.Common.{◌≡◌, ℕ, Bool, true, not, List, [], ◌∷◌, ◌++◌, length, Option, None, Some, refl, ap, sym, ◌∙◌, arith, is_some}
 use Rattle.std.specs.Prelude.{IfSome, ◌==◌}
-use Rattle.ns_world.proofs.Below.{append-nil, ne_eqb}
-use Rattle.ns_world.specs.Prelude.{Bits, CanLeave, Event, Held, Lists, Made, Makes, Owed, Plain, Release, ReleaseReturning, Releasing, Saw, Scanned, Truths, Waiter, Word, bits_of, called_of, has_some, left_of, meets_at, part, section_of, tests_of, with_waiters, woken_of, word_released}
+use Rattle.ns_world.proofs.Below.{ne_eqb}
+use Rattle.ns_world.specs.Prelude.{Bits, CanLeave, Event, Held, Lists, Made, Makes, Owed, Plain, Release, ReleaseReturning, Releasing, Scanned, Truths, Waiter, Word, bits_of, called_of, has_some, left_of, meets_at, part, section_of, tests_of, with_waiters, woken_of, word_released}
 use Rattle.ns_world.specs.Prelude.{word_released_returning}
 use Rattle.ns_queue.specs.declared.waiter.Which.TheVariants.{Lock}
 
@@ -45,13 +45,3 @@ module _ {C : Type 0} {N : ℕ} (truths : Truths C) (seat : ℕ) (releasing : Re
         effect = (held, refl, can.0, sym same, rw (becomes, over, tell, left, woken, owing) refl, some ∙ ap has_some woken, count, refl);
         grows = grows;
       }
-
-  -- one that failed
-  pub missed : (queues : Lists C) (owed : List Owed) (held : Option (Held C N)) → word ≢ last →
-      Makes truths seat (ReleaseReturning releasing last) (part word row queues flags held owed) h (Saw word) (part word row queues flags held owed) h
-  missed queues owed held other = record { commits = []; effect = (refl, other, refl, refl); grows = sym (append-nil h) }
-
--- a release without a scan that failed
-pub release_missed : {C : Type 0} {N : ℕ} (truths : Truths C) (seat : ℕ) (releasing : Releasing) (last word : Word) (row flags : List ℕ) (owed : List Owed) (h : List (Event C N)) (queues : Lists C) (held : Option (Held C N)) → word ≢ last →
-    Makes truths seat (Release releasing last) (part word row queues flags held owed) h (Saw word) (part word row queues flags held owed) h
-release_missed truths seat releasing last word row flags owed h queues held other = record { commits = []; effect = (refl, other, refl, refl); grows = sym (append-nil h) }

@@ -1,14 +1,18 @@
 -- What the exchanges do that put the queues back, over plain data.
-use Rattle.std.proofs.Common.{◌≡◌, ◌≢◌, ℕ, not, ◌&&◌, Bool, true, false, List, [], ◌∷◌, ◌++◌, Option, None, Some, refl, ap, sym, ◌∙◌, is_some}
+use Rattle.std.proofs.Common.{◌≡◌, ℕ, not, ◌&&◌, Bool, true, false, List, [], ◌∷◌, ◌++◌, Option, None, Some, refl, ap, sym, ◌∙◌, is_some}
 use Rattle.std.specs.Prelude.{IfSome, MatchResult, if◌then◌else◌}
 use Rattle.std.specs.declared.result.Result.{Result}
 use Rattle.std.specs.declared.result.Result.TheVariants.{Ok, Err}
 use Rattle.ns_world.proofs.Below.{append-nil, some_seats}
-use Rattle.ns_world.specs.Prelude.{Any, Arrival, AtLock, AtVariables, Bits, Broadcasting, CanWait, Change, ChangeFits, Cv, Effect, Event, Held, Home, IsInRange, IsUnmet, LeaveSelf, Left, Lists, Made, Makes, Mode, OnCondition, OnVariables, Only, Owed, QueueSelf, ReturnQueues, Saw, Scanned}
+use Rattle.ns_world.specs.Prelude.{Act, Any, Arrival, AtLock, AtVariables, Bits, Broadcasting, CanWait, Change, ChangeFits, Cv, Effect, Event, Found, Held, Home, IsInRange, IsUnmet, LeaveSelf, Left, Lists, Made, Makes, Mode, OnCondition, OnVariables, Only, Owed, Part, QueueSelf, ReturnQueues, Scanned}
 use Rattle.ns_world.specs.Prelude.{Signaling, Subject, Truths, WaitReturning, Waiter, WakeWaiters, Waking, Woke, Word, bits_of, called_of, change_commits, changed, cvs_without, exit_for, has_some, is_held, leave_of, meets_at, moved_to, part, releasing_of, section_of, stands_at, taken_by}
 use Rattle.ns_world.specs.Prelude.{taken_set, tests_of, waited_in, waiters_of, wakes_of, woken_of, word_released_returning, word_returned}
 use Rattle.ns_word.specs.declared.wait.Wait.{Wait}
 use Rattle.ns_word.specs.declared.act.Change.TheVariants.{Nothing}
+
+-- an act that commits nothing
+pub made : {C : Type 0} {N : ℕ} {truths : Truths C} {seat : ℕ} {act : Act C} {old new : Part C N} {found : Found} (h : List (Event C N)) → Effect truths seat act old found new [] → Makes truths seat act old h found new h
+made h effect = record { commits = []; effect = effect; grows = sym (append-nil h) }
 
 -- one that queues put the queues back
 pub queued_back : {C : Type 0} {N : ℕ} (truths : Truths C) (seat : ℕ) (mode : Mode) (arrival : Arrival) (last word word' : Word) (row flags : List ℕ) (owed : List Owed) (held : Option (Held C N)) (queues queues' : Lists C) (bits : Bits) →
@@ -60,11 +64,6 @@ module _ {C : Type 0} {N : ℕ} (truths : Truths C) (seat : ℕ) (last word : Wo
         grows = grows;
       }
 
-  -- an exchange that failed
-  pub change_missed : (change : Change) (owed : List Owed) (held : Option (Held C N)) (queues : Lists C) → word ≢ last →
-      Makes truths seat (ReturnQueues change last) (part word row queues flags held owed) h (Saw word) (part word row queues flags held owed) h
-  change_missed change owed held queues other = record { commits = []; effect = (refl, other, refl, refl); grows = sym (append-nil h) }
-
 -- what a change needs is of the lists alone
 pub fits_there : {C : Type 0} {N : ℕ} (seat : ℕ) (change : Change) (word : Word) (row row' flags flags' : List ℕ) (held : Option (Held C N)) (owed : List Owed) (queues : Lists C) →
     ChangeFits seat change (part word row queues flags held owed) → ChangeFits seat change (part word row' queues flags' held owed)
@@ -114,8 +113,3 @@ module _ {C : Type 0} {N : ℕ} (truths : Truths C) (seat : ℕ) (wait : Wait C)
         effect = (held, refl, can.mode, sym same, rw (becomes, over, tell, lists, woken, owing) refl, some ∙ ap has_some woken, count, refl);
         grows = grows;
       }
-
-  -- one that failed
-  pub wait_missed : (queues : Lists C) (owed : List Owed) (held : Option (Held C N)) → word ≢ last →
-      Makes truths seat (WaitReturning wait again last) (part word row queues flags held owed) h (Saw word) (part word row queues flags held owed) h
-  wait_missed queues owed held other = record { commits = []; effect = (refl, other, refl, refl); grows = sym (append-nil h) }

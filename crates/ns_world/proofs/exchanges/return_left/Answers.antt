@@ -1,12 +1,10 @@
 use Rattle.std.proofs.Common.{refl, sym}
 use Rattle.ns_world.proofs.Below.{err_from_is_err_and}
-use Rattle.ns_world.specs.Prelude.{LeaveSelf}
-use Rattle.ns_world.proofs.Waited.{left_back, change_missed}
+use Rattle.ns_world.proofs.Waited.{left_back, made}
 use Rattle.ns_world.proofs.exchanges.return_left.Goals as goal
 
 pub returns-then-not-is_same : goal.returns-then-not-is_same
-returns-then-not-is_same g c = λ row flags owed held.
-    change_missed g.C.Condition.means c.args.seat c.args.last c.args.word.now row flags c.args.history.now.items (LeaveSelf c.args.home) owed held c.args.queues.now (c.if-not-is_same.ensures.another refl)
+returns-then-not-is_same g c = λ row flags owed held. made _ (refl, c.if-not-is_same.ensures.another refl, refl, refl)
 
 pub returns : goal.returns
 returns g c = λ row flags owed held.

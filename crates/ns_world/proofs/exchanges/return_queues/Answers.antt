@@ -1,6 +1,5 @@
-use Rattle.std.proofs.Common.{[], refl, sym}
-use Rattle.ns_world.proofs.Below.{append-nil}
-use Rattle.ns_world.proofs.Waited.{on_both}
+use Rattle.std.proofs.Common.{[], refl}
+use Rattle.ns_world.proofs.Waited.{made, on_both}
 use Rattle.ns_world.proofs.exchanges.return_queues.Goals as goal
 
 pub return_queued-requires : goal.return_queued-requires
@@ -16,7 +15,7 @@ pub return_unchanged-requires : goal.return_unchanged-requires
 return_unchanged-requires g c = g.met.C.Seated.queues_fit
 
 pub returns-in-QueueSelf : goal.returns-in-QueueSelf
-returns-in-QueueSelf g c = rw c.in-QueueSelf.is (λ row flags. record { commits = []; effect = c.return_queued.ensures row flags c.args.seat.now.owed.items c.args.seat.now.held; grows = sym (append-nil _) }, refl)
+returns-in-QueueSelf g c = rw c.in-QueueSelf.is (λ row flags. made _ (c.return_queued.ensures row flags c.args.seat.now.owed.items c.args.seat.now.held), refl)
 
 pub returns-in-LeaveSelf : goal.returns-in-LeaveSelf
 returns-in-LeaveSelf g c = rw c.in-LeaveSelf.is (on_both c.return_left.result (λ found p. (λ row flags. p row flags c.args.seat.now.owed.items c.args.seat.now.held, refl)) (λ p. (p.0, p.1, p.2, p.3, refl, p.4)) c.return_left.ensures)
@@ -25,4 +24,4 @@ pub returns-in-WakeWaiters : goal.returns-in-WakeWaiters
 returns-in-WakeWaiters g c = rw c.in-WakeWaiters.is (on_both c.return_waking.result (λ found p. p) (λ p. (tt, p.0, p.1, p.2, p.3, p.4)) c.return_waking.ensures)
 
 pub returns-in-Nothing : goal.returns-in-Nothing
-returns-in-Nothing g c = rw c.in-Nothing.is (λ row flags. record { commits = []; effect = c.return_unchanged.ensures c.args.seat.now.number row flags c.args.seat.now.owed.items c.args.seat.now.held; grows = sym (append-nil _) }, refl)
+returns-in-Nothing g c = rw c.in-Nothing.is (λ row flags. made _ (c.return_unchanged.ensures c.args.seat.now.number row flags c.args.seat.now.owed.items c.args.seat.now.held), refl)

@@ -1,17 +1,13 @@
 use Rattle.std.proofs.Common.{refl, sym, ap, not, ◌∙◌}
 use Rattle.ns_world.proofs.Below.{err_from_is_err_and}
-use Rattle.ns_world.specs.Prelude.{WakeWaiters, has_some}
+use Rattle.ns_world.specs.Prelude.{has_some}
 use Rattle.ns_world.proofs.Released.{some_left}
-use Rattle.ns_world.proofs.Waited.{woken_back, change_missed}
+use Rattle.ns_world.proofs.Waited.{made, woken_back}
 use Rattle.ns_queue.proofs.Orders.{list_small}
 use Rattle.ns_world.proofs.exchanges.return_waking.Goals as goal
 
 pub returns-then-not-is_same : goal.returns-then-not-is_same
-returns-then-not-is_same g c = (
-  λ row flags.
-      change_missed g.C.Condition.means c.args.seat.now.number c.args.last c.args.word.now row flags c.args.history.now.items (WakeWaiters c.args.waking c.args.k) c.args.seat.now.owed.items c.args.seat.now.held c.args.queues.now (c.if-not-is_same.ensures.another refl),
-  refl,
-)
+returns-then-not-is_same g c = (λ row flags. made _ (refl, c.if-not-is_same.ensures.another refl, refl, refl), refl)
 
 pub returns : goal.returns
 returns g c = (
