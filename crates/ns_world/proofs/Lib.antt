@@ -8,7 +8,6 @@ pub mod Fresh
 pub mod Looking
 pub mod Mapped
 pub mod Others
-pub mod Placed
 pub mod Places
 pub mod Released
 pub mod Schedules
@@ -23,4 +22,3 @@ pub mod Walks
 pub mod WholeLed
 pub mod Wholes
 pub mod WorldLaw
-pub mod Worlds

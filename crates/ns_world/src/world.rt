@@ -110,17 +110,16 @@ impl<C: Seated<N>, const N: usize> World<C, N> {
         if at >= self.seats.len() {
             return Err(Fault::NoSuchSeat);
         }
-        let here = &self.seats[at];
+        let here = &mut self.seats[at];
         if is_busy(here) {
             return Ok(Begun::Busy);
         }
-        match call.start::<N>(mode_of(&here.held), &self.env.notes, &self.objects.setup) {
-            None => Ok(Begun::Misuse),
-            Some(start) => {
-                place(&mut self.seats[at], start);
-                Ok(Begun::Started)
-            }
-        }
+        let mode = mode_of(&here.held);
+        let Some(start) = call.start::<N>(mode, &self.env.notes, &self.objects.setup) else {
+            return Ok(Begun::Misuse);
+        };
+        place(here, start);
+        Ok(Begun::Started)
     }
 
     /// Makes one atomic step of the seat's call, if one is in progress.
@@ -137,27 +136,26 @@ impl<C: Seated<N>, const N: usize> World<C, N> {
         if at >= self.seats.len() {
             return Err(Fault::NoSuchSeat);
         }
-        if let Some(walk) = self.seats[at].operating {
-            return Ok(step_objects(&self.env, &mut self.objects, &mut self.seats[at], walk));
+        let here = &mut self.seats[at];
+        if let Some(walk) = here.operating {
+            return Ok(step_objects(&self.env, &mut self.objects, here, walk));
         }
-        if let Some(place) = self.seats[at].asking {
-            return Ok(step_env(&mut self.env, &mut self.seats[at], place));
+        if let Some(place) = here.asking {
+            return Ok(step_env(&mut self.env, here, place));
         }
-        let Some(walk) = self.seats[at].walk else {
+        let Some(walk) = here.walk else {
             return Ok(Step::Nothing);
         };
-        match perform(
+        let told = perform(
             &mut self.word,
             &mut self.row,
             &mut self.queues,
             &mut self.flags,
-            &mut self.seats[at],
+            here,
             &mut self.history,
             walk,
-        ) {
-            Ok(told) => Ok(told_by_lock(&mut self.seats[at], told)),
-            Err(_) => Err(Fault::OutOfMemory),
-        }
+        )?;
+        Ok(told_by_lock(here, told))
     }
 
     /// All that has happened to the row and the variables, which is a legal history by seats of this
