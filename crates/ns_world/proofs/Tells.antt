@@ -3,7 +3,7 @@ use Rattle.std.proofs.Common.{Bool, IsSome, List, None, Option, Some, [], ap, ar
 use Rattle.ns_world.proofs.Below.{act_fits, append-nil, length-map, number_at, same_Some, set_again, set_here, set_same, slice_get_within, split_at, step_at}
 use Rattle.ns_world.specs.Prelude.{ActFits, Acts, AnyWait, Ask, Asks, AsksFor, Await, Call, CallFits, CanTell, Cause, Commits, Cvs, Effect, EnvActFits, EnvEffect, EnvMoves, EnvNext, EnvPlain, EnvWalk, Environment, Event, Go, Goes, HasOperated, HasTold, Idle, InRound, InWait, IsFew, IsLawfulWhole}
 use Rattle.ns_world.specs.Prelude.{Limits, Lists, LookGoes, LookOver, LookStep, Looked, Looks, LooksWhere, MayShow, MayWaitOnLock, Misuses, Mode, Moves, MovesFrom, NoteStanding, Now, ObjectStanding, ObjectWalk, ObjectWords, Objects, OnLock, OnObjects, OutOfMemory, Performs, Seat}
-use Rattle.ns_world.specs.Prelude.{SeatLooks, SeatOperates, SeatView, Sees, Setup, StandsAlone, StandsBy, Start, Starts, Step, StepFits, ToldIf, Truths, WaitsOnLock, Walk, WalkFits, Went, Whole, WholeFault, WholeIsBusy, WholeIsIdle, WholeStarts, WholeStep, Word, asked_of, asks_for_any, at_will}
+use Rattle.ns_world.specs.Prelude.{SeatLooks, SeatOperates, SeatView, Sees, Setup, StandsAlone, StandsBy, Start, Starts, Step, StepFits, ToldIf, Truths, WaitsOnLock, Walk, WalkFits, Whole, WholeFault, WholeIsBusy, WholeIsIdle, WholeStarts, WholeStep, Word, asked_of, asks_for_any, at_will}
 use Rattle.ns_world.specs.Prelude.{begun_at, came_back, cause_of, env_got_of, env_state, env_want_of, got_of, held_after, is_alone, is_for_lock, items_of, look_of, looks_at, mode_of, mode_waited, now_with, object_after, object_got, object_place, object_start, objects_after, objects_begun}
 use Rattle.ns_world.specs.Prelude.{objects_of, outcome, placed, plain_of, seat_part, shown_by, start_of, step_told, stood_at, tests_after, told_to, view_of, wait_first, wait_in, waited_after, waited_seat, waits_among, waits_for_any, walk_after, walk_in, want_of, whole, whole_with}
 use Rattle.ns_word.specs.declared.wait.Wait.{Wait}
@@ -98,32 +98,35 @@ module _ {C : Type 0} {N : ℕ} (truths : Truths C) (w : Inside C N) (lawful : I
   waits_at : wait_in (map (λ s. s.awaits) w.seats.items) i ≡ seat.awaits
   waits_at = ap (λ o. unwrap_or o None) (got-map (λ s. s.awaits) w.seats.items i seat at)
 
+  -- of the seats, with one of them set: what is read of each
+  sets : {A : Type 0} (f : Seat C N → A) (next : Seat C N) {x : A} → f next ≡ x → map f (slice_set w.seats.items i next) ≡ slice_set (map f w.seats.items) i x
+  sets f next e = map-set f w.seats.items i next ∙ ap (slice_set (map f w.seats.items) i) e
+
+  -- and where it is as it was
+  stays : {A : Type 0} (f : Seat C N → A) (next : Seat C N) → f next ≡ f seat → map f (slice_set w.seats.items i next) ≡ map f w.seats.items
+  stays f next same = map-stays f w.seats.items i next seat at same
+
+  -- the world with the seat set, and this clock and these notes
+  abbrev now_set : Environment → Seat C N → Now C N
+  now_set env' next = now_with truths w.word w.row w.queues w.flags env' (slice_set w.seats.items i next) w.history.items
+
+  -- with the seat set, and these parts of the lock
+  abbrev lock_set : Word → List ℕ → Lists C → List ℕ → Seat C N → List (Event C N) → Now C N
+  lock_set word' row' queues' flags' next history' = now_with truths word' row' queues' flags' w.env (slice_set w.seats.items i next) history'
+
+  -- with the seat set, and these counters and once cells
+  abbrev whole_set : Environment → Seat C N → ObjectWords → Whole C N
+  whole_set env' next objects' = whole_with truths w.word w.row w.queues w.flags env' (slice_set w.seats.items i next) w.history.items objects'
+
   -- what a seat put at the first place of a call is
-  pub begun_here : (start : Start C) → now_with truths w.word w.row w.queues w.flags w.env (slice_set w.seats.items i (placed seat start)) w.history.items ≡ begun_at was i (view_of seat) start
-  begun_here (OnLock walk) =
-      let next : Seat C N = placed seat (OnLock walk) in
-      (λ k. record was {
-        state = record was.state { views = map-set view_of w.seats.items i next k };
-        tests = map-set (λ s. s.tests) w.seats.items i next k;
-        asking = map-stays (λ s. s.asking) w.seats.items i next seat at refl k;
-      })
-  begun_here (Ask walk) =
-      let next : Seat C N = placed seat (Ask walk) in
-      (λ k. record was {
-        state = record was.state { views = map-stays view_of w.seats.items i next seat at refl k };
-        tests = map-set (λ s. s.tests) w.seats.items i next k;
-        asking = map-set (λ s. s.asking) w.seats.items i next k;
-      })
+  pub begun_here : (start : Start C) → now_set w.env (placed seat start) ≡ begun_at was i (view_of seat) start
+  begun_here (OnLock walk) = λ k. record was { state = record was.state { views = sets view_of (placed seat (OnLock walk)) refl k }; tests = sets (λ s. s.tests) (placed seat (OnLock walk)) refl k; asking = stays (λ s. s.asking) (placed seat (OnLock walk)) refl k }
+  begun_here (Ask walk) = λ k. record was { state = record was.state { views = stays view_of (placed seat (Ask walk)) refl k }; tests = sets (λ s. s.tests) (placed seat (Ask walk)) refl k; asking = sets (λ s. s.asking) (placed seat (Ask walk)) refl k }
   begun_here (OnObjects walk) =
-      let next : Seat C N = placed seat (OnObjects walk) in
-      (λ k. record was {
-        state = record was.state { views = map-stays view_of w.seats.items i next seat at refl k };
-        tests = map-set (λ s. s.tests) w.seats.items i next k;
-        asking = map-stays (λ s. s.asking) w.seats.items i next seat at refl k;
-      })
+      λ k. record was { state = record was.state { views = stays view_of (placed seat (OnObjects walk)) refl k }; tests = sets (λ s. s.tests) (placed seat (OnObjects walk)) refl k; asking = stays (λ s. s.asking) (placed seat (OnObjects walk)) refl k }
 
   pub starts_here : (setup : Setup) (call : Call C) (start : Start C) → start ≡ start_of N (mode_of seat.held) call → seat.walk ≡ None → seat.asking ≡ None → CallFits setup (plain_of w.env).notes call (mode_of seat.held) →
-      Starts setup was (now_with truths w.word w.row w.queues w.flags w.env (slice_set w.seats.items i (placed seat start)) w.history.items) i call
+      Starts setup was (now_set w.env (placed seat start)) i call
   starts_here setup call start is walk ask fits = record {
     view = view_of seat;
     at = view_at;
@@ -159,30 +162,27 @@ module _ {C : Type 0} {N : ℕ} (truths : Truths C) (w : Inside C N) (lawful : I
 
   module _ (walk : Walk C) (walks : seat.walk ≡ Some walk) (word' : Word) (row' : List ℕ) (queues' : Lists C) (flags' : List ℕ) (next : Seat C N) (history' : List (Event C N)) (step : Step)
       (p : Performs truths (seat_part w.word w.row w.queues w.flags seat) seat w.history.items walk (seat_part word' row' queues' flags' next) next history' step) where
-    asks_become : map (λ s. s.asking) (slice_set w.seats.items i next) ≡ slice_set (map (λ s. s.asking) w.seats.items) i (look_of (walk_after (got_of N walk p.found)))
-    asks_become = map-set (λ s. s.asking) w.seats.items i next ∙ ap (slice_set (map (λ s. s.asking) w.seats.items) i) (ap (λ (s : Seat C N). s.asking) p.goes)
-
     -- what a step on the parts of a world is in it
-    pub goes_here : Goes was (now_with truths word' row' queues' flags' w.env (slice_set w.seats.items i next) history') i step
+    pub goes_here : Goes was (lock_set word' row' queues' flags' next history') i step
     goes_here = record {
       view = view_of seat;
       at = view_at;
       number = number_here;
       found = p.found;
       commits = p.commits;
-      makes = step_at truths was.state i (view_of seat) view_at walk p.found (now_with truths word' row' queues' flags' w.env (slice_set w.seats.items i next) history').state next.held next.owed.items p.commits
-          walks (map-set view_of w.seats.items i next ∙ ap (slice_set (map view_of w.seats.items) i) (ap view_of p.goes)) p.effect;
-      others = map-set view_of w.seats.items i next ∙ ap (slice_set (map view_of w.seats.items) i) (ap view_of p.goes);
+      makes = step_at truths was.state i (view_of seat) view_at walk p.found (lock_set word' row' queues' flags' next history').state next.held next.owed.items p.commits
+          walks (sets view_of next (ap view_of p.goes)) p.effect;
+      others = sets view_of next (ap view_of p.goes);
       means = refl;
-      tests = map-set (λ s. s.tests) w.seats.items i next ∙ ap (slice_set (map (λ s. s.tests) w.seats.items) i) (ap (λ (s : Seat C N). s.tests) p.goes ∙ ap (tests_after p.found) (sym (index-map (λ s. s.tests) w.seats.items i seat at)));
+      tests = sets (λ s. s.tests) next (ap (λ (s : Seat C N). s.tests) p.goes ∙ ap (tests_after p.found) (sym (index-map (λ s. s.tests) w.seats.items i seat at)));
       grows = p.grows;
       answers = p.answers;
       env = refl;
-      asking = asks_become;
+      asking = sets (λ s. s.asking) next (ap (λ (s : Seat C N). s.asking) p.goes);
     }
 
     -- it is no look, where the seat stands nowhere on the clock and the notes
-    pub acts_here : seat.asking ≡ None → Acts was (now_with truths word' row' queues' flags' w.env (slice_set w.seats.items i next) history') i step
+    pub acts_here : seat.asking ≡ None → Acts was (lock_set word' row' queues' flags' next history') i step
     unfolding goes_here
     acts_here unasked = record { goes = goes_here; unasked = ask_at ∙ ap Some unasked; is_no_look = inside_here walk walks unasked }
 
@@ -209,36 +209,23 @@ module _ {C : Type 0} {N : ℕ} (truths : Truths C) (w : Inside C N) (lawful : I
     answers = q.answers;
   }
 
-  -- a seat whose place in a call on the clock and the notes alone is another
-  asks_alone : (env' : Environment) (next : Seat C N) → view_of next ≡ view_of seat →
-      now_with truths w.word w.row w.queues w.flags env' (slice_set w.seats.items i next) w.history.items ≡ record was { env = plain_of env'; asking = map (λ s. s.asking) (slice_set w.seats.items i next); tests = map (λ s. s.tests) (slice_set w.seats.items i next) }
-  asks_alone env' next same =
-      ap (λ (vs : List (SeatView C N)). record (now_with truths w.word w.row w.queues w.flags env' (slice_set w.seats.items i next) w.history.items) { state = record was.state { views = vs } }) (map-stays view_of w.seats.items i next seat at same)
-
-  module _ (walk : EnvWalk) (walks : seat.asking ≡ Some walk) (over : seat.walk ≡ None) (env' : Environment) (next : Seat C N) (step : Step) (p : Asked (plain_of w.env) (plain_of env') seat walk next step) where
-    same_view : view_of next ≡ view_of seat
-    same_view = ap view_of p.goes
-
-    tests_stay : map (λ s. s.tests) (slice_set w.seats.items i next) ≡ map (λ s. s.tests) w.seats.items
-    tests_stay = map-stays (λ s. s.tests) w.seats.items i next seat at (ap (λ (s : Seat C N). s.tests) p.goes)
-
-    -- what a step on the clock and the notes is in the world
-    pub asks_here : Asks was (now_with truths w.word w.row w.queues w.flags env' (slice_set w.seats.items i next) w.history.items) i step
-    asks_here = record {
-      view = view_of seat;
-      at = view_at;
-      idle = over;
-      found = p.found;
-      events = (outcome i (env_want_of walk) (plain_of w.env)).events;
-      makes = record {
-        walk = walk;
-        walks = ask_at ∙ ap Some walks;
-        effect = subst (λ n. EnvEffect n (env_want_of walk) (plain_of w.env) p.found (plain_of env') (outcome n (env_want_of walk) (plain_of w.env)).events) number_here p.effect;
-        becomes = map-set (λ s. s.asking) w.seats.items i next ∙ ap (slice_set (map (λ s. s.asking) w.seats.items) i) (ap (λ s. s.asking) p.goes);
-      };
-      others = asks_alone env' next same_view ∙ ap (λ (ts : List ℕ). record was { env = plain_of env'; asking = map (λ s. s.asking) (slice_set w.seats.items i next); tests = ts }) tests_stay;
-      answers = p.answers;
-    }
+  -- what a step on the clock and the notes is in the world
+  asks_here : (walk : EnvWalk) → seat.asking ≡ Some walk → seat.walk ≡ None → (env' : Environment) (next : Seat C N) (step : Step) → Asked (plain_of w.env) (plain_of env') seat walk next step → Asks was (now_set env' next) i step
+  asks_here walk walks over env' next step p = record {
+    view = view_of seat;
+    at = view_at;
+    idle = over;
+    found = p.found;
+    events = (outcome i (env_want_of walk) (plain_of w.env)).events;
+    makes = record {
+      walk = walk;
+      walks = ask_at ∙ ap Some walks;
+      effect = subst (λ n. EnvEffect n (env_want_of walk) (plain_of w.env) p.found (plain_of env') (outcome n (env_want_of walk) (plain_of w.env)).events) number_here p.effect;
+      becomes = sets (λ s. s.asking) next (ap (λ (s : Seat C N). s.asking) p.goes);
+    };
+    others = λ k. record (now_set env' next) { state = record was.state { views = stays view_of next (ap view_of p.goes) k }; tests = stays (λ s. s.tests) next (ap (λ (s : Seat C N). s.tests) p.goes) k };
+    answers = p.answers;
+  }
 
   -- ---- a step of a look
 
@@ -254,70 +241,43 @@ module _ {C : Type 0} {N : ℕ} (truths : Truths C) (w : Inside C N) (lawful : I
     seen_effect : EnvEffect i (env_want_of place) (plain_of w.env) p.found (plain_of w.env) []
     seen_effect = subst (λ (e : EnvPlain). EnvEffect i (env_want_of place) (plain_of w.env) p.found e []) same_env (subst (λ n. EnvEffect n (env_want_of place) (plain_of w.env) p.found (plain_of env') []) number_here p.effect)
 
-    leads : LookLeads looks.0 (env_got_of place p.found)
-    leads = look_leads looks.0 place looks.2 i (plain_of w.env) (plain_of w.env) p.found [] seen_effect
+    -- where it leads
+    looked_by : (n : EnvNext) → LookLeads looks.0 n → SeatLooks n seat walk next step → LookGoes n was (now_set env' next) i step
+    unfolding sees_performs goes_here
+    looked_by (Go on) leads q = (
+      λ k. record was {
+        state = record was.state { views = stays view_of next (ap view_of q.0) k };
+        tests = stays (λ s. s.tests) next (ap (λ (s : Seat C N). s.tests) q.0) k;
+        env = same_env k;
+        asking = sets (λ s. s.asking) next (ap (λ (s : Seat C N). s.asking) q.0) k;
+      },
+      q.1,
+    )
+    looked_by (LookOver cause) leads q =
+        subst (λ (world : Now C N). LookGoes (LookOver cause) was world i step) (λ k. record (now_set env' next) { env = sym same_env k }) (goes_here walk walks w.word w.row w.queues w.flags next w.history.items step (sees_performs walk looks.0 cause looks.1 leads next step q), refl)
+    looked_by n leads q = absurd q
 
-    -- the look goes on
-    module _ (on : EnvWalk) (goes_on : env_got_of place p.found ≡ Go on) (is : next ≡ record seat { asking = Some on }) where
-      asks_on : map (λ s. s.asking) (slice_set w.seats.items i next) ≡ slice_set (map (λ s. s.asking) w.seats.items) i (Some on)
-      asks_on = map-set (λ s. s.asking) w.seats.items i next ∙ ap (λ (s : Seat C N). slice_set (map (λ s. s.asking) w.seats.items) i s.asking) is
-
-      tests_on : map (λ s. s.tests) (slice_set w.seats.items i next) ≡ map (λ s. s.tests) w.seats.items
-      tests_on = map-stays (λ s. s.tests) w.seats.items i next seat at (ap (λ (s : Seat C N). s.tests) is)
-
-      now_on : now_with truths w.word w.row w.queues w.flags env' (slice_set w.seats.items i next) w.history.items ≡ record was { asking = slice_set (map (λ s. s.asking) w.seats.items) i (Some on) }
-      now_on =
-          asks_alone env' next (ap view_of is) ∙ (λ k. record was { env = same_env k; asking = asks_on k; tests = tests_on k })
-
-      look_on : step ≡ Went → Looks was (now_with truths w.word w.row w.queues w.flags env' (slice_set w.seats.items i next) w.history.items) i step
-      look_on went = record {
-        view = view_of seat;
-        at = view_at;
-        walk = walk;
-        walks = walks;
-        place = place;
-        stands = ask_at ∙ ap Some stands;
-        found = p.found;
-        effect = seen_effect;
-        goes = subst (λ n. LookGoes n was (now_with truths w.word w.row w.queues w.flags env' (slice_set w.seats.items i next) w.history.items) i step) (sym goes_on) (now_on, went);
-      }
-
-    -- the look is over
-    module _ (cause : Option Cause) (sees : env_got_of place p.found ≡ LookOver cause) (q : Sees seat walk cause next step) where
-      may : MayShow looks.0 cause
-      may = subst (λ n. LookLeads looks.0 n) sees leads
-
-      same_now : now_with truths w.word w.row w.queues w.flags env' (slice_set w.seats.items i next) w.history.items ≡ now_with truths w.word w.row w.queues w.flags w.env (slice_set w.seats.items i next) w.history.items
-      same_now = ap (λ (e : EnvPlain). record (now_with truths w.word w.row w.queues w.flags w.env (slice_set w.seats.items i next) w.history.items) { env = e }) same_env
-
-      look_over : Looks was (now_with truths w.word w.row w.queues w.flags env' (slice_set w.seats.items i next) w.history.items) i step
-      unfolding sees_performs goes_here
-      look_over = record {
-        view = view_of seat;
-        at = view_at;
-        walk = walk;
-        walks = walks;
-        place = place;
-        stands = ask_at ∙ ap Some stands;
-        found = p.found;
-        effect = seen_effect;
-        goes = subst (λ n. LookGoes n was (now_with truths w.word w.row w.queues w.flags env' (slice_set w.seats.items i next) w.history.items) i step) (sym sees)
-            (subst (λ (w : Now C N). LookGoes (LookOver cause) was w i step) (sym same_now) (goes_here walk walks w.word w.row w.queues w.flags next w.history.items step (sees_performs walk looks.0 cause looks.1 may next step q), refl));
-      }
-
-    looked_by : (n : EnvNext) → env_got_of place p.found ≡ n → SeatLooks n seat walk next step → Looks was (now_with truths w.word w.row w.queues w.flags env' (slice_set w.seats.items i next) w.history.items) i step
-    looked_by (Go on) e q = look_on on e q.0 q.1
-    looked_by (LookOver cause) e q = look_over cause e q
-    looked_by n e q = absurd q
+    looks_here : Looks was (now_set env' next) i step
+    looks_here = record {
+      view = view_of seat;
+      at = view_at;
+      walk = walk;
+      walks = walks;
+      place = place;
+      stands = ask_at ∙ ap Some stands;
+      found = p.found;
+      effect = seen_effect;
+      goes = looked_by (env_got_of place p.found) (look_leads looks.0 place looks.2 i (plain_of w.env) (plain_of w.env) p.found [] seen_effect) p.goes;
+    }
 
   -- a step on the clock and the notes, of a call of its own or of a look
   moved_by : (walk : Option (Walk C)) → seat.walk ≡ walk → (place : EnvWalk) → seat.asking ≡ Some place → (env' : Environment) (next : Seat C N) (step : Step) →
-      MovesFrom walk (plain_of w.env) (plain_of env') seat place next step → Moves was (now_with truths w.word w.row w.queues w.flags env' (slice_set w.seats.items i next) w.history.items) i step
+      MovesFrom walk (plain_of w.env) (plain_of env') seat place next step → Moves was (now_set env' next) i step
   moved_by None e place stands env' next step p = inr (inl (asks_here place stands e env' next step p))
-  moved_by (Some walk) e place stands env' next step p = inr (inr (looked_by walk e place stands env' next step p (env_got_of place p.found) refl p.goes))
+  moved_by (Some walk) e place stands env' next step p = inr (inr (looks_here walk e place stands env' next step p))
 
   pub moved_here : (place : EnvWalk) → seat.asking ≡ Some place → (env' : Environment) (next : Seat C N) (step : Step) → EnvMoves (plain_of w.env) (plain_of env') seat place next step →
-      Moves was (now_with truths w.word w.row w.queues w.flags env' (slice_set w.seats.items i next) w.history.items) i step
+      Moves was (now_set env' next) i step
   moved_here place stands env' next step p = moved_by seat.walk refl place stands env' next step p
 
   -- the law says of the seat where it waits
@@ -338,16 +298,16 @@ module _ {C : Type 0} {N : ℕ} (truths : Truths C) (w : Inside C N) (lawful : I
 
   -- the lock, the clock and the notes see of a seat its view, its place there and its count of tests
   now_as : (word' : Word) (row' : List ℕ) (queues' : Lists C) (flags' : List ℕ) (history' : List (Event C N)) (next other : Seat C N) → view_of next ≡ view_of other → next.asking ≡ other.asking → next.tests ≡ other.tests →
-      now_with truths word' row' queues' flags' w.env (slice_set w.seats.items i next) history' ≡ now_with truths word' row' queues' flags' w.env (slice_set w.seats.items i other) history'
-  now_as word' row' queues' flags' history' next other views asks tests = λ k. record (now_with truths word' row' queues' flags' w.env (slice_set w.seats.items i next) history') {
-    state = record (now_with truths word' row' queues' flags' w.env (slice_set w.seats.items i next) history').state { views = map-as view_of w.seats.items i next other views k };
+      lock_set word' row' queues' flags' next history' ≡ lock_set word' row' queues' flags' other history'
+  now_as word' row' queues' flags' history' next other views asks tests = λ k. record (lock_set word' row' queues' flags' next history') {
+    state = record (lock_set word' row' queues' flags' next history').state { views = map-as view_of w.seats.items i next other views k };
     tests = map-as (λ s. s.tests) w.seats.items i next other tests k;
     asking = map-as (λ s. s.asking) w.seats.items i next other asks k;
   }
 
   -- where a seat's place on the objects is left, and its wait, so are the objects
   objects_stay : (next : Seat C N) → (next.operating ≡ seat.operating) × (next.awaits ≡ seat.awaits) → objects_of w.objects (slice_set w.seats.items i next) ≡ objects_of w.objects w.seats.items
-  objects_stay next same = λ k. record (objects_of w.objects w.seats.items) { walks = map-stays (λ s. s.operating) w.seats.items i next seat at same.0 k; waits = map-stays (λ s. s.awaits) w.seats.items i next seat at same.1 k }
+  objects_stay next same = λ k. record (objects_of w.objects w.seats.items) { walks = stays (λ s. s.operating) next same.0 k; waits = stays (λ s. s.awaits) next same.1 k }
 
   -- ---- a step on the objects
 
@@ -371,7 +331,7 @@ module _ {C : Type 0} {N : ℕ} (truths : Truths C) (w : Inside C N) (lawful : I
         let same : s.walk ≡ place = same_Some _ _ (sym (walk_as wait waits) ∙ stood) in
         subst (λ w. looks_at (want_of w) ≡ Some at_will) same (looks_will s.mode s.cvs s.walk s.asked (out old old i lawful wait (waits_at ∙ waits) walk (walks_at ∙ stands)))
 
-    sees_acts : (acts : Acts old.lock (now_with truths w.word w.row w.queues w.flags w.env (slice_set w.seats.items i next) w.history.items) i step) × (acts.goes.found ≡ Looked (cause_of shown))
+    sees_acts : (acts : Acts old.lock (now_set w.env next) i step) × (acts.goes.found ≡ Looked (cause_of shown))
     unfolding sees_performs
     sees_acts =
         let p = sees_performs place at_will (cause_of shown) looks_at_will (may_show shown) next step sees in (
@@ -395,7 +355,7 @@ module _ {C : Type 0} {N : ℕ} (truths : Truths C) (w : Inside C N) (lawful : I
     }
 
     -- it is not for the lock
-    not_told : is_for_lock seat.awaits walk told ≡ false → WholeStep old (whole_with truths w.word w.row w.queues w.flags w.env (slice_set w.seats.items i then) w.history.items objects') i told
+    not_told : is_for_lock seat.awaits walk told ≡ false → WholeStep old (whole_set w.env then objects') i told
     not_told not = inr (inr (inl (record {
       walk = walk;
       walks = walks_at ∙ stands;
@@ -403,8 +363,8 @@ module _ {C : Type 0} {N : ℕ} (truths : Truths C) (w : Inside C N) (lawful : I
       operated = has_operated (objects_of objects' (slice_set w.seats.items i then)) (λ k. record {
         setup = ap (λ (o : ObjectWords). o.setup) q.becomes k;
         words = objects'.words;
-        walks = (map-set (λ s. s.operating) w.seats.items i then ∙ ap (slice_set (map (λ s. s.operating) w.seats.items) i) (ap (λ (s : Seat C N). s.operating) q.goes)) k;
-        waits = map-stays (λ s. s.awaits) w.seats.items i then seat at (ap (λ (s : Seat C N). s.awaits) q.goes) k;
+        walks = sets (λ s. s.operating) then (ap (λ (s : Seat C N). s.operating) q.goes) k;
+        waits = stays (λ s. s.awaits) then (ap (λ (s : Seat C N). s.awaits) q.goes) k;
       });
       not_for_lock = ap (λ w. is_for_lock w walk told) waits_at ∙ not;
       same = now_as w.word w.row w.queues w.flags w.history.items then seat (ap view_of q.goes) (ap (λ (s : Seat C N). s.asking) q.goes) (ap (λ (s : Seat C N). s.tests) q.goes) ∙ ap (λ ss. now_with truths w.word w.row w.queues w.flags w.env ss w.history.items) (set_same w.seats.items i seat at);
@@ -415,13 +375,13 @@ module _ {C : Type 0} {N : ℕ} (truths : Truths C) (w : Inside C N) (lawful : I
     over_objects next wait nowhere waits = λ k. record {
       setup = ap (λ (o : ObjectWords). o.setup) q.becomes k;
       words = objects'.words;
-      walks = (map-set (λ s. s.operating) w.seats.items i next ∙ ap (slice_set (map (λ s. s.operating) w.seats.items) i) nowhere ∙ sym (set_again (map (λ s. s.operating) w.seats.items) i (object_after (object_got walk q.found)) None)) k;
-      waits = (map-set (λ s. s.awaits) w.seats.items i next ∙ ap (slice_set (map (λ s. s.awaits) w.seats.items) i) waits) k;
+      walks = (sets (λ s. s.operating) next nowhere ∙ sym (set_again (map (λ s. s.operating) w.seats.items) i (object_after (object_got walk q.found)) None)) k;
+      waits = sets (λ s. s.awaits) next waits k;
     }
 
   -- the lock was told
   told_here : (wait : Option AnyWait) → seat.awaits ≡ wait → (walk : ObjectWalk) → seat.operating ≡ Some walk → (objects' : ObjectWords) (then : Seat C N) (told : Step) → SeatOperates (plain_of w.env) w.objects seat walk objects' then told →
-      is_for_lock wait walk told ≡ true → (next : Seat C N) (step : Step) → HasTold wait then walk told next step → WholeStep old (whole_with truths w.word w.row w.queues w.flags w.env (slice_set w.seats.items i next) w.history.items objects') i step
+      is_for_lock wait walk told ≡ true → (next : Seat C N) (step : Step) → HasTold wait then walk told next step → WholeStep old (whole_set w.env next objects') i step
   told_here (Some wait) waits walk stands objects' then told q for_lock next step p =
       let shown : AnyWait = record { round = wait.round; shown = shown_by told } in
       let same : Seat C N = record next { operating = seat.operating; awaits = seat.awaits } in
@@ -481,12 +441,12 @@ module _ {C : Type 0} {N : ℕ} (truths : Truths C) (w : Inside C N) (lawful : I
   told_here None waits walk stands objects' then told q for_lock next step p = absurd (cc)
 
   pub operated_here : (walk : ObjectWalk) → seat.operating ≡ Some walk → (objects' : ObjectWords) (then : Seat C N) (told : Step) → SeatOperates (plain_of w.env) w.objects seat walk objects' then told →
-      (next : Seat C N) (step : Step) → ToldIf (is_for_lock seat.awaits walk told) seat.awaits then walk told next step → WholeStep old (whole_with truths w.word w.row w.queues w.flags w.env (slice_set w.seats.items i next) w.history.items objects') i step
+      (next : Seat C N) (step : Step) → ToldIf (is_for_lock seat.awaits walk told) seat.awaits then walk told next step → WholeStep old (whole_set w.env next objects') i step
   operated_here walk stands objects' then told q next step p = by (is_for_lock seat.awaits walk told) refl p where
-    by : (b : Bool) → is_for_lock seat.awaits walk told ≡ b → ToldIf b seat.awaits then walk told next step → WholeStep old (whole_with truths w.word w.row w.queues w.flags w.env (slice_set w.seats.items i next) w.history.items objects') i step
+    by : (b : Bool) → is_for_lock seat.awaits walk told ≡ b → ToldIf b seat.awaits then walk told next step → WholeStep old (whole_set w.env next objects') i step
     by true for_lock p = told_here seat.awaits refl walk stands objects' then told q for_lock next step p
-    by false not p = subst (λ (s : Seat C N). WholeStep old (whole_with truths w.word w.row w.queues w.flags w.env (slice_set w.seats.items i s) w.history.items objects') i step) (sym p.0)
-        (subst (λ (s : Step). WholeStep old (whole_with truths w.word w.row w.queues w.flags w.env (slice_set w.seats.items i then) w.history.items objects') i s) (sym p.1) (not_told walk stands objects' then told q not))
+    by false not p = subst (λ (s : Seat C N). WholeStep old (whole_set w.env s objects') i step) (sym p.0)
+        (subst (λ (s : Step). WholeStep old (whole_set w.env then objects') i s) (sym p.1) (not_told walk stands objects' then told q not))
 
   -- ---- a step on the lock, or on the clock and the notes, of a seat that is at no place on the objects
 
@@ -508,7 +468,7 @@ module _ {C : Type 0} {N : ℕ} (truths : Truths C) (w : Inside C N) (lawful : I
 
     -- on the clock and the notes
     pub asked_here : (place : EnvWalk) → seat.asking ≡ Some place → (env' : Environment) (next : Seat C N) (step : Step) → EnvMoves (plain_of w.env) (plain_of env') seat place next step →
-        WholeStep old (whole_with truths w.word w.row w.queues w.flags env' (slice_set w.seats.items i next) w.history.items w.objects) i step
+        WholeStep old (whole_set env' next w.objects) i step
     asked_here place stands env' next step p = inr (inl (record {
       moves = moved_here place stands env' next step p;
       same = objects_stay next (asked_stays_on seat.walk (plain_of w.env) (plain_of env') seat place next step p);
@@ -523,7 +483,7 @@ module _ {C : Type 0} {N : ℕ} (truths : Truths C) (w : Inside C N) (lawful : I
     module _ (walk : Walk C) (walks : seat.walk ≡ Some walk) (unasked : seat.asking ≡ None) (word' : Word) (row' : List ℕ) (queues' : Lists C) (flags' : List ℕ) (then : Seat C N) (history' : List (Event C N)) (told : Step)
         (p : Performs truths (seat_part w.word w.row w.queues w.flags seat) seat w.history.items walk (seat_part word' row' queues' flags' then) then history' told) where
       abbrev on_lock : Seat C N → Now C N
-      on_lock next = now_with truths word' row' queues' flags' w.env (slice_set w.seats.items i next) history'
+      on_lock next = lock_set word' row' queues' flags' next history'
 
       waits_still : then.awaits ≡ seat.awaits
       waits_still = ap (λ (s : Seat C N). s.awaits) p.goes
@@ -533,14 +493,8 @@ module _ {C : Type 0} {N : ℕ} (truths : Truths C) (w : Inside C N) (lawful : I
 
       -- what it leaves of the objects, where it is of a wait for variables among them
       waited_objects : (wait : AnyWait) → then.awaits ≡ Some wait → (at : Option (Walk C)) (next : Seat C N) → next ≡ waited_seat (Some wait) at then → objects_of w.objects (slice_set w.seats.items i next) ≡ waited_after (objects_of w.objects w.seats.items) i wait at
-      waited_objects wait waits None next goes = λ k. record (objects_of w.objects w.seats.items) {
-        walks = (map-set (λ s. s.operating) w.seats.items i next ∙ ap (slice_set (map (λ s. s.operating) w.seats.items) i) (ap (λ (s : Seat C N). s.operating) goes)) k;
-        waits = (map-set (λ s. s.awaits) w.seats.items i next ∙ ap (slice_set (map (λ s. s.awaits) w.seats.items) i) (ap (λ (s : Seat C N). s.awaits) goes)) k;
-      }
-      waited_objects wait waits (Some at) next goes = λ k. record (objects_of w.objects w.seats.items) {
-        walks = (map-set (λ s. s.operating) w.seats.items i next ∙ ap (slice_set (map (λ s. s.operating) w.seats.items) i) (ap (λ (s : Seat C N). s.operating) goes)) k;
-        waits = (map-set (λ s. s.awaits) w.seats.items i next ∙ ap (slice_set (map (λ s. s.awaits) w.seats.items) i) (ap (λ (s : Seat C N). s.awaits) goes ∙ waits)) k;
-      }
+      waited_objects wait waits None next goes = λ k. record (objects_of w.objects w.seats.items) { walks = sets (λ s. s.operating) next (ap (λ (s : Seat C N). s.operating) goes) k; waits = sets (λ s. s.awaits) next (ap (λ (s : Seat C N). s.awaits) goes) k }
+      waited_objects wait waits (Some at) next goes = λ k. record (objects_of w.objects w.seats.items) { walks = sets (λ s. s.operating) next (ap (λ (s : Seat C N). s.operating) goes) k; waits = sets (λ s. s.awaits) next (ap (λ (s : Seat C N). s.awaits) goes ∙ waits) k }
 
       waited_here : (wait : AnyWait) → then.awaits ≡ Some wait → (next : Seat C N) → next ≡ waited_seat (Some wait) then.walk then → (step : Step) → step ≡ step_told wait told → WholeStep old (whole (on_lock next) (objects_of w.objects (slice_set w.seats.items i next))) i step
       waited_here wait waits next goes step answer =
@@ -606,12 +560,12 @@ module _ {C : Type 0} {N : ℕ} (truths : Truths C) (w : Inside C N) (lawful : I
     placed_objects (Ask walk) = objects_stay (placed seat (Ask walk)) (refl, refl)
     placed_objects (OnObjects walk) =
         let next : Seat C N = placed seat (OnObjects walk) in
-        (λ k. record (objects_of w.objects w.seats.items) { walks = map-set (λ s. s.operating) w.seats.items i next k; waits = map-stays (λ s. s.awaits) w.seats.items i next seat at refl k })
+        (λ k. record (objects_of w.objects w.seats.items) { walks = sets (λ s. s.operating) next refl k; waits = stays (λ s. s.awaits) next refl k })
 
     pub begins_here : (start : Start C) → start ≡ start_of N (mode_of seat.held) call → CallFits w.objects.setup (plain_of w.env).notes call (mode_of seat.held) →
-        WholeStarts old (whole_with truths w.word w.row w.queues w.flags w.env (slice_set w.seats.items i (placed seat start)) w.history.items w.objects) i call
+        WholeStarts old (whole_set w.env (placed seat start) w.objects) i call
     begins_here start is fits =
         let becomes = placed_objects start ∙ ap (objects_begun (objects_of w.objects w.seats.items) i) (ap place_of is ∙ placed_by N (mode_of seat.held) call) in
-        let new : Whole C N = whole_with truths w.word w.row w.queues w.flags w.env (slice_set w.seats.items i (placed seat start)) w.history.items w.objects in
+        let new : Whole C N = whole_set w.env (placed seat start) w.objects in
         let stood = begun_stood old new i (object_start call) (low_walks old old i lawful (view_of seat) view_at) (walks_at ∙ nowhere) becomes in
         record { starts = starts_here w.objects.setup call start is over unasked fits; elsewhere = walks_at ∙ nowhere; becomes = becomes; stands = stood.stands }

@@ -1,8 +1,7 @@
 use denote.Param.{number}
 use Rattle.ns_world.proofs.Sizes.{world_fits}
-use Rattle.std.proofs.Common.{◌∷◌, [], map, Vec, Global, sym, ◌∙◌}
+use Rattle.std.proofs.Common.{sym, ◌∙◌}
 use Rattle.ns_world.proofs.Below.{err_from_is_err_and}
-use Rattle.ns_world.specs.Prelude.{Call, progress, whole_of}
 use Rattle.ns_world.proofs.Schedules.{advance_none, advance_item, stops_behind}
 use Rattle.ns_world.proofs.run.item.Goals as goal
 

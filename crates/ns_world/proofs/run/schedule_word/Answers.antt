@@ -1,8 +1,7 @@
 use denote.Param.{number}
 use Rattle.ns_world.proofs.Sizes.{world_fits}
-use Rattle.std.proofs.Common.{arith, [], map, Vec, Global, ◌≡◌}
+use Rattle.std.proofs.Common.{arith, ◌≡◌}
 use Rattle.ns_world.proofs.Below.{append-nil, err_from_is_err_and}
-use Rattle.ns_world.specs.Prelude.{Call, progress, whole_of}
 use Rattle.ns_world.proofs.Schedules.{advance_none, advance_again, stops_again}
 use Rattle.ns_world.proofs.run.schedule_word.Goals as goal
 

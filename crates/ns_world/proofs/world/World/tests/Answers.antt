@@ -1,4 +1,4 @@
-use Rattle.std.proofs.Common.{◌<◌, length, ap, refl, sym, ◌∙◌, arith}
+use Rattle.std.proofs.Common.{◌<◌, length, refl, sym, arith}
 use Rattle.ns_world.proofs.Below.{length-map}
 use Rattle.ns_world.specs.Prelude.{view_of}
 use Rattle.ns_world.proofs.Mapped.{found_at, index-map}
