@@ -561,8 +561,10 @@ module _ (C : Type 0) (N : ℕ) (before : Whole C N) (earlier : Past) (seat : �
     -- the look goes on, or the wait goes on with what it has shown
     look_goes : (look : EnvCourse) (asked : EnvRequest) (limits : Limits) (next : EnvNext) → Says (limits_of request) limits → asked ≡ TheEnvRequest.Look limits →
         BeginsWith look.before earlier.notes → EnvGoes events seat asked look next → LookGoes next old new seat step → (looked : Option (Option Cause)) × LockOutcome request step events new looked
-    look_goes look asked limits (Go place) given is after goes p =
-        (u.course.looked, subst (λ s. LockOutcome request s events new u.course.looked) (sym p.1) (subst (λ world. LockOutcome request Went events world u.course.looked) (sym p.0) (record {
+    look_goes look asked limits (Go place) given is after goes p = (
+      u.course.looked,
+      subst (λ s. LockOutcome request s events new u.course.looked) (sym p.1) (subst (λ world. LockOutcome request Went events world u.course.looked) (sym p.0) (
+        record {
           view = u.view;
           at = u.at;
           walk = u.walk;
@@ -577,7 +579,10 @@ module _ (C : Type 0) (N : ℕ) (before : Whole C N) (earlier : Past) (seat : �
           asks = set_here old.asking seat (Some place) (slice_get_within old.asking seat u.asking u.asks);
           looking = (look, after, goes.so_far);
           still = u.still;
-        }, refl)))
+        },
+        refl,
+      )),
+    )
     look_goes look asked limits (LookOver cause) given is after goes p =
         let so = shown_so earlier.notes events (limits_of request) limits cause given (look_means earlier.notes events look limits asked cause is after goes) in
         (looked_after p.0.found u.course.looked, lock_goes p.0 (subst (λ found. WasShown earlier.notes events (limits_of request) (looked_after found u.course.looked)) (sym p.1) so))
