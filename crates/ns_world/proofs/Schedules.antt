@@ -1,7 +1,7 @@
 -- Turns that follow a schedule, piece by piece.
 use Rattle.std.proofs.Common.{◌≡◌, ℕ, inl, inr, append_assoc, suc, ◌+◌, ◌<◌, ◌≤◌, Bool, true, false, cond, eqb, List, [], ◌∷◌, ◌++◌, None, Some, length, refl, ap, sym, ◌∙◌, subst, arith, add-zero, length-append, eq-eqb, ◌-◌, replicate, get_or, take, drop, drop-cons}
 use Rattle.ns_world.proofs.Below.{append-nil, flat_map-append, replicate-append-replicate, replicate_more, take-append-drop, take_more}
-use Rattle.ns_world.specs.Prelude.{Advances, Call, EndFinished, Fault, Finished, IsFinished, NoSuchSeat, OutOfMemory, Progress, Step, StepLimit, Stops, StopsFor, TooManySeats, Turn, TurnFault, TurnOf, Turned, TurnsOf, Whole, is_end, rest_of, word_items}
+use Rattle.ns_world.specs.Prelude.{Advances, Call, EndFinished, Fault, Finished, IsFinished, NoSuchSeat, OutOfMemory, Progress, Step, Stops, StopsFor, Turn, TurnFault, TurnOf, Turned, TurnsOf, Whole, is_end, rest_of, word_items}
 use Rattle.ns_world.specs.Runs.{Item, items_of}
 
 -- ---- what is left of the items
@@ -57,18 +57,14 @@ turns_join lists p q r (turned ∷ a) b s t = (s.0, s.1, turns_join lists s.0 q 
 stops_for_more : {C : Type 0} {N : ℕ} (limit : ℕ) (world : Whole C N) (made : ℕ) (turns : List Turned) (left more : List Item) (fault : Fault) → StopsFor limit world made turns left fault → StopsFor limit world made turns (left ++ more) fault
 stops_for_more limit world made turns [] more OutOfMemory (inl p) = absurd p
 stops_for_more limit world made turns [] more OutOfMemory (inr p) = inr p
-stops_for_more limit world made turns [] more NoSuchSeat p = absurd p
-stops_for_more limit world made turns [] more StepLimit p = absurd p
-stops_for_more limit world made turns [] more TooManySeats p = absurd p
+stops_for_more limit world made turns [] more other p = absurd p
 stops_for_more limit world made turns (item ∷ left) more other p = p
 
 -- and turns before
 stops_for_after : {C : Type 0} {N : ℕ} (limit : ℕ) (world : Whole C N) (made : ℕ) (front turns : List Turned) (left : List Item) (fault : Fault) → StopsFor limit world made turns left fault → StopsFor limit world made (front ++ turns) left fault
 stops_for_after limit world made front turns left OutOfMemory (inl p) = inl p
 stops_for_after limit world made front turns left OutOfMemory (inr p) = inr (ends_after front turns p)
-stops_for_after limit world made front turns (item ∷ left) NoSuchSeat p = p
-stops_for_after limit world made front turns (item ∷ left) StepLimit p = p
-stops_for_after limit world made front turns (item ∷ left) TooManySeats p = p
+stops_for_after limit world made front turns (item ∷ left) other p = p
 stops_for_after limit world made front turns [] other p = absurd p
 
 module _ {C : Type 0} {N : ℕ} {lists : List (List (Call C))} {limit : ℕ} where
@@ -120,8 +116,7 @@ module _ {C : Type 0} {N : ℕ} {lists : List (List (Call C))} {limit : ℕ} whe
   pub turn_stops : {p : Progress C N} {before seat : ℕ} {whole : Bool} {world : Whole C N} (fault : Fault) → before ≤ limit → (world ≡ p.world) × TurnFault p.world seat fault → Stops lists limit p before (record { seat = seat; whole = whole } ∷ []) world fault
   turn_stops {p} {before} {seat} {whole} OutOfMemory within e = subst (λ w. Stops lists limit p before (record { seat = seat; whole = whole } ∷ []) w OutOfMemory) (sym e.0) (stops_now OutOfMemory within (inl e.1))
   turn_stops {p} {before} {seat} {whole} NoSuchSeat within e = subst (λ w. Stops lists limit p before (record { seat = seat; whole = whole } ∷ []) w NoSuchSeat) (sym e.0) (stops_now NoSuchSeat within e.1)
-  turn_stops TooManySeats within e = absurd e.1
-  turn_stops StepLimit within e = absurd e.1
+  turn_stops other within e = absurd e.1
 
   -- where a turn was made, and there was no memory to tell it
   pub untold_stops : {p q : Progress C N} {before seat : ℕ} {whole : Bool} (step : Step) {world : Whole C N} → TurnOf lists p seat step q → IsFinished step → before + 1 ≤ limit → q.world ≡ world →

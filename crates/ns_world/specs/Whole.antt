@@ -2,7 +2,7 @@
 use Rattle.std.specs.Prelude.{Bool, IsSome, List, None, Option, Some, [], false, is_some, length, not, slice_get, true, ℕ, ◌<◌, ◌||◌, ◌≡◌, ◌≤◌, ◌⊎◌}
 use Rattle.std.proofs.Common.{inl, inr}
 use Rattle.ns_world.specs.Names.{Act, AnyWait, AreAmong, AreThere, Begun, Busy, Call, Cvs, EnvEvent, Environment, Event, Every, Fault, Held, Idle, InRound, Lists, Looked, Misuse, Mode, NoSuchSeat, Nothing, ObjectEvent, ObjectWalk, ObjectWords, OnLock, OutOfMemory, Round, RoundPlace, Seat, SeatView}
-use Rattle.ns_world.specs.Names.{Started, Step, StepLimit, TooManySeats, Truths, Walk, Went, Word, asked_of, got_of, have_variable, items_of, object_who, wait_first, walk_after, walk_in, want_of}
+use Rattle.ns_world.specs.Names.{Started, Step, Truths, Walk, Went, Word, asked_of, got_of, have_variable, items_of, object_who, wait_first, walk_after, walk_in, want_of}
 use Rattle.ns_world.specs.Among.{asks_for_any, cause_of, is_for_lock, shown_by, step_told, waited_after, waits_for_any}
 use Rattle.ns_world.specs.Begins.{Misuses, Starts, begun_at}
 use Rattle.ns_world.specs.Calls.{mode_of, mode_waited, object_start}
@@ -220,8 +220,7 @@ WholeCommits world seat = CommitsNext world.lock seat
 abbrev pub WholeFault : {C : Type 0} {N : ℕ} → Whole C N → ℕ → Fault → Type 0
 WholeFault old seat NoSuchSeat = length old.lock.state.views ≤ seat
 WholeFault old seat OutOfMemory = WholeCommits old seat
-WholeFault old seat TooManySeats = ⊥
-WholeFault old seat StepLimit = ⊥
+WholeFault old seat fault = ⊥
 
 -- whether a call of the seat is in progress
 abbrev pub whole_busy : {C : Type 0} {N : ℕ} → Whole C N → ℕ → Bool

@@ -2,8 +2,8 @@
 use Rattle.std.specs.Prelude.{◌≡◌, ℕ, ◌⊎◌, Bool, false, ◌||◌, ◌<◌, ◌≤◌, ◌++◌, List, [], map, replicate, Option, Some, None, is_some, slice_get, slice_set, slice_index, length}
 use Rattle.std.specs.Option.{option_map_or}
 use Rattle.std.proofs.Common.{inl, inr}
-use Rattle.ns_world.specs.Names.{AreNumbered, EnvEffect, EnvEvent, EnvFound, EnvNext, EnvPlain, EnvStep, EnvWalk, Environment, Event, Every, Fault, Found, Go, IfMade, IsLawfulEnv, Lists, LockState, LookOver, Looked, NoSuchSeat, NoteStanding, OutOfMemory, Seat, SeatView}
-use Rattle.ns_world.specs.Names.{Step, StepLimit, Steps, TooManySeats, Truths, Walk, Went, Word, env_got_of, env_want_of, env_who, fresh_plain, fresh_state, got_of, walk_after, want_of}
+use Rattle.ns_world.specs.Names.{AreNumbered, EnvEffect, EnvEvent, EnvFound, EnvNext, EnvPlain, EnvStep, EnvWalk, Environment, Event, Every, Fault, Found, Go, IfMade, IsLawfulEnv, Lists, LockState, LookOver, Looked, NoteStanding, OutOfMemory, Seat, SeatView}
+use Rattle.ns_world.specs.Names.{Step, Steps, TooManySeats, Truths, Walk, Went, Word, env_got_of, env_want_of, env_who, fresh_plain, fresh_state, got_of, walk_after, want_of}
 use Rattle.ns_word.specs.Lawful.{IsLawful}
 use Rattle.ns_world.specs.Asks.{plain_of, env_state, env_step_of}
 use Rattle.ns_world.specs.Commits.{Commits}
@@ -99,8 +99,7 @@ fresh {C} {N} truths seats = record { truths = truths; state = fresh_state {C = 
 abbrev pub RefusesWorld : ℕ → Fault → Type 0
 RefusesWorld seats TooManySeats = 64 < seats
 RefusesWorld seats OutOfMemory = seats ≤ 64
-RefusesWorld seats NoSuchSeat = ⊥
-RefusesWorld seats StepLimit = ⊥
+RefusesWorld seats fault = ⊥
 
 -- ---- a step
 
