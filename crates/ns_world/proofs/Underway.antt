@@ -147,20 +147,23 @@ goes_after (On walk) goes = (walk, refl)
 goes_after (TheNext.Idle walk) goes = (walk, refl)
 goes_after (Done reply) goes = absurd goes
 
+-- where a view stands on the lock, if there is one
+abbrev walk_of : {C : Type 0} {N : ℕ} → Option (SeatView C N) → Option (Walk C)
+walk_of None = None
+walk_of (Some view) = view.walk
+
 module _ (C : Type 0) (N : ℕ) (before : Whole C N) (earlier : Past) (seat : ℕ) where
   -- ---- how far a call has come
 
   -- one on the lock has come so far, and so has its look, if it is looking
   record LockUnderway (request : Request C) (events : List EnvEvent) (world : Now C N) : Type 0 where
-    view : SeatView C N
-    at : slice_get world.state.views seat ≡ Some view
     walk : Walk C
-    walks : view.walk ≡ Some walk
+    walks : walk_of (slice_get world.state.views seat) ≡ Some walk
     asked : asked_of walk ≡ request
     course : Course C N
     began : course.began ≡ held_at before.lock seat
     added : own world.history seat ≡ own before.lock.history seat ++ course.committed
-    so_far : SoFar world.truths seat course walk view.held
+    so_far : SoFar world.truths seat course walk (held_at world seat)
     shown : WasShown earlier.notes events (limits_of request) course.looked
     asking : Option EnvWalk
     asks : slice_get world.asking seat ≡ Some asking
@@ -169,9 +172,7 @@ module _ (C : Type 0) (N : ℕ) (before : Whole C N) (earlier : Past) (seat : �
 
   -- one on the clock and the notes has come so far
   record NotesUnderway (request : EnvRequest) (events : List EnvEvent) (world : Now C N) : Type 0 where
-    view : SeatView C N
-    at : slice_get world.state.views seat ≡ Some view
-    idle : view.walk ≡ None
+    idle : walk_of (slice_get world.state.views seat) ≡ None
     walk : EnvWalk
     walks : slice_get world.asking seat ≡ Some (Some walk)
     asked : env_asked_of walk ≡ request
@@ -179,7 +180,7 @@ module _ (C : Type 0) (N : ℕ) (before : Whole C N) (earlier : Past) (seat : �
     began : course.before ≡ earlier.notes
     added : env_own events seat ≡ env_own earlier.notes seat ++ course.events
     so_far : EnvSoFar events seat course walk
-    same : view.held ≡ held_at before.lock seat
+    same : held_at world seat ≡ held_at before.lock seat
     silent : own world.history seat ≡ own before.lock.history seat
     no_look : IsNoLook request
 
@@ -191,9 +192,7 @@ module _ (C : Type 0) (N : ℕ) (before : Whole C N) (earlier : Past) (seat : �
 
   -- one on counters and once cells has come so far; its seat is in no other, and does nothing else
   record ObjectsUnderway (asked : ObjectWalk) (past : Past) (world : Whole C N) : Type 0 where
-    view : SeatView C N
-    at : slice_get world.lock.state.views seat ≡ Some view
-    same : view.held ≡ held_at before.lock seat
+    same : held_at world.lock seat ≡ held_at before.lock seat
     silent : own world.lock.history seat ≡ own before.lock.history seat
     still : env_own past.notes seat ≡ env_own earlier.notes seat
     walk : ObjectWalk
@@ -294,15 +293,13 @@ module _ (C : Type 0) (N : ℕ) (before : Whole C N) (earlier : Past) (seat : �
 
   lock_rests : (request : Request C) (events more : List EnvEvent) (old new : Now C N) → Untouched seat old new → env_own (events ++ more) seat ≡ env_own events seat → LockUnderway request events old → LockUnderway request (events ++ more) new
   lock_rests request events more old new same own_same u = record {
-    view = u.view;
-    at = same.views ∙ u.at;
     walk = u.walk;
-    walks = u.walks;
+    walks = ap walk_of same.views ∙ u.walks;
     asked = u.asked;
     course = u.course;
     began = u.began;
     added = same.own_same ∙ u.added;
-    so_far = subst (λ truths. SoFar truths seat u.course u.walk u.view.held) (sym same.means) u.so_far;
+    so_far = subst (λ held. SoFar new.truths seat u.course u.walk held) (sym (ap held_in same.views)) (subst (λ truths. SoFar truths seat u.course u.walk (held_at old seat)) (sym same.means) u.so_far);
     shown = shown_on earlier.notes events more (limits_of request) u.course.looked u.shown;
     asking = u.asking;
     asks = same.asking ∙ u.asks;
@@ -350,9 +347,7 @@ module _ (C : Type 0) (N : ℕ) (before : Whole C N) (earlier : Past) (seat : �
   has_rests (OfLock request) past more old new r u = (lock_rests request past.notes more.notes old.lock new.lock r.still.lock r.notes u.0, apart_rests past more old new r.still.walks r.still.waits r.objects u.1)
   has_rests (OfNotes request) past more old new r u = (
     record {
-      view = u.0.view;
-      at = r.still.lock.views ∙ u.0.at;
-      idle = u.0.idle;
+      idle = ap walk_of r.still.lock.views ∙ u.0.idle;
       walk = u.0.walk;
       walks = r.still.lock.asking ∙ u.0.walks;
       asked = u.0.asked;
@@ -360,16 +355,14 @@ module _ (C : Type 0) (N : ℕ) (before : Whole C N) (earlier : Past) (seat : �
       began = u.0.began;
       added = r.notes ∙ u.0.added;
       so_far = others_leave_course past.notes more.notes seat u.0.course u.0.walk u.0.so_far;
-      same = u.0.same;
+      same = ap held_in r.still.lock.views ∙ u.0.same;
       silent = r.still.lock.own_same ∙ u.0.silent;
       no_look = u.0.no_look;
     },
     apart_rests past more old new r.still.walks r.still.waits r.objects u.1,
   )
   has_rests (OfObjects asked) past more old new r (inl u) = inl (record {
-    view = u.view;
-    at = r.still.lock.views ∙ u.at;
-    same = u.same;
+    same = ap held_in r.still.lock.views ∙ u.same;
     silent = r.still.lock.own_same ∙ u.silent;
     still = r.notes ∙ u.still;
     walk = u.walk;
@@ -449,15 +442,13 @@ module _ (C : Type 0) (N : ℕ) (before : Whole C N) (earlier : Past) (seat : �
       own old.history seat ≡ own before.lock.history seat → env_own events seat ≡ env_own earlier.notes seat → (u : LockUnderway request events (begun_at old seat view (OnLock walk))) × (u.course.looked ≡ None)
   begun_lock request events old view walk asked first at unasked same silent still = (
     record {
-      view = record view { walk = Some walk };
-      at = set_here old.state.views seat (record view { walk = Some walk }) (slice_get_within old.state.views seat view at);
       walk = walk;
-      walks = refl;
+      walks = ap walk_of here;
       asked = asked;
       course = course_from view.held;
       began = same;
       added = silent ∙ sym (append-nil (own before.lock.history seat));
-      so_far = begins_unchanged C N old.truths seat view.held walk first;
+      so_far = subst (λ held. SoFar old.truths seat (course_from view.held) walk held) (sym (ap held_in here)) (begins_unchanged C N old.truths seat view.held walk first);
       shown = tt;
       asking = None;
       asks = unasked;
@@ -465,7 +456,9 @@ module _ (C : Type 0) (N : ℕ) (before : Whole C N) (earlier : Past) (seat : �
       still = still;
     },
     refl,
-  )
+  ) where
+    here : slice_get (slice_set old.state.views seat (record view { walk = Some walk })) seat ≡ Some (record view { walk = Some walk })
+    here = set_here old.state.views seat (record view { walk = Some walk }) (slice_get_within old.state.views seat view at)
 
   -- a step of another, and the beginning of its call
   module _ (asked : Asked C) (past : Past) (old new : Whole C N) (other : ℕ) (ne : other ≢ seat) (lawful : IsLawfulWhole old) (u : UnderwayIn asked past old) where
@@ -507,15 +500,13 @@ module _ (C : Type 0) (N : ℕ) (before : Whole C N) (earlier : Past) (seat : �
     goes_on : (number : ℕ) (walk : Walk C) (held : Option (Held C N)) (owed : List Owed) → GoesOn new.truths seat request course walk held → slice_get new.state.views seat ≡ Some (record { seat = number; walk = Some walk; held = held; owed = owed }) →
         slice_get new.asking seat ≡ Some (look_of (Some walk)) → LookSoFar earlier.notes seat events (look_of (Some walk)) → LockUnderway request events new
     goes_on number walk held owed goes at asks looking = record {
-      view = record { seat = number; walk = Some walk; held = held; owed = owed };
-      at = at;
       walk = walk;
-      walks = refl;
+      walks = ap walk_of at;
       asked = goes.asked;
       course = course;
       began = began;
       added = added;
-      so_far = goes.so_far;
+      so_far = subst (λ held. SoFar new.truths seat course walk held) (sym (ap held_in at)) goes.so_far;
       shown = shown;
       asking = look_of (Some walk);
       asks = asks;
@@ -535,10 +526,9 @@ module _ (C : Type 0) (N : ℕ) (before : Whole C N) (earlier : Past) (seat : �
     -- a step of the seat on the lock leads its call on
     lock_goes : (p : Goes old new seat step) → WasShown earlier.notes events (limits_of request) (looked_after p.found u.course.looked) → LockOutcome request step events new (looked_after p.found u.course.looked)
     lock_goes p shown =
-        let view_is : p.view ≡ u.view = same_Some _ _ (sym p.at ∙ u.at) in
-        let walk_is : p.makes.walk ≡ u.walk = same_Some _ _ (sym p.makes.walks ∙ ap (λ v. v.walk) view_is ∙ u.walks) in
-        let at_walk : SoFar old.truths seat u.course p.makes.walk u.view.held = subst (λ w. SoFar old.truths seat u.course w u.view.held) (sym walk_is) u.so_far in
-        let at_view : SoFar old.truths seat u.course p.makes.walk p.view.held = subst (λ v. SoFar old.truths seat u.course p.makes.walk v.held) (sym view_is) at_walk in
+        let walk_is : p.makes.walk ≡ u.walk = same_Some _ _ (sym (ap walk_of p.at ∙ p.makes.walks) ∙ u.walks) in
+        let at_walk : SoFar old.truths seat u.course p.makes.walk (held_at old seat) = subst (λ w. SoFar old.truths seat u.course w (held_at old seat)) (sym walk_is) u.so_far in
+        let at_view : SoFar old.truths seat u.course p.makes.walk p.view.held = subst (λ held. SoFar old.truths seat u.course p.makes.walk held) (ap held_in p.at) at_walk in
         let so_far : SoFar old.truths p.view.seat u.course p.makes.walk p.view.held = subst (λ n. SoFar old.truths n u.course p.makes.walk p.view.held) (sym p.number) at_view in
         let course = course_after p.found p.commits u.course in
         let next = got_of N p.makes.walk p.found in
@@ -565,8 +555,6 @@ module _ (C : Type 0) (N : ℕ) (before : Whole C N) (earlier : Past) (seat : �
       u.course.looked,
       subst (λ s. LockOutcome request s events new u.course.looked) (sym p.1) (subst (λ world. LockOutcome request Went events world u.course.looked) (sym p.0) (
         record {
-          view = u.view;
-          at = u.at;
           walk = u.walk;
           walks = u.walks;
           asked = u.asked;
@@ -610,19 +598,16 @@ module _ (C : Type 0) (N : ℕ) (before : Whole C N) (earlier : Past) (seat : �
     lock_moves : LedTo events old → (p : Moves old new seat step) → (looked : Option (Option Cause)) × LockOutcome request step (events ++ env_done p) new looked
     lock_moves led (inl p) =
         let same : waits_among p.goes.makes.walk ≡ false → looked_after p.goes.found here.course.looked ≡ here.course.looked = λ not. acts_show_not old new step p here.course.looked (p.is_no_look not) in
-        let view_is : p.goes.view ≡ here.view = same_Some _ _ (sym p.goes.at ∙ here.at) in
-        let walk_is : p.goes.makes.walk ≡ here.walk = same_Some _ _ (sym p.goes.makes.walks ∙ ap (λ v. v.walk) view_is ∙ here.walks) in
+        let walk_is : p.goes.makes.walk ≡ here.walk = same_Some _ _ (sym (ap walk_of p.goes.at ∙ p.goes.makes.walks) ∙ here.walks) in
         let none : waits_among p.goes.makes.walk ≡ true → limits_of request ≡ None = λ is. ap limits_of (sym here.asked ∙ ap asked_of (sym walk_is)) ∙ among_says p.goes.makes.walk is in
         let shown = shown_as earlier.notes (events ++ []) (waits_among p.goes.makes.walk) refl (limits_of request) here.course.looked (looked_after p.goes.found here.course.looked) same none here.shown in
         (looked_after p.goes.found here.course.looked, lock_goes request (events ++ []) old new step lawful since_here here p.goes shown)
-    lock_moves led (inr (inl p)) =
-        let view_is : p.view ≡ u.view = same_Some _ _ (sym p.at ∙ u.at) in
-        let clash : None ≡ Some u.walk = sym p.idle ∙ ap (λ v. v.walk) view_is ∙ u.walks in absurd (cc)
+    lock_moves led (inr (inl p)) = let clash : None ≡ Some u.walk = sym (ap walk_of p.at ∙ p.idle) ∙ u.walks in absurd (cc)
     lock_moves led (inr (inr p)) =
         let asking : Some u.asking ≡ Some (Some p.place) = sym u.asks ∙ p.stands in
         let asking_is : u.asking ≡ Some p.place = cc in
         let look = subst (λ a. LookSoFar earlier.notes seat events a) asking_is u.looking in
-        let for : AsksFor (Some u.walk) (Some p.place) = subst (λ w. AsksFor w (Some p.place)) u.walks (lawful.right seat u.view (Some p.place) u.at p.stands) in
+        let for : AsksFor (Some u.walk) (Some p.place) = subst (λ w. AsksFor w (Some p.place)) (sym (ap walk_of p.at) ∙ u.walks) (lawful.right seat p.view (Some p.place) p.at p.stands) in
         let next = env_got_of p.place p.found in
         let goes = step_takes_on events [] (env_state old.env old.asking) (env_state old.env (slice_set old.asking seat (env_walk_after next))) seat p.found look.0 (record { walk = p.place; walks = p.stands; effect = p.effect; becomes = refl }) led look.2 in
         look_goes request (events ++ []) old new step lawful since_here here (env_course_after [] look.0) (env_asked_of p.place) for.0 next (limits_are u.walk request for.0 u.asked for.1) (place_asks for.0 p.place for.2) look.1 goes p.goes
@@ -644,8 +629,8 @@ module _ (C : Type 0) (N : ℕ) (before : Whole C N) (earlier : Past) (seat : �
         env_own-append events p.events seat ∙ ap (λ es. env_own events seat ++ es) (env_own_all seat p.events by) ∙ ap (λ es. es ++ p.events) u.added ∙ append_assoc (env_own earlier.notes seat) u.course.events p.events in
         let walks_on = ap (λ xs. slice_get xs seat) p.makes.becomes ∙ set_here old.asking seat (env_walk_after next) (slice_get_within old.asking seat (Some u.walk) u.walks) in
         subst (λ s. NotesOutcome request s (events ++ p.events) new) (sym p.answers) (settle added next walks_on goes) where
-          at : slice_get new.state.views seat ≡ Some u.view
-          at = ap (λ (world : Now C N). slice_get world.state.views seat) p.others ∙ u.at
+          views : slice_get new.state.views seat ≡ slice_get old.state.views seat
+          views = ap (λ (world : Now C N). slice_get world.state.views seat) p.others
 
           silent : own new.history seat ≡ own before.lock.history seat
           silent = ap (λ (world : Now C N). own world.history seat) p.others ∙ u.silent
@@ -655,9 +640,7 @@ module _ (C : Type 0) (N : ℕ) (before : Whole C N) (earlier : Past) (seat : �
 
           on : env_own (events ++ p.events) seat ≡ env_own earlier.notes seat ++ course.events → (walk : EnvWalk) → slice_get new.asking seat ≡ Some (Some walk) → EnvGoesOn (events ++ p.events) seat request course walk → NotesUnderway request (events ++ p.events) new
           on added walk walks goes = record {
-            view = u.view;
-            at = at;
-            idle = u.idle;
+            idle = ap walk_of views ∙ u.idle;
             walk = walk;
             walks = walks;
             asked = goes.asked;
@@ -665,7 +648,7 @@ module _ (C : Type 0) (N : ℕ) (before : Whole C N) (earlier : Past) (seat : �
             began = u.began;
             added = added;
             so_far = goes.so_far;
-            same = u.same;
+            same = ap held_in views ∙ u.same;
             silent = silent;
             no_look = u.no_look;
           }
@@ -674,7 +657,7 @@ module _ (C : Type 0) (N : ℕ) (before : Whole C N) (earlier : Past) (seat : �
               NotesOutcome request (env_step_of next) (events ++ p.events) new
           settle added (Go walk) walks goes = on added walk walks goes
           settle added (Repeat walk) walks goes = on added walk walks goes
-          settle added (Over reply) walks goes = record { course = course; began = u.began; added = added; answer = reply; tells = refl; means = goes; same = ap held_in at ∙ u.same; silent = silent }
+          settle added (Over reply) walks goes = record { course = course; began = u.began; added = added; answer = reply; tells = refl; means = goes; same = ap held_in views ∙ u.same; silent = silent }
           settle added (LookOver cause) walks goes = absurd (means_no_look (events ++ p.events) request course cause u.no_look goes)
 
     -- any of its steps
@@ -682,8 +665,7 @@ module _ (C : Type 0) (N : ℕ) (before : Whole C N) (earlier : Past) (seat : �
     notes_move (inl p) = let clash : Some None ≡ Some (Some u.walk) = sym p.unasked ∙ u.walks in absurd (cc)
     notes_move (inr (inl p)) = asks_goes p
     notes_move (inr (inr p)) =
-        let view_is : p.view ≡ u.view = same_Some _ _ (sym p.at ∙ u.at) in
-        let clash : None ≡ Some p.walk = sym u.idle ∙ ap (λ v. v.walk) (sym view_is) ∙ p.walks in absurd (cc)
+        let clash : None ≡ Some p.walk = sym u.idle ∙ ap walk_of p.at ∙ p.walks in absurd (cc)
 
   -- ---- its own step, by what it is
 
@@ -742,8 +724,8 @@ module _ (C : Type 0) (N : ℕ) (before : Whole C N) (earlier : Past) (seat : �
           let goes = operates_on before.objects.setup earlier seat past old.objects.words law state u.led.0 u.since_notes u.since o.events o.added q.events p.walk q.found q.words fits so_far q.effect in
           let goes_asked = subst (λ a. ObjectGoes before.objects.setup earlier (done q.events) seat a (o.events ++ q.events) (object_got p.walk q.found)) (ap object_asked walk_is ∙ o.is_asked) goes in
           subst (λ s. Outcome (OfObjects asked) s (done q.events) new) (sym q.answers) (by (object_got p.walk q.found) (ap (λ (x : Objects). x.walks) q.becomes) goes_asked) where
-            at : slice_get new.lock.state.views seat ≡ Some o.view
-            at = ap (λ (world : Now C N). slice_get world.state.views seat) p.same ∙ o.at
+            held : held_at new.lock seat ≡ held_at before.lock seat
+            held = ap (λ (world : Now C N). held_at world seat) p.same ∙ o.same
 
             silent : own new.lock.history seat ≡ own before.lock.history seat
             silent = ap (λ (world : Now C N). own world.history seat) p.same ∙ o.silent
@@ -757,9 +739,7 @@ module _ (C : Type 0) (N : ℕ) (before : Whole C N) (earlier : Past) (seat : �
             on : (place : ObjectWalk) → new.objects.walks ≡ slice_set old.objects.walks seat (Some place) → (object_asked place ≡ asked) × ObjectSoFar before.objects.setup earlier (done p.operated.events) seat (o.events ++ p.operated.events) place →
                 ObjectsUnderway asked (done p.operated.events) new
             on place walks goes = record {
-              view = o.view;
-              at = at;
-              same = o.same;
+              same = held;
               silent = silent;
               still = still;
               walk = place;
@@ -775,7 +755,7 @@ module _ (C : Type 0) (N : ℕ) (before : Whole C N) (earlier : Past) (seat : �
                 Outcome (OfObjects asked) (object_step_of next) (done p.operated.events) new
             by (Go place) walks goes = inl (on place walks goes)
             by (Repeat place) walks goes = inl (on place walks goes)
-            by (Over reply) walks goes = inl (record { events = o.events ++ p.operated.events; added = added; answer = reply; tells = refl; means = goes; still = still; same = ap held_in at ∙ o.same; silent = silent })
+            by (Over reply) walks goes = inl (record { events = o.events ++ p.operated.events; added = added; answer = reply; tells = refl; means = goes; still = still; same = held; silent = silent })
 
       -- what a round's step shows is so, of rounds since this point
       round_shows : (from : Past) (round : Round) (place : RoundPlace) → walk_in old.objects.walks seat ≡ Some (InRound round place) → (after : Objects) (told : Step) (q : HasOperated old.lock.env seat (InRound round place) old.objects after told) → WereThere before.objects.setup from round.items →
@@ -803,7 +783,7 @@ module _ (C : Type 0) (N : ℕ) (before : Whole C N) (earlier : Past) (seat : �
 
             on_lock : (lock : LockUnderway (wait_for p.cvs) (past.notes ++ []) new.lock) × (lock.course.looked ≡ None)
             on_lock =
-                let same : p.view.held ≡ held_at before.lock seat = ap (λ (v : SeatView C N). v.held) (same_Some _ _ (sym p.at ∙ o.at)) ∙ o.same in
+                let same : p.view.held ≡ held_at before.lock seat = sym (ap held_in p.at) ∙ o.same in
                 let waits = waits_for_any {C = C} (mode_waited (mode_of p.view.held)) p.cvs in
                 let asks : asked_of (wait_first N waits) ≡ wait_for p.cvs = ap (λ held. TheRequest.Await (waits_for_any {C = C} (mode_waited (mode_of held)) p.cvs)) same in
                 subst (λ (world : Now C N). (lock : LockUnderway (wait_for p.cvs) (past.notes ++ []) world) × (lock.course.looked ≡ None)) (sym p.begins)
@@ -1048,9 +1028,7 @@ module _ (C : Type 0) (N : ℕ) (before : Whole C N) (earlier : Past) (seat : �
         ((begun_lock request earlier.notes before.lock view walk asked first at unasked (sym (ap held_in at)) refl refl).0, record { nowhere = stands; waits_not = waits; untouched = refl })
     starts_at (OfNotes request) (Ask walk) asked first begun stands = (
       record {
-        view = view;
-        at = at;
-        idle = idle;
+        idle = ap walk_of at ∙ idle;
         walk = walk;
         walks = set_here before.lock.asking seat (Some walk) (slice_get_within before.lock.asking seat None unasked);
         asked = asked;
@@ -1058,16 +1036,14 @@ module _ (C : Type 0) (N : ℕ) (before : Whole C N) (earlier : Past) (seat : �
         began = refl;
         added = sym (append-nil (env_own earlier.notes seat));
         so_far = begins_course earlier.notes before.lock.env.notes seat walk first.0;
-        same = sym (ap held_in at);
+        same = refl;
         silent = refl;
         no_look = subst IsNoLook asked first.1;
       },
       record { nowhere = stands; waits_not = waits; untouched = refl },
     )
     starts_at (OfObjects place) (OnObjects walk) asked first begun stands = inl (record {
-      view = view;
-      at = at;
-      same = sym (ap held_in at);
+      same = refl;
       silent = refl;
       still = refl;
       walk = walk;
@@ -1100,8 +1076,7 @@ module _ (C : Type 0) (N : ℕ) (before : Whole C N) (earlier : Past) (seat : �
 
   busy_on : (request : Request C) (events : List EnvEvent) (world : Now C N) → LockUnderway request events world → IsIdle world seat → ⊥
   busy_on request events world u idle =
-      let view_is : idle.view ≡ u.view = same_Some _ _ (sym idle.at ∙ u.at) in
-      let clash : None ≡ Some u.walk = sym idle.idle ∙ ap (λ v. v.walk) view_is ∙ u.walks in absurd (cc)
+      let clash : None ≡ Some u.walk = sym (ap walk_of idle.at ∙ idle.idle) ∙ u.walks in absurd (cc)
 
   -- a seat whose call is under way isn't idle
   busy_in : (asked : Asked C) (past : Past) (world : Whole C N) → Has asked past world → IsIdle world.lock seat → walk_in world.objects.walks seat ≡ None → ⊥

@@ -1,9 +1,9 @@
 -- What has led to a whole world, and a step or a call that begins, lead to the world after it.
 use Rattle.std.proofs.Common.{Bool, List, None, Option, Some, [], ap, arith, cond, false, inl, inr, is_some, length, refl, subst, sym, true, ℕ, ◌++◌, ◌<◌, ◌∙◌, ◌≡◌}
 use Rattle.ns_world.proofs.Below.{Fit, append-nil, led_more, length-set, operates_keeps, put_keeps, slice_get_within, stands_within}
-use Rattle.ns_world.specs.Prelude.{Add, AnyWait, AreEnvBy, AreLedTo, AreObjectsBy, AreThere, BeginsToWait, Call, CallFits, CounterWait, Done, EndsLook, EnvPlain, FirstClock, HasLedTo, HasOperated, HaveLedTo, Idle, InRound, IsLawfulWhole, LedTo, LockSteps, Mode, NoteStanding, Now, ObjectEvent}
-use Rattle.ns_world.specs.Prelude.{ObjectStanding, ObjectWalk, Objects, OnLock, Once, Operates, Past, SeatView, Setup, StandsBy, Start, Step, Value, WaitAny, WaitSteps, WaitsOnLock, Walk, Whole, WholeMoves, WholeStarts, WholeStep, begun_at, done_in, env_done, got_of, looks_at, mode_of, notes_done}
-use Rattle.ns_world.specs.Prelude.{nothing_done, object_start, objects_after, objects_begun, objects_done, objects_state, past_and, round_due, shown_by, start_of, stood_at, waited_after, walk_after, walk_in, want_of}
+use Rattle.ns_world.specs.Prelude.{Add, AnyWait, AreEnvBy, AreLedTo, AreObjectsBy, Call, CallFits, CounterWait, Done, EnvPlain, FirstClock, HasLedTo, HasOperated, HaveLedTo, Idle, InRound, IsLawfulWhole, LedTo, Mode, NoteStanding, Now, ObjectEvent}
+use Rattle.ns_world.specs.Prelude.{ObjectStanding, ObjectWalk, Objects, OnLock, Once, Past, SeatView, Setup, StandsBy, Start, Step, Value, WaitAny, WaitSteps, WaitsOnLock, Walk, Whole, WholeMoves, WholeStarts, WholeStep, begun_at, done_in, got_of, looks_at, mode_of, notes_done}
+use Rattle.ns_world.specs.Prelude.{nothing_done, object_start, objects_after, objects_begun, objects_done, objects_state, past_and, round_due, start_of, stood_at, waited_after, walk_after, walk_in, want_of}
 use Rattle.ns_world.proofs.EnvGrows.{led_makes, moves_led}
 
 -- what has led to the objects has led to them where a seat is put at a place that fits, and into any wait or none
