@@ -24,11 +24,6 @@ none_if_not : {A : Type 0} (o : Option A) → is_some o ≡ false → o ≡ None
 none_if_not (Some x) e = absurd (cc)
 none_if_not None e = refl
 
--- a round by which a wait looks is where the wait is to look
-pub looks_some : {C : Type 0} (round : Round) (walk : ObjectWalk) (act : Act C) → LooksWhere round (Some walk) act → IsSome (looks_at act)
-looks_some round (InRound by place) act looks = looks.1
-looks_some round walk act looks = absurd looks
-
 -- ---- where a call may begin to wait
 
 low_if_there : (setup : Setup) (notes : ℕ → NoteStanding) (item : Item) → is_there setup notes item ≡ true → IsLow item
@@ -111,7 +106,7 @@ module _ {C : Type 0} {N : ℕ} (old new : Whole C N) (seat : ℕ) (lawful : IsL
     -- a round by which it looks
     module _ (by : ObjectWalk) (stands : walk_in old.objects.walks seat ≡ Some by) where
       looks_so : IsSome (looks_at (want_of there_as.walk))
-      looks_so = looks_some wait.round by (want_of there_as.walk) (subst (λ w. LooksWhere wait.round w (want_of there_as.walk)) stands there_as.looks)
+      looks_so = (subst (λ w. LooksWhere wait.round w (want_of there_as.walk)) stands there_as.looks).1
 
       pub limits_so : (limits : Limits) × (looks_at (want_of there_as.walk) ≡ Some limits)
       limits_so = which (looks_at (want_of there_as.walk)) looks_so

@@ -6,7 +6,7 @@ use Rattle.ns_world.specs.Prelude.{Objects, OnCondition, OnEntry, OnLock, OnObje
 use Rattle.ns_world.specs.Prelude.{got_of, is_alone, is_for_lock, items_of, mode_of, mode_waited, most, object_after, object_asked, object_got, object_start, object_step_of, objects_state, start_of, wait_in, walk_after, walk_in, want_of, whole}
 use Rattle.ns_counters.proofs.NewObjects.{new_lawful}
 use Rattle.ns_counters.specs.declared.walk.ObjectNext.TheVariants.{Go}
-use Rattle.ns_world.specs.Whole.{MayWait}
+use Rattle.ns_world.specs.Whole.{GoesWith, MayWait}
 use Rattle.ns_world.proofs.Fresh.{lawful_new, length_views, no_walk}
 use Rattle.ns_world.proofs.Turns.{begun_stays, place_of, placed_by}
 use Rattle.ns_world.proofs.Walks.{none_stand}
@@ -65,23 +65,6 @@ some_held (Some section) some = refl
 start_may : {C : Type 0} {N : ℕ} (setup : Setup) (notes : ℕ → NoteStanding) (call : Call C) (held : Option (Held C N)) → CallFits setup notes call (mode_of held) → MayWait (object_start call) held
 start_may setup notes (WaitAny items deadline) held fits = λ named. let one = some_among (items_of items) named in some_held held (fits.1 one.0 one.1)
 start_may setup notes other held fits = tt
-
--- whether a round may wait, or looks for a wait on the lock, is told by what was asked
-may_asked : {C : Type 0} {N : ℕ} (walk : ObjectWalk) (held : Option (Held C N)) → MayWait (Some walk) held → MayWait (Some (object_asked walk)) held
-may_asked (InRound round place) held p = p
-may_asked walk held p = tt
-
-asked_may : {C : Type 0} {N : ℕ} (walk : ObjectWalk) (held : Option (Held C N)) → MayWait (Some (object_asked walk)) held → MayWait (Some walk) held
-asked_may (InRound round place) held p = p
-asked_may walk held p = tt
-
-looks_asked : {C : Type 0} (round : Round) (walk : ObjectWalk) (act : Act C) → LooksWhere round (Some walk) act → LooksWhere round (Some (object_asked walk)) act
-looks_asked round (InRound by place) act p = p
-looks_asked round walk act p = absurd p
-
-asked_looks : {C : Type 0} (round : Round) (walk : ObjectWalk) (act : Act C) → LooksWhere round (Some (object_asked walk)) act → LooksWhere round (Some walk) act
-asked_looks round (InRound by place) act p = p
-asked_looks round walk act p = absurd p
 
 module _ {C : Type 0} {N : ℕ} where
   idle_on : (old new : Now C N) (other : ℕ) → Untouched other old new → IsIdle old other → IsIdle new other
@@ -241,12 +224,12 @@ module _ {C : Type 0} {N : ℕ} where
       here = put_here old.objects.walks seat (object_after next) (stands_within old.objects.walks seat walk walks)
 
       may_next : (held : Option (Held C N)) → MayWait (Some walk) held → (n : ObjectNext) → StaysAsked (object_asked walk) n → MayWait (object_after n) held
-      may_next held may (Go w) same = asked_may w held (subst (λ a. MayWait (Some a) held) (sym same) (may_asked walk held may))
-      may_next held may (Repeat w) same = asked_may w held (subst (λ a. MayWait (Some a) held) (sym same) (may_asked walk held may))
+      may_next held may (Go w) same = subst (λ asked. GoesWith asked held) (sym same) may
+      may_next held may (Repeat w) same = subst (λ asked. GoesWith asked held) (sym same) may
       may_next held may (Over reply) same = tt
 
       looks_next : (wait : AnyWait) (act : Act C) → LooksWhere wait.round (Some walk) act → (n : ObjectNext) → StaysAsked (object_asked walk) n → is_for_lock (Some wait) walk (object_step_of n) ≡ false → LooksWhere wait.round (object_after n) act
-      looks_next wait act looks (Go w) same not = asked_looks wait.round w act (subst (λ a. LooksWhere wait.round (Some a) act) (sym same) (looks_asked wait.round walk act looks))
+      looks_next wait act looks (Go w) same not = (same ∙ looks.0, looks.1)
       looks_next wait act looks (Repeat w) same not = absurd (cc)
       looks_next wait act looks (Over reply) same not = absurd (cc)
 

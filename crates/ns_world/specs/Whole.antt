@@ -1,8 +1,8 @@
 -- A world as a contract sees it: the lock with its row, the clock and the notes, and beside them counters and once cells; and a seat's step in it.
 use Rattle.std.specs.Prelude.{Bool, IsSome, List, None, Option, Some, [], false, is_some, length, not, slice_get, true, ℕ, ◌<◌, ◌||◌, ◌≡◌, ◌≤◌, ◌⊎◌}
 use Rattle.std.proofs.Common.{inl, inr}
-use Rattle.ns_world.specs.Names.{Act, AnyWait, AreAmong, AreThere, Begun, Busy, Call, Cvs, EnvEvent, Environment, Event, Every, Fault, Held, Idle, InRound, Lists, Looked, Misuse, Mode, NoSuchSeat, Nothing, ObjectEvent, ObjectWalk, ObjectWords, OnLock, OutOfMemory, Round, RoundPlace, Seat, SeatView}
-use Rattle.ns_world.specs.Names.{Started, Step, Truths, Walk, Went, Word, asked_of, got_of, have_variable, items_of, object_who, wait_first, walk_after, walk_in, want_of}
+use Rattle.ns_world.specs.Names.{Act, AnyWait, AreAmong, AreThere, Begun, Busy, Call, Cvs, EnvEvent, Environment, Event, Every, Fault, FirstClock, Held, Idle, InRound, Lists, Looked, Misuse, Mode, NoSuchSeat, Nothing, ObjectEvent, ObjectWalk, ObjectWords, OnLock, OutOfMemory, Round, RoundPlace, Seat, SeatView}
+use Rattle.ns_world.specs.Names.{Started, Step, Truths, Walk, Went, Word, asked_of, got_of, have_variable, items_of, object_asked, object_who, wait_first, walk_after, walk_in, want_of}
 use Rattle.ns_world.specs.Among.{asks_for_any, cause_of, is_for_lock, shown_by, step_told, waited_after, waits_for_any}
 use Rattle.ns_world.specs.Begins.{Misuses, Starts, begun_at}
 use Rattle.ns_world.specs.Calls.{mode_of, mode_waited, object_start}
@@ -42,8 +42,7 @@ whole_with truths word row queues flags env seats history objects = whole_of tru
 -- A wait on the lock looks at objects just where the machine wants it to, by a round of those that it is for.
 abbrev pub LooksWhere : {C : Type 0} → Round → Option ObjectWalk → Act C → Type 0
 LooksWhere round None act = looks_at act ≡ None
-LooksWhere round (Some (InRound by place)) act = (by ≡ round) × IsSome (looks_at act)
-LooksWhere round (Some walk) act = ⊥
+LooksWhere round (Some walk) act = (object_asked walk ≡ InRound round FirstClock) × IsSome (looks_at act)
 
 -- A seat that waits on the lock for variables among objects is there in a call that waits for just these; each of the objects is there; and the call looks at them where it is to.
 pub record WaitsOnLock {C : Type 0} {N : ℕ} (world : Whole C N) (seat : ℕ) (wait : AnyWait) : Type 0 where
@@ -64,10 +63,15 @@ abbrev pub is_alone : {C : Type 0} → Option (Walk C) → Bool
 is_alone None = true
 is_alone (Some walk) = not (asks_for_any (asked_of walk))
 
+-- what was asked goes with a section in hand, where condition variables are among its objects
+abbrev pub GoesWith : {C : Type 0} {N : ℕ} → ObjectWalk → Option (Held C N) → Type 0
+GoesWith (InRound round place) held = have_variable round.items ≡ true → IsSome held
+GoesWith walk held = Unit {0}
+
 -- a round whose call may go on to wait for condition variables goes with a section in hand
 abbrev pub MayWait : {C : Type 0} {N : ℕ} → Option ObjectWalk → Option (Held C N) → Type 0
-MayWait (Some (InRound round place)) held = have_variable round.items ≡ true → IsSome held
-MayWait walk held = Unit {0}
+MayWait None held = Unit {0}
+MayWait (Some walk) held = GoesWith (object_asked walk) held
 
 -- Any other seat waits for no set of variables. Where it is in a call on counters and once cells it is in no other, and it has a section in hand if that may go on to wait on the lock.
 pub record StandsAlone {C : Type 0} {N : ℕ} (world : Whole C N) (seat : ℕ) : Type 0 where
