@@ -1,7 +1,7 @@
 -- A wait for condition variables among notes and counters keeps the law of a whole world, by each of its steps that concern the lock: it begins to wait there, a round tells it what it has shown, or it makes a step of its own.
 use Rattle.std.proofs.Common.{Bool, IsSome, List, None, Option, Some, [], ap, arith, cond, false, inl, inr, is_some, length, refl, slice_get, subst, sym, true, ℕ, ◌++◌, ◌<◌, ◌∙◌, ◌∷◌, ◌≡◌}
 use Rattle.ns_world.proofs.Below.{asked_stays, first_of_all, low_if_among, ltb-true, rest_of_all, same_Some, set_here, slice_get_within, some_among}
-use Rattle.ns_world.specs.Prelude.{Act, Acts, Any, AnyWait, AreAmong, AreThere, AreVariables, Await, BeginsToWait, Cvs, EndsLook, EnvPlain, Every, FirstClock, Found, HasLedTo, Held, Idle, InRound, IsLawfulWhole, IsLawfulWorld, IsLow, IsSettled, Item, Limits, LooksWhere, MayWait, MayWaitOnLock}
+use Rattle.ns_world.specs.Prelude.{LedTo, Acts, Any, AnyWait, AreAmong, AreThere, AreVariables, Await, BeginsToWait, Cvs, EndsLook, EnvPlain, Every, FirstClock, Found, HasLedTo, Held, Idle, InRound, IsLawfulWhole, IsLawfulWorld, IsLow, IsSettled, Item, Limits, LooksWhere, MayWait, MayWaitOnLock}
 use Rattle.ns_world.specs.Prelude.{NoteStanding, Now, ObjectWalk, Objects, OnCounter, OnLock, OnNote, OnVariable, Past, PlaceFits, QuietKeeps, Round, SeatView, Setup, StandsAlone, StandsBy, Step, Truths, WaitSteps, WaitsOnLock, Walk, Whole, WholeMoves, WholeStep, asked_of, asks_for_any, cause_of}
 use Rattle.ns_world.specs.Prelude.{got_of, is_alone, is_there, items_of, look_of, looks_at, mode_of, mode_waited, notes_done, objects_done, round_due, shown_by, wait_first, wait_in, waited_after, waits_for_any, walk_after, walk_in, want_of}
 use Rattle.ns_world.proofs.AnyLooks.{LeadsOn, LooksOut, leads_on, looks_out, unlooked}
@@ -214,11 +214,11 @@ module _ {C : Type 0} {N : ℕ} (old new : Whole C N) (seat : ℕ) (lawful : IsL
   step_keeps some quiet step (inl p) = subst IsLawfulWhole (sym p.1) lawful
   step_keeps some quiet step (inr p) =
       let on = (whole_led past old new seat step lawful led p).2 in
-      stood_lawful old new seat lawful (now_lawful p) (whole_stays old new seat step p) (led_makes lawful.lock.events (notes_done p) old.lock new.lock lawful.lock.env_lawful on.0)
+      stood_lawful old new seat lawful (now_lawful p on.0) (whole_stays old new seat step p) (led_makes lawful.lock.events (notes_done p) old.lock new.lock lawful.lock.env_lawful on.0)
       (moves_aside old new seat step p) (moves_still old new seat step p) (lawful.events ++ objects_done p) on.1 (stands_then step p) where
-        now_lawful : WholeMoves old new seat step → IsLawfulWorld new.lock
-        now_lawful (inl p) = moves_keep old.lock seat lawful.lock some quiet new.lock step p.moves
-        now_lawful (inr (inl p)) = subst IsLawfulWorld (sym p.same) lawful.lock
-        now_lawful (inr (inr (inl p))) = begun_lawful step p
-        now_lawful (inr (inr (inr (inl p)))) = moves_keep old.lock seat lawful.lock some quiet new.lock step (inl p.acts)
-        now_lawful (inr (inr (inr (inr p)))) = moves_keep old.lock seat lawful.lock some quiet new.lock p.told (inl p.acts)
+        now_lawful : (p : WholeMoves old new seat step) → LedTo (lawful.lock.events ++ notes_done p) new.lock → IsLawfulWorld new.lock
+        now_lawful (inl p) on = moves_keep old.lock seat lawful.lock some quiet new.lock step p.moves on
+        now_lawful (inr (inl p)) on = subst IsLawfulWorld (sym p.same) lawful.lock
+        now_lawful (inr (inr (inl p))) on = begun_lawful step p
+        now_lawful (inr (inr (inr (inl p)))) on = moves_keep old.lock seat lawful.lock some quiet new.lock step (inl p.acts) on
+        now_lawful (inr (inr (inr (inr p)))) on = moves_keep old.lock seat lawful.lock some quiet new.lock p.told (inl p.acts) on

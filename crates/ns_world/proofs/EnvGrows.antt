@@ -1,7 +1,7 @@
 -- Each step extends what has happened to the clock and the notes.
 use Rattle.std.proofs.Common.{◌≡◌, ℕ, ◌<◌, inl, inr, true, List, [], ◌++◌, Option, Some, None, length, slice_get, slice_set, refl, sym, ◌∙◌, subst}
 use Rattle.ns_world.proofs.Below.{append-nil, begins_env, keeps_env, made_begins, set_again, set_here, set_same, slice_get_within}
-use Rattle.ns_world.specs.Prelude.{Acts, AreEnvBy, Asks, EnvAct, EnvEffect, EnvEvent, EnvFound, EnvNext, EnvPlain, EnvWalk, Go, Goes, IfMade, IsLawfulEnv, IsLawfulWorld, LedTo, LookGoes, LookOver, Looks, Moves, NoteStanding, Now, Step, env_done, env_got_of}
+use Rattle.ns_world.specs.Prelude.{AreEnvBy, EnvAct, EnvEffect, EnvEvent, EnvFound, EnvNext, EnvPlain, EnvWalk, Go, Goes, IfMade, IsLawfulEnv, IsLawfulWorld, LedTo, LookGoes, LookOver, Moves, NoteStanding, Now, Step, env_done, env_got_of}
 use Rattle.ns_world.specs.Prelude.{env_state, env_walk_after, env_want_of, got_of, look_of, note_in, walk_after}
 use Rattle.ns_env.proofs.Keeps.{outcome_by}
 use Rattle.ns_world.proofs.Looking.{FirstIf, first_if, noted}
@@ -36,25 +36,14 @@ module _ {C : Type 0} {N : ℕ} (events : List EnvEvent) (old new : Now C N) (se
   nothing_more : LedTo events new → AreEnvBy seat [] × LedTo (events ++ []) new
   nothing_more p = (tt, subst (λ es. LedTo es new) (sym (append-nil events)) p)
 
-  -- by what kind of step it is
-  pub acts_led : Acts old new seat step → LedTo events new
-  acts_led p =
-      let within = slice_get_within old.asking seat None p.unasked in
-      going within (subst (λ ws. IsLawfulEnv events (env_state old.env ws)) (sym (set_same old.asking seat None p.unasked)) led) p.goes
-
-  pub asks_led : (p : Asks old new seat step) → LedTo (events ++ p.events) new
-  asks_led p = keeps_env events p.events (env_state old.env old.asking) (env_state new.env new.asking) seat p.found p.makes led
-
-  pub looks_led : Looks old new seat step → LedTo events new
-  looks_led p =
-      let within = slice_get_within old.asking seat (Some p.place) p.stands in
-      let kept = keeps_env events [] (env_state old.env old.asking) (env_state old.env (slice_set old.asking seat (env_walk_after (env_got_of p.place p.found)))) seat p.found (record { walk = p.place; walks = p.stands; effect = p.effect; becomes = refl }) led in
-      looking within (env_got_of p.place p.found) (subst (λ es. IsLawfulEnv es (env_state old.env (slice_set old.asking seat (env_walk_after (env_got_of p.place p.found))))) (append-nil events) kept) p.goes
-
   pub moves_led : (p : Moves old new seat step) → AreEnvBy seat (env_done p) × LedTo (events ++ env_done p) new
-  moves_led (inl p) = nothing_more (acts_led p)
-  moves_led (inr (inl p)) = (events_by seat (env_want_of p.makes.walk) (env_state old.env old.asking).plain p.found (env_state new.env new.asking).plain p.events p.makes.effect, asks_led p)
-  moves_led (inr (inr p)) = nothing_more (looks_led p)
+  moves_led (inl p) = nothing_more (going (slice_get_within old.asking seat None p.unasked) (subst (λ ws. IsLawfulEnv events (env_state old.env ws)) (sym (set_same old.asking seat None p.unasked)) led) p.goes)
+  moves_led (inr (inl p)) =
+      (events_by seat (env_want_of p.makes.walk) (env_state old.env old.asking).plain p.found (env_state new.env new.asking).plain p.events p.makes.effect, keeps_env events p.events (env_state old.env old.asking) (env_state new.env new.asking) seat p.found p.makes led)
+  moves_led (inr (inr p)) =
+      let after = slice_set old.asking seat (env_walk_after (env_got_of p.place p.found)) in
+      let kept = keeps_env events [] (env_state old.env old.asking) (env_state old.env after) seat p.found (record { walk = p.place; walks = p.stands; effect = p.effect; becomes = refl }) led in
+      nothing_more (looking (slice_get_within old.asking seat (Some p.place) p.stands) (env_got_of p.place p.found) (subst (λ es. IsLawfulEnv es (env_state old.env after)) (append-nil events) kept) p.goes)
 
 -- notes that are made stay made
 pub led_makes : {C : Type 0} {N : ℕ} (events more : List EnvEvent) (old new : Now C N) → LedTo events old → LedTo (events ++ more) new → (n : ℕ) → (old.env.notes n).made ≡ true → (new.env.notes n).made ≡ true

@@ -1,8 +1,8 @@
 -- The law of a whole world: how it begins, and that calls that begin and steps keep it.
 use Rattle.std.proofs.Common.{Bool, IsSome, List, None, Option, Some, [], ap, false, inl, inr, length, not, refl, replicate, slice_get, slice_index, slice_set, subst, sym, true, ℕ, ◌<◌, ◌∙◌, ◌≡◌, ◌≢◌, ◌≤◌}
 use Rattle.ns_world.proofs.Below.{StaysAsked, asked_stays, cases_eq, length-replicate, put_here, quiet_asks, same_Some, set_here, slice_get_within, some_among, stands_within, stays_asked, test_asks, there_more}
-use Rattle.ns_world.specs.Prelude.{Act, AnyWait, AreThere, Ask, Call, CallFits, CallInRange, EnvNext, EnvPlain, Found, Goes, HaveLedTo, Held, InRound, IsIdle, IsLawfulWhole, IsLawfulWorld, LookGoes, LooksWhere, Meets, Mode, Moves, NoteStanding, Now, ObjectEvent, ObjectFound, ObjectNext, ObjectWalk}
-use Rattle.ns_world.specs.Prelude.{Objects, OnCondition, OnEntry, OnLock, OnObjects, Operates, Over, Repeat, Round, SeatView, Setup, StandsAlone, StandsBy, Start, Step, StepFits, ToRelease, Truths, UnlockQuiet, Wait, WaitAny, Walk, Whole, WholeStarts, asks_for_any, begun_at, env_got_of, fresh_whole}
+use Rattle.ns_world.specs.Prelude.{Act, AnyWait, AreThere, Ask, Call, CallFits, CallInRange, EnvNext, EnvPlain, Found, Goes, HaveLedTo, Held, IsIdle, IsLawfulWhole, IsLawfulWorld, LookGoes, LooksWhere, Meets, Mode, Moves, NoteStanding, Now, ObjectEvent, ObjectFound, ObjectNext, ObjectWalk}
+use Rattle.ns_world.specs.Prelude.{Objects, OnCondition, OnEntry, OnLock, OnObjects, Operates, Over, Repeat, SeatView, Setup, StandsAlone, StandsBy, Start, Step, StepFits, ToRelease, Truths, UnlockQuiet, Wait, WaitAny, Walk, Whole, WholeStarts, asks_for_any, begun_at, env_got_of, fresh_whole}
 use Rattle.ns_world.specs.Prelude.{got_of, is_alone, is_for_lock, items_of, mode_of, mode_waited, most, object_after, object_asked, object_got, object_start, object_step_of, objects_state, start_of, wait_in, walk_after, walk_in, want_of, whole}
 use Rattle.ns_counters.proofs.NewObjects.{new_lawful}
 use Rattle.ns_counters.specs.declared.walk.ObjectNext.TheVariants.{Go}
