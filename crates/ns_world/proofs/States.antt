@@ -2,7 +2,7 @@
 use Rattle.std.proofs.Common.{◌≡◌, ℕ, suc, ◌+◌, ◌<◌, ◌≤◌, true, List, [], ◌∷◌, ◌++◌, Some, None, length, map, take, drop, slice_get, Option, refl, ap, sym, ◌∙◌, arith, cond, inl, inr}
 use Rattle.std.specs.Prelude.{IfSome}
 use Rattle.ns_world.proofs.Below.{cases_eq, has_list, length-append, length-map, number_at, slice_get_within, split_at, stands_nowhere}
-use Rattle.ns_world.specs.Prelude.{Event, HasList, IsLawfulWorld, LockState, Owed, Read, Seat, SeatView, Truths, Waiter, Walk, counts_in, has_armed, is_unwoken, now_with, owed_to, times, times_among, times_in, view_of, wakes_owed, walk_at}
+use Rattle.ns_world.specs.Prelude.{Event, HasList, IsLawfulWorld, LockState, Owed, Read, Seat, SeatView, Truths, Waiter, Walk, counts_in, has_armed, is_unwoken, kept, now_of, owed_to, times, times_among, times_in, view_of, wakes_owed, walk_at}
 use Rattle.ns_queue.proofs.Seats.{times_in-cons, few}
 use Rattle.ns_model.proofs.Tallies.{one_most}
 use Rattle.ns_word.specs.Lawful.{IsLawful}
@@ -11,9 +11,9 @@ use Rattle.ns_word.proofs.Waits.{unqueued}
 use Rattle.ns_world.proofs.Mapped.{got-map}
 use Rattle.ns_world.specs.declared.world.World.TheInside.{Inside}
 
-module _ {C : Type 0} {N : ℕ} (truths : Truths C) (w : Inside C N) (lawful : IsLawfulWorld (now_with truths w.word w.row w.queues w.flags w.env w.seats.items w.history.items)) where
+module _ {C : Type 0} {N : ℕ} (truths : Truths C) (w : Inside C N) (lawful : IsLawfulWorld (now_of truths (kept w.word w.row w.queues w.flags w.env w.seats.items w.history.items w.objects))) where
   abbrev state : LockState C N
-  state = (now_with truths w.word w.row w.queues w.flags w.env w.seats.items w.history.items).state
+  state = (now_of truths (kept w.word w.row w.queues w.flags w.env w.seats.items w.history.items w.objects)).state
 
   module _ (i : ℕ) (seat : Seat C N) (at : slice_get w.seats.items i ≡ Some seat) where
     at_view : slice_get state.views i ≡ Some (view_of seat)

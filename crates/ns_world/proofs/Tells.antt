@@ -4,8 +4,8 @@ use Rattle.ns_world.proofs.Below.{act_fits, append-nil, length-map, number_at, s
 use Rattle.ns_world.specs.Prelude.{ActFits, Acts, AnyWait, Ask, Asks, AsksFor, Await, Call, CallFits, CanTell, Cause, Commits, Cvs, Effect, EnvActFits, EnvEffect, EnvMoves, EnvNext, EnvPlain, EnvWalk, Environment, Event, Go, Goes, HasOperated, HasTold, Idle, InRound, InWait, IsFew, IsLawfulWhole}
 use Rattle.ns_world.specs.Prelude.{Limits, Lists, LookGoes, LookOver, LookStep, Looked, Looks, LooksWhere, MayShow, MayWaitOnLock, Misuses, Mode, Moves, MovesFrom, NoteStanding, Now, ObjectStanding, ObjectWalk, ObjectWords, Objects, OnLock, OnObjects, OutOfMemory, Performs, Seat}
 use Rattle.ns_world.specs.Prelude.{SeatLooks, SeatOperates, SeatView, Sees, Setup, StandsAlone, StandsBy, Start, Starts, Step, StepFits, ToldIf, Truths, WaitsOnLock, Walk, WalkFits, Whole, WholeFault, WholeIsBusy, WholeIsIdle, WholeStarts, WholeStep, Word, asked_of, asks_for_any, at_will}
-use Rattle.ns_world.specs.Prelude.{begun_at, came_back, cause_of, env_got_of, env_state, env_want_of, got_of, held_after, is_alone, is_for_lock, items_of, look_of, looks_at, mode_of, mode_waited, now_with, object_after, object_got, object_place, object_start, objects_after, objects_begun}
-use Rattle.ns_world.specs.Prelude.{objects_of, outcome, placed, plain_of, seat_part, shown_by, start_of, step_told, stood_at, tests_after, told_to, view_of, wait_first, wait_in, waited_after, waited_seat, waits_among, waits_for_any, walk_after, walk_in, want_of, whole, whole_with}
+use Rattle.ns_world.specs.Prelude.{begun_at, came_back, cause_of, env_got_of, env_state, env_want_of, got_of, held_after, is_alone, is_for_lock, items_of, look_of, looks_at, mode_of, mode_waited, kept, now_of, object_after, object_got, object_place, object_start, objects_after, objects_begun}
+use Rattle.ns_world.specs.Prelude.{objects_of, outcome, placed, plain_of, seat_part, shown_by, start_of, step_told, stood_at, tests_after, told_to, view_of, wait_first, wait_in, waited_after, waited_seat, waits_among, waits_for_any, walk_after, walk_in, want_of, whole, whole_of}
 use Rattle.ns_word.specs.declared.wait.Wait.{Wait}
 use Rattle.ns_world.specs.declared.world.World.TheInside.{Inside}
 use Rattle.ns_world.proofs.AnyLooks.{LooksOut}
@@ -76,15 +76,15 @@ idle_by None None (Some walk) e = absurd (cc)
 pub past_views : {C : Type 0} {N n : ℕ} (seats : List (Seat C N)) (i : ℕ) → n ≤ i → n ≡ length seats → length (map view_of seats) ≤ i
 past_views seats i past all = let long = length-map seats view_of in omega (arith, long, past, all)
 
-module _ {C : Type 0} {N : ℕ} (truths : Truths C) (w : Inside C N) (lawful : IsLawfulWhole (whole_with truths w.word w.row w.queues w.flags w.env w.seats.items w.history.items w.objects)) (i : ℕ) (seat : Seat C N) (at : slice_get w.seats.items i ≡ Some seat) where
+module _ {C : Type 0} {N : ℕ} (truths : Truths C) (w : Inside C N) (lawful : IsLawfulWhole (whole_of truths (kept w.word w.row w.queues w.flags w.env w.seats.items w.history.items w.objects))) (i : ℕ) (seat : Seat C N) (at : slice_get w.seats.items i ≡ Some seat) where
   within : i < length w.seats.items
   within = slice_get_within w.seats.items i seat at
 
   abbrev was : Now C N
-  was = now_with truths w.word w.row w.queues w.flags w.env w.seats.items w.history.items
+  was = now_of truths (kept w.word w.row w.queues w.flags w.env w.seats.items w.history.items w.objects)
 
   abbrev old : Whole C N
-  old = whole_with truths w.word w.row w.queues w.flags w.env w.seats.items w.history.items w.objects
+  old = whole_of truths (kept w.word w.row w.queues w.flags w.env w.seats.items w.history.items w.objects)
 
   view_at : slice_get (map view_of w.seats.items) i ≡ Some (view_of seat)
   view_at = got-map view_of w.seats.items i seat at
@@ -108,15 +108,15 @@ module _ {C : Type 0} {N : ℕ} (truths : Truths C) (w : Inside C N) (lawful : I
 
   -- the world with the seat set, and this clock and these notes
   abbrev now_set : Environment → Seat C N → Now C N
-  now_set env' next = now_with truths w.word w.row w.queues w.flags env' (slice_set w.seats.items i next) w.history.items
+  now_set env' next = now_of truths (kept w.word w.row w.queues w.flags env' (slice_set w.seats.items i next) w.history.items w.objects)
 
   -- with the seat set, and these parts of the lock
   abbrev lock_set : Word → List ℕ → Lists C → List ℕ → Seat C N → List (Event C N) → Now C N
-  lock_set word' row' queues' flags' next history' = now_with truths word' row' queues' flags' w.env (slice_set w.seats.items i next) history'
+  lock_set word' row' queues' flags' next history' = now_of truths (kept word' row' queues' flags' w.env (slice_set w.seats.items i next) history' w.objects)
 
   -- with the seat set, and these counters and once cells
   abbrev whole_set : Environment → Seat C N → ObjectWords → Whole C N
-  whole_set env' next objects' = whole_with truths w.word w.row w.queues w.flags env' (slice_set w.seats.items i next) w.history.items objects'
+  whole_set env' next objects' = whole_of truths (kept w.word w.row w.queues w.flags env' (slice_set w.seats.items i next) w.history.items objects')
 
   -- what a seat put at the first place of a call is
   pub begun_here : (start : Start C) → now_set w.env (placed seat start) ≡ begun_at was i (view_of seat) start
@@ -367,7 +367,7 @@ module _ {C : Type 0} {N : ℕ} (truths : Truths C) (w : Inside C N) (lawful : I
         waits = stays (λ s. s.awaits) then (ap (λ (s : Seat C N). s.awaits) q.goes) k;
       });
       not_for_lock = ap (λ w. is_for_lock w walk told) waits_at ∙ not;
-      same = now_as w.word w.row w.queues w.flags w.history.items then seat (ap view_of q.goes) (ap (λ (s : Seat C N). s.asking) q.goes) (ap (λ (s : Seat C N). s.tests) q.goes) ∙ ap (λ ss. now_with truths w.word w.row w.queues w.flags w.env ss w.history.items) (set_same w.seats.items i seat at);
+      same = now_as w.word w.row w.queues w.flags w.history.items then seat (ap view_of q.goes) (ap (λ (s : Seat C N). s.asking) q.goes) (ap (λ (s : Seat C N). s.tests) q.goes) ∙ ap (λ ss. now_of truths (kept w.word w.row w.queues w.flags w.env ss w.history.items w.objects)) (set_same w.seats.items i seat at);
     })))
 
     -- where a round is over, its seat stands nowhere on the objects

@@ -13,8 +13,8 @@ pub use Rattle.ns_world.specs.Replies.{told as reply_of_lock}
 pub use Rattle.ns_world.specs.Runs.{Advances, Counts, EndFinished, GoesOnOrBegins, IsCounted, IsFinished, ListFits, Progress, Stops, StopsFor, TurnFault, TurnOf, Turned, TurnsOf, TurnsWith, calls_of, is_end, progress, progressed, rest_of, start, word_items}
 pub use Rattle.ns_world.specs.Shows.{hand_of, lists_by, wakes_by, wakes_owed}
 pub use Rattle.ns_world.specs.Whole.{AreObjectsBy, Awaits, BeginsToWait, EndsLook, HaveLedTo, IsLawfulWhole, LockSteps, LooksWhere, MayWait as MayWaitOnLock, Operates, StandsAlone, StandsBy, WaitSteps, WaitsOnLock, Whole, WholeBegins, WholeFault, WholeIsBusy, WholeIsIdle, WholeMoves, WholeStarts}
-pub use Rattle.ns_world.specs.Whole.{WholeStep, fresh_whole, is_alone, notes_done, objects_done, whole, whole_busy, whole_of, whole_with}
-pub use Rattle.ns_world.specs.World.{Acts, AreEnvBy, Asks, Goes, IsBusy, IsIdle, IsLawfulWorld, IsWalking, LedTo, LookGoes, Looks, Moves, NotesMade, Now, StandRight, env_done, fresh, is_asking, is_busy, is_walking, now_with}
+pub use Rattle.ns_world.specs.Whole.{WholeStep, fresh_whole, is_alone, notes_done, objects_done, whole, whole_busy, whole_of}
+pub use Rattle.ns_world.specs.World.{Acts, AreEnvBy, Asks, Goes, IsBusy, IsIdle, IsLawfulWorld, IsWalking, LedTo, LookGoes, Looks, Moves, NotesMade, Now, StandRight, env_done, fresh, is_asking, is_busy, is_walking, kept, now_of}
 pub use Rattle.ns_world.specs.Names.{Acquire, Act, ActFits, Add, Advance, Advancing, Answer, Any, AnyAnswers, AnyMeans, AnyWait, AreAmong, AreBy, AreNumbered, AreThere, AreVariables, ArmFlag, ArmToWait, Arrival, Ask, Asked, AtLock, AtSomePoint, AtVariables, Await, AwaitWakeInWait, BeginsWith}
 pub use Rattle.ns_world.specs.Names.{Begun, Bits, Broadcast, Broadcasting, Busy, Call, CallGoes, CanLeave, CanWait, Cause, Change, ChangeFits, ClockLoad, CounterWait, Course, Cv, CvWait, Cvs, Done, Effect, EnvAct, EnvActFits, EnvBegins, EnvCourse, EnvEffect, EnvEvent, EnvFound, EnvGoes, EnvGoesOn}
 pub use Rattle.ns_world.specs.Names.{EnvNext, EnvPlain, EnvRequest, EnvSoFar, EnvStep, EnvWalk, Environment, Event, Every, Expired, Expiry, ExpiryLoad, Fault, Finished, FirstClock, ForIsNotified, ForLook, ForNoteWait, Found, Get, Go, GoesOn, HasList, HasMode, HaveShownNothing, Held, Home, Idle}

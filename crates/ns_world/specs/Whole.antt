@@ -8,7 +8,7 @@ use Rattle.ns_world.specs.Begins.{Misuses, Starts, begun_at}
 use Rattle.ns_world.specs.Calls.{mode_of, mode_waited, object_start}
 use Rattle.ns_world.specs.Looks.{looks_at}
 use Rattle.ns_world.specs.Objects.{AreLedTo, HasOperated, Objects, fresh_objects, objects_begun, objects_of, stood_at, wait_in}
-use Rattle.ns_world.specs.World.{Acts, CommitsNext, IsBusy, IsIdle, IsLawfulWorld, Kept, Moves, Now, env_done, fresh, is_busy, kept, now_of}
+use Rattle.ns_world.specs.World.{Acts, CommitsNext, IsBusy, IsIdle, IsLawfulWorld, Kept, Moves, Now, env_done, fresh, is_busy, now_of}
 use Rattle.ns_word.specs.declared.request.Request.TheVariants as TheRequest
 
 -- a world: the lock with the clock and the notes, and the counters and once cells
@@ -16,26 +16,13 @@ pub record Whole (C : Type 0) (N : ℕ) : Type 0 where
   pub lock : Now C N
   pub objects : Objects
 
--- what a world keeps: the same, but what the conditions mean
-pub record WholeKept (C : Type 0) (N : ℕ) : Type 0 where
-  pub lock : Kept C N
-  pub objects : Objects
-
 -- a world, of its two parts
 abbrev pub whole : {C : Type 0} {N : ℕ} → Now C N → Objects → Whole C N
 whole lock objects = record { lock = lock; objects = objects }
 
 -- a world as the machine sees it
-abbrev pub whole_of : {C : Type 0} {N : ℕ} → Truths C → WholeKept C N → Whole C N
-whole_of truths world = whole (now_of truths world.lock) world.objects
-
--- what a world keeps, of its parts
-abbrev pub whole_kept : {C : Type 0} {N : ℕ} → Word → List ℕ → Lists C → List ℕ → Environment → List (Seat C N) → List (Event C N) → ObjectWords → WholeKept C N
-whole_kept word row queues flags env seats history objects = record { lock = kept word row queues flags env seats history; objects = objects_of objects seats }
-
--- a world as the machine sees it, of its parts
-abbrev pub whole_with : {C : Type 0} {N : ℕ} → Truths C → Word → List ℕ → Lists C → List ℕ → Environment → List (Seat C N) → List (Event C N) → ObjectWords → Whole C N
-whole_with truths word row queues flags env seats history objects = whole_of truths (whole_kept word row queues flags env seats history objects)
+abbrev pub whole_of : {C : Type 0} {N : ℕ} → Truths C → Kept C N → Whole C N
+whole_of truths world = whole (now_of truths world) (objects_of world.objects world.seats)
 
 -- ---- what holds of every world
 
