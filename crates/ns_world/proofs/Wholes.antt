@@ -1,7 +1,7 @@
 -- The law of a whole world: how it begins, and that calls that begin and steps keep it.
 use Rattle.std.proofs.Common.{Bool, IsSome, List, None, Option, Some, [], ap, false, inl, inr, length, not, refl, replicate, slice_get, slice_index, slice_set, subst, sym, true, ℕ, ◌<◌, ◌∙◌, ◌≡◌, ◌≢◌, ◌≤◌}
 use Rattle.ns_world.proofs.Below.{StaysAsked, asked_stays, cases_eq, length-replicate, put_here, quiet_asks, same_Some, set_here, slice_get_within, some_among, stands_within, stays_asked, test_asks, there_more}
-use Rattle.ns_world.specs.Prelude.{Act, AnyWait, AreThere, Ask, Call, CallFits, CallInRange, EnvNext, EnvPlain, Found, Goes, HaveLedTo, Held, IsIdle, IsLawfulWhole, IsLawfulWorld, LookGoes, LooksWhere, Meets, Mode, Moves, NoteStanding, Now, ObjectEvent, ObjectFound, ObjectNext, ObjectWalk}
+use Rattle.ns_world.specs.Prelude.{WaitsOnLock, Act, AnyWait, AreThere, Ask, Call, CallFits, CallInRange, EnvNext, EnvPlain, Found, Goes, HaveLedTo, Held, IsIdle, IsLawfulWhole, IsLawfulWorld, LookGoes, LooksWhere, Meets, Mode, Moves, NoteStanding, Now, ObjectEvent, ObjectFound, ObjectNext, ObjectWalk}
 use Rattle.ns_world.specs.Prelude.{Objects, OnCondition, OnEntry, OnLock, OnObjects, Operates, Over, Repeat, SeatView, Setup, StandsAlone, StandsBy, Start, Step, StepFits, ToRelease, Truths, UnlockQuiet, Wait, WaitAny, Walk, Whole, WholeStarts, asks_for_any, begun_at, env_got_of, fresh_whole}
 use Rattle.ns_world.specs.Prelude.{got_of, is_alone, is_for_lock, items_of, mode_of, mode_waited, most, object_after, object_asked, object_got, object_start, object_step_of, objects_state, start_of, wait_in, walk_after, walk_in, want_of, whole}
 use Rattle.ns_counters.proofs.NewObjects.{new_lawful}
@@ -70,6 +70,12 @@ module _ {C : Type 0} {N : ℕ} where
   idle_on : (old new : Now C N) (other : ℕ) → Untouched other old new → IsIdle old other → IsIdle new other
   idle_on old new other same idle = record { view = idle.view; at = same.views ∙ idle.at; idle = idle.idle; unasked = same.asking ∙ idle.unasked }
 
+  -- who waits on the lock does so still, where it stands there as it stood, and looks where it is to
+  waits_on : (old new : Whole C N) (seat : ℕ) (wait : AnyWait) (s : WaitsOnLock old seat wait) → slice_get new.lock.state.views seat ≡ slice_get old.lock.state.views seat → slice_get new.lock.asking seat ≡ slice_get old.lock.asking seat →
+      AreThere new.objects.setup new.lock.env.notes wait.round.items → LooksWhere wait.round (walk_in new.objects.walks seat) (want_of s.walk) → WaitsOnLock new seat wait
+  waits_on old new seat wait s views asking there looks =
+      record { view = s.view; at = views ∙ s.at; walk = s.walk; walks = s.walks; mode = s.mode; cvs = s.cvs; asked = s.asked; among = s.among; unasked = asking ∙ s.unasked; there = there; looks = looks }
+
   -- a seat of which nothing has changed stands as it stood, also where more notes are made
   stands_on : (old new : Whole C N) (other : ℕ) → Still other old new → ((n : ℕ) → (old.lock.env.notes n).made ≡ true → (new.lock.env.notes n).made ≡ true) → (wait : Option AnyWait) → StandsBy old other wait → StandsBy new other wait
   stands_on old new other still more None s = record {
@@ -77,19 +83,8 @@ module _ {C : Type 0} {N : ℕ} where
     apart = λ walk at. idle_on old.lock new.lock other still.lock (s.apart walk (sym still.walks ∙ at));
     may = λ view at. subst (λ w. MayWait w view.held) (sym still.walks) (s.may view (sym still.lock.views ∙ at));
   }
-  stands_on old new other still more (Some wait) s = record {
-    view = s.view;
-    at = still.lock.views ∙ s.at;
-    walk = s.walk;
-    walks = s.walks;
-    mode = s.mode;
-    cvs = s.cvs;
-    asked = s.asked;
-    among = s.among;
-    unasked = still.lock.asking ∙ s.unasked;
-    there = subst (λ x. AreThere x new.lock.env.notes wait.round.items) (sym still.setup) (there_more old.objects.setup old.lock.env.notes new.lock.env.notes more wait.round.items s.there);
-    looks = subst (λ w. LooksWhere wait.round w (want_of s.walk)) (sym still.walks) s.looks;
-  }
+  stands_on old new other still more (Some wait) s = waits_on old new other wait s still.lock.views still.lock.asking
+      (subst (λ x. AreThere x new.lock.env.notes wait.round.items) (sym still.setup) (there_more old.objects.setup old.lock.env.notes new.lock.env.notes more wait.round.items s.there)) (subst (λ w. LooksWhere wait.round w (want_of s.walk)) (sym still.walks) s.looks)
 
   -- The law holds where the seat stands as it may, and nothing of the others has changed.
   pub stood_lawful : (old new : Whole C N) (seat : ℕ) → IsLawfulWhole old → IsLawfulWorld new.lock → length new.lock.state.views ≡ length old.lock.state.views → ((n : ℕ) → (old.lock.env.notes n).made ≡ true → (new.lock.env.notes n).made ≡ true) →
@@ -239,19 +234,8 @@ module _ {C : Type 0} {N : ℕ} where
         apart = λ w at. s.apart walk walks;
         may = λ view at. subst (λ w. MayWait w view.held) (sym here) (may_next view.held (subst (λ w. MayWait w view.held) walks (s.may view at)) next (stays_asked walk found));
       }
-      operated_stands (Some wait) not s = record {
-        view = s.view;
-        at = s.at;
-        walk = s.walk;
-        walks = s.walks;
-        mode = s.mode;
-        cvs = s.cvs;
-        asked = s.asked;
-        among = s.among;
-        unasked = s.unasked;
-        there = s.there;
-        looks = subst (λ w. LooksWhere wait.round w (want_of s.walk)) (sym here) (looks_next wait (want_of s.walk) (subst (λ w. LooksWhere wait.round w (want_of s.walk)) walks s.looks) next (stays_asked walk found) not);
-      }
+      operated_stands (Some wait) not s = waits_on old (whole old.lock operated) seat wait s refl refl s.there
+          (subst (λ w. LooksWhere wait.round w (want_of s.walk)) (sym here) (looks_next wait (want_of s.walk) (subst (λ w. LooksWhere wait.round w (want_of s.walk)) walks s.looks) next (stays_asked walk found) not))
 
   -- where the seat stands then
   pub operates_stand : (old new : Whole C N) (seat : ℕ) (step : Step) → IsLawfulWhole old → Operates old new seat step → StandsBy new seat (wait_in new.objects.waits seat)
