@@ -1,6 +1,6 @@
 -- From its beginning to its answer a call is under way, whatever others do, and its answer means what it says.
 use Rattle.std.specs.Prelude.{slice_get, unwrap_or}
-use Rattle.std.proofs.Common.{Bool, List, None, Option, Some, [], ap, cond, false, inl, inr, is_some, length, refl, slice_set, subst, suc, sym, true, zero, ℕ, ◌++◌, ◌<◌, ◌∙◌, ◌≡◌, ◌≢◌, ◌⊎◌}
+use Rattle.std.proofs.Common.{arith, Bool, List, None, Option, Some, [], ap, cond, false, inl, inr, is_some, length, refl, slice_set, subst, suc, sym, true, zero, ℕ, ◌++◌, ◌<◌, ◌∙◌, ◌≡◌, ◌≢◌, ◌⊎◌}
 use Rattle.ns_world.proofs.Below.{append-nil, append_assoc, begins_itself, begins_through, cases_eq, env_own-append, env_own_all, env_own_none, first_place, looks_by_asked, made_begins, put_here, quiet_asks, quiet_is_first, same_Some, set_here, slice_get_within, some_among, stands_within, test_asks}
 use Rattle.ns_world.proofs.Below.{there_more, wait_is_first}
 use Rattle.ns_world.specs.Prelude.{Act, Acts, Add, Advance, Answer, AnswersCall, AnswersOfLock, AnswersOfNotes, AnswersTo, Any, AnyAnswers, AnyMeans, AnyWait, AreAmong, AreBy, AreEnvBy, AreObjectsBy, AreThere, Ask, Asked, Asks, AsksFor, AtSomePoint, Awaits, BeginsToWait, BeginsWith, Call, CallFits}
@@ -152,6 +152,11 @@ abbrev walk_of : {C : Type 0} {N : ℕ} → Option (SeatView C N) → Option (Wa
 walk_of None = None
 walk_of (Some view) = view.walk
 
+-- where a seat stands on the clock and the notes, if there is one
+abbrev asking_of : Option (Option EnvWalk) → Option EnvWalk
+asking_of None = None
+asking_of (Some asking) = asking
+
 module _ (C : Type 0) (N : ℕ) (before : Whole C N) (earlier : Past) (seat : ℕ) where
   -- ---- how far a call has come
 
@@ -165,9 +170,7 @@ module _ (C : Type 0) (N : ℕ) (before : Whole C N) (earlier : Past) (seat : �
     added : own world.history seat ≡ own before.lock.history seat ++ course.committed
     so_far : SoFar world.truths seat course walk (held_at world seat)
     shown : WasShown earlier.notes events (limits_of request) course.looked
-    asking : Option EnvWalk
-    asks : slice_get world.asking seat ≡ Some asking
-    looking : LookSoFar earlier.notes seat events asking
+    looking : LookSoFar earlier.notes seat events (asking_of (slice_get world.asking seat))
     still : env_own events seat ≡ env_own earlier.notes seat
 
   -- one on the clock and the notes has come so far
@@ -301,9 +304,7 @@ module _ (C : Type 0) (N : ℕ) (before : Whole C N) (earlier : Past) (seat : �
     added = same.own_same ∙ u.added;
     so_far = subst (λ held. SoFar new.truths seat u.course u.walk held) (sym (ap held_in same.views)) (subst (λ truths. SoFar truths seat u.course u.walk (held_at old seat)) (sym same.means) u.so_far);
     shown = shown_on earlier.notes events more (limits_of request) u.course.looked u.shown;
-    asking = u.asking;
-    asks = same.asking ∙ u.asks;
-    looking = look_on earlier.notes seat events more u.asking u.looking;
+    looking = subst (LookSoFar earlier.notes seat (events ++ more)) (sym (ap asking_of same.asking)) (look_on earlier.notes seat events more (asking_of (slice_get old.asking seat)) u.looking);
     still = own_same ∙ u.still;
   }
 
@@ -450,9 +451,7 @@ module _ (C : Type 0) (N : ℕ) (before : Whole C N) (earlier : Past) (seat : �
       added = silent ∙ sym (append-nil (own before.lock.history seat));
       so_far = subst (λ held. SoFar old.truths seat (course_from view.held) walk held) (sym (ap held_in here)) (begins_unchanged C N old.truths seat view.held walk first);
       shown = tt;
-      asking = None;
-      asks = unasked;
-      looking = tt;
+      looking = subst (LookSoFar earlier.notes seat events) (sym (ap asking_of unasked)) tt;
       still = still;
     },
     refl,
@@ -508,9 +507,7 @@ module _ (C : Type 0) (N : ℕ) (before : Whole C N) (earlier : Past) (seat : �
       added = added;
       so_far = subst (λ held. SoFar new.truths seat course walk held) (sym (ap held_in at)) goes.so_far;
       shown = shown;
-      asking = look_of (Some walk);
-      asks = asks;
-      looking = looking;
+      looking = subst (LookSoFar earlier.notes seat events) (sym (ap asking_of asks)) looking;
       still = still;
     }
 
@@ -543,15 +540,15 @@ module _ (C : Type 0) (N : ℕ) (before : Whole C N) (earlier : Past) (seat : �
         ap (λ h. own h seat) p.grows ∙ own_append seat old.history p.commits ∙ ap (λ es. own old.history seat ++ es) (own_all seat p.commits by) ∙ ap (λ es. es ++ p.commits) u.added ∙ append_assoc (own before.lock.history seat) u.course.committed p.commits in
         let within = slice_get_within old.state.views seat p.view p.at in
         let at = ap (λ vs. slice_get vs seat) p.others ∙ set_here old.state.views seat (record { seat = p.view.seat; walk = walk_after next; held = p.makes.held; owed = p.makes.owed }) within in
-        let asks = ap (λ xs. slice_get xs seat) p.asking ∙ set_here old.asking seat (look_of (walk_after next)) (slice_get_within old.asking seat u.asking u.asks) in
+        let asks = ap (λ xs. slice_get xs seat) p.asking ∙ set_here old.asking seat (look_of (walk_after next)) (let same = lawful.as_many in omega (arith, same, within)) in
         let made : IfMade old.env.notes (note_in (walk_after next)) = noted N (IfMade old.env.notes) p.makes.walk p.found tt (subst (λ w. IfMade old.env.notes (note_in w)) p.makes.walks (lawful.noted seat p.view p.at)) in
         let looking = look_begins earlier.notes seat events old.env.notes (look_of (walk_after next)) since (first_if old.env.notes (walk_after next) made) in
         subst (λ s. LockOutcome request s events new course.looked) (sym p.answers) (settles request events new course u.began added shown u.still p.view.seat next p.makes.held p.makes.owed goes_here at asks looking)
 
     -- the look goes on, or the wait goes on with what it has shown
-    look_goes : (look : EnvCourse) (asked : EnvRequest) (limits : Limits) (next : EnvNext) → Says (limits_of request) limits → asked ≡ TheEnvRequest.Look limits →
+    look_goes : seat < length old.asking → (look : EnvCourse) (asked : EnvRequest) (limits : Limits) (next : EnvNext) → Says (limits_of request) limits → asked ≡ TheEnvRequest.Look limits →
         BeginsWith look.before earlier.notes → EnvGoes events seat asked look next → LookGoes next old new seat step → (looked : Option (Option Cause)) × LockOutcome request step events new looked
-    look_goes look asked limits (Go place) given is after goes p = (
+    look_goes low look asked limits (Go place) given is after goes p = (
       u.course.looked,
       subst (λ s. LockOutcome request s events new u.course.looked) (sym p.1) (subst (λ world. LockOutcome request Went events world u.course.looked) (sym p.0) (
         record {
@@ -563,18 +560,16 @@ module _ (C : Type 0) (N : ℕ) (before : Whole C N) (earlier : Past) (seat : �
           added = u.added;
           so_far = u.so_far;
           shown = u.shown;
-          asking = Some place;
-          asks = set_here old.asking seat (Some place) (slice_get_within old.asking seat u.asking u.asks);
-          looking = (look, after, goes.so_far);
+          looking = subst (LookSoFar earlier.notes seat events) (sym (ap asking_of (set_here old.asking seat (Some place) low))) (look, after, goes.so_far);
           still = u.still;
         },
         refl,
       )),
     )
-    look_goes look asked limits (LookOver cause) given is after goes p =
+    look_goes low look asked limits (LookOver cause) given is after goes p =
         let so = shown_so earlier.notes events (limits_of request) limits cause given (look_means earlier.notes events look limits asked cause is after goes) in
         (looked_after p.0.found u.course.looked, lock_goes p.0 (subst (λ found. WasShown earlier.notes events (limits_of request) (looked_after found u.course.looked)) (sym p.1) so))
-    look_goes look asked limits next given is after goes p = absurd p
+    look_goes low look asked limits next given is after goes p = absurd p
 
   -- where it wants no look, it shows nothing
   acts_show_not : (old new : Now C N) (step : Step) (p : Acts old new seat step) (looked : Option (Option Cause)) → looks_at (want_of p.goes.makes.walk) ≡ None → looked_after p.goes.found looked ≡ looked
@@ -604,13 +599,11 @@ module _ (C : Type 0) (N : ℕ) (before : Whole C N) (earlier : Past) (seat : �
         (looked_after p.goes.found here.course.looked, lock_goes request (events ++ []) old new step lawful since_here here p.goes shown)
     lock_moves led (inr (inl p)) = let clash : None ≡ Some u.walk = sym (ap walk_of p.at ∙ p.idle) ∙ u.walks in absurd (cc)
     lock_moves led (inr (inr p)) =
-        let asking : Some u.asking ≡ Some (Some p.place) = sym u.asks ∙ p.stands in
-        let asking_is : u.asking ≡ Some p.place = cc in
-        let look = subst (λ a. LookSoFar earlier.notes seat events a) asking_is u.looking in
+        let look = subst (LookSoFar earlier.notes seat events) (ap asking_of p.stands) u.looking in
         let for : AsksFor (Some u.walk) (Some p.place) = subst (λ w. AsksFor w (Some p.place)) (sym (ap walk_of p.at) ∙ u.walks) (lawful.right seat p.view (Some p.place) p.at p.stands) in
         let next = env_got_of p.place p.found in
         let goes = step_takes_on events [] (env_state old.env old.asking) (env_state old.env (slice_set old.asking seat (env_walk_after next))) seat p.found look.0 (record { walk = p.place; walks = p.stands; effect = p.effect; becomes = refl }) led look.2 in
-        look_goes request (events ++ []) old new step lawful since_here here (env_course_after [] look.0) (env_asked_of p.place) for.0 next (limits_are u.walk request for.0 u.asked for.1) (place_asks for.0 p.place for.2) look.1 goes p.goes
+        look_goes request (events ++ []) old new step lawful since_here here (slice_get_within old.asking seat (Some p.place) p.stands) (env_course_after [] look.0) (env_asked_of p.place) for.0 next (limits_are u.walk request for.0 u.asked for.1) (place_asks for.0 p.place for.2) look.1 goes p.goes
 
   -- ---- its own step on the clock and the notes
 

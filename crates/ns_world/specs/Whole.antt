@@ -1,8 +1,8 @@
 -- A world as a contract sees it: the lock with its row, the clock and the notes, and beside them counters and once cells; and a seat's step in it.
 use Rattle.std.specs.Prelude.{Bool, IsSome, List, None, Option, Some, [], false, is_some, length, not, slice_get, true, ℕ, ◌<◌, ◌||◌, ◌≡◌, ◌≤◌, ◌⊎◌}
 use Rattle.std.proofs.Common.{inl, inr}
-use Rattle.ns_world.specs.Names.{Act, AnyWait, AreAmong, AreThere, Begun, Busy, Call, Cvs, EnvEvent, Environment, Event, Every, Fault, FirstClock, Held, Idle, InRound, Lists, Looked, Misuse, Mode, NoSuchSeat, Nothing, ObjectEvent, ObjectWalk, ObjectWords, OnLock, OutOfMemory, Round, RoundPlace, Seat, SeatView}
-use Rattle.ns_world.specs.Names.{Started, Step, Truths, Walk, Went, Word, asked_of, got_of, have_variable, items_of, object_asked, object_who, wait_first, walk_after, walk_in, want_of}
+use Rattle.ns_world.specs.Names.{Act, AnyWait, AreAmong, AreThere, Begun, Busy, Call, Cvs, EnvEvent, Every, Fault, FirstClock, Held, Idle, InRound, Looked, Misuse, Mode, NoSuchSeat, Nothing, ObjectEvent, ObjectWalk, OnLock, OutOfMemory, Round, RoundPlace, SeatView}
+use Rattle.ns_world.specs.Names.{Started, Step, Truths, Walk, Went, asked_of, got_of, have_variable, items_of, object_asked, object_who, wait_first, walk_after, walk_in, want_of}
 use Rattle.ns_world.specs.Among.{asks_for_any, cause_of, is_for_lock, shown_by, step_told, waited_after, waits_for_any}
 use Rattle.ns_world.specs.Begins.{Misuses, Starts, begun_at}
 use Rattle.ns_world.specs.Calls.{mode_of, mode_waited, object_start}
