@@ -58,13 +58,13 @@ module _ {C : Type 0} {N : ℕ} (old new : Whole C N) (seat : ℕ) (lawful : IsL
 
   module _ (step : Step) (p : BeginsToWait old new seat step) where
     abbrev begun : SeatView C N
-    begun = record p.view { walk = Some (wait_first N (waits_for_any (mode_waited (mode_of p.view.held)) p.cvs)) }
+    begun = record p.rests.view { walk = Some (wait_first N (waits_for_any (mode_waited (mode_of p.rests.view.held)) p.cvs)) }
 
     abbrev wait_begun : AnyWait
     wait_begun = record { round = p.round; shown = None }
 
     begun_at_seat : slice_get new.lock.state.views seat ≡ Some begun
-    begun_at_seat = ap (λ (w : Now C N). slice_get w.state.views seat) p.begins ∙ set_here old.lock.state.views seat begun (slice_get_within old.lock.state.views seat p.view p.at)
+    begun_at_seat = ap (λ (w : Now C N). slice_get w.state.views seat) p.begins ∙ set_here old.lock.state.views seat begun (slice_get_within old.lock.state.views seat p.rests.view p.rests.at)
 
     begins_here : StandsBy new seat (wait_in new.objects.waits seat)
     begins_here =
@@ -72,15 +72,15 @@ module _ {C : Type 0} {N : ℕ} (old new : Whole C N) (seat : ℕ) (lawful : IsL
         let here : WaitsOnLock new seat wait_begun = record {
           view = begun;
           at = begun_at_seat;
-          walk = wait_first N (waits_for_any (mode_waited (mode_of p.view.held)) p.cvs);
+          walk = wait_first N (waits_for_any (mode_waited (mode_of p.rests.view.held)) p.cvs);
           walks = refl;
-          mode = mode_waited (mode_of p.view.held);
+          mode = mode_waited (mode_of p.rests.view.held);
           cvs = p.cvs;
           asked = refl;
           among = p.among;
-          unasked = ap (λ (w : Now C N). slice_get w.asking seat) p.begins ∙ p.unasked;
+          unasked = ap (λ (w : Now C N). slice_get w.asking seat) p.begins ∙ p.rests.unasked;
           there = there_still put.aside.setup (ap (λ (w : Now C N). w.env) p.begins) p.round (lawful.objects_lawful.each seat (InRound p.round p.place) p.walks).0;
-          looks = subst (λ w. LooksWhere p.round w (want_of (wait_first {C = C} N (waits_for_any (mode_waited (mode_of p.view.held)) p.cvs)))) (sym put.stands) refl;
+          looks = subst (λ w. LooksWhere p.round w (want_of (wait_first {C = C} N (waits_for_any (mode_waited (mode_of p.rests.view.held)) p.cvs)))) (sym put.stands) refl;
         } in
         subst (StandsBy new seat) (sym put.awaits) here
 
@@ -88,14 +88,14 @@ module _ {C : Type 0} {N : ℕ} (old new : Whole C N) (seat : ℕ) (lawful : IsL
     begun_lawful : IsLawfulWorld new.lock
     begun_lawful =
         let alone : StandsAlone old seat = subst (StandsBy old seat) p.waits_not (lawful.stands seat) in
-        let holds = subst (λ w. MayWaitOnLock w p.view.held) p.walks (alone.may p.view p.at) in
+        let holds = subst (λ w. MayWaitOnLock w p.rests.view.held) p.walks (alone.may p.rests.view p.rests.at) in
         let fits = (lawful.objects_lawful.each seat (InRound p.round p.place) p.walks).0 in
         let few : p.cvs.0 < 256 = let low = p.low in omega (arith, low) in
         let one = some_among (items_of p.round.items) p.named in
         let all = all_low old.objects.setup old.lock.env.notes (items_of p.round.items) fits.1 in
         let some = are_some p.cvs one.0 few (p.among one.0 ∙ one.1) (λ j is. low_if_among (items_of p.round.items) j all (sym (p.among j) ∙ is)) in
-        subst IsLawfulWorld (sym p.begins) (begun_keeps old.lock seat lawful.lock p.view (OnLock (wait_first N (waits_for_any (mode_waited (mode_of p.view.held)) p.cvs))) p.at p.idle p.unasked
-        (section_fits old.lock.truths old.lock.env.notes p.cvs p.view.held (holds p.named) some (is_settled old.lock seat lawful.lock p.view p.at p.idle)))
+        subst IsLawfulWorld (sym p.begins) (begun_keeps old.lock seat lawful.lock p.rests.view (OnLock (wait_first N (waits_for_any (mode_waited (mode_of p.rests.view.held)) p.cvs))) p.rests.at p.rests.idle p.rests.unasked
+        (section_fits old.lock.truths old.lock.env.notes p.cvs p.rests.view.held (holds p.named) some (is_settled old.lock seat lawful.lock p.rests.view p.rests.at p.rests.idle)))
 
   -- ---- a step of a wait that is there
 

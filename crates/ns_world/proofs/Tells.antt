@@ -427,10 +427,7 @@ module _ {C : Type 0} {N : ℕ} (truths : Truths C) (w : Inside C N) (lawful : I
         named = for_lock;
         then = left (InRound round place) stands objects' then Idle q;
         operated = has_operated (InRound round place) stands objects' then Idle q (left (InRound round place) stands objects' then Idle q) refl;
-        view = view_of seat;
-        at = view_at;
-        idle = ap (λ (v : SeatView C N). v.walk) view_is ∙ idle.idle;
-        unasked = idle.unasked;
+        rests = record { view = view_of seat; at = view_at; idle = ap (λ (v : SeatView C N). v.walk) view_is ∙ idle.idle; unasked = idle.unasked };
         cvs = p.0;
         low = p.2.1;
         among = p.1;

@@ -776,11 +776,11 @@ module _ (C : Type 0) (N : ℕ) (before : Whole C N) (earlier : Past) (seat : �
 
             on_lock : (lock : LockUnderway (wait_for p.cvs) (past.notes ++ []) new.lock) × (lock.course.looked ≡ None)
             on_lock =
-                let same : p.view.held ≡ held_at before.lock seat = sym (ap held_in p.at) ∙ o.same in
-                let waits = waits_for_any {C = C} (mode_waited (mode_of p.view.held)) p.cvs in
+                let same : p.rests.view.held ≡ held_at before.lock seat = sym (ap held_in p.rests.at) ∙ o.same in
+                let waits = waits_for_any {C = C} (mode_waited (mode_of p.rests.view.held)) p.cvs in
                 let asks : asked_of (wait_first N waits) ≡ wait_for p.cvs = ap (λ held. TheRequest.Await (waits_for_any {C = C} (mode_waited (mode_of held)) p.cvs)) same in
                 subst (λ (world : Now C N). (lock : LockUnderway (wait_for p.cvs) (past.notes ++ []) world) × (lock.course.looked ≡ None)) (sym p.begins)
-                (begun_lock (wait_for p.cvs) (past.notes ++ []) old.lock p.view (wait_first N waits) asks (wait_is_first N waits) p.at p.unasked same o.silent (no_own_notes past.notes ∙ o.still))
+                (begun_lock (wait_for p.cvs) (past.notes ++ []) old.lock p.rests.view (wait_first N waits) asks (wait_is_first N waits) p.rests.at p.rests.unasked same o.silent (no_own_notes past.notes ∙ o.still))
 
             -- what was there as the call began is there still
             there_now : WereThere before.objects.setup earlier p.round.items → WereThere before.objects.setup on p.round.items

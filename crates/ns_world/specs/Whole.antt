@@ -139,14 +139,11 @@ pub record BeginsToWait {C : Type 0} {N : ℕ} (old new : Whole C N) (seat : ℕ
   pub named : have_variable round.items ≡ true
   pub then : Objects
   pub operated : HasOperated old.lock.env seat (InRound round place) old.objects then Idle
-  pub view : SeatView C N
-  pub at : slice_get old.lock.state.views seat ≡ Some view
-  pub idle : view.walk ≡ None
-  pub unasked : slice_get old.lock.asking seat ≡ Some None
+  pub rests : IsIdle old.lock seat
   pub cvs : Cvs
   pub low : cvs.0 < 16
   pub among : AreAmong cvs (items_of round.items)
-  pub begins : new.lock ≡ begun_at old.lock seat view (OnLock (wait_first N (waits_for_any (mode_waited (mode_of view.held)) cvs)))
+  pub begins : new.lock ≡ begun_at old.lock seat rests.view (OnLock (wait_first N (waits_for_any (mode_waited (mode_of rests.view.held)) cvs)))
   pub becomes : new.objects ≡ stood_at then seat None (Some (record { round = round; shown = None }))
   pub answer : step ≡ Went
 
