@@ -2,7 +2,7 @@
 use Rattle.std.proofs.Common.{Bool, IsSome, List, None, Option, Some, [], ap, arith, cond, false, inl, inr, is_some, length, refl, slice_get, subst, sym, true, ℕ, ◌++◌, ◌<◌, ◌∙◌, ◌∷◌, ◌≡◌}
 use Rattle.ns_world.proofs.Below.{asked_stays, first_of_all, low_if_among, ltb-true, rest_of_all, same_Some, set_here, slice_get_within, some_among}
 use Rattle.ns_world.specs.Prelude.{LedTo, Acts, Any, AnyWait, AreAmong, AreThere, AreVariables, Await, BeginsToWait, Cvs, EndsLook, EnvPlain, Every, FirstClock, Found, HasLedTo, Held, Idle, InRound, IsLawfulWhole, IsLawfulWorld, IsLow, IsSettled, Item, Limits, LooksWhere, MayWait, MayWaitOnLock}
-use Rattle.ns_world.specs.Prelude.{NoteStanding, Now, ObjectWalk, Objects, OnCounter, OnLock, OnNote, OnVariable, Past, PlaceFits, QuietKeeps, Round, SeatView, Setup, StandsAlone, StandsBy, Step, Truths, WaitSteps, WaitsOnLock, Walk, Whole, WholeMoves, WholeStep, asked_of, asks_for_any, cause_of}
+use Rattle.ns_world.specs.Prelude.{NoteStanding, Now, ObjectWalk, Objects, OnLock, OnVariable, Past, PlaceFits, QuietKeeps, Round, SeatView, Setup, StandsAlone, StandsBy, Step, Truths, WaitSteps, WaitsOnLock, Walk, Whole, WholeMoves, WholeStep, asked_of, asks_for_any, cause_of}
 use Rattle.ns_world.specs.Prelude.{got_of, is_alone, is_there, items_of, look_of, looks_at, mode_of, mode_waited, notes_done, objects_done, round_due, shown_by, wait_first, wait_in, waited_after, waits_for_any, walk_after, walk_in, want_of}
 use Rattle.ns_world.proofs.AnyLooks.{LeadsOn, LooksOut, leads_on, looks_out, unlooked}
 use Rattle.ns_world.proofs.Turns.{whole_stays}
@@ -27,9 +27,8 @@ none_if_not None e = refl
 -- ---- where a call may begin to wait
 
 low_if_there : (setup : Setup) (notes : ℕ → NoteStanding) (item : Item) → is_there setup notes item ≡ true → IsLow item
-low_if_there setup notes (OnNote note) is = tt
-low_if_there setup notes (OnCounter counter) is = tt
 low_if_there setup notes (OnVariable k) is = ltb-true k 4 is
+low_if_there setup notes other is = tt
 
 pub all_low : (setup : Setup) (notes : ℕ → NoteStanding) (items : List Item) → list_all (is_there setup notes) items ≡ true → Every IsLow items
 all_low setup notes [] all = tt

@@ -3,17 +3,16 @@ use Rattle.std.proofs.Common.{Bool, Global, List, None, Option, Some, Vec, [], a
 use Rattle.std.specs.Prelude.{All, IfSome}
 use Rattle.ns_world.proofs.Below.{cases_eq, get_or-set_other, get_or-set_same, length-set, put_none, slice_get_within}
 use Rattle.std.proofs.lemmas.List.Elements.{All-head, All-nil, All-tail}
-use Rattle.ns_world.specs.Prelude.{Acts, AnyWait, Awaits, Call, CallInRange, Counts, EnvNext, EnvWalk, Finished, Go, Goes, GoesOnOrBegins, IsCounted, Line, ListFits, LookGoes, LookOver, Moves, Next, Now, ObjectNext, ObjectWalk, Objects, On, Progress, Reply, SeatView, Step, TurnOf, Went, Whole}
+use Rattle.ns_world.specs.Prelude.{Acts, AnyWait, Awaits, Call, CallInRange, Counts, EnvNext, EnvWalk, Finished, Go, Goes, GoesOnOrBegins, IsCounted, Line, ListFits, LookGoes, LookOver, Moves, Next, Now, ObjectNext, ObjectWalk, Objects, Progress, Reply, SeatView, Step, TurnOf, Went, Whole}
 use Rattle.ns_world.specs.Prelude.{WholeMoves, calls_of, env_got_of, env_step_of, env_walk_after, got_of, is_asking, is_busy, is_for_lock, is_walking, look_of, object_after, object_got, object_step_of, progress, progressed, shown_by, step_of, step_told, stood_at, wait_in, waited_after, walk_after}
 use Rattle.ns_world.specs.Prelude.{walk_in, whole_busy}
 use Rattle.ns_word.specs.declared.walk.Next.TheVariants.{Done}
-use Rattle.ns_env.specs.declared.walk.EnvNext.TheVariants.{Over, Repeat}
+use Rattle.ns_env.specs.declared.walk.EnvNext.TheVariants.{Over}
 use Rattle.ns_world.proofs.Busy.{asking_set_none, asking_set_same, both, walking_at, walking_set_same}
 use Rattle.ns_world.proofs.Turns.{is_idle_of, is_whole_busy, is_whole_idle}
 use Rattle.ns_world.proofs.Fresh.{each_same}
 use Rattle.ns_world.proofs.Others.{Still, moves_still, starts_still}
 use Rattle.std.specs.Option.{option_map_or}
-use Rattle.ns_word.specs.declared.walk.Next.TheVariants as TheNext
 use Rattle.ns_counters.specs.declared.walk.ObjectNext.TheVariants as TheObject
 
 -- ---- the lists
@@ -38,21 +37,18 @@ bit_most false = omega arith
 
 -- a call that is over leaves its seat idle
 over_idle : {C : Type 0} (next : Next C) (reply : Reply) → Finished reply ≡ step_of next → walk_after next ≡ None
-over_idle (On walk) reply e = absurd (cc)
-over_idle (TheNext.Idle walk) reply e = absurd (cc)
 over_idle (Done answer) reply e = refl
+over_idle next reply e = absurd (cc)
 
 over_unasked : (next : EnvNext) (reply : Reply) → Finished reply ≡ env_step_of next → is_some (env_walk_after next) ≡ false
-over_unasked (Go walk) reply e = absurd (cc)
-over_unasked (Repeat walk) reply e = absurd (cc)
 over_unasked (Over answer) reply e = refl
 over_unasked (LookOver cause) reply e = refl
+over_unasked next reply e = absurd (cc)
 
 -- a call on counters and once cells that is over leaves its seat nowhere
 over_nowhere : (next : ObjectNext) (reply : Reply) → Finished reply ≡ object_step_of next → object_after next ≡ None
-over_nowhere (TheObject.Go walk) reply e = absurd (cc)
-over_nowhere (TheObject.Repeat walk) reply e = absurd (cc)
 over_nowhere (TheObject.Over answer) reply e = refl
+over_nowhere next reply e = absurd (cc)
 
 -- who waits for a set of variables is told nothing by the last step of a round
 waits_nowhere : (wait : Option AnyWait) (walk : ObjectWalk) (reply : Reply) → is_for_lock wait walk (Finished reply) ≡ false → wait ≡ None

@@ -6,7 +6,7 @@ use Rattle.ns_world.proofs.Below.{there_more, wait_is_first}
 use Rattle.ns_world.specs.Prelude.{Act, Acts, Add, Advance, Answer, AnswersCall, AnswersOfLock, AnswersOfNotes, AnswersTo, Any, AnyAnswers, AnyMeans, AnyWait, AreAmong, AreBy, AreEnvBy, AreObjectsBy, AreThere, Ask, Asked, Asks, AsksFor, AtSomePoint, Awaits, BeginsToWait, BeginsWith, Call, CallFits}
 use Rattle.ns_world.specs.Prelude.{CallGoes, Cause, ClockLoad, CounterWait, Course, CvWait, Cvs, Done, Effect, EndsLook, EnvCourse, EnvEvent, EnvGoes, EnvGoesOn, EnvNext, EnvRequest, EnvSoFar, EnvWalk, Event, Expiry, Finished, FirstClock, ForLook, Found, Go, Goes, GoesOn, Happens, HasLedTo}
 use Rattle.ns_world.specs.Prelude.{HasOperated, HaveShownNothing, Held, Idle, IfMade, InHand, InRound, InWait, IsFirst, IsFirstAsk, IsIdle, IsLater, IsLawful, IsLawfulWhole, IsLawfulWorld, IsNotified, IsReady, IsUnfinished, LedTo, Limits, Lock, LockSteps, Look, LookFits, LookGoes}
-use Rattle.ns_world.specs.Prelude.{LookMeans, LookOver, Looked, LooksWhere, MayEnd, Means, Meanwhile, Mode, Moves, NewNote, Next, NoteLoad, NoteStanding, NoteWait, Nothing, Notify, Now, Number, ObjectEvent, ObjectGoes, ObjectNext, ObjectSoFar, ObjectWalk, Objects, OfLock, OfNotes, OfObjects, On}
+use Rattle.ns_world.specs.Prelude.{LookMeans, LookOver, Looked, LooksWhere, MayEnd, Means, Meanwhile, Mode, Moves, NewNote, Next, NoteLoad, NoteStanding, NoteWait, Notify, Now, Number, ObjectEvent, ObjectGoes, ObjectNext, ObjectSoFar, ObjectWalk, Objects, OfLock, OfNotes, OfObjects, On}
 use Rattle.ns_world.specs.Prelude.{OnCondition, OnEntry, OnLock, OnObjects, OnVariables, Once, Only, Operates, Over, Owed, Part, Past, PlaceBy, RLock, Repeat, Reply, Request, Round, RoundGo, RoundNext, RoundOver, RoundPlace, RoundShows, RoundSoFar, SeatView, Setup, Shows, SoFar, Start, Started}
 use Rattle.ns_world.specs.Prelude.{Starts, Step, Subject, ToRelease, Truths, UnlockQuiet, Value, Wait, WaitAny, WaitMeans, WaitSteps, Walk, WalkFits, WalkReply, WasShown, Went, WereThere, Whole, WholeBegins, WholeMoves, WholeStarts, WholeStep, asked_of, asks_of, at_will, begun_at, by_round}
 use Rattle.ns_world.specs.Prelude.{cause_of, course_after, course_from, done_by, done_in, env_after, env_asked_of, env_course_after, env_course_at, env_done, env_got_of, env_own, env_state, env_step_of, env_walk_after, env_want_of, got_of, happened, held_at, held_in, is_among, is_for_any}
@@ -53,9 +53,8 @@ Says None limits = Unit {0}
 Says (Some by) limits = by ≡ limits
 
 says_for : {C : Type 0} (on : Subject C) (by limits : Limits) → by ≡ limits → Says (limits_for on by) limits
-says_for (OnCondition c) by limits e = e
-says_for (OnVariables (Only k)) by limits e = e
 says_for (OnVariables (Any cvs)) by limits e = tt
+says_for other by limits e = e
 
 shown_so : (earlier now : List EnvEvent) (o : Option Limits) (limits : Limits) (cause : Option Cause) → Says o limits → AtSomePoint earlier now (Shows limits cause) → WasShown earlier now o (Some cause)
 shown_so earlier now None limits cause says so = tt
@@ -69,8 +68,7 @@ shown_none earlier now (Some by) (Some cause) e = absurd (cc)
 
 among_for : {C : Type 0} (on : Subject C) (limits : Limits) → is_for_any on ≡ true → limits_for on limits ≡ None
 among_for (OnVariables (Any cvs)) limits e = refl
-among_for (OnVariables (Only k)) limits e = absurd (cc)
-among_for (OnCondition c) limits e = absurd (cc)
+among_for other limits e = absurd (cc)
 
 among_says : {C : Type 0} (walk : Walk C) → waits_among walk ≡ true → limits_of (asked_of walk) ≡ None
 among_says (InWait wait place) e = among_for wait.on wait.limits e
@@ -790,8 +788,6 @@ module _ (C : Type 0) (N : ℕ) (before : Whole C N) (earlier : Past) (seat : �
 
             by : (next : RoundNext) → Idle ≡ object_step_of (by_round p.round next) → RoundGoes before.objects.setup earlier on p.round next → WereThere before.objects.setup earlier p.round.items →
                 objects_own on.objects seat ≡ objects_own earlier.objects seat → InRound p.round FirstClock ≡ asked → Awaiting asked on new
-            by (RoundGo place) answers goes there untouched is = absurd (cc)
-            by (RoundOver (Some at)) answers goes there untouched is = absurd (cc)
             by (RoundOver None) answers goes there untouched is =
                 let put = over_stood old new seat lawful (InRound p.round p.place) p.walks p.then Idle p.operated (Some (record { round = p.round; shown = None })) p.becomes in
                 record {
@@ -815,6 +811,7 @@ module _ (C : Type 0) (N : ℕ) (before : Whole C N) (earlier : Past) (seat : �
                   looks = subst (RoundOn p.round on on) (sym put.stands) tt;
                   untouched = untouched;
                 }
+            by next answers goes there untouched is = absurd (cc)
 
       -- ---- of one that waits on the lock
 
@@ -858,8 +855,6 @@ module _ (C : Type 0) (N : ℕ) (before : Whole C N) (earlier : Past) (seat : �
 
               by : (next : RoundNext) → step ≡ object_step_of (by_round o.round next) → new.objects.walks ≡ slice_set old.objects.walks seat (object_after (by_round o.round next)) →
                   RoundGoes before.objects.setup mid (done p.operated.events) o.round next → p.operated.events ≡ [] → Outcome (OfObjects asked) step (done p.operated.events) new
-              by (RoundOver None) answers walks goes none = let no : true ≡ false = ap (is_for_lock (Some waiting) p.walk) (sym answers) ∙ not in absurd (cc)
-              by (RoundOver (Some place)) answers walks goes none = let no : true ≡ false = ap (is_for_lock (Some waiting) p.walk) (sym answers) ∙ not in absurd (cc)
               by (RoundGo place) answers walks goes none =
                   let more : Past = record { notes = []; objects = p.operated.events } in
                   let on = lock_stays (wait_for o.cvs) p.same o.lock in
@@ -867,6 +862,8 @@ module _ (C : Type 0) (N : ℕ) (before : Whole C N) (earlier : Past) (seat : �
                   subst (λ s. Outcome (OfObjects asked) s (done p.operated.events) new) (sym answers)
                   (inr (waits_on asked past more old new o o.shown (none_done p.operated.events none) on.0 (subst (AsShown o.shown) (sym on.1) o.looked) (ap (λ (x : Objects). wait_in x.waits seat) p.operated.becomes ∙ o.waits)
                   (shown_rests o.round mid past more o.shown o.was_shown) (Some (InRound o.round place)) here (refl, goes)))
+              by (RoundOver None) answers walks goes none = let no : true ≡ false = ap (is_for_lock (Some waiting) p.walk) (sym answers) ∙ not in absurd (cc)
+              by (RoundOver (Some place)) answers walks goes none = let no : true ≡ false = ap (is_for_lock (Some waiting) p.walk) (sym answers) ∙ not in absurd (cc)
 
         -- its look is over
         ends_look_here : (p : EndsLook old new seat step) → Outcome (OfObjects asked) step (done p.operated.events) new
@@ -974,9 +971,7 @@ module _ (C : Type 0) (N : ℕ) (before : Whole C N) (earlier : Past) (seat : �
           wait_steps_here = subst (λ s. Outcome (OfObjects asked) s here_now new) (sym p.answer) (by p.told goes_on_there outcome) where
             by : (told : Step) → (IsUnfinished told → Awaiting asked here_now new) → LockOutcome (wait_for o.cvs) told (past.notes ++ []) new.lock o.lock.course.looked → Outcome (OfObjects asked) (step_told p.wait told) here_now new
             by (Finished reply) on o' = answered reply o'.0 (subst (AsShown o.shown) (sym o'.1) o.looked) o'.0.answer o'.0.tells o'.0.means
-            by Went on o' = inr (on tt)
-            by Idle on o' = inr (on tt)
-            by Nothing on o' = inr (on tt)
+            by other on o' = inr (on tt)
 
       -- whatever it is
       objects_here : (p : WholeMoves old new seat step) → Has (OfObjects asked) past old → AreObjectsBy seat (objects_done p) → HasLedTo (past_and past (record { notes = notes_done p; objects = objects_done p })) new →

@@ -1,7 +1,7 @@
 -- The law of a whole world: how it begins, and that calls that begin and steps keep it.
 use Rattle.std.proofs.Common.{Bool, IsSome, List, None, Option, Some, [], ap, false, inl, inr, length, not, refl, replicate, slice_get, slice_index, slice_set, subst, sym, true, ℕ, ◌<◌, ◌∙◌, ◌≡◌, ◌≢◌, ◌≤◌}
 use Rattle.ns_world.proofs.Below.{StaysAsked, asked_stays, cases_eq, length-replicate, put_here, quiet_asks, same_Some, set_here, slice_get_within, some_among, stands_within, stays_asked, test_asks, there_more}
-use Rattle.ns_world.specs.Prelude.{WaitsOnLock, Act, AnyWait, AreThere, Ask, Call, CallFits, CallInRange, EnvNext, EnvPlain, Found, Goes, HaveLedTo, Held, IsIdle, IsLawfulWhole, IsLawfulWorld, LookGoes, LooksWhere, Meets, Mode, Moves, NoteStanding, Now, ObjectEvent, ObjectFound, ObjectNext, ObjectWalk}
+use Rattle.ns_world.specs.Prelude.{WaitsOnLock, Act, AnyWait, AreThere, Call, CallFits, CallInRange, EnvNext, EnvPlain, Found, Goes, HaveLedTo, Held, IsIdle, IsLawfulWhole, IsLawfulWorld, LookGoes, LooksWhere, Meets, Mode, Moves, NoteStanding, Now, ObjectEvent, ObjectFound, ObjectNext, ObjectWalk}
 use Rattle.ns_world.specs.Prelude.{Objects, OnCondition, OnEntry, OnLock, OnObjects, Operates, Over, Repeat, SeatView, Setup, StandsAlone, StandsBy, Start, Step, StepFits, ToRelease, Truths, UnlockQuiet, Wait, WaitAny, Walk, Whole, WholeStarts, asks_for_any, begun_at, env_got_of, fresh_whole}
 use Rattle.ns_world.specs.Prelude.{got_of, is_alone, is_for_lock, items_of, mode_of, mode_waited, most, object_after, object_asked, object_got, object_start, object_step_of, objects_state, start_of, wait_in, walk_after, walk_in, want_of, whole}
 use Rattle.ns_counters.proofs.NewObjects.{new_lawful}
@@ -144,9 +144,8 @@ module _ {C : Type 0} {N : ℕ} where
 
   -- a seat that begins a call on counters and once cells is in no other
   begun_idle : (old : Now C N) (seat : ℕ) (view : SeatView C N) (start : Start C) (place : ObjectWalk) → place_of start ≡ Some place → slice_get old.state.views seat ≡ Some view → view.walk ≡ None → slice_get old.asking seat ≡ Some None → IsIdle (begun_at old seat view start) seat
-  begun_idle old seat view (OnLock walk) place is at idle asks = absurd (cc)
-  begun_idle old seat view (Ask walk) place is at idle asks = absurd (cc)
   begun_idle old seat view (OnObjects walk) place is at idle asks = record { view = view; at = at; idle = idle; unasked = asks }
+  begun_idle old seat view other place is at idle asks = absurd (cc)
 
   module _ (old new : Whole C N) (seat : ℕ) (call : Call C) (lawful : IsLawfulWhole old) (p : WholeStarts old new seat call) where
     abbrev view : SeatView C N
@@ -174,8 +173,7 @@ module _ {C : Type 0} {N : ℕ} where
           let next : SeatView C N = record view { walk = Some walk } in
           let is : next ≡ other = same_Some _ _ (sym (set_here old.lock.state.views seat next (slice_get_within old.lock.state.views seat view p.starts.at)) ∙ at) in
           subst (λ (v : SeatView C N). is_alone v.walk ≡ true) is alone
-      by (Ask walk) alone other at = stood.alone other at
-      by (OnObjects walk) alone other at = stood.alone other at
+      by begins alone other at = stood.alone other at
 
     begun_here : StandsAlone new seat
     begun_here = record {
@@ -225,8 +223,7 @@ module _ {C : Type 0} {N : ℕ} where
 
       looks_next : (wait : AnyWait) (act : Act C) → LooksWhere wait.round (Some walk) act → (n : ObjectNext) → StaysAsked (object_asked walk) n → is_for_lock (Some wait) walk (object_step_of n) ≡ false → LooksWhere wait.round (object_after n) act
       looks_next wait act looks (Go w) same not = (same ∙ looks.0, looks.1)
-      looks_next wait act looks (Repeat w) same not = absurd (cc)
-      looks_next wait act looks (Over reply) same not = absurd (cc)
+      looks_next wait act looks next same not = absurd (cc)
 
       operated_stands : (wait : Option AnyWait) → is_for_lock wait walk (object_step_of next) ≡ false → StandsBy old seat wait → StandsBy (whole old.lock operated) seat wait
       operated_stands None not s = record {
