@@ -1,18 +1,21 @@
-use Rattle.std.proofs.Common.{[], refl}
+use Rattle.std.proofs.Common.{[], refl, sym}
 use Rattle.ns_world.proofs.Waited.{made, on_both}
 use Rattle.ns_world.proofs.exchanges.return_queues.Goals as goal
 
+pub returns-then-not-is_same : goal.returns-then-not-is_same
+returns-then-not-is_same g c = (λ row flags. made _ (refl, c.if-not-is_same.ensures.another refl, refl, refl), refl)
+
 pub return_queued-requires : goal.return_queued-requires
-return_queued-requires g c = let fits = rw c.in-QueueSelf.is at (c.requires.fits [] []) in (g.met.C.Seated.queues_fit, (c.requires.below, fits))
+return_queued-requires g c = let fits = rw c.in-QueueSelf.is at (c.requires.fits [] []) in (g.met.C.Seated.queues_fit, (c.requires.below, (fits, sym (c.if-not-is_same.ensures.same refl))))
 
 pub return_left-requires : goal.return_left-requires
-return_left-requires g c = (g.met.C.Seated.queues_fit, g.met.C.Fits.event_fits)
+return_left-requires g c = (g.met.C.Seated.queues_fit, (g.met.C.Fits.event_fits, sym (c.if-not-is_same.ensures.same refl)))
 
 pub return_waking-requires : goal.return_waking-requires
-return_waking-requires g c = let fits = rw c.in-WakeWaiters.is at (c.requires.fits [] []) in (g.met.C.Seated.queues_fit, (g.met.C.Seated.seat_fits, (g.met.C.Fits.event_fits, fits)))
+return_waking-requires g c = let fits = rw c.in-WakeWaiters.is at (c.requires.fits [] []) in (g.met.C.Seated.queues_fit, (g.met.C.Seated.seat_fits, (g.met.C.Fits.event_fits, (fits, sym (c.if-not-is_same.ensures.same refl)))))
 
 pub return_unchanged-requires : goal.return_unchanged-requires
-return_unchanged-requires g c = g.met.C.Seated.queues_fit
+return_unchanged-requires g c = (g.met.C.Seated.queues_fit, sym (c.if-not-is_same.ensures.same refl))
 
 pub returns-in-QueueSelf : goal.returns-in-QueueSelf
 returns-in-QueueSelf g c = rw c.in-QueueSelf.is (λ row flags. made _ (c.return_queued.ensures row flags c.args.seat.now.owed.items c.args.seat.now.held), refl)
