@@ -1,33 +1,26 @@
 -- The names of crates below and of this crate's own types, passed on from one place. Declares nothing.
-pub use Rattle.ns_counters.specs.Prelude.{AnyAnswers, AreThere, AtSomePoint, EnvPlain, EnvState, HaveShownNothing, IsInBounds, IsLater, IsLawful, IsLawfulEnv, IsLawfulObjects, IsLow, IsReady, Meets, NoteStanding, ObjectEffect, ObjectGoes, ObjectSoFar, ObjectStanding, ObjectState, Past, RoundShows}
-pub use Rattle.ns_counters.specs.Prelude.{RoundSoFar, StepFits, WalkFits, WereThere, by_round, counter_word, env_after, env_got_of, first_words, is_among, is_due, is_there, item_at, items_of, judged, most, object_after, object_asked, object_got, object_place, object_want, object_who, objects_after}
-pub use Rattle.ns_counters.specs.Prelude.{objects_own, padded, past_and, place_in, round_got, setup_of, standing_of, state_of, walk_in, word_at}
-pub use Rattle.ns_counters.specs.Asks.{IsLoad}
+pub use Rattle.ns_counters.specs.Prelude.{AnyAnswers, AreThere, AtSomePoint, EnvPlain, EnvState, HaveShownNothing, IsLater, IsLawful, IsLawfulEnv, IsLawfulObjects, IsLow, IsReady, Meets, NoteStanding, ObjectEffect, ObjectGoes, ObjectSoFar, ObjectStanding, ObjectState, Past, RoundShows, RoundSoFar}
+pub use Rattle.ns_counters.specs.Prelude.{StepFits, WalkFits, WereThere, by_round, env_after, env_got_of, first_words, is_among, is_due, is_there, item_at, items_of, most, object_after, object_asked, object_got, object_place, object_want, object_who, objects_after, objects_own, padded, past_and}
+pub use Rattle.ns_counters.specs.Prelude.{place_in, round_got, setup_of, standing_of, state_of, walk_in, word_at}
 pub use Rattle.ns_counters.specs.Items.{AreAmong, have_variable}
 pub use Rattle.ns_counters.specs.Meanings.{ObjectMeans}
-pub use Rattle.ns_counters.specs.declared.act.ObjectAct.{ObjectAct}
-pub use Rattle.ns_counters.specs.declared.act.ObjectAct.TheVariants.{BeginOnce, EndOnce, ExchangeToAdd, MarkWait}
 pub use Rattle.ns_counters.specs.declared.items.Item.{Item}
-pub use Rattle.ns_counters.specs.declared.items.Item.TheVariants.{OnCounter, OnNote, OnVariable}
+pub use Rattle.ns_counters.specs.declared.items.Item.TheVariants.{OnVariable}
 pub use Rattle.ns_counters.specs.declared.items.Items.{Items}
 pub use Rattle.ns_counters.specs.declared.object.ObjectEvent.{ObjectEvent}
-pub use Rattle.ns_counters.specs.declared.object.Place.{Place}
 pub use Rattle.ns_counters.specs.declared.object.Setup.{Setup}
 pub use Rattle.ns_counters.specs.declared.reply.ObjectReply.{ObjectReply}
 pub use Rattle.ns_counters.specs.declared.round.ObjectFound.{ObjectFound}
-pub use Rattle.ns_counters.specs.declared.round.ObjectFound.TheVariants.{Env}
-pub use Rattle.ns_counters.specs.declared.round.ObjectWant.{ObjectWant}
-pub use Rattle.ns_counters.specs.declared.round.ObjectWant.TheVariants.{OnEnv, OnWord}
 pub use Rattle.ns_counters.specs.declared.round.Round.{Round}
 pub use Rattle.ns_counters.specs.declared.round.RoundNext.{RoundNext}
 pub use Rattle.ns_counters.specs.declared.round.RoundNext.TheVariants.{RoundGo, RoundOver}
 pub use Rattle.ns_counters.specs.declared.round.RoundPlace.{RoundPlace}
-pub use Rattle.ns_counters.specs.declared.round.RoundPlace.TheVariants.{AtCounter, AtNote, FirstClock}
+pub use Rattle.ns_counters.specs.declared.round.RoundPlace.TheVariants.{FirstClock}
 pub use Rattle.ns_counters.specs.declared.walk.ObjectNext.{ObjectNext}
 pub use Rattle.ns_counters.specs.declared.walk.ObjectNext.TheVariants.{Over, Repeat}
 pub use Rattle.ns_counters.specs.declared.walk.ObjectWalk.{ObjectWalk}
-pub use Rattle.ns_counters.specs.declared.walk.ObjectWalk.TheVariants.{AddExchange, AddLoad, DoneLoad, InRound, OnceBegin, OnceEnd, OnceLoad, ValueLoad, WaitClock, WaitLoad, WaitMark}
-pub use Rattle.ns_env.specs.Prelude.{EnvActFits, EnvBegins, EnvCourse, EnvEffect, EnvGoes, EnvSoFar, EnvStep, IfMade, IsFirstAsk, Shows, env_asked_of, env_course_after, env_course_at, env_own, env_walk_after, env_want_of, env_who, fresh_plain, is_over, outcome, passed, stopped, up_to}
+pub use Rattle.ns_counters.specs.declared.walk.ObjectWalk.TheVariants.{AddLoad, DoneLoad, InRound, OnceLoad, ValueLoad, WaitMark}
+pub use Rattle.ns_env.specs.Prelude.{EnvActFits, EnvCourse, EnvEffect, EnvGoes, EnvSoFar, EnvStep, IfMade, IsFirstAsk, Shows, env_asked_of, env_course_after, env_course_at, env_own, env_walk_after, env_want_of, env_who, fresh_plain, is_over, outcome, passed, stopped, up_to}
 pub use Rattle.ns_env.specs.Meanings.{EnvGoesOn, EnvMeans, LookMeans}
 pub use Rattle.ns_env.specs.declared.act.EnvAct.{EnvAct}
 pub use Rattle.ns_env.specs.declared.act.EnvFound.{EnvFound}
@@ -60,18 +53,17 @@ pub use Rattle.ns_queue.specs.Scans.{tests_of}
 pub use Rattle.ns_queue.specs.Waiters.{shown_of}
 pub use Rattle.ns_queue.specs.declared.waiter.Waiter.{Waiter}
 pub use Rattle.ns_queue.specs.declared.waiter.Which.TheVariants.{Cv}
-pub use Rattle.ns_word.specs.Begins.{free_word}
 pub use Rattle.ns_word.specs.Courses.{GoesOn}
 pub use Rattle.ns_word.specs.Meanings.{AnyMeans, WaitMeans}
 pub use Rattle.ns_word.specs.Places.{ChangeFits}
 pub use Rattle.ns_word.specs.Steps.{in_hand}
 pub use Rattle.ns_word.specs.declared.acquire_walk.AcquirePlace.TheVariants.{AcquireLoad}
 pub use Rattle.ns_word.specs.declared.act.Act.{Act}
-pub use Rattle.ns_word.specs.declared.act.Act.TheVariants.{Acquire, ArmFlag, JudgeMet, JudgeQuiet, LoadCell, LoadFlag, LoadWord, Look, PayWake, Release, ReleaseReturning, ReturnQueues, StoreCell, TakeQueues, WaitReturning}
+pub use Rattle.ns_word.specs.declared.act.Act.TheVariants.{ArmFlag, LoadFlag, Look, PayWake, Release, ReleaseReturning, ReturnQueues, WaitReturning}
 pub use Rattle.ns_word.specs.declared.act.Change.{Change}
 pub use Rattle.ns_word.specs.declared.act.Change.TheVariants.{LeaveSelf, QueueSelf, WakeWaiters}
 pub use Rattle.ns_word.specs.declared.act.Found.{Found}
-pub use Rattle.ns_word.specs.declared.act.Found.TheVariants.{Left, Looked, Made, Saw, Scanned, Woke}
+pub use Rattle.ns_word.specs.declared.act.Found.TheVariants.{Left, Looked, Made, Scanned, Woke}
 pub use Rattle.ns_word.specs.declared.act.Waking.{Waking}
 pub use Rattle.ns_word.specs.declared.act.Waking.TheVariants.{Broadcasting, Signaling}
 pub use Rattle.ns_word.specs.declared.cell_walk.CellPlace.TheVariants.{GetLoad, QuietCells, QuietLast, SetLoad}
@@ -88,12 +80,12 @@ pub use Rattle.ns_word.specs.declared.wait.Aim.TheVariants.{ForLock}
 pub use Rattle.ns_word.specs.declared.wait.Home.{Home}
 pub use Rattle.ns_word.specs.declared.wait.Home.TheVariants.{AtLock, AtVariables}
 pub use Rattle.ns_word.specs.declared.wait.LeavePlace.TheVariants.{LeaveLoad}
-pub use Rattle.ns_word.specs.declared.wait.QueuePlace.TheVariants.{ArmToWait, Load, LoadToScan, LookIn, QueueToWait, Take}
+pub use Rattle.ns_word.specs.declared.wait.QueuePlace.TheVariants.{Load, LookIn}
 pub use Rattle.ns_word.specs.declared.wait.Subject.{Subject}
 pub use Rattle.ns_word.specs.declared.wait.Subject.TheVariants.{OnCondition, OnVariables}
 pub use Rattle.ns_word.specs.declared.wait.Visit.TheVariants.{OnEntry}
 pub use Rattle.ns_word.specs.declared.wait.Wait.{Wait as WaitFor}
-pub use Rattle.ns_word.specs.declared.wait.WaitPlace.TheVariants.{AwaitWakeInWait, InLeaving, InQueuing, LookOut, PayInWait, TestCells, TestLast}
+pub use Rattle.ns_word.specs.declared.wait.WaitPlace.TheVariants.{AwaitWakeInWait, InLeaving, InQueuing, LookOut, TestCells, TestLast}
 pub use Rattle.ns_word.specs.declared.walk.Next.{Next}
 pub use Rattle.ns_word.specs.declared.walk.Next.TheVariants.{On}
 pub use Rattle.ns_word.specs.declared.walk.Reply.{Reply as WalkReply}
