@@ -1,19 +1,18 @@
 -- A wait for condition variables among notes and counters keeps the law of a whole world, by each of its steps that concern the lock: it begins to wait there, a round tells it what it has shown, or it makes a step of its own.
 use Rattle.std.proofs.Common.{Bool, IsSome, List, None, Option, Some, [], ap, arith, cond, false, inl, inr, is_some, length, refl, slice_get, subst, sym, true, ℕ, ◌++◌, ◌<◌, ◌∙◌, ◌∷◌, ◌≡◌}
 use Rattle.ns_world.proofs.Below.{asked_stays, first_of_all, low_if_among, ltb-true, rest_of_all, same_Some, set_here, slice_get_within, some_among}
-use Rattle.ns_world.specs.Prelude.{LedTo, Acts, Any, AnyWait, AreAmong, AreThere, AreVariables, Await, BeginsToWait, Cvs, EndsLook, EnvPlain, Every, FirstClock, Found, HasLedTo, Held, Idle, InRound, IsLawfulWhole, IsLawfulWorld, IsLow, IsSettled, Item, Limits, LooksWhere, MayWait, MayWaitOnLock}
-use Rattle.ns_world.specs.Prelude.{NoteStanding, Now, ObjectWalk, Objects, OnLock, OnVariable, Past, PlaceFits, QuietKeeps, Round, SeatView, Setup, StandsAlone, StandsBy, Step, Truths, WaitSteps, WaitsOnLock, Walk, Whole, WholeMoves, WholeStep, asked_of, asks_for_any, cause_of}
-use Rattle.ns_world.specs.Prelude.{got_of, is_alone, is_there, items_of, look_of, looks_at, mode_of, mode_waited, notes_done, objects_done, round_due, shown_by, wait_first, wait_in, waited_after, waits_for_any, walk_after, walk_in, want_of}
-use Rattle.ns_world.proofs.AnyLooks.{LeadsOn, LooksOut, leads_on, looks_out, unlooked}
+use Rattle.ns_world.specs.Prelude.{Acts, Any, AnyWait, AreAmong, AreThere, AreVariables, Await, BeginsToWait, Cvs, EndsLook, EnvPlain, Every, FirstClock, Found, HasLedTo, Held, Idle, InRound, IsLawfulWhole, IsLawfulWorld, IsLow, IsSettled, Item, LedTo, Limits, LooksWhere, MayWait, MayWaitOnLock}
+use Rattle.ns_world.specs.Prelude.{NoteStanding, Now, ObjectWalk, Objects, OnLock, OnVariable, Past, PlaceFits, QuietKeeps, Round, SeatView, Setup, StandsAlone, StandsBy, Step, Truths, WaitSteps, WaitsOnLock, Walk, Whole, WholeMoves, WholeStep, asked_of, asks_for_any, cause_of, got_of, is_alone}
+use Rattle.ns_world.specs.Prelude.{is_there, items_of, look_of, looks_at, mode_of, mode_waited, notes_done, objects_done, round_due, shown_by, wait_first, wait_in, waited_after, waits_for_any, walk_after, walk_in, want_of}
+use Rattle.ns_world.proofs.Looking.{LeadsOn, LooksOut, leads_on, looks_out, unlooked}
 use Rattle.ns_world.proofs.Turns.{whole_stays}
 use Rattle.ns_world.proofs.Wholes.{IsAlone, moves_alone, operates_stand, stands_nowhere, stood_lawful}
 use Rattle.ns_world.proofs.Others.{low_walks, moves_aside, moves_still, over_stood, put_stood}
-use Rattle.ns_world.proofs.EnvGrows.{led_makes}
+use Rattle.ns_world.proofs.WholeLed.{led_makes, whole_led}
 use Rattle.ns_world.proofs.WorldLaw.{begun_keeps, is_settled, moves_keep, place_fits}
 use Rattle.ns_world.proofs.Places.{StartFits}
 use Rattle.ns_word.proofs.Enters.{are_some}
 use Rattle.std.specs.List.{list_all}
-use Rattle.ns_world.proofs.WholeLed.{whole_led}
 
 -- which it is
 which : {A : Type 0} (o : Option A) → IsSome o → (x : A) × (o ≡ Some x)

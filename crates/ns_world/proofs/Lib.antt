@@ -1,15 +1,13 @@
-pub mod AnyLooks
 pub mod Awaits
 pub mod Below
 pub mod Busy
 pub mod Counted
-pub mod EnvGrows
+pub mod Exchanged
 pub mod Fresh
 pub mod Looking
 pub mod Mapped
 pub mod Others
 pub mod Places
-pub mod Released
 pub mod Schedules
 pub mod Showing
 pub mod Sizes
@@ -17,7 +15,6 @@ pub mod States
 pub mod Tells
 pub mod Turns
 pub mod Underway
-pub mod Waited
 pub mod Walks
 pub mod WholeLed
 pub mod Wholes

@@ -2,13 +2,13 @@
 use Rattle.std.proofs.Common.{Bool, IsSome, List, None, Option, Some, [], ap, arith, drop, false, inl, inr, is_some, length, map, not, refl, slice_get, slice_set, subst, suc, sym, take, true, ℕ, ◌<◌, ◌||◌, ◌∙◌, ◌≡◌, ◌≤◌}
 use Rattle.ns_world.proofs.Below.{act_fits, append-nil, length-map, number_at, same_Some, set_again, set_here, set_same, slice_get_within, split_at, step_at}
 use Rattle.ns_world.specs.Prelude.{ActFits, Acts, AnyWait, Ask, Asks, AsksFor, Await, Call, CallFits, CanTell, Cause, Commits, Cvs, Effect, EnvActFits, EnvEffect, EnvMoves, EnvNext, EnvPlain, EnvWalk, Environment, Event, Go, Goes, HasOperated, HasTold, Idle, InRound, InWait, IsFew, IsLawfulWhole}
-use Rattle.ns_world.specs.Prelude.{Limits, Lists, LookGoes, LookOver, LookStep, Looked, Looks, LooksWhere, MayShow, MayWaitOnLock, Misuses, Mode, Moves, MovesFrom, NoteStanding, Now, ObjectStanding, ObjectWalk, ObjectWords, Objects, OnLock, OnObjects, OutOfMemory, Performs, Seat}
-use Rattle.ns_world.specs.Prelude.{SeatLooks, SeatOperates, SeatView, Sees, Setup, StandsAlone, StandsBy, Start, Starts, Step, StepFits, ToldIf, Truths, WaitsOnLock, Walk, WalkFits, Whole, WholeFault, WholeIsBusy, WholeIsIdle, WholeStarts, WholeStep, Word, asked_of, asks_for_any, at_will}
-use Rattle.ns_world.specs.Prelude.{begun_at, came_back, cause_of, env_got_of, env_state, env_want_of, got_of, held_after, is_alone, is_for_lock, items_of, look_of, looks_at, mode_of, mode_waited, kept, now_of, object_after, object_got, object_place, object_start, objects_after, objects_begun}
-use Rattle.ns_world.specs.Prelude.{objects_of, outcome, placed, plain_of, seat_part, shown_by, start_of, step_told, stood_at, tests_after, told_to, view_of, wait_first, wait_in, waited_after, waited_seat, waits_among, waits_for_any, walk_after, walk_in, want_of, whole, whole_of}
+use Rattle.ns_world.specs.Prelude.{Limits, Lists, LookGoes, LookOver, LookStep, Looked, Looks, LooksWhere, MayShow, MayWaitOnLock, Misuses, Mode, Moves, MovesFrom, NoteStanding, Now, ObjectStanding, ObjectWalk, ObjectWords, Objects, OnLock, OnObjects, OutOfMemory, Performs, Seat, SeatLooks}
+use Rattle.ns_world.specs.Prelude.{SeatOperates, SeatView, Sees, Setup, StandsAlone, StandsBy, Start, Starts, Step, StepFits, ToldIf, Truths, WaitsOnLock, Walk, WalkFits, Whole, WholeFault, WholeIsBusy, WholeIsIdle, WholeStarts, WholeStep, Word, asked_of, asks_for_any, at_will, begun_at, came_back}
+use Rattle.ns_world.specs.Prelude.{cause_of, env_got_of, env_state, env_want_of, got_of, held_after, is_alone, is_for_lock, items_of, kept, look_of, looks_at, mode_of, mode_waited, now_of, object_after, object_got, object_place, object_start, objects_after, objects_begun, objects_of, outcome}
+use Rattle.ns_world.specs.Prelude.{placed, plain_of, seat_part, shown_by, start_of, step_told, stood_at, tests_after, told_to, view_of, wait_first, wait_in, waited_after, waited_seat, waits_among, waits_for_any, walk_after, walk_in, want_of, whole, whole_of}
 use Rattle.ns_word.specs.declared.wait.Wait.{Wait}
 use Rattle.ns_world.specs.declared.world.World.TheInside.{Inside}
-use Rattle.ns_world.proofs.AnyLooks.{LooksOut}
+use Rattle.ns_world.proofs.Looking.{LookLeads, LooksOut, look_leads, look_stays, shown_effect}
 use Rattle.ns_world.proofs.Awaits.{all_low, next as view_after, next_at, out, there_as}
 use Rattle.ns_world.proofs.Others.{begun_stood, low_walks}
 use Rattle.ns_world.proofs.Mapped.{got-map, index-map, map-as, map-set, map-stays}
@@ -18,7 +18,6 @@ use Rattle.ns_world.proofs.Wholes.{may_operate}
 use Rattle.ns_world.specs.Names.{ObjectEffect, object_want}
 use Rattle.ns_env.proofs.Ranges.{asks_in_range}
 use Rattle.ns_world.specs.Asks.{Asked}
-use Rattle.ns_world.proofs.Looking.{LookLeads, look_leads, look_stays, shown_effect}
 use Rattle.ns_world.proofs.Places.{fits_more}
 use Rattle.ns_word.specs.declared.act.Found.TheVariants as TheFound
 

@@ -1,30 +1,29 @@
 -- From its beginning to its answer a call is under way, whatever others do, and its answer means what it says.
 use Rattle.std.specs.Prelude.{slice_get, unwrap_or}
-use Rattle.std.proofs.Common.{arith, Bool, List, None, Option, Some, [], ap, cond, false, inl, inr, is_some, length, refl, slice_set, subst, suc, sym, true, zero, ℕ, ◌++◌, ◌<◌, ◌∙◌, ◌≡◌, ◌≢◌, ◌⊎◌}
+use Rattle.std.proofs.Common.{Bool, List, None, Option, Some, [], ap, arith, cond, false, inl, inr, is_some, length, refl, slice_set, subst, suc, sym, true, zero, ℕ, ◌++◌, ◌<◌, ◌∙◌, ◌≡◌, ◌≢◌, ◌⊎◌}
 use Rattle.ns_world.proofs.Below.{append-nil, append_assoc, begins_itself, begins_through, cases_eq, env_own-append, env_own_all, env_own_none, first_place, looks_by_asked, made_begins, put_here, quiet_asks, quiet_is_first, same_Some, set_here, slice_get_within, some_among, stands_within, test_asks}
 use Rattle.ns_world.proofs.Below.{there_more, wait_is_first}
 use Rattle.ns_world.specs.Prelude.{Act, Acts, Add, Advance, Answer, AnswersCall, AnswersOfLock, AnswersOfNotes, AnswersTo, Any, AnyAnswers, AnyMeans, AnyWait, AreAmong, AreBy, AreEnvBy, AreObjectsBy, AreThere, Ask, Asked, Asks, AsksFor, AtSomePoint, Awaits, BeginsToWait, BeginsWith, Call, CallFits}
 use Rattle.ns_world.specs.Prelude.{CallGoes, Cause, ClockLoad, CounterWait, Course, CvWait, Cvs, Done, Effect, EndsLook, EnvCourse, EnvEvent, EnvGoes, EnvGoesOn, EnvNext, EnvRequest, EnvSoFar, EnvWalk, Event, Expiry, Finished, FirstClock, ForLook, Found, Go, Goes, GoesOn, Happens, HasLedTo}
-use Rattle.ns_world.specs.Prelude.{HasOperated, HaveShownNothing, Held, Idle, IfMade, InHand, InRound, InWait, IsFirst, IsFirstAsk, IsIdle, IsLater, IsLawful, IsLawfulWhole, IsLawfulWorld, IsNotified, IsReady, IsUnfinished, LedTo, Limits, Lock, LockSteps, Look, LookFits, LookGoes}
-use Rattle.ns_world.specs.Prelude.{LookMeans, LookOver, Looked, LooksWhere, MayEnd, Means, Meanwhile, Mode, Moves, NewNote, Next, NoteLoad, NoteStanding, NoteWait, Notify, Now, Number, ObjectEvent, ObjectGoes, ObjectNext, ObjectSoFar, ObjectWalk, Objects, OfLock, OfNotes, OfObjects, On}
-use Rattle.ns_world.specs.Prelude.{OnCondition, OnEntry, OnLock, OnObjects, OnVariables, Once, Only, Operates, Over, Owed, Part, Past, PlaceBy, RLock, Repeat, Reply, Request, Round, RoundGo, RoundNext, RoundOver, RoundPlace, RoundShows, RoundSoFar, SeatView, Setup, Shows, SoFar, Start, Started}
-use Rattle.ns_world.specs.Prelude.{Starts, Step, Subject, ToRelease, Truths, UnlockQuiet, Value, Wait, WaitAny, WaitMeans, WaitSteps, Walk, WalkFits, WalkReply, WasShown, Went, WereThere, Whole, WholeBegins, WholeMoves, WholeStarts, WholeStep, asked_of, asks_of, at_will, begun_at, by_round}
-use Rattle.ns_world.specs.Prelude.{cause_of, course_after, course_from, done_by, done_in, env_after, env_asked_of, env_course_after, env_course_at, env_done, env_got_of, env_own, env_state, env_step_of, env_walk_after, env_want_of, got_of, happened, held_at, held_in, is_among, is_for_any}
-use Rattle.ns_world.specs.Prelude.{is_for_lock, items_of, limits_for, limits_of, look_of, looked_after, looks_at, mode_of, mode_waited, note_in, notes_done, nothing_done, object_after, object_asked, object_got, object_step_of, objects_after, objects_done, objects_own, own, part_of}
-use Rattle.ns_world.specs.Prelude.{past_and, place_in, place_told, reply_of_lock, reply_told, round_due, round_got, row_after, shown_by, start_of, step_of, step_told, wait_first, wait_in, waited_after, waits_among, waits_for_any, walk_after, walk_in, want_of, whole, woken_by}
+use Rattle.ns_world.specs.Prelude.{HasOperated, HaveShownNothing, Held, Idle, IfMade, InHand, InRound, InWait, IsFirst, IsFirstAsk, IsIdle, IsLater, IsLawful, IsLawfulWhole, IsLawfulWorld, IsNotified, IsReady, IsUnfinished, LedTo, Limits, Lock, LockSteps, Look, LookFits, LookGoes, LookMeans}
+use Rattle.ns_world.specs.Prelude.{LookOver, Looked, LooksWhere, MayEnd, Means, Meanwhile, Mode, Moves, NewNote, Next, NoteLoad, NoteStanding, NoteWait, Notify, Now, Number, ObjectEvent, ObjectGoes, ObjectNext, ObjectSoFar, ObjectWalk, Objects, OfLock, OfNotes, OfObjects, On, OnCondition, OnEntry}
+use Rattle.ns_world.specs.Prelude.{OnLock, OnObjects, OnVariables, Once, Only, Operates, Over, Owed, Part, Past, PlaceBy, RLock, Repeat, Reply, Request, Round, RoundGo, RoundNext, RoundOver, RoundPlace, RoundShows, RoundSoFar, SeatView, Setup, Shows, SoFar, Start, Started, Starts, Step, Subject}
+use Rattle.ns_world.specs.Prelude.{ToRelease, Truths, UnlockQuiet, Value, Wait, WaitAny, WaitMeans, WaitSteps, Walk, WalkFits, WalkReply, WasShown, Went, WereThere, Whole, WholeBegins, WholeMoves, WholeStarts, WholeStep, asked_of, asks_of, at_will, begun_at, by_round, cause_of, course_after}
+use Rattle.ns_world.specs.Prelude.{course_from, done_by, done_in, env_after, env_asked_of, env_course_after, env_course_at, env_done, env_got_of, env_own, env_state, env_step_of, env_walk_after, env_want_of, got_of, happened, held_at, held_in, is_among, is_for_any, is_for_lock, items_of, limits_for}
+use Rattle.ns_world.specs.Prelude.{limits_of, look_of, looked_after, looks_at, mode_of, mode_waited, note_in, notes_done, nothing_done, object_after, object_asked, object_got, object_step_of, objects_after, objects_done, objects_own, own, part_of, past_and, place_in, place_told, reply_of_lock}
+use Rattle.ns_world.specs.Prelude.{reply_told, round_due, round_got, row_after, shown_by, start_of, step_of, step_told, wait_first, wait_in, waited_after, waits_among, waits_for_any, walk_after, walk_in, want_of, whole, woken_by}
 use Rattle.ns_word.proofs.Courses.{begins_unchanged, takes_on}
 use Rattle.ns_env.proofs.Chains.{looked_shows}
 use Rattle.ns_env.proofs.Courses.{begins_course, others_leave_course, step_takes_on}
 use Rattle.ns_word.proofs.ToldAfter.{own_all, own_append, step_by}
 use Rattle.ns_env.specs.declared.walk.EnvNext.TheVariants.{Over, Repeat}
 use Rattle.ns_word.specs.declared.walk.Next.TheVariants.{Done}
-use Rattle.ns_world.proofs.EnvGrows.{env_begins, events_by}
+use Rattle.ns_world.proofs.WholeLed.{env_begins, events_by, no_more, starts_led, steps_led, whole_led}
 use Rattle.ns_world.proofs.Others.{Still, Untouched, low_walks, moves_aside, moves_still, over_stood, put_stood, same_world, starts_still, starts_stood, still_here}
 use Rattle.ns_world.proofs.Looking.{FirstIf, first_if, noted}
 use Rattle.ns_counters.proofs.Objects.{own-append, own_all as objects_own_all, own_none}
 use Rattle.ns_counters.proofs.Rounds.{last_nothing, later_itself, later_through}
 use Rattle.ns_counters.specs.declared.walk.ObjectNext.TheVariants.{Go}
-use Rattle.ns_world.proofs.WholeLed.{no_more, starts_led, steps_led, whole_led}
 use Rattle.ns_world.proofs.Awaits.{leads, same_walk, there_as}
 use Rattle.ns_world.proofs.Wholes.{begun_waits_not}
 use Rattle.ns_counters.proofs.Courses.{RoundGoes, any_on, later_and, nothing_on, operates_on, round_by, round_makes_none, round_on, so_far_on}

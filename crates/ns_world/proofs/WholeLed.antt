@@ -1,10 +1,56 @@
--- What has led to a whole world, and a step or a call that begins, lead to the world after it.
-use Rattle.std.proofs.Common.{Bool, List, None, Option, Some, [], ap, arith, cond, false, inl, inr, is_some, length, refl, subst, sym, true, ℕ, ◌++◌, ◌<◌, ◌∙◌, ◌≡◌}
-use Rattle.ns_world.proofs.Below.{Fit, append-nil, led_more, length-set, operates_keeps, put_keeps, slice_get_within, stands_within}
-use Rattle.ns_world.specs.Prelude.{Add, AnyWait, AreEnvBy, AreLedTo, AreObjectsBy, Call, CallFits, CounterWait, Done, EnvPlain, FirstClock, HasLedTo, HasOperated, HaveLedTo, Idle, InRound, IsLawfulWhole, LedTo, Mode, NoteStanding, Now, ObjectEvent}
-use Rattle.ns_world.specs.Prelude.{ObjectStanding, ObjectWalk, Objects, OnLock, Once, Past, SeatView, Setup, StandsBy, Start, Step, Value, WaitAny, WaitSteps, WaitsOnLock, Walk, Whole, WholeMoves, WholeStarts, WholeStep, begun_at, done_in, got_of, looks_at, mode_of, notes_done}
-use Rattle.ns_world.specs.Prelude.{nothing_done, object_start, objects_after, objects_begun, objects_done, objects_state, past_and, round_due, start_of, stood_at, waited_after, walk_after, walk_in, want_of}
-use Rattle.ns_world.proofs.EnvGrows.{led_makes, moves_led}
+-- What has led to a world, and a step or a call that begins, lead to the world after it: each extends what has happened to the clock and the notes, and to counters and once cells.
+use Rattle.std.proofs.Common.{Bool, List, None, Option, Some, [], ap, arith, cond, false, inl, inr, is_some, length, refl, slice_get, slice_set, subst, sym, true, ℕ, ◌++◌, ◌<◌, ◌∙◌, ◌≡◌}
+use Rattle.ns_world.proofs.Below.{Fit, append-nil, begins_env, keeps_env, led_more, length-set, made_begins, operates_keeps, put_keeps, set_again, set_here, set_same, slice_get_within, stands_within}
+use Rattle.ns_world.specs.Prelude.{Add, AnyWait, AreEnvBy, AreLedTo, AreObjectsBy, Call, CallFits, CounterWait, Done, EnvAct, EnvEffect, EnvEvent, EnvFound, EnvNext, EnvPlain, EnvWalk, FirstClock, Go, Goes, HasLedTo, HasOperated, HaveLedTo, Idle, IfMade, InRound, IsLawfulEnv, IsLawfulWhole}
+use Rattle.ns_world.specs.Prelude.{IsLawfulWorld, LedTo, LookGoes, LookOver, Mode, Moves, NoteStanding, Now, ObjectEvent, ObjectStanding, ObjectWalk, Objects, OnLock, Once, Past, SeatView, Setup, StandsBy, Start, Step, Value, WaitAny, WaitSteps, WaitsOnLock, Walk, Whole, WholeMoves, WholeStarts}
+use Rattle.ns_world.specs.Prelude.{WholeStep, begun_at, done_in, env_done, env_got_of, env_state, env_walk_after, env_want_of, got_of, look_of, looks_at, mode_of, note_in, notes_done, nothing_done, object_start, objects_after, objects_begun, objects_done, objects_state, past_and, round_due}
+use Rattle.ns_world.specs.Prelude.{start_of, stood_at, waited_after, walk_after, walk_in, want_of}
+use Rattle.ns_env.proofs.Keeps.{outcome_by}
+use Rattle.ns_world.proofs.Looking.{FirstIf, first_if, noted}
+
+-- a seat that stands nowhere there is put at the beginning of a look, if one is to begin
+pub env_begins : (events : List EnvEvent) (plain : EnvPlain) (askings : List (Option EnvWalk)) (i : ℕ) (ask : Option EnvWalk) → slice_get askings i ≡ Some None → FirstIf plain.notes ask → IsLawfulEnv events (env_state plain askings) →
+    IsLawfulEnv events (env_state plain (slice_set askings i ask))
+env_begins events plain askings i None at first p = subst (λ xs. IsLawfulEnv events (env_state plain xs)) (sym (set_same askings i None at)) p
+env_begins events plain askings i (Some walk) at first p = begins_env events (env_state plain askings) (env_state plain (slice_set askings i (Some walk))) i walk (record { over = at; first = first; becomes = refl }) p
+
+-- what a step does to the clock and the notes is its seat's
+pub events_by : (seat : ℕ) (act : EnvAct) (old : EnvPlain) (found : EnvFound) (new : EnvPlain) (events : List EnvEvent) → EnvEffect seat act old found new events → AreEnvBy seat events
+events_by seat act old found new events e = subst (AreEnvBy seat) (sym e.events_are) (outcome_by seat act old)
+
+module _ {C : Type 0} {N : ℕ} (events : List EnvEvent) (old new : Now C N) (seat : ℕ) (step : Step) (lawful : IsLawfulWorld old) (led : LedTo events old) where
+  -- a step of the lock's machine, by a seat that has left the clock and the notes
+  going : (within : seat < length old.asking) → IsLawfulEnv events (env_state old.env (slice_set old.asking seat None)) → Goes old new seat step → LedTo events new
+  going within cleared p =
+      let next = walk_after (got_of N p.makes.walk p.found) in
+      let made : IfMade old.env.notes (note_in next) = noted N (IfMade old.env.notes) p.makes.walk p.found tt (subst (λ w. IfMade old.env.notes (note_in w)) p.makes.walks (lawful.noted seat p.view p.at)) in
+      let looks : IsLawfulEnv events (env_state old.env (slice_set (slice_set old.asking seat None) seat (look_of next))) =
+      env_begins events old.env (slice_set old.asking seat None) seat (look_of next) (set_here old.asking seat None within) (first_if old.env.notes next made) cleared in
+      let there = set_again old.asking seat None (look_of next) ∙ sym p.asking in
+      subst (λ env. IsLawfulEnv events (env_state env new.asking)) (sym p.env) (subst (λ ws. IsLawfulEnv events (env_state old.env ws)) there looks)
+
+  -- where a step of a look leads
+  looking : (within : seat < length old.asking) (next : EnvNext) → IsLawfulEnv events (env_state old.env (slice_set old.asking seat (env_walk_after next))) → LookGoes next old new seat step → LedTo events new
+  looking within (Go walk) kept p = subst (λ (world : Now C N). LedTo events world) (sym p.0) kept
+  looking within (LookOver cause) kept p = going within kept p.0
+  looking within next kept p = absurd p
+
+  nothing_more : LedTo events new → AreEnvBy seat [] × LedTo (events ++ []) new
+  nothing_more p = (tt, subst (λ es. LedTo es new) (sym (append-nil events)) p)
+
+  pub moves_led : (p : Moves old new seat step) → AreEnvBy seat (env_done p) × LedTo (events ++ env_done p) new
+  moves_led (inl p) = nothing_more (going (slice_get_within old.asking seat None p.unasked) (subst (λ ws. IsLawfulEnv events (env_state old.env ws)) (sym (set_same old.asking seat None p.unasked)) led) p.goes)
+  moves_led (inr (inl p)) =
+      (events_by seat (env_want_of p.makes.walk) (env_state old.env old.asking).plain p.found (env_state new.env new.asking).plain p.events p.makes.effect, keeps_env events p.events (env_state old.env old.asking) (env_state new.env new.asking) seat p.found p.makes led)
+  moves_led (inr (inr p)) =
+      let after = slice_set old.asking seat (env_walk_after (env_got_of p.place p.found)) in
+      let kept = keeps_env events [] (env_state old.env old.asking) (env_state old.env after) seat p.found (record { walk = p.place; walks = p.stands; effect = p.effect; becomes = refl }) led in
+      nothing_more (looking (slice_get_within old.asking seat (Some p.place) p.stands) (env_got_of p.place p.found) (subst (λ es. IsLawfulEnv es (env_state old.env after)) (append-nil events) kept) p.goes)
+
+-- notes that are made stay made
+pub led_makes : {C : Type 0} {N : ℕ} (events more : List EnvEvent) (old new : Now C N) → LedTo events old → LedTo (events ++ more) new → (n : ℕ) → (old.env.notes n).made ≡ true → (new.env.notes n).made ≡ true
+led_makes events more old new was now n made = subst (λ (notes : ℕ → NoteStanding). (notes n).made ≡ true) (sym now.lawful.meets.notes)
+    (made_begins (events ++ more) events n now.lawful.meets.legal (more, refl) (subst (λ (notes : ℕ → NoteStanding). (notes n).made ≡ true) was.lawful.meets.notes made))
 
 -- what has led to the objects has led to them where a seat is put at a place that fits, and into any wait or none
 led_stood : (history : List ObjectEvent) (objects : Objects) (notes : ℕ → NoteStanding) (seat : ℕ) (walk : Option ObjectWalk) (wait : Option AnyWait) → seat < length objects.walks → seat < objects.setup.seats →

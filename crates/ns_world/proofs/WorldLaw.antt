@@ -5,7 +5,7 @@ use Rattle.ns_world.specs.Prelude.{AreNumbered, Ask, Asks, AsksFor, Call, CallIn
 use Rattle.ns_world.specs.Prelude.{QuietKeeps, SeatView, Setup, StandRight, Start, Starts, Step, Truths, begun_at, env_done, env_got_of, env_walk_after, env_want_of, got_of, look_of, mode_of, note_in, start_of, walk_after}
 use Rattle.ns_word.specs.Lawful.{IsLawful}
 use Rattle.ns_word.proofs.Dispatch.{keeps}
-use Rattle.ns_world.proofs.EnvGrows.{env_begins}
+use Rattle.ns_world.proofs.WholeLed.{env_begins}
 use Rattle.ns_world.proofs.Looking.{LookLeads, look_leads, noted, right_here}
 use Rattle.ns_world.proofs.Places.{StartFits, start_fits}
 

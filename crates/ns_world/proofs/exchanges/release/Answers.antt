@@ -1,6 +1,5 @@
 use Rattle.std.proofs.Common.{refl}
-use Rattle.ns_world.proofs.Released.{can_some, released}
-use Rattle.ns_world.proofs.Waited.{made}
+use Rattle.ns_world.proofs.Exchanged.{can_some, made, released}
 use Rattle.ns_world.proofs.exchanges.release.Goals as goal
 
 pub returns-then-not-is_last : goal.returns-then-not-is_last

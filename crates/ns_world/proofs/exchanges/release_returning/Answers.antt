@@ -1,8 +1,7 @@
-use Rattle.std.proofs.Common.{refl, sym, ◌∙◌, ap, not, rules, arith}
+use Rattle.std.proofs.Common.{ap, arith, not, refl, rules, sym, ◌∙◌}
 use Rattle.ns_world.proofs.Below.{are_called, as_many, err_from_is_err_and, some_called}
 use Rattle.ns_world.specs.Prelude.{called_by}
-use Rattle.ns_world.proofs.Released.{can_some, scanned, some_left}
-use Rattle.ns_world.proofs.Waited.{made}
+use Rattle.ns_world.proofs.Exchanged.{can_some, made, scanned, some_left}
 use Rattle.ns_world.proofs.exchanges.release_returning.Goals as goal
 
 pub returns-then-not-is_same : goal.returns-then-not-is_same

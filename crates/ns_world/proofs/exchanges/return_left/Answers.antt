@@ -1,6 +1,6 @@
 use Rattle.std.proofs.Common.{refl}
 use Rattle.ns_world.proofs.Below.{err_from_is_err_and}
-use Rattle.ns_world.proofs.Waited.{left_back}
+use Rattle.ns_world.proofs.Exchanged.{left_back}
 use Rattle.ns_world.proofs.exchanges.return_left.Goals as goal
 
 pub returns : goal.returns

@@ -1,4 +1,4 @@
-use Rattle.ns_world.proofs.Waited.{queued_back}
+use Rattle.ns_world.proofs.Exchanged.{queued_back}
 use Rattle.ns_world.proofs.exchanges.return_queued.Goals as goal
 
 pub returns : goal.returns

@@ -1,5 +1,5 @@
 use Rattle.std.proofs.Common.{[], refl, sym}
-use Rattle.ns_world.proofs.Waited.{made, on_both}
+use Rattle.ns_world.proofs.Exchanged.{made, on_both}
 use Rattle.ns_world.proofs.exchanges.return_queues.Goals as goal
 
 pub returns-then-not-is_same : goal.returns-then-not-is_same

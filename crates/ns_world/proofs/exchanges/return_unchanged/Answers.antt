@@ -1,4 +1,4 @@
-use Rattle.ns_world.proofs.Waited.{unchanged_back}
+use Rattle.ns_world.proofs.Exchanged.{unchanged_back}
 use Rattle.ns_world.proofs.exchanges.return_unchanged.Goals as goal
 
 pub returns : goal.returns

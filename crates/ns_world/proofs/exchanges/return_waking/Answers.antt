@@ -1,8 +1,7 @@
-use Rattle.std.proofs.Common.{refl, ap, not, ◌∙◌}
+use Rattle.std.proofs.Common.{ap, not, refl, ◌∙◌}
 use Rattle.ns_world.proofs.Below.{err_from_is_err_and}
 use Rattle.ns_world.specs.Prelude.{has_some}
-use Rattle.ns_world.proofs.Released.{some_left}
-use Rattle.ns_world.proofs.Waited.{woken_back}
+use Rattle.ns_world.proofs.Exchanged.{some_left, woken_back}
 use Rattle.ns_queue.proofs.Orders.{list_small}
 use Rattle.ns_world.proofs.exchanges.return_waking.Goals as goal
 
