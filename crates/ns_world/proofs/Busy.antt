@@ -1,18 +1,10 @@
 -- Which seats are busy, after another in the place of one, and one after another.
 use Rattle.std.proofs.Common.{◌≤◌, ◌≡◌, ℕ, zero, suc, ◌<◌, Bool, true, false, eqb, ◌||◌, List, [], ◌∷◌, Option, Some, None, is_some, length, slice_set, slice_get, refl, ap, sym, ◌∙◌, arith, eq-eqb, inl, inr, ◌+◌, map}
-use Rattle.ns_world.proofs.Below.{cases_eq, cases_lt, length-map, ne_eqb, set_here, slice_get_past}
+use Rattle.ns_world.proofs.Below.{cases_eq, cases_lt, length-map, ne_eqb, or-false, or-true, set_here, slice_get_past}
 use Rattle.std.specs.Option.{option_map_or}
 use Rattle.std.specs.Prelude.{unwrap_or}
 use Rattle.ns_world.specs.Prelude.{EnvWalk, Seat, SeatView, is_asking, is_busy, is_walking, view_of, walk_in}
 use Rattle.ns_world.proofs.Mapped.{got-map}
-
-or_false : (b : Bool) → (b || false) ≡ b
-or_false true = refl
-or_false false = refl
-
-pub or_true : (b : Bool) → (b || true) ≡ true
-or_true true = refl
-or_true false = refl
 
 -- ---- a bit of each element of a list
 
@@ -57,9 +49,9 @@ AreFirst so i bits = (n : ℕ) → (n < i → bits n ≡ so n) × (i ≤ n → b
 
 pub first_with : (so bits more : ℕ → Bool) (i : ℕ) → ((n : ℕ) → more n ≡ (bits n || eqb n i)) → so i ≡ true → AreFirst so i bits → AreFirst so (i + 1) more
 first_with so bits more i is here first n = elim (cases_eq n i) [
-  | inl e ↦ (λ below. is n ∙ ap (λ b. bits n || b) (eq-eqb n i e) ∙ or_true (bits n) ∙ sym (ap so e ∙ here), λ past. absurd (omega (arith, e, past)))
+  | inl e ↦ (λ below. is n ∙ ap (λ b. bits n || b) (eq-eqb n i e) ∙ or-true (bits n) ∙ sym (ap so e ∙ here), λ past. absurd (omega (arith, e, past)))
   | inr ne ↦
-      let same : more n ≡ bits n = is n ∙ ap (λ b. bits n || b) (ne_eqb n i ne) ∙ or_false (bits n) in
+      let same : more n ≡ bits n = is n ∙ ap (λ b. bits n || b) (ne_eqb n i ne) ∙ or-false (bits n) in
       (λ below. same ∙ (first n).0 (omega (arith, ne, below)), λ past. same ∙ (first n).1 (omega (arith, past)))
 ]
 

@@ -1,6 +1,6 @@
 -- What a step on the parts of a world, or the beginning of a call, is in that world.
 use Rattle.std.proofs.Common.{Bool, IsSome, List, None, Option, Some, [], ap, arith, drop, false, inl, inr, is_some, length, map, not, refl, slice_get, slice_set, subst, suc, sym, take, true, ℕ, ◌<◌, ◌||◌, ◌∙◌, ◌≡◌, ◌≤◌}
-use Rattle.ns_world.proofs.Below.{act_fits, append-nil, length-map, number_at, same_Some, set_again, set_here, set_same, slice_get_within, split_at, step_at}
+use Rattle.ns_world.proofs.Below.{map-set, act_fits, append-nil, length-map, number_at, same_Some, set_again, set_here, set_same, slice_get_within, split_at, step_at}
 use Rattle.ns_world.specs.Prelude.{ActFits, Acts, AnyWait, Ask, Asks, AsksFor, Await, Call, CallFits, CanTell, Cause, Commits, Cvs, Effect, EnvActFits, EnvEffect, EnvMoves, EnvNext, EnvPlain, EnvWalk, Environment, Event, Go, Goes, HasOperated, HasTold, Idle, InRound, InWait, IsFew, IsLawfulWhole}
 use Rattle.ns_world.specs.Prelude.{Limits, Lists, LookGoes, LookOver, LookStep, Looked, Looks, LooksWhere, MayShow, MayWaitOnLock, Misuses, Mode, Moves, MovesFrom, NoteStanding, Now, ObjectStanding, ObjectWalk, ObjectWords, Objects, OnLock, OnObjects, OutOfMemory, Performs, Seat, SeatLooks}
 use Rattle.ns_world.specs.Prelude.{SeatOperates, SeatView, Sees, Setup, StandsAlone, StandsBy, Start, Starts, Step, StepFits, ToldIf, Truths, WaitsOnLock, Walk, WalkFits, Whole, WholeFault, WholeIsBusy, WholeIsIdle, WholeStarts, WholeStep, Word, asked_of, asks_for_any, at_will, begun_at, came_back}
@@ -11,7 +11,7 @@ use Rattle.ns_world.specs.declared.world.World.TheInside.{Inside}
 use Rattle.ns_world.proofs.Looking.{LookLeads, LooksOut, look_leads, look_stays, shown_effect}
 use Rattle.ns_world.proofs.Awaits.{all_low, next as view_after, next_at, out, there_as}
 use Rattle.ns_world.proofs.Others.{begun_stood, low_walks}
-use Rattle.ns_world.proofs.Mapped.{got-map, index-map, map-as, map-set, map-stays}
+use Rattle.ns_world.proofs.Mapped.{got-map, index-map, map-as, map-stays}
 use Rattle.std.specs.Prelude.{IfSome, unwrap_or}
 use Rattle.ns_world.proofs.Turns.{place_of, placed_by}
 use Rattle.ns_world.proofs.Wholes.{may_operate}

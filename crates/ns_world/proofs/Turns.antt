@@ -1,11 +1,11 @@
 -- A turn of a run, by what beginning a call and a step promise.
 use Rattle.std.proofs.Common.{Bool, Err, List, None, Ok, Option, Result, Some, ap, arith, cond, false, inl, inr, is_some, length, nat_lt, refl, slice_get, subst, sym, true, ℕ, ◌-◌, ◌||◌, ◌∙◌, ◌≡◌, ◌≢◌}
 use Rattle.std.specs.Prelude.{IfErr, IfOk}
-use Rattle.ns_world.proofs.Below.{length-set, same_Some, set_here, slice_get_within}
+use Rattle.ns_world.proofs.Below.{or-true, length-set, same_Some, set_here, slice_get_within}
 use Rattle.ns_world.specs.Prelude.{AnyWait, Ask, Call, Commits, EnvNext, Fault, Go, GoesOnOrBegins, InCells, InRound, IsBusy, IsIdle, IsWalking, Lists, Lock, LookGoes, LookOver, Mode, Moves, Next, NoSuchSeat, Nothing, Now, ObjectNext, ObjectWalk, On, OnLock}
 use Rattle.ns_world.specs.Prelude.{OnObjects, OutOfMemory, Progress, SeatView, Start, Step, TurnOf, TurnsWith, UnlockQuiet, Wait, Walk, Went, Whole, WholeFault, WholeIsBusy, WholeIsIdle, WholeMoves, WholeStarts, WholeStep}
 use Rattle.ns_world.specs.Prelude.{Word, begun_at, env_got_of, env_step_of, got_of, is_asking, is_busy, is_walking, mode_of, object_got, object_start, object_step_of, progress, progressed, start_of, step_of, step_told, walk_in, want_of, whole_busy}
-use Rattle.ns_world.proofs.Busy.{asking_at, asking_set_same, both, or_true, walking_at, walking_set_same}
+use Rattle.ns_world.proofs.Busy.{asking_at, asking_set_same, both, walking_at, walking_set_same}
 use Rattle.ns_counters.specs.declared.walk.ObjectNext.TheVariants as TheObject
 
 -- the first step of a call may commit an event
@@ -89,7 +89,7 @@ module _ {C : Type 0} {N : ℕ} where
 
   pub is_busy_of : (world : Now C N) (seat : ℕ) → IsBusy world seat → is_busy world.state.views world.asking seat ≡ true
   is_busy_of world seat (inl busy) = ap (λ b. b || is_asking world.asking seat) (walking_at world.state.views seat busy.view busy.at ∙ ap is_some busy.walks)
-  is_busy_of world seat (inr busy) = ap (λ b. is_walking world.state.views seat || b) (asking_at world.asking seat (Some busy.walk) busy.walks) ∙ or_true (is_walking world.state.views seat)
+  is_busy_of world seat (inr busy) = ap (λ b. is_walking world.state.views seat || b) (asking_at world.asking seat (Some busy.walk) busy.walks) ∙ or-true (is_walking world.state.views seat)
 
   pub is_idle_of : (world : Now C N) (seat : ℕ) → IsIdle world seat → is_busy world.state.views world.asking seat ≡ false
   is_idle_of world seat idle = both world.state.views world.asking seat false false (walking_at world.state.views seat idle.view idle.at ∙ ap is_some idle.idle) (asking_at world.asking seat None idle.unasked)
@@ -98,8 +98,8 @@ module _ {C : Type 0} {N : ℕ} where
   begun_busy : (old : Now C N) (seat : ℕ) (view : SeatView C N) (start : Start C) → slice_get old.state.views seat ≡ Some view → slice_get old.asking seat ≡ Some None →
       (is_busy (begun_at old seat view start).state.views (begun_at old seat view start).asking seat || is_some (place_of start)) ≡ true
   begun_busy old seat view (OnLock walk) at asks = ap (λ b. (b || is_asking old.asking seat) || false) (walking_set_same old.state.views seat (record view { walk = Some walk }) (slice_get_within old.state.views seat view at))
-  begun_busy old seat view (Ask walk) at asks = ap (λ b. b || false) (ap (λ b. is_walking old.state.views seat || b) (asking_set_same old.asking seat (Some walk) (slice_get_within old.asking seat None asks)) ∙ or_true (is_walking old.state.views seat))
-  begun_busy old seat view (OnObjects walk) at asks = or_true (is_busy old.state.views old.asking seat)
+  begun_busy old seat view (Ask walk) at asks = ap (λ b. b || false) (ap (λ b. is_walking old.state.views seat || b) (asking_set_same old.asking seat (Some walk) (slice_get_within old.asking seat None asks)) ∙ or-true (is_walking old.state.views seat))
+  begun_busy old seat view (OnObjects walk) at asks = or-true (is_busy old.state.views old.asking seat)
 
   pub begun_stays : (old : Now C N) (seat : ℕ) (view : SeatView C N) (start : Start C) → length (begun_at old seat view start).state.views ≡ length old.state.views
   begun_stays old seat view (OnLock walk) = length-set old.state.views seat _
@@ -116,7 +116,7 @@ module _ {C : Type 0} {N : ℕ} where
 
   pub is_whole_busy : (world : Whole C N) (seat : ℕ) → WholeIsBusy world seat → whole_busy world seat ≡ true
   is_whole_busy world seat (inl busy) = ap (λ b. b || is_some (walk_in world.objects.walks seat)) (is_busy_of world.lock seat busy)
-  is_whole_busy world seat (inr busy) = ap (λ w. is_busy world.lock.state.views world.lock.asking seat || is_some w) busy.1 ∙ or_true (is_busy world.lock.state.views world.lock.asking seat)
+  is_whole_busy world seat (inr busy) = ap (λ w. is_busy world.lock.state.views world.lock.asking seat || is_some w) busy.1 ∙ or-true (is_busy world.lock.state.views world.lock.asking seat)
 
   pub is_whole_idle : (world : Whole C N) (seat : ℕ) → WholeIsIdle world seat → whole_busy world seat ≡ false
   is_whole_idle world seat idle = (λ i. is_idle_of world.lock seat idle.0 i || is_some (idle.1 i))
