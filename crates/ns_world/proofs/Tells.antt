@@ -1,6 +1,6 @@
 -- What a step on the parts of a world, or the beginning of a call, is in that world.
 use Rattle.std.proofs.Common.{Bool, IsSome, List, None, Option, Some, [], ap, arith, drop, false, inl, inr, is_some, length, map, not, refl, slice_get, slice_set, subst, suc, sym, take, true, ℕ, ◌<◌, ◌||◌, ◌∙◌, ◌≡◌, ◌≤◌}
-use Rattle.ns_world.proofs.Below.{map-set, act_fits, append-nil, length-map, number_at, same_Some, set_again, set_here, set_same, slice_get_within, split_at, step_at}
+use Rattle.ns_world.proofs.Below.{not-true, map-set, act_fits, append-nil, length-map, number_at, same_Some, set_again, set_here, set_same, slice_get_within, split_at, step_at}
 use Rattle.ns_world.specs.Prelude.{ActFits, Acts, AnyWait, Ask, Asks, AsksFor, Await, Call, CallFits, CanTell, Cause, Commits, Cvs, Effect, EnvActFits, EnvEffect, EnvMoves, EnvNext, EnvPlain, EnvWalk, Environment, Event, Go, Goes, HasOperated, HasTold, Idle, InRound, InWait, IsFew, IsLawfulWhole}
 use Rattle.ns_world.specs.Prelude.{Limits, Lists, LookGoes, LookOver, LookStep, Looked, Looks, LooksWhere, MayShow, MayWaitOnLock, Misuses, Mode, Moves, MovesFrom, NoteStanding, Now, ObjectStanding, ObjectWalk, ObjectWords, Objects, OnLock, OnObjects, OutOfMemory, Performs, Seat, SeatLooks}
 use Rattle.ns_world.specs.Prelude.{SeatOperates, SeatView, Sees, Setup, StandsAlone, StandsBy, Start, Starts, Step, StepFits, ToldIf, Truths, WaitsOnLock, Walk, WalkFits, Whole, WholeFault, WholeIsBusy, WholeIsIdle, WholeStarts, WholeStep, Word, asked_of, asks_for_any, at_will, begun_at, came_back}
@@ -45,10 +45,6 @@ may_show (Some place) = refl
 among_asks : {C : Type 0} (walk : Walk C) → asks_for_any (asked_of walk) ≡ false → waits_among walk ≡ false
 among_asks (InWait wait place) e = e
 among_asks walk e = refl
-
-if_not : (b : Bool) → not b ≡ true → b ≡ false
-if_not false e = refl
-if_not true e = absurd (cc)
 
 -- a step on the clock and the notes leaves its seat's place on the objects, and its wait
 asked_stays_on : {C : Type 0} {N : ℕ} (walk : Option (Walk C)) (old new : EnvPlain) (seat : Seat C N) (place : EnvWalk) (next : Seat C N) (step : Step) → MovesFrom walk old new seat place next step → (next.operating ≡ seat.operating) × (next.awaits ≡ seat.awaits)
@@ -453,7 +449,7 @@ module _ {C : Type 0} {N : ℕ} (truths : Truths C) (w : Inside C N) (lawful : I
       by : (wait : Option AnyWait) → seat.awaits ≡ wait → looks_at (want_of walk) ≡ None
       by None waits =
           let alone : is_alone (Some walk) ≡ true = ap is_alone (sym walks) ∙ (alone_as waits).alone (view_of seat) view_at in
-          inside_here walk walks unasked (among_asks walk (if_not (asks_for_any (asked_of walk)) alone))
+          inside_here walk walks unasked (among_asks walk (not-true (asks_for_any (asked_of walk)) alone))
       by (Some wait) waits =
           let s = waits_as wait waits in
           let walk_is : s.walk ≡ walk = same_Some _ _ (sym (walk_as wait waits) ∙ walks) in
