@@ -242,6 +242,7 @@ module _ (C : Type 0) (N : ℕ) (before : Whole C N) (earlier : Past) (seat : �
     looks : RoundOn round left.mid past (walk_in world.objects.walks seat)
     untouched : objects_own past.objects seat ≡ objects_own earlier.objects seat
 
+  -- any call has come so far
   abbrev Has : Asked C → Past → Whole C N → Type 0
   Has (OfLock request) past world = LockUnderway request past.notes world.lock × Apart past world
   Has (OfNotes request) past world = NotesUnderway request past.notes world.lock × Apart past world
