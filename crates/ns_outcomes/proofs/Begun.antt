@@ -65,7 +65,7 @@ drawn_runs limit plan seed words q after d = record {
   end = q.progress;
   after = after;
   advances = subst (λ items. Advances plan.threads limit (start (world_for plan)) 0 items [] q.progress after) (sym (flat_map-append word_items plan.schedule words))
-      (advance_both plan.threads limit (start (world_for plan)) d.first.progress q.progress 0 d.before after (items_of plan.schedule) (items_of words) d.begun.own
+      (advance_both d.begun.own
       (drew_advances plan.threads limit _ d.drawn.ends d.first q d.before after words d.drawn.drew));
   here = refl;
   tells = refl;

@@ -1,23 +1,18 @@
 -- A wait for condition variables among notes and counters keeps the law of a whole world, by each of its steps that concern the lock: it begins to wait there, a round tells it what it has shown, or it makes a step of its own.
-use Rattle.std.proofs.Common.{◌≡◌, ℕ, ◌<◌, List, ◌++◌, Bool, true, false, cond, Option, None, Some, IsSome, is_some, length, slice_get, refl, ap, sym, ◌∙◌, subst, arith, inl}
-use Rattle.ns_world.proofs.Below.{asked_stays, same_Some, set_here, slice_get_within}
-use Rattle.ns_world.specs.Prelude.{Act, Acts, AnyWait, AreAmong, AreThere, Await, BeginsToWait, EndsLook, EnvPlain, FirstClock, Found, HasLedTo, Idle, InRound, IsLawfulWhole, IsLawfulWorld, Limits, LooksWhere, Now, ObjectWalk, OnLock, Past, PlaceFits}
-use Rattle.ns_world.specs.Prelude.{Round, SeatView, Setup, StandsBy, Step, WaitSteps, WaitsOnLock, Walk, Whole, asked_of, asks_for_any, cause_of, got_of, is_alone, items_of, look_of, looks_at, mode_of, mode_waited, round_due, shown_by, wait_first, wait_in}
-use Rattle.ns_world.specs.Prelude.{waited_after, waits_for_any, walk_after, walk_in, want_of}
-use Rattle.ns_world.proofs.AnyLooks.{LeadsOn, LooksOut, leads_on, looks_out, unlooked}
+use Rattle.std.proofs.Common.{Bool, IsSome, List, None, Option, Some, [], ap, arith, cond, false, inl, inr, is_some, length, refl, slice_get, subst, sym, true, ℕ, ◌++◌, ◌<◌, ◌∙◌, ◌∷◌, ◌≡◌}
+use Rattle.ns_world.proofs.Below.{asked_stays, first_of_all, low_if_among, ltb-true, rest_of_all, same_Some, set_here, slice_get_within, some_among}
+use Rattle.ns_world.specs.Prelude.{Acts, Any, AnyWait, AreAmong, AreThere, AreVariables, Await, BeginsToWait, Cvs, EndsLook, EnvPlain, Every, FirstClock, Found, HasLedTo, Held, Idle, InRound, IsLawfulWhole, IsLawfulWorld, IsLow, IsSettled, Item, LedTo, Limits, LooksWhere, MayWait, MayWaitOnLock}
+use Rattle.ns_world.specs.Prelude.{NoteStanding, Now, ObjectWalk, Objects, OnLock, OnVariable, Past, PlaceFits, QuietKeeps, Round, SeatView, Setup, StandsAlone, StandsBy, Step, Truths, WaitSteps, WaitsOnLock, Walk, Whole, WholeMoves, WholeStep, asked_of, asks_for_any, cause_of, got_of, is_alone}
+use Rattle.ns_world.specs.Prelude.{is_there, items_of, look_of, looks_at, mode_of, mode_waited, notes_done, objects_done, round_due, shown_by, wait_first, wait_in, waited_after, waits_for_any, walk_after, walk_in, want_of}
+use Rattle.ns_world.proofs.Looking.{LeadsOn, LooksOut, leads_on, looks_out, unlooked}
 use Rattle.ns_world.proofs.Turns.{whole_stays}
 use Rattle.ns_world.proofs.Wholes.{IsAlone, moves_alone, operates_stand, stands_nowhere, stood_lawful}
 use Rattle.ns_world.proofs.Others.{low_walks, moves_aside, moves_still, over_stood, put_stood}
-use Rattle.ns_world.specs.Prelude.{Objects, wait_in, walk_in}
-use Rattle.ns_world.proofs.EnvGrows.{led_makes}
+use Rattle.ns_world.proofs.WholeLed.{led_makes, whole_led}
 use Rattle.ns_world.proofs.WorldLaw.{begun_keeps, is_settled, moves_keep, place_fits}
 use Rattle.ns_world.proofs.Places.{StartFits}
 use Rattle.ns_word.proofs.Enters.{are_some}
 use Rattle.std.specs.List.{list_all}
-use Rattle.std.proofs.Common.{[], ◌∷◌, inr}
-use Rattle.ns_world.proofs.Below.{first_of_all, low_if_among, ltb-true, rest_of_all, some_among}
-use Rattle.ns_world.specs.Prelude.{Any, AreVariables, Cvs, Every, Held, IsLow, IsSettled, Item, MayWait, MayWaitOnLock, NoteStanding, OnCounter, OnNote, OnVariable, QuietKeeps, StandsAlone, Truths, WholeMoves, WholeStep, notes_done, objects_done, is_there}
-use Rattle.ns_world.proofs.WholeLed.{whole_led}
 
 -- which it is
 which : {A : Type 0} (o : Option A) → IsSome o → (x : A) × (o ≡ Some x)
@@ -28,17 +23,11 @@ none_if_not : {A : Type 0} (o : Option A) → is_some o ≡ false → o ≡ None
 none_if_not (Some x) e = absurd (cc)
 none_if_not None e = refl
 
--- a round by which a wait looks is where the wait is to look
-pub looks_some : {C : Type 0} (round : Round) (walk : ObjectWalk) (act : Act C) → LooksWhere round (Some walk) act → IsSome (looks_at act)
-looks_some round (InRound by place) act looks = looks.1
-looks_some round walk act looks = absurd looks
-
 -- ---- where a call may begin to wait
 
 low_if_there : (setup : Setup) (notes : ℕ → NoteStanding) (item : Item) → is_there setup notes item ≡ true → IsLow item
-low_if_there setup notes (OnNote note) is = tt
-low_if_there setup notes (OnCounter counter) is = tt
 low_if_there setup notes (OnVariable k) is = ltb-true k 4 is
+low_if_there setup notes other is = tt
 
 pub all_low : (setup : Setup) (notes : ℕ → NoteStanding) (items : List Item) → list_all (is_there setup notes) items ≡ true → Every IsLow items
 all_low setup notes [] all = tt
@@ -67,13 +56,13 @@ module _ {C : Type 0} {N : ℕ} (old new : Whole C N) (seat : ℕ) (lawful : IsL
 
   module _ (step : Step) (p : BeginsToWait old new seat step) where
     abbrev begun : SeatView C N
-    begun = record p.view { walk = Some (wait_first N (waits_for_any (mode_waited (mode_of p.view.held)) p.cvs)) }
+    begun = record p.rests.view { walk = Some (wait_first N (waits_for_any (mode_waited (mode_of p.rests.view.held)) p.cvs)) }
 
     abbrev wait_begun : AnyWait
     wait_begun = record { round = p.round; shown = None }
 
     begun_at_seat : slice_get new.lock.state.views seat ≡ Some begun
-    begun_at_seat = ap (λ (w : Now C N). slice_get w.state.views seat) p.begins ∙ set_here old.lock.state.views seat begun (slice_get_within old.lock.state.views seat p.view p.at)
+    begun_at_seat = ap (λ (w : Now C N). slice_get w.state.views seat) p.begins ∙ set_here old.lock.state.views seat begun (slice_get_within old.lock.state.views seat p.rests.view p.rests.at)
 
     begins_here : StandsBy new seat (wait_in new.objects.waits seat)
     begins_here =
@@ -81,15 +70,15 @@ module _ {C : Type 0} {N : ℕ} (old new : Whole C N) (seat : ℕ) (lawful : IsL
         let here : WaitsOnLock new seat wait_begun = record {
           view = begun;
           at = begun_at_seat;
-          walk = wait_first N (waits_for_any (mode_waited (mode_of p.view.held)) p.cvs);
+          walk = wait_first N (waits_for_any (mode_waited (mode_of p.rests.view.held)) p.cvs);
           walks = refl;
-          mode = mode_waited (mode_of p.view.held);
+          mode = mode_waited (mode_of p.rests.view.held);
           cvs = p.cvs;
           asked = refl;
           among = p.among;
-          unasked = ap (λ (w : Now C N). slice_get w.asking seat) p.begins ∙ p.unasked;
+          unasked = ap (λ (w : Now C N). slice_get w.asking seat) p.begins ∙ p.rests.unasked;
           there = there_still put.aside.setup (ap (λ (w : Now C N). w.env) p.begins) p.round (lawful.objects_lawful.each seat (InRound p.round p.place) p.walks).0;
-          looks = subst (λ w. LooksWhere p.round w (want_of (wait_first {C = C} N (waits_for_any (mode_waited (mode_of p.view.held)) p.cvs)))) (sym put.stands) refl;
+          looks = subst (λ w. LooksWhere p.round w (want_of (wait_first {C = C} N (waits_for_any (mode_waited (mode_of p.rests.view.held)) p.cvs)))) (sym put.stands) refl;
         } in
         subst (StandsBy new seat) (sym put.awaits) here
 
@@ -97,14 +86,14 @@ module _ {C : Type 0} {N : ℕ} (old new : Whole C N) (seat : ℕ) (lawful : IsL
     begun_lawful : IsLawfulWorld new.lock
     begun_lawful =
         let alone : StandsAlone old seat = subst (StandsBy old seat) p.waits_not (lawful.stands seat) in
-        let holds = subst (λ w. MayWaitOnLock w p.view.held) p.walks (alone.may p.view p.at) in
+        let holds = subst (λ w. MayWaitOnLock w p.rests.view.held) p.walks (alone.may p.rests.view p.rests.at) in
         let fits = (lawful.objects_lawful.each seat (InRound p.round p.place) p.walks).0 in
         let few : p.cvs.0 < 256 = let low = p.low in omega (arith, low) in
         let one = some_among (items_of p.round.items) p.named in
         let all = all_low old.objects.setup old.lock.env.notes (items_of p.round.items) fits.1 in
         let some = are_some p.cvs one.0 few (p.among one.0 ∙ one.1) (λ j is. low_if_among (items_of p.round.items) j all (sym (p.among j) ∙ is)) in
-        subst IsLawfulWorld (sym p.begins) (begun_keeps old.lock seat lawful.lock p.view (OnLock (wait_first N (waits_for_any (mode_waited (mode_of p.view.held)) p.cvs))) p.at p.idle p.unasked
-        (section_fits old.lock.truths old.lock.env.notes p.cvs p.view.held (holds p.named) some (is_settled old.lock seat lawful.lock p.view p.at p.idle)))
+        subst IsLawfulWorld (sym p.begins) (begun_keeps old.lock seat lawful.lock p.rests.view (OnLock (wait_first N (waits_for_any (mode_waited (mode_of p.rests.view.held)) p.cvs))) p.rests.at p.rests.idle p.rests.unasked
+        (section_fits old.lock.truths old.lock.env.notes p.cvs p.rests.view.held (holds p.named) some (is_settled old.lock seat lawful.lock p.rests.view p.rests.at p.rests.idle)))
 
   -- ---- a step of a wait that is there
 
@@ -115,7 +104,7 @@ module _ {C : Type 0} {N : ℕ} (old new : Whole C N) (seat : ℕ) (lawful : IsL
     -- a round by which it looks
     module _ (by : ObjectWalk) (stands : walk_in old.objects.walks seat ≡ Some by) where
       looks_so : IsSome (looks_at (want_of there_as.walk))
-      looks_so = looks_some wait.round by (want_of there_as.walk) (subst (λ w. LooksWhere wait.round w (want_of there_as.walk)) stands there_as.looks)
+      looks_so = (subst (λ w. LooksWhere wait.round w (want_of there_as.walk)) stands there_as.looks).1
 
       pub limits_so : (limits : Limits) × (looks_at (want_of there_as.walk) ≡ Some limits)
       limits_so = which (looks_at (want_of there_as.walk)) looks_so
@@ -223,11 +212,11 @@ module _ {C : Type 0} {N : ℕ} (old new : Whole C N) (seat : ℕ) (lawful : IsL
   step_keeps some quiet step (inl p) = subst IsLawfulWhole (sym p.1) lawful
   step_keeps some quiet step (inr p) =
       let on = (whole_led past old new seat step lawful led p).2 in
-      stood_lawful old new seat lawful (now_lawful p) (whole_stays old new seat step p) (led_makes lawful.lock.events (notes_done p) old.lock new.lock lawful.lock.env_lawful on.0)
+      stood_lawful old new seat lawful (now_lawful p on.0) (whole_stays old new seat step p) (led_makes lawful.lock.events (notes_done p) old.lock new.lock lawful.lock.env_lawful on.0)
       (moves_aside old new seat step p) (moves_still old new seat step p) (lawful.events ++ objects_done p) on.1 (stands_then step p) where
-        now_lawful : WholeMoves old new seat step → IsLawfulWorld new.lock
-        now_lawful (inl p) = moves_keep old.lock seat lawful.lock some quiet new.lock step p.moves
-        now_lawful (inr (inl p)) = subst IsLawfulWorld (sym p.same) lawful.lock
-        now_lawful (inr (inr (inl p))) = begun_lawful step p
-        now_lawful (inr (inr (inr (inl p)))) = moves_keep old.lock seat lawful.lock some quiet new.lock step (inl p.acts)
-        now_lawful (inr (inr (inr (inr p)))) = moves_keep old.lock seat lawful.lock some quiet new.lock p.told (inl p.acts)
+        now_lawful : (p : WholeMoves old new seat step) → LedTo (lawful.lock.events ++ notes_done p) new.lock → IsLawfulWorld new.lock
+        now_lawful (inl p) on = moves_keep old.lock seat lawful.lock some quiet new.lock step p.moves on
+        now_lawful (inr (inl p)) on = subst IsLawfulWorld (sym p.same) lawful.lock
+        now_lawful (inr (inr (inl p))) on = begun_lawful step p
+        now_lawful (inr (inr (inr (inl p)))) on = moves_keep old.lock seat lawful.lock some quiet new.lock step (inl p.acts) on
+        now_lawful (inr (inr (inr (inr p)))) on = moves_keep old.lock seat lawful.lock some quiet new.lock p.told (inl p.acts) on

@@ -13,9 +13,10 @@ pub use Rattle.ns_word.proofs.Calls.{looks_by_asked}
 pub use Rattle.ns_word.proofs.Numbers.{begin_at, number_at, numbers_stay, set_again, set_same, split_at, step_at}
 pub use Rattle.ns_word.proofs.Scans.{are_called, as_many, some_called, some_seats}
 pub use Rattle.ns_word.proofs.Starts.{begins, lawful_fresh, quiet_is_first, wait_is_first}
+pub use Rattle.std.proofs.Math.Bool.{or-false, or-true}
 pub use Rattle.std.proofs.Math.Seq.{take-length}
-pub use Rattle.std.proofs.lemmas.Bool.{cases_eq, cases_lt, ltb-true, ne_eqb}
-pub use Rattle.std.proofs.lemmas.List.{append-nil, append_assoc, drop_all, get_or-set_other, get_or-set_same, length-append, length-map, length-replicate, length-set, map-append, replicate-append-replicate, replicate_more, set-get_or, take-append-drop, take_more}
+pub use Rattle.std.proofs.lemmas.Bool.{cases_eq, cases_lt, ltb-true, ne_eqb, not-true}
+pub use Rattle.std.proofs.lemmas.List.{append-nil, append_assoc, drop_all, get_or-set_other, get_or-set_same, length-append, length-map, length-replicate, length-set, map-append, map-set, replicate-append-replicate, replicate_more, take-append-drop, take_more}
 pub use Rattle.std.proofs.lemmas.List.Concat.{flat_map-append}
-pub use Rattle.std.proofs.lemmas.Option.{same_Some, slice_get-get_or, slice_get_past, slice_get_within}
+pub use Rattle.std.proofs.lemmas.Option.{same_Some, slice_get-get_or, slice_get-map, slice_get_past, slice_get_within}
 pub use Rattle.std.proofs.lemmas.Result.{err_from_is_err_and}

@@ -1,18 +1,10 @@
 -- Which seats are busy, after another in the place of one, and one after another.
-use Rattle.std.proofs.Common.{◌≤◌, ◌≡◌, ℕ, zero, suc, ◌<◌, Bool, true, false, eqb, ◌||◌, List, [], ◌∷◌, Option, Some, None, is_some, length, slice_set, slice_get, refl, ap, sym, ◌∙◌, arith, eq-eqb, inl, inr, ◌+◌, map, get_or}
-use Rattle.ns_world.proofs.Below.{cases_eq, cases_lt, length-map, ne_eqb, slice_get_past}
+use Rattle.std.proofs.Common.{◌≤◌, ◌≡◌, ℕ, zero, suc, ◌<◌, Bool, true, false, eqb, ◌||◌, List, [], ◌∷◌, Option, Some, None, is_some, length, slice_set, slice_get, refl, ap, sym, ◌∙◌, arith, eq-eqb, inl, inr, ◌+◌, map}
+use Rattle.ns_world.proofs.Below.{cases_eq, cases_lt, length-map, ne_eqb, or-false, or-true, set_here, slice_get_past}
 use Rattle.std.specs.Option.{option_map_or}
 use Rattle.std.specs.Prelude.{unwrap_or}
 use Rattle.ns_world.specs.Prelude.{EnvWalk, Seat, SeatView, is_asking, is_busy, is_walking, view_of, walk_in}
 use Rattle.ns_world.proofs.Mapped.{got-map}
-
-or_false : (b : Bool) → (b || false) ≡ b
-or_false true = refl
-or_false false = refl
-
-pub or_true : (b : Bool) → (b || true) ≡ true
-or_true true = refl
-or_true false = refl
 
 -- ---- a bit of each element of a list
 
@@ -20,35 +12,30 @@ module _ {A : Type 0} (f : A → Bool) where
   abbrev bit : List A → ℕ → Bool
   bit xs i = option_map_or f (slice_get xs i) false
 
-  bit_set_same : (xs : List A) (i : ℕ) (x : A) → i < length xs → bit (slice_set xs i x) i ≡ f x
-  bit_set_same [] i x within = absurd (omega (arith, within))
-  bit_set_same (y ∷ xs) zero x within = refl
-  bit_set_same (y ∷ xs) (suc i) x within = bit_set_same xs i x (omega arith)
-
   bit_at : (xs : List A) (i : ℕ) (x : A) → slice_get xs i ≡ Some x → bit xs i ≡ f x
   bit_at xs i x e = ap (λ o. option_map_or f o false) e
 
 -- ---- calls on the clock and the notes
 
+pub asking_at : (askings : List (Option EnvWalk)) (seat : ℕ) (walk : Option EnvWalk) → slice_get askings seat ≡ Some walk → is_asking askings seat ≡ is_some walk
+asking_at askings seat walk e = bit_at is_some askings seat walk e
+
 pub asking_set_same : (askings : List (Option EnvWalk)) (i : ℕ) (walk : Option EnvWalk) → i < length askings → is_asking (slice_set askings i walk) i ≡ is_some walk
-asking_set_same askings i walk within = bit_set_same is_some askings i walk within
+asking_set_same askings i walk within = asking_at (slice_set askings i walk) i walk (set_here askings i walk within)
 
 pub asking_set_none : (askings : List (Option EnvWalk)) (i : ℕ) → is_asking (slice_set askings i None) i ≡ false
 asking_set_none [] i = refl
 asking_set_none (walk ∷ askings) zero = refl
 asking_set_none (walk ∷ askings) (suc i) = asking_set_none askings i
 
-pub asking_at : (askings : List (Option EnvWalk)) (seat : ℕ) (walk : Option EnvWalk) → slice_get askings seat ≡ Some walk → is_asking askings seat ≡ is_some walk
-asking_at askings seat walk e = bit_at is_some askings seat walk e
-
 -- ---- both
 
 module _ {C : Type 0} {N : ℕ} where
-  pub walking_set_same : (views : List (SeatView C N)) (i : ℕ) (view : SeatView C N) → i < length views → is_walking (slice_set views i view) i ≡ is_some view.walk
-  walking_set_same views i view within = bit_set_same (λ v. is_some v.walk) views i view within
-
   pub walking_at : (views : List (SeatView C N)) (seat : ℕ) (view : SeatView C N) → slice_get views seat ≡ Some view → is_walking views seat ≡ is_some view.walk
   walking_at views seat view e = bit_at (λ v. is_some v.walk) views seat view e
+
+  pub walking_set_same : (views : List (SeatView C N)) (i : ℕ) (view : SeatView C N) → i < length views → is_walking (slice_set views i view) i ≡ is_some view.walk
+  walking_set_same views i view within = walking_at (slice_set views i view) i view (set_here views i view within)
 
   -- busy with both, one and the other
   pub both : (views : List (SeatView C N)) (askings : List (Option EnvWalk)) (seat : ℕ) (w k : Bool) → is_walking views seat ≡ w → is_asking askings seat ≡ k → is_busy views askings seat ≡ (w || k)
@@ -62,9 +49,9 @@ AreFirst so i bits = (n : ℕ) → (n < i → bits n ≡ so n) × (i ≤ n → b
 
 pub first_with : (so bits more : ℕ → Bool) (i : ℕ) → ((n : ℕ) → more n ≡ (bits n || eqb n i)) → so i ≡ true → AreFirst so i bits → AreFirst so (i + 1) more
 first_with so bits more i is here first n = elim (cases_eq n i) [
-  | inl e ↦ (λ below. is n ∙ ap (λ b. bits n || b) (eq-eqb n i e) ∙ or_true (bits n) ∙ sym (ap so e ∙ here), λ past. absurd (omega (arith, e, past)))
+  | inl e ↦ (λ below. is n ∙ ap (λ b. bits n || b) (eq-eqb n i e) ∙ or-true (bits n) ∙ sym (ap so e ∙ here), λ past. absurd (omega (arith, e, past)))
   | inr ne ↦
-      let same : more n ≡ bits n = is n ∙ ap (λ b. bits n || b) (ne_eqb n i ne) ∙ or_false (bits n) in
+      let same : more n ≡ bits n = is n ∙ ap (λ b. bits n || b) (ne_eqb n i ne) ∙ or-false (bits n) in
       (λ below. same ∙ (first n).0 (omega (arith, ne, below)), λ past. same ∙ (first n).1 (omega (arith, past)))
 ]
 
@@ -82,11 +69,11 @@ module _ {C : Type 0} {N : ℕ} (seats : List (Seat C N)) where
   abbrev pub in_call : ℕ → Bool
   in_call n = is_busy (map view_of seats) (map (λ s. s.asking) seats) n || is_some (walk_in (map (λ s. s.operating) seats) n)
 
-  pub in_call_here : (i : ℕ) (seat : Seat C N) → i < length seats → seat ≡ get_or seats i seat → in_call i ≡ ((is_some seat.walk || is_some seat.asking) || is_some seat.operating)
-  in_call_here i seat within is =
-      let views = walking_at (map view_of seats) i (view_of seat) (got-map view_of seats i seat within ∙ ap (λ s. Some (view_of s)) (sym is)) in
-      let asks = asking_at (map (λ s. s.asking) seats) i seat.asking (got-map (λ s. s.asking) seats i seat within ∙ ap (λ (s : Seat C N). Some s.asking) (sym is)) in
-      let operates : walk_in (map (λ s. s.operating) seats) i ≡ seat.operating = ap (λ o. unwrap_or o None) (got-map (λ s. s.operating) seats i seat within ∙ ap (λ (s : Seat C N). Some s.operating) (sym is)) in
+  pub in_call_here : (i : ℕ) (seat : Seat C N) → slice_get seats i ≡ Some seat → in_call i ≡ ((is_some seat.walk || is_some seat.asking) || is_some seat.operating)
+  in_call_here i seat at =
+      let views = walking_at (map view_of seats) i (view_of seat) (got-map view_of seats i seat at) in
+      let asks = asking_at (map (λ s. s.asking) seats) i seat.asking (got-map (λ s. s.asking) seats i seat at) in
+      let operates : walk_in (map (λ s. s.operating) seats) i ≡ seat.operating = ap (λ o. unwrap_or o None) (got-map (λ s. s.operating) seats i seat at) in
       (λ j. both (map view_of seats) (map (λ s. s.asking) seats) i (is_some seat.walk) (is_some seat.asking) views asks j || is_some (operates j))
 
   -- who is no seat is in none

@@ -1,19 +1,18 @@
 -- No seat is past its last call.
-use Rattle.std.proofs.Common.{◌≡◌, ◌≢◌, ℕ, zero, suc, ◌+◌, ◌<◌, ◌≤◌, inl, inr, Bool, true, false, cond, List, [], ◌∷◌, None, Some, is_some, ◌||◌, Option, Vec, Global, length, map, get_or, slice_set, slice_get, slice_index, replicate, refl, ap, sym, ◌∙◌, subst, arith}
+use Rattle.std.proofs.Common.{Bool, Global, List, None, Option, Some, Vec, [], ap, arith, cond, false, inl, inr, is_some, length, map, refl, replicate, slice_get, slice_index, slice_set, subst, suc, sym, true, zero, ℕ, ◌+◌, ◌<◌, ◌||◌, ◌∙◌, ◌∷◌, ◌≡◌, ◌≢◌, ◌≤◌}
 use Rattle.std.specs.Prelude.{All, IfSome}
 use Rattle.ns_world.proofs.Below.{cases_eq, get_or-set_other, get_or-set_same, length-set, put_none, slice_get_within}
-use Rattle.std.proofs.lemmas.List.Elements.{All-head, All-tail, All-nil}
-use Rattle.ns_world.specs.Prelude.{Acts, AnyWait, Awaits, Call, CallInRange, Counts, EnvNext, Finished, Go, Goes, GoesOnOrBegins, IsCounted, Line, ListFits, LookGoes, LookOver, Moves, Next, Now, ObjectNext, ObjectWalk, Objects, On, Progress, Reply}
-use Rattle.ns_world.specs.Prelude.{Step, TurnOf, Went, Whole, WholeMoves, calls_of, env_got_of, env_step_of, env_walk_after, got_of, is_asking, is_busy, is_for_lock, is_walking, look_of, object_after, object_got, object_step_of, progress}
-use Rattle.ns_world.specs.Prelude.{progressed, shown_by, step_of, step_told, stood_at, wait_in, waited_after, walk_after, walk_in, whole_busy}
+use Rattle.std.proofs.lemmas.List.Elements.{All-head, All-nil, All-tail}
+use Rattle.ns_world.specs.Prelude.{Acts, AnyWait, Awaits, Call, CallInRange, Counts, EnvNext, EnvWalk, Finished, Go, Goes, GoesOnOrBegins, IsCounted, Line, ListFits, LookGoes, LookOver, Moves, Next, Now, ObjectNext, ObjectWalk, Objects, Progress, Reply, SeatView, Step, TurnOf, Went, Whole}
+use Rattle.ns_world.specs.Prelude.{WholeMoves, calls_of, env_got_of, env_step_of, env_walk_after, got_of, is_asking, is_busy, is_for_lock, is_walking, look_of, object_after, object_got, object_step_of, progress, progressed, shown_by, step_of, step_told, stood_at, wait_in, waited_after, walk_after}
+use Rattle.ns_world.specs.Prelude.{walk_in, whole_busy}
 use Rattle.ns_word.specs.declared.walk.Next.TheVariants.{Done}
-use Rattle.ns_env.specs.declared.walk.EnvNext.TheVariants.{Repeat, Over}
-use Rattle.ns_world.proofs.Busy.{both, walking_at, walking_set_same, asking_set_same, asking_set_none}
+use Rattle.ns_env.specs.declared.walk.EnvNext.TheVariants.{Over}
+use Rattle.ns_world.proofs.Busy.{asking_set_none, asking_set_same, both, walking_at, walking_set_same}
 use Rattle.ns_world.proofs.Turns.{is_idle_of, is_whole_busy, is_whole_idle}
+use Rattle.ns_world.proofs.Fresh.{each_same}
 use Rattle.ns_world.proofs.Others.{Still, moves_still, starts_still}
 use Rattle.std.specs.Option.{option_map_or}
-use Rattle.ns_world.specs.Prelude.{EnvWalk, SeatView}
-use Rattle.ns_word.specs.declared.walk.Next.TheVariants as TheNext
 use Rattle.ns_counters.specs.declared.walk.ObjectNext.TheVariants as TheObject
 
 -- ---- the lists
@@ -38,46 +37,41 @@ bit_most false = omega arith
 
 -- a call that is over leaves its seat idle
 over_idle : {C : Type 0} (next : Next C) (reply : Reply) → Finished reply ≡ step_of next → walk_after next ≡ None
-over_idle (On walk) reply e = absurd (cc)
-over_idle (TheNext.Idle walk) reply e = absurd (cc)
 over_idle (Done answer) reply e = refl
+over_idle next reply e = absurd (cc)
 
 over_unasked : (next : EnvNext) (reply : Reply) → Finished reply ≡ env_step_of next → is_some (env_walk_after next) ≡ false
-over_unasked (Go walk) reply e = absurd (cc)
-over_unasked (Repeat walk) reply e = absurd (cc)
 over_unasked (Over answer) reply e = refl
 over_unasked (LookOver cause) reply e = refl
+over_unasked next reply e = absurd (cc)
 
 -- a call on counters and once cells that is over leaves its seat nowhere
 over_nowhere : (next : ObjectNext) (reply : Reply) → Finished reply ≡ object_step_of next → object_after next ≡ None
-over_nowhere (TheObject.Go walk) reply e = absurd (cc)
-over_nowhere (TheObject.Repeat walk) reply e = absurd (cc)
 over_nowhere (TheObject.Over answer) reply e = refl
+over_nowhere next reply e = absurd (cc)
 
 -- who waits for a set of variables is told nothing by the last step of a round
 waits_nowhere : (wait : Option AnyWait) (walk : ObjectWalk) (reply : Reply) → is_for_lock wait walk (Finished reply) ≡ false → wait ≡ None
 waits_nowhere None walk reply not = refl
 waits_nowhere (Some wait) walk reply not = absurd (cc)
 
-set_others : (over : List ℕ) (seat n other : ℕ) → other ≢ seat → slice_index (slice_set over seat n) other ≡ slice_index over other
-set_others over seat n other ne = get_or-set_other over seat other n 0 ne
-
-zeros : (n i : ℕ) → ◌≡◌ {A = ℕ} (get_or (replicate n 0) i 0) 0
-zeros zero i = refl
-zeros (suc n) zero = refl
-zeros (suc n) (suc i) = zeros n i
-
 module _ {C : Type 0} {N : ℕ} where
   -- a seat and its count change, and no other's
-  changes : (old new : Whole C N) (over over' : List ℕ) (seat : ℕ) →
-      ((other : ℕ) → other ≢ seat → whole_busy new other ≡ whole_busy old other) → ((other : ℕ) → other ≢ seat → slice_index over' other ≡ slice_index over other) →
-      slice_index over' seat + cond (whole_busy new seat) 1 0 ≤ 256 →
-      ((other : ℕ) → slice_index over other + cond (whole_busy old other) 1 0 ≤ 256) → (other : ℕ) → slice_index over' other + cond (whole_busy new other) 1 0 ≤ 256
-  changes old new over over' seat same count here p other =
-      elim (cases_eq other seat) [
-        | inl e ↦ subst (λ n. slice_index over' n + cond (whole_busy new n) 1 0 ≤ 256) (sym e) here
-        | inr ne ↦ rw (same other ne, count other ne) (p other)
-      ]
+  changes : (old new : Whole C N) (over over' : List ℕ) (seat : ℕ) → length over' ≡ length over → ((other : ℕ) → other ≢ seat → whole_busy new other ≡ whole_busy old other) → ((other : ℕ) → other ≢ seat → slice_index over' other ≡ slice_index over other) →
+      slice_index over' seat + cond (whole_busy new seat) 1 0 ≤ 256 → IsCounted old over → IsCounted new over'
+  changes old new over over' seat long same count here c = record {
+    many = long ∙ c.many;
+    most = λ other. elim (cases_eq other seat) [
+      | inl e ↦ subst (λ n. slice_index over' n + cond (whole_busy new n) 1 0 ≤ 256) (sym e) here
+      | inr ne ↦ rw (same other ne, count other ne) (c.most other)
+    ];
+  }
+
+  -- one more call of the seat is over, which leaves it idle
+  one_over : (old new : Whole C N) (over : List ℕ) (seat : ℕ) → seat < 64 → ((other : ℕ) → other ≢ seat → whole_busy new other ≡ whole_busy old other) → whole_busy new seat ≡ false → slice_index over seat + 1 ≤ 256 →
+      IsCounted old over → IsCounted new (slice_set over seat (slice_index over seat + 1))
+  one_over old new over seat low same idle below c = changes old new over (slice_set over seat (slice_index over seat + 1)) seat (length-set over seat _) same (λ other ne. get_or-set_other over seat other (slice_index over seat + 1) 0 ne)
+      (rw (idle, get_or-set_same over seat (slice_index over seat + 1) 0 (omega (arith, c.many, low))) (omega (arith, below))) c
 
   -- a seat of which nothing has changed is as busy as it was
   busy_still : (old new : Whole C N) (other : ℕ) → Still other old new → whole_busy new other ≡ whole_busy old other
@@ -148,42 +142,26 @@ module _ {C : Type 0} {N : ℕ} where
   -- a turn keeps the count
   pub turn_counted : (lists : List (List (Call C))) (p q : Progress C N) (seat : ℕ) (step : Step) → length (calls_of lists seat) ≤ 256 → seat < 64 → TurnOf lists p seat step q →
       IsCounted p.world p.over → IsCounted q.world q.over
-  turn_counted lists p q seat (Finished reply) few low (inl t) c =
-      subst (λ (x : Progress C N). IsCounted x.world x.over) (sym t.after) (record {
-        many = length-set p.over seat _ ∙ c.many;
-        most = changes p.world t.world p.over (slice_set p.over seat (slice_index p.over seat + 1)) seat
-            (λ other ne. busy_still t.begun t.world other (moves_still t.begun t.world seat (Finished reply) t.moves other ne) ∙ leads_others lists p seat t.begun t.leads other ne)
-            (λ other ne. set_others p.over seat (slice_index p.over seat + 1) other ne)
-            (rw (whole_over t.begun t.world seat reply t.moves, get_or-set_same p.over seat (slice_index p.over seat + 1) 0 (omega (arith, c.many, low)))
-            (let below = leads_below lists p seat t.begun few t.leads (c.most seat) in omega (arith, below)))
-            c.most;
-      })
-  turn_counted lists p q seat step few low (inl t) c =
-      subst (λ (x : Progress C N). IsCounted x.world x.over) (sym t.after) (record {
-        many = c.many;
-        most = changes p.world t.world p.over p.over seat
-            (λ other ne. busy_still t.begun t.world other (moves_still t.begun t.world seat step t.moves other ne) ∙ leads_others lists p seat t.begun t.leads other ne)
-            (λ other ne. refl)
-            (let below = leads_below lists p seat t.begun few t.leads (c.most seat) in omega (arith, below, bit_most (whole_busy t.world seat)))
-            c.most;
-      })
+  turn_counted lists p q seat step few low (inl t) c = subst (λ (x : Progress C N). IsCounted x.world x.over) (sym t.after) (by step t.moves) where
+    below : slice_index p.over seat + 1 ≤ 256
+    below = leads_below lists p seat t.begun few t.leads (c.most seat)
+
+    others : (step : Step) → WholeMoves t.begun t.world seat step → (other : ℕ) → other ≢ seat → whole_busy t.world other ≡ whole_busy p.world other
+    others step moves other ne = busy_still t.begun t.world other (moves_still t.begun t.world seat step moves other ne) ∙ leads_others lists p seat t.begun t.leads other ne
+
+    by : (step : Step) → WholeMoves t.begun t.world seat step → IsCounted (progressed p seat step t.world).world (progressed p seat step t.world).over
+    by (Finished reply) moves = one_over p.world t.world p.over seat low (others (Finished reply) moves) (whole_over t.begun t.world seat reply moves) below c
+    by step moves = changes p.world t.world p.over p.over seat refl (others step moves) (λ other ne. refl) (omega (arith, below, bit_most (whole_busy t.world seat))) c
   turn_counted lists p q seat step few low (inr (inl t)) c =
-      subst (λ (x : Progress C N). IsCounted x.world x.over) (sym t.after) (record {
-        many = length-set p.over seat _ ∙ c.many;
-        most = changes p.world p.world p.over (slice_set p.over seat (slice_index p.over seat + 1)) seat
-            (λ other ne. refl)
-            (λ other ne. set_others p.over seat (slice_index p.over seat + 1) other ne)
-            (let within = slice_get_within (calls_of lists seat) (slice_index p.over seat) t.call t.next in
-            let r = t.refused.1 in
-            let idle = is_whole_idle p.world seat (record { view = r.view; at = r.at; idle = r.idle; unasked = r.unasked }, t.refused.2) in
-            rw (idle, get_or-set_same p.over seat (slice_index p.over seat + 1) 0 (omega (arith, c.many, low))) (omega (arith, within, few)))
-            c.most;
-      })
+      let within = slice_get_within (calls_of lists seat) (slice_index p.over seat) t.call t.next in
+      let r = t.refused.1 in
+      let idle = is_whole_idle p.world seat (record { view = r.view; at = r.at; idle = r.idle; unasked = r.unasked }, t.refused.2) in
+      subst (λ (x : Progress C N). IsCounted x.world x.over) (sym t.after) (one_over p.world p.world p.over seat low (λ other ne. refl) idle (omega (arith, within, few)) c)
   turn_counted lists p q seat step few low (inr (inr t)) c = subst (λ (x : Progress C N). IsCounted x.world x.over) (sym t.after) c
 
   -- before the first turn
   pub start_counted : (world : Whole C N) → ((seat : ℕ) → whole_busy world seat ≡ false) → IsCounted world (replicate 64 0)
-  start_counted world idle = record { many = refl; most = λ seat. rw (idle seat, zeros 64 seat) (omega arith) }
+  start_counted world idle = record { many = refl; most = λ seat. rw (idle seat, each_same {A = ℕ} 0 64 seat) (omega arith) }
 
   counts_now : (world new : Whole C N) (over over' : List ℕ) (lines lines' : List Line) (seat : ℕ) (step : Step) → Counts over lines seat step (slice_index new.lock.tests seat) over' lines' →
       progress new over' lines' ≡ progressed (progress world over lines) seat step new

@@ -21,23 +21,19 @@ seat_moved {C} {N} made x first n all number walk held owed some p =
     let is : view_of x ≡ record { seat = first; walk = None; held = None; owed = [] } = rw (number, walk, held, owed) refl in
     moved view_of made x (fresh_views first n) (fresh_views (first + 1) (n - 1)) all (views_next first n some ∙ ap (λ v. v ∷ fresh_views {C = C} {N = N} (first + 1) (n - 1)) (sym is)) p
 
--- no flag is set
-no_flag : (n seat : ℕ) → ◌≡◌ {A = ℕ} (get_or (replicate n 0) seat 0) 0
-no_flag zero seat = refl
-no_flag (suc n) zero = refl
-no_flag (suc n) (suc seat) = no_flag n seat
+-- where all are the same, so is each
+pub each_same : {A : Type 0} (x : A) (n i : ℕ) → get_or (replicate n x) i x ≡ x
+each_same x zero i = refl
+each_same x (suc n) zero = refl
+each_same x (suc n) (suc i) = each_same x n i
 
+-- no flag is set
 pub no_flags : ◌≡◌ {A = ℕ → ℕ} (flag_at (replicate 64 0)) (λ seat. 0)
-no_flags i seat = no_flag 64 seat i
+no_flags i seat = each_same 0 64 seat i
 
 -- there is no note
-no_note_of : (n note : ℕ) → standing_of (get_or (replicate n (state_of no_note)) note (state_of no_note)) ≡ no_note
-no_note_of zero note = refl
-no_note_of (suc n) zero = refl
-no_note_of (suc n) (suc note) = no_note_of n note
-
 pub no_notes : ◌≡◌ {A = ℕ → NoteStanding} (note_at (replicate 64 (state_of no_note))) (λ note. no_note)
-no_notes i note = no_note_of 64 note i
+no_notes i note = standing_of (each_same (state_of no_note) 64 note i)
 
 module _ (C : Type 0) (N : ℕ) where
   pub length_views : (first n : ℕ) → length (fresh_views {C = C} {N = N} first n) ≡ n

@@ -151,7 +151,7 @@ module _ {C : Type 0} {N : ℕ} (old new : Whole C N) (seat : ℕ) where
   lock_still : (step : Step) → WholeMoves old new seat step → (other : ℕ) → other ≢ seat → Untouched other old.lock new.lock
   lock_still step (inl p) other ne = moves_there other old.lock new.lock seat step ne p.moves
   lock_still step (inr (inl p)) other ne = subst (λ (world : Now C N). Untouched other old.lock world) (sym p.same) (same_world other old.lock)
-  lock_still step (inr (inr (inl p))) other ne = subst (λ (world : Now C N). Untouched other old.lock world) (sym p.begins) (begun_there other old.lock seat p.view (OnLock _) ne)
+  lock_still step (inr (inr (inl p))) other ne = subst (λ (world : Now C N). Untouched other old.lock world) (sym p.begins) (begun_there other old.lock seat p.rests.view (OnLock _) ne)
   lock_still step (inr (inr (inr (inl p)))) other ne = moves_there other old.lock new.lock seat step ne (inl p.acts)
   lock_still step (inr (inr (inr (inr p)))) other ne = moves_there other old.lock new.lock seat p.told ne (inl p.acts)
 

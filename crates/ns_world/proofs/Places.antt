@@ -1,9 +1,17 @@
 -- Where calls begin, and what acts may be made.
-use Rattle.std.proofs.Common.{◌≡◌, ℕ, ◌-◌, ◌<◌, ◌≤◌, Bool, true, false, cond, Option, Some, None, List, [], ◌∷◌, refl, arith, nat_lt}
+use Rattle.std.proofs.Common.{subst, sym, ◌≡◌, ℕ, ◌-◌, ◌<◌, ◌≤◌, Bool, true, false, cond, Option, Some, None, List, [], ◌∷◌, refl, arith, nat_lt}
 use Rattle.std.proofs.lemmas.Bool.Decides.{nat_tests}
+use Rattle.std.specs.Prelude.{MatchOption}
 use Rattle.ns_world.specs.Prelude.{Act, ActFits, ArmFlag, Ask, Broadcast, Call, CallFits, CallInRange, CanLeave, CvWait, Expiry, Get, HasMode, Held, IfMade, InCells, InQueuing, InWait, IsFirst, IsFirstAsk, IsNotified, IsSettled, Limits, Load, LoadFlag, Lock, MayWait, Mode, NewNote, NoteStanding}
 use Rattle.ns_world.specs.Prelude.{NoteWait, Notify, OnCondition, OnEntry, OnLock, OnObjects, OnVariables, Only, Owed, OwesOne, Part, PayWake, PlaceFits, QuietCells, QuietLast, RLock, RUnlock, Read, Reader, ReturnQueues, Set, Setup, Signal, Start, Subject, TestCells, TestLast, ToRelease, Truths}
 use Rattle.ns_world.specs.Prelude.{TryLock, TryRLock, Unlock, UnlockQuiet, Wait, WaitFor, WaitReturning, Write, Writer, looks_at, mode_of, note_in, start_of, want_of}
+
+-- a call that begins where a test says that its need is met
+pub begins_where : {C : Type 0} (n : ℕ) (setup : Setup) (notes : ℕ → NoteStanding) (call : Call C) (mode : Option Mode) (met : Bool) (start : Start C) (r : Option (Start C)) → r ≡ cond met (Some start) None →
+    start ≡ start_of n mode call → (met ≡ true → CallFits setup notes call mode) → (CallFits setup notes call mode → met ≡ true) →
+    MatchOption r (CallFits setup notes call mode → ⊥) (λ s. (s ≡ start_of n mode call) × CallFits setup notes call mode)
+begins_where n setup notes call mode true start r e is fits needs = subst (λ o. MatchOption o (CallFits setup notes call mode → ⊥) (λ s. (s ≡ start_of n mode call) × CallFits setup notes call mode)) (sym e) (is, fits refl)
+begins_where n setup notes call mode false start r e is fits needs = subst (λ o. MatchOption o (CallFits setup notes call mode → ⊥) (λ s. (s ≡ start_of n mode call) × CallFits setup notes call mode)) (sym e) (λ p. let no = needs p in absurd (cc))
 
 -- the first place of a call goes with the seat and the notes
 abbrev pub StartFits : {C : Type 0} {N : ℕ} → Truths C → (ℕ → NoteStanding) → Start C → Option (Held C N) → Type 0

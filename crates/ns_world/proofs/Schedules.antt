@@ -1,7 +1,7 @@
 -- Turns that follow a schedule, piece by piece.
 use Rattle.std.proofs.Common.{◌≡◌, ℕ, inl, inr, append_assoc, suc, ◌+◌, ◌<◌, ◌≤◌, Bool, true, false, cond, eqb, List, [], ◌∷◌, ◌++◌, None, Some, length, refl, ap, sym, ◌∙◌, subst, arith, add-zero, length-append, eq-eqb, ◌-◌, replicate, get_or, take, drop, drop-cons}
 use Rattle.ns_world.proofs.Below.{append-nil, flat_map-append, replicate-append-replicate, replicate_more, take-append-drop, take_more}
-use Rattle.ns_world.specs.Prelude.{Advances, Call, EndFinished, Fault, Finished, IsFinished, NoSuchSeat, OutOfMemory, Progress, Step, StepLimit, Stops, StopsFor, TooManySeats, Turn, TurnFault, TurnOf, Turned, TurnsOf, Whole, is_end, rest_of, word_items}
+use Rattle.ns_world.specs.Prelude.{Advances, Call, EndFinished, Fault, Finished, IsFinished, NoSuchSeat, OutOfMemory, Progress, Step, Stops, StopsFor, Turn, TurnFault, TurnOf, Turned, TurnsOf, Whole, is_end, rest_of, word_items}
 use Rattle.ns_world.specs.Runs.{Item, items_of}
 
 -- ---- what is left of the items
@@ -49,178 +49,137 @@ rest_one item step = rw (eq-eqb item.seat item.seat refl) (one_by (is_end item.w
 ends_after : (front turns : List Turned) → EndFinished turns → EndFinished (front ++ turns)
 ends_after front turns e = record { earlier = front ++ e.earlier; seat = e.seat; reply = e.reply; last = ap (λ ts. front ++ ts) e.last ∙ sym (append_assoc front e.earlier (record { seat = e.seat; step = Finished e.reply } ∷ [])) }
 
-module _ {C : Type 0} {N : ℕ} (lists : List (List (Call C))) where
-  -- ---- turns
+turns_join : {C : Type 0} {N : ℕ} (lists : List (List (Call C))) (p q r : Progress C N) (a b : List Turned) → TurnsOf lists p a q → TurnsOf lists q b r → TurnsOf lists p (a ++ b) r
+turns_join lists p q r [] b s t = subst (λ x. TurnsOf lists x b r) s t
+turns_join lists p q r (turned ∷ a) b s t = (s.0, s.1, turns_join lists s.0 q r a b s.2 t)
 
-  turns_join : (p q r : Progress C N) (a b : List Turned) → TurnsOf lists p a q → TurnsOf lists q b r → TurnsOf lists p (a ++ b) r
-  turns_join p q r [] b s t = subst (λ x. TurnsOf lists x b r) s t
-  turns_join p q r (turned ∷ a) b s t = (s.0, s.1, turns_join s.0 q r a b s.2 t)
+-- a run stops for the same where more items are left
+stops_for_more : {C : Type 0} {N : ℕ} (limit : ℕ) (world : Whole C N) (made : ℕ) (turns : List Turned) (left more : List Item) (fault : Fault) → StopsFor limit world made turns left fault → StopsFor limit world made turns (left ++ more) fault
+stops_for_more limit world made turns [] more OutOfMemory (inl p) = absurd p
+stops_for_more limit world made turns [] more OutOfMemory (inr p) = inr p
+stops_for_more limit world made turns [] more other p = absurd p
+stops_for_more limit world made turns (item ∷ left) more other p = p
 
-  module _ (limit : ℕ) where
-    -- ---- from a progress to another
+-- and turns before
+stops_for_after : {C : Type 0} {N : ℕ} (limit : ℕ) (world : Whole C N) (made : ℕ) (front turns : List Turned) (left : List Item) (fault : Fault) → StopsFor limit world made turns left fault → StopsFor limit world made (front ++ turns) left fault
+stops_for_after limit world made front turns left OutOfMemory (inl p) = inl p
+stops_for_after limit world made front turns left OutOfMemory (inr p) = inr (ends_after front turns p)
+stops_for_after limit world made front turns (item ∷ left) other p = p
+stops_for_after limit world made front turns [] other p = absurd p
 
-    -- no turn
-    pub advance_none : (p : Progress C N) (before : ℕ) (items : List Item) → before ≤ limit → Advances lists limit p before items items p before
-    advance_none p before items within = record { turns = []; made = refl; rest = refl; count = sym (add-zero before); within = within }
+module _ {C : Type 0} {N : ℕ} {lists : List (List (Call C))} {limit : ℕ} where
+  -- ---- from a progress to another
 
-    -- one turn, of the first item
-    pub advance_one : (p q : Progress C N) (before seat : ℕ) (whole : Bool) (step : Step) → TurnOf lists p seat step q → before + 1 ≤ limit →
-        Advances lists limit p before (record { seat = seat; whole = whole } ∷ []) (cond (is_end whole step) [] (record { seat = seat; whole = whole } ∷ [])) q (before + 1)
-    advance_one p q before seat whole step turn within = record {
-      turns = record { seat = seat; step = step } ∷ [];
-      made = (q, turn, refl);
-      rest = rest_one (record { seat = seat; whole = whole }) step;
-      count = refl;
-      within = within;
-    }
+  -- no turn
+  pub advance_none : {p : Progress C N} {before : ℕ} {items : List Item} → before ≤ limit → Advances lists limit p before items items p before
+  advance_none {before = before} within = record { turns = []; made = refl; rest = refl; count = sym (add-zero before); within = within }
 
-    -- turns after others
-    pub advance_join : (p q r : Progress C N) (before mid behind : ℕ) (items left rest : List Item) →
-        Advances lists limit p before items left q mid → Advances lists limit q mid left rest r behind → Advances lists limit p before items rest r behind
-    advance_join p q r before mid behind items left rest a b = record {
-      turns = a.turns ++ b.turns;
-      made = turns_join p q r a.turns b.turns a.made b.made;
-      rest = rest_join a.turns b.turns items left a.rest ∙ b.rest;
-      count = let both = length-append a.turns b.turns in omega (arith, a.count, b.count, both);
-      within = b.within;
-    }
+  -- one turn, of the first item
+  pub advance_one : {p q : Progress C N} {before seat : ℕ} {whole : Bool} (step : Step) → TurnOf lists p seat step q → before + 1 ≤ limit →
+      Advances lists limit p before (record { seat = seat; whole = whole } ∷ []) (cond (is_end whole step) [] (record { seat = seat; whole = whole } ∷ [])) q (before + 1)
+  advance_one {q = q} {seat = seat} {whole = whole} step turn within =
+      record { turns = record { seat = seat; step = step } ∷ []; made = (q, turn, refl); rest = rest_one (record { seat = seat; whole = whole }) step; count = refl; within = within }
 
-    -- one turn more of an item that goes on, which ends it or leaves it
-    pub advance_item : (p q r : Progress C N) (before mid behind seat : ℕ) (whole ends : Bool) (step : Step) →
-        Advances lists limit p before (record { seat = seat; whole = whole } ∷ []) (record { seat = seat; whole = whole } ∷ []) q mid →
-        TurnOf lists q seat step r → ends ≡ is_end whole step → (behind ≡ mid + 1) × (behind ≤ limit) →
-        Advances lists limit p before (record { seat = seat; whole = whole } ∷ []) (cond ends [] (record { seat = seat; whole = whole } ∷ [])) r behind
-    advance_item p q r before mid behind seat whole ends step a turn e count =
-        let item : Item = record { seat = seat; whole = whole } in
-        rw (e, count.0) (advance_join p q r before mid (mid + 1) (item ∷ []) (item ∷ []) _ a (advance_one q r mid seat whole step turn (omega (arith, count.0, count.1))))
+  -- turns after others
+  pub advance_join : {p q r : Progress C N} {before mid behind : ℕ} {items left rest : List Item} →
+      Advances lists limit p before items left q mid → Advances lists limit q mid left rest r behind → Advances lists limit p before items rest r behind
+  advance_join {p} {q} {r} {items = items} {left = left} a b = record {
+    turns = a.turns ++ b.turns;
+    made = turns_join lists p q r a.turns b.turns a.made b.made;
+    rest = rest_join a.turns b.turns items left a.rest ∙ b.rest;
+    count = let both = length-append a.turns b.turns in omega (arith, a.count, b.count, both);
+    within = b.within;
+  }
 
-    -- items more at the end
-    pub advance_more : (p q : Progress C N) (before behind : ℕ) (items left more : List Item) →
-        Advances lists limit p before items left q behind → Advances lists limit p before (items ++ more) (left ++ more) q behind
-    advance_more p q before behind items left more a = record { turns = a.turns; made = a.made; rest = rest_more a.turns items left more a.rest; count = a.count; within = a.within }
+  -- one turn more of an item that goes on, which ends it or leaves it
+  pub advance_item : {p q r : Progress C N} {before mid behind seat : ℕ} {whole ends : Bool} (step : Step) → Advances lists limit p before (record { seat = seat; whole = whole } ∷ []) (record { seat = seat; whole = whole } ∷ []) q mid →
+      TurnOf lists q seat step r → ends ≡ is_end whole step → (behind ≡ mid + 1) × (behind ≤ limit) →
+      Advances lists limit p before (record { seat = seat; whole = whole } ∷ []) (cond ends [] (record { seat = seat; whole = whole } ∷ [])) r behind
+  advance_item {q = q} {r = r} step a turn e count = rw (e, count.0) (advance_join a (advance_one {p = q} {q = r} step turn (omega (arith, count.0, count.1))))
 
-    -- all of the items, and then all of more
-    pub advance_both : (p q r : Progress C N) (before mid behind : ℕ) (items more : List Item) →
-        Advances lists limit p before items [] q mid → Advances lists limit q mid more [] r behind → Advances lists limit p before (items ++ more) [] r behind
-    advance_both p q r before mid behind items more a b = advance_join p q r before mid behind (items ++ more) more [] (advance_more p q before mid items [] more a) b
+  -- items more at the end
+  pub advance_more : {p q : Progress C N} {before behind : ℕ} {items left : List Item} (more : List Item) → Advances lists limit p before items left q behind → Advances lists limit p before (items ++ more) (left ++ more) q behind
+  advance_more {items = items} {left = left} more a = record { turns = a.turns; made = a.made; rest = rest_more a.turns items left more a.rest; count = a.count; within = a.within }
 
-    -- ---- where a run stops
+  -- all of the items, and then all of more
+  pub advance_both : {p q r : Progress C N} {before mid behind : ℕ} {items more : List Item} → Advances lists limit p before items [] q mid → Advances lists limit q mid more [] r behind → Advances lists limit p before (items ++ more) [] r behind
+  advance_both {more = more} a b = advance_join (advance_more more a) b
 
-    stops_for_more : (world : Whole C N) (made : ℕ) (turns : List Turned) (left more : List Item) (fault : Fault) → StopsFor limit world made turns left fault → StopsFor limit world made turns (left ++ more) fault
-    stops_for_more world made turns [] more OutOfMemory (inl p) = absurd p
-    stops_for_more world made turns [] more OutOfMemory (inr p) = inr p
-    stops_for_more world made turns [] more NoSuchSeat p = absurd p
-    stops_for_more world made turns [] more StepLimit p = absurd p
-    stops_for_more world made turns [] more TooManySeats p = absurd p
-    stops_for_more world made turns (item ∷ left) more other p = p
+  -- ---- where a run stops
 
-    -- turns before
-    stops_for_after : (world : Whole C N) (made : ℕ) (front turns : List Turned) (left : List Item) (fault : Fault) → StopsFor limit world made turns left fault → StopsFor limit world made (front ++ turns) left fault
-    stops_for_after world made front turns left OutOfMemory (inl p) = inl p
-    stops_for_after world made front turns left OutOfMemory (inr p) = inr (ends_after front turns p)
-    stops_for_after world made front turns (item ∷ left) NoSuchSeat p = p
-    stops_for_after world made front turns (item ∷ left) StepLimit p = p
-    stops_for_after world made front turns (item ∷ left) TooManySeats p = p
-    stops_for_after world made front turns [] other p = absurd p
+  -- at once
+  pub stops_now : {p : Progress C N} {before : ℕ} {items : List Item} (fault : Fault) → before ≤ limit → StopsFor limit p.world before [] items fault → Stops lists limit p before items p.world fault
+  unfolding advance_none
+  stops_now {p} {before} {items} fault within why = record { left = items; end = p; after = before; advances = advance_none within; here = refl; why = why }
 
-    -- at once
-    pub stops_now : (p : Progress C N) (before : ℕ) (items : List Item) (fault : Fault) → before ≤ limit → StopsFor limit p.world before [] items fault → Stops lists limit p before items p.world fault
-    unfolding advance_none
-    stops_now p before items fault within why = record { left = items; end = p; after = before; advances = advance_none p before items within; here = refl; why = why }
+  -- where a turn was refused
+  pub turn_stops : {p : Progress C N} {before seat : ℕ} {whole : Bool} {world : Whole C N} (fault : Fault) → before ≤ limit → (world ≡ p.world) × TurnFault p.world seat fault → Stops lists limit p before (record { seat = seat; whole = whole } ∷ []) world fault
+  turn_stops {p} {before} {seat} {whole} OutOfMemory within e = subst (λ w. Stops lists limit p before (record { seat = seat; whole = whole } ∷ []) w OutOfMemory) (sym e.0) (stops_now OutOfMemory within (inl e.1))
+  turn_stops {p} {before} {seat} {whole} NoSuchSeat within e = subst (λ w. Stops lists limit p before (record { seat = seat; whole = whole } ∷ []) w NoSuchSeat) (sym e.0) (stops_now NoSuchSeat within e.1)
+  turn_stops other within e = absurd e.1
 
-    -- where a turn was refused
-    pub turn_stops : (p : Progress C N) (before seat : ℕ) (whole : Bool) (world : Whole C N) (fault : Fault) → before ≤ limit → (world ≡ p.world) × TurnFault p.world seat fault →
-        Stops lists limit p before (record { seat = seat; whole = whole } ∷ []) world fault
-    turn_stops p before seat whole world OutOfMemory within e = subst (λ w. Stops lists limit p before (record { seat = seat; whole = whole } ∷ []) w OutOfMemory) (sym e.0) (stops_now p before (record { seat = seat; whole = whole } ∷ []) OutOfMemory within (inl e.1))
-    turn_stops p before seat whole world NoSuchSeat within e = subst (λ w. Stops lists limit p before (record { seat = seat; whole = whole } ∷ []) w NoSuchSeat) (sym e.0) (stops_now p before (record { seat = seat; whole = whole } ∷ []) NoSuchSeat within e.1)
-    turn_stops p before seat whole world TooManySeats within e = absurd e.1
-    turn_stops p before seat whole world StepLimit within e = absurd e.1
+  -- where a turn was made, and there was no memory to tell it
+  pub untold_stops : {p q : Progress C N} {before seat : ℕ} {whole : Bool} (step : Step) {world : Whole C N} → TurnOf lists p seat step q → IsFinished step → before + 1 ≤ limit → q.world ≡ world →
+      Stops lists limit p before (record { seat = seat; whole = whole } ∷ []) world OutOfMemory
+  unfolding advance_one
+  untold_stops {q = q} {before = before} {seat = seat} (Finished reply) turn finished within e =
+      record { left = []; end = q; after = before + 1; advances = advance_one (Finished reply) turn within; here = e; why = inr (record { earlier = []; seat = seat; reply = reply; last = refl }) }
+  untold_stops step turn finished within e = absurd finished
 
-    -- where a turn was made, and there was no memory to tell it
-    pub untold_stops : (p q : Progress C N) (before seat : ℕ) (whole : Bool) (step : Step) (world : Whole C N) → TurnOf lists p seat step q → IsFinished step → before + 1 ≤ limit → q.world ≡ world →
-        Stops lists limit p before (record { seat = seat; whole = whole } ∷ []) world OutOfMemory
-    unfolding advance_one
-    untold_stops p q before seat whole (Finished reply) world turn finished within e = record {
-      left = [];
-      end = q;
-      after = before + 1;
-      advances = advance_one p q before seat whole (Finished reply) turn within;
-      here = e;
-      why = inr (record { earlier = []; seat = seat; reply = reply; last = refl });
-    }
-    untold_stops p q before seat whole step world turn finished within e = absurd finished
+  -- items more at the end
+  pub stops_more : {p : Progress C N} {before : ℕ} {items : List Item} (more : List Item) {world : Whole C N} {fault : Fault} → Stops lists limit p before items world fault → Stops lists limit p before (items ++ more) world fault
+  unfolding advance_more
+  stops_more more {world} {fault} s =
+      record { left = s.left ++ more; end = s.end; after = s.after; advances = advance_more more s.advances; here = s.here; why = stops_for_more limit world s.after s.advances.turns s.left more fault s.why }
 
-    -- items more at the end
-    pub stops_more : (p : Progress C N) (before : ℕ) (items more : List Item) (world : Whole C N) (fault : Fault) → Stops lists limit p before items world fault → Stops lists limit p before (items ++ more) world fault
-    unfolding advance_more
-    stops_more p before items more world fault s = record {
-      left = s.left ++ more;
-      end = s.end;
-      after = s.after;
-      advances = advance_more p s.end before s.after items s.left more s.advances;
-      here = s.here;
-      why = stops_for_more world s.after s.advances.turns s.left more fault s.why;
-    }
+  -- turns before
+  pub stops_behind : {p q : Progress C N} {before mid : ℕ} {items left : List Item} {world : Whole C N} {fault : Fault} → Advances lists limit p before items left q mid → Stops lists limit q mid left world fault → Stops lists limit p before items world fault
+  unfolding advance_join
+  stops_behind {world = world} {fault = fault} a s =
+      record { left = s.left; end = s.end; after = s.after; advances = advance_join a s.advances; here = s.here; why = stops_for_after limit world s.after a.turns s.advances.turns s.left fault s.why }
 
-    -- turns before
-    pub stops_behind : (p q : Progress C N) (before mid : ℕ) (items left : List Item) (world : Whole C N) (fault : Fault) →
-        Advances lists limit p before items left q mid → Stops lists limit q mid left world fault → Stops lists limit p before items world fault
-    unfolding advance_join
-    stops_behind p q before mid items left world fault a s = record {
-      left = s.left;
-      end = s.end;
-      after = s.after;
-      advances = advance_join p q s.end before mid s.after items left s.left a s.advances;
-      here = s.here;
-      why = stops_for_after world s.after a.turns s.advances.turns s.left fault s.why;
-    }
+  -- all of the items, and then a stop in more
+  pub stops_both : {p q : Progress C N} {before mid : ℕ} {items more : List Item} {world : Whole C N} {fault : Fault} → Advances lists limit p before items [] q mid → Stops lists limit q mid more world fault → Stops lists limit p before (items ++ more) world fault
+  stops_both {more = more} a s = stops_behind (advance_more more a) s
 
-    -- all of the items, and then a stop in more
-    pub stops_both : (p q : Progress C N) (before mid : ℕ) (items more : List Item) (world : Whole C N) (fault : Fault) →
-        Advances lists limit p before items [] q mid → Stops lists limit q mid more world fault → Stops lists limit p before (items ++ more) world fault
-    stops_both p q before mid items more world fault a s = stops_behind p q before mid (items ++ more) more world fault (advance_more p q before mid items [] more a) s
+  -- ---- the items of a word
 
-    -- ---- the items of a word
+  -- one more of them
+  pub advance_again : {p q r : Progress C N} {before mid behind : ℕ} (k : ℕ) {item : Item} →
+      Advances lists limit p before (replicate k item) [] q mid → Advances lists limit q mid (item ∷ []) [] r behind → Advances lists limit p before (replicate (k + 1) item) [] r behind
+  advance_again {p} {r = r} {before = before} {behind = behind} k {item} a b = subst (λ items. Advances lists limit p before items [] r behind) (replicate_more k item) (advance_both a b)
 
-    -- one more of them
-    pub advance_again : (p q r : Progress C N) (before mid behind k : ℕ) (item : Item) →
-        Advances lists limit p before (replicate k item) [] q mid → Advances lists limit q mid (item ∷ []) [] r behind → Advances lists limit p before (replicate (k + 1) item) [] r behind
-    advance_again p q r before mid behind k item a b =
-        subst (λ items. Advances lists limit p before items [] r behind) (replicate_more k item) (advance_both p q r before mid behind (replicate k item) (item ∷ []) a b)
+  -- a stop in one of them
+  pub stops_again : {p q : Progress C N} {before mid : ℕ} (k n : ℕ) {item : Item} {world : Whole C N} {fault : Fault} → k < n →
+      Advances lists limit p before (replicate k item) [] q mid → Stops lists limit q mid (item ∷ []) world fault → Stops lists limit p before (replicate n item ++ []) world fault
+  stops_again {p} {before = before} k n {item} {world} {fault} within a s =
+      let rest = n - (k + 1) in
+      let one : item ∷ replicate rest item ≡ replicate (1 + rest) item = replicate-append-replicate 1 rest item in
+      let count : k + (1 + rest) ≡ n = omega arith in
+      let whole : replicate k item ++ (item ∷ [] ++ replicate rest item) ≡ replicate n item ++ [] =
+      ap (λ xs. replicate k item ++ xs) one ∙ replicate-append-replicate k (1 + rest) item ∙ ap (λ m. replicate m item) count ∙ sym (append-nil (replicate n item)) in
+      subst (λ items. Stops lists limit p before items world fault) whole (stops_both a (stops_more (replicate rest item) s))
 
-    -- a stop in one of them
-    pub stops_again : (p q : Progress C N) (before mid k n : ℕ) (item : Item) (world : Whole C N) (fault : Fault) → k < n →
-        Advances lists limit p before (replicate k item) [] q mid → Stops lists limit q mid (item ∷ []) world fault → Stops lists limit p before (replicate n item ++ []) world fault
-    stops_again p q before mid k n item world fault within a s =
-        let rest = n - (k + 1) in
-        let one : item ∷ replicate rest item ≡ replicate (1 + rest) item = replicate-append-replicate 1 rest item in
-        let count : k + (1 + rest) ≡ n = omega arith in
-        let whole : replicate k item ++ (item ∷ [] ++ replicate rest item) ≡ replicate n item ++ [] =
-        ap (λ xs. replicate k item ++ xs) one ∙ replicate-append-replicate k (1 + rest) item ∙ ap (λ m. replicate m item) count ∙ sym (append-nil (replicate n item)) in
-        subst (λ items. Stops lists limit p before items world fault) whole
-        (stops_both p q before mid (replicate k item) (item ∷ [] ++ replicate rest item) world fault a (stops_more q mid (item ∷ []) (replicate rest item) world fault s))
+  -- ---- the words of a schedule
 
-    -- ---- the words of a schedule
+  -- one more of them
+  pub advance_word : {p q r : Progress C N} {before mid behind : ℕ} (i : ℕ) (schedule : List Turn) (d : Turn) → i < length schedule →
+      Advances lists limit p before (items_of (take i schedule)) [] q mid → Advances lists limit q mid (items_of (get_or schedule i d ∷ [])) [] r behind →
+      Advances lists limit p before (items_of (take (i + 1) schedule)) [] r behind
+  advance_word {p} {r = r} {before = before} {behind = behind} i schedule d within a b =
+      let turn = get_or schedule i d in
+      let whole : items_of (take (i + 1) schedule) ≡ items_of (take i schedule) ++ items_of (turn ∷ []) =
+      ap items_of (take_more schedule i d within) ∙ flat_map-append word_items (take i schedule) (turn ∷ []) in
+      subst (λ items. Advances lists limit p before items [] r behind) (sym whole) (advance_both a b)
 
-    -- one more of them
-    pub advance_word : (p q r : Progress C N) (before mid behind i : ℕ) (schedule : List Turn) (d : Turn) → i < length schedule →
-        Advances lists limit p before (items_of (take i schedule)) [] q mid → Advances lists limit q mid (items_of (get_or schedule i d ∷ [])) [] r behind →
-        Advances lists limit p before (items_of (take (i + 1) schedule)) [] r behind
-    advance_word p q r before mid behind i schedule d within a b =
-        let turn = get_or schedule i d in
-        let whole : items_of (take (i + 1) schedule) ≡ items_of (take i schedule) ++ items_of (turn ∷ []) =
-        ap items_of (take_more schedule i d within) ∙ flat_map-append word_items (take i schedule) (turn ∷ []) in
-        subst (λ items. Advances lists limit p before items [] r behind) (sym whole) (advance_both p q r before mid behind (items_of (take i schedule)) (items_of (turn ∷ [])) a b)
-
-    -- a stop in one of them
-    pub stops_word : (p q : Progress C N) (before mid i : ℕ) (schedule : List Turn) (d : Turn) (world : Whole C N) (fault : Fault) → i < length schedule →
-        Advances lists limit p before (items_of (take i schedule)) [] q mid → Stops lists limit q mid (items_of (get_or schedule i d ∷ [])) world fault →
-        Stops lists limit p before (items_of schedule) world fault
-    stops_word p q before mid i schedule d world fault within a s =
-        let turn = get_or schedule i d in
-        let rest = drop (suc i) schedule in
-        let parts : take i schedule ++ (turn ∷ [] ++ rest) ≡ schedule = sym (ap (λ xs. take i schedule ++ xs) (drop-cons schedule i d within)) ∙ take-append-drop i schedule in
-        let whole : items_of (take i schedule) ++ (items_of (turn ∷ []) ++ items_of rest) ≡ items_of schedule =
-        ap (λ xs. items_of (take i schedule) ++ xs) (sym (flat_map-append word_items (turn ∷ []) rest)) ∙ sym (flat_map-append word_items (take i schedule) (turn ∷ [] ++ rest)) ∙ ap items_of parts in
-        subst (λ items. Stops lists limit p before items world fault) whole
-        (stops_both p q before mid (items_of (take i schedule)) (items_of (turn ∷ []) ++ items_of rest) world fault a (stops_more q mid (items_of (turn ∷ [])) (items_of rest) world fault s))
+  -- a stop in one of them
+  pub stops_word : {p q : Progress C N} {before mid : ℕ} (i : ℕ) (schedule : List Turn) (d : Turn) {world : Whole C N} {fault : Fault} → i < length schedule →
+      Advances lists limit p before (items_of (take i schedule)) [] q mid → Stops lists limit q mid (items_of (get_or schedule i d ∷ [])) world fault →
+      Stops lists limit p before (items_of schedule) world fault
+  stops_word {p} {before = before} i schedule d {world} {fault} within a s =
+      let turn = get_or schedule i d in
+      let rest = drop (suc i) schedule in
+      let parts : take i schedule ++ (turn ∷ [] ++ rest) ≡ schedule = sym (ap (λ xs. take i schedule ++ xs) (drop-cons schedule i d within)) ∙ take-append-drop i schedule in
+      let whole : items_of (take i schedule) ++ (items_of (turn ∷ []) ++ items_of rest) ≡ items_of schedule =
+      ap (λ xs. items_of (take i schedule) ++ xs) (sym (flat_map-append word_items (turn ∷ []) rest)) ∙ sym (flat_map-append word_items (take i schedule) (turn ∷ [] ++ rest)) ∙ ap items_of parts in
+      subst (λ items. Stops lists limit p before items world fault) whole (stops_both a (stops_more (items_of rest) s))

@@ -1,33 +1,26 @@
 -- A turn of a run, by what beginning a call and a step promise.
-use Rattle.std.proofs.Common.{◌≡◌, ℕ, ◌-◌, nat_lt, inl, inr, ◌≢◌, ◌||◌, Bool, true, false, cond, List, Option, None, Some, is_some, length, slice_get, refl, ap, sym, ◌∙◌, subst, arith, Result, Ok, Err}
-use Rattle.std.specs.Prelude.{IfOk, IfErr}
-use Rattle.ns_world.proofs.Below.{length-set, same_Some, set_here, slice_get_within}
-use Rattle.ns_world.specs.Prelude.{AnyWait, Ask, Call, Commits, EnvNext, Fault, Go, GoesOnOrBegins, InCells, InRound, InWait, IsBusy, IsIdle, IsWalking, Limits, Lists, Lock, LookGoes, LookOver, Mode, Moves}
-use Rattle.ns_world.specs.Prelude.{NoSuchSeat, Nothing, Now, ObjectWalk, OnCondition, OnEntry, OnLock, OnObjects, OutOfMemory, Progress, QuietCells, QuietLast, SeatView, Start, Step, StepLimit, TestCells}
-use Rattle.ns_world.specs.Prelude.{TestLast, ToRelease, TooManySeats, TurnOf, TurnsWith, UnlockQuiet, Wait, Went, Whole, WholeFault, WholeIsBusy, WholeIsIdle, WholeMoves, WholeStarts, WholeStep, Word, begun_at, env_got_of, is_asking, is_busy, is_walking}
-use Rattle.ns_world.specs.Prelude.{Next, ObjectNext, On, env_step_of, got_of, object_got, object_step_of, step_of, step_told, mode_of, mode_waited, object_start, progress, progressed, start_of, walk_in, want_of, whole_busy}
-use Rattle.ns_world.proofs.Busy.{or_true, both, walking_at, walking_set_same, asking_at, asking_set_same}
+use Rattle.std.proofs.Common.{Bool, Err, List, None, Ok, Option, Result, Some, ap, arith, cond, false, inl, inr, is_some, length, nat_lt, refl, slice_get, subst, sym, true, ℕ, ◌-◌, ◌||◌, ◌∙◌, ◌≡◌, ◌≢◌}
+use Rattle.std.specs.Prelude.{IfErr, IfOk}
+use Rattle.ns_world.proofs.Below.{or-true, length-set, same_Some, set_here, slice_get_within}
+use Rattle.ns_world.specs.Prelude.{AnyWait, Ask, Call, Commits, EnvNext, Fault, Go, GoesOnOrBegins, InCells, InRound, IsBusy, IsIdle, IsWalking, Lists, Lock, LookGoes, LookOver, Mode, Moves, Next, NoSuchSeat, Nothing, Now, ObjectNext, ObjectWalk, On, OnLock}
+use Rattle.ns_world.specs.Prelude.{OnObjects, OutOfMemory, Progress, SeatView, Start, Step, TurnOf, TurnsWith, UnlockQuiet, Wait, Walk, Went, Whole, WholeFault, WholeIsBusy, WholeIsIdle, WholeMoves, WholeStarts, WholeStep}
+use Rattle.ns_world.specs.Prelude.{Word, begun_at, env_got_of, env_step_of, got_of, is_asking, is_busy, is_walking, mode_of, object_got, object_start, object_step_of, progress, progressed, start_of, step_of, step_told, walk_in, want_of, whole_busy}
+use Rattle.ns_world.proofs.Busy.{asking_at, asking_set_same, both, walking_at, walking_set_same}
 use Rattle.ns_counters.specs.declared.walk.ObjectNext.TheVariants as TheObject
 
 -- the first step of a call may commit an event
 abbrev StartCommits : {C : Type 0} → ℕ → Start C → Word → Lists C → Type 0
 StartCommits seat (OnLock walk) word lists = Commits seat (want_of walk) word lists
-StartCommits seat (Ask walk) word lists = ⊥
-StartCommits seat (OnObjects walk) word lists = ⊥
+StartCommits seat start word lists = ⊥
 
-quiet_apart : (C : Type 0) (N : ℕ) (more : Bool) (seat : ℕ) (word : Word) (lists : Lists C) → Commits seat (want_of {C = C} (InCells (cond more (QuietCells ToRelease 0) (QuietLast ToRelease (N - 1))))) word lists → ⊥
-quiet_apart C N true seat word lists p = p
-quiet_apart C N false seat word lists p = p
-
-wait_apart : {C : Type 0} (N : ℕ) (mode : Mode) (c : C) (limits : Limits) (more : Bool) (seat : ℕ) (word : Word) (lists : Lists C) →
-    Commits seat (want_of (cond more (InWait (record { mode = mode; on = OnCondition c; limits = limits }) (TestCells OnEntry 0)) (InWait (record { mode = mode; on = OnCondition c; limits = limits }) (TestLast OnEntry (N - 1))))) word lists → ⊥
-wait_apart N mode c limits true seat word lists p = p
-wait_apart N mode c limits false seat word lists p = p
+by_either : {A : Type 0} (P : A → Type 0) (b : Bool) {x y : A} → (P x → ⊥) → (P y → ⊥) → P (cond b x y) → ⊥
+by_either P true one other p = one p
+by_either P false one other p = other p
 
 -- no call's first step commits an event
 starts_apart : {C : Type 0} (N : ℕ) (mode : Option Mode) (call : Call C) (seat : ℕ) (word : Word) (lists : Lists C) → StartCommits seat (start_of N mode call) word lists → ⊥
-starts_apart {C} N mode UnlockQuiet seat word lists p = quiet_apart C N (nat_lt 0 (N - 1)) seat word lists p
-starts_apart N mode (Wait c limits) seat word lists p = wait_apart N (mode_waited mode) c limits (nat_lt 0 (N - 1)) seat word lists p
+starts_apart {C} N mode UnlockQuiet seat word lists p = by_either (λ place. Commits {C = C} seat (want_of (InCells place)) word lists) (nat_lt 0 (N - 1)) (λ q. q) (λ q. q) p
+starts_apart {C} N mode (Wait c limits) seat word lists p = by_either (λ (walk : Walk C). Commits seat (want_of walk) word lists) (nat_lt 0 (N - 1)) (λ q. q) (λ q. q) p
 starts_apart N mode other seat word lists p = p
 
 -- the place on counters and once cells at which a call begins, if it is one on them
@@ -96,7 +89,7 @@ module _ {C : Type 0} {N : ℕ} where
 
   pub is_busy_of : (world : Now C N) (seat : ℕ) → IsBusy world seat → is_busy world.state.views world.asking seat ≡ true
   is_busy_of world seat (inl busy) = ap (λ b. b || is_asking world.asking seat) (walking_at world.state.views seat busy.view busy.at ∙ ap is_some busy.walks)
-  is_busy_of world seat (inr busy) = ap (λ b. is_walking world.state.views seat || b) (asking_at world.asking seat (Some busy.walk) busy.walks) ∙ or_true (is_walking world.state.views seat)
+  is_busy_of world seat (inr busy) = ap (λ b. is_walking world.state.views seat || b) (asking_at world.asking seat (Some busy.walk) busy.walks) ∙ or-true (is_walking world.state.views seat)
 
   pub is_idle_of : (world : Now C N) (seat : ℕ) → IsIdle world seat → is_busy world.state.views world.asking seat ≡ false
   is_idle_of world seat idle = both world.state.views world.asking seat false false (walking_at world.state.views seat idle.view idle.at ∙ ap is_some idle.idle) (asking_at world.asking seat None idle.unasked)
@@ -105,13 +98,12 @@ module _ {C : Type 0} {N : ℕ} where
   begun_busy : (old : Now C N) (seat : ℕ) (view : SeatView C N) (start : Start C) → slice_get old.state.views seat ≡ Some view → slice_get old.asking seat ≡ Some None →
       (is_busy (begun_at old seat view start).state.views (begun_at old seat view start).asking seat || is_some (place_of start)) ≡ true
   begun_busy old seat view (OnLock walk) at asks = ap (λ b. (b || is_asking old.asking seat) || false) (walking_set_same old.state.views seat (record view { walk = Some walk }) (slice_get_within old.state.views seat view at))
-  begun_busy old seat view (Ask walk) at asks = ap (λ b. b || false) (ap (λ b. is_walking old.state.views seat || b) (asking_set_same old.asking seat (Some walk) (slice_get_within old.asking seat None asks)) ∙ or_true (is_walking old.state.views seat))
-  begun_busy old seat view (OnObjects walk) at asks = or_true (is_busy old.state.views old.asking seat)
+  begun_busy old seat view (Ask walk) at asks = ap (λ b. b || false) (ap (λ b. is_walking old.state.views seat || b) (asking_set_same old.asking seat (Some walk) (slice_get_within old.asking seat None asks)) ∙ or-true (is_walking old.state.views seat))
+  begun_busy old seat view (OnObjects walk) at asks = or-true (is_busy old.state.views old.asking seat)
 
   pub begun_stays : (old : Now C N) (seat : ℕ) (view : SeatView C N) (start : Start C) → length (begun_at old seat view start).state.views ≡ length old.state.views
   begun_stays old seat view (OnLock walk) = length-set old.state.views seat _
-  begun_stays old seat view (Ask walk) = refl
-  begun_stays old seat view (OnObjects walk) = refl
+  begun_stays old seat view other = refl
 
   -- ---- the same of a whole world
 
@@ -124,7 +116,7 @@ module _ {C : Type 0} {N : ℕ} where
 
   pub is_whole_busy : (world : Whole C N) (seat : ℕ) → WholeIsBusy world seat → whole_busy world seat ≡ true
   is_whole_busy world seat (inl busy) = ap (λ b. b || is_some (walk_in world.objects.walks seat)) (is_busy_of world.lock seat busy)
-  is_whole_busy world seat (inr busy) = ap (λ w. is_busy world.lock.state.views world.lock.asking seat || is_some w) busy.1 ∙ or_true (is_busy world.lock.state.views world.lock.asking seat)
+  is_whole_busy world seat (inr busy) = ap (λ w. is_busy world.lock.state.views world.lock.asking seat || is_some w) busy.1 ∙ or-true (is_busy world.lock.state.views world.lock.asking seat)
 
   pub is_whole_idle : (world : Whole C N) (seat : ℕ) → WholeIsIdle world seat → whole_busy world seat ≡ false
   is_whole_idle world seat idle = (λ i. is_idle_of world.lock seat idle.0 i || is_some (idle.1 i))
@@ -170,11 +162,7 @@ module _ {C : Type 0} {N : ℕ} where
       let is : w.view ≡ next = same_Some _ _ (sym w.at ∙ here) in
       let place : w.walk ≡ walk = same_Some _ _ (sym w.walks ∙ ap (λ (v : SeatView C N). v.walk) is) in
       subst (λ x. Commits seat (want_of x) begun.state.word begun.state.lists) place p
-  begun_steps old begun seat view (Ask walk) at idle begins w p =
-      let is : w.view ≡ view = same_Some _ _ (sym w.at ∙ ap (λ (world : Now C N). slice_get world.state.views seat) begins ∙ at) in
-      let walks : Some w.walk ≡ None = sym w.walks ∙ ap (λ (v : SeatView C N). v.walk) is ∙ idle in
-      absurd (cc)
-  begun_steps old begun seat view (OnObjects walk) at idle begins w p =
+  begun_steps old begun seat view other at idle begins w p =
       let is : w.view ≡ view = same_Some _ _ (sym w.at ∙ ap (λ (world : Now C N). slice_get world.state.views seat) begins ∙ at) in
       let walks : Some w.walk ≡ None = sym w.walks ∙ ap (λ (v : SeatView C N). v.walk) is ∙ idle in
       absurd (cc)
@@ -189,8 +177,7 @@ module _ {C : Type 0} {N : ℕ} where
       let within = slice_get_within old.lock.state.views seat s.view s.at in
       let same : length begun.lock.state.views ≡ length old.lock.state.views = ap (λ (world : Now C N). length world.state.views) s.begins ∙ begun_stays old.lock seat s.view (start_of N (mode_of s.view.held) call) in
       absurd (omega (arith, within, same, refused))
-  started_steps old begun seat call TooManySeats p refused = refused
-  started_steps old begun seat call StepLimit p refused = refused
+  started_steps old begun seat call other p refused = refused
 
   look_stays : (old new : Now C N) (seat : ℕ) (step : Step) (next : EnvNext) → LookGoes next old new seat step → length new.state.views ≡ length old.state.views
   look_stays old new seat step (Go walk) p = ap (λ (world : Now C N). length world.state.views) p.0

@@ -1,15 +1,12 @@
 -- The law of a whole world: how it begins, and that calls that begin and steps keep it.
-use Rattle.std.proofs.Common.{Bool, ◌≡◌, ◌≢◌, ℕ, ◌<◌, ◌≤◌, true, false, not, List, [], Option, None, Some, IsSome, length, replicate, slice_get, slice_set, slice_index, refl, ap, sym, ◌∙◌, subst, inl, inr}
-use Rattle.ns_world.proofs.Below.{StaysAsked, asked_stays, cases_eq, length-replicate, put_here, quiet_asks, same_Some, set_here, slice_get_within, some_among, stands_within, stays_asked, test_asks}
-use Rattle.ns_world.proofs.Below.{there_more}
-use Rattle.ns_world.specs.Prelude.{objects_state, HaveLedTo, Act, AnyWait, AreThere, Ask, Call, CallFits, CallInRange, EnvNext, EnvPlain, Found, Goes, Held, InRound, IsIdle}
-use Rattle.ns_world.specs.Prelude.{IsLawfulWhole, IsLawfulWorld, LookGoes, LooksWhere, Meets, Mode, Moves, NoteStanding, Now, ObjectEvent, ObjectFound, ObjectNext, ObjectWalk, Objects, OnCondition, OnEntry}
-use Rattle.ns_world.specs.Prelude.{OnLock, OnObjects, Operates, Over, Repeat, Round, SeatView, Setup, StandsAlone, StandsBy, Start, Step, StepFits, ToRelease, Truths}
-use Rattle.ns_world.specs.Prelude.{UnlockQuiet, Wait, WaitAny, Walk, Whole, WholeStarts, asks_for_any, begun_at, env_got_of, fresh_whole, got_of, is_alone, is_for_lock, items_of, mode_of, mode_waited}
-use Rattle.ns_world.specs.Prelude.{most, object_after, object_asked, object_got, object_start, object_step_of, start_of, wait_in, walk_after, walk_in, want_of, whole}
+use Rattle.std.proofs.Common.{Bool, IsSome, List, None, Option, Some, [], ap, false, inl, inr, length, not, refl, replicate, slice_get, slice_index, slice_set, subst, sym, true, ℕ, ◌<◌, ◌∙◌, ◌≡◌, ◌≢◌, ◌≤◌}
+use Rattle.ns_world.proofs.Below.{StaysAsked, asked_stays, cases_eq, length-replicate, put_here, quiet_asks, same_Some, set_here, slice_get_within, some_among, stands_within, stays_asked, test_asks, there_more}
+use Rattle.ns_world.specs.Prelude.{WaitsOnLock, Act, AnyWait, AreThere, Call, CallFits, CallInRange, EnvNext, EnvPlain, Found, Goes, HaveLedTo, Held, IsIdle, IsLawfulWhole, IsLawfulWorld, LookGoes, LooksWhere, Meets, Mode, Moves, NoteStanding, Now, ObjectEvent, ObjectFound, ObjectNext, ObjectWalk}
+use Rattle.ns_world.specs.Prelude.{Objects, OnCondition, OnEntry, OnLock, OnObjects, Operates, Over, Repeat, SeatView, Setup, StandsAlone, StandsBy, Start, Step, StepFits, ToRelease, Truths, UnlockQuiet, Wait, WaitAny, Walk, Whole, WholeStarts, asks_for_any, begun_at, env_got_of, fresh_whole}
+use Rattle.ns_world.specs.Prelude.{got_of, is_alone, is_for_lock, items_of, mode_of, mode_waited, most, object_after, object_asked, object_got, object_start, object_step_of, objects_state, start_of, wait_in, walk_after, walk_in, want_of, whole}
 use Rattle.ns_counters.proofs.NewObjects.{new_lawful}
 use Rattle.ns_counters.specs.declared.walk.ObjectNext.TheVariants.{Go}
-use Rattle.ns_world.specs.Whole.{MayWait}
+use Rattle.ns_world.specs.Whole.{GoesWith, MayWait}
 use Rattle.ns_world.proofs.Fresh.{lawful_new, length_views, no_walk}
 use Rattle.ns_world.proofs.Turns.{begun_stays, place_of, placed_by}
 use Rattle.ns_world.proofs.Walks.{none_stand}
@@ -69,26 +66,15 @@ start_may : {C : Type 0} {N : ℕ} (setup : Setup) (notes : ℕ → NoteStanding
 start_may setup notes (WaitAny items deadline) held fits = λ named. let one = some_among (items_of items) named in some_held held (fits.1 one.0 one.1)
 start_may setup notes other held fits = tt
 
--- whether a round may wait, or looks for a wait on the lock, is told by what was asked
-may_asked : {C : Type 0} {N : ℕ} (walk : ObjectWalk) (held : Option (Held C N)) → MayWait (Some walk) held → MayWait (Some (object_asked walk)) held
-may_asked (InRound round place) held p = p
-may_asked walk held p = tt
-
-asked_may : {C : Type 0} {N : ℕ} (walk : ObjectWalk) (held : Option (Held C N)) → MayWait (Some (object_asked walk)) held → MayWait (Some walk) held
-asked_may (InRound round place) held p = p
-asked_may walk held p = tt
-
-looks_asked : {C : Type 0} (round : Round) (walk : ObjectWalk) (act : Act C) → LooksWhere round (Some walk) act → LooksWhere round (Some (object_asked walk)) act
-looks_asked round (InRound by place) act p = p
-looks_asked round walk act p = absurd p
-
-asked_looks : {C : Type 0} (round : Round) (walk : ObjectWalk) (act : Act C) → LooksWhere round (Some (object_asked walk)) act → LooksWhere round (Some walk) act
-asked_looks round (InRound by place) act p = p
-asked_looks round walk act p = absurd p
-
 module _ {C : Type 0} {N : ℕ} where
   idle_on : (old new : Now C N) (other : ℕ) → Untouched other old new → IsIdle old other → IsIdle new other
   idle_on old new other same idle = record { view = idle.view; at = same.views ∙ idle.at; idle = idle.idle; unasked = same.asking ∙ idle.unasked }
+
+  -- who waits on the lock does so still, where it stands there as it stood, and looks where it is to
+  waits_on : (old new : Whole C N) (seat : ℕ) (wait : AnyWait) (s : WaitsOnLock old seat wait) → slice_get new.lock.state.views seat ≡ slice_get old.lock.state.views seat → slice_get new.lock.asking seat ≡ slice_get old.lock.asking seat →
+      AreThere new.objects.setup new.lock.env.notes wait.round.items → LooksWhere wait.round (walk_in new.objects.walks seat) (want_of s.walk) → WaitsOnLock new seat wait
+  waits_on old new seat wait s views asking there looks =
+      record { view = s.view; at = views ∙ s.at; walk = s.walk; walks = s.walks; mode = s.mode; cvs = s.cvs; asked = s.asked; among = s.among; unasked = asking ∙ s.unasked; there = there; looks = looks }
 
   -- a seat of which nothing has changed stands as it stood, also where more notes are made
   stands_on : (old new : Whole C N) (other : ℕ) → Still other old new → ((n : ℕ) → (old.lock.env.notes n).made ≡ true → (new.lock.env.notes n).made ≡ true) → (wait : Option AnyWait) → StandsBy old other wait → StandsBy new other wait
@@ -97,19 +83,8 @@ module _ {C : Type 0} {N : ℕ} where
     apart = λ walk at. idle_on old.lock new.lock other still.lock (s.apart walk (sym still.walks ∙ at));
     may = λ view at. subst (λ w. MayWait w view.held) (sym still.walks) (s.may view (sym still.lock.views ∙ at));
   }
-  stands_on old new other still more (Some wait) s = record {
-    view = s.view;
-    at = still.lock.views ∙ s.at;
-    walk = s.walk;
-    walks = s.walks;
-    mode = s.mode;
-    cvs = s.cvs;
-    asked = s.asked;
-    among = s.among;
-    unasked = still.lock.asking ∙ s.unasked;
-    there = subst (λ x. AreThere x new.lock.env.notes wait.round.items) (sym still.setup) (there_more old.objects.setup old.lock.env.notes new.lock.env.notes more wait.round.items s.there);
-    looks = subst (λ w. LooksWhere wait.round w (want_of s.walk)) (sym still.walks) s.looks;
-  }
+  stands_on old new other still more (Some wait) s = waits_on old new other wait s still.lock.views still.lock.asking
+      (subst (λ x. AreThere x new.lock.env.notes wait.round.items) (sym still.setup) (there_more old.objects.setup old.lock.env.notes new.lock.env.notes more wait.round.items s.there)) (subst (λ w. LooksWhere wait.round w (want_of s.walk)) (sym still.walks) s.looks)
 
   -- The law holds where the seat stands as it may, and nothing of the others has changed.
   pub stood_lawful : (old new : Whole C N) (seat : ℕ) → IsLawfulWhole old → IsLawfulWorld new.lock → length new.lock.state.views ≡ length old.lock.state.views → ((n : ℕ) → (old.lock.env.notes n).made ≡ true → (new.lock.env.notes n).made ≡ true) →
@@ -169,9 +144,8 @@ module _ {C : Type 0} {N : ℕ} where
 
   -- a seat that begins a call on counters and once cells is in no other
   begun_idle : (old : Now C N) (seat : ℕ) (view : SeatView C N) (start : Start C) (place : ObjectWalk) → place_of start ≡ Some place → slice_get old.state.views seat ≡ Some view → view.walk ≡ None → slice_get old.asking seat ≡ Some None → IsIdle (begun_at old seat view start) seat
-  begun_idle old seat view (OnLock walk) place is at idle asks = absurd (cc)
-  begun_idle old seat view (Ask walk) place is at idle asks = absurd (cc)
   begun_idle old seat view (OnObjects walk) place is at idle asks = record { view = view; at = at; idle = idle; unasked = asks }
+  begun_idle old seat view other place is at idle asks = absurd (cc)
 
   module _ (old new : Whole C N) (seat : ℕ) (call : Call C) (lawful : IsLawfulWhole old) (p : WholeStarts old new seat call) where
     abbrev view : SeatView C N
@@ -199,8 +173,7 @@ module _ {C : Type 0} {N : ℕ} where
           let next : SeatView C N = record view { walk = Some walk } in
           let is : next ≡ other = same_Some _ _ (sym (set_here old.lock.state.views seat next (slice_get_within old.lock.state.views seat view p.starts.at)) ∙ at) in
           subst (λ (v : SeatView C N). is_alone v.walk ≡ true) is alone
-      by (Ask walk) alone other at = stood.alone other at
-      by (OnObjects walk) alone other at = stood.alone other at
+      by begins alone other at = stood.alone other at
 
     begun_here : StandsAlone new seat
     begun_here = record {
@@ -244,14 +217,13 @@ module _ {C : Type 0} {N : ℕ} where
       here = put_here old.objects.walks seat (object_after next) (stands_within old.objects.walks seat walk walks)
 
       may_next : (held : Option (Held C N)) → MayWait (Some walk) held → (n : ObjectNext) → StaysAsked (object_asked walk) n → MayWait (object_after n) held
-      may_next held may (Go w) same = asked_may w held (subst (λ a. MayWait (Some a) held) (sym same) (may_asked walk held may))
-      may_next held may (Repeat w) same = asked_may w held (subst (λ a. MayWait (Some a) held) (sym same) (may_asked walk held may))
+      may_next held may (Go w) same = subst (λ asked. GoesWith asked held) (sym same) may
+      may_next held may (Repeat w) same = subst (λ asked. GoesWith asked held) (sym same) may
       may_next held may (Over reply) same = tt
 
       looks_next : (wait : AnyWait) (act : Act C) → LooksWhere wait.round (Some walk) act → (n : ObjectNext) → StaysAsked (object_asked walk) n → is_for_lock (Some wait) walk (object_step_of n) ≡ false → LooksWhere wait.round (object_after n) act
-      looks_next wait act looks (Go w) same not = asked_looks wait.round w act (subst (λ a. LooksWhere wait.round (Some a) act) (sym same) (looks_asked wait.round walk act looks))
-      looks_next wait act looks (Repeat w) same not = absurd (cc)
-      looks_next wait act looks (Over reply) same not = absurd (cc)
+      looks_next wait act looks (Go w) same not = (same ∙ looks.0, looks.1)
+      looks_next wait act looks next same not = absurd (cc)
 
       operated_stands : (wait : Option AnyWait) → is_for_lock wait walk (object_step_of next) ≡ false → StandsBy old seat wait → StandsBy (whole old.lock operated) seat wait
       operated_stands None not s = record {
@@ -259,19 +231,8 @@ module _ {C : Type 0} {N : ℕ} where
         apart = λ w at. s.apart walk walks;
         may = λ view at. subst (λ w. MayWait w view.held) (sym here) (may_next view.held (subst (λ w. MayWait w view.held) walks (s.may view at)) next (stays_asked walk found));
       }
-      operated_stands (Some wait) not s = record {
-        view = s.view;
-        at = s.at;
-        walk = s.walk;
-        walks = s.walks;
-        mode = s.mode;
-        cvs = s.cvs;
-        asked = s.asked;
-        among = s.among;
-        unasked = s.unasked;
-        there = s.there;
-        looks = subst (λ w. LooksWhere wait.round w (want_of s.walk)) (sym here) (looks_next wait (want_of s.walk) (subst (λ w. LooksWhere wait.round w (want_of s.walk)) walks s.looks) next (stays_asked walk found) not);
-      }
+      operated_stands (Some wait) not s = waits_on old (whole old.lock operated) seat wait s refl refl s.there
+          (subst (λ w. LooksWhere wait.round w (want_of s.walk)) (sym here) (looks_next wait (want_of s.walk) (subst (λ w. LooksWhere wait.round w (want_of s.walk)) walks s.looks) next (stays_asked walk found) not))
 
   -- where the seat stands then
   pub operates_stand : (old new : Whole C N) (seat : ℕ) (step : Step) → IsLawfulWhole old → Operates old new seat step → StandsBy new seat (wait_in new.objects.waits seat)

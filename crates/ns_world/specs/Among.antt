@@ -1,10 +1,9 @@
 -- Waits for condition variables among notes and counters. As such a call begins, a round looks at the notes and counters; where that shows nothing, the call leaves its section and waits on the lock for the variables; and whenever that wait looks, another round does so.
-use Rattle.std.specs.Prelude.{◌≡◌, ℕ, ◌≤◌, Bool, true, false, if◌then◌else◌, Option, Some, None, IsSome, is_some, unwrap_or}
-use Rattle.ns_world.specs.Names.{Any, AnyWait, AreVariables, Cause, Cvs, Every, Expired, Finished, FirstClock, Idle, InRound, Limits, Mode, Number, ObjectWalk, OnLock, OnVariables, Reply, Request, Seat, Step, Walk, Went, wait_first, want_of}
+use Rattle.std.specs.Prelude.{Bool, IsSome, None, Option, Some, false, if◌then◌else◌, is_some, true, unwrap_or, ℕ, ◌≡◌, ◌≤◌}
+use Rattle.ns_world.specs.Names.{Any, AnyWait, AreAmong, AreVariables, Cause, Cvs, Every, Expired, Finished, FirstClock, Idle, InRound, IsLow, Limits, Mode, Number, ObjectWalk, OnLock, OnVariables, Reply, Request, Seat, Step, Walk, Went, have_variable, items_of, place_in, wait_first, want_of}
 use Rattle.ns_word.specs.declared.wait.Wait.{Wait}
 use Rattle.ns_world.specs.Begins.{placed}
 use Rattle.ns_world.specs.Calls.{mode_of, mode_waited}
-use Rattle.ns_world.specs.Names.{AreAmong, IsLow, have_variable, items_of, place_in}
 use Rattle.ns_world.specs.Looked.{Sees}
 use Rattle.ns_world.specs.Looks.{is_for_any, looks_at}
 use Rattle.ns_world.specs.Objects.{Objects, stood_at}

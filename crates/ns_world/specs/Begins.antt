@@ -1,6 +1,6 @@
 -- How a call begins.
 use Rattle.std.specs.Prelude.{◌≡◌, ℕ, ◌≤◌, Some, None, slice_get, slice_set, length}
-use Rattle.ns_world.specs.Names.{Ask, Call, Fault, NoSuchSeat, OnLock, OnObjects, OutOfMemory, Seat, SeatView, Setup, Start, StepLimit, TooManySeats}
+use Rattle.ns_world.specs.Names.{Ask, Call, Fault, NoSuchSeat, OnLock, OnObjects, Seat, SeatView, Setup, Start}
 use Rattle.ns_world.specs.Calls.{start_of, CallFits, mode_of}
 use Rattle.ns_world.specs.World.{Now}
 
@@ -39,6 +39,4 @@ pub record Misuses {C : Type 0} {N : ℕ} (setup : Setup) (old : Now C N) (seat 
 -- a call is refused only where the number is no seat's
 abbrev pub BeginFault : {C : Type 0} {N : ℕ} → Now C N → ℕ → Fault → Type 0
 BeginFault old seat NoSuchSeat = length old.state.views ≤ seat
-BeginFault old seat OutOfMemory = ⊥
-BeginFault old seat TooManySeats = ⊥
-BeginFault old seat StepLimit = ⊥
+BeginFault old seat fault = ⊥

@@ -115,13 +115,6 @@ IsMoment moment = moment < 2 ^ 54
 
 -- the call's cell, if it names one, is one of n, its variable one of 4, its notes are of 64, its moments are below 2^54, and of several objects there are at most 16
 abbrev pub CallInRange : {C : Type 0} → ℕ → Call C → Type 0
-CallInRange n Lock = Unit {0}
-CallInRange n RLock = Unit {0}
-CallInRange n TryLock = Unit {0}
-CallInRange n TryRLock = Unit {0}
-CallInRange n Unlock = Unit {0}
-CallInRange n RUnlock = Unit {0}
-CallInRange n UnlockQuiet = Unit {0}
 CallInRange n (Get i) = i < n
 CallInRange n (Set i v) = i < n
 CallInRange n (Wait c limits) = IfSome limits.note IsNoteNumber × IfSome limits.deadline IsMoment
@@ -134,9 +127,6 @@ CallInRange n (Advance moment) = IsMoment moment
 CallInRange n (IsNotified note) = IsNoteNumber note
 CallInRange n (Expiry note) = IsNoteNumber note
 CallInRange n (NoteWait note deadline) = IsNoteNumber note × IfSome deadline IsMoment
-CallInRange n (Add counter delta) = Unit {0}
-CallInRange n (Value counter) = Unit {0}
 CallInRange n (CounterWait counter deadline) = IfSome deadline IsMoment
-CallInRange n (Once once) = Unit {0}
-CallInRange n (Done once) = Unit {0}
 CallInRange n (WaitAny items deadline) = (items.count ≤ 16) × IfSome deadline IsMoment
+CallInRange n call = Unit {0}

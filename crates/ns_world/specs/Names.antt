@@ -1,43 +1,27 @@
 -- The names of crates below and of this crate's own types, passed on from one place. Declares nothing.
-pub use Rattle.ns_counters.specs.Asks.{AreThere, IsLawfulObjects, IsLoad, ObjectEffect, ObjectState, StepFits, WalkFits, is_there, walk_in}
-pub use Rattle.ns_counters.specs.Items.{AreAmong, IsLow, have_variable, is_among, item_at, items_of, place_in}
-pub use Rattle.ns_counters.specs.Lawful.{IsLawful}
-pub use Rattle.ns_counters.specs.Made.{first_words, padded, setup_of}
-pub use Rattle.ns_counters.specs.Meanings.{AnyAnswers, IsReady, ObjectGoes, ObjectMeans, ObjectSoFar, RoundSoFar, WereThere, object_asked, past_and}
-pub use Rattle.ns_counters.specs.Objects.{ObjectStanding, object_who, objects_after, objects_own}
-pub use Rattle.ns_counters.specs.RoundWalks.{round_got}
-pub use Rattle.ns_counters.specs.Rounds.{HaveShownNothing, IsLater, Past, RoundShows}
-pub use Rattle.ns_counters.specs.Steps.{word_at}
-pub use Rattle.ns_counters.specs.Walks.{IsInBounds, by_round, object_after, object_got, object_place, object_want}
-pub use Rattle.ns_counters.specs.Words.{counter_word}
-pub use Rattle.ns_counters.specs.declared.act.ObjectAct.{ObjectAct}
-pub use Rattle.ns_counters.specs.declared.act.ObjectAct.TheVariants.{BeginOnce, EndOnce, ExchangeToAdd, MarkWait}
+pub use Rattle.ns_counters.specs.Prelude.{AnyAnswers, AreThere, AtSomePoint, EnvPlain, EnvState, HaveShownNothing, IsLater, IsLawful, IsLawfulEnv, IsLawfulObjects, IsLow, IsReady, Meets, NoteStanding, ObjectEffect, ObjectGoes, ObjectSoFar, ObjectStanding, ObjectState, Past, RoundShows, RoundSoFar}
+pub use Rattle.ns_counters.specs.Prelude.{StepFits, WalkFits, WereThere, by_round, env_after, env_got_of, first_words, is_among, is_due, is_there, item_at, items_of, most, object_after, object_asked, object_got, object_place, object_want, object_who, objects_after, objects_own, padded, past_and}
+pub use Rattle.ns_counters.specs.Prelude.{place_in, round_got, setup_of, standing_of, state_of, walk_in, word_at}
+pub use Rattle.ns_counters.specs.Items.{AreAmong, have_variable}
+pub use Rattle.ns_counters.specs.Meanings.{ObjectMeans}
 pub use Rattle.ns_counters.specs.declared.items.Item.{Item}
-pub use Rattle.ns_counters.specs.declared.items.Item.TheVariants.{OnCounter, OnNote, OnVariable}
+pub use Rattle.ns_counters.specs.declared.items.Item.TheVariants.{OnVariable}
 pub use Rattle.ns_counters.specs.declared.items.Items.{Items}
 pub use Rattle.ns_counters.specs.declared.object.ObjectEvent.{ObjectEvent}
-pub use Rattle.ns_counters.specs.declared.object.Place.{Place}
 pub use Rattle.ns_counters.specs.declared.object.Setup.{Setup}
 pub use Rattle.ns_counters.specs.declared.reply.ObjectReply.{ObjectReply}
 pub use Rattle.ns_counters.specs.declared.round.ObjectFound.{ObjectFound}
-pub use Rattle.ns_counters.specs.declared.round.ObjectFound.TheVariants.{Env}
-pub use Rattle.ns_counters.specs.declared.round.ObjectWant.{ObjectWant}
-pub use Rattle.ns_counters.specs.declared.round.ObjectWant.TheVariants.{OnEnv, OnWord}
 pub use Rattle.ns_counters.specs.declared.round.Round.{Round}
 pub use Rattle.ns_counters.specs.declared.round.RoundNext.{RoundNext}
 pub use Rattle.ns_counters.specs.declared.round.RoundNext.TheVariants.{RoundGo, RoundOver}
 pub use Rattle.ns_counters.specs.declared.round.RoundPlace.{RoundPlace}
-pub use Rattle.ns_counters.specs.declared.round.RoundPlace.TheVariants.{AtCounter, AtNote, FirstClock}
+pub use Rattle.ns_counters.specs.declared.round.RoundPlace.TheVariants.{FirstClock}
 pub use Rattle.ns_counters.specs.declared.walk.ObjectNext.{ObjectNext}
 pub use Rattle.ns_counters.specs.declared.walk.ObjectNext.TheVariants.{Over, Repeat}
 pub use Rattle.ns_counters.specs.declared.walk.ObjectWalk.{ObjectWalk}
-pub use Rattle.ns_counters.specs.declared.walk.ObjectWalk.TheVariants.{AddExchange, AddLoad, DoneLoad, InRound, OnceBegin, OnceEnd, OnceLoad, ValueLoad, WaitClock, WaitLoad, WaitMark}
-pub use Rattle.ns_env.specs.Asks.{EnvActFits, EnvBegins, EnvEffect, EnvState, EnvStep, IfMade, IsFirstAsk, IsLawfulEnv}
-pub use Rattle.ns_env.specs.Lawful.{Meets}
-pub use Rattle.ns_env.specs.Meanings.{AtSomePoint, EnvCourse, EnvGoes, EnvGoesOn, EnvMeans, EnvSoFar, LookMeans, Shows, env_asked_of, env_course_after, env_course_at}
-pub use Rattle.ns_env.specs.Notes.{standing_of, state_of}
-pub use Rattle.ns_env.specs.Steps.{EnvPlain, fresh_plain, outcome}
-pub use Rattle.ns_env.specs.Walks.{env_got_of, env_walk_after, env_want_of, passed, stopped, up_to}
+pub use Rattle.ns_counters.specs.declared.walk.ObjectWalk.TheVariants.{AddLoad, DoneLoad, InRound, OnceLoad, ValueLoad, WaitMark}
+pub use Rattle.ns_env.specs.Prelude.{EnvActFits, EnvCourse, EnvEffect, EnvGoes, EnvSoFar, EnvStep, IfMade, IsFirstAsk, Shows, env_asked_of, env_course_after, env_course_at, env_own, env_walk_after, env_want_of, env_who, fresh_plain, is_over, outcome, passed, stopped, up_to}
+pub use Rattle.ns_env.specs.Meanings.{EnvGoesOn, EnvMeans, LookMeans}
 pub use Rattle.ns_env.specs.declared.act.EnvAct.{EnvAct}
 pub use Rattle.ns_env.specs.declared.act.EnvFound.{EnvFound}
 pub use Rattle.ns_env.specs.declared.limits.Cause.{Cause}
@@ -51,14 +35,12 @@ pub use Rattle.ns_env.specs.declared.walk.EnvNext.{EnvNext}
 pub use Rattle.ns_env.specs.declared.walk.EnvNext.TheVariants.{Go, LookOver}
 pub use Rattle.ns_env.specs.declared.walk.EnvWalk.{EnvWalk}
 pub use Rattle.ns_env.specs.declared.walk.EnvWalk.TheVariants.{Advancing, ClockLoad, ExpiryLoad, NextLoad, NoteLoad, Notifying}
-pub use Rattle.ns_model.specs.Beginnings.{BeginsWith}
-pub use Rattle.ns_model.specs.Counters.{judged, most}
-pub use Rattle.ns_model.specs.Environments.{NoteStanding, env_after, env_own, env_who, is_due, is_over, no_note}
-pub use Rattle.ns_model.specs.Histories.{own, row_after}
+pub use Rattle.ns_word.specs.Prelude.{ActFits, AreBy, AreNumbered, AreVariables, BeginsWith, CallGoes, CanLeave, CanWait, Course, Effect, Every, HasList, HasMode, InHand, IsFirst, IsForCondition, IsInRange, IsSettled, IsUnmet, Lists, LockState, MayEnd, MayShow, MayWait, Means, OwesOne, Part}
+pub use Rattle.ns_word.specs.Prelude.{PlaceFits, QuietKeeps, SoFar, Step as Steps, Truths, asked_of, bits_of, called_by, called_of, change_commits, changed, counts_in, course_after, course_from, cvs_without, exit_for, fresh_state, fresh_views, got_of, has_armed, has_queues, has_some, held_after}
+pub use Rattle.ns_word.specs.Prelude.{is_held, is_in, is_unwoken, judge_of, leave_of, left_of, looked_after, meets_at, moved_to, owed_to, own, part_of, quiet_first, releasing_of, row_after, section_of, stands_at, taken_by, taken_set, times, times_among, times_in, wait_first, waited_in, waiters_of}
+pub use Rattle.ns_word.specs.Prelude.{wakes_of, walk_after, walk_at, want_acquiring, want_in_cells, want_leaving, want_of, want_releasing, want_showing, want_signaling, want_trying, with_waiters, woken_of, word_released, word_released_returning, word_returned}
+pub use Rattle.ns_model.specs.Environments.{no_note}
 pub use Rattle.ns_model.specs.Room.{HasRoom, room, small_by}
-pub use Rattle.ns_model.specs.Seats.{is_in}
-pub use Rattle.ns_model.specs.Tallies.{Every}
-pub use Rattle.ns_model.specs.Truths.{QuietKeeps, Truths}
 pub use Rattle.ns_model.specs.declared.cvs.Cvs.{Cvs}
 pub use Rattle.ns_model.specs.declared.cvs.Variables.TheVariants.{Any, Only}
 pub use Rattle.ns_model.specs.declared.environment.EnvEvent.{EnvEvent}
@@ -67,32 +49,21 @@ pub use Rattle.ns_model.specs.declared.event.Event.{Event}
 pub use Rattle.ns_model.specs.declared.event.Exit.TheVariants.{Plain}
 pub use Rattle.ns_model.specs.declared.event.Mode.{Mode}
 pub use Rattle.ns_model.specs.declared.event.Mode.TheVariants.{Read, Write}
-pub use Rattle.ns_queue.specs.Queues.{Lists, cvs_without, times, waiters_of, with_waiters}
-pub use Rattle.ns_queue.specs.Scans.{left_of, tests_of, woken_of}
-pub use Rattle.ns_queue.specs.Signals.{taken_set}
-pub use Rattle.ns_queue.specs.Waiters.{shown_of, times_in}
+pub use Rattle.ns_queue.specs.Scans.{tests_of}
+pub use Rattle.ns_queue.specs.Waiters.{shown_of}
 pub use Rattle.ns_queue.specs.declared.waiter.Waiter.{Waiter}
 pub use Rattle.ns_queue.specs.declared.waiter.Which.TheVariants.{Cv}
-pub use Rattle.ns_word.specs.Asked.{asked_of}
-pub use Rattle.ns_word.specs.Begins.{IsFirst, free_word, fresh_state, fresh_views}
-pub use Rattle.ns_word.specs.Courses.{CallGoes, GoesOn, SoFar, course_after, looked_after}
-pub use Rattle.ns_word.specs.Lawful.{is_unwoken}
-pub use Rattle.ns_word.specs.Lists.{bits_of, counts_in, has_some, stands_at}
-pub use Rattle.ns_word.specs.Meanings.{AnyMeans, Course, InHand, MayEnd, Means, WaitMeans, course_from}
-pub use Rattle.ns_word.specs.Owed.{called_by, called_of, times_among, wakes_of}
-pub use Rattle.ns_word.specs.Places.{ActFits, AreVariables, CanLeave, CanWait, ChangeFits, HasList, HasMode, IsForCondition, IsInRange, IsSettled, IsUnmet, MayWait, OwesOne, PlaceFits}
-pub use Rattle.ns_word.specs.Steps.{Effect, LockState, MayShow, Part, Step as Steps, change_commits, changed, exit_for, held_after, in_hand, leave_of, meets_at, moved_to, part_of, section_of, taken_by, waited_in}
-pub use Rattle.ns_word.specs.Told.{AreBy}
-pub use Rattle.ns_word.specs.Views.{AreNumbered, owed_to, walk_at}
-pub use Rattle.ns_word.specs.Walks.{got_of, has_armed, has_queues, judge_of, quiet_first, wait_first, walk_after, want_acquiring, want_in_cells, want_leaving, want_of, want_releasing, want_showing, want_signaling, want_trying}
-pub use Rattle.ns_word.specs.Words.{is_held, releasing_of, word_released, word_released_returning, word_returned}
+pub use Rattle.ns_word.specs.Courses.{GoesOn}
+pub use Rattle.ns_word.specs.Meanings.{AnyMeans, WaitMeans}
+pub use Rattle.ns_word.specs.Places.{ChangeFits}
+pub use Rattle.ns_word.specs.Steps.{in_hand}
 pub use Rattle.ns_word.specs.declared.acquire_walk.AcquirePlace.TheVariants.{AcquireLoad}
 pub use Rattle.ns_word.specs.declared.act.Act.{Act}
-pub use Rattle.ns_word.specs.declared.act.Act.TheVariants.{Acquire, ArmFlag, JudgeMet, JudgeQuiet, LoadCell, LoadFlag, LoadWord, Look, PayWake, Release, ReleaseReturning, ReturnQueues, StoreCell, TakeQueues, WaitReturning}
+pub use Rattle.ns_word.specs.declared.act.Act.TheVariants.{ArmFlag, LoadFlag, Look, PayWake, Release, ReleaseReturning, ReturnQueues, WaitReturning}
 pub use Rattle.ns_word.specs.declared.act.Change.{Change}
 pub use Rattle.ns_word.specs.declared.act.Change.TheVariants.{LeaveSelf, QueueSelf, WakeWaiters}
 pub use Rattle.ns_word.specs.declared.act.Found.{Found}
-pub use Rattle.ns_word.specs.declared.act.Found.TheVariants.{Left, Looked, Made, Saw, Scanned, Woke}
+pub use Rattle.ns_word.specs.declared.act.Found.TheVariants.{Left, Looked, Made, Scanned, Woke}
 pub use Rattle.ns_word.specs.declared.act.Waking.{Waking}
 pub use Rattle.ns_word.specs.declared.act.Waking.TheVariants.{Broadcasting, Signaling}
 pub use Rattle.ns_word.specs.declared.cell_walk.CellPlace.TheVariants.{GetLoad, QuietCells, QuietLast, SetLoad}
@@ -109,12 +80,12 @@ pub use Rattle.ns_word.specs.declared.wait.Aim.TheVariants.{ForLock}
 pub use Rattle.ns_word.specs.declared.wait.Home.{Home}
 pub use Rattle.ns_word.specs.declared.wait.Home.TheVariants.{AtLock, AtVariables}
 pub use Rattle.ns_word.specs.declared.wait.LeavePlace.TheVariants.{LeaveLoad}
-pub use Rattle.ns_word.specs.declared.wait.QueuePlace.TheVariants.{ArmToWait, Load, LoadToScan, LookIn, QueueToWait, Take}
+pub use Rattle.ns_word.specs.declared.wait.QueuePlace.TheVariants.{Load, LookIn}
 pub use Rattle.ns_word.specs.declared.wait.Subject.{Subject}
 pub use Rattle.ns_word.specs.declared.wait.Subject.TheVariants.{OnCondition, OnVariables}
 pub use Rattle.ns_word.specs.declared.wait.Visit.TheVariants.{OnEntry}
 pub use Rattle.ns_word.specs.declared.wait.Wait.{Wait as WaitFor}
-pub use Rattle.ns_word.specs.declared.wait.WaitPlace.TheVariants.{AwaitWakeInWait, InLeaving, InQueuing, LookOut, PayInWait, TestCells, TestLast}
+pub use Rattle.ns_word.specs.declared.wait.WaitPlace.TheVariants.{AwaitWakeInWait, InLeaving, InQueuing, LookOut, TestCells, TestLast}
 pub use Rattle.ns_word.specs.declared.walk.Next.{Next}
 pub use Rattle.ns_word.specs.declared.walk.Next.TheVariants.{On}
 pub use Rattle.ns_word.specs.declared.walk.Reply.{Reply as WalkReply}

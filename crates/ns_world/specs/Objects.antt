@@ -1,11 +1,9 @@
 -- The counters and once cells of a world, and one step of a seat in a call on them.
-use Rattle.std.specs.Prelude.{◌≡◌, ℕ, List, map, replicate, Option, None, Some, slice_get, slice_set, unwrap_or}
+use Rattle.std.specs.Prelude.{List, None, Option, Some, map, replicate, slice_get, slice_set, unwrap_or, ℕ, ◌≡◌}
 use Rattle.ns_world.specs.Replies.{object_told}
-use Rattle.ns_world.specs.Names.{IsLawfulObjects, ObjectEffect, ObjectState, AnyWait, EnvPlain, Finished, Idle, NoteStanding}
-use Rattle.ns_world.specs.Names.{ObjectEvent, ObjectFound, ObjectNext, ObjectWalk, ObjectWords, Over, Repeat, Seat, Setup, Step}
-use Rattle.ns_world.specs.Names.{Went, first_words, padded, setup_of}
+use Rattle.ns_world.specs.Names.{AnyWait, EnvPlain, Finished, Idle, IsLawfulObjects, NoteStanding, ObjectEffect, ObjectEvent, ObjectFound, ObjectNext, ObjectState, ObjectWalk, ObjectWords, Over, Repeat, Seat, Setup, Step, Went, first_words, object_after, object_got, object_place, object_want}
+use Rattle.ns_world.specs.Names.{padded, setup_of}
 use Rattle.ns_counters.specs.declared.walk.ObjectNext.TheVariants.{Go}
-use Rattle.ns_world.specs.Names.{object_want, object_got, object_after, object_place}
 
 -- the counters and once cells of a world, and each seat's place in its call on them, and its wait on the lock for variables among objects, if it is in one
 pub record Objects : Type 0 where

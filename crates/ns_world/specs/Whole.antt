@@ -1,16 +1,14 @@
 -- A world as a contract sees it: the lock with its row, the clock and the notes, and beside them counters and once cells; and a seat's step in it.
-use Rattle.std.specs.Prelude.{◌≡◌, ℕ, ◌⊎◌, Bool, true, false, not, ◌||◌, ◌<◌, ◌≤◌, List, [], Option, Some, None, IsSome, is_some, length, slice_get}
+use Rattle.std.specs.Prelude.{Bool, IsSome, List, None, Option, Some, [], false, is_some, length, not, slice_get, true, ℕ, ◌<◌, ◌||◌, ◌≡◌, ◌≤◌, ◌⊎◌}
 use Rattle.std.proofs.Common.{inl, inr}
-use Rattle.ns_world.specs.Names.{Act, AnyWait, Begun, Busy, Call, Cvs, EnvEvent, Environment, Event, Every, Fault, Held, Idle, InRound, Lists, Looked, Misuse, Mode, NoSuchSeat, Nothing, ObjectEvent, ObjectWalk, ObjectWords, OnLock, OutOfMemory, Round, RoundPlace, Seat, SeatView, Started}
-use Rattle.ns_world.specs.Names.{Step, StepLimit, TooManySeats, Truths, Walk, Went, Word, asked_of, got_of, object_who, wait_first, walk_after, want_of}
+use Rattle.ns_world.specs.Names.{Act, AnyWait, AreAmong, AreThere, Begun, Busy, Call, Cvs, EnvEvent, Every, Fault, FirstClock, Held, Idle, InRound, Looked, Misuse, Mode, NoSuchSeat, Nothing, ObjectEvent, ObjectWalk, OnLock, OutOfMemory, Round, RoundPlace, SeatView}
+use Rattle.ns_world.specs.Names.{Started, Step, Truths, Walk, Went, asked_of, got_of, have_variable, items_of, object_asked, object_who, wait_first, walk_after, walk_in, want_of}
 use Rattle.ns_world.specs.Among.{asks_for_any, cause_of, is_for_lock, shown_by, step_told, waited_after, waits_for_any}
-use Rattle.ns_world.specs.Begins.{Starts, Misuses, begun_at}
+use Rattle.ns_world.specs.Begins.{Misuses, Starts, begun_at}
 use Rattle.ns_world.specs.Calls.{mode_of, mode_waited, object_start}
-use Rattle.ns_world.specs.Names.{AreAmong, have_variable, items_of}
 use Rattle.ns_world.specs.Looks.{looks_at}
 use Rattle.ns_world.specs.Objects.{AreLedTo, HasOperated, Objects, fresh_objects, objects_begun, objects_of, stood_at, wait_in}
-use Rattle.ns_world.specs.Names.{AreThere, walk_in}
-use Rattle.ns_world.specs.World.{Now, Kept, kept, now_of, fresh, Acts, IsLawfulWorld, IsIdle, IsBusy, Moves, CommitsNext, env_done, is_busy}
+use Rattle.ns_world.specs.World.{Acts, CommitsNext, IsBusy, IsIdle, IsLawfulWorld, Kept, Moves, Now, env_done, fresh, is_busy, now_of}
 use Rattle.ns_word.specs.declared.request.Request.TheVariants as TheRequest
 
 -- a world: the lock with the clock and the notes, and the counters and once cells
@@ -18,34 +16,20 @@ pub record Whole (C : Type 0) (N : ℕ) : Type 0 where
   pub lock : Now C N
   pub objects : Objects
 
--- what a world keeps: the same, but what the conditions mean
-pub record WholeKept (C : Type 0) (N : ℕ) : Type 0 where
-  pub lock : Kept C N
-  pub objects : Objects
-
 -- a world, of its two parts
 abbrev pub whole : {C : Type 0} {N : ℕ} → Now C N → Objects → Whole C N
 whole lock objects = record { lock = lock; objects = objects }
 
 -- a world as the machine sees it
-abbrev pub whole_of : {C : Type 0} {N : ℕ} → Truths C → WholeKept C N → Whole C N
-whole_of truths world = whole (now_of truths world.lock) world.objects
-
--- what a world keeps, of its parts
-abbrev pub whole_kept : {C : Type 0} {N : ℕ} → Word → List ℕ → Lists C → List ℕ → Environment → List (Seat C N) → List (Event C N) → ObjectWords → WholeKept C N
-whole_kept word row queues flags env seats history objects = record { lock = kept word row queues flags env seats history; objects = objects_of objects seats }
-
--- a world as the machine sees it, of its parts
-abbrev pub whole_with : {C : Type 0} {N : ℕ} → Truths C → Word → List ℕ → Lists C → List ℕ → Environment → List (Seat C N) → List (Event C N) → ObjectWords → Whole C N
-whole_with truths word row queues flags env seats history objects = whole_of truths (whole_kept word row queues flags env seats history objects)
+abbrev pub whole_of : {C : Type 0} {N : ℕ} → Truths C → Kept C N → Whole C N
+whole_of truths world = whole (now_of truths world) (objects_of world.objects world.seats)
 
 -- ---- what holds of every world
 
 -- A wait on the lock looks at objects just where the machine wants it to, by a round of those that it is for.
 abbrev pub LooksWhere : {C : Type 0} → Round → Option ObjectWalk → Act C → Type 0
 LooksWhere round None act = looks_at act ≡ None
-LooksWhere round (Some (InRound by place)) act = (by ≡ round) × IsSome (looks_at act)
-LooksWhere round (Some walk) act = ⊥
+LooksWhere round (Some walk) act = (object_asked walk ≡ InRound round FirstClock) × IsSome (looks_at act)
 
 -- A seat that waits on the lock for variables among objects is there in a call that waits for just these; each of the objects is there; and the call looks at them where it is to.
 pub record WaitsOnLock {C : Type 0} {N : ℕ} (world : Whole C N) (seat : ℕ) (wait : AnyWait) : Type 0 where
@@ -66,10 +50,15 @@ abbrev pub is_alone : {C : Type 0} → Option (Walk C) → Bool
 is_alone None = true
 is_alone (Some walk) = not (asks_for_any (asked_of walk))
 
+-- what was asked goes with a section in hand, where condition variables are among its objects
+abbrev pub GoesWith : {C : Type 0} {N : ℕ} → ObjectWalk → Option (Held C N) → Type 0
+GoesWith (InRound round place) held = have_variable round.items ≡ true → IsSome held
+GoesWith walk held = Unit {0}
+
 -- a round whose call may go on to wait for condition variables goes with a section in hand
 abbrev pub MayWait : {C : Type 0} {N : ℕ} → Option ObjectWalk → Option (Held C N) → Type 0
-MayWait (Some (InRound round place)) held = have_variable round.items ≡ true → IsSome held
-MayWait walk held = Unit {0}
+MayWait None held = Unit {0}
+MayWait (Some walk) held = GoesWith (object_asked walk) held
 
 -- Any other seat waits for no set of variables. Where it is in a call on counters and once cells it is in no other, and it has a section in hand if that may go on to wait on the lock.
 pub record StandsAlone {C : Type 0} {N : ℕ} (world : Whole C N) (seat : ℕ) : Type 0 where
@@ -150,14 +139,11 @@ pub record BeginsToWait {C : Type 0} {N : ℕ} (old new : Whole C N) (seat : ℕ
   pub named : have_variable round.items ≡ true
   pub then : Objects
   pub operated : HasOperated old.lock.env seat (InRound round place) old.objects then Idle
-  pub view : SeatView C N
-  pub at : slice_get old.lock.state.views seat ≡ Some view
-  pub idle : view.walk ≡ None
-  pub unasked : slice_get old.lock.asking seat ≡ Some None
+  pub rests : IsIdle old.lock seat
   pub cvs : Cvs
   pub low : cvs.0 < 16
   pub among : AreAmong cvs (items_of round.items)
-  pub begins : new.lock ≡ begun_at old.lock seat view (OnLock (wait_first N (waits_for_any (mode_waited (mode_of view.held)) cvs)))
+  pub begins : new.lock ≡ begun_at old.lock seat rests.view (OnLock (wait_first N (waits_for_any (mode_waited (mode_of rests.view.held)) cvs)))
   pub becomes : new.objects ≡ stood_at then seat None (Some (record { round = round; shown = None }))
   pub answer : step ≡ Went
 
@@ -222,8 +208,7 @@ WholeCommits world seat = CommitsNext world.lock seat
 abbrev pub WholeFault : {C : Type 0} {N : ℕ} → Whole C N → ℕ → Fault → Type 0
 WholeFault old seat NoSuchSeat = length old.lock.state.views ≤ seat
 WholeFault old seat OutOfMemory = WholeCommits old seat
-WholeFault old seat TooManySeats = ⊥
-WholeFault old seat StepLimit = ⊥
+WholeFault old seat fault = ⊥
 
 -- whether a call of the seat is in progress
 abbrev pub whole_busy : {C : Type 0} {N : ℕ} → Whole C N → ℕ → Bool

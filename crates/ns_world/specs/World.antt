@@ -2,8 +2,8 @@
 use Rattle.std.specs.Prelude.{◌≡◌, ℕ, ◌⊎◌, Bool, false, ◌||◌, ◌<◌, ◌≤◌, ◌++◌, List, [], map, replicate, Option, Some, None, is_some, slice_get, slice_set, slice_index, length}
 use Rattle.std.specs.Option.{option_map_or}
 use Rattle.std.proofs.Common.{inl, inr}
-use Rattle.ns_world.specs.Names.{AreNumbered, EnvEffect, EnvEvent, EnvFound, EnvNext, EnvPlain, EnvStep, EnvWalk, Environment, Event, Every, Fault, Found, Go, IfMade, IsLawfulEnv, Lists, LockState, LookOver, Looked, NoSuchSeat, NoteStanding, OutOfMemory, Seat, SeatView}
-use Rattle.ns_world.specs.Names.{Step, StepLimit, Steps, TooManySeats, Truths, Walk, Went, Word, env_got_of, env_want_of, env_who, fresh_plain, fresh_state, got_of, walk_after, want_of}
+use Rattle.ns_world.specs.Names.{AreNumbered, EnvEffect, EnvEvent, EnvFound, EnvNext, EnvPlain, EnvStep, EnvWalk, Environment, Event, Every, Fault, Found, Go, IfMade, IsLawfulEnv, Lists, LockState, LookOver, Looked, NoteStanding, ObjectWords, OutOfMemory, Seat, SeatView}
+use Rattle.ns_world.specs.Names.{Step, Steps, TooManySeats, Truths, Walk, Went, Word, env_got_of, env_want_of, env_who, fresh_plain, fresh_state, got_of, walk_after, want_of}
 use Rattle.ns_word.specs.Lawful.{IsLawful}
 use Rattle.ns_world.specs.Asks.{plain_of, env_state, env_step_of}
 use Rattle.ns_world.specs.Commits.{Commits}
@@ -19,46 +19,31 @@ pub record Now (C : Type 0) (N : ℕ) : Type 0 where
   pub env : EnvPlain
   pub asking : List (Option EnvWalk)
 
--- what a world keeps: the same, but what the conditions mean, with the flags and the notes in lists
+-- what a world keeps, with the flags and the notes in lists
 pub record Kept (C : Type 0) (N : ℕ) : Type 0 where
   pub word : Word
   pub row : List ℕ
   pub queues : Lists C
   pub flags : List ℕ
-  pub views : List (SeatView C N)
-  pub tests : List ℕ
-  pub history : List (Event C N)
   pub env : Environment
-  pub asking : List (Option EnvWalk)
+  pub seats : List (Seat C N)
+  pub history : List (Event C N)
+  pub objects : ObjectWords
 
 -- what a world keeps, of its parts
-abbrev pub kept : {C : Type 0} {N : ℕ} → Word → List ℕ → Lists C → List ℕ → Environment → List (Seat C N) → List (Event C N) → Kept C N
-kept word row queues flags env seats history = record {
-  word = word;
-  row = row;
-  queues = queues;
-  flags = flags;
-  views = map view_of seats;
-  tests = map (λ seat. seat.tests) seats;
-  history = history;
-  env = env;
-  asking = map (λ seat. seat.asking) seats;
-}
+abbrev pub kept : {C : Type 0} {N : ℕ} → Word → List ℕ → Lists C → List ℕ → Environment → List (Seat C N) → List (Event C N) → ObjectWords → Kept C N
+kept word row queues flags env seats history objects = record { word = word; row = row; queues = queues; flags = flags; env = env; seats = seats; history = history; objects = objects }
 
--- a world as the machine sees it
+-- its lock, clock and notes as the machine sees them
 abbrev pub now_of : {C : Type 0} {N : ℕ} → Truths C → Kept C N → Now C N
 now_of truths world = record {
   truths = truths;
-  state = record { word = world.word; row = world.row; lists = world.queues; flags = flag_at world.flags; views = world.views };
-  tests = world.tests;
+  state = record { word = world.word; row = world.row; lists = world.queues; flags = flag_at world.flags; views = map view_of world.seats };
+  tests = map (λ seat. seat.tests) world.seats;
   history = world.history;
   env = plain_of world.env;
-  asking = world.asking;
+  asking = map (λ seat. seat.asking) world.seats;
 }
-
--- a world as the machine sees it, of its parts
-abbrev pub now_with : {C : Type 0} {N : ℕ} → Truths C → Word → List ℕ → Lists C → List ℕ → Environment → List (Seat C N) → List (Event C N) → Now C N
-now_with truths word row queues flags env seats history = now_of truths (kept word row queues flags env seats history)
 
 -- ---- what holds of every world
 
@@ -99,8 +84,7 @@ fresh {C} {N} truths seats = record { truths = truths; state = fresh_state {C = 
 abbrev pub RefusesWorld : ℕ → Fault → Type 0
 RefusesWorld seats TooManySeats = 64 < seats
 RefusesWorld seats OutOfMemory = seats ≤ 64
-RefusesWorld seats NoSuchSeat = ⊥
-RefusesWorld seats StepLimit = ⊥
+RefusesWorld seats fault = ⊥
 
 -- ---- a step
 

@@ -80,7 +80,8 @@ pub(crate) fn take_queues<C: Seated<N>, const N: usize>(
     Found::Made
 }
 
-/// Puts the seat into the lock list, and puts the queues back, which clears the spinlock bit.
+/// Puts the seat into the lock list, and puts the queues back, which clears the spinlock bit. The word is the
+/// one that the seat has last seen, as its caller has found, here and in the next ones.
 fn return_queued<C: Seated<N>, const N: usize>(
     word: &mut Word,
     queues: &mut Queues<C, N>,
@@ -91,11 +92,9 @@ fn return_queued<C: Seated<N>, const N: usize>(
 ) -> Found
     requires below { seat < 64 }
     requires free { times seat queues.old ≡ 0 }
+    requires same { last ≡ word.old }
     ensures { (row flags : List ℕ) (owed : List Owed) (held : _) → Effect {N = N} C.means seat (Act.ReturnQueues (Change.QueueSelf mode arrival) last) (part word.old row queues.old flags held owed) result (part word.new row queues.new flags held owed) [] }
 {
-    if !word.is_same(last) {
-        return Found::Saw(*word);
-    }
     queue_self(queues, seat, mode, arrival);
     *word = last.returned(false, bits(queues));
     Found::Made
@@ -141,11 +140,9 @@ fn return_left<C: Seated<N>, const N: usize>(
     home: Home,
     last: Word,
 ) -> Result<Found, AllocError>
+    requires { last ≡ word.old }
     ensures { MatchResult result (λ found. (row flags : List ℕ) (owed : List Owed) (held : _) → Makes C.means seat (Act.ReturnQueues (Change.LeaveSelf home) last) (part word.old row queues.old flags held owed) history.old.items found (part word.new row queues.new flags held owed) history.new.items) (λ fault. IsEvent seat (Change.LeaveSelf home) queues.old × (last ≡ word.old) × (word.new ≡ word.old) × (queues.new ≡ queues.old) × (history.new.items ≡ history.old.items)) }
 {
-    if !word.is_same(last) {
-        return Ok(Found::Saw(*word));
-    }
     commit_leave(queues, seat, history, home)?;
     let stood = leave_self(queues, seat, home);
     *word = last.returned(false, bits(queues));
@@ -193,12 +190,10 @@ fn return_waking<C: Seated<N>, const N: usize>(
     k: u8,
     last: Word,
 ) -> Result<Found, AllocError>
-    requires { k < 4 }
+    requires there { k < 4 }
+    requires same { last ≡ word.old }
     ensures { MatchResult result (λ found. ((row flags : List ℕ) → Makes C.means seat.old.number (Act.ReturnQueues (Change.WakeWaiters waking k) last) (part word.old row queues.old flags seat.old.held seat.old.owed.items) history.old.items found (part word.new row queues.new flags seat.new.held seat.new.owed.items) history.new.items) × StaysThere seat.old seat.new) (λ fault. (last ≡ word.old) × (word.new ≡ word.old) × (queues.new ≡ queues.old) × (seat.new ≡ seat.old) × (history.new.items ≡ history.old.items)) }
 {
-    if !word.is_same(last) {
-        return Ok(Found::Saw(*word));
-    }
     commit_wake(queues, seat.number, history, waking, k)?;
     let some = !queues.waiters(Which::Cv(k)).is_empty();
     let held = last.is_held();
@@ -213,11 +208,9 @@ fn return_unchanged<C: Seated<N>, const N: usize>(
     queues: &Queues<C, N>,
     last: Word,
 ) -> Found
+    requires { last ≡ word.old }
     ensures { (seat : ℕ) (row flags : List ℕ) (owed : List Owed) (held : _) → Effect {N = N} C.means seat (Act.ReturnQueues Change.Nothing last) (part word.old row queues.now flags held owed) result (part word.new row queues.now flags held owed) [] }
 {
-    if !word.is_same(last) {
-        return Found::Saw(*word);
-    }
     *word = last.returned(false, bits(queues));
     Found::Made
 }
@@ -236,6 +229,9 @@ pub(crate) fn return_queues<C: Seated<N>, const N: usize>(
     requires fits { (row flags : List ℕ) → ChangeFits seat.old.number change (part word.old row queues.old flags seat.old.held seat.old.owed.items) }
     ensures { MatchResult result (λ found. ((row flags : List ℕ) → Makes C.means seat.old.number (Act.ReturnQueues change last) (part word.old row queues.old flags seat.old.held seat.old.owed.items) history.old.items found (part word.new row queues.new flags seat.new.held seat.new.owed.items) history.new.items) × StaysThere seat.old seat.new) (λ fault. IsEvent seat.old.number change queues.old × (last ≡ word.old) × (word.new ≡ word.old) × (queues.new ≡ queues.old) × (seat.new ≡ seat.old) × (history.new.items ≡ history.old.items)) }
 {
+    if !word.is_same(last) {
+        return Ok(Found::Saw(*word));
+    }
     match change {
         Change::QueueSelf(mode, arrival) => Ok(return_queued(
             word,

@@ -6,6 +6,7 @@ ghost use Rattle.ns_model.specs.Histories.{IsLegal, IsBySeats};
 ghost use Rattle.ns_model.specs.Seats.{is_in};
 ghost use Rattle.ns_queue.specs.Waiters.{shown_of};
 ghost use Rattle.ns_world.specs.Begins.{BeginFault};
+ghost use Rattle.ns_world.specs.Performs.{view_of};
 ghost use Rattle.ns_world.specs.Calls.{CallInRange};
 ghost use Rattle.ns_world.specs.Shows.{lists_shown, wakes_owed};
 ghost use Rattle.ns_world.specs.Whole.{fresh_whole, whole_of, whole_busy, IsLawfulWhole, WholeBegins, WholeStep, WholeFault};
@@ -57,13 +58,14 @@ pub struct World<C: Condition<N>, const N: usize> {
 }
 
 impl<C: Condition<N>, const N: usize> Model for World<C, N> {
-    ghost use Rattle.ns_world.specs.Whole.{WholeKept, whole_kept, whole_with, IsLawfulWhole};
+    ghost use Rattle.ns_world.specs.Whole.{whole_of, IsLawfulWhole};
+    ghost use Rattle.ns_world.specs.World.{Kept, kept};
 
-    ghost Value = { WholeKept C N };
+    ghost Value = { Kept C N };
 
-    ghost view = { λ w. whole_kept w.word w.row w.queues w.flags w.env w.seats.items w.history.items w.objects };
+    ghost view = { λ w. kept w.word w.row w.queues w.flags w.env w.seats.items w.history.items w.objects };
 
-    ghost invariant = { λ w. IsLawfulWhole (whole_with C.means w.word w.row w.queues w.flags w.env w.seats.items w.history.items w.objects) };
+    ghost invariant = { λ w. IsLawfulWhole (whole_of C.means (kept w.word w.row w.queues w.flags w.env w.seats.items w.history.items w.objects)) };
 }
 
 impl<C: Seated<N>, const N: usize> World<C, N> {
@@ -104,23 +106,22 @@ impl<C: Seated<N>, const N: usize> World<C, N> {
         requires { CallInRange N call }
         ensures lawful { IsLawfulWhole (whole_of C.means self.new) }
         ensures ok { IfOk result (λ begun. WholeBegins (whole_of C.means self.old) (whole_of C.means self.new) seat call begun) }
-        ensures err { IfErr result (λ fault. (whole_of C.means self.new ≡ whole_of C.means self.old) × BeginFault (now_of C.means self.old.lock) seat fault) }
+        ensures err { IfErr result (λ fault. (whole_of C.means self.new ≡ whole_of C.means self.old) × BeginFault (now_of C.means self.old) seat fault) }
     {
         let at = seat as usize;
         if at >= self.seats.len() {
             return Err(Fault::NoSuchSeat);
         }
-        let here = &self.seats[at];
+        let here = &mut self.seats[at];
         if is_busy(here) {
             return Ok(Begun::Busy);
         }
-        match call.start::<N>(mode_of(&here.held), &self.env.notes, &self.objects.setup) {
-            None => Ok(Begun::Misuse),
-            Some(start) => {
-                place(&mut self.seats[at], start);
-                Ok(Begun::Started)
-            }
-        }
+        let mode = mode_of(&here.held);
+        let Some(start) = call.start::<N>(mode, &self.env.notes, &self.objects.setup) else {
+            return Ok(Begun::Misuse);
+        };
+        place(here, start);
+        Ok(Begun::Started)
     }
 
     /// Makes one atomic step of the seat's call, if one is in progress.
@@ -137,35 +138,34 @@ impl<C: Seated<N>, const N: usize> World<C, N> {
         if at >= self.seats.len() {
             return Err(Fault::NoSuchSeat);
         }
-        if let Some(walk) = self.seats[at].operating {
-            return Ok(step_objects(&self.env, &mut self.objects, &mut self.seats[at], walk));
+        let here = &mut self.seats[at];
+        if let Some(walk) = here.operating {
+            return Ok(step_objects(&self.env, &mut self.objects, here, walk));
         }
-        if let Some(place) = self.seats[at].asking {
-            return Ok(step_env(&mut self.env, &mut self.seats[at], place));
+        if let Some(place) = here.asking {
+            return Ok(step_env(&mut self.env, here, place));
         }
-        let Some(walk) = self.seats[at].walk else {
+        let Some(walk) = here.walk else {
             return Ok(Step::Nothing);
         };
-        match perform(
+        let told = perform(
             &mut self.word,
             &mut self.row,
             &mut self.queues,
             &mut self.flags,
-            &mut self.seats[at],
+            here,
             &mut self.history,
             walk,
-        ) {
-            Ok(told) => Ok(told_by_lock(&mut self.seats[at], told)),
-            Err(_) => Err(Fault::OutOfMemory),
-        }
+        )?;
+        Ok(told_by_lock(here, told))
     }
 
     /// All that has happened to the row and the variables, which is a legal history by seats of this
     /// world.
     pub fn history(&self) -> &[Event<C, N>]
-        ensures all { result.now ≡ self.now.lock.history }
+        ensures all { result.now ≡ self.now.history }
         ensures legal { IsLegal C.means.holds result.now }
-        ensures by_seats { IsBySeats (length self.now.lock.views) result.now }
+        ensures by_seats { IsBySeats (length (map view_of self.now.seats)) result.now }
     {
         self.history.as_slice()
     }
@@ -173,7 +173,7 @@ impl<C: Seated<N>, const N: usize> World<C, N> {
     /// The lock word as it stands, as [`World::state`] shows it. A picture asks for it at each turn, and for
     /// the state, which copies the lists, only where it may differ from what was seen.
     pub fn word(&self) -> Word
-        ensures { result ≡ self.now.lock.word }
+        ensures { result ≡ self.now.word }
     {
         self.word
     }
@@ -181,11 +181,11 @@ impl<C: Seated<N>, const N: usize> World<C, N> {
     /// The world as it stands, of which the law of the lock holds, and those of the clock and the
     /// notes, and of the counters and once cells.
     pub fn state(&self) -> State<N>
-        ensures word { result.word ≡ self.now.lock.word }
-        ensures lock { result.lock.items ≡ map shown_of (lists_shown (now_of C.means self.now.lock)).lock }
-        ensures variables { map (λ list. list.items) result.cvs ≡ map (map shown_of) (lists_shown (now_of C.means self.now.lock)).cvs }
-        ensures owed { result.owed.items ≡ wakes_owed self.now.lock.views }
-        ensures row { result.row ≡ self.now.lock.row }
+        ensures word { result.word ≡ self.now.word }
+        ensures lock { result.lock.items ≡ map shown_of (lists_shown (now_of C.means self.now)).lock }
+        ensures variables { map (λ list. list.items) result.cvs ≡ map (map shown_of) (lists_shown (now_of C.means self.now)).cvs }
+        ensures owed { result.owed.items ≡ wakes_owed (map view_of self.now.seats) }
+        ensures row { result.row ≡ self.now.row }
         ensures busy { (seat : ℕ) → is_in result.busy seat ≡ whole_busy (whole_of C.means self.now) seat }
         ensures lawful { IsLawfulWhole (whole_of C.means self.now) }
     {
@@ -207,7 +207,7 @@ impl<C: Seated<N>, const N: usize> World<C, N> {
 
     /// How many seats there are.
     pub(crate) fn seats(&self) -> usize
-        ensures count { result ≡ length self.now.lock.views }
+        ensures count { result ≡ length (map view_of self.now.seats) }
         ensures few { result ≤ 64 }
     {
         self.seats.len()
@@ -216,8 +216,8 @@ impl<C: Seated<N>, const N: usize> World<C, N> {
     /// How many conditions the scan of the seat's call tested, of its last one where none is in
     /// progress.
     pub(crate) fn tests(&self, seat: u8) -> u32
-        requires { seat < length self.now.lock.views }
-        ensures { result ≡ slice_index self.now.lock.tests seat }
+        requires { seat < length (map view_of self.now.seats) }
+        ensures { result ≡ slice_index (map (λ seat. seat.tests) self.now.seats) seat }
     {
         self.seats[seat as usize].tests
     }

@@ -2,7 +2,7 @@ use Rattle.std.proofs.Common.{◌≡◌, ℕ, List, ◌++◌, false, rules, ap, 
 use Rattle.ns_world.proofs.Below.{append-nil}
 use Rattle.ns_word.specs.Names.{Variables}
 use Rattle.ns_world.specs.Prelude.{AtVariables, Event, Home, Lists, leave_of, stands_at, times_in}
-use Rattle.ns_world.proofs.Waited.{not_leaving}
+use Rattle.ns_world.proofs.Exchanged.{not_leaving}
 use Rattle.ns_world.proofs.exchanges.commit_leave.Goals as goal
 
 -- who stands in no list of a variable leaves none

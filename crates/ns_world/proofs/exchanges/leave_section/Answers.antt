@@ -1,5 +1,5 @@
 use Rattle.std.proofs.Common.{refl}
-use Rattle.ns_world.proofs.Waited.{none_more, on_both}
+use Rattle.ns_world.proofs.Exchanged.{none_more, on_both}
 use Rattle.ns_world.proofs.exchanges.leave_section.Goals as goal
 
 pub returns-then-again : goal.returns-then-again

@@ -1,10 +1,9 @@
 use Rattle.std.proofs.Common.{refl}
-use Rattle.ns_world.proofs.Released.{released, release_missed, can_some}
+use Rattle.ns_world.proofs.Exchanged.{can_some, made, released}
 use Rattle.ns_world.proofs.exchanges.release.Goals as goal
 
 pub returns-then-not-is_last : goal.returns-then-not-is_last
-returns-then-not-is_last g c = λ row flags owed queues.
-    release_missed _ c.args.seat c.args.releasing c.args.last c.args.word.now row flags owed c.args.history.now.items queues c.args.held.now (c.if-not-is_last.ensures.another refl)
+returns-then-not-is_last g c = λ row flags owed queues. made _ (refl, c.if-not-is_last.ensures.another refl, refl, refl)
 
 pub commit-requires : goal.commit-requires
 commit-requires g c = (g.met.C.Fits.held_fits, (g.met.C.Fits.event_fits, can_some g.C.Condition.means c.args.releasing c.args.held.now c.requires))

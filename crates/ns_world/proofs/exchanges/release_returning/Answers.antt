@@ -1,16 +1,11 @@
-use Rattle.std.proofs.Common.{refl, sym, ◌∙◌, ap, not, rules, arith}
+use Rattle.std.proofs.Common.{ap, arith, not, refl, rules, sym, ◌∙◌}
 use Rattle.ns_world.proofs.Below.{are_called, as_many, err_from_is_err_and, some_called}
 use Rattle.ns_world.specs.Prelude.{called_by}
-use Rattle.ns_world.proofs.Released.{scanned, missed, some_left, can_some}
+use Rattle.ns_world.proofs.Exchanged.{can_some, made, scanned, some_left}
 use Rattle.ns_world.proofs.exchanges.release_returning.Goals as goal
 
 pub returns-then-not-is_same : goal.returns-then-not-is_same
-returns-then-not-is_same g c = (
-  λ flags.
-      missed _ c.args.seat.now.number c.args.releasing c.args.last c.args.word.now c.args.word.now c.args.row.now flags c.args.history.now.items c.args.history.now.items c.args.queues.now c.args.seat.now.owed.items c.args.seat.now.held
-      (c.if-not-is_same.ensures.another refl),
-  refl,
-)
+returns-then-not-is_same g c = (λ flags. made _ (refl, c.if-not-is_same.ensures.another refl, refl, refl), refl)
 
 pub commit-requires : goal.commit-requires
 commit-requires g c = (g.met.C.Fits.held_fits, (g.met.C.Fits.event_fits, can_some g.C.Condition.means c.args.releasing c.args.seat.now.held c.requires))

@@ -1,23 +1,18 @@
-use Rattle.std.proofs.Common.{refl, sym}
+use Rattle.std.proofs.Common.{refl}
 use Rattle.ns_world.proofs.Below.{err_from_is_err_and}
-use Rattle.ns_world.specs.Prelude.{LeaveSelf}
-use Rattle.ns_world.proofs.Waited.{left_back, change_missed}
+use Rattle.ns_world.proofs.Exchanged.{left_back}
 use Rattle.ns_world.proofs.exchanges.return_left.Goals as goal
-
-pub returns-then-not-is_same : goal.returns-then-not-is_same
-returns-then-not-is_same g c = λ row flags owed held.
-    change_missed g.C.Condition.means c.args.seat c.args.last c.args.word.now row flags c.args.history.now.items (LeaveSelf c.args.home) owed held c.args.queues.now (c.if-not-is_same.ensures.another refl)
 
 pub returns : goal.returns
 returns g c = λ row flags owed held.
     left_back g.C.Condition.means c.args.seat c.args.last c.args.word.now row flags c.args.history.now.items c.args.home c.returned.result c.commit_leave.new.history.items owed held c.args.queues.now c.leave_self-stood.new.queues c.leave_self-stood.result c.bits.result
-    (sym (c.if-not-is_same.ensures.same refl)) c.in_ok-commit_leave.ensures c.leave_self-stood.ensures.stood (c.leave_self-stood.ensures.left c.args.last) c.bits.ensures c.returned.ensures
+    c.requires c.in_ok-commit_leave.ensures c.leave_self-stood.ensures.stood (c.leave_self-stood.ensures.left c.args.last) c.bits.ensures c.returned.ensures
 
 pub returns-in_err-commit_leave : goal.returns-in_err-commit_leave
 returns-in_err-commit_leave g c =
     let p = err_from_is_err_and c.from_residual.result c.from_residual.ensures.1 in
     let err = c.in_err-commit_leave.ensures in
-    rw p.1 (err.0, sym (c.if-not-is_same.ensures.same refl), refl, refl, err.1)
+    rw p.1 (err.0, c.requires, refl, refl, err.1)
 
 pub commit_leave-requires : goal.commit_leave-requires
 commit_leave-requires g c = (g.met.C.Seated.queues_fit, g.met.C.Fits.event_fits)

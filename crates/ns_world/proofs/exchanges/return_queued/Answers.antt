@@ -1,14 +1,10 @@
-use Rattle.std.proofs.Common.{refl, sym}
-use Rattle.ns_world.proofs.Waited.{queued_back}
+use Rattle.ns_world.proofs.Exchanged.{queued_back}
 use Rattle.ns_world.proofs.exchanges.return_queued.Goals as goal
-
-pub returns-then-not-is_same : goal.returns-then-not-is_same
-returns-then-not-is_same g c = λ row flags owed held. (refl, c.if-not-is_same.ensures.another refl, refl, refl)
 
 pub returns : goal.returns
 returns g c = λ row flags owed held.
     queued_back g.C.Condition.means c.args.seat c.args.mode c.args.arrival c.args.last c.args.word.now c.returned.result row flags owed held c.args.queues.now c.queue_self.new.queues c.bits.result
-    (sym (c.if-not-is_same.ensures.same refl)) (c.queue_self.ensures c.args.last) c.bits.ensures c.returned.ensures
+    c.requires.same (c.queue_self.ensures c.args.last) c.bits.ensures c.returned.ensures
 
 pub queue_self-requires : goal.queue_self-requires
 queue_self-requires g c = (g.met.C.Seated.queues_fit, (c.requires.below, c.requires.free))

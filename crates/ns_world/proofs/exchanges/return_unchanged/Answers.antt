@@ -1,14 +1,10 @@
-use Rattle.std.proofs.Common.{refl, sym}
-use Rattle.ns_world.proofs.Waited.{unchanged_back}
+use Rattle.ns_world.proofs.Exchanged.{unchanged_back}
 use Rattle.ns_world.proofs.exchanges.return_unchanged.Goals as goal
-
-pub returns-then-not-is_same : goal.returns-then-not-is_same
-returns-then-not-is_same g c = λ seat row flags owed held. (refl, c.if-not-is_same.ensures.another refl, refl, refl)
 
 pub returns : goal.returns
 returns g c = λ seat row flags owed held.
     unchanged_back g.C.Condition.means seat c.args.last c.args.word.now c.returned.result row flags owed held c.args.queues.now c.bits.result
-    (sym (c.if-not-is_same.ensures.same refl)) c.bits.ensures c.returned.ensures
+    c.requires c.bits.ensures c.returned.ensures
 
 pub bits-requires : goal.bits-requires
 bits-requires g c = g.met.C.Seated.queues_fit

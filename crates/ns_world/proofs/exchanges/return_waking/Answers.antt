@@ -1,24 +1,16 @@
-use Rattle.std.proofs.Common.{refl, sym, ap, not, ◌∙◌}
+use Rattle.std.proofs.Common.{ap, not, refl, ◌∙◌}
 use Rattle.ns_world.proofs.Below.{err_from_is_err_and}
-use Rattle.ns_world.specs.Prelude.{WakeWaiters, has_some}
-use Rattle.ns_world.proofs.Released.{some_left}
-use Rattle.ns_world.proofs.Waited.{woken_back, change_missed}
+use Rattle.ns_world.specs.Prelude.{has_some}
+use Rattle.ns_world.proofs.Exchanged.{some_left, woken_back}
 use Rattle.ns_queue.proofs.Orders.{list_small}
 use Rattle.ns_world.proofs.exchanges.return_waking.Goals as goal
-
-pub returns-then-not-is_same : goal.returns-then-not-is_same
-returns-then-not-is_same g c = (
-  λ row flags.
-      change_missed g.C.Condition.means c.args.seat.now.number c.args.last c.args.word.now row flags c.args.history.now.items (WakeWaiters c.args.waking c.args.k) c.args.seat.now.owed.items c.args.seat.now.held c.args.queues.now (c.if-not-is_same.ensures.another refl),
-  refl,
-)
 
 pub returns : goal.returns
 returns g c = (
   λ row flags.
       woken_back g.C.Condition.means c.args.seat.now.number c.args.last c.args.word.now row flags c.args.history.now.items c.args.waking c.args.k c.returned.result c.commit_wake.new.history.items c.args.seat.now.owed.items c.wake_waiters-seat.result.items c.args.seat.now.held
       c.args.queues.now c.wake_waiters-seat.new.queues c.is_held-held.result (not c.is_empty-some.result) c.bits.result
-      (sym (c.if-not-is_same.ensures.same refl)) c.in_ok-commit_wake.ensures c.is_held-held.ensures (ap not c.is_empty-some.ensures ∙ some_left _ ∙ ap has_some c.waiters.ensures)
+      c.requires.same c.in_ok-commit_wake.ensures c.is_held-held.ensures (ap not c.is_empty-some.ensures ∙ some_left _ ∙ ap has_some c.waiters.ensures)
       c.wake_waiters-seat.ensures.owed c.wake_waiters-seat.ensures.lists c.bits.ensures c.returned.ensures,
   refl,
 )
@@ -26,7 +18,7 @@ returns g c = (
 pub returns-in_err-commit_wake : goal.returns-in_err-commit_wake
 returns-in_err-commit_wake g c =
     let p = err_from_is_err_and c.from_residual.result c.from_residual.ensures.1 in
-    rw p.1 (sym (c.if-not-is_same.ensures.same refl), refl, refl, refl, c.in_err-commit_wake.ensures)
+    rw p.1 (c.requires.same, refl, refl, refl, c.in_err-commit_wake.ensures)
 
 pub bits-requires : goal.bits-requires
 bits-requires g c = g.met.C.Seated.queues_fit
@@ -35,10 +27,10 @@ pub returned-requires : goal.returned-requires
 returned-requires g c = tt
 
 pub commit_wake-requires : goal.commit_wake-requires
-commit_wake-requires g c = (g.met.C.Seated.queues_fit, (g.met.C.Fits.event_fits, c.requires))
+commit_wake-requires g c = (g.met.C.Seated.queues_fit, (g.met.C.Fits.event_fits, c.requires.there))
 
 pub waiters-requires : goal.waiters-requires
-waiters-requires g c = (g.met.C.Seated.queues_fit, (list_small _ g.met.C.Queueable.list_fits, c.requires))
+waiters-requires g c = (g.met.C.Seated.queues_fit, (list_small _ g.met.C.Queueable.list_fits, c.requires.there))
 
 pub wake_waiters-seat-requires : goal.wake_waiters-seat-requires
-wake_waiters-seat-requires g c = (g.met.C.Seated.queues_fit, c.requires)
+wake_waiters-seat-requires g c = (g.met.C.Seated.queues_fit, c.requires.there)

@@ -1,8 +1,7 @@
-use Rattle.std.proofs.Common.{refl, ap, not, ◌∙◌, rules, arith}
+use Rattle.std.proofs.Common.{ap, arith, not, refl, rules, ◌∙◌}
 use Rattle.ns_world.proofs.Below.{are_called, as_many, err_from_is_err_and, some_called}
 use Rattle.ns_world.specs.Prelude.{called_by}
-use Rattle.ns_world.proofs.Released.{some_left}
-use Rattle.ns_world.proofs.Waited.{waited, wait_some}
+use Rattle.ns_world.proofs.Exchanged.{some_left, wait_some, waited}
 use Rattle.ns_world.proofs.exchanges.wait_returning.Goals as goal
 
 pub leave_section-requires : goal.leave_section-requires

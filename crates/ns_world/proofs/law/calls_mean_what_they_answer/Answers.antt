@@ -1,4 +1,4 @@
-use Rattle.ns_world.proofs.WholeCalls.{calls_mean}
+use Rattle.ns_world.proofs.Underway.{calls_mean}
 use Rattle.ns_world.proofs.law.calls_mean_what_they_answer.Goals as goal
 
 pub returns : goal.returns

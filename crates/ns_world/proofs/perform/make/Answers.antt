@@ -1,8 +1,7 @@
 use Rattle.ns_queue.specs.Sizes.{row_fits}
 use denote.Param.{number}
-use Rattle.ns_world.proofs.Below.{append-nil}
-use Rattle.std.proofs.Common.{[], refl, sym}
-use Rattle.ns_world.proofs.Waited.{can_in_range, fits_there, on_both, wait_missed}
+use Rattle.std.proofs.Common.{refl}
+use Rattle.ns_world.proofs.Exchanged.{can_in_range, fits_there, made, on_both}
 use Rattle.ns_world.proofs.perform.make.Goals as goal
 
 pub acquire-requires : goal.acquire-requires
@@ -48,90 +47,37 @@ pub pay_wake-requires : goal.pay_wake-requires
 pay_wake-requires g c = rw c.in-PayWake.is at c.requires.fits
 
 pub returns-in-LoadWord : goal.returns-in-LoadWord
-returns-in-LoadWord g c = rw c.in-LoadWord.is (record { commits = []; effect = (refl, refl, refl); grows = sym (append-nil _) }, refl)
+returns-in-LoadWord g c = rw c.in-LoadWord.is (made _ (refl, refl, refl), refl)
 
 pub returns-in-Acquire : goal.returns-in-Acquire
-returns-in-Acquire g c = rw c.in-Acquire.is (
-  record {
-    commits = [];
-    effect = c.acquire.ensures c.args.seat.now.number c.args.queues.now c.args.flags.now c.args.seat.now.owed.items;
-    grows = sym (append-nil _);
-  },
-  refl,
-)
+returns-in-Acquire g c = rw c.in-Acquire.is (made _ (c.acquire.ensures c.args.seat.now.number c.args.queues.now c.args.flags.now c.args.seat.now.owed.items), refl)
 
 pub returns-in-TakeQueues : goal.returns-in-TakeQueues
-returns-in-TakeQueues g c = rw c.in-TakeQueues.is (
-  record {
-    commits = [];
-    effect = c.take_queues.ensures c.args.seat.now.number c.args.queues.now c.args.row.now c.args.flags.now c.args.seat.now.owed.items c.args.seat.now.held;
-    grows = sym (append-nil _);
-  },
-  refl,
-)
+returns-in-TakeQueues g c = rw c.in-TakeQueues.is (made _ (c.take_queues.ensures c.args.seat.now.number c.args.queues.now c.args.row.now c.args.flags.now c.args.seat.now.owed.items c.args.seat.now.held), refl)
 
 pub returns-in-LoadCell : goal.returns-in-LoadCell
-returns-in-LoadCell g c = rw c.in-LoadCell.is (record { commits = []; effect = (refl, refl, refl); grows = sym (append-nil _) }, refl)
+returns-in-LoadCell g c = rw c.in-LoadCell.is (made _ (refl, refl, refl), refl)
 
 pub returns-in-JudgeQuiet : goal.returns-in-JudgeQuiet
-returns-in-JudgeQuiet g c = rw c.in-JudgeQuiet.is (
-  record {
-    commits = [];
-    effect = c.judge.ensures c.args.seat.now.number c.args.word.now c.args.row.now c.args.queues.now c.args.flags.now c.args.seat.now.owed.items;
-    grows = sym (append-nil _);
-  },
-  refl,
-)
+returns-in-JudgeQuiet g c = rw c.in-JudgeQuiet.is (made _ (c.judge.ensures c.args.seat.now.number c.args.word.now c.args.row.now c.args.queues.now c.args.flags.now c.args.seat.now.owed.items), refl)
 
 pub returns-in-StoreCell : goal.returns-in-StoreCell
-returns-in-StoreCell g c = rw c.in-StoreCell.is (
-  record {
-    commits = [];
-    effect = c.store.ensures c.args.seat.now.number c.args.word.now c.args.queues.now c.args.flags.now c.args.seat.now.owed.items;
-    grows = sym (append-nil _);
-  },
-  refl,
-)
+returns-in-StoreCell g c = rw c.in-StoreCell.is (made _ (c.store.ensures c.args.seat.now.number c.args.word.now c.args.queues.now c.args.flags.now c.args.seat.now.owed.items), refl)
 
 pub returns-in-ArmFlag : goal.returns-in-ArmFlag
-returns-in-ArmFlag g c = rw c.in-ArmFlag.is (
-  record {
-    commits = [];
-    effect = c.arm_flag.ensures c.args.word.now c.args.row.now c.args.queues.now c.args.seat.now.held c.args.seat.now.owed.items;
-    grows = sym (append-nil _);
-  },
-  refl,
-)
+returns-in-ArmFlag g c = rw c.in-ArmFlag.is (made _ (c.arm_flag.ensures c.args.word.now c.args.row.now c.args.queues.now c.args.seat.now.held c.args.seat.now.owed.items), refl)
 
 pub returns-in-PayWake : goal.returns-in-PayWake
-returns-in-PayWake g c = rw c.in-PayWake.is (
-  record {
-    commits = [];
-    effect = c.pay_wake.ensures c.args.seat.now.number c.args.word.now c.args.row.now c.args.queues.now c.args.seat.now.held;
-    grows = sym (append-nil _);
-  },
-  refl,
-)
+returns-in-PayWake g c = rw c.in-PayWake.is (made _ (c.pay_wake.ensures c.args.seat.now.number c.args.word.now c.args.row.now c.args.queues.now c.args.seat.now.held), refl)
 
 pub returns-in-LoadFlag : goal.returns-in-LoadFlag
-returns-in-LoadFlag g c = rw c.in-LoadFlag.is (record { commits = []; effect = (refl, refl, refl); grows = sym (append-nil _) }, refl)
+returns-in-LoadFlag g c = rw c.in-LoadFlag.is (made _ (refl, refl, refl), refl)
 
 pub returns-in-JudgeMet : goal.returns-in-JudgeMet
-returns-in-JudgeMet g c = rw c.in-JudgeMet.is (
-  record {
-    commits = [];
-    effect = c.judge_met.ensures c.args.seat.now.number c.args.word.now c.args.row.now c.args.queues.now c.args.flags.now c.args.seat.now.owed.items;
-    grows = sym (append-nil _);
-  },
-  refl,
-)
+returns-in-JudgeMet g c = rw c.in-JudgeMet.is (made _ (c.judge_met.ensures c.args.seat.now.number c.args.word.now c.args.row.now c.args.queues.now c.args.flags.now c.args.seat.now.owed.items), refl)
 
 pub returns-then-not-is_same : goal.returns-then-not-is_same
-returns-then-not-is_same g c = rw c.in-WaitReturning.is (
-  wait_missed _ c.args.seat.now.number c.in-WaitReturning.wait c.in-WaitReturning.again c.in-WaitReturning.last c.args.word.now c.args.word.now
-      c.args.row.now c.args.flags.now c.args.history.now.items c.args.history.now.items c.args.queues.now c.args.seat.now.owed.items c.args.seat.now.held (c.if-not-is_same.ensures.another refl),
-  refl,
-)
+returns-then-not-is_same g c = rw c.in-WaitReturning.is (made _ (refl, c.if-not-is_same.ensures.another refl, refl, refl), refl)
 
 pub take_queues-requires : goal.take_queues-requires
 take_queues-requires g c = rw c.in-TakeQueues.is at c.requires.fits

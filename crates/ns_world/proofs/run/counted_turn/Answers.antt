@@ -1,7 +1,7 @@
 use Rattle.std.specs.Prelude.{◌<◌, ◌≤◌}
 use denote.Param.{number}
 use Rattle.ns_world.proofs.Sizes.{among_as_many, world_fits}
-use Rattle.std.proofs.Common.{arith, refl, sym, ◌∷◌, [], map, subst, Vec, Global}
+use Rattle.std.proofs.Common.{arith, refl, sym, map, subst, Vec, Global}
 use Rattle.ns_world.proofs.Below.{err_from_is_err_and}
 use Rattle.ns_world.specs.Prelude.{Call, IsCounted, Progress, progress, progressed, whole_of}
 use Rattle.ns_world.proofs.Schedules.{stops_now, turn_stops, untold_stops}
@@ -11,19 +11,16 @@ use Rattle.ns_world.proofs.run.counted_turn.Goals as goal
 
 pub returns-then-seat-seats-clause-err : goal.returns-then-seat-seats-clause-err
 returns-then-seat-seats-clause-err g c = λ whole.
-    stops_now _ c.args.limit (progress (whole_of g.C.Condition.means c.args.world.now) c.args.tally.now.over c.args.tally.now.lines.items) c.args.tally.now.turns (record { seat = c.args.seat; whole = whole } ∷ []) _
-    c.requires.turns (subst (λ n. n ≤ c.args.seat) c.seats.ensures.count c.if-seat-seats.true)
+    stops_now _ c.requires.turns (subst (λ n. n ≤ c.args.seat) c.seats.ensures.count c.if-seat-seats.true)
 
 pub returns-then-tally-limit-clause-err : goal.returns-then-tally-limit-clause-err
 returns-then-tally-limit-clause-err g c = λ whole.
-    stops_now _ c.args.limit (progress (whole_of g.C.Condition.means c.args.world.now) c.args.tally.now.over c.args.tally.now.lines.items) c.args.tally.now.turns (record { seat = c.args.seat; whole = whole } ∷ []) _
-    c.requires.turns (c.if-tally-limit.true, subst (λ n. c.args.seat < n) c.seats.ensures.count c.if-seat-seats.false)
+    stops_now _ c.requires.turns (c.if-tally-limit.true, subst (λ n. c.args.seat < n) c.seats.ensures.count c.if-seat-seats.false)
 
 pub returns-in_err-step-clause-err : goal.returns-in_err-step-clause-err
 returns-in_err-step-clause-err g c =
     let p = err_from_is_err_and c.from_residual.result c.from_residual.ensures.1 in
-    rw (p.1, p.2) (λ whole. turn_stops _ c.args.limit (progress (whole_of g.C.Condition.means c.args.world.now) c.args.tally.now.over c.args.tally.now.lines.items) c.args.tally.now.turns c.args.seat whole (whole_of g.C.Condition.means c.next_turn.new.world) c.in_err-step.field-0.0
-    c.requires.turns c.in_err-step.ensures.err)
+    rw (p.1, p.2) (λ whole. turn_stops _ c.requires.turns c.in_err-step.ensures.err)
 
 pub tests-requires : goal.tests-requires
 tests-requires g c =
@@ -37,8 +34,7 @@ returns-in_err-count-clause-err g c =
     let p = err_from_is_err_and c.from_residual-in_err-count.result c.from_residual-in_err-count.ensures.1 in
     let before = progress (whole_of g.C.Condition.means c.args.world.now) c.args.tally.now.over c.args.tally.now.lines.items in
     let turn = c.in_ok-step.ensures.ok _ c.args.tally.now.over c.args.tally.now.lines.items refl in
-    rw (p.1, p.2) (λ whole. untold_stops _ c.args.limit before (progressed before c.args.seat c.in_ok-step.step (whole_of g.C.Condition.means c.next_turn.new.world)) c.args.tally.now.turns c.args.seat whole c.in_ok-step.step (whole_of g.C.Condition.means c.next_turn.new.world) turn
-    c.in_err-count.ensures.err (omega arith) (progressed_world before c.args.seat c.in_ok-step.step (whole_of g.C.Condition.means c.next_turn.new.world)))
+    rw (p.1, p.2) (λ whole. untold_stops c.in_ok-step.step turn c.in_err-count.ensures.err (omega arith) (progressed_world before c.args.seat c.in_ok-step.step (whole_of g.C.Condition.means c.next_turn.new.world)))
 
 pub returns-clause-ok : goal.returns-clause-ok
 returns-clause-ok g c =

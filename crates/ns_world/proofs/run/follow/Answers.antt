@@ -1,17 +1,14 @@
 use denote.Param.{number}
 use Rattle.ns_world.proofs.Sizes.{less_left, world_fits}
-use Rattle.std.proofs.Common.{arith, map, Vec, Global, length, ◌≡◌}
+use Rattle.std.proofs.Common.{arith, length, ◌≡◌}
 use Rattle.ns_world.proofs.Below.{err_from_is_err_and, take-length}
-use Rattle.ns_world.specs.Prelude.{Call, progress, whole_of}
 use Rattle.ns_world.proofs.Schedules.{advance_none, advance_word, stops_word}
 use Rattle.ns_world.proofs.run.follow.Goals as goal
 
 pub loop-word-init : goal.loop-word-init
 loop-word-init g c =
-    let calls = map (λ (calls : Vec (Call _) Global). calls.items) c.args.lists.now in
-    let first = progress (whole_of g.C.Condition.means c.args.world.now) c.args.tally.now.over c.args.tally.now.lines.items in
     record {
-      advances = advance_none calls c.args.limit first c.args.tally.now.turns _ c.requires.turns;
+      advances = advance_none c.requires.turns;
       counted = c.requires.counted;
     }
 
@@ -21,21 +18,12 @@ schedule_word-requires g c = (world_fits g.row.C (number g.row.N) g.met.C.Condit
 pub returns-in_err-schedule_word-clause-err : goal.returns-in_err-schedule_word-clause-err
 returns-in_err-schedule_word-clause-err g c =
     let p = err_from_is_err_and c.from_residual.result c.from_residual.ensures.1 in
-    let calls = map (λ (calls : Vec (Call _) Global). calls.items) c.args.lists.now in
-    let first = progress (whole_of g.C.Condition.means c.args.world.now) c.args.tally.now.over c.args.tally.now.lines.items in
-    let now = progress (whole_of g.C.Condition.means c.loop-word.world) c.loop-word.tally.over c.loop-word.tally.lines.items in
-    rw (p.1, p.2) (stops_word calls c.args.limit first now c.args.tally.now.turns c.loop-word.tally.turns c.loop-word.word-index c.args.schedule.now _ (whole_of g.C.Condition.means c.schedule_word.new.world) c.in_err-schedule_word.field-0.0
-    c.loop-word-test.true c.loop-word.invariant.advances c.in_err-schedule_word.ensures.err)
+    rw (p.1, p.2) (stops_word c.loop-word.word-index c.args.schedule.now _ c.loop-word-test.true c.loop-word.invariant.advances c.in_err-schedule_word.ensures.err)
 
 pub loop-word-preserved : goal.loop-word-preserved
 loop-word-preserved g c =
-    let calls = map (λ (calls : Vec (Call _) Global). calls.items) c.args.lists.now in
-    let first = progress (whole_of g.C.Condition.means c.args.world.now) c.args.tally.now.over c.args.tally.now.lines.items in
-    let now = progress (whole_of g.C.Condition.means c.loop-word.world) c.loop-word.tally.over c.loop-word.tally.lines.items in
-    let next = progress (whole_of g.C.Condition.means c.schedule_word.new.world) c.schedule_word.new.tally.over c.schedule_word.new.tally.lines.items in
     record {
-      advances = advance_word calls c.args.limit first now next c.args.tally.now.turns c.loop-word.tally.turns c.schedule_word.new.tally.turns c.loop-word.word-index c.args.schedule.now _
-          c.loop-word-test.true c.loop-word.invariant.advances c.in_ok-schedule_word.ensures.ok;
+      advances = advance_word c.loop-word.word-index c.args.schedule.now _ c.loop-word-test.true c.loop-word.invariant.advances c.in_ok-schedule_word.ensures.ok;
       counted = c.in_ok-schedule_word.ensures.counted;
     }
 

@@ -1,48 +1,30 @@
 use denote.Param.{number}
 use Rattle.ns_world.proofs.Sizes.{world_fits}
-use Rattle.std.proofs.Common.{◌∷◌, [], map, Vec, Global, sym, ◌∙◌}
+use Rattle.std.proofs.Common.{sym, ◌∙◌}
 use Rattle.ns_world.proofs.Below.{err_from_is_err_and}
-use Rattle.ns_world.specs.Prelude.{Call, progress, whole_of}
 use Rattle.ns_world.proofs.Schedules.{advance_none, advance_item, stops_behind}
 use Rattle.ns_world.proofs.run.item.Goals as goal
 
 pub loop-step-init : goal.loop-step-init
 loop-step-init g c =
-    let calls = map (λ (calls : Vec (Call _) Global). calls.items) c.args.lists.now in
-    let first = progress (whole_of g.C.Condition.means c.args.world.now) c.args.tally.now.over c.args.tally.now.lines.items in
     record {
-      advances = advance_none calls c.args.limit first c.args.tally.now.turns (record { seat = c.args.seat; whole = c.args.whole } ∷ []) c.requires.turns;
+      advances = advance_none c.requires.turns;
       counted = c.requires.counted;
     }
 
 pub returns-in_err-step-clause-err : goal.returns-in_err-step-clause-err
 returns-in_err-step-clause-err g c =
     let p = err_from_is_err_and c.from_residual.result c.from_residual.ensures.1 in
-    let calls = map (λ (calls : Vec (Call _) Global). calls.items) c.args.lists.now in
-    let first = progress (whole_of g.C.Condition.means c.args.world.now) c.args.tally.now.over c.args.tally.now.lines.items in
-    let now = progress (whole_of g.C.Condition.means c.loop-step.world) c.loop-step.tally.over c.loop-step.tally.lines.items in
-    rw (p.1, p.2) (stops_behind calls c.args.limit first now c.args.tally.now.turns c.loop-step.tally.turns (record { seat = c.args.seat; whole = c.args.whole } ∷ []) (record { seat = c.args.seat; whole = c.args.whole } ∷ []) (whole_of g.C.Condition.means c.counted_turn.new.world)
-    c.in_err-step.field-0.0
-    c.loop-step.invariant.advances (c.in_err-step.ensures.err c.args.whole))
+    rw (p.1, p.2) (stops_behind c.loop-step.invariant.advances (c.in_err-step.ensures.err c.args.whole))
 
 pub returns-then-is_end-clause-ok : goal.returns-then-is_end-clause-ok
 returns-then-is_end-clause-ok g c =
-    let calls = map (λ (calls : Vec (Call _) Global). calls.items) c.args.lists.now in
-    let first = progress (whole_of g.C.Condition.means c.args.world.now) c.args.tally.now.over c.args.tally.now.lines.items in
-    let now = progress (whole_of g.C.Condition.means c.loop-step.world) c.loop-step.tally.over c.loop-step.tally.lines.items in
-    let next = progress (whole_of g.C.Condition.means c.counted_turn.new.world) c.counted_turn.new.tally.over c.counted_turn.new.tally.lines.items in
-    advance_item calls c.args.limit first now next c.args.tally.now.turns c.loop-step.tally.turns c.counted_turn.new.tally.turns c.args.seat c.args.whole _ c.in_ok-step.step
-    c.loop-step.invariant.advances c.in_ok-step.ensures.ok (sym c.if-is_end.true ∙ c.is_end.ensures) c.in_ok-step.ensures.turns
+    advance_item c.in_ok-step.step c.loop-step.invariant.advances c.in_ok-step.ensures.ok (sym c.if-is_end.true ∙ c.is_end.ensures) c.in_ok-step.ensures.turns
 
 pub loop-step-preserved : goal.loop-step-preserved
 loop-step-preserved g c =
-    let calls = map (λ (calls : Vec (Call _) Global). calls.items) c.args.lists.now in
-    let first = progress (whole_of g.C.Condition.means c.args.world.now) c.args.tally.now.over c.args.tally.now.lines.items in
-    let now = progress (whole_of g.C.Condition.means c.loop-step.world) c.loop-step.tally.over c.loop-step.tally.lines.items in
-    let next = progress (whole_of g.C.Condition.means c.counted_turn.new.world) c.counted_turn.new.tally.over c.counted_turn.new.tally.lines.items in
     record {
-      advances = advance_item calls c.args.limit first now next c.args.tally.now.turns c.loop-step.tally.turns c.counted_turn.new.tally.turns c.args.seat c.args.whole _ c.in_ok-step.step
-          c.loop-step.invariant.advances c.in_ok-step.ensures.ok (sym c.if-is_end.false ∙ c.is_end.ensures) c.in_ok-step.ensures.turns;
+      advances = advance_item c.in_ok-step.step c.loop-step.invariant.advances c.in_ok-step.ensures.ok (sym c.if-is_end.false ∙ c.is_end.ensures) c.in_ok-step.ensures.turns;
       counted = c.in_ok-step.ensures.counted;
     }
 

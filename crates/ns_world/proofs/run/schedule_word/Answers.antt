@@ -1,17 +1,14 @@
 use denote.Param.{number}
 use Rattle.ns_world.proofs.Sizes.{world_fits}
-use Rattle.std.proofs.Common.{arith, [], map, Vec, Global, ◌≡◌}
+use Rattle.std.proofs.Common.{arith, ◌≡◌}
 use Rattle.ns_world.proofs.Below.{append-nil, err_from_is_err_and}
-use Rattle.ns_world.specs.Prelude.{Call, progress, whole_of}
 use Rattle.ns_world.proofs.Schedules.{advance_none, advance_again, stops_again}
 use Rattle.ns_world.proofs.run.schedule_word.Goals as goal
 
 pub loop-init : goal.loop-init
 loop-init g c =
-    let calls = map (λ (calls : Vec (Call _) Global). calls.items) c.args.lists.now in
-    let first = progress (whole_of g.C.Condition.means c.args.world.now) c.args.tally.now.over c.args.tally.now.lines.items in
     record {
-      advances = advance_none calls c.args.limit first c.args.tally.now.turns [] c.requires.turns;
+      advances = advance_none c.requires.turns;
       counted = c.requires.counted;
     }
 
@@ -21,21 +18,12 @@ item-requires g c = (world_fits g.row.C (number g.row.N) g.met.C.Condition.has_r
 pub returns-in_err-item-clause-err : goal.returns-in_err-item-clause-err
 returns-in_err-item-clause-err g c =
     let p = err_from_is_err_and c.from_residual.result c.from_residual.ensures.1 in
-    let calls = map (λ (calls : Vec (Call _) Global). calls.items) c.args.lists.now in
-    let first = progress (whole_of g.C.Condition.means c.args.world.now) c.args.tally.now.over c.args.tally.now.lines.items in
-    let now = progress (whole_of g.C.Condition.means c.loop.world) c.loop.tally.over c.loop.tally.lines.items in
-    rw (p.1, p.2) (stops_again calls c.args.limit first now c.args.tally.now.turns c.loop.tally.turns c.loop.counter c.args.word.now.times (record { seat = c.args.word.now.thread; whole = c.args.word.now.whole }) (whole_of g.C.Condition.means c.item.new.world) c.in_err-item.field-0.0
-    c.loop-test.true c.loop.invariant.advances c.in_err-item.ensures.err)
+    rw (p.1, p.2) (stops_again c.loop.counter c.args.word.now.times c.loop-test.true c.loop.invariant.advances c.in_err-item.ensures.err)
 
 pub loop-preserved : goal.loop-preserved
 loop-preserved g c =
-    let calls = map (λ (calls : Vec (Call _) Global). calls.items) c.args.lists.now in
-    let first = progress (whole_of g.C.Condition.means c.args.world.now) c.args.tally.now.over c.args.tally.now.lines.items in
-    let now = progress (whole_of g.C.Condition.means c.loop.world) c.loop.tally.over c.loop.tally.lines.items in
-    let next = progress (whole_of g.C.Condition.means c.item.new.world) c.item.new.tally.over c.item.new.tally.lines.items in
     record {
-      advances = advance_again calls c.args.limit first now next c.args.tally.now.turns c.loop.tally.turns c.item.new.tally.turns c.loop.counter (record { seat = c.args.word.now.thread; whole = c.args.word.now.whole })
-          c.loop.invariant.advances c.in_ok-item.ensures.ok;
+      advances = advance_again c.loop.counter c.loop.invariant.advances c.in_ok-item.ensures.ok;
       counted = c.in_ok-item.ensures.counted;
     }
 

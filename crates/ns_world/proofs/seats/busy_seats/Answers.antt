@@ -1,13 +1,14 @@
 use Rattle.ns_world.proofs.Sizes.{less_left}
-use Rattle.std.proofs.Common.{◌≤◌, length, sym, ◌∙◌, arith}
+use Rattle.std.proofs.Common.{◌≤◌, length, refl, sym, ◌∙◌, arith}
 use Rattle.ns_world.specs.Prelude.{is_in}
+use Rattle.ns_world.proofs.Mapped.{found_at}
 use Rattle.ns_world.proofs.Busy.{first_all, first_with, first_without, in_call, in_call_here, in_no_call}
 use Rattle.ns_world.proofs.seats.busy_seats.Goals.{then-is_busy, else-is_busy}
 use Rattle.ns_world.proofs.seats.busy_seats.Goals as goal
 
 pub loop-at-preserved : goal.loop-at-preserved
 loop-at-preserved g c =
-    let here = in_call_here c.args.seats.now c.loop-at.at c.index-seats-at.result c.loop-at-test.true c.index-seats-at.is in
+    let here = in_call_here c.args.seats.now c.loop-at.at c.index-seats-at.result (found_at c.args.seats.now c.loop-at.at c.index-seats-at.result c.loop-at-test.true refl c.index-seats-at.is) in
     elim c.if-is_busy.branch [
       | then-is_busy w ↦ rw w.busy-is (first_with (in_call c.args.seats.now) (λ n. is_in c.loop-at.busy n) (λ n. is_in w.with-busy.result n) c.loop-at.at w.with-busy.ensures
           (here ∙ sym c.is_busy.ensures ∙ w.if-is_busy.true) c.loop-at.invariant)

@@ -1,8 +1,8 @@
-use Rattle.std.proofs.Common.{◌≡◌, ℕ, ◌<◌, nat_lt, Bool, true, false, cond, not, ◌||◌, ◌&&◌, Option, Some, None, IsSome, is_some, refl, ap, sym, ◌∙◌, subst}
-use Rattle.std.specs.Prelude.{MatchOption}
+use Rattle.std.proofs.Common.{◌≡◌, ℕ, ◌<◌, nat_lt, Bool, true, false, not, ◌||◌, ◌&&◌, Option, Some, None, IsSome, is_some, refl, ap, sym, ◌∙◌, subst}
 use Rattle.std.specs.List.{list_all}
 use Rattle.ns_world.proofs.Below.{first_of_all, lower, ltb-true, none_among, rest_of_all, some_among}
-use Rattle.ns_world.specs.Prelude.{Add, Call, CallFits, CallInRange, CounterWait, Done, Items, Mode, NamesAll, NoteStanding, ObjectWalk, OnObjects, Once, Setup, Start, Value, WaitAny, finds, have_variable, is_among, is_there, items_of, note_at, object_start, start_of}
+use Rattle.ns_world.specs.Prelude.{Add, Call, CallFits, CallInRange, CounterWait, Done, Items, Mode, NamesAll, NoteStanding, ObjectWalk, OnObjects, Once, Setup, Value, WaitAny, finds, have_variable, is_among, is_there, items_of, note_at, object_start, start_of}
+use Rattle.ns_world.proofs.Places.{begins_where}
 use Rattle.ns_world.proofs.call.Call.start.Goals as goal
 
 -- a section is in hand where a variable is named just where the test says so
@@ -50,12 +50,7 @@ module _ {C : Type 0} (n : ℕ) (setup : Setup) (notes : ℕ → NoteStanding) (
   }
   judges call walk range all is = absurd (cc)
 
-started : {C : Type 0} (n : ℕ) (setup : Setup) (notes : ℕ → NoteStanding) (mode : Option Mode) (call : Call C) (walk : ObjectWalk) (met : Bool) (r : Option (Start C)) → met ≡ finds setup notes mode call → r ≡ cond met (Some (OnObjects walk)) None → Judges n setup notes mode call walk →
-    MatchOption r (CallFits setup notes call mode → ⊥) (λ s. (s ≡ start_of n mode call) × CallFits setup notes call mode)
-started n setup notes mode call walk true r test e judge = subst (λ o. MatchOption o (CallFits setup notes call mode → ⊥) (λ s. (s ≡ start_of n mode call) × CallFits setup notes call mode)) (sym e) (judge.begins, judge.fits (sym test))
-started n setup notes mode call walk false r test e judge = subst (λ o. MatchOption o (CallFits setup notes call mode → ⊥) (λ s. (s ≡ start_of n mode call) × CallFits setup notes call mode)) (sym e) (λ p. let no = test ∙ judge.needs p in absurd (cc))
-
 pub returns-in-Some : goal.returns-in-Some
 returns-in-Some g c =
-    started g.row.N c.args.setup.now (note_at c.args.notes.now) c.args.mode c.args.self c.in-Some.walk c.finds.result c.operate.result c.finds.ensures.found c.operate.ensures
-    (judges g.row.N c.args.setup.now (note_at c.args.notes.now) c.args.mode c.args.self c.in-Some.walk c.requires.range c.finds.ensures.many (sym c.on_objects.ensures ∙ c.in-Some.is))
+    let judge = judges g.row.N c.args.setup.now (note_at c.args.notes.now) c.args.mode c.args.self c.in-Some.walk c.requires.range c.finds.ensures.many (sym c.on_objects.ensures ∙ c.in-Some.is) in
+    begins_where g.row.N c.args.setup.now (note_at c.args.notes.now) c.args.self c.args.mode c.finds.result (OnObjects c.in-Some.walk) c.operate.result c.operate.ensures judge.begins (λ e. judge.fits (sym c.finds.ensures.found ∙ e)) (λ p. c.finds.ensures.found ∙ judge.needs p)

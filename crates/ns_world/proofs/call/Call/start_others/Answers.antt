@@ -1,15 +1,8 @@
-use Rattle.std.proofs.Common.{◌≡◌, ℕ, Bool, true, false, cond, Option, Some, None, refl, sym, ◌∙◌, subst}
-use Rattle.std.specs.Prelude.{MatchOption}
+use Rattle.std.proofs.Common.{◌≡◌, ℕ, true, Option, Some, None, refl, sym, ◌∙◌}
 use Rattle.std.specs.Option.{option_map_or}
-use Rattle.ns_world.specs.Prelude.{Advance, Advancing, Ask, Call, CallFits, ClockLoad, Expiry, ExpiryLoad, ForIsNotified, ForNoteWait, IfMade, IsNotified, Mode, NewNote, NextLoad, NoteStanding, NoteWait, Notify, Notifying, Setup, Start, note_at, start_of}
+use Rattle.ns_world.specs.Prelude.{Advance, Advancing, Ask, ClockLoad, Expiry, ExpiryLoad, ForIsNotified, ForNoteWait, IfMade, IsNotified, NewNote, NextLoad, NoteStanding, NoteWait, Notify, Notifying, note_at}
+use Rattle.ns_world.proofs.Places.{begins_where}
 use Rattle.ns_world.proofs.call.Call.start_others.Goals as goal
-
--- a call that begins where a test says that its need is met
-asked : {C : Type 0} (n : ℕ) (setup : Setup) (notes : ℕ → NoteStanding) (call : Call C) (mode : Option Mode) (met : Bool) (start : Start C) (r : Option (Start C)) → r ≡ cond met (Some start) None →
-    start ≡ start_of n mode call → (met ≡ true → CallFits setup notes call mode) → (CallFits setup notes call mode → met ≡ true) →
-    MatchOption r (CallFits setup notes call mode → ⊥) (λ s. (s ≡ start_of n mode call) × CallFits setup notes call mode)
-asked n setup notes call mode true start r e is fits needs = subst (λ o. MatchOption o (CallFits setup notes call mode → ⊥) (λ s. (s ≡ start_of n mode call) × CallFits setup notes call mode)) (sym e) (is, fits refl)
-asked n setup notes call mode false start r e is fits needs = subst (λ o. MatchOption o (CallFits setup notes call mode → ⊥) (λ s. (s ≡ start_of n mode call) × CallFits setup notes call mode)) (sym e) (λ p. let no = needs p in absurd (cc))
 
 made_from : (notes : ℕ → NoteStanding) (given : Option ℕ) → option_map_or (λ note. (notes note).made) given true ≡ true → IfMade notes given
 made_from notes None e = tt
@@ -20,26 +13,26 @@ made_to notes None p = refl
 made_to notes (Some note) p = p
 
 pub returns-in-NewNote : goal.returns-in-NewNote
-returns-in-NewNote g c = λ setup. rw c.in-NewNote.is (asked g.row.N setup (note_at c.args.notes.now) (NewNote c.in-NewNote.parent c.in-NewNote.deadline) c.args.mode c.is_made_or_none.result (Ask (NextLoad c.in-NewNote.parent c.in-NewNote.deadline)) c.ask.result c.ask.ensures refl
+returns-in-NewNote g c = λ setup. rw c.in-NewNote.is (begins_where g.row.N setup (note_at c.args.notes.now) (NewNote c.in-NewNote.parent c.in-NewNote.deadline) c.args.mode c.is_made_or_none.result (Ask (NextLoad c.in-NewNote.parent c.in-NewNote.deadline)) c.ask.result c.ask.ensures refl
     (λ e. made_from (note_at c.args.notes.now) c.in-NewNote.parent (sym c.is_made_or_none.ensures ∙ e)) (λ p. c.is_made_or_none.ensures ∙ made_to (note_at c.args.notes.now) c.in-NewNote.parent p))
 
 pub returns-in-Notify : goal.returns-in-Notify
-returns-in-Notify g c = λ setup. rw c.in-Notify.is (asked g.row.N setup (note_at c.args.notes.now) (Notify c.in-Notify.note) c.args.mode c.is_made.result (Ask (Notifying c.in-Notify.note)) c.ask-in-Notify.result c.ask-in-Notify.ensures refl (λ e. sym c.is_made.ensures
+returns-in-Notify g c = λ setup. rw c.in-Notify.is (begins_where g.row.N setup (note_at c.args.notes.now) (Notify c.in-Notify.note) c.args.mode c.is_made.result (Ask (Notifying c.in-Notify.note)) c.ask-in-Notify.result c.ask-in-Notify.ensures refl (λ e. sym c.is_made.ensures
     ∙ e) (λ p. c.is_made.ensures ∙ p))
 
 pub returns-in-Advance : goal.returns-in-Advance
-returns-in-Advance g c = λ setup. rw c.in-Advance.is (asked g.row.N setup (note_at c.args.notes.now) (Advance c.in-Advance.moment) c.args.mode true (Ask (Advancing c.in-Advance.moment)) c.ask-in-Advance.result c.ask-in-Advance.ensures refl (λ e. tt) (λ p. refl))
+returns-in-Advance g c = λ setup. rw c.in-Advance.is (begins_where g.row.N setup (note_at c.args.notes.now) (Advance c.in-Advance.moment) c.args.mode true (Ask (Advancing c.in-Advance.moment)) c.ask-in-Advance.result c.ask-in-Advance.ensures refl (λ e. tt) (λ p. refl))
 
 pub returns-in-IsNotified : goal.returns-in-IsNotified
-returns-in-IsNotified g c = λ setup. rw c.in-IsNotified.is (asked g.row.N setup (note_at c.args.notes.now) (IsNotified c.in-IsNotified.note) c.args.mode c.is_made-in-IsNotified.result (Ask (ClockLoad (ForIsNotified c.in-IsNotified.note))) c.ask-in-IsNotified.result
+returns-in-IsNotified g c = λ setup. rw c.in-IsNotified.is (begins_where g.row.N setup (note_at c.args.notes.now) (IsNotified c.in-IsNotified.note) c.args.mode c.is_made-in-IsNotified.result (Ask (ClockLoad (ForIsNotified c.in-IsNotified.note))) c.ask-in-IsNotified.result
     c.ask-in-IsNotified.ensures refl (λ e. sym c.is_made-in-IsNotified.ensures ∙ e) (λ p. c.is_made-in-IsNotified.ensures ∙ p))
 
 pub returns-in-Expiry : goal.returns-in-Expiry
-returns-in-Expiry g c = λ setup. rw c.in-Expiry.is (asked g.row.N setup (note_at c.args.notes.now) (Expiry c.in-Expiry.note) c.args.mode c.is_made-in-Expiry.result (Ask (ExpiryLoad c.in-Expiry.note c.in-Expiry.note None)) c.ask-in-Expiry.result c.ask-in-Expiry.ensures refl (λ e. sym
+returns-in-Expiry g c = λ setup. rw c.in-Expiry.is (begins_where g.row.N setup (note_at c.args.notes.now) (Expiry c.in-Expiry.note) c.args.mode c.is_made-in-Expiry.result (Ask (ExpiryLoad c.in-Expiry.note c.in-Expiry.note None)) c.ask-in-Expiry.result c.ask-in-Expiry.ensures refl (λ e. sym
     c.is_made-in-Expiry.ensures ∙ e) (λ p. c.is_made-in-Expiry.ensures ∙ p))
 
 pub returns-in-NoteWait : goal.returns-in-NoteWait
-returns-in-NoteWait g c = λ setup. rw c.in-NoteWait.is (asked g.row.N setup (note_at c.args.notes.now) (NoteWait c.in-NoteWait.note c.in-NoteWait.deadline) c.args.mode c.is_made-in-NoteWait.result (Ask (ClockLoad (ForNoteWait c.in-NoteWait.note c.in-NoteWait.deadline)))
+returns-in-NoteWait g c = λ setup. rw c.in-NoteWait.is (begins_where g.row.N setup (note_at c.args.notes.now) (NoteWait c.in-NoteWait.note c.in-NoteWait.deadline) c.args.mode c.is_made-in-NoteWait.result (Ask (ClockLoad (ForNoteWait c.in-NoteWait.note c.in-NoteWait.deadline)))
     c.ask-in-NoteWait.result c.ask-in-NoteWait.ensures refl (λ e. sym c.is_made-in-NoteWait.ensures ∙ e) (λ p. c.is_made-in-NoteWait.ensures ∙ p))
 
 pub is_made-requires : goal.is_made-requires

@@ -1,14 +1,54 @@
--- What the exchanges do that put the queues back, over plain data.
-use Rattle.std.proofs.Common.{◌≡◌, ◌≢◌, ℕ, not, ◌&&◌, Bool, true, false, List, [], ◌∷◌, ◌++◌, Option, None, Some, refl, ap, sym, ◌∙◌, is_some}
-use Rattle.std.specs.Prelude.{IfSome, MatchResult, if◌then◌else◌}
+-- What the exchanges that were made do, over plain data.
+use Rattle.std.proofs.Common.{Bool, List, None, Option, Some, [], ap, arith, false, is_some, length, not, refl, sym, true, ℕ, ◌&&◌, ◌++◌, ◌∙◌, ◌∷◌, ◌≡◌}
+use Rattle.std.specs.Prelude.{IfSome, MatchResult, if◌then◌else◌, ◌==◌}
+use Rattle.ns_world.proofs.Below.{append-nil, ne_eqb, some_seats}
+use Rattle.ns_world.specs.Prelude.{Act, Any, Arrival, AtLock, AtVariables, Bits, Broadcasting, CanLeave, CanWait, Change, ChangeFits, Cv, Effect, Event, Found, Held, Home, IsInRange, IsUnmet, LeaveSelf, Left, Lists, Made, Makes, Mode, OnCondition, OnVariables, Only, Owed, Part, Plain, QueueSelf}
+use Rattle.ns_world.specs.Prelude.{Release, ReleaseReturning, Releasing, ReturnQueues, Scanned, Signaling, Subject, Truths, WaitReturning, Waiter, WakeWaiters, Waking, Woke, Word, bits_of, called_of, change_commits, changed, cvs_without, exit_for, has_some, is_held, leave_of, left_of, meets_at}
+use Rattle.ns_world.specs.Prelude.{moved_to, part, releasing_of, section_of, stands_at, taken_by, taken_set, tests_of, waited_in, waiters_of, wakes_of, with_waiters, woken_of, word_released, word_released_returning, word_returned}
+use Rattle.ns_queue.specs.declared.waiter.Which.TheVariants.{Lock}
 use Rattle.std.specs.declared.result.Result.{Result}
-use Rattle.std.specs.declared.result.Result.TheVariants.{Ok, Err}
-use Rattle.ns_world.proofs.Below.{append-nil, some_seats}
-use Rattle.ns_world.specs.Prelude.{Any, Arrival, AtLock, AtVariables, Bits, Broadcasting, CanWait, Change, ChangeFits, Cv, Effect, Event, Held, Home, IsInRange, IsUnmet, LeaveSelf, Left, Lists, Made, Makes, Mode, OnCondition, OnVariables, Only, Owed, QueueSelf, ReturnQueues, Saw, Scanned}
-use Rattle.ns_world.specs.Prelude.{Signaling, Subject, Truths, WaitReturning, Waiter, WakeWaiters, Waking, Woke, Word, bits_of, called_of, change_commits, changed, cvs_without, exit_for, has_some, is_held, leave_of, meets_at, moved_to, part, releasing_of, section_of, stands_at, taken_by}
-use Rattle.ns_world.specs.Prelude.{taken_set, tests_of, waited_in, waiters_of, wakes_of, woken_of, word_released_returning, word_returned}
+use Rattle.std.specs.declared.result.Result.TheVariants.{Err, Ok}
 use Rattle.ns_word.specs.declared.wait.Wait.{Wait}
 use Rattle.ns_word.specs.declared.act.Change.TheVariants.{Nothing}
+
+-- a list that isn't empty has somebody
+pub some_left : {A : Type 0} (xs : List A) → not (length xs == 0) ≡ has_some xs
+some_left [] = refl
+some_left (x ∷ xs) = rw (ne_eqb (length (x ∷ xs)) 0 (λ e. absurd (omega (arith, e)))) refl
+
+-- a section that may be left is in hand
+pub can_some : {C : Type 0} {N : ℕ} (truths : Truths C) (releasing : Releasing) (held : Option (Held C N)) → CanLeave truths releasing held → is_some held ≡ true
+can_some truths releasing None can = absurd can
+can_some truths releasing (Some held) can = refl
+
+module _ {C : Type 0} {N : ℕ} (truths : Truths C) (seat : ℕ) (releasing : Releasing) (last word word' : Word) (row : List ℕ) (flags : List ℕ) (h h' : List (Event C N)) where
+  pub released : (queues : Lists C) (owed : List Owed) (held held' : Option (Held C N)) → CanLeave truths releasing held → IfSome held (λ section. h' ≡ h ++ section_of truths.holds seat section Plain ∷ []) →
+      word ≡ last → word' ≡ word_released releasing last → held' ≡ None →
+      Makes truths seat (Release releasing last) (part word row queues flags held owed) h Made (part word' row queues flags held' owed) h'
+  released queues owed None held' can grows same becomes over = absurd can
+  released queues owed (Some held) held' can grows same becomes over = record {
+    commits = section_of truths.holds seat held Plain ∷ [];
+    effect = (held, refl, can.0, sym same, rw (becomes, over) refl, refl);
+    grows = grows;
+  }
+
+  pub scanned : (queues queues' : Lists C) (owed owed' : List Owed) (held held' : Option (Held C N)) (owes : Bool) (tests : ℕ) (bits : Bits) → CanLeave truths releasing held → IfSome held (λ section. h' ≡ h ++ section_of truths.holds seat section Plain ∷ []) →
+      word ≡ last → word' ≡ word_released_returning releasing owes bits last → held' ≡ None →
+      queues' ≡ with_waiters queues Lock (left_of (meets_at truths row) queues.lock) → owed' ≡ called_of (woken_of (meets_at truths row) queues.lock) →
+      owes ≡ has_some owed' → bits ≡ bits_of queues'.lock → tests ≡ tests_of truths.same (meets_at truths row) queues.lock →
+      Makes truths seat (ReleaseReturning releasing last) (part word row queues flags held owed) h (Scanned owes tests) (part word' row queues' flags held' owed') h'
+  scanned queues queues' owed owed' None held' owes tests bits can grows same becomes over left woken some tell count = absurd can
+  scanned queues queues' owed owed' (Some held) held' owes tests bits can grows same becomes over left woken some tell count =
+      let owing : owes ≡ has_some (woken_of (meets_at truths row) queues.lock) = some ∙ ap has_some woken ∙ some_seats (woken_of (meets_at truths row) queues.lock) in
+      record {
+        commits = section_of truths.holds seat held Plain ∷ [];
+        effect = (held, refl, can.0, sym same, rw (becomes, over, tell, left, woken, owing) refl, some ∙ ap has_some woken, count, refl);
+        grows = grows;
+      }
+
+-- an act that commits nothing
+pub made : {C : Type 0} {N : ℕ} {truths : Truths C} {seat : ℕ} {act : Act C} {old new : Part C N} {found : Found} (h : List (Event C N)) → Effect truths seat act old found new [] → Makes truths seat act old h found new h
+made h effect = record { commits = []; effect = effect; grows = sym (append-nil h) }
 
 -- one that queues put the queues back
 pub queued_back : {C : Type 0} {N : ℕ} (truths : Truths C) (seat : ℕ) (mode : Mode) (arrival : Arrival) (last word word' : Word) (row flags : List ℕ) (owed : List Owed) (held : Option (Held C N)) (queues queues' : Lists C) (bits : Bits) →
@@ -60,11 +100,6 @@ module _ {C : Type 0} {N : ℕ} (truths : Truths C) (seat : ℕ) (last word : Wo
         grows = grows;
       }
 
-  -- an exchange that failed
-  pub change_missed : (change : Change) (owed : List Owed) (held : Option (Held C N)) (queues : Lists C) → word ≢ last →
-      Makes truths seat (ReturnQueues change last) (part word row queues flags held owed) h (Saw word) (part word row queues flags held owed) h
-  change_missed change owed held queues other = record { commits = []; effect = (refl, other, refl, refl); grows = sym (append-nil h) }
-
 -- what a change needs is of the lists alone
 pub fits_there : {C : Type 0} {N : ℕ} (seat : ℕ) (change : Change) (word : Word) (row row' flags flags' : List ℕ) (held : Option (Held C N)) (owed : List Owed) (queues : Lists C) →
     ChangeFits seat change (part word row queues flags held owed) → ChangeFits seat change (part word row' queues flags' held owed)
@@ -114,8 +149,3 @@ module _ {C : Type 0} {N : ℕ} (truths : Truths C) (seat : ℕ) (wait : Wait C)
         effect = (held, refl, can.mode, sym same, rw (becomes, over, tell, lists, woken, owing) refl, some ∙ ap has_some woken, count, refl);
         grows = grows;
       }
-
-  -- one that failed
-  pub wait_missed : (queues : Lists C) (owed : List Owed) (held : Option (Held C N)) → word ≢ last →
-      Makes truths seat (WaitReturning wait again last) (part word row queues flags held owed) h (Saw word) (part word row queues flags held owed) h
-  wait_missed queues owed held other = record { commits = []; effect = (refl, other, refl, refl); grows = sym (append-nil h) }
