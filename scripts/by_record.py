@@ -115,6 +115,9 @@ def main(given):
     if not shutil.which("rt"):
         print("ns_cli: there is no rt on the path", file=sys.stderr)
         return FAILED
+    if not os.path.isdir(f"{TOP}/records"):
+        print("ns_cli: there are no records of proofs (./record makes them)", file=sys.stderr)
+        return OF_OTHERS
     differs = difference()
     if differs:
         print(f"ns_cli: the records of proofs are not of these sources: {differs}", file=sys.stderr)
