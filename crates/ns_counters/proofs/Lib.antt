@@ -6,6 +6,7 @@ pub mod Needs
 pub mod NewObjects
 pub mod Objects
 pub mod Placed
+pub mod Prelude
 pub mod Rounds
 pub mod WalkLaw
 pub mod Words

@@ -1,9 +1,6 @@
 -- What stands at a place of a list of objects, and behind it.
-use Rattle.std.proofs.Common.{length, map, get_or, ◌≡◌, ℕ, zero, suc, ◌<◌, nat_lt, ◌||◌, Bool, true, false, cond, List, [], ◌∷◌, take, drop, Option, Some, None, slice_get, refl, sym, ◌∙◌, ap, subst, arith, inl, inr, eq-eqb, ◌&&◌}
-use Rattle.std.proofs.lemmas.Bool.{eqb-true, ltb-true, ltb-false, or_cases}
-use Rattle.std.specs.List.{list_any}
-use Rattle.ns_counters.specs.Prelude.{Every, IsLow, Item, Items, OnNote, OnVariable, is_among, is_this, is_variable, item_at, items_of, place_in}
-use Rattle.ns_counters.specs.declared.items.Item.TheVariants.{OnCounter}
+use Rattle.ns_counters.proofs.Prelude.{Bool, Every, IsLow, Item, Items, List, None, OnCounter, OnNote, OnVariable, Option, Some, [], ap, arith, cond, drop, eq-eqb, eqb-true, false, get_or, inl, inr, is_among, is_this, is_variable, item_at, items_of, length, list_any, ltb-false, ltb-true, map}
+use Rattle.ns_counters.proofs.Prelude.{nat_lt, or_cases, place_in, refl, slice_get, subst, suc, sym, take, true, zero, ℕ, ◌&&◌, ◌<◌, ◌||◌, ◌∙◌, ◌∷◌, ◌≡◌}
 
 nothing : {A : Type 0} (at : ℕ) (xs : List A) → xs ≡ [] → drop at xs ≡ []
 nothing zero xs e = e

@@ -1,10 +1,7 @@
 -- What a step of a call on counters and once cells needs is so, where its seat stands in a lawful state.
-use Rattle.std.proofs.Common.{◌≡◌, ℕ, ◌<◌, true, List, Some, refl, ap, sym, ◌∙◌}
-use Rattle.ns_counters.specs.Prelude.{AddExchange, AddLoad, AtCounter, AtNote, DoneLoad, EnvEvent, EnvPlain, FirstClock, InRound, IsInBounds, IsLawfulObjects, Meets, NoteStanding, ObjectAct, ObjectEvent, ObjectState, ObjectWalk, OnNote, OnWord, OnceBegin, OnceEnd, OnceLoad, StepFits, ValueLoad}
-use Rattle.ns_counters.specs.Prelude.{WaitClock, WaitLoad, WaitMark, WalkFits, WantFits, object_want, objects_after, walk_in}
+use Rattle.ns_counters.proofs.Prelude.{AddExchange, AddLoad, AtCounter, AtNote, DoneLoad, EnvEvent, EnvPlain, FirstClock, InRound, IsInBounds, IsLawfulObjects, List, Meets, NoteStanding, ObjectAct, ObjectEvent, ObjectState, ObjectWalk, OnCounter, OnNote, OnWord, OnceBegin, OnceEnd, OnceLoad, Some}
+use Rattle.ns_counters.proofs.Prelude.{StepFits, ValueLoad, WaitClock, WaitLoad, WaitMark, WalkFits, WantFits, ap, made_below, object_want, objects_after, refl, sym, true, walk_in, ℕ, ◌<◌, ◌∙◌, ◌≡◌}
 use Rattle.ns_counters.proofs.WalkLaw.{in_list, want_below}
-use Rattle.ns_counters.specs.declared.items.Item.TheVariants.{OnCounter}
-use Rattle.ns_model.proofs.Environments.{made_below}
 
 module _ (history : List ObjectEvent) (state : ObjectState) (env : EnvPlain) (happened : List EnvEvent) (meets : Meets happened env) (led : IsLawfulObjects history state env.notes) (seat : ℕ) where
   note_low : (note : ℕ) → (env.notes note).made ≡ true → note < 64

@@ -1,7 +1,5 @@
 -- New objects are lawful.
-use Rattle.std.proofs.Common.{◌≡◌, ℕ, zero, suc, ◌+◌, ◌-◌, ◌<◌, ◌≤◌, List, [], ◌∷◌, ◌++◌, length, length-append, get_or, replicate, refl, ap, subst, arith, ◌∙◌}
-use Rattle.std.proofs.lemmas.List.{length-replicate}
-use Rattle.ns_counters.specs.Prelude.{AreWordsOf, IsLawful, first_objects, first_words, most, padded, setup_of}
+use Rattle.ns_counters.proofs.Prelude.{AreWordsOf, IsLawful, List, [], ap, arith, first_objects, first_words, get_or, length, length-append, length-replicate, most, padded, refl, replicate, setup_of, subst, suc, zero, ℕ, ◌++◌, ◌+◌, ◌-◌, ◌<◌, ◌∙◌, ◌∷◌, ◌≡◌, ◌≤◌}
 
 get_zero : (m k : ℕ) → ◌≡◌ {A = ℕ} (get_or (replicate m 0) k 0) 0
 get_zero zero k = refl

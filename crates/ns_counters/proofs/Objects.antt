@@ -1,8 +1,7 @@
 -- Histories of all objects: their parts, and the history of each object in them.
-use Rattle.std.proofs.Common.{◌≡◌, ◌≢◌, ℕ, Bool, true, false, eqb, cond, List, [], ◌∷◌, ◌++◌, fold, slice_index, refl, sym, ap, ◌∙◌, subst, eq-eqb, ne_eqb, eqb-true}
-use Rattle.std.proofs.lemmas.List.Elements.{filter-append}
-use Rattle.ns_counters.specs.Prelude.{CounterState, Every, IsLegalCounter, IsLegalCounterEvent, IsLegalFrom, IsLegalObjectEvent, IsLegalObjects, IsLegalOnce, IsLegalOnceEvent, ObjectEvent, ObjectStanding, OnCounter, OnOnce, OnceState, Setup, counter_after, counter_next, first_objects, object_next}
-use Rattle.ns_counters.specs.Prelude.{object_who, objects_after, objects_from, objects_own, of_counter, of_once, once_after, once_next}
+use Rattle.ns_counters.proofs.Prelude.{Bool, CounterState, Every, IsLegalCounter, IsLegalCounterEvent, IsLegalFrom, IsLegalObjectEvent, IsLegalObjects, IsLegalOnce, IsLegalOnceEvent, List, ObjectEvent, ObjectStanding, OnOnce, OnceState, Setup, [], ap, cond, counter_after, counter_next, eq-eqb, eqb}
+use Rattle.ns_counters.proofs.Prelude.{eqb-true, false, filter-append, first_objects, fold, ne_eqb, object_next, object_who, objects_after, objects_from, objects_own, of_counter, of_once, once_after, once_next, refl, slice_index, subst, sym, true, ℕ, ◌++◌, ◌∙◌, ◌∷◌, ◌≡◌, ◌≢◌}
+use Rattle.ns_counters.specs.Prelude.{OnCounter}
 
 -- ---- each object by itself
 

@@ -1,13 +1,9 @@
 -- Where seats stand in calls on counters and once cells: after one of them is put elsewhere, and while more notes are made; what a step leaves of what was asked, and what it needs.
-use Rattle.std.proofs.Common.{◌≡◌, ◌≢◌, ℕ, zero, suc, ◌<◌, Bool, true, false, eqb, List, [], ◌∷◌, Option, Some, None, length, slice_set, refl, ap, sym, ◌∙◌, arith, inl, inr, ℤ, cond, nat_lt, subst, Result, Ok, Err}
-use Rattle.std.proofs.lemmas.Bool.{cases_eq}
-use Rattle.std.specs.List.{list_all}
-use Rattle.ns_counters.specs.Prelude.{AddExchange, AddLoad, AreThere, AtCounter, AtNote, Clock, CounterFault, CounterState, DoneLoad, Env, FirstClock, InRound, IsLawfulObjects, Item, Items, NoteStanding, Number, ObjectEvent, ObjectFound, ObjectNext, ObjectStanding, ObjectState, ObjectWalk, OnNote}
-use Rattle.ns_counters.specs.Prelude.{OnVariable, OnceBegin, OnceEnd, OnceLoad, Repeat, Round, RoundFits, RoundGo, RoundNext, RoundOver, RoundPlace, Setup, Stage, ValueLoad, WaitClock, WaitLoad, WaitMark, WalkFits, Word, by_answer, by_begun, by_deadline, by_judging, by_round, by_stage, counter_of}
-use Rattle.ns_counters.specs.Prelude.{counter_word, is_there, items_of, judged, object_asked, object_got, objects_after, round_got, stage_of, walk_in}
+use Rattle.ns_counters.proofs.Prelude.{AddExchange, AddLoad, AreThere, AtCounter, AtNote, Bool, Clock, CounterFault, CounterState, DoneLoad, Env, Err, FirstClock, Go, InRound, IsLawfulObjects, Item, Items, List, None, NoteStanding, Number, ObjectEvent, ObjectFound, ObjectNext, ObjectStanding}
+use Rattle.ns_counters.proofs.Prelude.{ObjectState, ObjectWalk, Ok, OnCounter, OnNote, OnVariable, OnceBegin, OnceEnd, OnceLoad, Option, Over, Repeat, Result, Round, RoundFits, RoundGo, RoundNext, RoundOver, RoundPlace, Setup, Some, Stage, ValueLoad, WaitClock, WaitLoad, WaitMark, WalkFits, Word}
+use Rattle.ns_counters.proofs.Prelude.{[], ap, arith, by_answer, by_begun, by_deadline, by_judging, by_round, by_stage, cases_eq, cond, counter_of, counter_word, eqb, false, inl, inr, is_there, items_of, judged, length, list_all, nat_lt, object_asked, object_got, objects_after, refl, round_got}
+use Rattle.ns_counters.proofs.Prelude.{slice_set, stage_of, subst, suc, sym, true, walk_in, zero, ℕ, ℤ, ◌<◌, ◌∙◌, ◌∷◌, ◌≡◌, ◌≢◌}
 use Rattle.ns_counters.proofs.Listed.{first_of_all, rest_of_all}
-use Rattle.ns_counters.specs.declared.items.Item.TheVariants.{OnCounter}
-use Rattle.ns_counters.specs.declared.walk.ObjectNext.TheVariants.{Go, Over}
 use Rattle.ns_counters.specs.declared.word.Stage.TheVariants as TheStage
 
 -- ---- a seat is put elsewhere

@@ -1,7 +1,5 @@
 -- Looks behind one another, and rounds of them, when more has happened.
-use Rattle.std.proofs.Common.{ℕ, zero, suc, Bool, true, false, List, [], ◌∷◌, ◌++◌, inl, inr, Option, None, Some}
-use Rattle.ns_counters.specs.Prelude.{AnswersByRounds, HasShownNone, HasShownOne, HaveShownNothing, InTurn, IsLater, Past, RoundShows}
-use Rattle.ns_model.proofs.Beginnings.{begins_itself, begins_through}
+use Rattle.ns_counters.proofs.Prelude.{AnswersByRounds, Bool, HasShownNone, HasShownOne, HaveShownNothing, InTurn, IsLater, List, None, Option, Past, RoundShows, Some, [], begins_itself, begins_through, false, inl, inr, suc, true, zero, ℕ, ◌++◌, ◌∷◌}
 
 pub later_itself : (now : Past) → IsLater now now
 later_itself now = record { notes = begins_itself now.notes; objects = begins_itself now.objects }

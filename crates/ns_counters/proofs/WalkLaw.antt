@@ -1,21 +1,14 @@
 -- A step of a call on counters and once cells keeps their law, and leaves each seat where it may stand.
-use Rattle.std.proofs.Common.{◌≡◌, ◌≢◌, ℕ, zero, suc, ◌<◌, ◌≤◌, ◌%◌, ◌^◌, ℤ, Bool, true, false, cond, eqb, List, [], ◌∷◌, ◌++◌, Option, None, Some, take, drop, slice_get, slice_set, slice_index, Result, Ok, Err, refl, ap, sym, ◌∙◌, subst, arith, inl, inr, append-nil}
-use Rattle.std.proofs.lemmas.Bool.{cases_eq, ltb-true}
-use Rattle.std.specs.List.{list_all}
-use Rattle.std.specs.Prelude.{nat_lt}
-use Rattle.ns_counters.specs.Prelude.{Add, AddExchange, AddLoad, AreThere, AtCounter, AtNote, Began, BeginOnce, CanAct, Clock, CounterFault, CounterState, DoneLoad, Env, EnvEvent, EnvFound, EnvNext, EnvPlain, Every, ExchangeToAdd, FirstClock, ForIsNotified, Free, InRound, Is, IsLawfulObjects}
-use Rattle.ns_counters.specs.Prelude.{Item, Items, LoadToAdd, Meets, Note, NoteLoad, NoteStanding, NoteWord, Number, ObjectAct, ObjectEffect, ObjectEvent, ObjectFound, ObjectNext, ObjectStanding, ObjectState, ObjectView, ObjectWalk, ObjectWant, OnEnv, OnNote, OnVariable, OnWord, OnceBegin}
-use Rattle.ns_counters.specs.Prelude.{OnceEnd, OnceLoad, Outcome, Place, PlaceFits, Repeat, Round, RoundFits, RoundGo, RoundNext, RoundOver, Running, Setup, Stage, ValueLoad, ViewFits, WaitClock, WaitLoad, WaitMark, WalkFits, Word, by_answer, by_begun, by_chain, by_deadline, by_judging, by_round}
-use Rattle.ns_counters.specs.Prelude.{by_stage, chain_from, counter_of, counter_word, env_got_of, from_items, from_place, is_there, item_at, items_of, judged, most, object_after, object_got, object_place, object_want, object_who, objects_after, objects_own, outcome, round_got, stage_of}
-use Rattle.ns_counters.specs.Prelude.{standing_of, state_of, tried, waited_next, walk_in, word_at, word_left}
+use Rattle.ns_counters.proofs.Prelude.{Add, AddExchange, AddLoad, AreThere, AtCounter, AtNote, Began, BeginOnce, Bool, CanAct, Clock, CounterFault, CounterState, DoneLoad, Env, EnvEvent, EnvFound, EnvNext, EnvPlain, Err, Every, ExchangeToAdd, FirstClock, ForIsNotified, Free, Go, InRound, Is}
+use Rattle.ns_counters.proofs.Prelude.{IsLawfulObjects, Item, Items, List, LoadToAdd, Meets, None, Note, NoteLoad, NoteStanding, NoteWord, Number, ObjectAct, ObjectEffect, ObjectEvent, ObjectFound, ObjectNext, ObjectStanding, ObjectState, ObjectView, ObjectWalk, ObjectWant, Ok, OnCounter, OnEnv}
+use Rattle.ns_counters.proofs.Prelude.{OnNote, OnVariable, OnWord, OnceBegin, OnceEnd, OnceLoad, Option, Outcome, Over, Place, PlaceFits, Repeat, Result, Round, RoundFits, RoundGo, RoundNext, RoundOver, Running, Setup, Some, Stage, ValueLoad, ViewFits, WaitClock, WaitLoad, WaitMark, WalkFits, Word}
+use Rattle.ns_counters.proofs.Prelude.{[], ap, append-nil, arith, begins_itself, by_answer, by_begun, by_chain, by_deadline, by_judging, by_round, by_stage, cases_eq, chain_from, chain_up, cond, counter_of, counter_word, drop, env_got_of, eqb, false, from_items, from_place, inl, inr, is_there}
+use Rattle.ns_counters.proofs.Prelude.{item_at, items_of, judged, list_all, ltb-true, most, nat_lt, object_after, object_got, object_place, object_want, object_who, objects_after, objects_own, outcome, refl, round_got, slice_get, slice_index, slice_set, stage_of, standing_of, state_of, subst, suc}
+use Rattle.ns_counters.proofs.Prelude.{sym, take, tried, true, waited_next, walk_in, word_at, word_left, zero, ℕ, ℤ, ◌%◌, ◌++◌, ◌<◌, ◌^◌, ◌∙◌, ◌∷◌, ◌≡◌, ◌≢◌, ◌≤◌}
 use Rattle.ns_counters.proofs.Acts.{acted_fits, acted_lawful, others_fit}
 use Rattle.ns_counters.proofs.Keeps.{step_keeps}
 use Rattle.ns_counters.proofs.Listed.{first_of_all, listed, rest_of_all}
 use Rattle.ns_counters.proofs.Placed.{put_here, put_there, stands_within}
-use Rattle.ns_counters.specs.declared.items.Item.TheVariants.{OnCounter}
-use Rattle.ns_counters.specs.declared.walk.ObjectNext.TheVariants.{Go, Over}
-use Rattle.ns_env.proofs.Looks.{chain_up}
-use Rattle.ns_model.proofs.Beginnings.{begins_itself}
 use Rattle.ns_counters.specs.declared.object.ObjectEvent.TheVariants as TheEvent
 use Rattle.ns_model.specs.declared.once.OnceState.TheVariants as TheOnce
 use Rattle.ns_counters.specs.declared.word.Stage.TheVariants as TheStage

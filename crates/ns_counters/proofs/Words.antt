@@ -1,7 +1,5 @@
 -- The words of counters and once cells: each tells of what it was made for, and what a mark leaves of a counter's.
-use Rattle.std.proofs.Common.{◌≡◌, ℕ, ◌+◌, ◌*◌, ◌/◌, ◌%◌, ◌^◌, ◌≤◌, Bool, true, false, eqb, refl, ap, ◌∙◌, arith, bit_or, if◌then◌else◌}
-use Rattle.std.proofs.lemmas.Nat.{or_block, or_disjoint, and_le_r}
-use Rattle.ns_counters.specs.Prelude.{CounterState, Stage, Unused, counter_of, counter_word, most, stage_of, stage_word}
+use Rattle.ns_counters.proofs.Prelude.{Bool, CounterState, Stage, Unused, and_le_r, ap, arith, bit_or, counter_of, counter_word, eqb, false, if◌then◌else◌, most, or_block, or_disjoint, refl, stage_of, stage_word, true, ℕ, ◌%◌, ◌*◌, ◌+◌, ◌/◌, ◌^◌, ◌∙◌, ◌≡◌, ◌≤◌}
 
 by_mark : (value : ℕ) (waited : Bool) → value ≤ most → counter_of (counter_word (record { value = value; waited = waited })) ≡ record { value = value; waited = waited }
 by_mark value true few = let v : (value + 2 ^ 32) % 2 ^ 32 ≡ value = omega arith in let w : ((value + 2 ^ 32) / 2 ^ 32) % 2 ≡ 1 = omega arith in λ i. record { value = v i; waited = ap (λ (n : ℕ). eqb n 1) w i }

@@ -1,6 +1,5 @@
 -- What a caller knows of a step that it has made.
-use Rattle.std.specs.Prelude.{◌≡◌, ℕ, List, ◌++◌}
-use Rattle.ns_counters.specs.Names.{BeginOnce, BeginsWith, EndOnce, ExchangeToAdd, LoadToAdd, LookCounter, LookOnce, MarkWait, ObjectAct, ObjectEvent, ObjectView}
+use Rattle.ns_counters.specs.Names.{BeginOnce, BeginsWith, EndOnce, ExchangeToAdd, List, LoadToAdd, LookCounter, LookOnce, MarkWait, ObjectAct, ObjectEvent, ObjectView, ℕ, ◌++◌, ◌≡◌}
 use Rattle.ns_counters.specs.Lawful.{IsWordOf}
 use Rattle.ns_counters.specs.Objects.{ObjectStanding, objects_after, IsLegalObjects, objects_own, AreObjectsBySeats}
 use Rattle.ns_counters.specs.Steps.{outcome}

@@ -1,7 +1,5 @@
 -- The objects that a wait for any of several is for.
-use Rattle.std.specs.List.{list_any}
-use Rattle.std.specs.Prelude.{◌≡◌, ℕ, suc, ◌+◌, ◌<◌, nat_lt, ◌==◌, if◌then◌else◌, Bool, true, false, List, [], ◌∷◌, take, replicate, Option, None, slice_get, slice_set}
-use Rattle.ns_counters.specs.Names.{Cvs, Item, Items, OnNote, OnVariable, is_in}
+use Rattle.ns_counters.specs.Names.{Bool, Cvs, Item, Items, List, None, OnNote, OnVariable, Option, [], false, if◌then◌else◌, is_in, list_any, nat_lt, replicate, slice_get, slice_set, suc, take, true, ℕ, ◌+◌, ◌<◌, ◌==◌, ◌∷◌, ◌≡◌}
 
 -- the objects, in order
 abbrev pub items_of : Items → List Item

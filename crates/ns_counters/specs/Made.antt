@@ -1,6 +1,5 @@
 -- How objects are made.
-use Rattle.std.specs.Prelude.{ℕ, ◌-◌, List, ◌++◌, length, replicate}
-use Rattle.ns_counters.specs.Names.{Setup}
+use Rattle.ns_counters.specs.Names.{List, Setup, length, replicate, ℕ, ◌++◌, ◌-◌}
 
 -- the values by number, and 0 past the last, 16 in all
 abbrev pub padded : List ℕ → List ℕ

@@ -1,6 +1,5 @@
 -- Rounds of looks at a clock, and then at several things in order, of which a note is one kind and a counter is another: what a wait for any of several goes by.
-use Rattle.std.specs.Prelude.{◌≡◌, ◌⊎◌, ℕ, zero, suc, Bool, true, false, List, [], ◌∷◌, length, take, slice_get, Option, None, Some}
-use Rattle.ns_counters.specs.Names.{BeginsWith, EnvEvent, ObjectEvent, clock_of, is_due}
+use Rattle.ns_counters.specs.Names.{BeginsWith, Bool, EnvEvent, List, None, ObjectEvent, Option, Some, [], clock_of, false, is_due, length, slice_get, suc, take, true, zero, ℕ, ◌∷◌, ◌≡◌, ◌⊎◌}
 
 -- how far both have come: the clock and the notes, and the counters and once cells
 pub record Past : Type 0 where

@@ -1,6 +1,5 @@
 -- The words that a table keeps of counters and of once cells.
-use Rattle.std.specs.Prelude.{ℕ, ◌+◌, ◌/◌, ◌%◌, ◌^◌, ◌==◌, if◌then◌else◌}
-use Rattle.ns_counters.specs.Names.{CounterState, Done, OnceState, Stage, Unused}
+use Rattle.ns_counters.specs.Names.{CounterState, Done, OnceState, Stage, Unused, if◌then◌else◌, ℕ, ◌%◌, ◌+◌, ◌/◌, ◌==◌, ◌^◌}
 use Rattle.ns_counters.specs.declared.word.Stage.TheVariants.{Running}
 use Rattle.ns_model.specs.declared.once.OnceState.TheVariants as TheOnce
 

@@ -1,11 +1,8 @@
 -- A step takes its call on, as its caller follows it.
-use Rattle.std.proofs.Common.{◌≡◌, ℕ, ◌≤◌, true, false, arith, List, [], ◌∷◌, ◌++◌, length, Option, None, Some, refl, ap, sym, ◌∙◌, subst}
-use Rattle.std.proofs.lemmas.List.{append_assoc, append-nil}
-use Rattle.ns_gate.specs.Prelude.{Act, ActFits, CallGoes, CanStep, Course, Done, Event, Found, GateView, HasReached, HasSince, HasStepped, Held, Idle, InAcquire, InCells, InRelease, InShow, InSignal, InTry, InWait, IsAtPlace, IsAtRest, IsOne, IsTold, IsTrueToHistory, IsWide, Next, On, Owed}
-use Rattle.ns_gate.specs.Prelude.{OwesBelow, OwesOne, Pay, PayInWait, PayTheWoken, PayWake, Performed, PlaceFits, SeatOf, SeatView, SectionFits, Standing, Told, Truths, Walk, asked_of, carried_by, course_by, got_of, has_queues, has_some, part_of, pays, row_after, standing_after, the, walk_after}
-use Rattle.ns_gate.specs.Prelude.{walk_by, want_of}
+use Rattle.ns_gate.proofs.Prelude.{Act, ActFits, CallGoes, CanStep, Course, Done, Event, Found, GateView, HasReached, HasSince, HasStepped, Held, Idle, InAcquire, InCells, InRelease, InShow, InSignal, InTry, InWait, IsAtPlace, IsAtRest, IsOne, IsTold, IsTrueToHistory, IsWide, List, Next, None, On}
+use Rattle.ns_gate.proofs.Prelude.{Option, Owed, OwesBelow, OwesOne, Pay, PayInWait, PayTheWoken, PayWake, Performed, PlaceFits, SeatOf, SeatView, SectionFits, Some, Standing, Told, Truths, Walk, [], ap, append-nil, append_assoc, arith, asked_of, begins_itself, begins_through, carried_by}
+use Rattle.ns_gate.proofs.Prelude.{course_by, false, got_of, has_queues, has_some, length, part_of, pays, refl, row_after, standing_after, subst, sym, the, true, walk_after, walk_by, want_of, ℕ, ◌++◌, ◌∙◌, ◌∷◌, ◌≡◌, ◌≤◌}
 use Rattle.ns_gate.proofs.Findings.{fits_now, walk_is}
-use Rattle.ns_model.proofs.Beginnings.{begins_itself, begins_through}
 
 none_of : {A : Type 0} (xs : List A) → has_some xs ≡ false → xs ≡ []
 none_of [] e = refl

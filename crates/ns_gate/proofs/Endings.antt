@@ -1,14 +1,6 @@
 -- What is known of a gate that is closed.
-use Rattle.std.specs.Prelude.{not, nat_lt, ◌||◌}
-use Rattle.std.proofs.Common.{◌≡◌, ℕ, zero, suc, ◌+◌, ◌<◌, ◌≤◌, Bool, true, false, List, [], ◌∷◌, length, get_or, refl, ap, sym, ◌∙◌, subst, arith}
-use Rattle.std.proofs.lemmas.List.{ext_get_or}
-use Rattle.ns_gate.specs.Prelude.{EndsAs, Every, Final, Fits, GateView, Holds, Homes, IsLawful, IsOne, IsPackable, IsRuled, IsTold, Lists, Seen, Truths, Underlying, Views, Word, is_held, the, word_of}
-use Rattle.ns_seats.proofs.Views.{one_is}
-use Rattle.ns_model.proofs.Tallies.{every_at}
-use Rattle.ns_word.proofs.Codes.{decoded}
-use Rattle.ns_word.proofs.Seen.{packable}
-use lib.ListN.{get_elem?}
-use mathlib.Core.Option.{some, some-injective, some-ne-none}
+use Rattle.ns_gate.proofs.Prelude.{Bool, EndsAs, Every, Final, Fits, GateView, Holds, Homes, IsLawful, IsOne, IsPackable, IsRuled, IsTold, List, Lists, Seen, Truths, Underlying, Views, Word, [], ap, arith, decoded, every_at, ext_get_or, false, get_elem?, get_or, is_held, length, nat_lt, not}
+use Rattle.ns_gate.proofs.Prelude.{one_is, packable, refl, some, some-injective, some-ne-none, subst, suc, sym, the, true, word_of, zero, ℕ, ◌+◌, ◌<◌, ◌||◌, ◌∙◌, ◌∷◌, ◌≡◌, ◌≤◌}
 
 -- ---- what is read
 

@@ -1,13 +1,8 @@
 -- What a step tells its caller.
-use Rattle.std.specs.Prelude.{slice_index}
-use Rattle.std.proofs.Common.{◌≡◌, ℕ, Bool, cond, inl, inr, ◌<◌, List, [], ◌++◌, ◌∷◌, Option, None, Some, Result, refl, ap, sym, ◌∙◌, subst}
-use Rattle.std.proofs.lemmas.Bool.{ne_eqb, cases_eq}
-use Rattle.ns_gate.specs.Prelude.{Acquire, Act, ActFits, BeginsIf, CanStep, Cell, Changed, Effect, Flag, Found, GateView, HasStepped, Held, IsExchange, IsOwedNext, IsPackable, JudgeMet, JudgeQuiet, Lists, LoadCell, LoadFlag, LoadWord, LockState, Made, MayExchange, Me, Owed, Part, Performed}
-use Rattle.ns_gate.specs.Prelude.{PerformedWith, Release, ReleaseReturning, ReturnQueues, Returning, Saw, SeatView, SectionFits, TakeQueues, Truths, WaitReturning, Walk, Word, act_by, act_of, act_returning, change_found, exchanged, found_of, found_returned, got_of, made_by, next_owed, number_of}
-use Rattle.ns_gate.specs.Prelude.{part_of, rest, row_in, scanned, standing_after, the, tried_for, view_in, walk_after, walk_by, want_of, word_of}
-use Rattle.ns_word.proofs.Codes.{decoded}
-use Rattle.ns_word.proofs.Seen.{packable, found_fits}
-use Rattle.ns_word.proofs.Acts.{act_fits, view_fits}
+use Rattle.ns_gate.proofs.Prelude.{Acquire, Act, ActFits, BeginsIf, Bool, CanStep, Cell, Changed, Effect, Flag, Found, GateView, HasStepped, Held, IsExchange, IsOwedNext, IsPackable, JudgeMet, JudgeQuiet, List, Lists, LoadCell, LoadFlag, LoadWord, LockState, Made, MayExchange, Me, None, Option}
+use Rattle.ns_gate.proofs.Prelude.{Owed, Part, Performed, PerformedWith, Release, ReleaseReturning, Result, ReturnQueues, Returning, Saw, SeatView, SectionFits, Some, TakeQueues, Truths, WaitReturning, Walk, Word, [], act_by, act_fits, act_of, act_returning, ap, cases_eq, change_found, cond}
+use Rattle.ns_gate.proofs.Prelude.{decoded, exchanged, found_fits, found_of, found_returned, got_of, inl, inr, made_by, ne_eqb, next_owed, number_of, packable, part_of, refl, rest, row_in, scanned, slice_index, standing_after, subst, sym, the, tried_for, view_fits, view_in, walk_after, walk_by}
+use Rattle.ns_gate.proofs.Prelude.{want_of, word_of, ℕ, ◌++◌, ◌<◌, ◌∙◌, ◌∷◌, ◌≡◌}
 
 -- the wake that is owed next
 pub owed_next : (wake : Owed) (owed : List Owed) → IsOwedNext wake owed → wake ≡ next_owed owed

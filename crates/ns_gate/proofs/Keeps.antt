@@ -1,17 +1,9 @@
 -- A step of the machine keeps the rule.
-use Rattle.std.specs.Prelude.{nat_lt, slice_get}
-use Rattle.std.proofs.Common.{◌≡◌, ◌≢◌, ◌⊎◌, inl, inr, ℕ, zero, suc, ◌<◌, ◌≤◌, true, false, cond, eqb, List, [], ◌∷◌, ◌++◌, Option, None, Some, IfSome, set, slice_set, take, drop, refl, ap, sym, ◌∙◌, subst, arith, eq-eqb}
-use Rattle.std.proofs.lemmas.Option.{slice_get_within}
-use Rattle.ns_gate.specs.Prelude.{AtHome, BeginsIf, BeginsWith, CallGoes, Course, Done, Effect, Event, Every, Fits, Found, GateView, HasCome, HasStepped, Held, Homes, Idle, IsLawful, IsRuled, IsTold, LockState, MayBegin, Next, On, Owed, Part, QuietKeeps, Request, SeatStep, SeatView, Shows, SoFar}
-use Rattle.ns_gate.specs.Prelude.{Step, Truths, Underlying, ViewFits, Views, Walk, asked_of, calls_of, course_after, course_by, course_from, got_of, has_queues, is_seat, one_if, part_of, row_after, standing_after, takers, told_after, total, view_in, walk_after, walk_by, want_of}
-use Rattle.ns_model.proofs.Tallies.{one_most, total_set, total_none, Others, every_at, others_of, others_both, others_map, others_none, every_both, every_put}
-use Rattle.ns_word.proofs.Acts.{view_fits}
-use Rattle.ns_word.proofs.Courses.{takes_on, begins_unchanged}
-use Rattle.ns_env.proofs.Asks.{set_here, set_there}
-use Rattle.ns_word.proofs.Numbers.{step_at, begin_at, set_same, split_at}
-use Rattle.ns_word.proofs.ToldAfter.{begins_if, seat_steps_keep, seat_step_tells, seat_step_by, told_there, seat_in}
-use lib.ListN.{get_elem?}
-use mathlib.Core.Option.{some}
+use Rattle.ns_gate.proofs.Prelude.{AtHome, BeginsIf, BeginsWith, CallGoes, Course, Done, Effect, Event, Every, Fits, Found, GateView, HasCome, HasStepped, Held, Homes, Idle, IfSome, IsLawful, IsRuled, IsTold, List, LockState, MayBegin, Next, None, On, Option, Others, Owed, Part, QuietKeeps}
+use Rattle.ns_gate.proofs.Prelude.{Request, SeatStep, SeatView, Shows, SoFar, Some, Step, Truths, Underlying, ViewFits, Views, Walk, [], ap, arith, asked_of, begin_at, begins_if, begins_unchanged, calls_of, cond, course_after, course_by, course_from, drop, eq-eqb, eqb, every_at, every_both}
+use Rattle.ns_gate.proofs.Prelude.{every_put, false, get_elem?, got_of, has_queues, inl, inr, is_seat, nat_lt, one_if, one_most, others_both, others_map, others_none, others_of, part_of, refl, row_after, seat_in, seat_step_by, seat_step_tells, seat_steps_keep, set, set_here, set_same, set_there}
+use Rattle.ns_gate.proofs.Prelude.{slice_get, slice_get_within, slice_set, some, split_at, standing_after, step_at, subst, suc, sym, take, takers, takes_on, told_after, told_there, total, total_none, total_set, true, view_fits, view_in, walk_after, walk_by, want_of, zero, ℕ, ◌++◌, ◌<◌, ◌∙◌, ◌∷◌}
+use Rattle.ns_gate.proofs.Prelude.{◌≡◌, ◌≢◌, ◌≤◌, ◌⊎◌}
 
 -- nobody has the queues where none is counted
 pub none_takes : {C : Type 0} {N : ℕ} (views : List (SeatView C N)) (n : ℕ) (view : SeatView C N) → takers views ≡ 0 → slice_get views n ≡ Some view → has_queues view.walk ≡ true → ⊥

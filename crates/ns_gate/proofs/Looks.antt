@@ -1,12 +1,8 @@
 -- A look changes no word of the table: any load may be told what it has shown.
-use Rattle.std.proofs.Common.{◌≡◌, ◌<◌, ℕ, Bool, inl, List, [], ◌∷◌, set, Option, None, Some, refl, ap, sym, ◌∙◌, subst}
-use Rattle.std.proofs.lemmas.List.{set-get_or}
-use Rattle.ns_gate.specs.Prelude.{Act, Allows, CanStep, Cause, Effect, GateView, HasLooked, HasStepped, Holds, Homes, IsOne, IsRuled, Limits, Lists, Look, Looked, MayShow, Me, Part, Performed, QuietKeeps, Truths, Underlying, Views, Walk, carried_after, held_after, keeps_slots, part_of, the}
-use Rattle.ns_gate.specs.Prelude.{want_of}
+use Rattle.ns_gate.proofs.Prelude.{Act, Allows, Bool, CanStep, Cause, Effect, GateView, HasLooked, HasStepped, Holds, Homes, IsOne, IsRuled, Limits, List, Lists, Look, Looked, MayShow, Me, None, Option, Part, Performed, QuietKeeps, Some, Truths, Underlying, Views, Walk, [], ap, carried_after}
+use Rattle.ns_gate.proofs.Prelude.{get_elem?, held_after, inl, keeps_slots, part_of, refl, set, set-get_or, some, subst, sym, the, want_of, ℕ, ◌<◌, ◌∙◌, ◌∷◌, ◌≡◌}
 use Rattle.ns_gate.proofs.Keeps.{now, later, did, ruled}
 use Rattle.ns_gate.proofs.Findings.{meant_by, walk_is}
-use lib.ListN.{get_elem?}
-use mathlib.Core.Option.{some}
 
 module _ {C : Type 0} {N : ℕ} (truths : Truths C) (cells : 0 < N) (quiet : QuietKeeps N truths) (seat_count id slots : ℕ) (limits : Limits) (again : Bool) (cause : Option Cause) (may : MayShow limits cause) where
   module _ (v : GateView C N) (walk : Walk C) (walks : v.at.walk ≡ Some walk) (wants : want_of walk ≡ Look limits again) (words : List ℕ) (homes : Homes C) (views : Views C N) (g : Underlying C N) (r : IsRuled truths seat_count words homes views g) (at : get_elem? views id ≡ some (v ∷ [])) where

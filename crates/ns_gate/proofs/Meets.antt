@@ -1,16 +1,8 @@
 -- Two seats of a gate that meet.
-use Rattle.std.specs.Prelude.{not, slice_get}
-use Rattle.std.proofs.Common.{◌≡◌, ◌≢◌, ℕ, zero, suc, ◌+◌, ◌≤◌, Bool, true, false, cond, eqb, List, [], ◌∷◌, ◌++◌, Option, None, Some, refl, ap, sym, ◌∙◌, subst, arith, eq-eqb}
-use Rattle.ns_gate.specs.Prelude.{Allows, ArePair, Event, Fits, GateView, HasLearned, HasSight, HaveLearned, HaveMet, Held, Holds, Homes, IsAtRest, IsBySeats, IsBySums, IsOne, IsRuled, IsSettled, IsWide, Mode, OneWriter, Read, SeatOf, SeatView, ShareTheLock, Truths, Underlying, Views, Word, Write}
-use Rattle.ns_gate.specs.Prelude.{first_of, fresh_seat, is_reading, is_seat, is_write, is_writing, number_of_seat, one_if, own_of, readers, rest_of, sight_of, the, total, writers}
+use Rattle.ns_gate.proofs.Prelude.{Allows, ArePair, Bool, Event, Fits, GateView, HasLearned, HasSight, HaveLearned, HaveMet, Held, Holds, Homes, IsAtRest, IsBySeats, IsBySums, IsOne, IsRuled, IsSettled, IsWide, List, Mode, None, OneWriter, Option, Read, SeatOf, SeatView, ShareTheLock, Some, Truths}
+use Rattle.ns_gate.proofs.Prelude.{Underlying, Views, Word, Write, [], ap, arith, begins_itself, cond, eq-eqb, eqb, false, first_of, fresh_seat, get_elem?, is_reading, is_seat, is_write, is_writing, joined_learn, meets, not, number_of_seat, one_history, one_if, own_append, own_of, readers, refl}
+use Rattle.ns_gate.proofs.Prelude.{rest_of, sight_of, slice_get, some, subst, suc, sym, the, total, total_at, true, writers, zero, ℕ, ◌++◌, ◌+◌, ◌∙◌, ◌∷◌, ◌≡◌, ◌≢◌, ◌≤◌}
 use Rattle.ns_gate.proofs.Keeps.{once}
-use Rattle.ns_model.proofs.Beginnings.{begins_itself}
-use Rattle.ns_model.proofs.Tallies.{total_at}
-use Rattle.ns_seats.proofs.Meetings.{learns as joined_learn, meets}
-use Rattle.ns_seats.proofs.Sights.{one_history}
-use Rattle.ns_word.proofs.ToldAfter.{own_append}
-use lib.ListN.{get_elem?}
-use mathlib.Core.Option.{some}
 
 -- ---- two of those that share a sum
 

@@ -1,12 +1,6 @@
 -- A new gate.
-use Rattle.std.specs.Prelude.{nat_lt, slice_get}
-use Rattle.std.proofs.Common.{◌≡◌, ℕ, zero, suc, ◌+◌, ◌<◌, ◌≤◌, List, [], ◌∷◌, length, get_or, replicate, map, Some, sym, refl, ap, ◌∙◌, arith}
-use Rattle.std.proofs.lemmas.List.{length-replicate, get_or-replicate}
-use Rattle.ns_gate.specs.Prelude.{Every, Fits, Holds, Lists, Truths, fresh, fresh_seat, fresh_state, fresh_views, no_lists, number_of_seat, one_if, opening}
-use Rattle.ns_seats.proofs.Numbered.{one_of_each}
-use Rattle.ns_word.proofs.Starts.{lawful_fresh}
-use Rattle.ns_word.proofs.ToldAfter.{told_first}
-use mathlib.Core.Option.{some}
+use Rattle.ns_gate.proofs.Prelude.{Every, Fits, Holds, List, Lists, Some, Truths, [], ap, arith, fresh, fresh_seat, fresh_state, fresh_views, get_or, get_or-replicate, lawful_fresh, length, length-replicate, map, nat_lt, no_lists, number_of_seat, one_if, one_of_each, opening, refl, replicate}
+use Rattle.ns_gate.proofs.Prelude.{slice_get, some, suc, sym, told_first, zero, ℕ, ◌+◌, ◌<◌, ◌∙◌, ◌∷◌, ◌≡◌, ◌≤◌}
 
 module _ (C : Type 0) (N : ℕ) where
   stands_there : (first n i : ℕ) → i < n → slice_get (fresh_views {C = C} {N = N} first n) i ≡ Some (fresh_seat {C = C} {N = N} 0 (first + i)).at

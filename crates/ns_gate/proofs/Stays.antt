@@ -1,8 +1,6 @@
 -- What stays as it is where a step changes nothing, or nothing but a flag.
-use Rattle.std.proofs.Common.{◌≡◌, ℕ, true, false, [], ◌++◌, ◌∷◌, None, refl, ap, sym, ◌∙◌, subst}
-use Rattle.ns_gate.specs.Prelude.{Act, ArmFlag, Carries, Effect, Found, GateView, Lists, Made, Part, Performed, SeatOf, SeatView, Truths, awaits, has_queues, part_of, the, times}
+use Rattle.ns_gate.proofs.Prelude.{Act, ArmFlag, Carries, Effect, Found, GateView, Lists, Made, None, Part, Performed, SeatOf, SeatView, Truths, [], ap, awaits, false, has_queues, part_of, refl, stands_nowhere, subst, sym, the, times, true, ℕ, ◌++◌, ◌∙◌, ◌∷◌, ◌≡◌}
 use Rattle.ns_gate.proofs.Findings.{does}
-use Rattle.ns_word.proofs.Acts.{stands_nowhere}
 
 -- the seat has the same slots, the same section in hand, and knows the lists to stand as they did
 pub record HasKeptItsQueues {C : Type 0} {N : ℕ} (me now : SeatOf C N) : Type 0 where

@@ -1,23 +1,8 @@
 -- Those whom a signal or a broadcast takes: where they may go, how they come back, and to whom a wake is owed.
-use Rattle.std.proofs.Common.{◌≡◌, ℕ, ◌+◌, ◌≤◌, ◌<◌, ◌↔◌, Bool, true, false, not, ◌&&◌, inl, inr, IsTrue, eqb, List, [], ◌∷◌, ◌++◌, append-nil, if◌then◌else◌, Option, None, Some, length, get_or, drop, map, refl, ap, sym, ◌∙◌, subst, arith}
-use Rattle.std.specs.Bool.{OnFalse, OnTrue}
-use Rattle.std.specs.List.{sum_by}
-use Rattle.std.specs.Int.{bit_at}
-use Rattle.std.proofs.Math.Bool.{and-true}
-use Rattle.std.proofs.lemmas.Bool.{cases_Bool, cases_eq, eq-eqb, ne_eqb}
-use Rattle.std.specs.Option.{option_map}
-use Rattle.std.proofs.lemmas.List.Elements.{filter-append}
-use Rattle.std.proofs.lemmas.List.Sums.{sum_by-cons}
-use Rattle.ns_gate.specs.Prelude.{Act, Broadcasting, Carries, Cv, Found, HaveSeats, IsOrderly, Lists, Lock, Part, Performed, ReturnQueues, SeatOf, SeatView, Signaling, Truths, Turned, Waiter, WakeWaiters, Waking, Walk, Woke, Word, bits_of, change_found, cvs_without, has_queues, has_some, is_held}
-use Rattle.ns_gate.specs.Prelude.{is_of, kept_by, lists_left, lists_woken, moved_to, outside, owed_woken, seats_of, sole_of, taken_by, taken_from, taken_set, the, times, times_in, turned_to, waiters_of, wakes_of, with_waiters, without, without_each, without_in, woken_nobody, woken_sole, writes}
-use Rattle.ns_model.proofs.Sets.{in_more, none_in}
-use Rattle.ns_queue.proofs.Inside.{told_no}
-use Rattle.ns_queue.proofs.Marking.{drop_step}
-use Rattle.ns_queue.proofs.Outside.{gone_those, same_each}
-use Rattle.ns_queue.proofs.Parts.{below_in, once_in}
-use Rattle.ns_queue.proofs.Seats.{none_without, own_times, times_in-cons}
-use Rattle.ns_queue.proofs.Taken.{sole_is, times_signaled}
-use Rattle.ns_word.proofs.Ranges.{lists_orderly}
+use Rattle.ns_gate.proofs.Prelude.{Act, Bool, Broadcasting, Carries, Cv, Found, HaveSeats, IsOrderly, IsTrue, List, Lists, Lock, None, OnFalse, OnTrue, Option, Part, Performed, ReturnQueues, SeatOf, SeatView, Signaling, Some, Truths, Turned, Waiter, WakeWaiters, Waking, Walk, Woke, Word, []}
+use Rattle.ns_gate.proofs.Prelude.{and-true, ap, append-nil, arith, below_in, bit_at, bits_of, cases_Bool, cases_eq, change_found, cvs_without, drop, drop_step, eq-eqb, eqb, false, filter-append, get_or, gone_those, has_queues, has_some, if◌then◌else◌, in_more, inl, inr, is_held, is_of, kept_by}
+use Rattle.ns_gate.proofs.Prelude.{length, lists_left, lists_orderly, lists_woken, map, moved_to, ne_eqb, none_in, none_without, not, once_in, option_map, outside, owed_woken, own_times, refl, same_each, seats_of, sole_is, sole_of, subst, sum_by, sum_by-cons, sym, taken_by, taken_from, taken_set}
+use Rattle.ns_gate.proofs.Prelude.{the, times, times_in, times_in-cons, times_signaled, told_no, true, turned_to, waiters_of, wakes_of, with_waiters, without, without_each, without_in, woken_nobody, woken_sole, writes, ℕ, ◌&&◌, ◌++◌, ◌+◌, ◌<◌, ◌↔◌, ◌∙◌, ◌∷◌, ◌≡◌, ◌≤◌}
 use Rattle.ns_gate.proofs.Stays.{HasKeptItsQueues, effect_of, still_carries}
 
 module _ {C : Type 0} where

@@ -1,10 +1,7 @@
 -- What the queues are once a borrow of their lists is over.
-use Rattle.std.specs.Borrow.{Fml, Lends, MutBor}
-use denote.RattleType.{RattleType}
+use Rattle.ns_gate.specs.Names.{Fml, Ghosts, Lends, Lists, MutBor, RattleType, queues_row}
 use denote.Param.{value_of}
-use Rattle.ns_gate.specs.Names.{Ghosts, Lists}
 use Rattle.ns_gate.specs.contracts.boxed.BoxedQueues.{the_row as boxed_row}
-use Rattle.ns_queue.specs.contracts.queues.Queues.{the_row as queues_row}
 
 -- they are what was last written
 abbrev pub lends_lists : (C N : RattleType) → Ghosts C.Denot (value_of N) → MutBor (Lists C.Denot) → MutBor (Lists C.Denot) → Fml

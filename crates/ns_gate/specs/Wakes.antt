@@ -1,7 +1,6 @@
 -- What a signal or a broadcast makes of the lists in hand, and a scan that takes nobody, or a writer alone.
-use Rattle.std.specs.Prelude.{ℕ, Bool, false, if◌then◌else◌, List, [], ◌∷◌, Option, None, Some, Result, Ok, Err}
-use Rattle.std.specs.Option.{option_map}
-use Rattle.ns_gate.specs.Names.{Cv, Lists, Owed, Sought, Truths, Turned, Waiter, Waking, begins_with_reader, bits_of, cvs_without, has_some, left_of, meets_at, moved_to, sole_of, sought_of, taken_by, taken_set, value_of, waiters_of, wakes_of, without, woken_of}
+use Rattle.ns_gate.specs.Names.{Bool, Cv, Err, List, Lists, None, Ok, Option, Owed, Result, Some, Sought, Truths, Turned, Waiter, Waking, [], begins_with_reader, bits_of, cvs_without, false, has_some, if◌then◌else◌, left_of, meets_at, moved_to, option_map, sole_of, sought_of, taken_by, taken_set}
+use Rattle.ns_gate.specs.Names.{value_of, waiters_of, wakes_of, without, woken_of, ℕ, ◌∷◌}
 
 -- those whom it takes out of the list of its variable, where the lists stand so
 abbrev pub taken_from : {C : Type 0} → Waking → ℕ → Lists C → List (Waiter C)

@@ -1,6 +1,5 @@
 -- Laws of the beginnings of lists.
-use Rattle.std.proofs.Common.{◌≡◌, List, [], ◌∷◌, ◌++◌, length, refl, sym, ap, ◌∙◌, append_assoc, append-nil, length-append, ◌⊎◌, inl, inr, ⊎_elim, arith}
-use Rattle.ns_model.specs.Beginnings.{BeginsWith}
+use Rattle.ns_model.proofs.Prelude.{BeginsWith, List, [], ap, append-nil, append_assoc, arith, inl, inr, length, length-append, refl, sym, ⊎_elim, ◌++◌, ◌∙◌, ◌∷◌, ◌≡◌, ◌⊎◌}
 
 module _ {A : Type 0} where
   pub begins_itself : (l : List A) → BeginsWith l l

@@ -1,15 +1,6 @@
 -- What a legal history of a counter means.
-use Rattle.std.proofs.Common.{◌≡◌, ℕ, ◌≤◌, ℤ, pos, ◌+ℤ◌, ◌<ℤ◌, ◌≤ℤ◌, Bool, true, false, ◌||◌, List, [], ◌∷◌, Result, Ok, Err, fold, refl, sym, ap, ◌∙◌, arith}
-use Rattle.std.proofs.lemmas.Int.{ints}
-use Rattle.std.specs.List.{list_any}
-use Rattle.ns_model.specs.declared.counter.CounterFault.{CounterFault}
-use Rattle.ns_model.specs.declared.counter.CounterFault.TheVariants.{Under, Over, AfterWait}
-use Rattle.ns_model.specs.declared.counter.CounterEvent.{CounterEvent}
-use Rattle.ns_model.specs.declared.counter.CounterEvent.TheVariants.{Add, Begun}
-use Rattle.ns_model.specs.declared.counter.CounterState.{CounterState}
-use Rattle.ns_model.specs.Courses.{IsLegalFrom}
-use Rattle.ns_model.specs.Counters.{most, sum_of, rises_after_wait, judged, IsLegalCounterEvent, counter_next, first_counter, counter_after, IsLegalCounter}
-use Rattle.ns_model.specs.Meanings.{AnswersRightly, added, added_by, is_begun}
+use Rattle.ns_model.proofs.Prelude.{Add, AfterWait, AnswersRightly, Begun, Bool, CounterEvent, CounterFault, CounterState, Err, IsLegalCounter, IsLegalCounterEvent, IsLegalFrom, List, Ok, Over, Result, Under, [], added, added_by, ap, arith, counter_after, counter_next, false, first_counter, fold}
+use Rattle.ns_model.proofs.Prelude.{ints, is_begun, judged, list_any, most, pos, refl, rises_after_wait, sum_of, sym, true, ℕ, ℤ, ◌+ℤ◌, ◌<ℤ◌, ◌||◌, ◌∙◌, ◌∷◌, ◌≡◌, ◌≤ℤ◌, ◌≤◌}
 
 -- ---- one change
 

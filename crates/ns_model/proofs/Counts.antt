@@ -1,8 +1,5 @@
 -- A count over the seats, one seat at a time.
-use Rattle.std.proofs.Common.{◌≡◌, ℕ, zero, suc, ◌+◌, ◌≤◌, ◌<◌, Bool, true, false, ◌&&◌, cond, eqb, inl, inr, Fits, w8, refl, ap, ◌∙◌, arith, add-one}
-use Rattle.std.proofs.lemmas.Bool.{cases_eq, ne_eqb, eq-eqb}
-use Rattle.ns_model.specs.Tallies.{one_if}
-use Rattle.ns_model.specs.Phases.{count_below}
+use Rattle.ns_model.proofs.Prelude.{Bool, Fits, add-one, ap, arith, cases_eq, cond, count_below, eq-eqb, eqb, false, inl, inr, ne_eqb, one_if, refl, suc, true, w8, zero, ℕ, ◌&&◌, ◌+◌, ◌<◌, ◌∙◌, ◌≡◌, ◌≤◌}
 
 pub count_none : (p : ℕ → Bool) → count_below 0 p ≡ 0
 unfolding count_below

@@ -1,8 +1,5 @@
 -- A history and its parts.
-use Rattle.std.proofs.Common.{◌≡◌, ℕ, zero, suc, ◌+◌, ◌<◌, List, [], ◌∷◌, ◌++◌, length, get_or, take, fold, sym, subst, arith}
-use Rattle.std.proofs.lemmas.List.{take_more}
-use Rattle.std.proofs.lemmas.List.Sums.{fold_more}
-use Rattle.ns_model.specs.Courses.{IsLegalFrom}
+use Rattle.ns_model.proofs.Prelude.{IsLegalFrom, List, [], arith, fold, fold_more, get_or, length, subst, suc, sym, take, take_more, zero, ℕ, ◌++◌, ◌+◌, ◌<◌, ◌∷◌, ◌≡◌}
 
 module _ {S E : Type 0} (IsLegalEvent : S → E → Type 0) (next : S → E → S) where
   pub legal_append : (now : S) (g h : List E) → IsLegalFrom IsLegalEvent next now g → IsLegalFrom IsLegalEvent next (fold next now g) h → IsLegalFrom IsLegalEvent next now (g ++ h)

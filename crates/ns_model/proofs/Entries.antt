@@ -1,18 +1,5 @@
 -- Which entries fit no phase but that of their wait, and what the tests of modes and answers tell.
-use Rattle.std.specs.Prelude.{◌≡◌, ℕ, Bool, true, List}
-use Rattle.std.proofs.Common.{refl}
-use Rattle.ns_model.specs.Sections.{EntryFits, is_met}
-use Rattle.ns_model.specs.declared.event.Answer.{Answer}
-use Rattle.ns_model.specs.declared.event.Answer.TheVariants.{Met, TimedOut, Canceled}
-use Rattle.ns_model.specs.declared.event.Mode.{Mode}
-use Rattle.ns_model.specs.declared.event.Mode.TheVariants.{Write, Read}
-use Rattle.ns_model.specs.declared.cvs.Variables.{Variables}
-use Rattle.ns_model.specs.contracts.event.Answer.{the_type as answers}
-use Rattle.ns_model.specs.contracts.event.Mode.{the_type as modes}
-use denote.Enum.Bare.{sameb}
-use Rattle.ns_model.specs.declared.event.Entry.TheVariants.{Plain, Waited, AfterCv}
-use Rattle.ns_model.specs.declared.phase.Phase.{Phase}
-use Rattle.ns_model.specs.declared.phase.Phase.TheVariants.{Idle, Cond, Waiting, Woken, Left}
+use Rattle.ns_model.proofs.Prelude.{AfterCv, Answer, Bool, Canceled, Cond, EntryFits, Idle, Left, List, Met, Mode, Phase, Plain, Read, TimedOut, Variables, Waited, Waiting, Woken, Write, answers, is_met, modes, refl, sameb, true, ℕ, ◌≡◌}
 
 -- a plain entry fits one that waits for nothing
 pub plain_at_rest : {C : Type 0} (holds : C → List ℕ → Bool) (before : List ℕ) (mode : Mode) (phase : Phase C) → (phase ≡ Idle → ⊥) → EntryFits holds before mode Plain phase → ⊥

@@ -1,15 +1,7 @@
 -- Laws of the histories of an environment.
-use Rattle.std.proofs.Common.{◌≡◌, ◌≢◌, ℕ, zero, suc, ◌+◌, ◌<◌, ◌≤◌, min, Bool, true, false, ◌||◌, eqb, cond, List, [], ◌∷◌, ◌++◌, Option, None, Some, refl, sym, ap, ◌∙◌, subst, arith, eq-eqb, ne_eqb, le-leb, leb-true, true≢false, ⊎_elim}
-use mathlib.Core.Logic.{dite}
-use native.Mathlib.Decide.{ℕ_discrete}
-use Rattle.std.specs.List.{list_any}
-use Rattle.std.proofs.lemmas.Bool.{or_cases, or_left, or_right}
-use Rattle.std.proofs.lemmas.List.Elements.{filter-append}
-use Rattle.ns_model.specs.Beginnings.{BeginsWith}
-use Rattle.ns_model.specs.declared.environment.EnvEvent.{EnvEvent}
-use Rattle.ns_model.specs.declared.environment.EnvEvent.TheVariants.{Take, New, Notify, Advance}
-use Rattle.ns_model.specs.Environments.{NoteStanding, EnvStanding, first_env, env_who, ParentFits, IsLegalEnvEvent, but_at, notified_note, made_note, env_next, env_from, IsLegalEnvFrom, IsLegalEnv, env_after, from_parent, line, line_of, is_due, is_over, notified_in, earlier, earliest, expiry_in}
-use Rattle.ns_model.specs.Environments.{expiry_of, env_own, IsEnvBySeats, IsMade}
+use Rattle.ns_model.proofs.Prelude.{Advance, BeginsWith, Bool, EnvEvent, EnvStanding, IsEnvBySeats, IsLegalEnv, IsLegalEnvEvent, IsLegalEnvFrom, IsMade, List, New, None, NoteStanding, Notify, Option, ParentFits, Some, Take, [], ap, arith, but_at, cond, dite, earlier, earliest, env_after, env_from}
+use Rattle.ns_model.proofs.Prelude.{env_next, env_own, env_who, eq-eqb, eqb, expiry_in, expiry_of, false, filter-append, first_env, from_parent, is_due, is_over, le-leb, leb-true, line, line_of, list_any, made_note, min, ne_eqb, notified_in, notified_note, or_cases, or_left, or_right, refl, subst}
+use Rattle.ns_model.proofs.Prelude.{suc, sym, true, true≢false, zero, ℕ, ℕ_discrete, ⊎_elim, ◌++◌, ◌+◌, ◌<◌, ◌||◌, ◌∙◌, ◌∷◌, ◌≡◌, ◌≢◌, ◌≤◌}
 
 -- ---- a history and its parts
 

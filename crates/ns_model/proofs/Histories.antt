@@ -1,8 +1,6 @@
 -- A history and its parts.
-use Rattle.std.proofs.Common.{◌≡◌, ℕ, ◌+◌, ◌<◌, Bool, List, [], ◌∷◌, ◌++◌, length, get_or, take, refl, fold, arith, zero, suc}
-use Rattle.std.proofs.lemmas.List.{take_more}
-use Rattle.ns_model.specs.declared.event.Event.{Event}
-use Rattle.ns_model.specs.Histories.{Standing, standing_next, standing_from, IsLegalEvent, IsLegalFrom, phase_next, row_next}
+use Rattle.ns_model.proofs.Prelude.{Bool, Event, IsLegalEvent, List, Standing, [], arith, fold, get_or, length, phase_next, refl, row_next, standing_from, standing_next, suc, take, take_more, zero, ℕ, ◌++◌, ◌+◌, ◌<◌, ◌∷◌, ◌≡◌}
+use Rattle.ns_model.specs.Histories.{IsLegalFrom}
 
 pub phases_fold : {C : Type 0} {N : ℕ} (now : Standing C) (h : List (Event C N)) (seat : ℕ) →
     (standing_from now h).phases seat ≡ fold (phase_next seat) (now.phases seat) h

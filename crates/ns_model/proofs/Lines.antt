@@ -1,10 +1,6 @@
 -- A walk from a note up to its root, while the history grows.
-use Rattle.std.proofs.Common.{◌≡◌, ℕ, suc, ◌<◌, Bool, true, false, ◌||◌, true≢false, List, Option, None, Some, sym, refl, ap, ◌∙◌, subst, arith}
-use Rattle.std.proofs.lemmas.Bool.{or_left, or_right}
-use Rattle.ns_model.specs.declared.environment.EnvEvent.{EnvEvent}
-use Rattle.ns_model.specs.Beginnings.{BeginsWith}
-use Rattle.ns_model.specs.Environments.{EnvStanding, IsLegalEnv, env_after, clock_of, IsMade, is_over, notified_in, is_notified, IsNotified, expiry_of, expiry_in, earlier}
-use Rattle.ns_model.specs.Lines.{IsLeftAt}
+use Rattle.ns_model.proofs.Prelude.{BeginsWith, Bool, EnvEvent, EnvStanding, IsLeftAt, IsLegalEnv, IsMade, IsNotified, List, None, Option, Some, ap, arith, clock_of, earlier, env_after, expiry_in, expiry_of, false, is_notified, is_over, notified_in, or_left, or_right, refl, subst, suc, sym, true}
+use Rattle.ns_model.proofs.Prelude.{true≢false, ℕ, ◌<◌, ◌||◌, ◌∙◌, ◌≡◌}
 use Rattle.ns_model.proofs.Environments.{IsSound, sound_after, grown_begins, legal_begins, over_grown, notified_in-up, notified_in-root, expiry_in-up, expiry_in-root, earlier-none, earlier_assoc}
 
 pub line_starts : (seen : List EnvEvent) (note : ℕ) → IsMade seen note → IsLeftAt seen note (Some note)

@@ -1,13 +1,5 @@
 -- What a legal history of a once cell means.
-use Rattle.std.proofs.Common.{◌≡◌, inl, inr, ◌⊎◌, ℕ, Bool, true, false, ◌||◌, List, [], ◌∷◌, fold, refl, ap, ◌∙◌}
-use Rattle.std.specs.List.{list_any}
-use Rattle.ns_model.specs.declared.once.OnceEvent.{OnceEvent}
-use Rattle.ns_model.specs.declared.once.OnceEvent.TheVariants.{Began, Ran}
-use Rattle.ns_model.specs.declared.once.OnceState.{OnceState}
-use Rattle.ns_model.specs.declared.once.OnceState.TheVariants.{Unused, Running, Done}
-use Rattle.ns_model.specs.Courses.{IsLegalFrom}
-use Rattle.ns_model.specs.Meanings.{is_ran, IsCourseOfOnce}
-use Rattle.ns_model.specs.Onces.{IsLegalOnceEvent, once_next, once_after, IsLegalOnce, is_done}
+use Rattle.ns_model.proofs.Prelude.{Began, Bool, Done, IsCourseOfOnce, IsLegalFrom, IsLegalOnce, IsLegalOnceEvent, List, OnceEvent, OnceState, Ran, Running, Unused, [], ap, false, fold, inl, inr, is_done, is_ran, list_any, once_after, once_next, refl, true, ℕ, ◌||◌, ◌∙◌, ◌∷◌, ◌≡◌, ◌⊎◌}
 
 -- nothing comes after the end
 ended : (events : List OnceEvent) → IsLegalFrom IsLegalOnceEvent once_next Done events → events ≡ []

@@ -1,11 +1,6 @@
 -- Sets of seats, seat by seat.
-use Rattle.std.proofs.Common.{◌≡◌, ◌≢◌, ℕ, ◌<◌, ◌*◌, ◌^◌, ◌%◌, Bool, true, false, ◌||◌, inl, inr, eqb, List, [], ◌∷◌, refl, ap, sym, ◌∙◌, arith, bit_or}
-use mir.Val.{bits}
-use Rattle.std.specs.Int.{Width, bit_at}
-use Rattle.std.proofs.lemmas.Bool.{cases_eq, ne_eqb, eq-eqb}
-use Rattle.std.proofs.lemmas.Nat.Bits.{bit_at_or, bit_at-zero, bit_at-lt, bit_at-pow_same, bit_at-pow_other, bit_at_set_same, bit_at_set_other, same_from_bits}
-use Rattle.ns_model.specs.declared.seats.Seats.{Seats}
-use Rattle.ns_model.specs.Seats.{is_in, seats_in}
+use Rattle.ns_model.proofs.Prelude.{Bool, List, Seats, Width, [], ap, arith, bit_at, bit_at-lt, bit_at-pow_other, bit_at-pow_same, bit_at-zero, bit_at_or, bit_at_set_other, bit_at_set_same, bit_or, bits, cases_eq, eq-eqb, eqb, false, inl, inr, is_in, ne_eqb, refl, same_from_bits, seats_in, sym}
+use Rattle.ns_model.proofs.Prelude.{true, ℕ, ◌%◌, ◌*◌, ◌<◌, ◌^◌, ◌||◌, ◌∙◌, ◌∷◌, ◌≡◌, ◌≢◌}
 
 same_bit : (a b : ℕ) → a < 2 → b < 2 → eqb a 1 ≡ eqb b 1 → a ≡ b
 same_bit a b low small same =

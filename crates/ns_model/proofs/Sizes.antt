@@ -1,11 +1,5 @@
 -- An event fits in memory, over any condition.
-use Rattle.std.specs.Prelude.{◌<◌, ◌^◌}
-use Rattle.std.proofs.Common.{arith}
-use Rattle.std.specs.Mem.{FitsInMemory}
-use Rattle.ns_model.specs.Room.{HasRoom, room, small_by}
-use Rattle.ns_model.specs.contracts.event.Event.{the_row as event_row}
-use denote.RattleType.{RattleType}
-use denote.Param.{layout, copied, param}
+use Rattle.ns_model.proofs.Prelude.{FitsInMemory, HasRoom, RattleType, arith, copied, event_row, layout, param, room, small_by, ◌<◌, ◌^◌}
 
 -- it fits where a condition and a row have room
 pub events_fit : (C N : RattleType) → HasRoom (copied 0 C) (param 1 N) → FitsInMemory (event_row (copied 0 C) (param 1 N))

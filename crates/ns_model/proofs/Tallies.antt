@@ -1,8 +1,5 @@
 -- Sums and facts over lists: of one element among the others, and of lists in which one element changes.
-use Rattle.std.proofs.Common.{◌≡◌, ℕ, zero, suc, ◌+◌, ◌≤◌, Bool, true, false, List, [], ◌∷◌, ◌++◌, set, sym, ap, subst, arith}
-use mathlib.Core.Option.{some, some-injective, some-ne-none}
-use lib.ListN.{get_elem?}
-use Rattle.ns_model.specs.Tallies.{total, one_if, Every}
+use Rattle.ns_model.proofs.Prelude.{Bool, Every, List, [], ap, arith, false, get_elem?, one_if, set, some, some-injective, some-ne-none, subst, suc, sym, total, true, zero, ℕ, ◌++◌, ◌+◌, ◌∷◌, ◌≡◌, ◌≤◌}
 
 pub one_most : (b : Bool) → one_if b ≤ 1
 one_most true = omega arith

@@ -1,8 +1,5 @@
 -- The definitions at worked histories of clock and notes.
-use Rattle.std.proofs.Common.{◌≡◌, true, false, List, [], ◌∷◌, ◌++◌, None, Some, refl, arith}
-use Rattle.ns_model.specs.declared.environment.EnvEvent.{EnvEvent}
-use Rattle.ns_model.specs.declared.environment.EnvEvent.TheVariants.{Take, New, Notify, Advance}
-use Rattle.ns_model.specs.Environments.{IsLegalEnv, is_notified, expiry_of, clock_of, takes_in, is_made}
+use Rattle.ns_model.proofs.Prelude.{Advance, EnvEvent, IsLegalEnv, List, New, None, Notify, Some, Take, [], arith, clock_of, expiry_of, false, is_made, is_notified, refl, takes_in, true, ◌++◌, ◌∷◌, ◌≡◌}
 
 -- a note, its child and its grandchild
 abbrev three : List EnvEvent

@@ -1,9 +1,6 @@
 -- What a seat may begin that has a section in hand.
-use Rattle.std.specs.Prelude.{IsSome, nat_lt}
-use Rattle.std.proofs.Common.{◌≡◌, ℕ, ◌-◌, ◌<◌, ◌≤◌, Bool, true, false, List, Option, None, Some, if◌then◌else◌, refl, sym, subst, arith, ◌∙◌}
-use Rattle.std.proofs.lemmas.Bool.{ltb-true, ltb-false}
-use Rattle.ns_monitor.specs.Prelude.{CanLeave, CanStep, CellFits, HasMode, Held, InCells, IsAtRest, IsFirst, IsFreshIn, IsQuietFor, IsSettled, IsWide, LoadCell, Mode, PlaceFits, QuietCells, QuietLast, QuietWriter, Reader, Releasing, SeatOf, StandsAt, ToTell, Truths, Walk, Write, Writer, getting}
-use Rattle.ns_monitor.specs.Prelude.{locking, mode_released, new_section, quiet_place, releasing_by, the}
+use Rattle.ns_monitor.proofs.Prelude.{Bool, CanLeave, CanStep, CellFits, HasMode, Held, InCells, IsAtRest, IsFirst, IsFreshIn, IsQuietFor, IsSettled, IsSome, IsWide, List, LoadCell, Mode, None, Option, PlaceFits, QuietCells, QuietLast, QuietWriter, Reader, Releasing, SeatOf, Some, StandsAt, ToTell}
+use Rattle.ns_monitor.proofs.Prelude.{Truths, Walk, Write, Writer, arith, false, getting, if◌then◌else◌, locking, ltb-false, ltb-true, mode_released, nat_lt, new_section, quiet_place, refl, releasing_by, subst, sym, the, true, ℕ, ◌-◌, ◌<◌, ◌∙◌, ◌≡◌, ◌≤◌}
 
 module _ {C : Type 0} {N : ℕ} (truths : Truths C) where
   has_some : (mode : Mode) (held : Option (Held C N)) → HasMode mode held → IsSome held

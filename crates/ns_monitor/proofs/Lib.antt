@@ -4,6 +4,7 @@ pub mod Locks
 pub mod Looks
 pub mod Made
 pub mod Meetings
+pub mod Prelude
 pub mod Releases
 pub mod Returns
 pub mod Saves

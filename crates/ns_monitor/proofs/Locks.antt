@@ -1,8 +1,6 @@
 -- A seat sets its own flag, before it queues, and finds it cleared.
-use Rattle.std.proofs.Common.{◌≡◌, ◌≢◌, ℕ, Bool, true, false, cond, ne_eqb, None, Some, ap, sym, subst, ◌∙◌}
-use Rattle.ns_monitor.specs.Prelude.{AcquireLoad, Aim, ArmFlag, Arrival, AwaitWake, Flag, GateView, HasReached, HasSince, HasUnchangedQueues, Idle, InAcquire, IsAtPlace, Made, On, Performed, SeatOf, Truths, Walk, arrival_of, awaits, got_of, has_queues, request_for, the, times}
-use Rattle.ns_gate.proofs.Calls.{goes_on, since}
-use Rattle.ns_gate.proofs.Stays.{HasKeptItsQueues, nowhere_now, stays_arming, still_carries}
+use Rattle.ns_monitor.proofs.Prelude.{AcquireLoad, Aim, ArmFlag, Arrival, AwaitWake, Bool, Flag, GateView, HasKeptItsQueues, HasReached, HasSince, HasUnchangedQueues, Idle, InAcquire, IsAtPlace, Made, None, On, Performed, SeatOf, Some, Truths, Walk, ap, arrival_of, awaits, cond, false, goes_on}
+use Rattle.ns_monitor.proofs.Prelude.{got_of, has_queues, ne_eqb, nowhere_now, request_for, since, stays_arming, still_carries, subst, sym, the, times, true, ℕ, ◌∙◌, ◌≡◌, ◌≢◌}
 
 -- It has done so with the queues in hand, goes on to this place, and stands in no list.
 pub record HasArmed {C : Type 0} {N : ℕ} (truths : Truths C) (place : Walk C) (me now : SeatOf C N) : Type 0 where

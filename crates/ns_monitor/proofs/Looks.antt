@@ -1,7 +1,5 @@
 -- The looks of a wait at its note and its deadline.
-use Rattle.std.proofs.Common.{◌≡◌, ℕ, List, Option, Some, sym, subst}
-use Rattle.ns_monitor.specs.Prelude.{Answer, Canceled, EndedBy, EnvEvent, EnvKnown, HasLookedOn, IfAnswered, LookAnswers, LookShows, Met, Note, TimedOut}
-use Rattle.ns_note.proofs.Rests.{made_grows}
+use Rattle.ns_monitor.proofs.Prelude.{Answer, Canceled, EndedBy, EnvEvent, EnvKnown, HasLookedOn, IfAnswered, List, LookAnswers, LookShows, Met, Note, Option, Some, TimedOut, made_grows, subst, sym, ℕ, ◌≡◌}
 use Rattle.ns_note.specs.Known.{Grows}
 
 -- A seat that has looked

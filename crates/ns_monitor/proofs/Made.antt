@@ -1,6 +1,5 @@
 -- New seats.
-use Rattle.std.proofs.Common.{◌≡◌, ℕ, [], ◌∷◌, refl, sym, subst, None}
-use Rattle.ns_monitor.specs.Prelude.{IsAtRest, SeatOf, Truths, fresh_seat, the}
+use Rattle.ns_monitor.proofs.Prelude.{IsAtRest, None, SeatOf, Truths, [], fresh_seat, refl, subst, sym, the, ℕ, ◌∷◌, ◌≡◌}
 
 module _ (C : Type 0) (N : ℕ) where
   -- a new seat is at rest, with nothing in hand

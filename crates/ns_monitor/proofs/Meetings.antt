@@ -1,6 +1,5 @@
 -- Two callers that meet.
-use Rattle.std.proofs.Common.{◌≡◌, ℕ, ap, subst}
-use Rattle.ns_monitor.specs.Prelude.{HasLearned, IsAtRest, Known, SeatHasLearned, SeatOf, SeatView, TableId, Truths, known_of, the}
+use Rattle.ns_monitor.proofs.Prelude.{HasLearned, IsAtRest, Known, SeatHasLearned, SeatOf, SeatView, TableId, Truths, ap, known_of, subst, the, ℕ, ◌≡◌}
 
 module _ {C : Type 0} {N : ℕ} (truths : Truths C) where
   -- what a seat has learned that rests, as its caller sees it

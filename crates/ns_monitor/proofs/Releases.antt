@@ -1,14 +1,8 @@
 -- A scan of the lock list with the queues in hand, by a release or by a wait: what it takes and leaves.
-use Rattle.std.proofs.Common.{◌≡◌, ℕ, ◌==◌, ◌<◌, inl, inr, Bool, true, false, not, ◌&&◌, ◌||◌, cond, subst, List, [], ◌∷◌, length, filter, map, Option, None, Some, Ok, Err, is_some, refl, ap, sym, ◌∙◌, ne_eqb, arith}
-use Rattle.std.proofs.lemmas.Bool.{cases_Bool}
-use Rattle.std.specs.List.{list_any}
-use Rattle.ns_word.specs.declared.request.Request.TheVariants.{Release}
-use Rattle.ns_word.proofs.Hands.{free_scanned}
-use Rattle.ns_monitor.specs.Prelude.{Await, HasReached, IsAtPlace, IsInRange, MayEnter, MayScan, OwesTheWoken, Paid, Pays, PutsBack, Scanning, ToRelease, ToWait, asked_of, entered, found_back, got_of, pay_releasing, pay_waiting, paying_at, returning_at, returning_for, returning_of, ready_at, times}
-use Rattle.ns_monitor.specs.Prelude.{Bits, Carries, Changed, GateView, HasInHand, HasRow, HasUnchangedQueues, IsReady, Lists, OnCondition, OnVariables, Owed, Released, Returning, ScansAs, SeatOf, Sought, Subject, Truths, Turned, Waited, Waiter, Walk, Word, begins_with_reader, bits_of}
-use Rattle.ns_monitor.specs.Prelude.{called_by, called_of, has_condition, has_queues, has_some, is_eligible, is_satisfied, lacks_row, left_of, lists_returned, lists_scanned, meets_at, reads, row_in, scanned_writer, seats_of, some_returned, the, waits_at, wake_told, with_lock, woken_of, writes}
-use Rattle.ns_gate.proofs.Calls.{works}
-use Rattle.ns_word.proofs.Scans.{are_called}
+use Rattle.ns_monitor.proofs.Prelude.{Await, Bits, Bool, Carries, Changed, Err, GateView, HasInHand, HasReached, HasRow, HasUnchangedQueues, IsAtPlace, IsInRange, IsReady, List, Lists, MayEnter, MayScan, None, Ok, OnCondition, OnVariables, Option, Owed, OwesTheWoken, Paid, Pays, PutsBack, Release}
+use Rattle.ns_monitor.proofs.Prelude.{Released, Returning, Scanning, ScansAs, SeatOf, Some, Sought, Subject, ToRelease, ToWait, Truths, Turned, Waited, Waiter, Walk, Word, [], ap, are_called, arith, asked_of, begins_with_reader, bits_of, called_by, called_of, cases_Bool, cond, entered, false}
+use Rattle.ns_monitor.proofs.Prelude.{filter, found_back, free_scanned, got_of, has_condition, has_queues, has_some, inl, inr, is_eligible, is_satisfied, is_some, lacks_row, left_of, length, list_any, lists_returned, lists_scanned, map, meets_at, ne_eqb, not, pay_releasing, pay_waiting, paying_at}
+use Rattle.ns_monitor.proofs.Prelude.{reads, ready_at, refl, returning_at, returning_for, returning_of, row_in, scanned_writer, seats_of, some_returned, subst, sym, the, times, true, waits_at, wake_told, with_lock, woken_of, works, writes, ℕ, ◌&&◌, ◌<◌, ◌==◌, ◌||◌, ◌∙◌, ◌∷◌, ◌≡◌}
 
 -- ---- the scan
 

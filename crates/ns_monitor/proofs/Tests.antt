@@ -1,14 +1,10 @@
 -- The cells of the row are loaded one after another, step by step, and the test of a wait tells.
-use Rattle.std.proofs.Common.{◌≡◌, ℕ, ◌+◌, ◌-◌, ◌<◌, ◌≤◌, Bool, true, false, cond, List, [], ◌∷◌, length, length-set, set, get_or, Option, None, Some, refl, ap, sym, ◌∙◌, subst, arith, inl, inr, nat_lt, slice_index}
-use Rattle.std.proofs.lemmas.Bool.{cases_Bool, cases_eq, cond-false, cond-true, cond_both, le-ltb, lt-ltb}
-use Rattle.std.proofs.lemmas.Grind.{same_number_lists}
-use Rattle.std.proofs.lemmas.List.{get_or-set_same, get_or-set_other}
-use Rattle.ns_monitor.specs.Prelude.{Act, AreRead, Await, CanStep, Cell, Found, GateView, HasAnswered, HasGone, HasLoaded, HasMode, HasReached, HasSince, HasTested, HasUnchangedQueues, Held, InCells, InQueuing, InRelease, InWait, Is, IsAtPlace, IsQuiet, IsSettled, IsWide, JudgeMet, JudgeQuiet}
-use Rattle.ns_monitor.specs.Prelude.{Lists, LoadCell, LoadToScan, LockState, Next, On, OnEntry, Part, Performed, PlaceFits, QueueToWait, Quiet, QuietCells, QuietLast, ScanAndRelease, ScanCells, SeatOf, StandsAt, TestCells, Tested, Tests, ToTell, Truths, Visit, Wait, Walk, asked_of, before_in}
-use Rattle.ns_monitor.specs.Prelude.{carried_by, got_of, has_queues, judging, loading, loading_at, release_has_queues, row_in, tested_by, the, view_in, wait_has_queues, walk_after, want_of}
+use Rattle.ns_monitor.proofs.Prelude.{Act, AreRead, Await, Bool, CanStep, Cell, Found, GateView, HasAnswered, HasGone, HasLoaded, HasMode, HasReached, HasSince, HasTested, HasUnchangedQueues, Held, InCells, InQueuing, InRelease, InWait, Is, IsAtPlace, IsQuiet, IsSettled, IsWide, JudgeMet}
+use Rattle.ns_monitor.proofs.Prelude.{JudgeQuiet, List, Lists, LoadCell, LoadToScan, LockState, Next, None, On, OnEntry, Option, Part, Performed, PlaceFits, QueueToWait, Quiet, QuietCells, QuietLast, ScanAndRelease, ScanCells, SeatOf, Some, StandsAt, TestCells, Tested, Tests, ToTell, Truths, Visit}
+use Rattle.ns_monitor.proofs.Prelude.{Wait, Walk, [], ap, arith, asked_of, before_in, begins, carried_by, cases_Bool, cases_eq, cell_in_hand, cond, cond-false, cond-true, cond_both, does, false, get_or, get_or-set_other, get_or-set_same, goes_on, got_of, has_queues, inl, inr, judging, le-ltb}
+use Rattle.ns_monitor.proofs.Prelude.{length, length-set, loading, loading_at, lt-ltb, nat_lt, refl, release_has_queues, row_in, same_number_lists, set, since, since_itself, since_then, slice_index, subst, sym, tested_by, the, true, view_in, wait_has_queues, walk_after, want_of, ℕ, ◌+◌, ◌-◌, ◌<◌}
+use Rattle.ns_monitor.proofs.Prelude.{◌∙◌, ◌∷◌, ◌≡◌, ◌≤◌}
 use Rattle.ns_monitor.proofs.Standing.{commits_none, held_in, same_held}
-use Rattle.ns_gate.proofs.Calls.{begins, goes_on, since, since_itself, since_then}
-use Rattle.ns_gate.proofs.Findings.{cell_in_hand, does}
 
 -- ---- the row
 

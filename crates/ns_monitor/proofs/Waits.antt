@@ -1,10 +1,7 @@
 -- A wait outside, step by step: it queues, waits to be woken or ended, and may leave its list.
-use Rattle.std.proofs.Common.{◌≡◌, ◌≢◌, ℕ, Bool, true, false, cond, ne_eqb, Option, None, Some, refl, ap, sym, ◌∙◌, subst}
-use Rattle.std.proofs.lemmas.Bool.{cond_both}
-use Rattle.ns_monitor.specs.Prelude.{AcquireLoad, ArmFlag, ArmToWait, Arrival, AsFresh, Await, AwaitWakeInWait, AwaitWakeToLeave, Cause, Changed, Ended, Flag, ForWait, HasReached, HasTakenAt, Home, Idle, IfEnded, InAcquire, InLeaving, InQueuing, InWait, IsAtPlace, Leave, LeaveLoad, LeaveSelf}
-use Rattle.ns_monitor.specs.Prelude.{Load, LoadFlag, LoadToScan, Look, LookOut, Looked, Made, On, OnCondition, OnVariables, Outcome, Performed, QueueToWait, SeatOf, Subject, Truths, Wait, Word, armed_place, arrival_of, found_back, got_of, home_of, is_limited, lacks_row, load_place, outcome_taken}
-use Rattle.ns_monitor.specs.Prelude.{rest_or_look, stands_at, the, wait_has_queues, woken_by}
-use Rattle.ns_gate.proofs.Calls.{goes}
+use Rattle.ns_monitor.proofs.Prelude.{AcquireLoad, ArmFlag, ArmToWait, Arrival, AsFresh, Await, AwaitWakeInWait, AwaitWakeToLeave, Bool, Cause, Changed, Ended, Flag, ForWait, HasReached, HasTakenAt, Home, Idle, IfEnded, InAcquire, InLeaving, InQueuing, InWait, IsAtPlace, Leave, LeaveLoad}
+use Rattle.ns_monitor.proofs.Prelude.{LeaveSelf, Load, LoadFlag, LoadToScan, Look, LookOut, Looked, Made, None, On, OnCondition, OnVariables, Option, Outcome, Performed, QueueToWait, SeatOf, Some, Subject, Truths, Wait, Word, ap, armed_place, arrival_of, cond, cond_both, false, found_back, goes}
+use Rattle.ns_monitor.proofs.Prelude.{got_of, home_of, is_limited, lacks_row, load_place, ne_eqb, outcome_taken, refl, rest_or_look, stands_at, subst, sym, the, true, wait_has_queues, woken_by, ℕ, ◌∙◌, ◌≡◌, ◌≢◌}
 use Rattle.ns_monitor.proofs.Locks.{HasArmed, arms}
 use Rattle.ns_monitor.proofs.Tests.{moves_in}
 

@@ -1,12 +1,8 @@
 -- A call that wakes, step by step: what it has in hand, and what it owes once the queues are back.
-use Rattle.std.proofs.Common.{◌≡◌, ℕ, Bool, true, false, cond, if◌then◌else◌, not, ◌&&◌, [], ◌∷◌, ◌++◌, List, None, Some, refl, ap, sym, ◌∙◌, subst}
-use Rattle.ns_monitor.specs.Prelude.{Broadcasting, CanStep, Carries, Event, HasAnswered, HasReached, HasReturnedWoken, HasSince, HasTakenAt, HasUnchangedQueues, HasWoken, HasWokenInHand, InSignal, IsAtPlace, IsOrderly, Known, Lists, LockState, On, Owed, Part, Performed, ReturnQueues, Saw, SeatOf}
-use Rattle.ns_monitor.specs.Prelude.{SignalLoad, Signaling, Succeeded, TableId, Truths, Turned, Waiter, WakeAndReturn, WakeWaiters, Waking, Walk, Woke, Word, bits_of, change_found, has_queues, has_some, is_held, is_held_by_one, known_of, lists_woken, owed_woken, part_of, pay_woken, rest, taken_by}
-use Rattle.ns_monitor.specs.Prelude.{taken_from, taken_set, the, wake_by, wake_event, wake_of, wakes_of, woken_nobody}
-use Rattle.ns_gate.proofs.Calls.{can_go, goes_on, works}
-use Rattle.ns_gate.proofs.Findings.{does}
-use Rattle.ns_gate.proofs.Stays.{HasKeptItsQueues, stays_by}
-use Rattle.ns_gate.proofs.Wakes.{found_nobody, moves_nobody, owes_the_woken, still_woken, takes_nobody, woken_found}
+use Rattle.ns_monitor.proofs.Prelude.{Bool, Broadcasting, CanStep, Carries, Event, HasAnswered, HasKeptItsQueues, HasReached, HasReturnedWoken, HasSince, HasTakenAt, HasUnchangedQueues, HasWoken, HasWokenInHand, InSignal, IsAtPlace, IsOrderly, Known, List, Lists, LockState, None, On, Owed, Part}
+use Rattle.ns_monitor.proofs.Prelude.{Performed, ReturnQueues, Saw, SeatOf, SignalLoad, Signaling, Some, Succeeded, TableId, Truths, Turned, Waiter, WakeAndReturn, WakeWaiters, Waking, Walk, Woke, Word, [], ap, bits_of, can_go, change_found, cond, does, false, found_nobody, goes_on, has_queues}
+use Rattle.ns_monitor.proofs.Prelude.{has_some, if◌then◌else◌, is_held, is_held_by_one, known_of, lists_woken, moves_nobody, not, owed_woken, owes_the_woken, part_of, pay_woken, refl, rest, stays_by, still_woken, subst, sym, taken_by, taken_from, taken_set, takes_nobody, the, true, wake_by}
+use Rattle.ns_monitor.proofs.Prelude.{wake_event, wake_of, wakes_of, woken_found, woken_nobody, works, ℕ, ◌&&◌, ◌++◌, ◌∙◌, ◌∷◌, ◌≡◌}
 use Rattle.ns_monitor.proofs.Standing.{saw_keeps}
 use Rattle.ns_word.specs.declared.request.Request.TheVariants as TheRequest
 

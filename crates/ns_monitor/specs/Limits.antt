@@ -1,6 +1,5 @@
 -- What may end a wait early, and what a look has shown of it.
-use Rattle.std.specs.Prelude.{◌≡◌, ℕ, Option, IfSome, option_map}
-use Rattle.ns_monitor.specs.Names.{BeginsWith, Cause, EnvKnown, IsMade, Limits, LookAnswers, Note, TableId, answer_of}
+use Rattle.ns_monitor.specs.Names.{BeginsWith, Cause, EnvKnown, IfSome, IsMade, Limits, LookAnswers, Note, Option, TableId, answer_of, option_map, ℕ, ◌≡◌}
 
 -- the seat is of the environment, and has seen the note made that the limits name, if they name one
 pub record IsLooking (env : TableId) (seat : EnvKnown) (note : Option Note) (limits : Limits) : Type 0 where

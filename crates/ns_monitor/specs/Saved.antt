@@ -1,6 +1,5 @@
 -- What a write section keeps of the row that it began at.
-use Rattle.std.specs.Prelude.{◌≡◌, ℕ, ◌<◌, List, true, Option, None, Some, length, slice_index, slice_index_or, slice_set, is_none, if◌then◌else◌}
-use Rattle.ns_monitor.specs.Names.{Held, InHand, Mode, QuietWriter, Releasing, Truths}
+use Rattle.ns_monitor.specs.Names.{Held, InHand, List, Mode, None, Option, QuietWriter, Releasing, Some, Truths, if◌then◌else◌, is_none, length, slice_index, slice_index_or, slice_set, true, ℕ, ◌<◌, ◌≡◌}
 
 -- a cell's value as the section began: the one saved, or the one there is where none was
 abbrev pub value_before : Option ℕ → ℕ → ℕ

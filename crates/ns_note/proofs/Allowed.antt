@@ -1,14 +1,8 @@
 -- The steps, as the table asks for them.
-use Rattle.std.proofs.Common.{◌≡◌, ◌≢◌, ℕ, ◌+◌, ◌-◌, ◌%◌, ◌^◌, ◌<◌, ◌≤◌, max, List, [], ◌∷◌, ◌++◌, set, slice_index, Option, sym, refl, ap, ◌∙◌, subst, arith, eq-eqb, bit_or}
-use Rattle.ns_note.specs.Prelude.{Adding, Allows, CanAct, EnvAct, EnvEvent, EnvPlain, EnvView, Every, FoundWord, Holds, IsLawful, IsMade, IsNoteWord, IsOne, IsRuled, IsWordAt, LoadClock, LoadNext, LoadNote, Me, MoveClock, NoteStanding, Nothing, NotifyNote, OneActs, OneMakes, ParentFits, StoreNote}
-use Rattle.ns_note.specs.Prelude.{TakeNext, Taken, ViewFits, Views, WordFits, acted, adds, env_after, events_of, is_adding, is_seat, keeps, made_note, note_of, note_stored, notified_note, one_if, outcome, state_of, tally, the, total, word_at, word_of}
-use mathlib.Core.Option.{some}
-use lib.ListN.{get_elem?}
-use Rattle.atomic_table.proofs.Lists.{set_again}
-use Rattle.ns_model.proofs.Environments.{but-here}
-use Rattle.ns_model.proofs.Tallies.{total_set, total_most, total_none, Others, every_at, others_of, others_both, others_map, others_none, every_put}
-use Rattle.ns_env.proofs.Acts.{acted_lawful, acted_fits, others_fit, has_acted}
-use Rattle.ns_env.proofs.Keeps.{adds_most}
+use Rattle.ns_note.proofs.Prelude.{Adding, Allows, CanAct, EnvAct, EnvEvent, EnvPlain, EnvView, Every, FoundWord, Holds, IsLawful, IsMade, IsNoteWord, IsOne, IsRuled, IsWordAt, List, LoadClock, LoadNext, LoadNote, Me, MoveClock, NoteStanding, Nothing, NotifyNote, OneActs, OneMakes, Option, Others}
+use Rattle.ns_note.proofs.Prelude.{ParentFits, StoreNote, TakeNext, Taken, ViewFits, Views, WordFits, [], acted, acted_fits, acted_lawful, adds, adds_most, ap, arith, bit_or, but-here, env_after, eq-eqb, events_of, every_at, every_put, get_elem?, has_acted, is_adding, is_seat, keeps, made_note}
+use Rattle.ns_note.proofs.Prelude.{max, note_of, note_stored, notified_note, one_if, others_both, others_fit, others_map, others_none, others_of, outcome, refl, set, set_again, slice_index, some, state_of, subst, sym, tally, the, total, total_most, total_none, total_set, word_at, word_of, ℕ, ◌%◌}
+use Rattle.ns_note.proofs.Prelude.{◌++◌, ◌+◌, ◌-◌, ◌<◌, ◌^◌, ◌∙◌, ◌∷◌, ◌≡◌, ◌≢◌, ◌≤◌}
 use Rattle.ns_note.proofs.Codec.{note_of-word_of, marked}
 use Rattle.ns_note.proofs.Words.{bell_set, word_found, word_set}
 

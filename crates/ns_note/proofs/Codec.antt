@@ -1,8 +1,6 @@
 -- The word of a note: what it tells, and what a mark leaves of it.
-use Rattle.std.proofs.Common.{◌≡◌, ℕ, suc, ◌+◌, ◌-◌, ◌*◌, ◌/◌, ◌%◌, ◌^◌, ◌<◌, ◌≤◌, Bool, true, false, eqb, Option, None, Some, IfSome, refl, ap, ◌∙◌, arith, ne_eqb, le-ltb, bit_and, bit_or, if◌then◌else◌}
-use Rattle.std.specs.Int.Bits.{or_add_and}
-use Rattle.std.proofs.lemmas.Nat.{and_mask}
-use Rattle.ns_note.specs.Prelude.{NoteWord, WordFits, deadline_at, deadline_code, flag, note_of, parent_at, parent_code, word_of}
+use Rattle.ns_note.proofs.Prelude.{Bool, IfSome, None, NoteWord, Option, Some, WordFits, and_mask, ap, arith, bit_and, bit_or, deadline_at, deadline_code, eqb, false, flag, if◌then◌else◌, le-ltb, ne_eqb, note_of, or_add_and, parent_at, parent_code, refl, suc, true, word_of, ℕ, ◌%◌, ◌*◌, ◌+◌, ◌-◌}
+use Rattle.ns_note.proofs.Prelude.{◌/◌, ◌<◌, ◌^◌, ◌∙◌, ◌≡◌, ◌≤◌}
 
 flag_most : (b : Bool) → flag b ≤ 1
 flag_most true = omega arith

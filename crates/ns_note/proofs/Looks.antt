@@ -1,9 +1,6 @@
 -- What calls that look may answer.
-use Rattle.std.proofs.Common.{◌≡◌, ℕ, ◌<◌, ◌≤◌, Bool, true, false, List, Option, None, Some, IfSome, IsSomeAnd, option_map, refl, sym, subst, ◌∙◌}
-use Rattle.ns_note.specs.Prelude.{Answer, BeginsWith, Canceled, EnvEvent, IsBetween, IsLeftAt, IsNotified, IsUnnotified, LookAnswers, Note, NoteWord, TimedOut, WaitAnswers, clock_of, env_after, is_due, is_notified, is_over, standing_of, state_of, IsLegalEnv}
-use Rattle.ns_model.proofs.Beginnings.{begins_itself, begins_through}
-use Rattle.ns_model.proofs.Lines.{line_goes_on, line_stops}
-use Rattle.ns_env.proofs.Chains.{due_is, not_due_is}
+use Rattle.ns_note.proofs.Prelude.{Answer, BeginsWith, Bool, Canceled, EnvEvent, IfSome, IsBetween, IsLeftAt, IsLegalEnv, IsNotified, IsSomeAnd, IsUnnotified, List, LookAnswers, None, Note, NoteWord, Option, Some, TimedOut, WaitAnswers, begins_itself, begins_through, clock_of, due_is, env_after}
+use Rattle.ns_note.proofs.Prelude.{false, is_due, is_notified, is_over, line_goes_on, line_stops, not_due_is, option_map, refl, standing_of, state_of, subst, sym, true, ℕ, ◌<◌, ◌∙◌, ◌≡◌, ◌≤◌}
 
 -- a true answer is of the last point, a false one of the point at which the clock was loaded
 pub notified_at : (answer : Bool) (old middle new : List EnvEvent) (note : ℕ) → BeginsWith middle old → BeginsWith new middle → (answer ≡ true → IsNotified new note) → (answer ≡ false → is_notified middle note ≡ false)

@@ -1,11 +1,7 @@
 -- A seat after a step.
-use Rattle.std.proofs.Common.{◌≡◌, ℕ, ◌<◌, ◌≤◌, nat_lt, true, false, cond, arith, Option, None, Some, IfSome, option_map, List, [], ◌∷◌, ◌++◌, sym, refl, ap, ◌∙◌, subst, append_assoc, append-nil}
-use Rattle.std.proofs.lemmas.Bool.Decides.{nat_tests}
-use Rattle.ns_note.specs.Prelude.{Adding, Adds, EnvAct, EnvEvent, EnvKnown, EnvStanding, EnvView, FoundFull, FoundWord, Grows, HasTakenNumber, IsAtRest, IsClockWord, IsEnvBySeats, IsLegalEnv, IsMade, IsNumberOf, IsOne, LoadClock, LoadNext, Me, New, Note, NoteStanding, NoteWord, Nothing}
-use Rattle.ns_note.specs.Prelude.{ParentFits, StoreNote, TableId, Take, TakeNext, Taken, clock_of, env_after, events_of, known_of, made_note, note_of, takes_in, the}
-use Rattle.ns_model.proofs.Beginnings.{begins_through}
-use Rattle.ns_model.proofs.Environments.{sound_after, grown_begins, made_begins, but-here}
-use Rattle.ns_env.proofs.Keeps.{after_one}
+use Rattle.ns_note.proofs.Prelude.{Adding, Adds, EnvAct, EnvEvent, EnvKnown, EnvStanding, EnvView, FoundFull, FoundWord, Grows, HasTakenNumber, IfSome, IsAtRest, IsClockWord, IsEnvBySeats, IsLegalEnv, IsMade, IsNumberOf, IsOne, List, LoadClock, LoadNext, Me, New, None, Note, NoteStanding, NoteWord}
+use Rattle.ns_note.proofs.Prelude.{Nothing, Option, ParentFits, Some, StoreNote, TableId, Take, TakeNext, Taken, [], after_one, ap, append-nil, append_assoc, arith, begins_through, but-here, clock_of, cond, env_after, events_of, false, grown_begins, known_of, made_begins, made_note, nat_lt}
+use Rattle.ns_note.proofs.Prelude.{nat_tests, note_of, option_map, refl, sound_after, subst, sym, takes_in, the, true, ℕ, ◌++◌, ◌<◌, ◌∙◌, ◌∷◌, ◌≡◌, ◌≤◌}
 
 -- ---- what a step tells
 

@@ -1,14 +1,7 @@
 -- Seats of a new environment, and seats that meet.
-use Rattle.std.proofs.Common.{◌≡◌, ℕ, zero, suc, ◌+◌, ◌≤◌, eqb, List, [], ◌∷◌, replicate, sym, refl, ◌∙◌, subst, arith, append-nil}
-use Rattle.ns_note.specs.Prelude.{Adds, Allows, ArePair, EnvEvent, EnvView, Every, HasSight, HaveLearned, Holds, IsBySums, IsEnvBySeats, IsLawful, IsLegalEnv, IsRuled, Learned, Making, Me, TableId, ViewFits, adds, env_own, fresh, fresh_plain, fresh_seat, is_adding, known_of, one_if, sight_of}
-use Rattle.ns_note.specs.Prelude.{tally, total}
-use Rattle.ns_model.proofs.Beginnings.{begins_itself}
-use Rattle.ns_model.proofs.Environments.{env_own-append}
-use Rattle.ns_env.proofs.Begins.{new_lawful}
+use Rattle.ns_note.proofs.Prelude.{Adds, Allows, ArePair, EnvEvent, EnvView, Every, HasSight, HaveLearned, Holds, IsBySums, IsEnvBySeats, IsLawful, IsLegalEnv, IsRuled, Learned, List, Making, Me, TableId, ViewFits, [], adds, append-nil, arith, begins_itself, env_own, env_own-append, eqb, fresh}
+use Rattle.ns_note.proofs.Prelude.{fresh_plain, fresh_seat, is_adding, joined_learn, known_of, new_lawful, none_twice, numbered_count, one_history, one_if, refl, replicate, sight_of, subst, suc, sym, tally, total, zero, ℕ, ◌+◌, ◌∙◌, ◌∷◌, ◌≡◌, ◌≤◌}
 use Rattle.ns_note.proofs.Words.{zeros_are}
-use Rattle.ns_seats.proofs.Meetings.{learns as joined_learn}
-use Rattle.ns_seats.proofs.Numbered.{none_twice, numbered_count}
-use Rattle.ns_seats.proofs.Sights.{one_history}
 
 -- the rule reads the views by sums over what has to do with their numbers and with what they make, and by what holds of each
 pub by_sums : (S : Type 0) (seat_count : ℕ) → IsBySums {S = S} {K = ℕ × Making} (λ (v : EnvView). (v.seat, v.making)) (ViewFits seat_count) (λ words homes views history. IsRuled seat_count words views history)

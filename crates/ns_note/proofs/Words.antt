@@ -1,9 +1,6 @@
 -- The words of a table, one of them changed with what it is the word of.
-use Rattle.std.proofs.Common.{◌≡◌, ◌≢◌, ℕ, ◌+◌, ◌<◌, ◌≤◌, List, length, get_or, set, replicate, zero, suc, inl, inr, refl, sym, ◌∙◌, subst, arith, length-set, get_or-set_same, get_or-set_other}
-use Rattle.std.proofs.lemmas.Bool.{cases_eq}
-use Rattle.std.proofs.lemmas.List.{length-replicate}
-use Rattle.ns_note.specs.Prelude.{AreWordsOf, EnvAct, EnvPlain, IsClockWord, IsNoteWord, IsWordAt, LoadClock, LoadNext, LoadNote, MoveClock, NoteStanding, NotifyNote, StoreNote, TakeNext, but_at, fresh_plain, made_note, notified_note, outcome, state_of, word_at}
-use Rattle.ns_model.proofs.Environments.{but-there}
+use Rattle.ns_note.proofs.Prelude.{AreWordsOf, EnvAct, EnvPlain, IsClockWord, IsNoteWord, IsWordAt, List, LoadClock, LoadNext, LoadNote, MoveClock, NoteStanding, NotifyNote, StoreNote, TakeNext, arith, but-there, but_at, cases_eq, fresh_plain, get_or, get_or-set_other, get_or-set_same, inl, inr}
+use Rattle.ns_note.proofs.Prelude.{length, length-replicate, length-set, made_note, notified_note, outcome, refl, replicate, set, state_of, subst, suc, sym, word_at, zero, ℕ, ◌+◌, ◌<◌, ◌∙◌, ◌≡◌, ◌≢◌, ◌≤◌}
 
 module _ (plain : EnvPlain) (words : List ℕ) (are : AreWordsOf plain words) where
   clock_set : (clock word : ℕ) → IsClockWord word clock → AreWordsOf (record plain { clock = clock }) (set words 0 word)

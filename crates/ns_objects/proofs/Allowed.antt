@@ -1,15 +1,8 @@
 -- The steps, as the table asks for them.
-use Rattle.std.proofs.Common.{◌≡◌, ◌≢◌, ℕ, ◌+◌, ◌-◌, ◌<◌, ◌≤◌, Bool, true, false, cond, ℤ, Result, Ok, Err, List, [], ◌∷◌, ◌++◌, set, slice_index, sym, refl, ap, ◌∙◌, subst, arith, eq-eqb}
-use Rattle.std.specs.Prelude.{◌==◌, ◌^◌, bit_or}
-use Rattle.ns_objects.specs.Prelude.{Add, Adding, Allows, Began, BeginOnce, CanAct, CounterFault, CounterState, EndOnce, Every, ExchangeToAdd, Free, HasActed, Holds, IsCounterWord, IsOne, IsRuled, LoadToAdd, LookOnce, MarkWait, Me, ObjectAct, ObjectEvent, ObjectView, OnCounter, OnOnce, OneActs}
-use Rattle.ns_objects.specs.Prelude.{OneEnds, Running, Setup, ViewFits, Views, acted, counter_of, counter_word, events_of, is_seat, judged, keeps, looked, most, one_if, outcome, the, total, tried, value_of, word_at}
-use mathlib.Core.Option.{some}
-use prog.Atomic.{either}
-use lib.ListN.{get_elem?}
-use Rattle.ns_model.proofs.Tallies.{total_set, total_none, Others, every_at, others_of, others_both, others_map, others_none, every_put}
-use Rattle.ns_counters.proofs.Acts.{acted_lawful, acted_fits, others_fit, has_acted}
-use Rattle.ns_model.proofs.Counters.{accepted}
-use Rattle.ns_counters.proofs.Words.{counter_of-counter_word}
+use Rattle.ns_objects.proofs.Prelude.{Add, Adding, Allows, Began, BeginOnce, Bool, CanAct, CounterFault, CounterState, EndOnce, Err, Every, ExchangeToAdd, Free, HasActed, Holds, IsCounterWord, IsOne, IsRuled, List, LoadToAdd, LookOnce, MarkWait, Me, ObjectAct, ObjectEvent, ObjectView, Ok}
+use Rattle.ns_objects.proofs.Prelude.{OnCounter, OnOnce, OneActs, OneEnds, Others, Result, Running, Setup, ViewFits, Views, [], accepted, acted, acted_fits, acted_lawful, ap, arith, bit_or, cond, counter_of, counter_of-counter_word, counter_word, either, eq-eqb, events_of, every_at, every_put}
+use Rattle.ns_objects.proofs.Prelude.{false, get_elem?, has_acted, is_seat, judged, keeps, looked, most, one_if, others_both, others_fit, others_map, others_none, others_of, outcome, refl, set, slice_index, some, subst, sym, the, total, total_none, total_set, tried, true, value_of, word_at, ℕ, ℤ}
+use Rattle.ns_objects.proofs.Prelude.{◌++◌, ◌+◌, ◌-◌, ◌<◌, ◌==◌, ◌^◌, ◌∙◌, ◌∷◌, ◌≡◌, ◌≢◌, ◌≤◌}
 
 seat_one : (seat : ℕ) (v : ObjectView) → v.seat ≡ seat → is_seat seat v ≡ 1
 seat_one seat v is = ap one_if (eq-eqb v.seat seat is)

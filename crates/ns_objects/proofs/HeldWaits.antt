@@ -1,14 +1,7 @@
 -- Waits for condition variables among notes and counters: which variables those are, and what the parts of such a wait tell together.
-use Rattle.std.proofs.Common.{map, Bool, false, cond, ◌||◌, zero, suc, slice_get, ap, refl, eq-eqb, ◌≡◌, ℕ, ◌+◌, ◌-◌, ◌%◌, ◌^◌, ◌<◌, ◌≤◌, max, true, List, [], ◌∷◌, ◌++◌, append_assoc, Option, None, Some, sym, ◌∙◌, subst, arith}
-use Rattle.std.proofs.lemmas.Bool.{eqb-true, false≢true}
-use Rattle.ns_objects.specs.Prelude.{PlainItem, is_this, item_of, AnyItem, AnyWait, AreAmong, AreSome, BothKnown, Counter, Cv, Cvs, Every, HasBegunToWait, HasComeBackFromAny, HasWaitedForAny}
-use Rattle.ns_objects.specs.Prelude.{Held, InHand, IsByOneOf, IsLow, IsNamed, Known, KnowsTruly, Mode, Note, Past, PlaceBy, Setup, Truths, WaitKnown, WaitsOn, is_among}
-use Rattle.ns_objects.specs.Prelude.{leave_any_told, place_in, room, room_enough, section_of}
-use prog.Memory.{align, size, up}
-use mir.Syntax.{Ty}
-use Rattle.ns_model.proofs.Beginnings.{begins_itself, begins_through}
-use Rattle.ns_counters.proofs.Listed.{low_if_among}
-use Rattle.ns_word.proofs.Enters.{are_some}
+use Rattle.ns_objects.proofs.Prelude.{AnyItem, AnyWait, AreAmong, AreSome, Bool, BothKnown, Counter, Cv, Cvs, Every, HasBegunToWait, HasComeBackFromAny, HasWaitedForAny, Held, InHand, IsByOneOf, IsLow, IsNamed, Known, KnowsTruly, List, Mode, None, Note, Option, Past, PlaceBy, PlainItem, Setup}
+use Rattle.ns_objects.proofs.Prelude.{Some, Truths, Ty, WaitKnown, WaitsOn, [], align, ap, append_assoc, are_some, arith, begins_itself, begins_through, cond, eq-eqb, eqb-true, false, false≢true, is_among, is_this, item_of, leave_any_told, low_if_among, map, max, place_in, refl, room, room_enough}
+use Rattle.ns_objects.proofs.Prelude.{section_of, size, slice_get, subst, suc, sym, true, up, zero, ℕ, ◌%◌, ◌++◌, ◌+◌, ◌-◌, ◌<◌, ◌^◌, ◌||◌, ◌∙◌, ◌∷◌, ◌≡◌, ◌≤◌}
 
 -- an item that is named is no variable above 3
 low_too : (now : BothKnown) (item : AnyItem) → IsNamed now.0 now.1 item → IsLow (item_of item)

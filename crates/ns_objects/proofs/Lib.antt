@@ -1,6 +1,7 @@
 pub mod Allowed
 pub mod Changes
-pub mod Rests
 pub mod HeldWaits
+pub mod Prelude
+pub mod Rests
 pub mod Rounds
 pub mod Seats

@@ -1,8 +1,6 @@
 -- A seat after a step.
-use Rattle.std.proofs.Common.{◌≡◌, ℕ, ℤ, List, [], ◌∷◌, ◌++◌, sym, refl, ap, ◌∙◌, subst, append_assoc}
-use Rattle.ns_objects.specs.Prelude.{AreObjectsBySeats, CounterState, EnvGrows, EnvKnown, EnvTrue, ExchangeToAdd, Grows, HasActed, HasCome, HasJudged, HasWords, IsLegalObjects, IsTrueToHistory, LoadToAdd, Me, ObjectAct, ObjectEvent, ObjectView, ObjectsKnown, OneActs, OneComes, Place, Setup}
-use Rattle.ns_objects.specs.Prelude.{TableId, events_of, known_of, outcome, the}
-use Rattle.ns_model.proofs.Beginnings.{begins_itself, begins_through}
+use Rattle.ns_objects.proofs.Prelude.{AreObjectsBySeats, CounterState, EnvGrows, EnvKnown, EnvTrue, ExchangeToAdd, Grows, HasActed, HasCome, HasJudged, HasWords, IsLegalObjects, IsTrueToHistory, List, LoadToAdd, Me, ObjectAct, ObjectEvent, ObjectView, ObjectsKnown, OneActs, OneComes, Place, Setup}
+use Rattle.ns_objects.proofs.Prelude.{TableId, [], ap, append_assoc, begins_itself, begins_through, events_of, known_of, outcome, refl, subst, sym, the, ℕ, ℤ, ◌++◌, ◌∙◌, ◌∷◌, ◌≡◌}
 
 -- a step brings its caller further
 pub came : (act : ObjectAct) (found : ℕ) (v w : ObjectView) → HasActed act found v w → HasCome (events_of act found v) (outcome v.seat act v.place found).place v w

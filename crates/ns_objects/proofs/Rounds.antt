@@ -1,10 +1,6 @@
 -- What a caller has seen, look by look.
-use Rattle.std.proofs.Common.{◌≡◌, ℕ, zero, suc, ◌<◌, ◌≤◌, Bool, false, eqb, List, [], ◌∷◌, length, take, Option, get_or, sym, ap, ◌∙◌, subst, arith}
-use Rattle.std.proofs.lemmas.List.{take_all}
-use Rattle.ns_objects.specs.Prelude.{AnyItem, BothKnown, Counter, Cv, EnvEvent, EnvGrows, EnvKnown, Every, Grows, HasShownNone, InTurn, IsBetween, IsLater, IsNamed, Note, NoteOf, ObjectsKnown, Setup, WasReady, WasReadyIn, clock_of, is_due, is_notified, objects_after, past_of, standing_of}
-use Rattle.ns_model.proofs.Beginnings.{begins_itself}
-use Rattle.ns_model.proofs.Tallies.{every_map}
-use Rattle.ns_note.proofs.Rests.{made_grows}
+use Rattle.ns_objects.proofs.Prelude.{AnyItem, Bool, BothKnown, Counter, Cv, EnvEvent, EnvGrows, EnvKnown, Every, Grows, HasShownNone, InTurn, IsBetween, IsLater, IsNamed, List, Note, NoteOf, ObjectsKnown, Option, Setup, WasReady, WasReadyIn, [], ap, arith, begins_itself, clock_of, eqb, every_map}
+use Rattle.ns_objects.proofs.Prelude.{false, get_or, is_due, is_notified, length, made_grows, objects_after, past_of, standing_of, subst, suc, sym, take, take_all, zero, ℕ, ◌<◌, ◌∙◌, ◌∷◌, ◌≡◌, ◌≤◌}
 
 -- a caller that knows more of both
 abbrev pub BothGrow : BothKnown → BothKnown → Type 0

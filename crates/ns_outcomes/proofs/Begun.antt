@@ -1,27 +1,8 @@
 -- The script's own schedule, and why a run that draws turns behind it stops.
-use Rattle.std.proofs.Common.{◌≡◌, ℕ, ◌+◌, Bool, ◌||◌, cond, List, [], ◌∷◌, ◌++◌, length, inl, inr, replicate, Option, is_some, refl, sym, ap, ◌∙◌, subst, map, arith}
-use Rattle.std.specs.List.{range_with_len}
-use Rattle.std.proofs.lemmas.List.FromFn.{length-range_with_len, map-range_with_len_more}
-use Rattle.std.proofs.lemmas.List.{length-map}
-use Rattle.std.proofs.lemmas.List.Concat.{flat_map-append}
-use Rattle.ns_world.specs.Runs.{Advances, Progress, Runs, Stops, items_of, next_call, progress, start, word_items}
-use Rattle.ns_world.specs.declared.call.Call.{Call}
-use Rattle.ns_world.specs.declared.schedule.Line.{Line}
-use Rattle.ns_world.specs.declared.schedule.Turn.{Turn}
-use Rattle.ns_world.specs.Whole.{Whole, whole_busy}
-use Rattle.ns_world.specs.declared.fault.Fault.{Fault as WorldFault}
+use Rattle.ns_outcomes.proofs.Prelude.{Advances, BadScript, Bool, Call, Fault, Going, HasBegun, IsDrawFault, IsDrawingFault, IsDrawn, IsRunFault, IsSeedRun, Line, List, Lists, NotJson, Option, OutOfMemory, Over, Plan, Progress, Read, Runs, Script, ScriptCondition, Stage, Standing, StepLimit, Stops}
+use Rattle.ns_outcomes.proofs.Prelude.{TooMany, Turn, Whole, WorldFault, Write, [], advance_both, ap, arith, cond, drawing_fault, first_standing, first_standings, flat_map-append, generator, inl, inr, is_some, items_of, length, length-map, length-range_with_len, map, map-range_with_len_more}
+use Rattle.ns_outcomes.proofs.Prelude.{next_call, outcome_text, plan_of, progress, range_with_len, refl, replicate, start, subst, sym, whole_busy, word_items, world_for, ℕ, ◌++◌, ◌+◌, ◌||◌, ◌∙◌, ◌∷◌, ◌≡◌}
 use Rattle.ns_world.specs.declared.fault.Fault.TheVariants as world
-use Rattle.ns_world.proofs.Schedules.{advance_both}
-use Rattle.ns_replay.specs.Replaying.{IsRunFault, world_for}
-use Rattle.ns_replay.specs.Script.{Plan, plan_of}
-use Rattle.ns_replay.specs.declared.condition.ScriptCondition.{ScriptCondition}
-use Rattle.ns_replay.specs.declared.fault.Fault.{Fault}
-use Rattle.ns_replay.specs.declared.fault.Fault.TheVariants.{OutOfMemory, NotJson, BadScript, TooMany, StepLimit, Read, Write}
-use Rattle.ns_replay.specs.declared.script.Script.{Script}
-use Rattle.ns_outcomes.specs.Drawn.{HasBegun, IsDrawingFault, IsDrawn, Lists, Stage, drawing_fault, first_standing, first_standings, generator}
-use Rattle.ns_outcomes.specs.Outcomes.{IsDrawFault, IsSeedRun, outcome_text}
-use Rattle.ns_outcomes.specs.declared.standing.Standing.{Standing}
-use Rattle.ns_outcomes.specs.declared.standing.Standing.TheVariants.{Going, Over}
 use Rattle.ns_outcomes.proofs.Draws.{drew_advances}
 use Rattle.ns_outcomes.proofs.Runs.{threads_long}
 

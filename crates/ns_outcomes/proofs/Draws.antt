@@ -1,18 +1,7 @@
 -- Turns that were drawn are turns of a run, and follow the words that spell them.
-use Rattle.std.proofs.Common.{◌≡◌, ◌≢◌, ℕ, ◌+◌, ◌<◌, ◌≤◌, ◌⊎◌, Bool, not, true, false, cond, eqb, List, [], ◌∷◌, ◌++◌, length, Some, None, length-append, map, refl, sym, ap, ◌∙◌, subst, arith, eq-eqb}
-use Rattle.std.proofs.lemmas.List.{map-append}
-use Rattle.rand_pcg.specs.Lcg.{Lcg}
-use Rattle.rand_pcg.specs.Pcg.{pcg32}
-use Rattle.ns_world.specs.Runs.{Advances, Item, Stops, StopsFor, Turned, TurnsOf, items_of, is_end, rest_of}
-use Rattle.ns_world.specs.declared.schedule.Turn.{Turn}
-use Rattle.ns_world.specs.declared.step.Step.{Step}
-use Rattle.ns_world.specs.declared.step.Step.TheVariants.{Finished, Idle, Nothing, Went}
-use Rattle.ns_world.specs.Whole.{Whole}
-use Rattle.ns_world.specs.declared.fault.Fault.{Fault as WorldFault}
+use Rattle.ns_outcomes.proofs.Prelude.{Advances, AreFewest, Bool, Draws, Drew, Finished, GoesBefore, Idle, IsCutShort, IsDrawingFault, IsDrawnWord, IsPick, Item, Lcg, List, Lists, None, Nothing, ScriptCondition, Some, Stage, Step, Stops, StopsFor, Turn, TurnStands, Turned, TurnsOf, Went, Whole}
+use Rattle.ns_outcomes.proofs.Prelude.{WorldFault, [], ap, arith, cond, drawing_fault, eq-eqb, eqb, false, is_end, items_of, length, length-append, map, map-append, not, pcg32, refl, rest_of, subst, sym, true, turn_item, ℕ, ◌++◌, ◌+◌, ◌<◌, ◌∙◌, ◌∷◌, ◌≡◌, ◌≢◌, ◌≤◌, ◌⊎◌}
 use Rattle.ns_world.specs.declared.fault.Fault.TheVariants as world
-use Rattle.ns_replay.specs.declared.condition.ScriptCondition.{ScriptCondition}
-use Rattle.ns_outcomes.specs.Drawn.{AreFewest, Draws, Drew, GoesBefore, IsCutShort, IsDrawingFault, IsDrawnWord, Lists, Stage, TurnStands, drawing_fault, turn_item}
-use Rattle.ns_outcomes.specs.Standings.{IsPick}
 
 -- ---- words
 

@@ -1,5 +1,6 @@
 pub mod Begun
 pub mod Draws
+pub mod Prelude
 pub mod Runs
 pub mod Tallies
 pub mod Texts

@@ -1,21 +1,6 @@
 -- Outcomes: their text, and the runs that they are of.
-use lib.Dec.{T}
-use Rattle.std.proofs.Common.{eqb, eqb→eq, ◌≡◌, ℕ, Bool, true, false, not, ◌&&◌, List, [], ◌∷◌, ◌++◌, length, refl, sym, ap, ◌∙◌, subst}
-use Rattle.std.specs.Prelude.{flat_map, map}
-use Rattle.std.specs.Global.{Vec}
-use Rattle.std.specs.List.{range_with_len}
-use lib.Pointwise.{pointwise}
-use Rattle.std.proofs.lemmas.List.{length-map}
-use Rattle.ns_replay.proofs.Texts.{flat_map-same}
-use Rattle.ns_world.specs.declared.schedule.Line.{Line}
-use Rattle.ns_world.specs.Whole.{Whole}
-use Rattle.ns_replay.specs.Script.{Plan, plan_of}
-use Rattle.ns_replay.specs.declared.condition.ScriptCondition.{ScriptCondition}
-use Rattle.ns_replay.specs.declared.script.Script.{Script}
-use Rattle.ns_outcomes.specs.Outcomes.{outcome_text, thread_text}
-use Rattle.ns_outcomes.specs.Answers.{ComesTo, EndsOtherwise, IsLike}
-use Rattle.ns_replay.specs.Replaying.{HasRun}
-use Rattle.ns_world.specs.declared.call.Call.{Call}
+use Rattle.ns_outcomes.proofs.Prelude.{Bool, Call, ComesTo, EndsOtherwise, HasRun, IsLike, Line, List, Plan, Script, ScriptCondition, T, Vec, Whole, [], ap, eqb, eqb→eq, false, flat_map, flat_map-same, length, length-map, map, not, outcome_text, plan_of, pointwise, range_with_len, refl, subst, sym}
+use Rattle.ns_outcomes.proofs.Prelude.{thread_text, true, ℕ, ◌&&◌, ◌++◌, ◌∙◌, ◌∷◌, ◌≡◌}
 
 -- the same calls are in progress by either test
 pub threads_same : (f g : ℕ → Bool) (lines : List Line) (threads : ℕ) → ((seat : ℕ) → f seat ≡ g seat) → flat_map (thread_text f lines) (range_with_len 0 threads) ≡ flat_map (thread_text g lines) (range_with_len 0 threads)

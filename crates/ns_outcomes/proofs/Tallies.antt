@@ -1,37 +1,10 @@
 -- What is counted after one run more, what the counts give as a list, and the blocks of one outcome more.
-use Rattle.std.proofs.Common.{◌≡◌, ℕ, suc, ◌+◌, ◌*◌, ◌^◌, ◌<◌, ◌≤◌, ◌⊎◌, inl, inr, Bool, true, false, cond, add-one, add-zero, zero-add, take, List, [], ◌∷◌, ◌++◌, length, get_or, map, Option, Some, None, refl, sym, ap, ◌∙◌, subst, append_assoc, arith, below_more}
-use Rattle.std.specs.Prelude.{All, AllPairs, Contains, IsPermutation, IsSortedBy, IfSome, bytes_eq, count_by, option_map, position, slice_get, string_cmp, sum, String, string_bytes}
-use Rattle.std.specs.BTreeMap.{IsOrdered, get_by_text, is_at}
-use Rattle.std.specs.Cmp.{back_total, nat_cmp_total, on_total, then_total}
-use Rattle.std.specs.Cmp.Lexicographic.{bytes_decides, nat_list_eq_equiv, slice_cmp}
-use Rattle.std.specs.List.{AllByRecursion, IsDistinct, position_from}
-use Rattle.std.specs.Map.{keys_of, lookup}
-use Rattle.std.specs.Option.{option_or}
-use Rattle.std.specs.Ordering.{eq_by_cmp, is_lt, nat_cmp, ordering_then}
-use Rattle.std.specs.String.{string_cmp_total}
-use Rattle.std.specs.declared.alloc.Global.{Global}
-use Rattle.std.proofs.Math.Seq.{take-suc}
-use Rattle.std.proofs.lemmas.Bool.{cases_lt, cases_order, eq-eqb, le-ltb, lt-ltb}
-use Rattle.std.proofs.lemmas.Iterator.Adapters.{position_from-zero}
-use Rattle.std.proofs.lemmas.List.{append-nil, get_or_append_left, get_or_push, length-take-le, length_push}
-use Rattle.std.proofs.lemmas.List.Elements.{All-map, All-weaker}
-use Rattle.std.proofs.lemmas.List.Sorted.{All-permutation, Contains-permutation, IsPermutation-map, ranks_by, sorted_far}
-use Rattle.std.proofs.lemmas.List.Sums.{count_by-le-length, get_or-le-sum_by, sum_by-cons, sum_by_push}
-use Rattle.std.proofs.lemmas.Map.Entries.{place_from_lookup}
-use Rattle.std.proofs.lemmas.Map.Keys.{IsDistinct-IsPermutation, IsDistinct-cons, IsDistinct-from_apart, IsDistinct-from_sorted, IsDistinct-head, IsDistinct-tail}
-use Rattle.std.proofs.lemmas.Map.Made.{AllPairs-from_IsDistinct}
-use Rattle.std.proofs.lemmas.Map.Text.{is_eq-slice_cmp}
-use Rattle.std.proofs.lemmas.Map.Views.{All-found}
-use Rattle.std.proofs.lemmas.Option.{get_or_from_slice_get, same_Some, slice_get-map, slice_get_within}
-use Rattle.ns_replay.specs.Script.{Plan}
-use Rattle.ns_replay.specs.declared.fault.Fault.{Fault}
-use Rattle.ns_replay.specs.declared.fault.Fault.TheVariants.{OutOfMemory, NotJson, BadScript, TooMany, StepLimit, Read, Write}
-use Rattle.ns_outcomes.specs.Outcomes.{IsDrawFault, IsOutcomeOf}
-use Rattle.ns_outcomes.specs.Tallies.{AreRuns, CountsOnceMore, HasCounted, IsBefore, IsCountFault, IsFound, IsTally, block_text, blocks_text, counted, counted_at, found_of, once_more, seed_at, texts_of, times}
-use Rattle.ns_outcomes.specs.declared.seeds.Seeds.{Seeds}
-use Rattle.ns_outcomes.specs.declared.tallying.Count.{Count}
-use Rattle.ns_outcomes.specs.declared.tallying.Found.{Found}
-use Rattle.ns_outcomes.specs.declared.tallying.Counts.{Counts}
+use Rattle.ns_outcomes.proofs.Prelude.{All, All-found, All-map, All-permutation, All-weaker, AllByRecursion, AllPairs, AllPairs-from_IsDistinct, AreRuns, BadScript, Bool, Contains, Contains-permutation, Count, Counts, CountsOnceMore, Fault, Found, Global, HasCounted, IfSome, IsBefore, IsCountFault}
+use Rattle.ns_outcomes.proofs.Prelude.{IsDistinct, IsDistinct-IsPermutation, IsDistinct-cons, IsDistinct-from_apart, IsDistinct-from_sorted, IsDistinct-head, IsDistinct-tail, IsDrawFault, IsFound, IsOrdered, IsOutcomeOf, IsPermutation, IsPermutation-map, IsSortedBy, IsTally, List, None, NotJson}
+use Rattle.ns_outcomes.proofs.Prelude.{Option, OutOfMemory, Plan, Read, Seeds, Some, StepLimit, String, TooMany, Write, [], add-one, add-zero, ap, append-nil, append_assoc, arith, back_total, below_more, block_text, blocks_text, bytes_decides, bytes_eq, cases_lt, cases_order, cond, count_by}
+use Rattle.ns_outcomes.proofs.Prelude.{count_by-le-length, counted, counted_at, eq-eqb, eq_by_cmp, false, found_of, get_by_text, get_or, get_or-le-sum_by, get_or_append_left, get_or_from_slice_get, get_or_push, inl, inr, is_at, is_eq-slice_cmp, is_lt, keys_of, le-ltb, length, length-take-le}
+use Rattle.ns_outcomes.proofs.Prelude.{length_push, lookup, lt-ltb, map, nat_cmp, nat_cmp_total, nat_list_eq_equiv, on_total, once_more, option_map, option_or, ordering_then, place_from_lookup, position, position_from, position_from-zero, ranks_by, refl, same_Some, seed_at, slice_cmp, slice_get}
+use Rattle.ns_outcomes.proofs.Prelude.{slice_get-map, slice_get_within, sorted_far, string_bytes, string_cmp, string_cmp_total, subst, suc, sum, sum_by-cons, sum_by_push, sym, take, take-suc, texts_of, then_total, times, true, zero-add, ℕ, ◌*◌, ◌++◌, ◌+◌, ◌<◌, ◌^◌, ◌∙◌, ◌∷◌, ◌≡◌, ◌≤◌, ◌⊎◌}
 
 -- ---- the first place that passes, and how many pass
 

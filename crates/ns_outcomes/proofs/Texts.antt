@@ -1,18 +1,5 @@
 -- The text of a script, part by part.
-use Rattle.std.proofs.Common.{◌≡◌, ℕ, List, [], ◌++◌, Result, Ok, Err, refl, append_assoc, codes, string_bytes}
-use Rattle.std.specs.Prelude.{⊤, OnOk}
-use Rattle.std.proofs.lemmas.List.{append-nil}
-use Rattle.std.specs.declared.alloc.AllocError.{AllocError}
-use Rattle.serde_json.specs.Data.{Data}
-use Rattle.serde_json.specs.Find.{get}
-use Rattle.ns_world.specs.declared.schedule.Turn.{Turn}
-use Rattle.ns_replay.specs.Replaying.{plan_from}
-use Rattle.ns_replay.specs.Script.{plan_of}
-use Rattle.ns_replay.specs.declared.script.Script.{Script}
-use Rattle.ns_outcomes.specs.Answers.{HasSeedRun, HasText}
-use Rattle.ns_outcomes.specs.Outcomes.{IsSeedRun}
-use Rattle.ns_outcomes.specs.Texts.{AreMembers, IsMember, IsScriptText, names_before}
-use Rattle.ns_outcomes.specs.declared.outcome.SeedRun.{SeedRun}
+use Rattle.ns_outcomes.proofs.Prelude.{AllocError, AreMembers, Data, Err, HasSeedRun, HasText, IsMember, IsScriptText, IsSeedRun, List, Ok, OnOk, Result, Script, SeedRun, Turn, [], append-nil, append_assoc, codes, get, names_before, plan_from, plan_of, refl, string_bytes, ℕ, ⊤, ◌++◌, ◌≡◌}
 
 -- ---- the members
 

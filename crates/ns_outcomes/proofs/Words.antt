@@ -1,7 +1,5 @@
 -- When two lock words are the same.
-use Rattle.std.proofs.Common.{◌≡◌, ◌≢◌, Bool, true, false, not, ◌&&◌, refl, sym, subst, eq-eqb, eqb}
-use mathlib.Core.Bool.{beq}
-use Rattle.ns_word.specs.declared.word.Word.{Word}
+use Rattle.ns_outcomes.proofs.Prelude.{Bool, Word, beq, eq-eqb, eqb, false, not, refl, subst, sym, true, ◌&&◌, ◌≡◌, ◌≢◌}
 use Rattle.ns_outcomes.proofs.Runs.{not_false, number_same}
 
 -- all parts are

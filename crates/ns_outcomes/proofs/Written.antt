@@ -1,17 +1,7 @@
 -- What a fault leaves, and what a write of a whole text answers.
-use Rattle.std.proofs.Common.{◌≡◌, ℕ, List, Option, Result, Ok, Err, refl, subst, inl, inr}
-use Rattle.std.specs.Prelude.{⊤, IfErr, OnErr, OnOk}
-use Rattle.std.specs.Io.KnownBytes.{Appends, IsAtEnd}
-use Rattle.ns_replay.specs.declared.fault.Fault.{Fault}
-use Rattle.ns_replay.specs.declared.fault.Fault.TheVariants.{OutOfMemory, NotJson, BadScript, TooMany, StepLimit, Read, Write}
+use Rattle.ns_outcomes.proofs.Prelude.{Answers, Appends, BadScript, Err, Fault, Gave, IfErr, IsAtEnd, IsCountFault, IsDrawFault, IsEnough, IsRefused, IsUndrawn, IsUnscheduled, List, NotJson, Ok, OnErr, OnOk, Option, OutOfMemory, Plan, Read, ReplayAnswers, Result, Seeds, StepLimit, TooMany, WasRead}
+use Rattle.ns_outcomes.proofs.Prelude.{Write, WritesFront, inl, inr, plan_from, refl, subst, ℕ, ⊤, ◌≡◌}
 use Rattle.ns_replay.specs.declared.path.ScriptPath.TheVariants as at
-use Rattle.ns_replay.specs.Replaying.{Answers as ReplayAnswers, IsRefused, WasRead, plan_from}
-use Rattle.ns_replay.specs.Script.{Plan}
-use Rattle.ns_replay.specs.Transfer.{Gave, IsEnough, WritesFront}
-use Rattle.ns_outcomes.specs.Answers.{Answers, IsUndrawn, IsUnscheduled}
-use Rattle.ns_outcomes.specs.Outcomes.{IsDrawFault}
-use Rattle.ns_outcomes.specs.Tallies.{IsCountFault}
-use Rattle.ns_outcomes.specs.declared.seeds.Seeds.{Seeds}
 
 -- ---- refusals
 

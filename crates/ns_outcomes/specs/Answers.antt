@@ -1,15 +1,5 @@
 -- What is answered and written, for the outcomes of a script, and for a script with a schedule of its own.
-use Rattle.std.specs.Prelude.{◌≡◌, ◌≢◌, ℕ, ◌<◌, ◌≤◌, ◌⊎◌, ⊤, List, ◌++◌, length, Option, Result, Ok, Err}
-use Rattle.std.specs.Io.KnownBytes.{Appends, Keeps}
-use Rattle.ns_world.specs.Whole.{Whole}
-use Rattle.ns_world.specs.declared.schedule.Line.{Line}
-use Rattle.ns_world.specs.declared.schedule.Turn.{Turn}
-use Rattle.ns_replay.specs.declared.condition.ScriptCondition.{ScriptCondition}
-use Rattle.ns_replay.specs.declared.fault.Fault.{Fault}
-use Rattle.ns_replay.specs.declared.fault.Fault.TheVariants.{BadScript, OutOfMemory, Read, StepLimit, TooMany, Write}
-use Rattle.ns_replay.specs.Replaying.{HasRun, IsRefused, plan_from}
-use Rattle.ns_replay.specs.Script.{Plan}
-use Rattle.ns_replay.specs.Transfer.{max_bytes}
+use Rattle.ns_outcomes.specs.Names.{Appends, BadScript, Err, Fault, HasRun, IsRefused, Keeps, Line, List, Ok, Option, OutOfMemory, Plan, Read, Result, ScriptCondition, StepLimit, TooMany, Turn, Whole, Write, length, max_bytes, plan_from, ℕ, ⊤, ◌++◌, ◌<◌, ◌≡◌, ◌≢◌, ◌≤◌, ◌⊎◌}
 use Rattle.ns_replay.specs.declared.path.ScriptPath.TheVariants as at
 use Rattle.ns_outcomes.specs.Outcomes.{IsLong, IsSeedRun, lengthened, outcome_text}
 use Rattle.ns_outcomes.specs.Tallies.{HasLongRun, HasMade, report_text}

@@ -1,21 +1,7 @@
 -- Runs whose turns a generator draws.
-use Rattle.std.specs.Prelude.{◌≡◌, ◌≢◌, ℕ, ◌+◌, ◌<◌, ◌≤◌, ◌⊎◌, ◌||◌, true, false, if◌then◌else◌, List, [], ◌∷◌, length, map, Some, is_some}
-use Rattle.std.specs.List.{range_with_len}
-use Rattle.rand_core.specs.Pcg32Seed.{pcg32_seed}
-use Rattle.rand_pcg.specs.Lcg.{Lcg}
-use Rattle.rand_pcg.specs.Pcg.{pcg32, pcg32_of_seed}
-use Rattle.ns_world.specs.Runs.{Advances, Item, Progress, TurnOf, Turned, items_of, next_call, progress, start}
-use Rattle.ns_world.specs.Whole.{whole_busy, whole_of}
-use Rattle.ns_world.specs.declared.call.Call.{Call}
-use Rattle.ns_world.specs.declared.fault.Fault.{Fault as WorldFault}
+use Rattle.ns_outcomes.specs.Names.{Advances, Call, Fault, Item, Lcg, List, OutOfMemory, Plan, Progress, ScriptCondition, Some, StepLimit, Turn, TurnOf, Turned, WorldFault, [], false, if◌then◌else◌, is_some, items_of, length, map, next_call, pcg32, pcg32_of_seed, pcg32_seed, progress}
+use Rattle.ns_outcomes.specs.Names.{range_with_len, script_truths, start, true, whole_busy, whole_of, world_for, ℕ, ◌+◌, ◌<◌, ◌||◌, ◌∷◌, ◌≡◌, ◌≢◌, ◌≤◌, ◌⊎◌}
 use Rattle.ns_world.specs.declared.fault.Fault.TheVariants as world
-use Rattle.ns_replay.specs.declared.fault.Fault.{Fault}
-use Rattle.ns_replay.specs.declared.fault.Fault.TheVariants.{OutOfMemory, StepLimit}
-use Rattle.ns_world.specs.declared.schedule.Turn.{Turn}
-use Rattle.ns_replay.specs.Condition.{script_truths}
-use Rattle.ns_replay.specs.Replaying.{world_for}
-use Rattle.ns_replay.specs.Script.{Plan}
-use Rattle.ns_replay.specs.declared.condition.ScriptCondition.{ScriptCondition}
 use Rattle.ns_outcomes.specs.Standings.{IsPick, going, stood}
 use Rattle.ns_outcomes.specs.declared.drawing.Drawing.{Drawing}
 use Rattle.ns_outcomes.specs.declared.standing.Made.{Made}

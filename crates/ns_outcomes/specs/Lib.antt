@@ -1,5 +1,6 @@
 pub mod Answers
 pub mod Drawn
+pub mod Names
 pub mod Outcomes
 pub mod Standings
 pub mod Tallies

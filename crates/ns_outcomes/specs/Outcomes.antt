@@ -1,16 +1,5 @@
 -- The outcome of a run, and what is an outcome of a script.
-use Rattle.std.specs.Prelude.{◌≡◌, ℕ, ◌⊎◌, List, [], ◌++◌, ◌==◌, if◌then◌else◌, Bool, length, codes, decimal, flat_map}
-use Rattle.std.specs.List.{range_with_len}
-use Rattle.ns_world.specs.Runs.{Runs}
-use Rattle.ns_world.specs.Whole.{Whole, whole_busy}
-use Rattle.ns_world.specs.declared.schedule.Line.{Line}
-use Rattle.ns_world.specs.declared.schedule.Turn.{Turn}
-use Rattle.ns_replay.specs.declared.condition.ScriptCondition.{ScriptCondition}
-use Rattle.ns_replay.specs.declared.fault.Fault.{Fault}
-use Rattle.ns_replay.specs.declared.fault.Fault.TheVariants.{OutOfMemory, StepLimit}
-use Rattle.ns_replay.specs.Replaying.{NeedsMore, world_for}
-use Rattle.ns_replay.specs.Script.{Plan}
-use Rattle.ns_replay.specs.Text.{left_text, reply_text, row_text}
+use Rattle.ns_outcomes.specs.Names.{Bool, Fault, Line, List, NeedsMore, OutOfMemory, Plan, Runs, ScriptCondition, StepLimit, Turn, Whole, [], codes, decimal, flat_map, if◌then◌else◌, left_text, length, range_with_len, reply_text, row_text, whole_busy, world_for, ℕ, ◌++◌, ◌==◌, ◌≡◌, ◌⊎◌}
 use Rattle.ns_outcomes.specs.Drawn.{IsDrawn, IsSeedCut, Stage}
 
 -- ---- the text of an outcome

@@ -1,7 +1,5 @@
 -- Which threads of a drawn run can go on, and whose turn it is.
-use Rattle.std.specs.Prelude.{◌≡◌, ℕ, ◌<◌, ◌%◌, Bool, true, false, if◌then◌else◌, List, length, map, slice_get, slice_set, take, count_by, Option, Some, None}
-use Rattle.ns_world.specs.declared.step.Step.{Step}
-use Rattle.ns_world.specs.declared.step.Step.TheVariants.{Finished, Idle, Nothing, Went}
+use Rattle.ns_outcomes.specs.Names.{Bool, Finished, Idle, List, None, Nothing, Option, Some, Step, Went, count_by, false, if◌then◌else◌, length, map, slice_get, slice_set, take, true, ℕ, ◌%◌, ◌<◌, ◌≡◌}
 use Rattle.ns_outcomes.specs.declared.standing.Made.{Made}
 use Rattle.ns_outcomes.specs.declared.standing.Standing.{Standing}
 use Rattle.ns_outcomes.specs.declared.standing.Standing.TheVariants.{Going, Waiting, Tried, Stuck, Over}

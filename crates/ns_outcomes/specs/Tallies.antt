@@ -1,11 +1,6 @@
 -- Distinct outcomes, as they are counted, and the text that shows them.
-use Rattle.std.specs.Prelude.{◌≡◌, ◌≢◌, ℕ, ◌+◌, ◌%◌, ◌^◌, ◌<◌, ◌≤◌, ◌⊎◌, if◌then◌else◌, List, [], ◌∷◌, ◌++◌, length, get_or, map, All, AllPairs, Contains, count_by, position, Option, Some, None, option_map, bytes_eq, codes, decimal, String, string_bytes}
-use Rattle.std.specs.BTreeMap.{get_by_text}
-use Rattle.std.specs.List.{sum}
-use Rattle.std.specs.declared.alloc.Global.{Global}
-use Rattle.ns_replay.specs.Script.{Plan}
-use Rattle.ns_replay.specs.declared.fault.Fault.{Fault}
-use Rattle.ns_replay.specs.declared.fault.Fault.TheVariants.{OutOfMemory, StepLimit}
+use Rattle.ns_outcomes.specs.Names.{All, AllPairs, Contains, Fault, Global, List, None, Option, OutOfMemory, Plan, Some, StepLimit, String, [], bytes_eq, codes, count_by, decimal, get_by_text, get_or, if◌then◌else◌, length, map, option_map, position, string_bytes, sum, ℕ, ◌%◌, ◌++◌, ◌+◌, ◌<◌, ◌^◌}
+use Rattle.ns_outcomes.specs.Names.{◌∷◌, ◌≡◌, ◌≢◌, ◌≤◌, ◌⊎◌}
 use Rattle.ns_outcomes.specs.Outcomes.{IsLong, IsOutcomeOf}
 use Rattle.ns_outcomes.specs.declared.seeds.Seeds.{Seeds}
 use Rattle.ns_outcomes.specs.declared.tallying.Count.{Count}

@@ -1,10 +1,5 @@
 -- The text of a script with a schedule of words that were drawn.
-use Rattle.std.specs.Prelude.{◌≡◌, ◌≤◌, ℕ, ◌==◌, List, [], ◌∷◌, ◌++◌, false, if◌then◌else◌, Option, Some, None, codes, decimal, flat_map}
-use Rattle.serde_json.specs.Data.{Data, depth}
-use Rattle.serde_json.specs.Find.{get}
-use Rattle.serde_json.specs.Read.{max_depth, read}
-use Rattle.serde_json.specs.Written.{IsInOrder, compact_text, has_float}
-use Rattle.ns_world.specs.declared.schedule.Turn.{Turn}
+use Rattle.ns_outcomes.specs.Names.{Data, IsInOrder, List, None, Option, Some, Turn, [], codes, compact_text, decimal, depth, false, flat_map, get, has_float, if◌then◌else◌, max_depth, read, ℕ, ◌++◌, ◌==◌, ◌∷◌, ◌≡◌, ◌≤◌}
 
 -- ---- the words
 

@@ -1,7 +1,5 @@
 -- What is known of a run's first condition, and what it takes to learn that.
-use Rattle.std.proofs.Common.{◌≡◌, ◌≤◌, ◌⊎◌, inl, inr, Bool, true, false, cond, ◌&&◌, Option, None, Some, is_some, is_none, IfSome, refl, ap, sym, ◌∙◌, arith}
-use Rattle.std.specs.Prelude.{unwrap_or}
-use Rattle.ns_queue.specs.Prelude.{asked_for, asking, is_alike, is_satisfied}
+use Rattle.ns_queue.proofs.Prelude.{Bool, IfSome, None, Option, Some, ap, arith, asked_for, asking, cond, false, inl, inr, is_alike, is_none, is_satisfied, is_some, refl, sym, true, unwrap_or, ◌&&◌, ◌∙◌, ◌≡◌, ◌≤◌, ◌⊎◌}
 
 module _ {C : Type 0} (same : C → C → Bool) (meets : C → Bool) where
   -- the run that a waiter stands in

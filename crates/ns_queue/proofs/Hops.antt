@@ -1,8 +1,6 @@
 -- Links from place to place: what a link written elsewhere leaves, and a place put between two or taken out.
-use Rattle.std.proofs.Common.{◌≡◌, ◌≢◌, ℕ, ◌≤◌, ◌<◌, inl, inr, List, [], ◌∷◌, ◌++◌, length, get_or, set, Option, None, Some, refl, ap, sym, ◌∙◌, arith, length-set}
-use Rattle.std.proofs.lemmas.Bool.{ne_eqb, eq-eqb, cases_eq}
-use Rattle.std.proofs.lemmas.List.{get_or-set_same, get_or-set_other}
-use Rattle.ns_queue.specs.Prelude.{Hops, Waiter, ahead, behind, first_seat, gather, last_seat, one_if, seated, times_in}
+use Rattle.ns_queue.proofs.Prelude.{Hops, List, None, Option, Some, Waiter, [], ahead, ap, arith, behind, cases_eq, eq-eqb, first_seat, gather, get_or, get_or-set_other, get_or-set_same, inl, inr, last_seat, length, length-set, ne_eqb, one_if, refl, seated, set, sym, times_in, ℕ, ◌++◌, ◌<◌, ◌∙◌}
+use Rattle.ns_queue.proofs.Prelude.{◌∷◌, ◌≡◌, ◌≢◌, ◌≤◌}
 use Rattle.ns_queue.proofs.Seats.{times_in-cons, times_in-append}
 
 module _ {A : Type 0} where

@@ -1,12 +1,6 @@
 -- The lists as the fields hold them.
-use Rattle.std.proofs.Common.{◌≡◌, ℕ, zero, suc, ◌+◌, ◌≤◌, ◌<◌, inl, inr, Bool, true, false, IsTrue, not, cond, eqb, subst, List, [], ◌∷◌, ◌++◌, length, get_or, take, drop, set, map, refl, ap, sym, ◌∙◌, arith}
-use Rattle.std.specs.Bool.{OnFalse}
-use Rattle.std.specs.List.{filter, sum_by}
-use Rattle.std.proofs.lemmas.Bool.{cases_eq, eq-eqb, ne_eqb}
-use Rattle.std.proofs.lemmas.List.{length-set, length-map, map-set, get_or-map}
-use Rattle.std.proofs.lemmas.List.Sums.{get_or-le-sum_by, sum_by_more}
-use Rattle.std.proofs.lemmas.List.Edits.{map_over_more}
-use Rattle.ns_queue.specs.Prelude.{ArrayVec, Cv, IsOrderly, Lists, Waiter, beside, one_if, times, times_in, waiters_of, with_waiters, without_in}
+use Rattle.ns_queue.proofs.Prelude.{ArrayVec, Bool, Cv, IsOrderly, IsTrue, List, Lists, OnFalse, Waiter, [], ap, arith, beside, cases_eq, cond, drop, eq-eqb, eqb, false, filter, get_or, get_or-le-sum_by, get_or-map, inl, inr, length, length-map, length-set, map, map-set, map_over_more, ne_eqb, not}
+use Rattle.ns_queue.proofs.Prelude.{one_if, refl, set, subst, suc, sum_by, sum_by_more, sym, take, times, times_in, true, waiters_of, with_waiters, without_in, zero, ℕ, ◌++◌, ◌+◌, ◌<◌, ◌∙◌, ◌∷◌, ◌≡◌, ◌≤◌}
 use Rattle.ns_queue.proofs.Seats.{times_in-cons, times_in_push}
 use Rattle.ns_queue.proofs.Orders.{orderly_more, orderly_less, times_set, cv_times, part_has_room}
 use Rattle.ns_queue.proofs.Parts.{once_in, read_apart, read_back}

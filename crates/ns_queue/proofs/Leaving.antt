@@ -1,7 +1,7 @@
 -- What is left of a list whose taken waiters are taken out one by one.
-use Rattle.std.proofs.Common.{◌≡◌, ◌≢◌, ℕ, ◌+◌, ◌-◌, ◌≤◌, ◌<◌, inl, inr, Bool, true, false, cond, not, List, [], ◌∷◌, length, drop, filter, get_or, refl, ap, sym, ◌∙◌, arith}
-use Rattle.std.proofs.lemmas.Bool.{cases_Bool, eq-eqb, ne_eqb}
-use Rattle.ns_queue.specs.Prelude.{IsRow, Waiter, begins_with_reader, is_eligible, left_by_writer, left_of, seats_of, times_in, without_all, without_in, woken_of, writes}
+use Rattle.ns_queue.proofs.Prelude.{Bool, IsRow, List, Waiter, [], ap, arith, begins_with_reader, cases_Bool, cond, drop, eq-eqb, false, get_or, inl, inr, is_eligible, left_by_writer, left_of, length, ne_eqb, not, refl, seats_of, sym, times_in, true, without_all, without_in, woken_of, writes, ℕ}
+use Rattle.ns_queue.proofs.Prelude.{◌+◌, ◌-◌, ◌<◌, ◌∙◌, ◌∷◌, ◌≡◌, ◌≢◌, ◌≤◌}
+use Rattle.std.proofs.Common.{filter}
 use Rattle.ns_queue.proofs.Inside.{times_in-filter}
 use Rattle.ns_queue.proofs.Marking.{drop_step}
 use Rattle.ns_queue.proofs.Seats.{none_without, times_in-cons}

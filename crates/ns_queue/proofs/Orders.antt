@@ -1,10 +1,6 @@
 -- What changes one list keeps the lists orderly.
-use Rattle.std.proofs.Common.{◌≡◌, ℕ, zero, suc, ◌+◌, ◌-◌, ◌*◌, ◌^◌, ◌≤◌, ◌<◌, inl, inr, eqb, List, [], ◌∷◌, length, get_or, set, refl, ap, subst, arith, Fits, w64}
-use Rattle.std.proofs.Math.Nat.{mul-le-mul_right}
-use Rattle.std.proofs.lemmas.List.Sums.{sum_by-set, get_or-le-sum_by}
-use Rattle.std.proofs.lemmas.Bool.{ne_eqb, eq-eqb, cases_eq, cases_lt}
-use Rattle.std.proofs.lemmas.List.{get_or_past}
-use Rattle.ns_queue.specs.Prelude.{IsOrderly, Lists, Waiter, beside, one_if, times, times_in}
+use Rattle.ns_queue.proofs.Prelude.{Fits, IsOrderly, List, Lists, Waiter, [], ap, arith, beside, cases_eq, cases_lt, eq-eqb, eqb, get_or, get_or-le-sum_by, get_or_past, inl, inr, length, mul-le-mul_right, ne_eqb, one_if, refl, set, subst, suc, sum_by-set, times, times_in, w64, zero, ℕ, ◌*◌, ◌+◌}
+use Rattle.ns_queue.proofs.Prelude.{◌-◌, ◌<◌, ◌^◌, ◌∷◌, ◌≡◌, ◌≤◌}
 use Rattle.ns_queue.proofs.Seats.{room_for}
 
 module _ {C : Type 0} where

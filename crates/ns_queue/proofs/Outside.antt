@@ -1,10 +1,6 @@
 -- Lists without the seats of a set.
-use Rattle.std.proofs.Common.{◌≡◌, ℕ, ◌+◌, ◌≤◌, ◌<◌, ◌++◌, length, get_or, take, drop, set, map, zero, suc, Bool, true, false, inl, inr, eqb, nat_lt, not, List, [], ◌∷◌, refl, ap, sym, ◌∙◌, arith}
-use Rattle.std.specs.List.{sum_by}
-use Rattle.std.proofs.lemmas.Bool.{cases_eq, cases_lt, lt-ltb, ne_eqb}
-use Rattle.std.proofs.lemmas.List.{get_or-map, length-map}
-use Rattle.std.proofs.lemmas.List.Sums.{get_or-le-sum_by, sum_by-append, sum_by-cons, sum_by-take-drop}
-use Rattle.ns_queue.specs.Prelude.{Anybody, ArrayVec, Cv, HaveSeats, IsOrderly, Lists, Seats, Waiter, cvs_without, is_in, marked, one_if, outside, signal_marks, signaled_of, taken_set, times, times_in, unmarked, unsignaled_of, waiters_of, without_in}
+use Rattle.ns_queue.proofs.Prelude.{Anybody, ArrayVec, Bool, Cv, HaveSeats, IsOrderly, List, Lists, Seats, Waiter, [], ap, arith, cases_eq, cases_lt, cvs_without, drop, eqb, false, get_or, get_or-le-sum_by, get_or-map, inl, inr, is_in, length, length-map, lt-ltb, map, marked, nat_lt, ne_eqb, not}
+use Rattle.ns_queue.proofs.Prelude.{one_if, outside, refl, set, signal_marks, signaled_of, suc, sum_by, sum_by-append, sum_by-cons, sum_by-take-drop, sym, take, taken_set, times, times_in, true, unmarked, unsignaled_of, waiters_of, without_in, zero, ℕ, ◌++◌, ◌+◌, ◌<◌, ◌∙◌, ◌∷◌, ◌≡◌, ◌≤◌}
 use Rattle.ns_queue.proofs.Inside.{shape, times_in-filter}
 use Rattle.ns_queue.proofs.Marking.{drop_step}
 use Rattle.ns_queue.proofs.Meaning.{signal_leaves, signal_takes}

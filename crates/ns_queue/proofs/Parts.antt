@@ -1,12 +1,7 @@
 -- One of the five lists: read back, changed, and left by a seat.
-use Rattle.std.proofs.Common.{◌≡◌, ◌≢◌, ℕ, zero, suc, ◌+◌, ◌≤◌, ◌<◌, Bool, true, false, List, [], ◌∷◌, ◌++◌, length, get_or, set, map, eqb, ◌||◌, refl, ap, ◌∙◌, arith, add-one}
-use Rattle.std.specs.List.{sum_by}
-use Rattle.std.proofs.lemmas.List.{length-set, get_or-set_same, get_or-set_other}
-use Rattle.std.proofs.lemmas.List.Sums.{sum_by-cons, get_or-le-sum_by}
-use Rattle.ns_queue.specs.Prelude.{Cv, Cvs, HaveSeats, IsList, IsOrderly, Lists, Lock, Waiter, Which, beside, named_for, outside, times, times_in, waiters_of, with_each, with_waiters, without, without_in}
+use Rattle.ns_queue.proofs.Prelude.{Bool, Cv, Cvs, HaveSeats, IsList, IsOrderly, List, Lists, Lock, Seats, Waiter, Which, [], add-one, ap, arith, beside, eqb, false, get_or, get_or-le-sum_by, get_or-set_other, get_or-set_same, has_seat, length, length-set, map, named_for, outside, refl, set, suc}
+use Rattle.ns_queue.proofs.Prelude.{sum_by, sum_by-cons, times, times_in, true, waiters_of, with_each, with_waiters, without, without_in, zero, ℕ, ◌++◌, ◌+◌, ◌<◌, ◌||◌, ◌∙◌, ◌∷◌, ◌≡◌, ◌≢◌, ◌≤◌}
 use Rattle.ns_model.specs.Cvs.{is_in}
-use Rattle.ns_model.specs.Seats.{is_in as has_seat}
-use Rattle.ns_queue.specs.Names.{Seats}
 use Rattle.ns_queue.proofs.Seats.{none_without}
 use Rattle.ns_queue.proofs.Orders.{lock_times, cv_times}
 

@@ -1,8 +1,6 @@
 -- A place in a list: those in front of it, and those from it on.
-use Rattle.std.proofs.Common.{◌≡◌, ℕ, ◌+◌, ◌<◌, inl, inr, not, List, [], ◌∷◌, ◌++◌, None, Some, refl, ap, sym, ◌∙◌, length, subst, arith, append_assoc, length-append}
-use Rattle.std.proofs.lemmas.Bool.{ne_eqb, eq-eqb, cases_eq}
-use Rattle.std.proofs.lemmas.List.{append-nil}
-use Rattle.ns_queue.specs.Prelude.{IsRow, Waiter, ahead, behind, first_seat, from, is_of, one_if, seated, times_in, without_in}
+use Rattle.ns_queue.proofs.Prelude.{IsRow, List, None, Some, Waiter, [], ahead, ap, append-nil, append_assoc, arith, behind, cases_eq, eq-eqb, first_seat, from, inl, inr, is_of, length, length-append, ne_eqb, not, one_if, refl, seated, subst, sym, times_in, without_in, ℕ, ◌++◌, ◌+◌, ◌<◌, ◌∙◌, ◌∷◌}
+use Rattle.ns_queue.proofs.Prelude.{◌≡◌}
 use Rattle.ns_queue.proofs.Seats.{few, own_times, times_in-cons, times_in-append}
 use Rattle.ns_queue.proofs.Inside.{times_in-filter}
 use Rattle.ns_queue.proofs.Hops.{seated_rest, stands_not}

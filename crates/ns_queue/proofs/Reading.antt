@@ -1,10 +1,8 @@
 -- Whom a scan takes behind the first, and what it tests for that.
-use Rattle.std.proofs.Common.{◌≡◌, ℕ, zero, suc, ◌+◌, ◌≤◌, ◌<◌, inl, inr, Bool, true, false, cond, not, ◌&&◌, ◌||◌, List, [], ◌∷◌, ◌++◌, length, filter, get_or, drop, take, Option, None, Some, is_some, refl, ap, sym, ◌∙◌, arith, append_assoc, Fits, w32}
-use Rattle.std.specs.Prelude.{unwrap_or}
-use Rattle.std.proofs.lemmas.Bool.{cases_Bool}
-use Rattle.std.proofs.lemmas.List.{append-nil, length-append, length-drop, take-append-drop}
-use Rattle.ns_queue.specs.Prelude.{IsRow, Reader, Sought, Waiter, Writer, asked_for, asking, begins_with_reader, behind, first_seat, foremost_of, from, in_front, is_alike, is_eligible, left_by_writer, left_of, needs, reads, seated, seats_of, sought_of, sought_seat, stage_next, tests_from}
-use Rattle.ns_queue.specs.Prelude.{tests_of, tests_seeking, without_all, without_in, woken_of, writes}
+use Rattle.ns_queue.proofs.Prelude.{Bool, Fits, IsRow, List, None, Option, Reader, Some, Sought, Waiter, Writer, [], ap, append-nil, append_assoc, arith, asked_for, asking, begins_with_reader, behind, cases_Bool, cond, drop, false, first_seat, foremost_of, from, get_or, in_front, inl, inr}
+use Rattle.ns_queue.proofs.Prelude.{is_alike, is_eligible, is_some, left_by_writer, left_of, length, length-append, length-drop, needs, not, reads, refl, seated, seats_of, sought_of, sought_seat, stage_next, suc, sym, take, take-append-drop, tests_from, tests_of, tests_seeking, true, unwrap_or}
+use Rattle.ns_queue.proofs.Prelude.{w32, without_all, without_in, woken_of, writes, zero, ℕ, ◌&&◌, ◌++◌, ◌+◌, ◌<◌, ◌||◌, ◌∙◌, ◌∷◌, ◌≡◌, ◌≤◌}
+use Rattle.std.proofs.Common.{filter}
 use Rattle.ns_queue.specs.declared.scan.Foremost.TheVariants.{Nobody}
 use Rattle.ns_queue.proofs.Asking.{Enters, Knows, asking_most, knows_asked, knows_entered, met_entered, taken_asked}
 use Rattle.ns_queue.proofs.RunCounts.{tests_is}

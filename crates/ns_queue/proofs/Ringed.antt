@@ -1,13 +1,7 @@
 -- What a waiter more or less makes of the entries, the links and the counts.
-use Rattle.std.proofs.Common.{◌≡◌, ℕ, zero, suc, ◌+◌, ◌*◌, ◌^◌, ◌≤◌, ◌<◌, inl, inr, Bool, true, false, cond, eqb, nat_lt, ◌||◌, List, [], ◌∷◌, ◌++◌, length, get_or, set, Option, None, Some, refl, ap, sym, ◌∙◌, subst, arith, length-set, length-append, Fits, w8, w64, IsTrue, ◌↔◌, is_some, replicate}
-use Rattle.std.proofs.Math.Nat.{mul-le-mul_right}
-use Rattle.std.specs.List.{count_by, list_any}
-use Rattle.std.specs.Option.{option_map}
-use Rattle.std.proofs.lemmas.Bool.{ne_eqb, eq-eqb, cases_eq, cases_lt}
-use Rattle.std.proofs.lemmas.List.{append-nil, get_or-set_same, get_or-set_other, get_or_default}
-use Rattle.std.proofs.lemmas.List.Sums.{count_by-le-length, sum_by-cons, sum_by-append}
-use Rattle.ns_queue.specs.Rings.{AreCounts}
-use Rattle.ns_queue.specs.Prelude.{Counts, DoCount, HaveSeats, Holds, Hops, IsRow, Waiter, ahead, behind, counts_less, counts_more, counts_of, first_seat, gather, has_condition, is_long, last_seat, one_if, seated, times_in, without_in, writes_plainly}
+use Rattle.ns_queue.proofs.Prelude.{AreCounts, Bool, Counts, DoCount, Fits, HaveSeats, Holds, Hops, IsRow, IsTrue, List, None, Option, Some, Waiter, [], ahead, ap, append-nil, arith, behind, cases_eq, cases_lt, cond, count_by, count_by-le-length, counts_less, counts_more, counts_of, eq-eqb, eqb}
+use Rattle.ns_queue.proofs.Prelude.{false, first_seat, gather, get_or, get_or-set_other, get_or-set_same, get_or_default, has_condition, inl, inr, is_long, is_some, last_seat, length, length-append, length-set, list_any, mul-le-mul_right, nat_lt, ne_eqb, one_if, option_map, refl, replicate, seated}
+use Rattle.ns_queue.proofs.Prelude.{set, subst, suc, sum_by-append, sum_by-cons, sym, times_in, true, w64, w8, without_in, writes_plainly, zero, ℕ, ◌*◌, ◌++◌, ◌+◌, ◌<◌, ◌^◌, ◌||◌, ◌↔◌, ◌∙◌, ◌∷◌, ◌≡◌, ◌≤◌}
 use Rattle.ns_queue.proofs.Seats.{none_without, room_for, some_more, times_in-cons, times_in-append}
 use Rattle.ns_queue.proofs.Hops.{Spread, stands_not, linked, joined, seated_none, seated_other, seated_here, gather_is, first_hop, last_hop, rest_hops, hop_back, Parted, part}
 

@@ -1,8 +1,6 @@
 -- A scan counts one test for each run in which some waiter's truth is asked for.
-use Rattle.std.proofs.Common.{◌≡◌, ℕ, ◌+◌, ◌≤◌, Bool, true, false, not, cond, ◌&&◌, ◌||◌, List, [], ◌∷◌, ◌++◌, length, map, Option, None, Some, is_some, refl, ap, sym, ◌∙◌, arith, length-append}
-use Rattle.std.specs.List.{count_by, list_any}
-use Rattle.std.proofs.lemmas.List.Sums.{sum_by-append, sum_by-cons, count_by-le-length}
-use Rattle.ns_queue.specs.Prelude.{Asked, Ended, Reading, Seeking, Stage, Waiter, asked_of, ended, goes_on, is_alike, is_eligible, needs, one_if, reads, runs_after, runs_of, stage_after, started, tests_from, tests_of, writes}
+use Rattle.ns_queue.proofs.Prelude.{Asked, Bool, Ended, List, None, Option, Reading, Seeking, Some, Stage, Waiter, [], ap, arith, asked_of, cond, count_by, count_by-le-length, ended, false, goes_on, is_alike, is_eligible, is_some, length, length-append, list_any, map, needs, not, one_if, reads}
+use Rattle.ns_queue.proofs.Prelude.{refl, runs_after, runs_of, stage_after, started, sum_by-append, sum_by-cons, sym, tests_from, tests_of, true, writes, ℕ, ◌&&◌, ◌++◌, ◌+◌, ◌||◌, ◌∙◌, ◌∷◌, ◌≡◌, ◌≤◌}
 
 module _ {C : Type 0} where
   abbrev asks : List (Asked C) → Bool

@@ -1,7 +1,6 @@
 -- From run to run where nobody is taken: one test a run, and the link from the run's last.
-use Rattle.std.proofs.Common.{◌≡◌, ℕ, ◌+◌, ◌≤◌, ◌<◌, inl, inr, Bool, true, false, cond, List, [], ◌∷◌, ◌++◌, length, ap, get_or, drop, Option, None, Some, is_some, refl, sym, ◌∙◌, subst, arith, append_assoc, Fits, w32}
-use Rattle.std.proofs.lemmas.Bool.{cases_Bool}
-use Rattle.ns_queue.specs.Prelude.{IsRow, RunsOn, Waiter, ahead, behind, first_seat, from, head_of, in_front, is_alike, is_eligible, is_satisfied, joins, one_if, place_of, seated, sought_of, sought_seat, tests_seeking, times_in}
+use Rattle.ns_queue.proofs.Prelude.{Bool, Fits, IsRow, List, None, Option, RunsOn, Some, Waiter, [], ahead, ap, append_assoc, arith, behind, cases_Bool, cond, drop, false, first_seat, from, get_or, head_of, in_front, inl, inr, is_alike, is_eligible, is_satisfied, is_some, joins, length, one_if}
+use Rattle.ns_queue.proofs.Prelude.{place_of, refl, seated, sought_of, sought_seat, subst, sym, tests_seeking, times_in, true, w32, ℕ, ◌++◌, ◌+◌, ◌<◌, ◌∙◌, ◌∷◌, ◌≡◌, ◌≤◌}
 use Rattle.ns_queue.proofs.Seats.{few, own_times, times_in-append}
 use Rattle.ns_queue.proofs.Seeking.{Unmet, alike_unmet, at_most_one, front_no, front_yes, seeking_alike, seeking_found, seeking_other, unmet_of}
 use Rattle.ns_queue.proofs.Hops.{stands_not}

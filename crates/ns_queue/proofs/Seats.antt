@@ -1,10 +1,6 @@
 -- How often a seat stands in lists, and how many waiters a list can have.
-use Rattle.std.proofs.Common.{◌≡◌, ◌≢◌, ◌↔◌, ℕ, zero, suc, ◌+◌, ◌≤◌, ◌<◌, inl, inr, Bool, true, false, ◌||◌, IsTrue, eqb, ltb, nat_lt, List, [], ◌∷◌, ◌++◌, length, get_or, take, refl, ap, sym, ◌∙◌, subst, arith}
-use Rattle.std.specs.List.{count_by}
-use Rattle.std.proofs.lemmas.List.{take_all}
-use Rattle.std.proofs.lemmas.List.Sums.{sum_by-cons, sum_by-append, sum_by_more_le, count_by_more_no}
-use Rattle.std.proofs.lemmas.Bool.{ne_eqb, eq-eqb, cases_eq, cases_lt, lt-ltb, le-ltb}
-use Rattle.ns_queue.specs.Prelude.{Waiter, is_of, one_if, times_in, without_in}
+use Rattle.ns_queue.proofs.Prelude.{Bool, IsTrue, List, Waiter, [], ap, arith, cases_eq, cases_lt, count_by, count_by_more_no, eq-eqb, eqb, false, get_or, inl, inr, is_of, le-ltb, length, lt-ltb, ltb, nat_lt, ne_eqb, one_if, refl, subst, suc, sum_by-append, sum_by-cons, sum_by_more_le, sym, take}
+use Rattle.ns_queue.proofs.Prelude.{take_all, times_in, true, without_in, zero, ℕ, ◌++◌, ◌+◌, ◌<◌, ◌||◌, ◌↔◌, ◌∙◌, ◌∷◌, ◌≡◌, ◌≢◌, ◌≤◌}
 
 low_none_at : (s : ℕ) → one_if (ltb s 0) ≡ 0
 low_none_at s = rw (le-ltb s 0 (omega arith)) refl

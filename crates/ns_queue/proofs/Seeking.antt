@@ -1,7 +1,6 @@
 -- Whom a scan takes first, and how many conditions it tests to find that one, or nobody.
-use Rattle.std.proofs.Common.{◌≡◌, ℕ, zero, suc, ◌+◌, ◌≤◌, ◌<◌, inl, inr, Bool, true, false, cond, List, [], ◌∷◌, length, get_or, take, drop, Option, None, Some, is_some, IfSome, refl, ap, sym, ◌∙◌, arith, not, ◌&&◌, ◌||◌}
-use Rattle.std.proofs.lemmas.Bool.{cases_Bool}
-use Rattle.ns_queue.specs.Prelude.{Seeking, Stage, Waiter, in_front, is_alike, is_eligible, is_satisfied, needs, one_if, reads, stage_after, stage_next, tests_from, tests_seeking, woken_of}
+use Rattle.ns_queue.proofs.Prelude.{Bool, IfSome, List, None, Option, Seeking, Some, Stage, Waiter, [], ap, arith, cases_Bool, cond, drop, false, get_or, in_front, inl, inr, is_alike, is_eligible, is_satisfied, is_some, length, needs, not, one_if, reads, refl, stage_after, stage_next, suc, sym}
+use Rattle.ns_queue.proofs.Prelude.{take, tests_from, tests_seeking, true, woken_of, zero, ℕ, ◌&&◌, ◌+◌, ◌<◌, ◌||◌, ◌∙◌, ◌∷◌, ◌≡◌, ◌≤◌}
 
 pub at_most_one : (b : Bool) → cond b 1 0 ≤ 1
 at_most_one true = omega arith

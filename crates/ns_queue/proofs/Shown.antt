@@ -1,7 +1,5 @@
 -- The lists of the four variables, as they are shown.
-use Rattle.std.proofs.Common.{◌≡◌, List, [], ◌∷◌, length, map, refl, arith}
-use Rattle.std.specs.Prelude.{slice_index_or}
-use Rattle.ns_queue.specs.Prelude.{Shown, Waiter, shown_of}
+use Rattle.ns_queue.proofs.Prelude.{List, Shown, Waiter, [], arith, length, map, refl, shown_of, slice_index_or, ◌∷◌, ◌≡◌}
 
 -- each of four
 pub each_shown : {C : Type 0} (cvs : List (List (Waiter C))) (a b c d : List Shown) → length cvs ≡ 4 →

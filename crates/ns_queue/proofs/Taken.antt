@@ -1,10 +1,6 @@
 -- What a wake takes of a list, and what it leaves there.
-use Rattle.std.proofs.Common.{◌≡◌, ℕ, zero, suc, ◌+◌, ◌<◌, Bool, true, false, ◌||◌, inl, inr, eqb, nat_lt, List, [], ◌∷◌, length, get_or, take, Some, refl, ap, sym, ◌∙◌, subst, arith, ◌≤◌}
-use Rattle.std.proofs.Math.Bool.{or_comm}
-use Rattle.std.proofs.lemmas.Bool.{ltb-true, lt-ltb, ne_eqb, eq-eqb, cases_eq, cases_lt, le-ltb}
-use Rattle.std.proofs.lemmas.List.{take_more}
-use Rattle.ns_queue.specs.Prelude.{Anybody, Every, HaveSeats, Seats, Waiter, is_in, marked, one_if, seats_of, signal_marks, signaled_of, sole_of, taken_set, times_in, unmarked, unsignaled_of}
-use Rattle.ns_model.proofs.Sets.{same_seats, none_in, in_more}
+use Rattle.ns_queue.proofs.Prelude.{Anybody, Bool, Every, HaveSeats, List, Seats, Some, Waiter, [], ap, arith, cases_eq, cases_lt, eq-eqb, eqb, false, get_or, in_more, inl, inr, is_in, le-ltb, length, lt-ltb, ltb-true, marked, nat_lt, ne_eqb, none_in, one_if, or_comm, refl, same_seats, seats_of}
+use Rattle.ns_queue.proofs.Prelude.{signal_marks, signaled_of, sole_of, subst, suc, sym, take, take_more, taken_set, times_in, true, unmarked, unsignaled_of, zero, ℕ, ◌+◌, ◌<◌, ◌||◌, ◌∙◌, ◌∷◌, ◌≡◌, ◌≤◌}
 use Rattle.ns_queue.proofs.Seats.{some_more, times_in-cons, times_in_push}
 use Rattle.ns_queue.proofs.Meaning.{signal_takes, signal_leaves}
 

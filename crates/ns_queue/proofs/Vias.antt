@@ -1,8 +1,7 @@
 -- Which variables those name whom a scan takes.
-use Rattle.std.proofs.Common.{ℕ, ◌+◌, ◌<◌, ◌++◌, Option, length, length-take, get_or, take, ap, sym, arith, ◌≡◌, inl, inr, Bool, List, [], ◌∷◌, map, Some, filter, refl, ◌∙◌}
-use Rattle.std.proofs.lemmas.Bool.{cases_Bool}
-use Rattle.std.proofs.lemmas.List.{length-map, map-append, take_more}
-use Rattle.ns_queue.specs.Prelude.{Every, IsRow, Waiter, is_eligible, seated, seats_of, times_in, via_in, woken_of, writes}
+use Rattle.ns_queue.proofs.Prelude.{Bool, Every, IsRow, List, Option, Some, Waiter, [], ap, arith, cases_Bool, get_or, inl, inr, is_eligible, length, length-map, length-take, map, map-append, refl, seated, seats_of, sym, take, take_more, times_in, via_in, woken_of, writes, ℕ, ◌++◌, ◌+◌, ◌<◌, ◌∙◌}
+use Rattle.ns_queue.proofs.Prelude.{◌∷◌, ◌≡◌}
+use Rattle.std.proofs.Common.{filter}
 use Rattle.ns_queue.proofs.Hops.{seated_first, seated_rest, stands_not}
 use Rattle.ns_queue.proofs.Places.{row_own, row_rest}
 use Rattle.ns_queue.proofs.Seeking.{goes_along}

@@ -1,12 +1,7 @@
 -- Which wakes the list of a variable allows.
-use Rattle.std.proofs.Common.{◌≡◌, ℕ, ◌+◌, ◌≤◌, ◌<◌, min, Bool, true, false, not, ◌&&◌, ◌||◌, ◌⊎◌, inl, inr, eqb, List, [], ◌∷◌, refl, ap, ◌∙◌, subst, arith}
-use Rattle.std.specs.Bool.{beq}
-use Rattle.std.specs.List.{filter}
-use Rattle.std.proofs.lemmas.Bool.{cases_eq, cases_lt, eqb-true, ne_eqb}
-use Rattle.ns_queue.specs.Prelude.{AreWaiting, Cond, HaveSeats, Idle, IsLegalBroadcast, IsLegalSignal, Left, Mode, Phase, WaitFor, Waiter, Waiting, WaitsAmong, Woken, has, is_in, is_waiting, is_waiting_as, one_if, readers_and_a_writer, reads, seats_of, signaled_of, taken_set, times_in, total}
-use Rattle.ns_queue.specs.Prelude.{waiting_as, woken_as, woken_strangers, writes}
-use Rattle.ns_model.proofs.Counts.{count_same, count_never, count_split, count_only}
-use Rattle.ns_model.proofs.Sets.{none_in, in_more}
+use Rattle.ns_queue.proofs.Prelude.{AreWaiting, Bool, Cond, HaveSeats, Idle, IsLegalBroadcast, IsLegalSignal, Left, List, Mode, Phase, WaitFor, Waiter, Waiting, WaitsAmong, Woken, [], ap, arith, beq, cases_eq, cases_lt, count_never, count_only, count_same, count_split, eqb, eqb-true, false, filter}
+use Rattle.ns_queue.proofs.Prelude.{has, in_more, inl, inr, is_in, is_waiting, is_waiting_as, min, ne_eqb, none_in, not, one_if, readers_and_a_writer, reads, refl, seats_of, signaled_of, subst, taken_set, times_in, total, true, waiting_as, woken_as, woken_strangers, writes, ℕ, ◌&&◌, ◌+◌, ◌<◌, ◌||◌}
+use Rattle.ns_queue.proofs.Prelude.{◌∙◌, ◌∷◌, ◌≡◌, ◌≤◌, ◌⊎◌}
 use Rattle.ns_queue.proofs.Seats.{own_times, times_in-cons}
 use Rattle.ns_queue.proofs.Taken.{in_list, not_in_list, in_stands, once_signaled, below_signaled, every_signaled}
 

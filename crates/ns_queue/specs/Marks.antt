@@ -1,6 +1,5 @@
 -- Lists that are taken apart by marks, one for each waiter, as a signal does.
-use Rattle.std.specs.Prelude.{Bool, true, false, List, [], ◌∷◌, if◌then◌else◌}
-use Rattle.ns_queue.specs.Names.{Anybody, Nobody, Readers, ReadersAndWriter, Waiter, Wanted}
+use Rattle.ns_queue.specs.Names.{Anybody, Bool, List, Nobody, Readers, ReadersAndWriter, Waiter, Wanted, [], false, if◌then◌else◌, true, ◌∷◌}
 use Rattle.ns_queue.specs.Waiters.{reads, writes}
 
 -- those with a mark, and those without

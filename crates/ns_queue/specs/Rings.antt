@@ -1,6 +1,5 @@
 -- A list of waiters by links: each waiter lies in the entry of its seat, and links go from place to place and back.
-use Rattle.std.specs.Prelude.{◌≡◌, ℕ, zero, suc, ◌+◌, ◌-◌, ◌≤◌, ◌==◌, ◌&&◌, not, Bool, List, [], ◌∷◌, Option, None, Some, if◌then◌else◌, length, count_by, slice_index, slice_index_or}
-use Rattle.ns_queue.specs.Names.{Counts, Waiter, one_if}
+use Rattle.ns_queue.specs.Names.{Bool, Counts, List, None, Option, Some, Waiter, [], count_by, if◌then◌else◌, length, not, one_if, slice_index, slice_index_or, suc, zero, ℕ, ◌&&◌, ◌+◌, ◌-◌, ◌==◌, ◌∷◌, ◌≡◌, ◌≤◌}
 use Rattle.ns_queue.specs.Waiters.{times_in, without_in, HaveSeats, has_condition, writes, is_long}
 
 -- the waiter of a seat, if it stands in the list

@@ -1,14 +1,5 @@
 -- A waiter and the lists fit in memory, over any condition.
-use Rattle.std.specs.Prelude.{◌<◌, ◌^◌}
-use Rattle.std.proofs.Common.{arith}
-use Rattle.std.specs.Mem.{FitsInMemory}
-use Rattle.std.specs.contracts.option.Option.{the_row as option_row}
-use Rattle.ns_queue.specs.Names.{HasRoom, room_enough}
-use denote.RattleType.{RattleType}
-use prog.Memory.{size}
-use denote.Param.{layout, copied, param, number}
-use denote.Builtin.{unit}
-use Rattle.arrayvec.specs.contracts.array_vec.ArrayVec.{the_row as array_vec_row}
+use Rattle.ns_queue.specs.Names.{FitsInMemory, HasRoom, RattleType, arith, array_vec_row, copied, layout, number, option_row, param, room_enough, size, unit, ◌<◌, ◌^◌}
 use Rattle.ns_queue.specs.contracts.waiter.Waiter.{the_row as waiter_row}
 
 -- a waiter with such a condition fits in memory

@@ -1,6 +1,5 @@
 -- Whom a signal takes from the list of a condition variable, and who stays.
-use Rattle.std.specs.Prelude.{List, [], ◌∷◌, filter, drop, if◌then◌else◌, Option, None, Some}
-use Rattle.ns_queue.specs.Names.{Seats, Waiter, seats_in}
+use Rattle.ns_queue.specs.Names.{List, None, Option, Seats, Some, Waiter, [], drop, filter, if◌then◌else◌, seats_in, ◌∷◌}
 use Rattle.ns_queue.specs.Waiters.{reads, writes, seats_of}
 
 -- every reader, and the first writer

@@ -1,16 +1,5 @@
 -- The five lists and their parts fit in memory, over any condition.
-use Rattle.std.specs.Prelude.{ℕ, ◌+◌, ◌*◌, ◌<◌, ◌^◌}
-use Rattle.std.proofs.Common.{arith}
-use Rattle.std.specs.Mem.{FitsInMemory}
-use Rattle.std.specs.contracts.option.Option.{the_row as option_row}
-use Rattle.ns_queue.specs.Names.{Ghosts, HasRoom, room, room_enough, small_by}
-use prog.Memory.{size}
-use mir.Syntax.{Ty, ty_array}
-use denote.RattleType.{RattleType}
-use denote.Param.{layout, copied, param, number, value_of}
-use denote.Builtin.{u64, unit}
-use mir.Table.{array_at}
-use Rattle.arrayvec.specs.contracts.array_vec.ArrayVec.{the_row as list_row}
+use Rattle.ns_queue.specs.Names.{FitsInMemory, Ghosts, HasRoom, RattleType, Ty, arith, array_at, copied, layout, list_row, number, option_row, param, room, room_enough, size, small_by, ty_array, u64, unit, value_of, ℕ, ◌*◌, ◌+◌, ◌<◌, ◌^◌}
 use Rattle.ns_queue.specs.contracts.waiter.Waiter.{the_row as waiter_row}
 use Rattle.ns_queue.specs.contracts.lock_list.LockList.{the_row as lock_row}
 use Rattle.ns_queue.specs.contracts.ring.Ring.{the_row as ring_row}

@@ -1,6 +1,5 @@
 -- Waiters, one by one and in a list.
-use Rattle.std.specs.Prelude.{◌≡◌, ◌≤◌, ℕ, ◌==◌, Bool, not, List, map, count_by, filter, is_some}
-use Rattle.ns_queue.specs.Names.{Seats, Shown, Waiter, is_in, is_write}
+use Rattle.ns_queue.specs.Names.{Bool, List, Seats, Shown, Waiter, count_by, filter, is_in, is_some, is_write, map, not, ℕ, ◌==◌, ◌≡◌, ◌≤◌}
 
 -- the form in which a waiter is shown
 abbrev pub shown_of : {C : Type 0} → Waiter C → Shown

@@ -1,13 +1,6 @@
 -- What serde_json reads, as the definitions of a script see it.
-use Rattle.std.proofs.Common.{◌≡◌, ℕ, ◌<◌, ◌≤◌, Bool, true, false, cond, ◌&&◌, List, [], ◌∷◌, length, map, Option, Some, None, Ok, Err, refl, ap, arith}
-use Rattle.std.specs.Prelude.{IsUtf8, string_bytes, String, nat_le}
-use Rattle.std.specs.declared.alloc.Global.{Global}
-use Rattle.std.specs.List.{list_all}
-use Rattle.std.specs.Str.{is_utf8}
-use Rattle.std.proofs.lemmas.Str.{is_utf8-from_IsUtf8, IsUtf8-from_is_utf8}
-use Rattle.std.proofs.lemmas.Bool.Decides.{nat_tests}
-use Rattle.ns_replay.specs.Prelude.{Data, NotJson, ScriptPath, TooMany, are_known, as_array, is_known, items_of, json_of, json_read, list_in, list_of, members_view, read}
-use Rattle.serde_json.specs.declared.value.Value.{Value}
+use Rattle.ns_replay.proofs.Prelude.{Bool, Data, Err, Global, IsUtf8, IsUtf8-from_is_utf8, List, None, NotJson, Ok, Option, ScriptPath, Some, String, TooMany, Value, [], ap, are_known, arith, as_array, cond, false, is_known, is_utf8, is_utf8-from_IsUtf8, items_of, json_of, json_read, length}
+use Rattle.ns_replay.proofs.Prelude.{list_all, list_in, list_of, map, members_view, nat_le, nat_tests, read, refl, string_bytes, true, ℕ, ◌&&◌, ◌<◌, ◌∷◌, ◌≡◌, ◌≤◌}
 
 pub json_ok : (bytes : List ℕ) (d : Data) → IsUtf8 bytes → read bytes ≡ Some d → json_of bytes ≡ Ok d
 unfolding json_of

@@ -3,5 +3,6 @@ pub mod Loop
 pub mod Numbers
 pub mod Outcomes
 pub mod Plans
+pub mod Prelude
 pub mod Runs
 pub mod Texts

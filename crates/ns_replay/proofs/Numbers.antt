@@ -1,12 +1,6 @@
 -- What `parse` gives is the number that a word writes.
-use Rattle.std.proofs.Common.{◌≡◌, ◌≢◌, ℕ, ◌<◌, ◌^◌, ◌⊎◌, Bool, true, false, cond, not, ◌&&◌, ◌||◌, List, length, get_or, Some, None, Result, Ok, Err, refl, ap, arith}
-use Rattle.std.specs.Prelude.{◌==◌, nat_lt}
-use Rattle.std.specs.Result.{OkIff, result_ok}
-use Rattle.std.specs.Str.{all_ascii_digits}
-use Rattle.std.specs.Str.Parse.{digits_value, ParsesUnsigned}
-use Rattle.std.proofs.lemmas.Bool.Decides.{nat_tests}
-use Rattle.std.proofs.lemmas.Str.Parse.{IsNumeralModel, numerals_by_value, tells_all_ascii_digits, parse_plain}
-use Rattle.ns_replay.specs.Prelude.{number_of}
+use Rattle.ns_replay.proofs.Prelude.{Bool, Err, IsNumeralModel, List, None, Ok, OkIff, ParsesUnsigned, Result, Some, all_ascii_digits, ap, arith, cond, digits_value, false, get_or, length, nat_lt, nat_tests, not, number_of, numerals_by_value, parse_plain, refl, result_ok, tells_all_ascii_digits}
+use Rattle.ns_replay.proofs.Prelude.{true, ℕ, ◌&&◌, ◌<◌, ◌==◌, ◌^◌, ◌||◌, ◌≡◌, ◌≢◌, ◌⊎◌}
 
 own : IsNumeralModel (λ ds. all_ascii_digits ds ≡ true) (digits_value 10)
 own = numerals_by_value _ tells_all_ascii_digits

@@ -1,17 +1,9 @@
 -- Runs of scripts that were read: what they need, and why they fail.
-use Rattle.std.proofs.Common.{◌≡◌, ℕ, zero, suc, ◌+◌, ◌<◌, ◌≤◌, ◌⊎◌, inl, inr, Bool, true, false, cond, List, [], ◌∷◌, length, replicate, map, Option, Some, None, is_some, ◌||◌, refl, sym, ap, ◌∙◌, subst, arith}
-use Rattle.std.specs.Prelude.{◌==◌, All}
-use Rattle.std.specs.List.{AllByRecursion}
-use Rattle.std.specs.Global.{Vec}
-use Rattle.std.proofs.lemmas.List.{length-set, length-map}
-use Rattle.std.proofs.lemmas.List.Elements.{All-nil, All-append, All-replicate, All-from_recursion, recursion_from_All}
-use Rattle.ns_replay.specs.Prelude.{Ask, Call, GoesOnOrBegins, IsRunFault, IsRunnable, IsShort, Line, ListFits, Now, OnLock, OnObjects, Plan, Progress, RunFault, Runs, RunsTo, Script, ScriptCondition, SeatView, Start, Step, StopsFor, Turn, TurnOf, Turned, TurnsOf, Went, Whole, WorldFault}
-use Rattle.ns_replay.specs.Prelude.{begun_at, fault_of_world, fresh_views, fresh_whole, is_asking, is_busy, is_end, is_walking, mode_of, plan_of, progressed, rest_of, script_truths, start, start_of, whole_busy, world_for}
-use Rattle.ns_world.proofs.Turns.{whole_stays}
-use Rattle.ns_world.proofs.Walks.{none_stand}
-use Rattle.ns_world.specs.Prelude.{ObjectWalk}
+use Rattle.ns_replay.proofs.Prelude.{All, All-append, All-from_recursion, All-nil, All-replicate, AllByRecursion, Ask, Bool, Call, GoesOnOrBegins, IsRunFault, IsRunnable, IsShort, Line, List, ListFits, None, Now, ObjectWalk, OnLock, OnObjects, Option, Plan, Progress, RunFault, Runs, RunsTo, Script}
+use Rattle.ns_replay.proofs.Prelude.{ScriptCondition, SeatView, Some, Start, Step, StopsFor, Turn, TurnOf, Turned, TurnsOf, Vec, Went, Whole, WorldFault, [], ap, arith, begun_at, cond, false, fault_of_world, fresh_views, fresh_whole, inl, inr, is_asking, is_busy, is_end, is_some, is_walking}
+use Rattle.ns_replay.proofs.Prelude.{length, length-map, length-set, length_views, map, mode_of, none_stand, plan_of, progressed, recursion_from_All, refl, replicate, rest_of, script_truths, start, start_of, subst, suc, sym, true, whole_busy, whole_stays, world_for, zero, ℕ, ◌+◌, ◌<◌, ◌==◌, ◌||◌}
+use Rattle.ns_replay.proofs.Prelude.{◌∙◌, ◌∷◌, ◌≡◌, ◌≤◌, ◌⊎◌}
 use Rattle.ns_world.specs.Runs.{Item, items_of}
-use Rattle.ns_world.proofs.Fresh.{length_views}
 use Rattle.ns_world.specs.declared.fault.Fault.TheVariants as world
 
 -- ---- a run keeps the number of seats

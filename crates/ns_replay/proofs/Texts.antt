@@ -1,11 +1,6 @@
 -- Texts that grow, and the texts of numbers one after another.
-use Rattle.std.proofs.Common.{◌≡◌, ℕ, zero, suc, ◌+◌, Bool, true, false, ◌||◌, List, [], ◌∷◌, ◌++◌, refl, sym, ap, ◌∙◌, append_assoc, arith}
-use Rattle.std.specs.Prelude.{decimal, flat_map, filter}
-use Rattle.std.specs.List.{range_with_len}
-use Rattle.std.proofs.lemmas.Grind.{flat_map-append}
-use Rattle.std.proofs.lemmas.List.Elements.{filter-append}
-use Rattle.std.proofs.lemmas.List.{append-nil}
-use Rattle.ns_replay.specs.Prelude.{Line, Seats, after_comma, is_in, left_text, lefts_text, numbers_text, seat_text, seats_below}
+use Rattle.ns_replay.proofs.Prelude.{Bool, Line, List, Seats, [], after_comma, ap, append-nil, append_assoc, arith, decimal, false, filter, filter-append, flat_map, flat_map-append, is_in, left_text, lefts_text, numbers_text, range_with_len, refl, seat_text, seats_below, suc, sym, true, zero, ℕ}
+use Rattle.ns_replay.proofs.Prelude.{◌++◌, ◌+◌, ◌||◌, ◌∙◌, ◌∷◌, ◌≡◌}
 
 -- what grew twice grew by both
 pub grows : (old mid new xs ys : List ℕ) → mid ≡ old ++ xs → new ≡ mid ++ ys → new ≡ old ++ (xs ++ ys)

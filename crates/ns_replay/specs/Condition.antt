@@ -1,7 +1,5 @@
 -- The conditions of scripts.
-use Rattle.std.specs.Prelude.{ℕ, List, [], ◌++◌, length, zip, slice_index, Bool, true, false, ◌&&◌, ◌==◌, nat_le, nat_lt, Option, Some, None, codes, decimal}
-use Rattle.std.specs.List.{list_all}
-use Rattle.ns_replay.specs.Names.{AtLeast, ScriptCondition, Truths, truths}
+use Rattle.ns_replay.specs.Names.{AtLeast, Bool, List, None, Option, ScriptCondition, Some, Truths, [], codes, decimal, false, length, list_all, nat_le, nat_lt, slice_index, true, truths, zip, ℕ, ◌&&◌, ◌++◌, ◌==◌}
 
 -- `I>=V`
 abbrev pub at_least_text : AtLeast → List ℕ

@@ -1,8 +1,5 @@
 -- The laws of the conditions of scripts.
-use Rattle.std.proofs.Common.{◌≡◌, ℕ, zero, suc, ◌<◌, ◌≤◌, Bool, true, false, ◌&&◌, List, [], ◌∷◌, length, get_or, Option, Some, None, refl, arith}
-use Rattle.std.specs.Prelude.{◌==◌, nat_le, nat_lt, slice_index}
-use Rattle.std.proofs.lemmas.Bool.Decides.{nat_tests}
-use Rattle.ns_replay.specs.Names.{AtLeast, ScriptCondition}
+use Rattle.ns_replay.specs.Names.{AtLeast, Bool, List, None, Option, ScriptCondition, Some, [], arith, false, get_or, length, nat_le, nat_lt, nat_tests, refl, slice_index, suc, true, zero, ℕ, ◌&&◌, ◌<◌, ◌==◌, ◌∷◌, ◌≡◌, ◌≤◌}
 use Rattle.ns_replay.specs.Condition.{is_at_least, are_at_least, is_true_of, has_same_fields, have_same_fields, is_same_condition, none_rose}
 
 both : (a b : Bool) → (a && b) ≡ true → (a ≡ true) × (b ≡ true)

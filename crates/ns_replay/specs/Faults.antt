@@ -1,6 +1,5 @@
 -- Faults, their texts, and readings that may fail.
-use Rattle.std.specs.Prelude.{◌≡◌, ℕ, ◌+◌, List, [], ◌∷◌, ◌++◌, codes, decimal, Option, Some, None, Result, Ok, Err}
-use Rattle.ns_replay.specs.Names.{BadScript, Fault, NotJson, OutOfMemory, Read, ScriptPath, StepLimit, TooMany, WorldFault, Write}
+use Rattle.ns_replay.specs.Names.{BadScript, Err, Fault, List, None, NotJson, Ok, Option, OutOfMemory, Read, Result, ScriptPath, Some, StepLimit, TooMany, WorldFault, Write, [], codes, decimal, ℕ, ◌++◌, ◌+◌, ◌∷◌, ◌≡◌}
 use Rattle.ns_world.specs.declared.fault.Fault.TheVariants as world
 use Rattle.ns_replay.specs.declared.path.ScriptPath.TheVariants as at
 

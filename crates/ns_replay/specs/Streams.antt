@@ -1,7 +1,5 @@
 -- What a read and a write do to the bytes, and what is counted of them.
-use Rattle.std.specs.Prelude.{◌≡◌, ℕ, zero, suc, ◌+◌, ◌%◌, ◌^◌, ◌≤◌, List, length, take, Bool, true, false, Option, Some, None}
-use Rattle.std.specs.Io.KnownBytes.{Consumes, Appends, Keeps, IsAtEnd}
-use Rattle.ns_replay.specs.Names.{Bytes, Failed, Got, Interrupted}
+use Rattle.ns_replay.specs.Names.{Appends, Bool, Bytes, Consumes, Failed, Got, Interrupted, IsAtEnd, Keeps, List, None, Option, Some, false, length, suc, take, true, zero, ℕ, ◌%◌, ◌+◌, ◌^◌, ◌≡◌, ◌≤◌}
 
 -- a count went up so many times, modulo 2^64
 abbrev pub Counts : ℕ → ℕ → ℕ → Type 0

@@ -1,8 +1,5 @@
 -- All the bytes of a source, and all the bytes to a sink.
-use Rattle.std.specs.Prelude.{◌≡◌, ℕ, ◌+◌, ◌<◌, ◌≤◌, ◌⊎◌, List, ◌++◌, length, Bool, true, false, Option, Result, Ok, Err}
-use Rattle.std.specs.Global.{Vec}
-use Rattle.std.specs.Io.KnownBytes.{Consumes, Appends, IsAtEnd}
-use Rattle.ns_replay.specs.Names.{Fault, OutOfMemory, Read, TooMany}
+use Rattle.ns_replay.specs.Names.{Appends, Bool, Consumes, Err, Fault, IsAtEnd, List, Ok, Option, OutOfMemory, Read, Result, TooMany, Vec, false, length, true, ℕ, ◌++◌, ◌+◌, ◌<◌, ◌≡◌, ◌≤◌, ◌⊎◌}
 use Rattle.ns_replay.specs.Streams.{Counts}
 use Rattle.ns_replay.specs.declared.path.ScriptPath.TheVariants as at
 

@@ -1,8 +1,5 @@
 -- The words of a text, and the numbers that they write.
-use Rattle.std.specs.Prelude.{ℕ, ℤ, pos, neg_ℤ, ◌+◌, ◌^◌, ◌==◌, ◌&&◌, ◌||◌, not, List, [], ◌∷◌, length, slice_index, Bool, codes, bytes_eq, nat_lt, if◌then◌else◌, Option, Some, None, option_map, option_and_then}
-use Rattle.std.specs.List.{slice_split}
-use Rattle.std.specs.Str.{all_ascii_digits}
-use Rattle.std.specs.Str.Parse.{digits_value}
+use Rattle.ns_replay.specs.Names.{Bool, List, None, Option, Some, [], all_ascii_digits, bytes_eq, codes, digits_value, if◌then◌else◌, length, nat_lt, neg_ℤ, not, option_and_then, option_map, pos, slice_index, slice_split, ℕ, ℤ, ◌&&◌, ◌+◌, ◌==◌, ◌^◌, ◌||◌, ◌∷◌}
 
 -- the parts of a text between the bytes c
 abbrev pub parts : ℕ → List ℕ → List (List ℕ)

@@ -1,9 +1,8 @@
 -- The act that a lawful place wants may be made.
-use Rattle.std.proofs.Common.{◌≡◌, ℕ, ◌+◌, ◌<◌, ◌≤◌, Bool, true, false, List, [], ◌∷◌, ◌++◌, Option, None, Some, IsSome, refl, ap, ◌∙◌, subst, arith, eq-eqb}
-use Rattle.ns_word.specs.Prelude.{AcquireExchange, AcquireLoad, ActFits, AreApart, Arm, ArmToWait, AwaitWake, AwaitWakeInWait, AwaitWakeToLeave, CanWait, EachFits, Event, GetLoad, HasList, Held, InAcquire, InCells, InLeaving, InQueuing, InRelease, InShow, InSignal, InTry, InWait, IsForCondition}
-use Rattle.ns_word.specs.Prelude.{IsInRange, IsLawful, IsUnmet, Leave, LeaveLoad, Load, LoadToScan, LockState, LookIn, LookOut, OnCondition, OnVariables, Owed, OwesOne, Pay, PayInWait, PayTheWoken, PlaceFits, Queue, QueueToWait, QuietCells, QuietLast, ReleaseExchange, ReleaseLoad, ReturnShown}
-use Rattle.ns_word.specs.Prelude.{ScanAndRelease, ScanCells, SeatView, SetLoad, SetStore, ShowLoad, SignalLoad, Subject, Take, TakeToLeave, TakeToQueue, TakeToScan, TakeToShow, TakeToWake, TestCells, TestLast, Truths, TryAcquire, TryLoad, ViewFits, Wait, WaitFits, WaitPlace, WakeAndReturn, Walk}
-use Rattle.ns_word.specs.Prelude.{awaits, has_some, judge_of, part_of, pays, standing_after, times, times_among, walk_at, want_of, want_waiting}
+use Rattle.ns_word.proofs.Prelude.{AcquireExchange, AcquireLoad, ActFits, AreApart, Arm, ArmToWait, AwaitWake, AwaitWakeInWait, AwaitWakeToLeave, Bool, CanWait, EachFits, Event, GetLoad, HasList, Held, InAcquire, InCells, InLeaving, InQueuing, InRelease, InShow, InSignal, InTry, InWait}
+use Rattle.ns_word.proofs.Prelude.{IsForCondition, IsInRange, IsLawful, IsSome, IsUnmet, Leave, LeaveLoad, List, Load, LoadToScan, LockState, LookIn, LookOut, None, OnCondition, OnVariables, Option, Owed, OwesOne, Pay, PayInWait, PayTheWoken, PlaceFits, Queue, QueueToWait, QuietCells, QuietLast}
+use Rattle.ns_word.proofs.Prelude.{ReleaseExchange, ReleaseLoad, ReturnShown, ScanAndRelease, ScanCells, SeatView, SetLoad, SetStore, ShowLoad, SignalLoad, Some, Subject, Take, TakeToLeave, TakeToQueue, TakeToScan, TakeToShow, TakeToWake, TestCells, TestLast, Truths, TryAcquire, TryLoad, ViewFits}
+use Rattle.ns_word.proofs.Prelude.{Wait, WaitFits, WaitPlace, WakeAndReturn, Walk, [], ap, arith, awaits, eq-eqb, false, has_some, judge_of, part_of, pays, refl, standing_after, subst, times, times_among, true, walk_at, want_of, want_waiting, ℕ, ◌++◌, ◌+◌, ◌<◌, ◌∙◌, ◌∷◌, ◌≡◌, ◌≤◌}
 use Rattle.ns_word.proofs.Views.{walk_here, apart_parts, each_parts}
 use Rattle.ns_word.proofs.Keeps.{none_of}
 use Rattle.ns_word.proofs.Leads.{tests_some}

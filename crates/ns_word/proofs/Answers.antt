@@ -1,12 +1,11 @@
 -- What a wait answers is what its section is committed with.
-use Rattle.std.proofs.Common.{◌≡◌, ◌≢◌, ℕ, Bool, true, false, cond, eqb, List, Option, None, Some, slice_set, refl, ap, sym, ◌∙◌, subst}
-use Rattle.ns_word.specs.Prelude.{Acquire, AcquireExchange, AcquireLoad, AcquirePlace, Act, Aim, Answer, Answered, Any, Arm, ArmFlag, ArmToWait, Arrival, AwaitWake, AwaitWakeInWait, AwaitWakeToLeave, CameBack, CanWait, Cause, Cell, CellPlace, ComesBack, Done, EachFits, Effect, Ended, Event}
-use Rattle.ns_word.specs.Prelude.{Expired, Flag, ForWait, Found, GetLoad, Held, InAcquire, InCells, InLeaving, InQueuing, InRelease, InShow, InSignal, InTry, InWait, IsForCondition, IsLawful, IsSaidBy, IsUnmet, JudgeMet, JudgeQuiet, Leave, LeaveLoad, LeavePlace, Left, Limits, Load, LoadCell}
-use Rattle.ns_word.specs.Prelude.{LoadFlag, LoadToScan, LoadWord, LockState, Look, LookIn, LookOut, Looked, Made, MayWait, Met, Mode, Next, Notified, On, OnCondition, OnEntry, OnReturn, OnVariables, Only, Outcome, Paid, Part, PayInWait, PayWake, PlaceFits, Queue, QueueToWait, Quiet, Release}
-use Rattle.ns_word.specs.Prelude.{ReleaseLoad, ReleasePlace, ReleaseReturning, Releasing, Reply, ReturnQueues, Saw, Scanned, SeatView, ShowLoad, ShowPlace, SignalLoad, SignalPlace, Step, StoreCell, Subject, Take, TakeQueues, TakeToLeave, TakeToQueue, TestCells, TestLast, Tested, Tests, Truths}
-use Rattle.ns_word.specs.Prelude.{TryAcquire, TryLoad, TryPlace, Variables, Visit, Wait, WaitFits, WaitPlace, WaitReturning, Waited, Waking, Walk, Woke, Woken, Word, acquire_by, answer_of, back_with, comes_back, entry_for, entry_of, got_acquiring, got_of, got_waiting, has_come_back, held_after}
-use Rattle.ns_word.specs.Prelude.{is_limited, is_met, judge_of, look_or_queue, may_acquire, mode_for, newly_held, opening_by, part_of, place_has_come_back, reply_for, reply_of, standing_after, unmet_by, want_acquiring, want_in_cells, want_leaving, want_of, want_releasing, want_showing}
-use Rattle.ns_word.specs.Prelude.{want_signaling, want_trying, want_waiting}
+use Rattle.ns_word.proofs.Prelude.{Acquire, AcquireExchange, AcquireLoad, AcquirePlace, Act, Aim, Answer, Answered, Any, Arm, ArmFlag, ArmToWait, Arrival, AwaitWake, AwaitWakeInWait, AwaitWakeToLeave, Bool, CameBack, CanWait, Cause, Cell, CellPlace, ComesBack, Done, EachFits, Effect, Ended, Event}
+use Rattle.ns_word.proofs.Prelude.{Expired, Flag, ForWait, Found, GetLoad, Held, InAcquire, InCells, InLeaving, InQueuing, InRelease, InShow, InSignal, InTry, InWait, IsForCondition, IsLawful, IsSaidBy, IsUnmet, JudgeMet, JudgeQuiet, Leave, LeaveLoad, LeavePlace, Left, Limits, List, Load, LoadCell}
+use Rattle.ns_word.proofs.Prelude.{LoadFlag, LoadToScan, LoadWord, LockState, Look, LookIn, LookOut, Looked, Made, MayWait, Met, Mode, Next, None, Notified, On, OnCondition, OnEntry, OnReturn, OnVariables, Only, Option, Outcome, Paid, Part, PayInWait, PayWake, PlaceFits, Queue, QueueToWait, Quiet}
+use Rattle.ns_word.proofs.Prelude.{Release, ReleaseLoad, ReleasePlace, ReleaseReturning, Releasing, Reply, ReturnQueues, Saw, Scanned, SeatView, ShowLoad, ShowPlace, SignalLoad, SignalPlace, Some, Step, StoreCell, Subject, Take, TakeQueues, TakeToLeave, TakeToQueue, TestCells, TestLast, Tested}
+use Rattle.ns_word.proofs.Prelude.{Tests, Truths, TryAcquire, TryLoad, TryPlace, Variables, Visit, Wait, WaitFits, WaitPlace, WaitReturning, Waited, Waking, Walk, Woke, Woken, Word, acquire_by, answer_of, ap, back_with, comes_back, cond, entry_for, entry_of, eqb, false, got_acquiring, got_of}
+use Rattle.ns_word.proofs.Prelude.{got_waiting, has_come_back, held_after, is_limited, is_met, judge_of, look_or_queue, may_acquire, mode_for, newly_held, opening_by, part_of, place_has_come_back, refl, reply_for, reply_of, slice_set, standing_after, subst, sym, true, unmet_by, want_acquiring}
+use Rattle.ns_word.proofs.Prelude.{want_in_cells, want_leaving, want_of, want_releasing, want_showing, want_signaling, want_trying, want_waiting, ℕ, ◌∙◌, ◌≡◌, ◌≢◌}
 use Rattle.ns_word.proofs.Views.{each_parts}
 
 -- ---- where a wait answers nothing

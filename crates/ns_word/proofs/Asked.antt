@@ -1,11 +1,10 @@
 -- No step of a call changes what it was asked to do.
-use Rattle.std.proofs.Common.{◌≡◌, ℕ, ◌+◌, ◌-◌, ◌==◌, Bool, true, false, not, cond, ltb, None, Some, refl, ap, sym, ◌∙◌}
-use Rattle.ns_word.specs.Prelude.{AcquireExchange, AcquireLoad, AcquirePlace, Aim, Answered, Arm, ArmToWait, Arrival, AsFresh, Await, AwaitWake, AwaitWakeInWait, AwaitWakeToLeave, Cause, Cell, CellPlace, Done, Ended, Flag, ForLock, ForWait, Found, GetLoad, Idle, InAcquire, InCells, InLeaving}
-use Rattle.ns_word.specs.Prelude.{InQueuing, InRelease, InShow, InSignal, InTry, InWait, Judging, Leave, LeaveLoad, LeavePlace, Left, Load, LoadToScan, LookIn, LookOut, Looked, Made, Met, Mode, Next, On, OnCondition, OnEntry, OnReturn, OnVariables, Outcome, Paid, Pay, PayInWait, PayTheWoken}
-use Rattle.ns_word.specs.Prelude.{Queue, QueuePlace, QueueToWait, Quiet, QuietCells, QuietLast, QuietWriter, Release, ReleaseExchange, ReleaseLoad, ReleasePlace, Releasing, Request, ReturnShown, Saw, ScanAndRelease, ScanCells, Scanned, SetLoad, SetStore, Show, ShowLoad, ShowPlace, SignalLoad}
-use Rattle.ns_word.specs.Prelude.{SignalPlace, Subject, Take, TakeToLeave, TakeToQueue, TakeToScan, TakeToShow, TakeToWake, TestCells, TestLast, Tested, ToRelease, ToTell, TryAcquire, TryLoad, TryLock, TryPlace, Visit, Wait, WaitPlace, Wake, WakeAndReturn, Waking, Walk, Woke, Woken, Word}
-use Rattle.ns_word.specs.Prelude.{acquire_by, acquired_for, arrival_of, asked_in_cells, asked_of, asked_to_judge, back_with, got_acquiring, got_in_cells, got_leaving, got_of, got_queuing, got_releasing, got_showing, got_signaling, got_trying, got_waiting, is_limited, look_or_queue, may_acquire}
-use Rattle.ns_word.specs.Prelude.{mode_for, needs_scan, outcome_taken, quiet_place, release_by, rest_or_look, test_place, unmet_by, walk_after, woken_by}
+use Rattle.ns_word.proofs.Prelude.{AcquireExchange, AcquireLoad, AcquirePlace, Aim, Answered, Arm, ArmToWait, Arrival, AsFresh, Await, AwaitWake, AwaitWakeInWait, AwaitWakeToLeave, Bool, Cause, Cell, CellPlace, Done, Ended, Flag, ForLock, ForWait, Found, GetLoad, Idle, InAcquire, InCells}
+use Rattle.ns_word.proofs.Prelude.{InLeaving, InQueuing, InRelease, InShow, InSignal, InTry, InWait, Judging, Leave, LeaveLoad, LeavePlace, Left, Load, LoadToScan, LookIn, LookOut, Looked, Made, Met, Mode, Next, None, On, OnCondition, OnEntry, OnReturn, OnVariables, Outcome, Paid, Pay, PayInWait}
+use Rattle.ns_word.proofs.Prelude.{PayTheWoken, Queue, QueuePlace, QueueToWait, Quiet, QuietCells, QuietLast, QuietWriter, Release, ReleaseExchange, ReleaseLoad, ReleasePlace, Releasing, Request, ReturnShown, Saw, ScanAndRelease, ScanCells, Scanned, SetLoad, SetStore, Show, ShowLoad, ShowPlace}
+use Rattle.ns_word.proofs.Prelude.{SignalLoad, SignalPlace, Some, Subject, Take, TakeToLeave, TakeToQueue, TakeToScan, TakeToShow, TakeToWake, TestCells, TestLast, Tested, ToRelease, ToTell, TryAcquire, TryLoad, TryLock, TryPlace, Visit, Wait, WaitPlace, Wake, WakeAndReturn, Waking, Walk, Woke}
+use Rattle.ns_word.proofs.Prelude.{Woken, Word, acquire_by, acquired_for, ap, arrival_of, asked_in_cells, asked_of, asked_to_judge, back_with, cond, false, got_acquiring, got_in_cells, got_leaving, got_of, got_queuing, got_releasing, got_showing, got_signaling, got_trying, got_waiting, is_limited}
+use Rattle.ns_word.proofs.Prelude.{look_or_queue, ltb, may_acquire, mode_for, needs_scan, not, outcome_taken, quiet_place, refl, release_by, rest_or_look, sym, test_place, true, unmet_by, walk_after, woken_by, ℕ, ◌+◌, ◌-◌, ◌==◌, ◌∙◌, ◌≡◌}
 use Rattle.ns_word.specs.declared.request.Request.TheVariants.{Release}
 
 -- it goes on as it was asked, if it goes on

@@ -1,7 +1,5 @@
 -- The wakes of those whom a scan took, made one by one.
-use Rattle.std.proofs.Common.{◌≡◌, ℕ, ◌+◌, ◌≤◌, ◌<◌, List, [], ◌∷◌, ◌++◌, length, get_or, take, Option, refl, ap, sym, ◌∙◌, arith}
-use Rattle.std.proofs.lemmas.List.{length-take-le, take_more}
-use Rattle.ns_word.specs.Prelude.{Owed, called_by, value_of}
+use Rattle.ns_word.proofs.Prelude.{List, Option, Owed, [], ap, arith, called_by, get_or, length, length-take-le, refl, sym, take, take_more, value_of, ℕ, ◌++◌, ◌+◌, ◌<◌, ◌∙◌, ◌∷◌, ◌≡◌, ◌≤◌}
 
 called_both : (xs ys : List ℕ) (vs us : List (Option ℕ)) → length xs ≡ length vs → called_by (xs ++ ys) (vs ++ us) ≡ called_by xs vs ++ called_by ys us
 called_both [] ys [] us e = refl

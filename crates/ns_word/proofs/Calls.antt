@@ -1,17 +1,13 @@
 -- What a call owes once it is over, whom it wakes, and when it looks and acquires as woken.
-use Rattle.std.specs.Prelude.{slice_get}
-use Rattle.std.proofs.Common.{◌≡◌, ◌⊎◌, inl, inr, ℕ, ◌-◌, ◌≤◌, ◌<◌, arith, Bool, true, false, not, ◌||◌, cond, eqb, ltb, ◌+◌, suc, take, drop, List, [], ◌∷◌, length, None, Some, refl, ap, sym, ◌∙◌, subst}
-use Rattle.std.proofs.lemmas.Bool.{cases_eq, ltb-true, ne_eqb}
-use Rattle.std.proofs.lemmas.List.{get_or-map}
-use Rattle.ns_word.specs.Prelude.{AcquireExchange, AcquireLoad, AcquirePlace, Act, Aim, Answered, Arm, ArmToWait, Arrival, AsFresh, AsWoken, Await, AwaitWake, AwaitWakeInWait, AwaitWakeToLeave, Broadcasting, Busy, Cause, Cell, CellPlace, Cv, Done, EachFits, Effect, Ended, Event, Every, Flag}
-use Rattle.ns_word.specs.Prelude.{ForLock, ForWait, Found, GetLoad, Idle, InAcquire, InCells, InLeaving, InQueuing, InRelease, InShow, InSignal, InTry, InWait, IsLawful, Judging, Leave, LeaveLoad, LeavePlace, Left, Limits, Lists, Load, LoadFlag, LoadToScan, LockState, Look, LookIn, LookOut}
-use Rattle.ns_word.specs.Prelude.{Looked, Made, Met, Mode, Next, Noisy, On, OnCondition, OnEntry, OnReturn, OnVariables, Paid, Part, Pay, PayInWait, PayTheWoken, PlaceFits, Queue, QueuePlace, QueueToWait, Quiet, QuietCells, QuietLast, QuietWriter, ReleaseExchange, ReleaseLoad, ReleasePlace}
-use Rattle.ns_word.specs.Prelude.{Releasing, ReturnShown, Saw, ScanAndRelease, ScanCells, Scanned, SeatView, SetLoad, SetStore, ShowLoad, ShowPlace, SignalLoad, SignalPlace, Signaling, Step, Subject, Succeeded, Take, TakeToLeave, TakeToQueue, TakeToScan, TakeToShow, TakeToWake, Tells, TestCells}
-use Rattle.ns_word.specs.Prelude.{TestLast, Tested, ToRelease, ToTell, Truths, TryAcquire, TryLoad, TryPlace, Visit, Wait, WaitPlace, Waiter, Wake, WakeAndReturn, WakeWaiters, Waking, Walk, Woke, Woken, Word, acquire_by, acquired_for, arrival_of, asked_in_cells, asked_of, asked_to_judge}
-use Rattle.ns_word.specs.Prelude.{back_with, calls_from_lock, changed, cvs_without, got_acquiring, got_in_cells, got_leaving, got_of, got_queuing, got_releasing, got_showing, got_signaling, got_trying, got_waiting, has_come_back, is_arrival_woken, is_from_lock, is_held, is_limited, is_met}
-use Rattle.ns_word.specs.Prelude.{is_woken, judge_of, kept_by, look_or_queue, may_acquire, mode_for, moved_to, needs_scan, outcome_taken, outside, part_of, pays, release_by, rest_or_look, standing_after, taken_by, taken_set, test_place, times_in, unmet_by, waiters_of, wake_of, walk_after}
-use Rattle.ns_word.specs.Prelude.{want_acquiring, want_in_cells, want_leaving, want_of, want_releasing, want_showing, want_signaling, want_trying, want_waiting, was_woken, woken_by}
-use Rattle.ns_queue.proofs.Outside.{broadcast_outside, signal_outside}
+use Rattle.ns_word.proofs.Prelude.{AcquireExchange, AcquireLoad, AcquirePlace, Act, Aim, Answered, Arm, ArmToWait, Arrival, AsFresh, AsWoken, Await, AwaitWake, AwaitWakeInWait, AwaitWakeToLeave, Bool, Broadcasting, Busy, Cause, Cell, CellPlace, Cv, Done, EachFits, Effect, Ended, Event, Every, Flag}
+use Rattle.ns_word.proofs.Prelude.{ForLock, ForWait, Found, GetLoad, Idle, InAcquire, InCells, InLeaving, InQueuing, InRelease, InShow, InSignal, InTry, InWait, IsLawful, Judging, Leave, LeaveLoad, LeavePlace, Left, Limits, List, Lists, Load, LoadFlag, LoadToScan, LockState, Look, LookIn, LookOut}
+use Rattle.ns_word.proofs.Prelude.{Looked, Made, Met, Mode, Next, Noisy, None, On, OnCondition, OnEntry, OnReturn, OnVariables, Paid, Part, Pay, PayInWait, PayTheWoken, PlaceFits, Queue, QueuePlace, QueueToWait, Quiet, QuietCells, QuietLast, QuietWriter, ReleaseExchange, ReleaseLoad, ReleasePlace}
+use Rattle.ns_word.proofs.Prelude.{Releasing, ReturnShown, Saw, ScanAndRelease, ScanCells, Scanned, SeatView, SetLoad, SetStore, ShowLoad, ShowPlace, SignalLoad, SignalPlace, Signaling, Some, Step, Subject, Succeeded, Take, TakeToLeave, TakeToQueue, TakeToScan, TakeToShow, TakeToWake, Tells}
+use Rattle.ns_word.proofs.Prelude.{TestCells, TestLast, Tested, ToRelease, ToTell, Truths, TryAcquire, TryLoad, TryPlace, Visit, Wait, WaitPlace, Waiter, Wake, WakeAndReturn, WakeWaiters, Waking, Walk, Woke, Woken, Word, [], acquire_by, acquired_for, ap, arith, arrival_of, asked_in_cells, asked_of}
+use Rattle.ns_word.proofs.Prelude.{asked_to_judge, back_with, broadcast_outside, calls_from_lock, cases_eq, changed, cond, cvs_without, drop, eqb, false, get_or-map, got_acquiring, got_in_cells, got_leaving, got_of, got_queuing, got_releasing, got_showing, got_signaling, got_trying, got_waiting}
+use Rattle.ns_word.proofs.Prelude.{has_come_back, inl, inr, is_arrival_woken, is_from_lock, is_held, is_limited, is_met, is_woken, judge_of, kept_by, length, look_or_queue, ltb, ltb-true, may_acquire, mode_for, moved_to, ne_eqb, needs_scan, not, outcome_taken, outside, part_of, pays, refl}
+use Rattle.ns_word.proofs.Prelude.{release_by, rest_or_look, signal_outside, slice_get, standing_after, subst, suc, sym, take, taken_by, taken_set, test_place, times_in, true, unmet_by, waiters_of, wake_of, walk_after, want_acquiring, want_in_cells, want_leaving, want_of, want_releasing}
+use Rattle.ns_word.proofs.Prelude.{want_showing, want_signaling, want_trying, want_waiting, was_woken, woken_by, ℕ, ◌+◌, ◌-◌, ◌<◌, ◌||◌, ◌∙◌, ◌∷◌, ◌≡◌, ◌≤◌, ◌⊎◌}
 use Rattle.ns_word.proofs.CountsIn.{OnceInEach}
 use Rattle.ns_word.proofs.Answers.{acquire_looks_not, cells_look_not, judge_looks_not, leaver_looks_not, look_of_act, release_looks_not, signal_looks_not, show_looks_not, try_looks_not}
 use Rattle.ns_word.proofs.Keeps.{none_of}

@@ -1,8 +1,8 @@
 -- What ends a wait for a condition early is kept until the wait is over, and then answered, but where the condition is met.
-use Rattle.std.proofs.Common.{◌≡◌, ◌⊎◌, inl, inr, ℕ, ◌+◌, ◌-◌, Bool, true, false, cond, eqb, ltb, Some, refl, sym, ap, ◌∙◌, subst}
-use Rattle.ns_word.specs.Prelude.{AcquireExchange, AcquireLoad, AcquirePlace, Aim, Answered, Arm, Arrival, Await, AwaitWake, AwaitWakeInWait, AwaitWakeToLeave, Cause, Cell, Done, Ended, Flag, ForLock, ForWait, Found, Idle, InAcquire, InCells, InLeaving, InQueuing, InRelease, InShow, InSignal}
-use Rattle.ns_word.specs.Prelude.{InTry, InWait, Leave, LeaveLoad, LeavePlace, Left, LookOut, Made, Met, Next, On, OnCondition, OnEntry, OnReturn, Outcome, PayInWait, Queue, Saw, Subject, TakeToLeave, TakeToQueue, TestCells, TestLast, Tested, Visit, Wait, WaitPlace, Walk, Woken, Word, acquire_by}
-use Rattle.ns_word.specs.Prelude.{acquired_for, answer_of, arrival_of, asked_of, back_with, cause_by, cause_in, cause_kept, got_acquiring, got_leaving, got_of, got_waiting, may_acquire, mode_for, outcome_taken, test_place, unmet_by, walk_after}
+use Rattle.ns_word.proofs.Prelude.{AcquireExchange, AcquireLoad, AcquirePlace, Aim, Answered, Arm, Arrival, Await, AwaitWake, AwaitWakeInWait, AwaitWakeToLeave, Bool, Cause, Cell, Done, Ended, Flag, ForLock, ForWait, Found, Idle, InAcquire, InCells, InLeaving, InQueuing, InRelease, InShow}
+use Rattle.ns_word.proofs.Prelude.{InSignal, InTry, InWait, Leave, LeaveLoad, LeavePlace, Left, LookOut, Made, Met, Next, On, OnCondition, OnEntry, OnReturn, Outcome, PayInWait, Queue, Saw, Some, Subject, TakeToLeave, TakeToQueue, TestCells, TestLast, Tested, Visit, Wait, WaitPlace, Walk, Woken}
+use Rattle.ns_word.proofs.Prelude.{Word, acquire_by, acquired_for, answer_of, ap, arrival_of, asked_of, back_with, cause_by, cause_in, cause_kept, cond, eqb, false, got_acquiring, got_leaving, got_of, got_waiting, inl, inr, ltb, may_acquire, mode_for, outcome_taken, refl, subst, sym, test_place}
+use Rattle.ns_word.proofs.Prelude.{true, unmet_by, walk_after, ℕ, ◌+◌, ◌-◌, ◌∙◌, ◌≡◌, ◌⊎◌}
 
 -- over with this or with 'met', or on with this kept
 abbrev IsKept : {C : Type 0} → Cause → Next C → Type 0

@@ -1,14 +1,6 @@
 -- How often a seat counts in the lists, where these change.
-use Rattle.std.proofs.Common.{◌≡◌, ◌≢◌, ℕ, suc, ◌+◌, ◌≤◌, ◌<◌, inl, inr, Bool, true, false, eqb, ltb, List, [], ◌∷◌, length, get_or, map, refl, ap, sym, ◌∙◌, arith}
-use Rattle.std.specs.List.{sum_by}
-use Rattle.std.proofs.lemmas.Bool.{cases_eq, lt-ltb, ne_eqb}
-use Rattle.std.proofs.lemmas.List.{get_or-map}
-use Rattle.std.proofs.lemmas.List.Sums.{get_or-le-sum_by, sum_by-cons}
-use Rattle.ns_word.specs.Prelude.{Cv, Lists, Seats, Waiter, counts_in, cvs_without, is_in, one_if, outside, taken_set, times, times_in, waiters_of, with_lock, without, without_in}
-use Rattle.ns_queue.proofs.Outside.{gone_each, times_outside}
-use Rattle.ns_queue.proofs.Parts.{lists_without}
-use Rattle.ns_queue.proofs.Seats.{none_without, times_in-cons}
-use Rattle.ns_queue.proofs.Taken.{in_list, not_in_list}
+use Rattle.ns_word.proofs.Prelude.{Bool, Cv, List, Lists, Seats, Waiter, [], ap, arith, cases_eq, counts_in, cvs_without, eqb, false, get_or, get_or-le-sum_by, get_or-map, gone_each, in_list, inl, inr, is_in, length, lists_without, lt-ltb, ltb, map, ne_eqb, none_without, not_in_list, one_if}
+use Rattle.ns_word.proofs.Prelude.{outside, refl, suc, sum_by, sum_by-cons, sym, taken_set, times, times_in, times_in-cons, times_outside, true, waiters_of, with_lock, without, without_in, ℕ, ◌+◌, ◌<◌, ◌∙◌, ◌∷◌, ◌≡◌, ◌≢◌, ◌≤◌}
 use Rattle.ns_word.proofs.Scans.{times_others, times_without}
 
 -- ---- whether there is one

@@ -1,15 +1,8 @@
 -- Where a wait for variables stands: in the list of each of them.
-use Rattle.std.proofs.Common.{◌≡◌, ◌≢◌, ℕ, zero, suc, ◌+◌, ◌≤◌, ◌<◌, ◌*◌, ◌/◌, ◌%◌, ◌^◌, ◌⊎◌, inl, inr, Bool, true, false, cond, eqb, ltb, ◌&&◌, List, [], ◌∷◌, ◌++◌, length, None, Some, refl, ap, sym, ◌∙◌, subst, arith}
-use Rattle.std.specs.Int.{bit_at}
-use Rattle.std.specs.List.{sum_by}
-use Rattle.std.proofs.lemmas.Bool.{cases_Bool, cases_eq, cases_lt, eq-eqb, eqb-true, lt-ltb, ne_eqb}
-use Rattle.std.proofs.lemmas.List.Sums.{get_or-le-sum_by, sum_by-cons}
-use Rattle.std.proofs.lemmas.Nat.Bits.{bit_at-lt, bit_at-zero, bit_at_above, bit_at_cat_low, same_from_bits_below}
-use Rattle.ns_word.specs.Prelude.{Any, AreVariables, Cv, Cvs, Lists, Mode, OnVariables, Only, Variables, Waiter, counts_in, has, named_for, one_if, times, times_in, waiters_of, waits_at, with_each, with_waiters}
+use Rattle.ns_word.proofs.Prelude.{Any, AreVariables, Bool, Cv, Cvs, List, Lists, Mode, None, OnVariables, Only, Some, Variables, Waiter, [], ap, arith, bit_at, bit_at-lt, bit_at-zero, bit_at_above, bit_at_cat_low, cases_Bool, cases_eq, cases_lt, cond, counts_in, eq-eqb, eqb, eqb-true, false}
+use Rattle.ns_word.proofs.Prelude.{four_kept, get_or-le-sum_by, has, inl, inr, length, lt-ltb, ltb, named_for, ne_eqb, one_if, one_most, read_apart, read_back, refl, same_from_bits_below, subst, suc, sum_by, sum_by-cons, sym, times, times_at_most, times_in, times_in-append, times_in-cons, true}
+use Rattle.ns_word.proofs.Prelude.{waiters_of, waits_at, with_each, with_waiters, zero, ℕ, ◌%◌, ◌&&◌, ◌*◌, ◌++◌, ◌+◌, ◌/◌, ◌<◌, ◌^◌, ◌∙◌, ◌∷◌, ◌≡◌, ◌≢◌, ◌≤◌, ◌⊎◌}
 use Rattle.ns_model.specs.Cvs.{is_in}
-use Rattle.ns_model.proofs.Tallies.{one_most}
-use Rattle.ns_queue.proofs.Parts.{four_kept, read_apart, read_back, times_at_most}
-use Rattle.ns_queue.proofs.Seats.{times_in-append, times_in-cons}
 use Rattle.ns_word.proofs.CountsIn.{OnceInEach, none_one, some_one}
 
 -- ---- variables that there are

@@ -1,8 +1,6 @@
 -- What the steps leave of the queues' place and of the bits that tell of them.
-use Rattle.std.proofs.Common.{◌≡◌, ℕ, ◌+◌, ◌≤◌, true, false, List, ◌∷◌, ◌++◌, Option, ap, sym, ◌∙◌, arith}
-use Rattle.ns_word.specs.Prelude.{Held, Owed, SeatView, Waiter, Walk, Word, bits_in, bits_of, has_queues, one_if, takers}
+use Rattle.ns_word.proofs.Prelude.{Held, List, Option, Owed, SeatView, Waiter, Walk, Word, ap, arith, bits_in, bits_of, false, has_queues, one_if, one_most, sym, takers, true, ℕ, ◌++◌, ◌+◌, ◌∙◌, ◌∷◌, ◌≡◌, ◌≤◌}
 use Rattle.ns_word.proofs.Groups.{Homed}
-use Rattle.ns_model.proofs.Tallies.{one_most}
 use Rattle.ns_word.proofs.Views.{view_of, takers_at}
 
 module _ {C : Type 0} {N : ℕ} (front : List (SeatView C N)) (who : ℕ) (walk : Option (Walk C)) (held : Option (Held C N)) (owed : List Owed) (walk' : Option (Walk C)) (held' : Option (Held C N)) (owed' : List Owed) (back : List (SeatView C N)) where

@@ -1,20 +1,12 @@
 -- Each kind of step keeps what holds of a lock and its seats.
-use Rattle.std.proofs.Common.{◌≡◌, ◌≢◌, ◌⊎◌, inl, inr, ℕ, ◌+◌, ◌-◌, ◌<◌, ◌≤◌, Bool, true, false, not, cond, eqb, ◌&&◌, List, [], ◌∷◌, ◌++◌, length, Option, None, Some, is_some, slice_set, refl, ap, sym, ◌∙◌, subst, arith, eq-eqb}
-use Rattle.std.specs.List.{sum_by}
-use Rattle.std.proofs.lemmas.List.{length-map}
-use Rattle.std.proofs.lemmas.Bool.{ne_eqb, eqb-true, and_parts, not-true, both_ways}
-use Rattle.ns_word.specs.Prelude.{Any, AreVariables, Arrival, Cond, CondWait, Cv, Event, Every, Exit, ExitFits, Held, IsExpected, IsLegalEvent, IsNamed, IsSettledBy, Lists, LockState, Mode, NoneIs, OnCondition, OnVariables, Only, Opening, Owed, OwesAs, Phase, PlaceFits, Plain, QuietWriter, Read}
-use Rattle.ns_word.specs.Prelude.{Reader, Releasing, SeatView, Stance, Standing, Subject, TakenTold, Taking, Tells, ToChange, ToQueue, Truths, VariableWaiterFits, Variables, VariablesTell, ViewFits, Waiter, WaiterNames, WaitersOwn, WaitersPlaced, Waiting, Walk, Word, Write, Writer, awaits}
-use Rattle.ns_word.specs.Prelude.{bits_in, bits_of, called_of, called_to, calls_from_lock, counts_in, cvs_without, exit_for, first_standing, flags_with, has_armed, has_eligible, has_queues, has_some, is_armed, is_held, is_in, is_of, is_on_way, is_queuing, is_unwoken, is_woken, left_of, left_phase}
-use Rattle.ns_word.specs.Prelude.{lock_stance, may_acquire, meets_at, mode_released, needs_scan, one_if, outside, owed_to, pays, phase_after, phase_before, phase_by, queued, section_of, standing_after, standing_next, taken_set, times, times_among, times_in, tries_of, waiters_of, waits_at}
-use Rattle.ns_word.specs.Prelude.{waits_in, wakes_of, walk_at, was_woken, who_of, with_lock, without_in, woken_of, woken_phase, woken_phases, word_acquired, word_released, word_released_returning, word_returned, word_taken}
+use Rattle.ns_word.proofs.Prelude.{Any, AreVariables, Arrival, Bool, Cond, CondWait, Cv, Event, Every, Exit, ExitFits, Held, IsExpected, IsLegalEvent, IsNamed, IsSettledBy, List, Lists, LockState, Mode, None, NoneIs, OnCondition, OnVariables, Only, Opening, Option, Owed, OwesAs, Phase, PlaceFits}
+use Rattle.ns_word.proofs.Prelude.{Plain, QuietWriter, Read, Reader, Releasing, SeatView, Some, Stance, Standing, Subject, TakenTold, Taking, Tells, ToChange, ToQueue, Truths, VariableWaiterFits, Variables, VariablesTell, ViewFits, Waiter, WaiterNames, WaitersOwn, WaitersPlaced, Waiting, Walk}
+use Rattle.ns_word.proofs.Prelude.{Word, Write, Writer, [], and_parts, ap, arith, awaits, bits_in, bits_of, both_ways, called_of, called_to, calls_from_lock, cond, counts_in, cvs_without, eq-eqb, eqb, eqb-true, exit_for, false, first_standing, flags_with, has_armed, has_eligible, has_queues}
+use Rattle.ns_word.proofs.Prelude.{has_some, in_stands, inl, inr, is_armed, is_held, is_in, is_of, is_on_way, is_queuing, is_some, is_unwoken, is_woken, left_of, left_phase, length, length-map, lock_stance, may_acquire, meets_at, mode_released, ne_eqb, needs_scan, not, not-true, one_if, one_most}
+use Rattle.ns_word.proofs.Prelude.{outside, owed_to, pays, phase_after, phase_before, phase_by, queued, refl, section_of, slice_set, standing_after, standing_from-append, standing_next, stands_waits, subst, sum_by, sym, taken_set, times, times_among, times_at_most, times_in, times_in-append}
+use Rattle.ns_word.proofs.Prelude.{tries_of, true, waiters_of, waits_at, waits_in, wakes_of, walk_at, was_woken, who_of, with_lock, without_in, woken_of, woken_phase, woken_phases, word_acquired, word_released, word_released_returning, word_returned, word_taken, ℕ, ◌&&◌, ◌++◌, ◌+◌, ◌-◌, ◌<◌, ◌∙◌}
+use Rattle.ns_word.proofs.Prelude.{◌∷◌, ◌≡◌, ◌≢◌, ◌≤◌, ◌⊎◌}
 use Rattle.ns_model.specs.declared.phase.Phase.TheVariants.{Idle, Left}
-use Rattle.ns_model.proofs.Tallies.{one_most}
-use Rattle.ns_model.proofs.Histories.{standing_from-append}
-use Rattle.ns_queue.proofs.Seats.{times_in-append}
-use Rattle.ns_queue.proofs.Taken.{in_stands}
-use Rattle.ns_queue.proofs.Wakes.{stands_waits}
-use Rattle.ns_queue.proofs.Parts.{times_at_most}
 use Rattle.ns_word.proofs.Groups.{Safe, Homed, Known, Groups}
 use Rattle.ns_word.proofs.Knows.{bool_cases, is_loud, due_flag, nothing_called, rests as known_rests, acquires as known_acquires, arms as known_arms, puts, withdraws as known_withdraws, moves_in as known_moves, releases as known_releases, scans as known_scans, pays_one as known_pays}
 use Rattle.ns_word.proofs.Knows.{sees_wake as known_sees}

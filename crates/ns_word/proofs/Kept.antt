@@ -1,11 +1,10 @@
 -- What ends a wait early, from the look that shows it to the answer; and that a section in hand whose wait was answered meets no wait that comes back.
-use Rattle.std.proofs.Common.{◌≡◌, ℕ, ◌+◌, ◌-◌, Bool, true, false, not, cond, eqb, ltb, ◌⊎◌, inl, inr, List, Option, None, Some, refl, ap, sym, ◌∙◌, subst}
-use Rattle.ns_word.specs.Prelude.{AcquireExchange, AcquireLoad, Aim, Answer, Answered, Any, Arm, ArmToWait, Arrival, AsFresh, AwaitWake, AwaitWakeInWait, AwaitWakeToLeave, Canceled, Cause, Cell, Done, Effect, Ended, Event, Expired, Flag, ForLock, ForWait, Found, GetLoad, Held, Idle, InAcquire}
-use Rattle.ns_word.specs.Prelude.{InCells, InLeaving, InQueuing, InRelease, InShow, InSignal, InTry, InWait, Leave, LeaveLoad, Left, Load, LoadToScan, LockState, LookIn, LookOut, Looked, Made, Met, Next, Notified, On, OnCondition, OnEntry, OnReturn, OnVariables, Only, Outcome, Paid, Part, Pay}
-use Rattle.ns_word.specs.Prelude.{PayInWait, PayTheWoken, Queue, QueuePlace, QueueToWait, Quiet, QuietCells, QuietLast, ReleaseExchange, ReleaseLoad, Releasing, Reply, ReturnShown, Saw, ScanAndRelease, ScanCells, Scanned, SeatView, SetLoad, SetStore, ShowLoad, ShowPlace, SignalLoad, SignalPlace}
-use Rattle.ns_word.specs.Prelude.{Step, Subject, Take, TakeToLeave, TakeToQueue, TakeToScan, TakeToShow, TakeToWake, TestCells, TestLast, Tested, TimedOut, ToRelease, ToTell, Truths, TryAcquire, TryLoad, Visit, Wait, WaitPlace, WakeAndReturn, Waking, Walk, Woke, Woken, Word, acquire_by}
-use Rattle.ns_word.specs.Prelude.{acquired_for, answer_of, armed_place, back_with, cause_by, cause_for, cause_in, cause_kept, comes_back, got_of, got_showing, got_signaling, got_waiting, has_come_back, is_back, is_limited, load_place, look_or_queue, may_acquire, mode_for, needs_scan}
-use Rattle.ns_word.specs.Prelude.{outcome_taken, part_of, place_cause_kept, place_has_come_back, release_by, test_place, unmet_by, walk_after, want_of}
+use Rattle.ns_word.proofs.Prelude.{AcquireExchange, AcquireLoad, Aim, Answer, Answered, Any, Arm, ArmToWait, Arrival, AsFresh, AwaitWake, AwaitWakeInWait, AwaitWakeToLeave, Bool, Canceled, Cause, Cell, Done, Effect, Ended, Event, Expired, Flag, ForLock, ForWait, Found, GetLoad, Held, Idle}
+use Rattle.ns_word.proofs.Prelude.{InAcquire, InCells, InLeaving, InQueuing, InRelease, InShow, InSignal, InTry, InWait, Leave, LeaveLoad, Left, List, Load, LoadToScan, LockState, LookIn, LookOut, Looked, Made, Met, Next, None, Notified, On, OnCondition, OnEntry, OnReturn, OnVariables, Only}
+use Rattle.ns_word.proofs.Prelude.{Option, Outcome, Paid, Part, Pay, PayInWait, PayTheWoken, Queue, QueuePlace, QueueToWait, Quiet, QuietCells, QuietLast, ReleaseExchange, ReleaseLoad, Releasing, Reply, ReturnShown, Saw, ScanAndRelease, ScanCells, Scanned, SeatView, SetLoad, SetStore, ShowLoad}
+use Rattle.ns_word.proofs.Prelude.{ShowPlace, SignalLoad, SignalPlace, Some, Step, Subject, Take, TakeToLeave, TakeToQueue, TakeToScan, TakeToShow, TakeToWake, TestCells, TestLast, Tested, TimedOut, ToRelease, ToTell, Truths, TryAcquire, TryLoad, Visit, Wait, WaitPlace, WakeAndReturn, Waking, Walk}
+use Rattle.ns_word.proofs.Prelude.{Woke, Woken, Word, acquire_by, acquired_for, answer_of, ap, armed_place, back_with, cause_by, cause_for, cause_in, cause_kept, comes_back, cond, eqb, false, got_of, got_showing, got_signaling, got_waiting, has_come_back, inl, inr, is_back, is_limited, load_place}
+use Rattle.ns_word.proofs.Prelude.{look_or_queue, ltb, may_acquire, mode_for, needs_scan, not, outcome_taken, part_of, place_cause_kept, place_has_come_back, refl, release_by, subst, sym, test_place, true, unmet_by, walk_after, want_of, ℕ, ◌+◌, ◌-◌, ◌∙◌, ◌≡◌, ◌⊎◌}
 
 -- ---- what ends a wait early
 

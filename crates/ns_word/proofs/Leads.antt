@@ -1,12 +1,10 @@
 -- Where a decision leads: the place goes with the section in hand, and tells the same as the place before.
-use Rattle.std.proofs.Common.{◌≡◌, ℕ, ◌-◌, ◌<◌, Bool, true, false, not, cond, ltb, List, length, Option, None, Some, IsSome, refl, ap, sym, ◌∙◌, subst, arith}
-use Rattle.std.proofs.lemmas.Bool.{ltb-true}
-use Rattle.ns_word.specs.Prelude.{AcquireExchange, AcquireLoad, Aim, AimFits, Answered, Arrival, AsFresh, AwaitWakeInWait, Busy, CameBack, CanLeave, CanWait, Cause, ComesBack, Done, Ended, ForLock, ForWait, HasMode, Held, Idle, InAcquire, InCells, InLeaving, InQueuing, InRelease, InShow, InSignal}
-use Rattle.ns_word.specs.Prelude.{InTry, InWait, IsExpected, IsForCondition, IsInRange, IsLeft, IsSettled, IsSettledBy, IsUnmet, IsWokenBy, Judging, LeaveLoad, Load, LoadToScan, LookIn, LookOut, MayShow, Met, Mode, On, OnCondition, OnEntry, OnReturn, OnVariables, Opening, Outcome, OutcomeFits}
-use Rattle.ns_word.specs.Prelude.{PlaceFits, QueueToWait, QuietCells, QuietKeeps, QuietLast, QuietWriter, Read, Reader, ReleaseExchange, ReleaseLoad, Releasing, ScanAndRelease, ScanCells, ShowLoad, SignalLoad, Subject, Take, TakeToLeave, TakeToQueue, TakeToScan, TakeToShow, TakeToWake, TestCells}
-use Rattle.ns_word.specs.Prelude.{TestLast, Tests, ToRelease, ToTell, Truths, TryAcquire, Visit, Wait, Waiter, Waking, Walk, Woken, Word, Write, Writer, acquire_by, acquired_for, after_judging, armed_place, back_with, calls_from_lock, cause_by, expected_for, has_armed, has_eligible, has_queues}
-use Rattle.ns_word.specs.Prelude.{held_after, is_limited, is_queuing, leave_by, load_place, may_acquire, meets_at, mode_for, mode_released, needs_scan, newly_held, opening_by, pay_releasing, pay_waiting, pay_woken, pays, phase_before, phase_by, phase_kept, queue_by, quiet_place, release_by}
-use Rattle.ns_word.specs.Prelude.{rest_or_look, row_in, scan_place, show_by, signal_by, test_place, unmet_by, waits_in, walk_after, was_woken}
+use Rattle.ns_word.proofs.Prelude.{AcquireExchange, AcquireLoad, Aim, AimFits, Answered, Arrival, AsFresh, AwaitWakeInWait, Bool, Busy, CameBack, CanLeave, CanWait, Cause, ComesBack, Done, Ended, ForLock, ForWait, HasMode, Held, Idle, InAcquire, InCells, InLeaving, InQueuing, InRelease, InShow}
+use Rattle.ns_word.proofs.Prelude.{InSignal, InTry, InWait, IsExpected, IsForCondition, IsInRange, IsLeft, IsSettled, IsSettledBy, IsSome, IsUnmet, IsWokenBy, Judging, LeaveLoad, List, Load, LoadToScan, LookIn, LookOut, MayShow, Met, Mode, None, On, OnCondition, OnEntry, OnReturn, OnVariables}
+use Rattle.ns_word.proofs.Prelude.{Opening, Option, Outcome, OutcomeFits, PlaceFits, QueueToWait, QuietCells, QuietKeeps, QuietLast, QuietWriter, Read, Reader, ReleaseExchange, ReleaseLoad, Releasing, ScanAndRelease, ScanCells, ShowLoad, SignalLoad, Some, Subject, Take, TakeToLeave, TakeToQueue}
+use Rattle.ns_word.proofs.Prelude.{TakeToScan, TakeToShow, TakeToWake, TestCells, TestLast, Tests, ToRelease, ToTell, Truths, TryAcquire, Visit, Wait, Waiter, Waking, Walk, Woken, Word, Write, Writer, acquire_by, acquired_for, after_judging, ap, arith, armed_place, back_with, calls_from_lock}
+use Rattle.ns_word.proofs.Prelude.{cause_by, cond, expected_for, false, has_armed, has_eligible, has_queues, held_after, is_limited, is_queuing, leave_by, length, load_place, ltb, ltb-true, may_acquire, meets_at, mode_for, mode_released, needs_scan, newly_held, not, opening_by, pay_releasing}
+use Rattle.ns_word.proofs.Prelude.{pay_waiting, pay_woken, pays, phase_before, phase_by, phase_kept, queue_by, quiet_place, refl, release_by, rest_or_look, row_in, scan_place, show_by, signal_by, subst, sym, test_place, true, unmet_by, waits_in, walk_after, was_woken, ℕ, ◌-◌, ◌<◌, ◌∙◌, ◌≡◌}
 use Rattle.ns_word.proofs.Scans.{quiet_eligible}
 use Rattle.ns_word.proofs.Knows.{is_loud}
 use Rattle.ns_word.proofs.Keeps.{Same, Way, Stays}

@@ -1,10 +1,7 @@
 -- Whether a wait that leaves still stands where it waits.
-use Rattle.std.proofs.Common.{◌≡◌, ℕ, ◌≤◌, ◌<◌, inl, inr, Bool, true, false, ltb, List, [], length, cond, None, Some, refl, ap, sym, ◌∙◌, subst, arith}
-use Rattle.std.specs.List.{sum_by}
-use Rattle.std.proofs.lemmas.Bool.{ltb-true, ltb-false}
-use Rattle.std.proofs.lemmas.List.Sums.{get_or-le-sum_by}
-use Rattle.ns_word.specs.Prelude.{AreApart, Cause, Cv, EachFits, Event, InLeaving, InWait, IsExpected, IsFoundLeaving, IsLawful, Leave, Left, Lists, LockState, Mode, OnCondition, OnVariables, Phase, PlaceFits, SeatView, SectionFits, Step, Truths, VariableWaiterFits, Variables, VariablesTell}
-use Rattle.ns_word.specs.Prelude.{ViewFits, Wait, Waiting, Word, expected_for, home_of, phase_by, standing_after, stands_at, times, times_in, waiters_of, waits_in, walk_at, without, without_in}
+use Rattle.ns_word.proofs.Prelude.{AreApart, Bool, Cause, Cv, EachFits, Event, InLeaving, InWait, IsExpected, IsFoundLeaving, IsLawful, Leave, Left, List, Lists, LockState, Mode, None, OnCondition, OnVariables, Phase, PlaceFits, SeatView, SectionFits, Some, Step, Truths, VariableWaiterFits}
+use Rattle.ns_word.proofs.Prelude.{Variables, VariablesTell, ViewFits, Wait, Waiting, Word, [], ap, arith, cond, expected_for, false, get_or-le-sum_by, home_of, inl, inr, length, ltb, ltb-false, ltb-true, phase_by, refl, standing_after, stands_at, subst, sum_by, sym, times, times_in, true}
+use Rattle.ns_word.proofs.Prelude.{waiters_of, waits_in, walk_at, without, without_in, ℕ, ◌<◌, ◌∙◌, ◌≡◌, ◌≤◌}
 use Rattle.ns_word.proofs.CountsIn.{gone_from, left_at, some_list}
 use Rattle.ns_word.proofs.Keeps.{stance_mode, stance_variables}
 use Rattle.ns_word.proofs.Scans.{times_without}

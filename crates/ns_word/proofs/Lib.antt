@@ -26,6 +26,7 @@ pub mod Numbers
 pub mod Owns
 pub mod Paid
 pub mod Phases
+pub mod Prelude
 pub mod Puts
 pub mod Ranges
 pub mod Safes

@@ -1,10 +1,9 @@
 -- While one waits long, only those acquire who were woken.
-use Rattle.std.proofs.Common.{◌≡◌, ℕ, Bool, true, false, not, eqb, inl, inr, refl, List, Option, None, Some, ap, sym, subst, ◌∙◌}
-use Rattle.std.proofs.lemmas.Bool.{and_parts, both_ways, or_cases, not-true}
-use Rattle.ns_word.specs.Prelude.{Acquire, AcquireExchange, AcquireLoad, Act, Arm, ArmFlag, Arrival, AsFresh, AwaitWake, Cause, Cell, CellPlace, Effect, Event, Flag, Found, GetLoad, Held, InAcquire, InCells, InLeaving, InQueuing, InRelease, InShow, InSignal, InTry, InWait, JudgeMet, JudgeQuiet}
-use Rattle.ns_word.specs.Prelude.{LeaveLoad, LeavePlace, Left, LoadCell, LoadFlag, LoadWord, LockState, Look, LookIn, Looked, Made, Mode, OnCondition, OnVariables, Paid, Part, PayWake, Queue, QueuePlace, Quiet, Read, Release, ReleaseLoad, ReleasePlace, ReleaseReturning, Releasing, ReturnQueues}
-use Rattle.ns_word.specs.Prelude.{Saw, Scanned, SeatView, ShowLoad, ShowPlace, SignalLoad, SignalPlace, Step, StoreCell, Subject, TakeQueues, TakeToQueue, TestLast, Tested, Truths, TryAcquire, TryLoad, Wait, WaitPlace, WaitReturning, Waking, Walk, Woke, Word, Write, held_after, is_woken, judge_of}
-use Rattle.ns_word.specs.Prelude.{may_acquire, mode_for, newly_held, part_of, want_in_cells, want_leaving, want_of, want_queuing, want_releasing, want_showing, want_signaling, want_waiting, was_woken}
+use Rattle.ns_word.proofs.Prelude.{Acquire, AcquireExchange, AcquireLoad, Act, Arm, ArmFlag, Arrival, AsFresh, AwaitWake, Bool, Cause, Cell, CellPlace, Effect, Event, Flag, Found, GetLoad, Held, InAcquire, InCells, InLeaving, InQueuing, InRelease, InShow, InSignal, InTry, InWait, JudgeMet}
+use Rattle.ns_word.proofs.Prelude.{JudgeQuiet, LeaveLoad, LeavePlace, Left, List, LoadCell, LoadFlag, LoadWord, LockState, Look, LookIn, Looked, Made, Mode, None, OnCondition, OnVariables, Option, Paid, Part, PayWake, Queue, QueuePlace, Quiet, Read, Release, ReleaseLoad, ReleasePlace}
+use Rattle.ns_word.proofs.Prelude.{ReleaseReturning, Releasing, ReturnQueues, Saw, Scanned, SeatView, ShowLoad, ShowPlace, SignalLoad, SignalPlace, Some, Step, StoreCell, Subject, TakeQueues, TakeToQueue, TestLast, Tested, Truths, TryAcquire, TryLoad, Wait, WaitPlace, WaitReturning, Waking, Walk}
+use Rattle.ns_word.proofs.Prelude.{Woke, Word, Write, and_parts, ap, both_ways, eqb, false, held_after, inl, inr, is_woken, judge_of, may_acquire, mode_for, newly_held, not, not-true, or_cases, part_of, refl, subst, sym, true, want_in_cells, want_leaving, want_of, want_queuing, want_releasing}
+use Rattle.ns_word.proofs.Prelude.{want_showing, want_signaling, want_waiting, was_woken, ℕ, ◌∙◌, ◌≡◌}
 
 -- such a word is acquired by one that was woken alone
 long_shuts : (mode : Mode) (arrival : Arrival) (word : Word) → word.long ≡ true → may_acquire mode arrival word ≡ true → is_woken arrival ≡ true

@@ -1,6 +1,5 @@
 -- A list made by a loop that takes each item of another to one.
-use Rattle.std.proofs.Common.{◌≡◌, ℕ, ◌+◌, ◌≤◌, ◌<◌, List, [], ◌∷◌, ◌++◌, length, map, get_or, take, ap, sym, ◌∙◌, arith}
-use Rattle.std.proofs.lemmas.List.{length-map, length-take-le, map_more, take_all}
+use Rattle.ns_word.proofs.Prelude.{List, [], ap, arith, get_or, length, length-map, length-take-le, map, map_more, sym, take, take_all, ℕ, ◌++◌, ◌+◌, ◌<◌, ◌∙◌, ◌∷◌, ◌≡◌, ◌≤◌}
 
 module _ {A B : Type 0} (to : A → B) where
   -- so far, it has room for one more

@@ -1,10 +1,7 @@
 -- What the steps leave of the waiters: each is its seat's own.
-use Rattle.std.proofs.Common.{◌≡◌, ◌≢◌, ℕ, ◌+◌, Bool, true, false, not, ◌&&◌, ◌||◌, cond, eqb, suc, inl, inr, List, [], ◌∷◌, ◌++◌, Option, None, Some, refl, ap, sym, ◌∙◌, subst, arith, eq-eqb}
-use Rattle.std.specs.List.{filter, list_any}
-use Rattle.std.proofs.lemmas.Bool.{cases_eq, eqb-true, or_right}
-use Rattle.ns_word.specs.Prelude.{AwaitWake, Every, Held, InAcquire, InWait, Lists, Mode, NoneIs, Owed, Phase, SeatView, VariableWaiterFits, Waiter, WaiterFits, WaitersOwn, WaitersPlaced, Walk, counts_in, has_eligible, is_eligible, is_long, is_of, is_unwoken, left_of, lock_stance, one_if, owed_to}
-use Rattle.ns_word.specs.Prelude.{place_awaits, queued, reads, times, times_in, waits_in, walk_at, without_in, writes}
-use Rattle.ns_queue.proofs.Seats.{times_in-cons}
+use Rattle.ns_word.proofs.Prelude.{AwaitWake, Bool, Every, Held, InAcquire, InWait, List, Lists, Mode, None, NoneIs, Option, Owed, Phase, SeatView, Some, VariableWaiterFits, Waiter, WaiterFits, WaitersOwn, WaitersPlaced, Walk, [], ap, arith, cases_eq, cond, counts_in, eq-eqb, eqb, eqb-true, false}
+use Rattle.ns_word.proofs.Prelude.{filter, has_eligible, inl, inr, is_eligible, is_long, is_of, is_unwoken, left_of, list_any, lock_stance, not, one_if, or_right, owed_to, place_awaits, queued, reads, refl, subst, suc, sym, times, times_in, times_in-cons, true, waits_in, walk_at, without_in}
+use Rattle.ns_word.proofs.Prelude.{writes, ℕ, ◌&&◌, ◌++◌, ◌+◌, ◌||◌, ◌∙◌, ◌∷◌, ◌≡◌, ◌≢◌}
 use Rattle.ns_word.proofs.CountsIn.{counts_none}
 use Rattle.ns_word.proofs.Views.{view_of, walk_here, walk_there}
 use Rattle.ns_word.proofs.Phases.{cond_in, tries_in}

@@ -1,6 +1,5 @@
 -- What a paid wake stores.
-use Rattle.std.proofs.Common.{◌≡◌, ℕ, cond, List, ◌∷◌, refl, ap, sym, ◌∙◌, eq-eqb}
-use Rattle.ns_word.specs.Prelude.{Effect, Event, Found, Owed, Paid, Part, PayWake, Truths}
+use Rattle.ns_word.proofs.Prelude.{Effect, Event, Found, List, Owed, Paid, Part, PayWake, Truths, ap, cond, eq-eqb, refl, sym, ℕ, ◌∙◌, ◌∷◌, ◌≡◌}
 
 module _ {C : Type 0} {N : ℕ} (truths : Truths C) where
   -- the first wake that was owed is paid, and those behind it are owed still

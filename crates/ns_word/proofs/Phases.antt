@@ -1,9 +1,7 @@
 -- A waiter that has a condition is in the wait for it, by the history.
-use Rattle.std.specs.Prelude.{slice_get}
-use Rattle.std.proofs.Common.{◌≡◌, ℕ, zero, suc, Bool, true, false, cond, inl, inr, List, [], ◌∷◌, Option, None, Some, refl, ap, ◌∙◌, subst, eq-eqb, ◌≤◌, arith}
-use Rattle.std.proofs.lemmas.Bool.{ne_eqb, cases_eq}
-use Rattle.ns_word.specs.Prelude.{AwaitWake, AwaitWakeInWait, Cond, EachFits, Event, Held, InAcquire, InLeaving, InWait, IsExpected, IsLawful, LockState, LookOut, Mode, OnCondition, OnVariables, PayInWait, Phase, PlaceFits, SeatView, SectionFits, Stance, Standing, Subject, Truths, Wait, WaitFits}
-use Rattle.ns_word.specs.Prelude.{WaitPlace, Waiter, WaiterFits, WaitersOwn, Walk, cond_on, expected_for, lock_stance, phase_of, place_awaits, standing_after, waits_in, walk_at}
+use Rattle.ns_word.proofs.Prelude.{AwaitWake, AwaitWakeInWait, Bool, Cond, EachFits, Event, Held, InAcquire, InLeaving, InWait, IsExpected, IsLawful, List, LockState, LookOut, Mode, None, OnCondition, OnVariables, Option, PayInWait, Phase, PlaceFits, SeatView, SectionFits, Some, Stance, Standing}
+use Rattle.ns_word.proofs.Prelude.{Subject, Truths, Wait, WaitFits, WaitPlace, Waiter, WaiterFits, WaitersOwn, Walk, [], ap, arith, cases_eq, cond, cond_on, eq-eqb, expected_for, false, inl, inr, lock_stance, ne_eqb, phase_of, place_awaits, refl, slice_get, standing_after, subst, suc, true}
+use Rattle.ns_word.proofs.Prelude.{waits_in, walk_at, zero, ℕ, ◌∙◌, ◌∷◌, ◌≡◌, ◌≤◌}
 
 -- how one waits that waits for this condition in this mode
 abbrev pub waiting_for : {C : Type 0} → Mode → C → ℕ → Option (Stance C)

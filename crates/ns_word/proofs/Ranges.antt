@@ -1,10 +1,6 @@
 -- Which seats the law speaks of, and how many: those that wait or are owed a wake are seats, each stands once, and not all of 64 read while one asks to.
-use Rattle.std.proofs.Common.{◌≡◌, ℕ, ◌+◌, ◌<◌, ◌≤◌, true, false, cond, eqb, inl, inr, List, [], ◌∷◌, ◌++◌, length, None, refl, ap, sym, ◌∙◌, subst, arith}
-use Rattle.std.proofs.lemmas.Bool.{ne_eqb, cases_eq}
-use Rattle.ns_word.specs.Prelude.{AreApart, Cv, EachFits, Event, IsLawful, IsOrderly, Lists, LockState, NoneIs, Read, SeatView, Standing, Truths, Waiter, WaitersPlaced, awaits, beside, counts_in, is_reading, is_unwoken, one_if, owed_to, readers, standing_after, times, times_among, times_in}
-use Rattle.ns_word.specs.Prelude.{waiters_of, walk_at}
-use Rattle.ns_queue.proofs.Seats.{times_in-cons, few, room_for}
-use Rattle.ns_model.proofs.Tallies.{one_most}
+use Rattle.ns_word.proofs.Prelude.{AreApart, Cv, EachFits, Event, IsLawful, IsOrderly, List, Lists, LockState, None, NoneIs, Read, SeatView, Standing, Truths, Waiter, WaitersPlaced, [], ap, arith, awaits, beside, cases_eq, cond, counts_in, eqb, false, few, inl, inr, is_reading, is_unwoken, length}
+use Rattle.ns_word.proofs.Prelude.{ne_eqb, one_if, one_most, owed_to, readers, refl, room_for, standing_after, subst, sym, times, times_among, times_in, times_in-cons, true, waiters_of, walk_at, ℕ, ◌++◌, ◌+◌, ◌<◌, ◌∙◌, ◌∷◌, ◌≡◌, ◌≤◌}
 use Rattle.ns_word.proofs.CountsIn.{counts_none, counts_there}
 use Rattle.ns_word.proofs.Views.{owed_at, none_parts, each_parts}
 use Rattle.ns_word.proofs.Knows.{due_awaits}

@@ -1,12 +1,9 @@
 -- What the steps leave of the sections.
-use Rattle.std.proofs.Common.{◌≡◌, ◌≢◌, ℕ, ◌+◌, ◌-◌, ◌<◌, ◌≤◌, Bool, true, false, cond, inl, inr, List, [], ◌∷◌, ◌++◌, length, Option, None, Some, slice_set, refl, ap, sym, ◌∙◌, subst, arith, eq-eqb}
-use Rattle.std.proofs.lemmas.List.{length-set}
-use Rattle.std.proofs.lemmas.Bool.{eqb-true, ne_eqb, both_ways}
-use Rattle.ns_word.specs.Prelude.{Any, CameBack, Cause, Ended, EntryFits, Event, Exit, ExitFits, Expired, Held, HeldFits, IsBySeats, IsExpected, IsLegal, IsLegalEvent, IsSettledBy, Locked, Met, Mode, ModeFits, Notified, OnCondition, OnVariables, Only, Opening, Owed, OwesAs, Phase, PlaceFits, Read}
-use Rattle.ns_word.specs.Prelude.{SeatView, SectionFits, Standing, Truths, Variables, Waiting, Walk, Woken, Word, Write, answer_of, entry_of, first_standing, is_met, is_reading, is_writing, left_phase, phase_after, phase_before, phase_by, readers, section_of, standing_after, standing_next, who_of}
-use Rattle.ns_word.specs.Prelude.{writers}
+use Rattle.ns_word.proofs.Prelude.{Any, Bool, CameBack, Cause, Ended, EntryFits, Event, Exit, ExitFits, Expired, Held, HeldFits, IsBySeats, IsExpected, IsLegal, IsLegalEvent, IsSettledBy, List, Locked, Met, Mode, ModeFits, None, Notified, OnCondition, OnVariables, Only, Opening, Option, Owed}
+use Rattle.ns_word.proofs.Prelude.{OwesAs, Phase, PlaceFits, Read, SeatView, SectionFits, Some, Standing, Truths, Variables, Waiting, Walk, Woken, Word, Write, [], answer_of, ap, arith, both_ways, cond, entry_of, eq-eqb, eqb-true, false, first_standing, inl, inr, is_met, is_reading, is_writing}
+use Rattle.ns_word.proofs.Prelude.{left_phase, legal_append, length, length-set, ne_eqb, phase_after, phase_before, phase_by, readers, refl, section_of, slice_set, standing_after, standing_from-append, standing_next, subst, sym, true, who_of, writers, ℕ, ◌++◌, ◌+◌, ◌-◌, ◌<◌, ◌∙◌, ◌∷◌, ◌≡◌, ◌≢◌}
+use Rattle.ns_word.proofs.Prelude.{◌≤◌}
 use Rattle.ns_model.specs.declared.phase.Phase.TheVariants.{Left}
-use Rattle.ns_model.proofs.Histories.{legal_append, standing_from-append}
 use Rattle.ns_word.proofs.Leaving.{left_event, left_is_legal, left_next_here, left_next_there, left_row, left_who}
 use Rattle.ns_word.proofs.Groups.{Safe}
 use Rattle.ns_word.proofs.Views.{view_of, writers_at, readers_at, apart_parts, apart_moves, each_parts, each_join, each_moves, each_woken, IsWokenBy}

@@ -1,8 +1,5 @@
 -- Words that are the same part by part.
-use Rattle.std.proofs.Common.{◌≡◌, Bool, true, false, ◌&&◌, eqb, refl}
-use Rattle.std.specs.Bool.{beq}
-use Rattle.std.proofs.lemmas.Bool.{eqb-true, and_parts}
-use Rattle.ns_word.specs.Prelude.{Word}
+use Rattle.ns_word.proofs.Prelude.{Bool, Word, and_parts, beq, eqb, eqb-true, false, refl, true, ◌&&◌, ◌≡◌}
 
 same_bit : (a b : Bool) → beq a b ≡ true → a ≡ b
 same_bit true true e = refl

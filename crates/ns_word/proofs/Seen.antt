@@ -1,12 +1,11 @@
 -- The lock word has a number, and so has the word that a seat has last seen.
-use Rattle.std.proofs.Common.{◌≡◌, ℕ, ◌+◌, ◌-◌, ◌≤◌, ◌==◌, Bool, true, false, not, cond, ltb, List, Option, None, Some, sym, subst, arith}
-use Rattle.ns_word.specs.Prelude.{Acquire, AcquireExchange, AcquireLoad, AcquirePlace, Act, Aim, Answered, Arm, ArmToWait, Arrival, AsFresh, AwaitWake, AwaitWakeInWait, AwaitWakeToLeave, Cause, Cell, CellPlace, Done, Effect, Ended, Event, Flag, ForLock, ForWait, Found, GetLoad, HasNumber, Idle}
-use Rattle.ns_word.specs.Prelude.{InAcquire, InCells, InLeaving, InQueuing, InRelease, InShow, InSignal, InTry, InWait, IsLawful, IsPackable, Leave, LeaveLoad, LeavePlace, Left, Load, LoadToScan, LoadWord, LockState, LookIn, LookOut, Looked, Made, Met, Mode, Next, On, OnCondition, OnEntry}
-use Rattle.ns_word.specs.Prelude.{OnReturn, OnVariables, Outcome, Paid, Part, Pay, PayInWait, PayTheWoken, Queue, QueuePlace, QueueToWait, Quiet, QuietCells, QuietLast, QuietWriter, Release, ReleaseExchange, ReleaseLoad, ReleasePlace, ReleaseReturning, Releasing, ReturnQueues, ReturnShown, Saw}
-use Rattle.ns_word.specs.Prelude.{ScanAndRelease, ScanCells, Scanned, SetLoad, SetStore, ShowLoad, ShowPlace, SignalLoad, SignalPlace, Subject, Take, TakeQueues, TakeToLeave, TakeToQueue, TakeToScan, TakeToShow, TakeToWake, Taking, TestCells, TestLast, Tested, ToChange, ToQueue, ToRelease, ToTell}
-use Rattle.ns_word.specs.Prelude.{Truths, TryAcquire, TryLoad, TryPlace, Visit, Wait, WaitPlace, WaitReturning, WakeAndReturn, Waking, Walk, Woke, Woken, Word, acquire_by, acquired_for, armed_place, arrival_of, back_with, got_acquiring, got_in_cells, got_leaving, got_of, got_queuing}
-use Rattle.ns_word.specs.Prelude.{got_releasing, got_showing, got_signaling, got_trying, got_waiting, is_limited, leave_by, load_place, look_or_queue, may_acquire, mode_for, needs_scan, outcome_taken, queue_by, readers, release_by, rest_or_look, scan_place, show_by, signal_by, test_place}
-use Rattle.ns_word.specs.Prelude.{unmet_by, walk_after, woken_by, word_seen, word_taken}
+use Rattle.ns_word.proofs.Prelude.{Acquire, AcquireExchange, AcquireLoad, AcquirePlace, Act, Aim, Answered, Arm, ArmToWait, Arrival, AsFresh, AwaitWake, AwaitWakeInWait, AwaitWakeToLeave, Bool, Cause, Cell, CellPlace, Done, Effect, Ended, Event, Flag, ForLock, ForWait, Found, GetLoad, HasNumber}
+use Rattle.ns_word.proofs.Prelude.{Idle, InAcquire, InCells, InLeaving, InQueuing, InRelease, InShow, InSignal, InTry, InWait, IsLawful, IsPackable, Leave, LeaveLoad, LeavePlace, Left, List, Load, LoadToScan, LoadWord, LockState, LookIn, LookOut, Looked, Made, Met, Mode, Next, None, On}
+use Rattle.ns_word.proofs.Prelude.{OnCondition, OnEntry, OnReturn, OnVariables, Option, Outcome, Paid, Part, Pay, PayInWait, PayTheWoken, Queue, QueuePlace, QueueToWait, Quiet, QuietCells, QuietLast, QuietWriter, Release, ReleaseExchange, ReleaseLoad, ReleasePlace, ReleaseReturning, Releasing}
+use Rattle.ns_word.proofs.Prelude.{ReturnQueues, ReturnShown, Saw, ScanAndRelease, ScanCells, Scanned, SetLoad, SetStore, ShowLoad, ShowPlace, SignalLoad, SignalPlace, Some, Subject, Take, TakeQueues, TakeToLeave, TakeToQueue, TakeToScan, TakeToShow, TakeToWake, Taking, TestCells, TestLast, Tested}
+use Rattle.ns_word.proofs.Prelude.{ToChange, ToQueue, ToRelease, ToTell, Truths, TryAcquire, TryLoad, TryPlace, Visit, Wait, WaitPlace, WaitReturning, WakeAndReturn, Waking, Walk, Woke, Woken, Word, acquire_by, acquired_for, arith, armed_place, arrival_of, back_with, cond, false, got_acquiring}
+use Rattle.ns_word.proofs.Prelude.{got_in_cells, got_leaving, got_of, got_queuing, got_releasing, got_showing, got_signaling, got_trying, got_waiting, is_limited, leave_by, load_place, look_or_queue, ltb, may_acquire, mode_for, needs_scan, not, outcome_taken, queue_by, readers, release_by}
+use Rattle.ns_word.proofs.Prelude.{rest_or_look, scan_place, show_by, signal_by, subst, sym, test_place, true, unmet_by, walk_after, woken_by, word_seen, word_taken, ℕ, ◌+◌, ◌-◌, ◌==◌, ◌≡◌, ◌≤◌}
 use Rattle.ns_word.proofs.Ranges.{readers_most}
 
 pub packable : {C : Type 0} {N : ℕ} (truths : Truths C) (seats : ℕ) (h : List (Event C N)) (s : LockState C N) → seats ≤ 64 → IsLawful truths seats h s → IsPackable s.word

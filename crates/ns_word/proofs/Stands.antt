@@ -1,10 +1,8 @@
 -- Where a seat stands that queues, and where those go that a call wakes.
-use Rattle.std.specs.Prelude.{min}
-use Rattle.std.proofs.Common.{◌≡◌, ℕ, ◌+◌, ◌<◌, inl, inr, Bool, true, false, cond, ltb, List, [], ◌∷◌, ◌++◌, length, Option, None, Some, refl, ap, sym, ◌∙◌, subst, arith}
-use Rattle.std.proofs.lemmas.Bool.{cases_Bool, ltb-true, ltb-false}
-use Rattle.ns_word.specs.Prelude.{Aim, AreCalled, Arrival, AsFresh, AsWoken, CanWait, Cv, EachFits, Effect, Event, Found, Held, InAcquire, InQueuing, InSignal, InWait, IsInRange, IsLawful, IsUnmet, Lists, LockState, Made, Mode, OnCondition, OnVariables, PlaceFits, Queue, QueueSelf, QueueToWait}
-use Rattle.ns_word.specs.Prelude.{QueuesFor, Scanned, SeatView, Step, Subject, Truths, Wait, Waiter, WaitsFor, WakeAndReturn, WakeWaiters, Waking, Walk, Woke, Word, changed, cvs_without, has, is_held, is_woken, left_of, meets_at, mode_for, moved_to, outside, part_of, queued, standing_after}
-use Rattle.ns_word.specs.Prelude.{taken_by, taken_set, tries_of, waiter, waiters_of, waits_at, wakes_of, want_of, with_lock}
+use Rattle.ns_word.proofs.Prelude.{Aim, AreCalled, Arrival, AsFresh, AsWoken, Bool, CanWait, Cv, EachFits, Effect, Event, Found, Held, InAcquire, InQueuing, InSignal, InWait, IsInRange, IsLawful, IsUnmet, List, Lists, LockState, Made, Mode, None, OnCondition, OnVariables, Option, PlaceFits, Queue}
+use Rattle.ns_word.proofs.Prelude.{QueueSelf, QueueToWait, QueuesFor, Scanned, SeatView, Some, Step, Subject, Truths, Wait, Waiter, WaitsFor, WakeAndReturn, WakeWaiters, Waking, Walk, Woke, Word, [], ap, arith, cases_Bool, changed, cond, cvs_without, false, has, inl, inr, is_held, is_woken}
+use Rattle.ns_word.proofs.Prelude.{left_of, length, ltb, ltb-false, ltb-true, meets_at, min, mode_for, moved_to, outside, part_of, queued, refl, standing_after, subst, sym, taken_by, taken_set, tries_of, true, waiter, waiters_of, waits_at, wakes_of, want_of, with_lock, ℕ, ◌++◌, ◌+◌, ◌<◌, ◌∙◌, ◌∷◌}
+use Rattle.ns_word.proofs.Prelude.{◌≡◌}
 use Rattle.ns_word.proofs.Enters.{entered_at}
 use Rattle.ns_word.proofs.CountsIn.{taken_at}
 use Rattle.ns_word.proofs.Views.{each_parts}

@@ -1,7 +1,5 @@
 -- No waiter stands twice in a list, or in the lock list and in that of a variable.
-use Rattle.std.proofs.Common.{ℕ, ◌≤◌, ◌<◌, inl, inr, List, arith}
-use Rattle.std.proofs.lemmas.Bool.{cases_eq}
-use Rattle.ns_word.specs.Prelude.{Cv, Event, IsLawful, LockState, Truths, beside, times_in, waiters_of}
+use Rattle.ns_word.proofs.Prelude.{Cv, Event, IsLawful, List, LockState, Truths, arith, beside, cases_eq, inl, inr, times_in, waiters_of, ℕ, ◌<◌, ◌≤◌}
 use Rattle.ns_word.proofs.CountsIn.{counts_there}
 use Rattle.ns_word.proofs.Ranges.{counts_once}
 

@@ -1,12 +1,9 @@
 -- A fresh lock is lawful, and so is one where a call begins.
-use Rattle.std.proofs.Common.{◌≡◌, ℕ, Bool, zero, suc, ◌+◌, ◌-◌, ◌<◌, ◌≤◌, true, false, cond, eqb, ltb, List, [], ◌∷◌, ◌++◌, Option, None, Some, refl, sym, subst, replicate, arith}
-use Rattle.std.proofs.lemmas.List.{length-replicate}
-use Rattle.std.proofs.lemmas.Bool.{both_ways, ltb-false}
-use Rattle.ns_word.specs.Prelude.{AcquireLoad, AreApart, Begins, CanWait, Cv, EachFits, Event, Every, ForLock, HasNumber, Held, InAcquire, InCells, InQueuing, InRelease, InShow, InSignal, InTry, InWait, IsFirst, IsForVariables, IsLawful, Judging, Load, LockState, NoneIs, OnCondition, OnEntry}
-use Rattle.ns_word.specs.Prelude.{OnVariables, PlaceFits, QuietCells, QuietLast, ReleaseLoad, SeatView, ShowLoad, SignalLoad, Subject, TestCells, TestLast, Tests, Truths, TryLoad, VariableWaiterFits, Wait, Waiter, WakeTells, Walk, WordsSeen, first_for, first_row, first_standing, fresh_state}
-use Rattle.ns_word.specs.Prelude.{fresh_views, has_armed, owed_in, owed_to, queuers, quiet_first, readers, takers, times_in, wait_first, waiters_of, walk_at, word_seen, writers}
+use Rattle.ns_word.proofs.Prelude.{AcquireLoad, AreApart, Begins, Bool, CanWait, Cv, EachFits, Event, Every, ForLock, HasNumber, Held, InAcquire, InCells, InQueuing, InRelease, InShow, InSignal, InTry, InWait, IsFirst, IsForVariables, IsLawful, Judging, List, Load, LockState, None, NoneIs}
+use Rattle.ns_word.proofs.Prelude.{OnCondition, OnEntry, OnVariables, Option, PlaceFits, QuietCells, QuietLast, ReleaseLoad, SeatView, ShowLoad, SignalLoad, Some, Subject, TestCells, TestLast, Tests, Truths, TryLoad, VariableWaiterFits, Wait, Waiter, WakeTells, Walk, WordsSeen, [], arith}
+use Rattle.ns_word.proofs.Prelude.{both_ways, cond, eqb, every_join, every_parts, false, first_for, first_row, first_standing, fresh_state, fresh_views, has_armed, length-replicate, ltb, ltb-false, owed_in, owed_to, queuers, quiet_first, readers, refl, replicate, subst, suc, sym, takers, times_in}
+use Rattle.ns_word.proofs.Prelude.{true, wait_first, waiters_of, walk_at, word_seen, writers, zero, ℕ, ◌++◌, ◌+◌, ◌-◌, ◌<◌, ◌∷◌, ◌≡◌, ◌≤◌}
 use Rattle.ns_model.specs.declared.phase.Phase.TheVariants.{Idle}
-use Rattle.ns_model.proofs.Tallies.{every_parts, every_join}
 use Rattle.ns_word.proofs.Firsts.{first_is_bare}
 use Rattle.ns_word.proofs.Groups.{groups_of, lawful_by}
 use Rattle.ns_word.proofs.Views.{view_of}

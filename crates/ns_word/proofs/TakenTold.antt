@@ -1,15 +1,8 @@
 -- What the taken are told stays so, by each kind of step.
-use Rattle.std.proofs.Common.{◌≡◌, ◌≢◌, ◌⊎◌, inl, inr, ℕ, ◌+◌, ◌<◌, ◌≤◌, Bool, true, false, not, cond, eqb, List, [], ◌∷◌, ◌++◌, Option, None, Some, refl, ap, sym, ◌∙◌, subst, arith, eq-eqb, append_assoc}
-use Rattle.std.proofs.lemmas.Bool.{cases_eq, cases_Bool, lt-ltb, ne_eqb}
-use Rattle.ns_word.specs.Prelude.{Every, Held, IsNamed, IsToldSo, Mode, NamesOn, NoneIs, OnCondition, OnVariables, Owed, Phase, SeatView, Stance, Subject, TakenTold, ToldOn, VariableWaiterFits, Variables, Waiter, WaiterNames, Waiting, WaitsAmong, WakeTells, Walk, called_of, flags_with, has}
-use Rattle.ns_word.specs.Prelude.{is_eligible, is_in, is_of, left_of, one_if, owed_in, owed_to, queued, taken_set, times_among, times_in, value_of, waits_in, wakes_of, walk_at, without_in, woken_of, woken_phase, woken_phases, writes}
+use Rattle.ns_word.proofs.Prelude.{Bool, Every, Held, IsNamed, IsToldSo, List, Mode, NamesOn, None, NoneIs, OnCondition, OnVariables, Option, Owed, Phase, SeatView, Some, Stance, Subject, TakenTold, ToldOn, VariableWaiterFits, Variables, Waiter, WaiterNames, Waiting, WaitsAmong, WakeTells, Walk}
+use Rattle.ns_word.proofs.Prelude.{[], ap, append_assoc, arith, called_of, cases_Bool, cases_eq, cond, eq-eqb, eqb, every_filter, every_map, every_woken, false, flags_with, goes_along, has, in_list, in_stands, inl, inr, is_eligible, is_in, is_of, left_of, lt-ltb, ne_eqb, not, one_if, owed_in}
+use Rattle.ns_word.proofs.Prelude.{owed_to, own_times, queued, refl, stands_waiting, subst, sym, taken_set, times_among, times_in, times_in-cons, true, value_of, waits_in, wakes_of, walk_at, without_in, woken_of, woken_phase, woken_phases, writes, ℕ, ◌++◌, ◌+◌, ◌<◌, ◌∙◌, ◌∷◌, ◌≡◌, ◌≢◌, ◌≤◌, ◌⊎◌}
 use Rattle.ns_model.specs.declared.phase.Phase.TheVariants.{Woken}
-use Rattle.ns_model.proofs.Tallies.{every_map}
-use Rattle.ns_queue.proofs.Seeking.{goes_along}
-use Rattle.ns_queue.proofs.Seats.{own_times, times_in-cons}
-use Rattle.ns_queue.proofs.Vias.{every_filter, every_woken}
-use Rattle.ns_queue.proofs.Wakes.{stands_waiting}
-use Rattle.ns_queue.proofs.Taken.{in_list, in_stands}
 use Rattle.ns_word.proofs.Variables.{waits_of}
 use Rattle.ns_word.proofs.Views.{view_of, walk_here, walk_there}
 

@@ -1,12 +1,8 @@
 -- What a step leaves of what the seats were told.
-use Rattle.std.specs.Prelude.{All}
-use Rattle.std.proofs.Common.{◌≡◌, ◌≢◌, ℕ, ◌<◌, ◌≤◌, Bool, true, false, eqb, List, [], ◌∷◌, ◌++◌, Option, None, Some, refl, ap, sym, ◌∙◌, subst, append_assoc, eq-eqb}
-use Rattle.std.proofs.lemmas.List.{append-nil}
-use Rattle.std.proofs.lemmas.List.Elements.{All-nil, All-push, All-append, filter-append}
-use Rattle.std.proofs.lemmas.Bool.{ne_eqb}
-use Rattle.ns_word.specs.Prelude.{Acquire, Act, Any, AreBy, ArmFlag, AtLock, AtVariables, BeginsIf, BeginsWith, Broadcasting, Cell, Change, Effect, Event, Flag, Found, Home, IsBySeats, IsFirst, IsLawful, IsLed, IsLegal, IsTold, JudgeMet, JudgeQuiet, LeaveSelf, LedBy, Left, Lists, LoadCell}
-use Rattle.ns_word.specs.Prelude.{LoadFlag, LoadWord, LockState, Look, Looked, Made, Nothing, Only, Paid, Part, PayWake, QueueSelf, Quiet, QuietKeeps, Release, ReleaseReturning, ReturnQueues, Saw, Scanned, SeatStep, SeatView, Signaling, Step, StoreCell, TakeQueues, Tested, Told, Truths}
-use Rattle.ns_word.specs.Prelude.{WaitReturning, Waiter, WakeWaiters, Waking, Walk, Woke, calls_of, change_commits, got_of, leave_of, nothing_told, own, told_after, view_in, wake_of, walk_after, walk_over, want_of, who_of}
+use Rattle.ns_word.proofs.Prelude.{Acquire, Act, All, All-append, All-nil, All-push, Any, AreBy, ArmFlag, AtLock, AtVariables, BeginsIf, BeginsWith, Bool, Broadcasting, Cell, Change, Effect, Event, Flag, Found, Home, IsBySeats, IsFirst, IsLawful, IsLed, IsLegal, IsTold, JudgeMet, JudgeQuiet}
+use Rattle.ns_word.proofs.Prelude.{LeaveSelf, LedBy, Left, List, Lists, LoadCell, LoadFlag, LoadWord, LockState, Look, Looked, Made, None, Nothing, Only, Option, Paid, Part, PayWake, QueueSelf, Quiet, QuietKeeps, Release, ReleaseReturning, ReturnQueues, Saw, Scanned, SeatStep, SeatView, Signaling}
+use Rattle.ns_word.proofs.Prelude.{Some, Step, StoreCell, TakeQueues, Tested, Told, Truths, WaitReturning, Waiter, WakeWaiters, Waking, Walk, Woke, [], ap, append-nil, append_assoc, calls_of, change_commits, eq-eqb, eqb, false, filter-append, got_of, leave_of, ne_eqb, nothing_told, own, refl}
+use Rattle.ns_word.proofs.Prelude.{subst, sym, told_after, true, view_in, wake_of, walk_after, walk_over, want_of, who_of, ℕ, ◌++◌, ◌<◌, ◌∙◌, ◌∷◌, ◌≡◌, ◌≢◌, ◌≤◌}
 use Rattle.ns_word.proofs.Starts.{begins}
 use Rattle.ns_word.proofs.Dispatch.{keeps}
 

@@ -1,13 +1,8 @@
 -- What the steps leave of the lists of the variables.
-use Rattle.std.proofs.Common.{◌≡◌, ◌≢◌, ℕ, ◌<◌, ◌≤◌, inl, inr, Bool, true, false, not, cond, eqb, List, [], ◌∷◌, ◌++◌, length, Option, Some, refl, ap, sym, ◌∙◌, subst, arith, eq-eqb}
-use Rattle.std.proofs.lemmas.Bool.{ne_eqb, cases_Bool, cases_eq}
-use Rattle.ns_word.specs.Prelude.{AreVariables, AreWaiting, Cond, Cv, Every, Held, IsOrderly, Lists, Mode, NoneIs, OnVariables, Owed, Phase, SeatView, Seats, VariableWaiterFits, Variables, VariablesTell, WaitFor, Waiter, Waiting, Walk, cvs_without, has, is_in, is_of, is_waiting, one_if, outside}
-use Rattle.ns_word.specs.Prelude.{taken_set, times, times_in, waiters_of, waits_in, walk_at, without_in, woken_phase, woken_phases}
+use Rattle.ns_word.proofs.Prelude.{AreVariables, AreWaiting, Bool, Cond, Cv, Every, Held, IsOrderly, List, Lists, Mode, NoneIs, OnVariables, Option, Owed, Phase, SeatView, Seats, Some, VariableWaiterFits, Variables, VariablesTell, WaitFor, Waiter, Waiting, Walk, [], ap, arith, below_in, cases_Bool}
+use Rattle.ns_word.proofs.Prelude.{cases_eq, cond, cvs_without, eq-eqb, eqb, every_filter, false, gone_outside, has, inl, inr, is_in, is_of, is_waiting, length, ne_eqb, not, once_in, one_if, outside, refl, subst, sym, taken_set, times, times_at_most, times_in, times_in-append, times_in-cons}
+use Rattle.ns_word.proofs.Prelude.{times_outside, true, waiters_of, waits_in, walk_at, without_in, woken_phase, woken_phases, ℕ, ◌++◌, ◌<◌, ◌∙◌, ◌∷◌, ◌≡◌, ◌≢◌, ◌≤◌}
 use Rattle.ns_model.specs.declared.phase.Phase.TheVariants.{Idle, Woken, Left}
-use Rattle.ns_queue.proofs.Seats.{times_in-cons, times_in-append}
-use Rattle.ns_queue.proofs.Outside.{gone_outside, times_outside}
-use Rattle.ns_queue.proofs.Parts.{times_at_most, once_in, below_in}
-use Rattle.ns_queue.proofs.Vias.{every_filter}
 use Rattle.ns_word.proofs.Enters.{HasEntered, one_has, stander, times_other, variable_low}
 use Rattle.ns_word.proofs.CountsIn.{cvs_left, left_at, outside_same, taken_at}
 use Rattle.ns_word.proofs.Scans.{times_without, times_others}

@@ -1,10 +1,8 @@
 -- A view among the views: what holds of all of them, by the views before it, itself, and those behind it.
-use Rattle.std.proofs.Common.{◌≡◌, ◌≢◌, ℕ, ◌+◌, ◌≤◌, Bool, true, false, not, cond, ◌⊎◌, inl, inr, List, [], ◌∷◌, ◌++◌, Option, None, Some, eqb, refl, ap, sym, ◌∙◌, subst, arith, eq-eqb}
-use Rattle.std.proofs.lemmas.Bool.{ne_eqb}
-use Rattle.ns_word.specs.Prelude.{Aim, AreApart, CameBack, Cond, EachFits, ForLock, ForWait, Held, InAcquire, InCells, InRelease, InShow, InSignal, InTry, InWait, IsEither, IsExpected, Locked, Mode, NoneIs, OnCondition, OnVariables, Opening, Outcome, Owed, Phase, SeatView, SectionFits, Standing}
-use Rattle.ns_word.specs.Prelude.{Subject, Truths, Variables, ViewFits, Waiting, Walk, called_to, calls_from_lock, expected_for, has_queues, is_queuing, is_reading, is_waiting, is_write, is_writing, one_if, owed_to, phase_before, phase_by, phase_by_wake, phase_for, phase_kept, queuers, readers}
-use Rattle.ns_word.specs.Prelude.{takers, times_among, variable_in, walk_at, woken_phase, writers}
-use Rattle.ns_model.proofs.Tallies.{total_amid, every_parts, every_join}
+use Rattle.ns_word.proofs.Prelude.{Aim, AreApart, Bool, CameBack, Cond, EachFits, ForLock, ForWait, Held, InAcquire, InCells, InRelease, InShow, InSignal, InTry, InWait, IsEither, IsExpected, List, Locked, Mode, None, NoneIs, OnCondition, OnVariables, Opening, Option, Outcome, Owed, Phase}
+use Rattle.ns_word.proofs.Prelude.{SeatView, SectionFits, Some, Standing, Subject, Truths, Variables, ViewFits, Waiting, Walk, [], ap, arith, called_to, calls_from_lock, cond, eq-eqb, eqb, every_join, every_parts, expected_for, false, has_queues, inl, inr, is_queuing, is_reading, is_waiting}
+use Rattle.ns_word.proofs.Prelude.{is_write, is_writing, ne_eqb, not, one_if, owed_to, phase_before, phase_by, phase_by_wake, phase_for, phase_kept, queuers, readers, refl, subst, sym, takers, times_among, total_amid, true, variable_in, walk_at, woken_phase, writers, ℕ, ◌++◌, ◌+◌, ◌∙◌, ◌∷◌, ◌≡◌}
+use Rattle.ns_word.proofs.Prelude.{◌≢◌, ◌≤◌, ◌⊎◌}
 use Rattle.ns_model.specs.declared.phase.Phase.TheVariants.{Idle}
 
 -- a seat with this place, this section and these wakes to pay

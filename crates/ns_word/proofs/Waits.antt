@@ -1,9 +1,7 @@
 -- What the steps leave of the waiters: each stands where it did, or where it ought to.
-use Rattle.std.proofs.Common.{◌≡◌, ◌≢◌, ℕ, ◌+◌, ◌≤◌, ◌<◌, Bool, true, false, ◌&&◌, cond, eqb, inl, inr, List, [], ◌∷◌, ◌++◌, length, Option, Some, refl, ap, sym, ◌∙◌, subst, arith, eq-eqb}
-use Rattle.std.proofs.lemmas.Bool.{ne_eqb, cases_eq}
-use Rattle.ns_word.specs.Prelude.{Held, InAcquire, InQueuing, InWait, Lists, LoadToScan, NoneIs, Owed, Queue, QueueToWait, SeatView, WaitersPlaced, Walk, awaits, counts_in, flags_with, has_armed, is_armed, is_unwoken, one_if, owed_to, times_among, walk_at}
+use Rattle.ns_word.proofs.Prelude.{Bool, Held, InAcquire, InQueuing, InWait, List, Lists, LoadToScan, NoneIs, Option, Owed, Queue, QueueToWait, SeatView, Some, WaitersPlaced, Walk, [], ap, arith, awaits, cases_eq, cond, counts_in, eq-eqb, eqb, false, flags_with, has_armed, inl, inr, is_armed}
+use Rattle.ns_word.proofs.Prelude.{is_unwoken, length, ne_eqb, one_if, one_most, owed_to, refl, subst, sym, times_among, true, walk_at, ℕ, ◌&&◌, ◌++◌, ◌+◌, ◌<◌, ◌∙◌, ◌∷◌, ◌≡◌, ◌≢◌, ◌≤◌}
 use Rattle.ns_word.proofs.CountsIn.{OnceInEach}
-use Rattle.ns_model.proofs.Tallies.{one_most}
 use Rattle.ns_word.proofs.Views.{view_of, owed_at, walk_here, walk_there}
 
 pub not_due : {C : Type 0} (walk : Option (Walk C)) (flag : ℕ) → awaits walk ≡ false → is_unwoken walk flag ≡ false

@@ -1,10 +1,9 @@
 -- Where the woken go, when a try is busy, and what a shown cause does.
-use Rattle.std.proofs.Common.{◌≡◌, ◌≢◌, ◌<◌, ◌⊎◌, inl, inr, ℕ, arith, Bool, true, false, not, ◌&&◌, ◌||◌, cond, eqb, ltb, Some, refl, ap, ◌∙◌}
-use Rattle.std.proofs.lemmas.Bool.{cases_eq, lt-ltb, ne_eqb}
-use Rattle.ns_word.specs.Prelude.{AcquireExchange, AcquireLoad, Aim, Answered, Arm, ArmToWait, Arrival, AsFresh, AsWoken, AwaitWake, AwaitWakeInWait, AwaitWakeToLeave, Busy, Cause, Done, Flag, ForWait, Found, GetLoad, Idle, InAcquire, InCells, InLeaving, InQueuing, InRelease, InShow, InSignal}
-use Rattle.ns_word.specs.Prelude.{InTry, InWait, Leave, LeaveLoad, Limits, Load, LoadFlag, LoadToScan, Look, LookIn, LookOut, Looked, Made, Mode, Next, On, OnCondition, OnVariables, Pay, PayInWait, PayTheWoken, Queue, QueueToWait, QuietCells, QuietLast, Read, ReleaseExchange, ReleaseLoad}
-use Rattle.ns_word.specs.Prelude.{ReturnShown, Saw, ScanAndRelease, ScanCells, SetLoad, SetStore, ShowLoad, SignalLoad, Subject, Take, TakeToLeave, TakeToQueue, TakeToScan, TakeToShow, TakeToWake, TestCells, TestLast, TryAcquire, TryLoad, TryPlace, WakeAndReturn, Walk, Word, answer_of, arrival_of}
-use Rattle.ns_word.specs.Prelude.{cause_kept, got_of, is_from_lock, is_woken, judge_of, may_acquire, outcome_taken, rest_or_look, walk_after, want_acquiring, want_in_cells, want_leaving, want_of, want_releasing, want_showing, want_signaling, want_trying, woken_by}
+use Rattle.ns_word.proofs.Prelude.{AcquireExchange, AcquireLoad, Aim, Answered, Arm, ArmToWait, Arrival, AsFresh, AsWoken, AwaitWake, AwaitWakeInWait, AwaitWakeToLeave, Bool, Busy, Cause, Done, Flag, ForWait, Found, GetLoad, Idle, InAcquire, InCells, InLeaving, InQueuing, InRelease, InShow}
+use Rattle.ns_word.proofs.Prelude.{InSignal, InTry, InWait, Leave, LeaveLoad, Limits, Load, LoadFlag, LoadToScan, Look, LookIn, LookOut, Looked, Made, Mode, Next, On, OnCondition, OnVariables, Pay, PayInWait, PayTheWoken, Queue, QueueToWait, QuietCells, QuietLast, Read, ReleaseExchange}
+use Rattle.ns_word.proofs.Prelude.{ReleaseLoad, ReturnShown, Saw, ScanAndRelease, ScanCells, SetLoad, SetStore, ShowLoad, SignalLoad, Some, Subject, Take, TakeToLeave, TakeToQueue, TakeToScan, TakeToShow, TakeToWake, TestCells, TestLast, TryAcquire, TryLoad, TryPlace, WakeAndReturn, Walk, Word}
+use Rattle.ns_word.proofs.Prelude.{answer_of, ap, arith, arrival_of, cases_eq, cause_kept, cond, eqb, false, got_of, inl, inr, is_from_lock, is_woken, judge_of, lt-ltb, ltb, may_acquire, ne_eqb, not, outcome_taken, refl, rest_or_look, true, walk_after, want_acquiring, want_in_cells, want_leaving}
+use Rattle.ns_word.proofs.Prelude.{want_of, want_releasing, want_showing, want_signaling, want_trying, woken_by, ℕ, ◌&&◌, ◌<◌, ◌||◌, ◌∙◌, ◌≡◌, ◌≢◌, ◌⊎◌}
 use Rattle.ns_word.proofs.Answers.{acquire_looks_not, cells_look_not, judge_looks_not, leaver_looks_not, release_looks_not, signal_looks_not, show_looks_not, try_looks_not}
 use Rattle.ns_word.proofs.Calls.{no_look}
 

@@ -1,9 +1,6 @@
 -- What the lock word tells of the lock list, in words on the list; and who stands back where a writer waits.
-use Rattle.std.proofs.Common.{◌≡◌, inl, inr, Bool, true, false, not, ◌&&◌, ◌||◌, is_some, List, [], ◌∷◌, Option, None, Some, IsSome, IsSomeAnd, refl, sym, ap, ◌∙◌}
-use Rattle.std.specs.List.{list_any}
-use Rattle.std.specs.Prelude.{◌↔◌}
-use Rattle.std.proofs.lemmas.Bool.{or_cases, or_parts}
-use Rattle.ns_word.specs.Prelude.{Every, HasOne, IsPlainWriter, Mode, Read, Waiter, Write, has_condition, has_eligible, has_some, is_satisfied, is_write, writes}
+use Rattle.ns_word.proofs.Prelude.{Bool, Every, HasOne, IsPlainWriter, IsSome, IsSomeAnd, List, Mode, None, Option, Read, Some, Waiter, Write, [], ap, false, has_condition, has_eligible, has_some, inl, inr, is_satisfied, is_some, is_write, list_any, not, or_cases, or_parts, refl, sym, true, writes}
+use Rattle.ns_word.proofs.Prelude.{◌&&◌, ◌||◌, ◌↔◌, ◌∙◌, ◌∷◌, ◌≡◌}
 
 module _ {C : Type 0} where
   nobody_there : (ws : List (Waiter C)) → has_some ws ≡ false → ws ≡ []

@@ -1,6 +1,5 @@
 -- The lock word as one number.
-use Rattle.std.specs.Prelude.{◌≡◌, ℕ, ◌+◌, ◌*◌, ◌/◌, ◌%◌, ◌≤◌, Bool, true, if◌then◌else◌, ◌==◌, ◌⊎◌}
-use Rattle.ns_word.specs.Names.{Word}
+use Rattle.ns_word.specs.Names.{Bool, Word, if◌then◌else◌, true, ℕ, ◌%◌, ◌*◌, ◌+◌, ◌/◌, ◌==◌, ◌≡◌, ◌≤◌, ◌⊎◌}
 
 -- a bit as a number
 abbrev pub bit : Bool → ℕ

@@ -1,10 +1,5 @@
 -- An event and a section in hand fit in memory, over any condition.
-use Rattle.std.proofs.Common.{arith}
-use Rattle.std.specs.Mem.{FitsInMemory}
-use Rattle.ns_word.specs.Names.{HasRoom, room_enough}
-use denote.RattleType.{RattleType}
-use denote.Param.{layout, copied, param}
-use Rattle.ns_model.specs.contracts.event.Event.{the_row as event_row}
+use Rattle.ns_word.specs.Names.{FitsInMemory, HasRoom, RattleType, arith, copied, event_row, layout, param, room_enough}
 use Rattle.ns_word.specs.contracts.view.Held.{the_row as held_row}
 
 -- an event over such a condition and such a row fits in memory

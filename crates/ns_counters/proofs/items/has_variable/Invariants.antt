@@ -1,6 +1,4 @@
-use Rattle.std.proofs.Common.{◌≡◌, drop}
-use Rattle.std.specs.List.{list_any}
-use Rattle.ns_counters.specs.Prelude.{is_variable}
+use Rattle.ns_counters.proofs.Prelude.{drop, is_variable, list_any, ◌≡◌}
 use Rattle.ns_counters.proofs.items.has_variable.Given as goal
 
 abbrev pub invariant-loop-item : goal.invariant-loop-item

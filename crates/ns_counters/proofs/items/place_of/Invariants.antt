@@ -1,5 +1,4 @@
-use Rattle.std.proofs.Common.{◌≡◌, ◌+◌, drop, map}
-use Rattle.ns_counters.specs.Prelude.{place_in}
+use Rattle.ns_counters.proofs.Prelude.{drop, map, place_in, ◌+◌, ◌≡◌}
 use Rattle.ns_counters.proofs.items.place_of.Given as goal
 
 abbrev pub invariant-loop-i : goal.invariant-loop-i

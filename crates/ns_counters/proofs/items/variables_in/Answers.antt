@@ -1,5 +1,4 @@
-use Rattle.std.proofs.Common.{ap, arith, subst, sym, ◌∙◌}
-use Rattle.ns_counters.specs.Prelude.{IsLow, Item, OnVariable}
+use Rattle.ns_counters.proofs.Prelude.{IsLow, Item, OnVariable, ap, arith, subst, sym, ◌∙◌}
 use Rattle.ns_counters.proofs.Listed.{low_at}
 use Rattle.ns_counters.proofs.items.variables_in.Goals as goal
 

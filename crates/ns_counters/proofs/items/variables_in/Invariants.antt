@@ -1,5 +1,4 @@
-use Rattle.std.proofs.Common.{◌≡◌, ◌<◌, ◌||◌, ℕ, drop, map}
-use Rattle.ns_counters.specs.Prelude.{is_among, is_in}
+use Rattle.ns_counters.proofs.Prelude.{drop, is_among, is_in, map, ℕ, ◌<◌, ◌||◌, ◌≡◌}
 use Rattle.ns_counters.proofs.items.variables_in.Given as goal
 
 abbrev pub invariant-loop-item : goal.invariant-loop-item

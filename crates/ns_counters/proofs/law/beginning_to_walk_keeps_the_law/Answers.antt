@@ -1,4 +1,4 @@
-use Rattle.std.proofs.Common.{Some}
+use Rattle.ns_counters.proofs.Prelude.{Some}
 use Rattle.ns_counters.proofs.Placed.{put_keeps}
 use Rattle.ns_counters.proofs.law.beginning_to_walk_keeps_the_law.Goals as goal
 

@@ -1,5 +1,4 @@
-use Rattle.std.proofs.Common.{◌++◌, sym, subst}
-use Rattle.ns_counters.specs.Prelude.{IsLawfulObjects, ObjectState}
+use Rattle.ns_counters.proofs.Prelude.{IsLawfulObjects, ObjectState, subst, sym, ◌++◌}
 use Rattle.ns_counters.proofs.WalkLaw.{operates_keeps}
 use Rattle.ns_counters.proofs.law.walking_keeps_the_law.Goals as goal
 

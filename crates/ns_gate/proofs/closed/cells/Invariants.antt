@@ -1,7 +1,4 @@
-use Rattle.std.proofs.Common.{◌≡◌, ℕ, ◌+◌, ◌<◌, length, slice_index}
-use Rattle.std.specs.Mem.Slots.{slots_items}
-use lib.ListN.{get_elem?}
-use mathlib.Core.Option.{some}
+use Rattle.ns_gate.proofs.Prelude.{get_elem?, length, slice_index, slots_items, some, ℕ, ◌+◌, ◌<◌, ◌≡◌}
 use Rattle.ns_gate.proofs.closed.cells.Given as goal
 
 abbrev pub invariant-loop-i : goal.invariant-loop-i

@@ -1,5 +1,4 @@
-use Rattle.std.proofs.Common.{arith}
-use Rattle.ns_queue.proofs.Shown.{each_shown}
+use Rattle.ns_gate.proofs.Prelude.{arith, each_shown}
 use Rattle.ns_gate.proofs.Room.{queues_fit}
 use Rattle.ns_gate.proofs.showing.shown_lists.Goals as goal
 

@@ -1,5 +1,4 @@
-use Rattle.std.proofs.Common.{◌∙◌, ap, not, eqb}
-use Rattle.ns_gate.specs.Prelude.{Cv, waiters_of}
+use Rattle.ns_gate.proofs.Prelude.{Cv, ap, eqb, not, waiters_of, ◌∙◌}
 use Rattle.ns_gate.proofs.Wakes.{has_bits}
 use Rattle.ns_gate.proofs.Room.{queues_fit}
 use Rattle.ns_gate.proofs.waking.has_waiters.Goals as goal

@@ -1,5 +1,4 @@
-use Rattle.std.proofs.Common.{◌≡◌, drop}
-use Rattle.ns_gate.specs.Prelude.{without_each}
+use Rattle.ns_gate.proofs.Prelude.{drop, without_each, ◌≡◌}
 use Rattle.ns_gate.proofs.waking.take_back.Given as goal
 
 -- without those behind, the lists are without all of them

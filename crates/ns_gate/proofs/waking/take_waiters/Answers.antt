@@ -1,4 +1,4 @@
-use Rattle.ns_queue.proofs.Orders.{list_small}
+use Rattle.ns_gate.proofs.Prelude.{list_small}
 use Rattle.ns_gate.proofs.Room.{queues_fit}
 use Rattle.ns_gate.proofs.waking.take_waiters.Goals as goal
 

@@ -1,5 +1,4 @@
-use Rattle.std.proofs.Common.{sym, ◌∙◌}
-use Rattle.ns_model.specs.Counters.{first_counter, counter_next, IsLegalCounter, IsLegalCounterEvent}
+use Rattle.ns_model.proofs.Prelude.{IsLegalCounter, IsLegalCounterEvent, counter_next, first_counter, sym, ◌∙◌}
 use Rattle.ns_model.proofs.Courses.{legal_at, legal_step}
 use Rattle.ns_model.proofs.counter.legal_counter.Goals as goal
 

@@ -1,5 +1,4 @@
-use Rattle.std.proofs.Common.{◌≡◌, take}
-use Rattle.ns_model.specs.Counters.{counter_after, IsLegalCounter}
+use Rattle.ns_model.proofs.Prelude.{IsLegalCounter, counter_after, take, ◌≡◌}
 use Rattle.ns_model.proofs.counter.legal_counter.Given as goal
 
 abbrev pub invariant-loop-event : goal.invariant-loop-event

@@ -1,7 +1,4 @@
-use borrow.Author.Count.{falls}
-use denote.Param.{number}
-use Rattle.std.proofs.Common.{length, sym, ◌∙◌}
-use Rattle.ns_model.specs.Histories.{first_standing, IsLegal}
+use Rattle.ns_model.proofs.Prelude.{IsLegal, falls, first_standing, length, number, sym, ◌∙◌}
 use Rattle.ns_model.proofs.Histories.{legal_at, legal_more}
 use Rattle.ns_model.proofs.Sizes.{events_fit}
 use Rattle.ns_model.proofs.history.legal.Goals as goal

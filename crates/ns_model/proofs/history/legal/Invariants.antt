@@ -1,5 +1,4 @@
-use Rattle.std.proofs.Common.{take}
-use Rattle.ns_model.specs.Histories.{IsLegal}
+use Rattle.ns_model.proofs.Prelude.{IsLegal, take}
 use Rattle.ns_model.proofs.history.legal.Given as goal
 
 abbrev pub invariant-loop-i : goal.invariant-loop-i

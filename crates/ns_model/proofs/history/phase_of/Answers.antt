@@ -1,6 +1,4 @@
-use Rattle.std.proofs.Common.{arith}
-use Rattle.std.proofs.lemmas.Grind.{common_steps}
-use Rattle.ns_model.specs.Histories.{first_standing}
+use Rattle.ns_model.proofs.Prelude.{arith, common_steps, first_standing}
 use Rattle.ns_model.proofs.Histories.{phases_fold}
 use Rattle.ns_model.proofs.history.phase_of.Goals as goal
 

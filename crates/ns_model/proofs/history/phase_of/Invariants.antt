@@ -1,6 +1,4 @@
-use Rattle.std.proofs.Common.{◌≡◌, take, fold}
-use Rattle.ns_model.specs.Histories.{phase_next}
-use Rattle.ns_model.specs.declared.phase.Phase.TheVariants.{Idle}
+use Rattle.ns_model.proofs.Prelude.{Idle, fold, phase_next, take, ◌≡◌}
 use Rattle.ns_model.proofs.history.phase_of.Given as goal
 
 abbrev pub invariant-loop-event : goal.invariant-loop-event

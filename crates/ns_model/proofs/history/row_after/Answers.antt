@@ -1,6 +1,4 @@
-use Rattle.std.proofs.Common.{arith}
-use Rattle.std.proofs.lemmas.Grind.{common_steps}
-use Rattle.ns_model.specs.Histories.{first_standing}
+use Rattle.ns_model.proofs.Prelude.{arith, common_steps, first_standing}
 use Rattle.ns_model.proofs.Histories.{row_fold}
 use Rattle.ns_model.proofs.history.row_after.Goals as goal
 

@@ -1,5 +1,4 @@
-use Rattle.std.proofs.Common.{◌≡◌, take, fold, replicate}
-use Rattle.ns_model.specs.Histories.{row_next}
+use Rattle.ns_model.proofs.Prelude.{fold, replicate, row_next, take, ◌≡◌}
 use Rattle.ns_model.proofs.history.row_after.Given as goal
 
 abbrev pub invariant-loop-event : goal.invariant-loop-event

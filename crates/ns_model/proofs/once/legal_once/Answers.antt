@@ -1,6 +1,4 @@
-use Rattle.std.proofs.Common.{sym, ◌∙◌}
-use Rattle.ns_model.specs.Onces.{once_next, IsLegalOnce, IsLegalOnceEvent}
-use Rattle.ns_model.specs.declared.once.OnceState.TheVariants.{Unused}
+use Rattle.ns_model.proofs.Prelude.{IsLegalOnce, IsLegalOnceEvent, Unused, once_next, sym, ◌∙◌}
 use Rattle.ns_model.proofs.Courses.{legal_at}
 use Rattle.ns_model.proofs.once.legal_once.Goals as goal
 

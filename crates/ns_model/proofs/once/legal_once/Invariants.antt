@@ -1,5 +1,4 @@
-use Rattle.std.proofs.Common.{◌≡◌, take}
-use Rattle.ns_model.specs.Onces.{once_after, IsLegalOnce}
+use Rattle.ns_model.proofs.Prelude.{IsLegalOnce, once_after, take, ◌≡◌}
 use Rattle.ns_model.proofs.once.legal_once.Given as goal
 
 abbrev pub invariant-loop-event : goal.invariant-loop-event

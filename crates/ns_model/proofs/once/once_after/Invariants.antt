@@ -1,6 +1,4 @@
-use Rattle.std.proofs.Common.{◌≡◌, take, fold}
-use Rattle.ns_model.specs.Onces.{once_next}
-use Rattle.ns_model.specs.declared.once.OnceState.TheVariants.{Unused}
+use Rattle.ns_model.proofs.Prelude.{Unused, fold, once_next, take, ◌≡◌}
 use Rattle.ns_model.proofs.once.once_after.Given as goal
 
 abbrev pub invariant-loop-event : goal.invariant-loop-event

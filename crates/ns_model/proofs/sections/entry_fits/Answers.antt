@@ -1,6 +1,4 @@
-use Rattle.std.proofs.Common.{arith, refl, sym, ◌∙◌}
-use Rattle.std.specs.Cmp.{booleans_Decides}
-use Rattle.std.proofs.lemmas.Bool.{eq-eqb, eqb-true, false≢true}
+use Rattle.ns_model.proofs.Prelude.{arith, booleans_Decides, eq-eqb, eqb-true, false≢true, refl, sym, ◌∙◌}
 use Rattle.ns_model.proofs.Entries.{after_cv_at_end, met_told, mode_same, mode_told, plain_at_rest, waited_at_wait}
 use Rattle.ns_model.proofs.sections.entry_fits.Goals as goal
 use Rattle.ns_model.proofs.sections.entry_fits.Goals.{then-eq, else-eq, then-eq-2, else-eq-2, then-eq-3, else-eq-3}

@@ -1,5 +1,4 @@
-use Rattle.std.proofs.Common.{arith, sym, ◌∙◌}
-use Rattle.std.proofs.lemmas.Bool.{eq-eqb, eqb-true, ne_eqb}
+use Rattle.ns_model.proofs.Prelude.{arith, eq-eqb, eqb-true, ne_eqb, sym, ◌∙◌}
 use Rattle.ns_model.proofs.wakes.broadcast_fits.Goals as goal
 
 pub count-requires : goal.count-requires

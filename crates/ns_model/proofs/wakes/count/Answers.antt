@@ -1,7 +1,4 @@
-use borrow.Author.Count.{falls}
-use Rattle.std.proofs.Common.{sym}
-use Rattle.ns_model.specs.Counted.{is_counted}
-use Rattle.ns_model.specs.Histories.{standing_after}
+use Rattle.ns_model.proofs.Prelude.{falls, is_counted, standing_after, sym}
 use Rattle.ns_model.proofs.Counts.{count_none, count_told, count_yes, count_no, count_fits, count_whole}
 use Rattle.ns_model.proofs.wakes.count.Goals as goal
 use Rattle.ns_model.proofs.wakes.count.Goals.{then-is_counted, else-is_counted}

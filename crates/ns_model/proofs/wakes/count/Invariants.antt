@@ -1,7 +1,4 @@
-use Rattle.std.proofs.Common.{◌≡◌}
-use Rattle.ns_model.specs.Phases.{count_seats}
-use Rattle.ns_model.specs.Counted.{is_counted}
-use Rattle.ns_model.specs.Histories.{standing_after}
+use Rattle.ns_model.proofs.Prelude.{count_seats, is_counted, standing_after, ◌≡◌}
 use Rattle.ns_model.proofs.wakes.count.Given as goal
 
 -- the count of the seats so far

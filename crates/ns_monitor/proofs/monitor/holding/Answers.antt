@@ -1,4 +1,4 @@
-use Rattle.ns_monitor.specs.Prelude.{the}
+use Rattle.ns_monitor.proofs.Prelude.{the}
 use Rattle.ns_monitor.proofs.Returns.{fits_fresh}
 use Rattle.ns_monitor.proofs.monitor.holding.Goals as goal
 

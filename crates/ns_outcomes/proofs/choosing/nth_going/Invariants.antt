@@ -1,5 +1,4 @@
-use Rattle.std.proofs.Common.{◌≡◌, ◌≤◌, take}
-use Rattle.ns_outcomes.specs.Standings.{going}
+use Rattle.ns_outcomes.proofs.Prelude.{going, take, ◌≡◌, ◌≤◌}
 use Rattle.ns_outcomes.proofs.choosing.nth_going.Given as goal
 
 abbrev pub invariant-loop-thread : goal.invariant-loop-thread

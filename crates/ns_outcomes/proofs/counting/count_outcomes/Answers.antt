@@ -1,7 +1,4 @@
-use Rattle.std.proofs.Common.{◌≡◌, ℕ, ◌+◌, ◌^◌, ◌<◌, length, ap, subst, arith, string_bytes}
-use Rattle.std.proofs.lemmas.Result.{err_from_is_err_and}
-use Rattle.ns_replay.specs.Script.{plan_of}
-use Rattle.ns_outcomes.specs.Tallies.{AreRuns, seed_at}
+use Rattle.ns_outcomes.proofs.Prelude.{AreRuns, ap, arith, err_from_is_err_and, length, plan_of, seed_at, string_bytes, subst, ℕ, ◌+◌, ◌<◌, ◌^◌, ◌≡◌}
 use Rattle.ns_outcomes.proofs.Tallies.{has_room, long_run, no_runs, one_more}
 use Rattle.ns_outcomes.proofs.counting.count_outcomes.Goals as goal
 

@@ -1,4 +1,4 @@
-use Rattle.ns_replay.specs.Script.{plan_of}
+use Rattle.ns_outcomes.proofs.Prelude.{plan_of}
 use Rattle.ns_outcomes.proofs.Tallies.{HaveRun}
 use Rattle.ns_outcomes.proofs.counting.count_outcomes.Given as goal
 

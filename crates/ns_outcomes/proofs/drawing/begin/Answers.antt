@@ -1,9 +1,4 @@
-use Rattle.std.proofs.Common.{length, map, rules, arith, refl}
-use Rattle.ns_world.specs.Runs.{progress}
-use Rattle.ns_world.specs.Whole.{whole_of}
-use Rattle.ns_world.proofs.Counted.{start_counted}
-use Rattle.ns_replay.specs.Condition.{script_truths}
-use Rattle.ns_replay.proofs.Runs.{idle_world, lists_fit, world_is}
+use Rattle.ns_outcomes.proofs.Prelude.{arith, idle_world, length, lists_fit, map, progress, refl, rules, script_truths, start_counted, whole_of, world_is}
 use Rattle.ns_outcomes.proofs.Begun.{begun_own, own_stops, standings_many}
 use Rattle.ns_outcomes.proofs.drawing.begin.Goals as goal
 

@@ -1,7 +1,4 @@
-use Rattle.std.proofs.lemmas.Result.{err_from_is_err_and}
-use Rattle.ns_replay.proofs.Runs.{lists_fit}
-use Rattle.ns_replay.specs.Script.{plan_of}
-use Rattle.ns_outcomes.specs.Drawn.{stage_of}
+use Rattle.ns_outcomes.proofs.Prelude.{err_from_is_err_and, lists_fit, plan_of, stage_of}
 use Rattle.ns_outcomes.proofs.Begun.{begun_stops, own_fault}
 use Rattle.ns_outcomes.proofs.drawing.draw.Goals as goal
 

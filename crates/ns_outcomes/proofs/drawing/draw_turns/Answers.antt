@@ -1,8 +1,4 @@
-use Rattle.std.proofs.Common.{map}
-use Rattle.ns_world.specs.Runs.{Turned}
-use Rattle.ns_world.specs.Whole.{whole_of}
-use Rattle.ns_replay.specs.Condition.{script_truths}
-use Rattle.ns_outcomes.specs.Drawn.{stage_of}
+use Rattle.ns_outcomes.proofs.Prelude.{Turned, map, script_truths, stage_of, whole_of}
 use Rattle.ns_outcomes.proofs.Draws.{drawing_stops, drew_more}
 use Rattle.ns_outcomes.proofs.drawing.draw_turns.Goals as goal
 

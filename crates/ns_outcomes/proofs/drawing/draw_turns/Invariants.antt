@@ -1,8 +1,4 @@
-use Rattle.std.proofs.Common.{◌-◌, ◌≤◌, length, map}
-use Rattle.ns_world.specs.Runs.{IsCounted}
-use Rattle.ns_world.specs.Whole.{whole_of}
-use Rattle.ns_replay.specs.Condition.{script_truths}
-use Rattle.ns_outcomes.specs.Drawn.{Drew, stage_of}
+use Rattle.ns_outcomes.proofs.Prelude.{Drew, IsCounted, length, map, script_truths, stage_of, whole_of, ◌-◌, ◌≤◌}
 use Rattle.ns_outcomes.proofs.drawing.draw_turns.Given as goal
 
 -- the turns so far

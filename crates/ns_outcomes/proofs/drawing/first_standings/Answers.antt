@@ -1,7 +1,4 @@
-use Rattle.std.proofs.Common.{◌∙◌, map}
-use Rattle.ns_world.specs.Runs.{progress}
-use Rattle.ns_world.specs.Whole.{whole_of}
-use Rattle.ns_replay.specs.Condition.{script_truths}
+use Rattle.ns_outcomes.proofs.Prelude.{map, progress, script_truths, whole_of, ◌∙◌}
 use Rattle.ns_outcomes.proofs.Begun.{first_is, one_standing}
 use Rattle.ns_outcomes.proofs.drawing.first_standings.Goals as goal
 

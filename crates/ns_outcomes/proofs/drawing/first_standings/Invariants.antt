@@ -1,9 +1,4 @@
-use Rattle.std.proofs.Common.{◌≡◌, map}
-use Rattle.std.specs.List.{range_with_len}
-use Rattle.ns_world.specs.Runs.{progress}
-use Rattle.ns_world.specs.Whole.{whole_of}
-use Rattle.ns_replay.specs.Condition.{script_truths}
-use Rattle.ns_outcomes.specs.Drawn.{first_standing}
+use Rattle.ns_outcomes.proofs.Prelude.{first_standing, map, progress, range_with_len, script_truths, whole_of, ◌≡◌}
 use Rattle.ns_outcomes.proofs.drawing.first_standings.Given as goal
 
 abbrev pub invariant-loop-thread : goal.invariant-loop-thread

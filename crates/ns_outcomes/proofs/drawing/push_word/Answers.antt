@@ -1,6 +1,4 @@
-use Rattle.std.proofs.Common.{false, inl, inr, refl, sym, arith}
-use Rattle.std.proofs.lemmas.List.{nil_from_length}
-use Rattle.ns_world.specs.declared.schedule.Turn.{Turn}
+use Rattle.ns_outcomes.proofs.Prelude.{Turn, arith, false, inl, inr, nil_from_length, refl, sym}
 use Rattle.ns_outcomes.proofs.Draws.{fewest_first, fewest_longer, fewest_next, not_whole}
 use Rattle.ns_outcomes.proofs.drawing.push_word.Goals.{in-Some+then-last-thread+then-not-last+then-last-lt1000000, in-Some+else-last-thread+in_ok-push, else-last-thread-via-then-last-thread+then-not-last+else-last-lt1000000}
 use Rattle.ns_outcomes.proofs.drawing.push_word.Goals.{else-last-thread-via-then-last-thread+else-not-last, else-last-thread-via-else-last-thread, in_default}

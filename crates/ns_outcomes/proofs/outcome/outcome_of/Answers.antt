@@ -1,11 +1,4 @@
-use Rattle.std.proofs.Common.{string_bytes}
-use Rattle.std.specs.Prelude.{flat_map}
-use Rattle.std.specs.List.{range_with_len}
-use Rattle.ns_model.specs.Seats.{is_in}
-use Rattle.ns_world.specs.Whole.{whole_busy, whole_of}
-use Rattle.ns_replay.specs.Condition.{script_truths}
-use Rattle.ns_replay.specs.Text.{row_text}
-use Rattle.ns_outcomes.specs.Outcomes.{outcome_text, thread_text}
+use Rattle.ns_outcomes.proofs.Prelude.{flat_map, is_in, outcome_text, range_with_len, row_text, script_truths, string_bytes, thread_text, whole_busy, whole_of}
 use Rattle.ns_outcomes.proofs.Runs.{threads_same, two_parts}
 use Rattle.ns_outcomes.proofs.outcome.outcome_of.Goals as goal
 

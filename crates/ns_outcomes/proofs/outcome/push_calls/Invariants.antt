@@ -1,6 +1,4 @@
-use Rattle.std.proofs.Common.{◌≡◌, ◌++◌, take, string_bytes}
-use Rattle.std.specs.Prelude.{flat_map}
-use Rattle.ns_outcomes.specs.Outcomes.{call_of_text}
+use Rattle.ns_outcomes.proofs.Prelude.{call_of_text, flat_map, string_bytes, take, ◌++◌, ◌≡◌}
 use Rattle.ns_outcomes.proofs.outcome.push_calls.Given as goal
 
 abbrev pub invariant-loop-line : goal.invariant-loop-line

@@ -1,9 +1,4 @@
-use Rattle.std.proofs.Common.{string_bytes}
-use Rattle.std.specs.Prelude.{flat_map}
-use Rattle.std.specs.List.{range_with_len}
-use Rattle.ns_model.specs.Seats.{is_in}
-use Rattle.ns_replay.proofs.Texts.{grows, flat_map-range}
-use Rattle.ns_outcomes.specs.Outcomes.{thread_text}
+use Rattle.ns_outcomes.proofs.Prelude.{flat_map, flat_map-range, grows, is_in, range_with_len, string_bytes, thread_text}
 use Rattle.ns_outcomes.proofs.outcome.push_threads.Goals as goal
 
 pub loop-thread-preserved : goal.loop-thread-preserved

@@ -1,7 +1,4 @@
-use Rattle.std.proofs.Common.{◌≡◌, length, refl, rules, string_bytes}
-use Rattle.ns_world.specs.Whole.{whole_of}
-use Rattle.ns_replay.specs.Condition.{script_truths}
-use Rattle.ns_outcomes.specs.Drawn.{stage_of}
+use Rattle.ns_outcomes.proofs.Prelude.{length, refl, rules, script_truths, stage_of, string_bytes, whole_of, ◌≡◌}
 use Rattle.ns_outcomes.proofs.Begun.{seed_run}
 use Rattle.ns_outcomes.proofs.outcome.run_seed.Goals as goal
 

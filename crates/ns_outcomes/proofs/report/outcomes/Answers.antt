@@ -1,7 +1,4 @@
-use Rattle.std.proofs.Common.{◌∙◌, string_bytes, subst, sym}
-use Rattle.std.proofs.lemmas.Result.{err_from_is_err_and}
-use Rattle.ns_replay.proofs.Outcomes.{unread}
-use Rattle.ns_outcomes.specs.Answers.{IsReport, IsUndrawn}
+use Rattle.ns_outcomes.proofs.Prelude.{IsReport, IsUndrawn, err_from_is_err_and, string_bytes, subst, sym, unread, ◌∙◌}
 use Rattle.ns_outcomes.proofs.Written.{only_write, read_all, refused, unread_by, written}
 use Rattle.ns_outcomes.proofs.report.outcomes.Goals as goal
 

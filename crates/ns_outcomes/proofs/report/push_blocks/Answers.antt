@@ -1,5 +1,4 @@
-use Rattle.std.proofs.Common.{◌+◌, take, string_bytes}
-use Rattle.ns_outcomes.specs.Tallies.{block_text, blocks_text}
+use Rattle.ns_outcomes.proofs.Prelude.{block_text, blocks_text, string_bytes, take, ◌+◌}
 use Rattle.ns_outcomes.proofs.Tallies.{blocks_step, grows}
 use Rattle.ns_outcomes.proofs.report.push_blocks.Goals as goal
 

@@ -1,5 +1,4 @@
-use Rattle.std.proofs.Common.{◌≡◌, ◌++◌, take, string_bytes}
-use Rattle.ns_outcomes.specs.Tallies.{blocks_text}
+use Rattle.ns_outcomes.proofs.Prelude.{blocks_text, string_bytes, take, ◌++◌, ◌≡◌}
 use Rattle.ns_outcomes.proofs.report.push_blocks.Given as goal
 
 abbrev pub invariant-loop-before : goal.invariant-loop-before

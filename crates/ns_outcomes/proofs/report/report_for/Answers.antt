@@ -1,5 +1,4 @@
-use Rattle.std.proofs.lemmas.Result.{err_from_is_err_and}
-use Rattle.ns_replay.specs.Script.{plan_of}
+use Rattle.ns_outcomes.proofs.Prelude.{err_from_is_err_and, plan_of}
 use Rattle.ns_outcomes.proofs.Written.{refused, uncounted}
 use Rattle.ns_outcomes.proofs.report.report_for.Goals as goal
 

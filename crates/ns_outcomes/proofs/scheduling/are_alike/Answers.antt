@@ -1,4 +1,4 @@
-use Rattle.std.proofs.Common.{rules}
+use Rattle.ns_outcomes.proofs.Prelude.{rules}
 use Rattle.ns_outcomes.proofs.Runs.{not_false, number_same, pointwise_other, pointwise_same}
 use Rattle.ns_outcomes.proofs.scheduling.are_alike.Goals as goal
 

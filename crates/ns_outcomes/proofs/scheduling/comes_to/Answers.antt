@@ -1,8 +1,4 @@
-use Rattle.std.proofs.Common.{◌≡◌, ◌∙◌, true, false, inr, length, refl, rules, string_bytes, sym}
-use Rattle.std.specs.Cmp.Lexicographic.{bytes_decides, same_text}
-use Rattle.ns_world.specs.Whole.{whole_of}
-use Rattle.ns_replay.specs.Condition.{script_truths}
-use Rattle.ns_replay.specs.Script.{plan_of}
+use Rattle.ns_outcomes.proofs.Prelude.{bytes_decides, false, inr, length, plan_of, refl, rules, same_text, script_truths, string_bytes, sym, true, whole_of, ◌∙◌, ◌≡◌}
 use Rattle.ns_outcomes.proofs.Runs.{comes, ends_otherwise}
 use Rattle.ns_outcomes.proofs.scheduling.comes_to.Goals as goal
 

@@ -1,4 +1,4 @@
-use Rattle.serde_json.specs.View.{view}
+use Rattle.ns_outcomes.proofs.Prelude.{view}
 use Rattle.ns_outcomes.proofs.Texts.{all_members}
 use Rattle.ns_outcomes.proofs.scheduling.push_members.Goals as goal
 

@@ -1,6 +1,4 @@
-use Rattle.std.proofs.Common.{◌≡◌, ◌++◌, take, string_bytes}
-use Rattle.std.specs.Prelude.{flat_map}
-use Rattle.ns_outcomes.specs.Texts.{next_text}
+use Rattle.ns_outcomes.proofs.Prelude.{flat_map, next_text, string_bytes, take, ◌++◌, ◌≡◌}
 use Rattle.ns_outcomes.proofs.scheduling.push_next.Given as goal
 
 abbrev pub invariant-loop-word : goal.invariant-loop-word

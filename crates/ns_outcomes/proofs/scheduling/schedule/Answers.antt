@@ -1,7 +1,4 @@
-use Rattle.std.proofs.Common.{◌∙◌, string_bytes, subst, sym}
-use Rattle.std.proofs.lemmas.Result.{err_from_is_err_and}
-use Rattle.ns_replay.proofs.Outcomes.{unread}
-use Rattle.ns_outcomes.specs.Answers.{IsScheduled, IsUnscheduled}
+use Rattle.ns_outcomes.proofs.Prelude.{IsScheduled, IsUnscheduled, err_from_is_err_and, string_bytes, subst, sym, unread, ◌∙◌}
 use Rattle.ns_outcomes.proofs.Written.{only_write, read_all, unread_by, unscheduled, written}
 use Rattle.ns_outcomes.proofs.scheduling.schedule.Goals as goal
 

@@ -1,6 +1,4 @@
-use Rattle.std.proofs.Common.{◌<◌, ◌≤◌, ◌∙◌, ◌++◌, length, ap, subst, inr, string_bytes, arith}
-use Rattle.std.proofs.lemmas.Result.{err_from_is_err_and}
-use Rattle.ns_replay.specs.Script.{plan_of}
+use Rattle.ns_outcomes.proofs.Prelude.{ap, arith, err_from_is_err_and, inr, length, plan_of, string_bytes, subst, ◌++◌, ◌<◌, ◌∙◌, ◌≤◌}
 use Rattle.ns_outcomes.proofs.Texts.{has_run, has_text}
 use Rattle.ns_outcomes.proofs.Written.{no_run, unscheduled}
 use Rattle.ns_outcomes.proofs.scheduling.script_for.Goals as goal

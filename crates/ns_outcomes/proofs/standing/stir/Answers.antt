@@ -1,7 +1,4 @@
-use Rattle.std.proofs.Common.{◌<◌, length, arith}
-use Rattle.std.proofs.lemmas.List.{get_or_default}
-use Rattle.std.proofs.lemmas.List.Edits.{map_over_more}
-use Rattle.ns_outcomes.specs.Standings.{stirred}
+use Rattle.ns_outcomes.proofs.Prelude.{arith, get_or_default, length, map_over_more, stirred, ◌<◌}
 use Rattle.ns_outcomes.proofs.standing.stir.Goals as goal
 
 pub loop-standing-preserved : goal.loop-standing-preserved

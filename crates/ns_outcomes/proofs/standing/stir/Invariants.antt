@@ -1,5 +1,4 @@
-use Rattle.std.proofs.Common.{◌≡◌, ◌++◌, take, drop, map}
-use Rattle.ns_outcomes.specs.Standings.{stirred}
+use Rattle.ns_outcomes.proofs.Prelude.{drop, map, stirred, take, ◌++◌, ◌≡◌}
 use Rattle.ns_outcomes.proofs.standing.stir.Given as goal
 
 abbrev pub invariant-loop-standing : goal.invariant-loop-standing

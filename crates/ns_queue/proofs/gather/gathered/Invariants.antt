@@ -1,5 +1,4 @@
-use Rattle.std.proofs.Common.{◌≡◌, length}
-use Rattle.ns_queue.specs.Prelude.{ahead, from}
+use Rattle.ns_queue.proofs.Prelude.{ahead, from, length, ◌≡◌}
 use Rattle.ns_queue.proofs.gather.gathered.Given as goal
 
 -- those so far

@@ -1,9 +1,5 @@
-use Rattle.std.proofs.Common.{rules, ◌++◌, ◌∷◌, [], ap, map, sym, ◌∙◌}
-use Rattle.std.proofs.lemmas.List.{length-map, map-append}
-use Rattle.ns_queue.specs.Prelude.{ahead, shown_of}
+use Rattle.ns_queue.proofs.Prelude.{[], ahead, ap, length-map, map, map-append, number, ring_fits, rules, shown_of, sym, ◌++◌, ◌∙◌, ◌∷◌}
 use Rattle.ns_queue.proofs.Places.{ahead_few, from_none, own, seated_stands, smaller, stepped}
-use Rattle.ns_queue.specs.Sizes.{ring_fits}
-use denote.Param.{number}
 use Rattle.ns_queue.proofs.gather.shown_ring.Goals as goal
 
 pub loop-waiter-init : goal.loop-waiter-init

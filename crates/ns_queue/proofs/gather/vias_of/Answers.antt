@@ -1,12 +1,6 @@
-use Rattle.std.proofs.Common.{◌∙◌}
-use Rattle.ns_queue.specs.Sizes.{ring_fits}
-use denote.Param.{number}
+use Rattle.ns_queue.proofs.Prelude.{ap, falls, length, map, number, ring_fits, seated, take_all, via_in, ◌∙◌}
 use Rattle.ns_queue.proofs.Orders.{room_at, bytes_136}
 use Rattle.ns_queue.proofs.Vias.{vias_on, vias_count}
-use Rattle.std.proofs.Common.{ap, map, length}
-use Rattle.std.proofs.lemmas.List.{take_all}
-use borrow.Author.Count.{falls}
-use Rattle.ns_queue.specs.Prelude.{seated, via_in}
 use Rattle.ns_queue.proofs.gather.vias_of.Goals as goal
 
 pub via_at-requires : goal.via_at-requires

@@ -1,9 +1,7 @@
-use Rattle.std.proofs.Common.{arith}
+use Rattle.ns_queue.proofs.Prelude.{arith, number, ring_fits}
 use Rattle.ns_queue.proofs.Making.{next_place}
 use Rattle.ns_queue.proofs.Places.{seated_low, standing}
 use Rattle.ns_queue.proofs.Running.{next_begins, next_run}
-use Rattle.ns_queue.specs.Sizes.{ring_fits}
-use denote.Param.{number}
 use Rattle.ns_queue.proofs.lock_list.beyond.Goals as goal
 
 pub bounds-heads-next : goal.bounds-heads-next

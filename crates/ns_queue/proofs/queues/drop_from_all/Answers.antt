@@ -1,9 +1,7 @@
-use Rattle.ns_queue.specs.Prelude.{outside}
+use Rattle.ns_queue.proofs.Prelude.{falls, length, outside, refl}
 use Rattle.ns_queue.proofs.Orders.{list_small, still_in}
 use Rattle.ns_queue.proofs.Inside.{lists_more}
 use Rattle.ns_queue.proofs.Outside.{next_below}
-use Rattle.std.proofs.Common.{refl, length}
-use borrow.Author.Count.{falls}
 use Rattle.ns_queue.proofs.queues.drop_from_all.Goals as goal
 
 pub loop-list-preserved : goal.loop-list-preserved

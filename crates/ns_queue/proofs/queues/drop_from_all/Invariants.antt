@@ -1,5 +1,4 @@
-use Rattle.std.proofs.Common.{◌≡◌, take, drop, map, ◌++◌}
-use Rattle.ns_queue.specs.Prelude.{outside}
+use Rattle.ns_queue.proofs.Prelude.{drop, map, outside, take, ◌++◌, ◌≡◌}
 use Rattle.ns_queue.proofs.queues.drop_from_all.Given as goal
 
 -- the lists so far are without the set

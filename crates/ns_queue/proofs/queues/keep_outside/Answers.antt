@@ -1,7 +1,4 @@
-use Rattle.std.proofs.Common.{◌≡◌, ℕ, ◌≤◌, ◌<◌, ◌∙◌, length, get_or, refl, sym, arith, rules}
-use Rattle.std.proofs.lemmas.List.{get_or_default}
-use Rattle.std.proofs.lemmas.List.Filters.{FiltersInPlace-all, FiltersInPlace-more_no, FiltersInPlace-more_set, FiltersInPlace-more_here}
-use borrow.Author.Rules.{scaled_Fits}
+use Rattle.ns_queue.proofs.Prelude.{FiltersInPlace-all, FiltersInPlace-more_here, FiltersInPlace-more_no, FiltersInPlace-more_set, arith, get_or, get_or_default, length, refl, rules, scaled_Fits, sym, ℕ, ◌<◌, ◌∙◌, ◌≡◌, ◌≤◌}
 use Rattle.ns_queue.proofs.Outside.{place_low}
 use Rattle.ns_queue.proofs.queues.keep_outside.Goals.{then-not-contains, else-not-contains, then-kept-i, else-kept-i}
 use Rattle.ns_queue.proofs.queues.keep_outside.Goals as goal

@@ -1,6 +1,4 @@
-use Rattle.std.proofs.Common.{not}
-use Rattle.std.proofs.lemmas.List.Filters.{FiltersInPlace}
-use Rattle.ns_queue.specs.Prelude.{is_in}
+use Rattle.ns_queue.proofs.Prelude.{FiltersInPlace, is_in, not}
 use Rattle.ns_queue.proofs.queues.keep_outside.Given as goal
 
 -- those outside the set so far stand in front

@@ -1,7 +1,4 @@
-use Rattle.std.proofs.Common.{◌≡◌, ◌++◌, ◌∷◌, [], length, map, take, ap, sym, ◌∙◌, arith, length-take}
-use Rattle.std.proofs.Math.Seq.{take-length}
-use Rattle.std.proofs.lemmas.List.{take_more, map-append, length-map}
-use Rattle.ns_queue.specs.Prelude.{shown_of}
+use Rattle.ns_queue.proofs.Prelude.{[], ap, arith, length, length-map, length-take, map, map-append, shown_of, sym, take, take-length, take_more, ◌++◌, ◌∙◌, ◌∷◌, ◌≡◌}
 use Rattle.ns_queue.proofs.queues.shown_slice.Goals as goal
 
 pub push-requires : goal.push-requires

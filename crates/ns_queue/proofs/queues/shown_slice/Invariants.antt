@@ -1,5 +1,4 @@
-use Rattle.std.proofs.Common.{◌≡◌, take, map}
-use Rattle.ns_queue.specs.Prelude.{shown_of}
+use Rattle.ns_queue.proofs.Prelude.{map, shown_of, take, ◌≡◌}
 use Rattle.ns_queue.proofs.queues.shown_slice.Given as goal
 
 abbrev pub invariant-loop-waiter : goal.invariant-loop-waiter

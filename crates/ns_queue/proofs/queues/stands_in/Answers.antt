@@ -1,4 +1,4 @@
-use Rattle.std.proofs.Common.{refl}
+use Rattle.ns_queue.proofs.Prelude.{refl}
 use Rattle.ns_queue.proofs.Seats.{found_in, not_here, nowhere_in}
 use Rattle.ns_queue.proofs.queues.stands_in.Goals as goal
 

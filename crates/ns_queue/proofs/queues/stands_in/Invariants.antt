@@ -1,5 +1,4 @@
-use Rattle.std.proofs.Common.{◌≡◌, take}
-use Rattle.ns_queue.specs.Prelude.{times_in}
+use Rattle.ns_queue.proofs.Prelude.{take, times_in, ◌≡◌}
 use Rattle.ns_queue.proofs.queues.stands_in.Given as goal
 
 -- so far the seat doesn't stand there

@@ -1,7 +1,6 @@
-use Rattle.std.proofs.Common.{refl}
+use Rattle.ns_queue.proofs.Prelude.{falls, refl}
 use Rattle.ns_queue.proofs.Inside.{some_list, more_lists, told_yes, told_no}
 use Rattle.ns_queue.proofs.Orders.{list_small, offset_fits, still_in}
-use borrow.Author.Count.{falls}
 use Rattle.ns_queue.proofs.queues.stands_in_any.Goals as goal
 
 pub returns-then-stands_in : goal.returns-then-stands_in

@@ -1,6 +1,4 @@
-use Rattle.std.proofs.Common.{◌≡◌, take, map}
-use Rattle.std.specs.List.{sum_by}
-use Rattle.ns_queue.specs.Prelude.{times_in}
+use Rattle.ns_queue.proofs.Prelude.{map, sum_by, take, times_in, ◌≡◌}
 use Rattle.ns_queue.proofs.queues.stands_in_any.Given as goal
 
 -- so far the seat stands in none

@@ -1,8 +1,6 @@
-use Rattle.std.proofs.Common.{ap, get_or, sym, ◌∙◌, arith}
+use Rattle.ns_queue.proofs.Prelude.{ap, arith, get_or, number, ring_fits, sym, ◌∙◌}
 use Rattle.ns_queue.proofs.Making.{dropped, inner, next_place, prev_place}
 use Rattle.ns_queue.proofs.Ringed.{stands_low}
-use Rattle.ns_queue.specs.Sizes.{ring_fits}
-use denote.Param.{number}
 use Rattle.ns_queue.proofs.remake.mend.Goals as goal
 
 pub bounds-heads-seat : goal.bounds-heads-seat

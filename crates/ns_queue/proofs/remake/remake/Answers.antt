@@ -1,9 +1,6 @@
-use Rattle.std.proofs.Common.{true, false, sym, arith}
-use Rattle.std.specs.Option.{option_copied}
+use Rattle.ns_queue.proofs.Prelude.{arith, false, number, option_copied, ring_fits, sym, true}
 use Rattle.ns_queue.proofs.Making.{head_low, joins_told, made_begun, made_ends, made_joins, made_stops, run_read}
 use Rattle.ns_queue.proofs.Places.{seated_low, seated_stands, smaller}
-use Rattle.ns_queue.specs.Sizes.{ring_fits}
-use denote.Param.{number}
 use Rattle.ns_queue.proofs.remake.remake.Goals.{then-not-joins+else-heads-at, else-not-joins}
 use Rattle.ns_queue.proofs.remake.remake.Goals as goal
 

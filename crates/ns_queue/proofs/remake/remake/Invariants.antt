@@ -1,5 +1,4 @@
-use Rattle.std.proofs.Common.{length}
-use Rattle.ns_queue.specs.Prelude.{MadeUpTo, from}
+use Rattle.ns_queue.proofs.Prelude.{MadeUpTo, from, length}
 use Rattle.ns_queue.proofs.remake.remake.Given as goal
 
 -- the links are made up to here

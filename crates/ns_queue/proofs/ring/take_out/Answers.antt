@@ -1,10 +1,7 @@
-use Rattle.std.proofs.Common.{slice_index, sym, ◌-◌, arith}
-use Rattle.ns_queue.specs.Prelude.{times_in}
+use Rattle.ns_queue.proofs.Prelude.{arith, number, ring_fits, slice_index, sym, times_in, ◌-◌}
 use Rattle.ns_queue.proofs.Inside.{told_no, told_yes}
 use Rattle.ns_queue.proofs.Leaving.{all_on}
 use Rattle.ns_queue.proofs.Seats.{none_without}
-use Rattle.ns_queue.specs.Sizes.{ring_fits}
-use denote.Param.{number}
 use Rattle.ns_queue.proofs.Orders.{last_in, one_down, less_within}
 use Rattle.ns_queue.proofs.ring.take_out.Goals as goal
 

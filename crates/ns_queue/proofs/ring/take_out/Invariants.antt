@@ -1,5 +1,4 @@
-use Rattle.std.proofs.Common.{◌≡◌, ◌≤◌, drop, length}
-use Rattle.ns_queue.specs.Prelude.{without_all}
+use Rattle.ns_queue.proofs.Prelude.{drop, length, without_all, ◌≡◌, ◌≤◌}
 use Rattle.ns_queue.proofs.ring.take_out.Given as goal
 
 -- those from here on are out

@@ -1,5 +1,4 @@
-use Rattle.ns_queue.specs.Sizes.{row_fits}
-use denote.Param.{number}
+use Rattle.ns_queue.proofs.Prelude.{number, row_fits}
 use Rattle.ns_queue.proofs.scan.ask.Goals as goal
 
 pub is_met-requires : goal.is_met-requires

@@ -1,11 +1,7 @@
-use Rattle.std.proofs.Common.{◌++◌, ◌∷◌, [], inl, inr, ap, sym, ◌∙◌}
-use Rattle.std.specs.Option.{option_copied}
-use Rattle.ns_queue.specs.Prelude.{Sought, reads}
+use Rattle.ns_queue.proofs.Prelude.{Sought, [], ap, inl, inr, number, option_copied, reads, ring_fits, row_fits, sym, ◌++◌, ◌∙◌, ◌∷◌}
 use Rattle.ns_queue.proofs.Asking.{Enters}
 use Rattle.ns_queue.proofs.Places.{seated_stands, smaller}
 use Rattle.ns_queue.proofs.Reading.{look_fits, none_taken, reads_end, reads_few, reads_on, reads_start, writer_taken}
-use Rattle.ns_queue.specs.Sizes.{ring_fits, row_fits}
-use denote.Param.{number}
 use Rattle.ns_queue.proofs.Orders.{bytes_72}
 use Rattle.ns_queue.proofs.scan.choose.Goals.{then-not-is_alike, else-not-is_alike}
 use Rattle.ns_queue.proofs.scan.choose.Goals as goal

@@ -1,6 +1,4 @@
-use Rattle.std.proofs.Common.{length}
-use Rattle.std.specs.Option.{option_copied}
-use Rattle.ns_queue.specs.Prelude.{from}
+use Rattle.ns_queue.proofs.Prelude.{from, length, option_copied}
 use Rattle.ns_queue.proofs.Reading.{Reads}
 use Rattle.ns_queue.proofs.scan.choose.Given as goal
 

@@ -1,5 +1,4 @@
-use Rattle.ns_queue.specs.Sizes.{row_fits}
-use denote.Param.{number}
+use Rattle.ns_queue.proofs.Prelude.{number, row_fits}
 use Rattle.ns_queue.proofs.scan.look_at.Goals as goal
 
 pub ask-answer-requires : goal.ask-answer-requires

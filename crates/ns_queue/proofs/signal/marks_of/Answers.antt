@@ -1,7 +1,6 @@
-use Rattle.std.proofs.Common.{arith, refl, length}
+use Rattle.ns_queue.proofs.Prelude.{arith, falls, length, refl}
 use Rattle.ns_queue.proofs.Marking.{signal_on}
 use Rattle.ns_queue.proofs.Orders.{at_most, room_at, bytes_72}
-use borrow.Author.Count.{falls}
 use Rattle.ns_queue.proofs.signal.marks_of.Goals as goal
 
 pub loop-waiter-preserved : goal.loop-waiter-preserved

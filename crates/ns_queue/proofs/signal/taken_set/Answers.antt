@@ -1,6 +1,4 @@
-use Rattle.std.proofs.Common.{nat_lt, ap, ◌∙◌}
-use Rattle.std.proofs.lemmas.List.{take_all}
-use Rattle.ns_queue.specs.Prelude.{times_in}
+use Rattle.ns_queue.proofs.Prelude.{ap, nat_lt, take_all, times_in, ◌∙◌}
 use Rattle.ns_queue.proofs.Taken.{low_at, set_more, set_whole}
 use Rattle.ns_queue.proofs.signal.taken_set.Goals as goal
 

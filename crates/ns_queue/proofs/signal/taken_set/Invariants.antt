@@ -1,5 +1,4 @@
-use Rattle.std.proofs.Common.{◌≡◌, ℕ, take, nat_lt}
-use Rattle.ns_queue.specs.Prelude.{is_in, times_in}
+use Rattle.ns_queue.proofs.Prelude.{is_in, nat_lt, take, times_in, ℕ, ◌≡◌}
 use Rattle.ns_queue.proofs.signal.taken_set.Given as goal
 
 -- the seats so far

@@ -1,5 +1,4 @@
-use Rattle.std.proofs.Common.{◌≡◌, map, drop}
-use Rattle.ns_replay.specs.Prelude.{items_behind, items_in}
+use Rattle.ns_replay.proofs.Prelude.{drop, items_behind, items_in, map, ◌≡◌}
 use Rattle.ns_replay.proofs.objects.items.Given as goal
 
 -- the objects so far, and behind them those of the words that are left

@@ -1,5 +1,4 @@
-use Rattle.std.proofs.lemmas.Result.{err_from_is_err_and}
-use Rattle.ns_replay.specs.Prelude.{IsText}
+use Rattle.ns_replay.proofs.Prelude.{IsText, err_from_is_err_and}
 use Rattle.ns_replay.proofs.Outcomes.{unended, unread}
 use Rattle.ns_replay.proofs.replaying.replay.Goals as goal
 

@@ -1,5 +1,4 @@
-use Rattle.std.proofs.lemmas.Result.{err_from_is_err_and}
-use Rattle.ns_replay.specs.Prelude.{plan_of}
+use Rattle.ns_replay.proofs.Prelude.{err_from_is_err_and, plan_of}
 use Rattle.ns_replay.proofs.Plans.{script_runs}
 use Rattle.ns_replay.proofs.Outcomes.{plan_read, script_refused, run_refused}
 use Rattle.ns_replay.proofs.replaying.run_bytes.Goals as goal

@@ -1,4 +1,4 @@
-use Rattle.ns_replay.specs.Prelude.{plan_of, script_truths, whole_of}
+use Rattle.ns_replay.proofs.Prelude.{plan_of, script_truths, whole_of}
 use Rattle.ns_replay.proofs.Runs.{few_threads}
 use Rattle.ns_replay.proofs.replaying.text_for.Goals as goal
 

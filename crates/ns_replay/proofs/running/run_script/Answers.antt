@@ -1,6 +1,4 @@
-use Rattle.std.proofs.Common.{◌≡◌, length, rules}
-use Rattle.std.proofs.lemmas.Result.{err_from_is_err_and}
-use Rattle.ns_replay.specs.Prelude.{script_truths, whole_of}
+use Rattle.ns_replay.proofs.Prelude.{err_from_is_err_and, length, rules, script_truths, whole_of, ◌≡◌}
 use Rattle.ns_replay.proofs.Runs.{idle_world, lists_fit, world_is, script_runs, script_fails}
 use Rattle.ns_replay.proofs.running.run_script.Goals as goal
 

@@ -1,6 +1,4 @@
-use Rattle.std.proofs.Common.{length, map, string_bytes}
-use Rattle.std.proofs.lemmas.List.{length-map}
-use Rattle.ns_replay.specs.Prelude.{history_text, is_in, lefts_text, lines_text, lists_shown, plan_of, row_text, script_truths, shown_of, state_text, text_of, wakes_owed, whole_busy, whole_of}
+use Rattle.ns_replay.proofs.Prelude.{history_text, is_in, lefts_text, length, length-map, lines_text, lists_shown, map, plan_of, row_text, script_truths, shown_of, state_text, string_bytes, text_of, wakes_owed, whole_busy, whole_of}
 use Rattle.ns_replay.proofs.Texts.{five_parts, lefts_text-same}
 use Rattle.ns_replay.proofs.running.run_text.Goals as goal
 

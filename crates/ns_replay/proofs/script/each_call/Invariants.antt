@@ -1,5 +1,4 @@
-use Rattle.std.proofs.Common.{◌≡◌, map, drop}
-use Rattle.ns_replay.specs.Prelude.{call_at, each_from, view}
+use Rattle.ns_replay.proofs.Prelude.{call_at, drop, each_from, map, view, ◌≡◌}
 use Rattle.ns_replay.proofs.Loop.{with_front}
 use Rattle.ns_replay.proofs.script.each_call.Given as goal
 

@@ -1,5 +1,4 @@
-use Rattle.std.proofs.Common.{◌≡◌, map, drop}
-use Rattle.ns_replay.specs.Prelude.{counter_at, each_from, view}
+use Rattle.ns_replay.proofs.Prelude.{counter_at, drop, each_from, map, view, ◌≡◌}
 use Rattle.ns_replay.proofs.Loop.{with_front}
 use Rattle.ns_replay.proofs.script.each_counter.Given as goal
 

@@ -1,5 +1,4 @@
-use Rattle.std.proofs.Common.{◌≡◌, map, drop}
-use Rattle.ns_replay.specs.Prelude.{each_from, turn_at}
+use Rattle.ns_replay.proofs.Prelude.{drop, each_from, map, turn_at, ◌≡◌}
 use Rattle.ns_replay.proofs.Loop.{with_front}
 use Rattle.ns_replay.proofs.script.each_turn.Given as goal
 

@@ -1,4 +1,4 @@
-use Rattle.std.proofs.Common.{rules}
+use Rattle.ns_replay.proofs.Prelude.{rules}
 use Rattle.ns_replay.proofs.Json.{json_ok, json_err}
 use Rattle.ns_replay.proofs.script.json.Goals as goal
 

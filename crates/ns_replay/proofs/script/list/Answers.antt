@@ -1,6 +1,4 @@
-use Rattle.std.proofs.Common.{map, arith}
-use Rattle.std.proofs.lemmas.List.{length-map}
-use Rattle.ns_replay.specs.Prelude.{view}
+use Rattle.ns_replay.proofs.Prelude.{arith, length-map, map, view}
 use Rattle.ns_replay.proofs.Json.{list_few, list_many}
 use Rattle.ns_replay.proofs.script.list.Goals as goal
 

@@ -1,4 +1,4 @@
-use Rattle.std.proofs.Common.{arith}
+use Rattle.ns_replay.proofs.Prelude.{arith}
 use Rattle.ns_replay.proofs.Plans.{counters_few, few_lists}
 use Rattle.ns_replay.proofs.script.script_in.Goals as goal
 

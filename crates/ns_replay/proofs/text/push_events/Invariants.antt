@@ -1,6 +1,4 @@
-use Rattle.std.proofs.Common.{◌≡◌, ◌++◌, take, string_bytes}
-use Rattle.std.specs.Prelude.{flat_map}
-use Rattle.ns_replay.specs.Prelude.{event_text}
+use Rattle.ns_replay.proofs.Prelude.{event_text, flat_map, string_bytes, take, ◌++◌, ◌≡◌}
 use Rattle.ns_replay.proofs.text.push_events.Given as goal
 
 abbrev pub invariant-loop-event : goal.invariant-loop-event

@@ -1,7 +1,4 @@
-use Rattle.std.proofs.Common.{string_bytes}
-use Rattle.std.specs.Prelude.{flat_map}
-use Rattle.std.specs.List.{range_with_len}
-use Rattle.ns_replay.specs.Prelude.{is_in, left_text}
+use Rattle.ns_replay.proofs.Prelude.{flat_map, is_in, left_text, range_with_len, string_bytes}
 use Rattle.ns_replay.proofs.Texts.{grows, flat_map-range}
 use Rattle.ns_replay.proofs.text.push_lefts.Goals as goal
 

@@ -1,6 +1,4 @@
-use Rattle.std.proofs.Common.{◌≡◌, ◌++◌, take, map, string_bytes}
-use Rattle.std.specs.Prelude.{flat_map}
-use Rattle.ns_replay.specs.Prelude.{line_text}
+use Rattle.ns_replay.proofs.Prelude.{flat_map, line_text, map, string_bytes, take, ◌++◌, ◌≡◌}
 use Rattle.ns_replay.proofs.text.push_lines.Given as goal
 
 abbrev pub invariant-loop-line : goal.invariant-loop-line

@@ -1,6 +1,4 @@
-use Rattle.std.proofs.Common.{◌≡◌, ◌++◌, take, string_bytes}
-use Rattle.std.specs.Prelude.{flat_map}
-use Rattle.ns_replay.specs.Prelude.{after_comma}
+use Rattle.ns_replay.proofs.Prelude.{after_comma, flat_map, string_bytes, take, ◌++◌, ◌≡◌}
 use Rattle.ns_replay.proofs.text.push_more_numbers.Given as goal
 
 abbrev pub invariant-loop-number : goal.invariant-loop-number

@@ -1,6 +1,4 @@
-use Rattle.std.proofs.Common.{◌≡◌, ◌++◌, take, string_bytes}
-use Rattle.std.specs.Prelude.{codes, flat_map}
-use Rattle.ns_replay.specs.Prelude.{cell_text}
+use Rattle.ns_replay.proofs.Prelude.{cell_text, codes, flat_map, string_bytes, take, ◌++◌, ◌≡◌}
 use Rattle.ns_replay.proofs.text.push_row.Given as goal
 
 abbrev pub invariant-loop-cell : goal.invariant-loop-cell

@@ -1,6 +1,4 @@
-use Rattle.std.proofs.Common.{refl, sym, string_bytes}
-use Rattle.std.proofs.lemmas.List.{append-nil}
-use Rattle.ns_replay.specs.Prelude.{is_in, numbers_text, seat_text, seats_below}
+use Rattle.ns_replay.proofs.Prelude.{append-nil, is_in, numbers_text, refl, seat_text, seats_below, string_bytes, sym}
 use Rattle.ns_replay.proofs.Texts.{grows, none_below, is_any, numbers_text-below, is_any-below}
 use Rattle.ns_replay.proofs.text.push_seats.Goals as goal
 

@@ -1,5 +1,4 @@
-use Rattle.std.proofs.Common.{◌≡◌, ◌++◌, string_bytes}
-use Rattle.ns_replay.specs.Prelude.{numbers_text, seats_below}
+use Rattle.ns_replay.proofs.Prelude.{numbers_text, seats_below, string_bytes, ◌++◌, ◌≡◌}
 use Rattle.ns_replay.proofs.Texts.{is_any}
 use Rattle.ns_replay.proofs.text.push_seats.Given as goal
 

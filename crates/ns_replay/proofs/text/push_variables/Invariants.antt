@@ -1,5 +1,4 @@
-use Rattle.std.proofs.Common.{◌≡◌, ◌++◌, map, drop, string_bytes}
-use Rattle.ns_replay.specs.Prelude.{variables_text}
+use Rattle.ns_replay.proofs.Prelude.{drop, map, string_bytes, variables_text, ◌++◌, ◌≡◌}
 use Rattle.ns_replay.proofs.text.push_variables.Given as goal
 
 abbrev pub invariant-loop-k : goal.invariant-loop-k

@@ -1,6 +1,4 @@
-use Rattle.std.proofs.Common.{◌≡◌, ◌++◌, take, string_bytes}
-use Rattle.std.specs.Prelude.{flat_map}
-use Rattle.ns_replay.specs.Prelude.{wake_text}
+use Rattle.ns_replay.proofs.Prelude.{flat_map, string_bytes, take, wake_text, ◌++◌, ◌≡◌}
 use Rattle.ns_replay.proofs.text.push_wakes.Given as goal
 
 abbrev pub invariant-loop-wake : goal.invariant-loop-wake

@@ -1,8 +1,4 @@
-use Rattle.std.proofs.Common.{◌≡◌, ℕ, ◌+◌, ◌≤◌, List, ◌++◌, length, take, arith, length-append}
-use Rattle.std.proofs.KnownBytes.{Consumes-trans}
-use Rattle.std.proofs.lemmas.List.{length-take-le}
-use Rattle.std.proofs.lemmas.Result.{err_from_is_err_and}
-use Rattle.ns_replay.specs.Prelude.{IsEnough, max_bytes, max_piece}
+use Rattle.ns_replay.proofs.Prelude.{Consumes-trans, IsEnough, List, arith, err_from_is_err_and, length, length-append, length-take-le, max_bytes, max_piece, take, ℕ, ◌++◌, ◌+◌, ◌≡◌, ◌≤◌}
 use Rattle.ns_replay.proofs.transfer.collect_bytes.Goals as goal
 
 -- few bytes, and one read more

@@ -1,6 +1,4 @@
-use Rattle.std.proofs.Common.{◌≡◌, ◌≤◌, length, false}
-use Rattle.std.specs.Io.KnownBytes.{Consumes}
-use Rattle.ns_replay.specs.Prelude.{Counts}
+use Rattle.ns_replay.proofs.Prelude.{Consumes, Counts, false, length, ◌≡◌, ◌≤◌}
 use Rattle.ns_replay.proofs.transfer.collect_bytes.Given as goal
 
 abbrev pub invariant-loop : goal.invariant-loop

@@ -1,7 +1,4 @@
-use Rattle.std.proofs.Common.{◌≡◌, ℕ, ◌-◌, List, ◌++◌, length, take, drop, sym, ap, ◌∙◌, append_assoc, take-append-drop, ◌<◌, zero, suc, Some, arith}
-use Rattle.std.proofs.lemmas.List.{take_rest}
-use Rattle.std.proofs.KnownBytes.{Appends-trans}
-use Rattle.ns_replay.specs.Prelude.{Counts, stuck_by}
+use Rattle.ns_replay.proofs.Prelude.{Appends-trans, Counts, List, Some, ap, append_assoc, arith, drop, length, stuck_by, suc, sym, take, take-append-drop, take_rest, zero, ℕ, ◌++◌, ◌-◌, ◌<◌, ◌∙◌, ◌≡◌}
 use Rattle.ns_replay.proofs.transfer.write_all.Goals as goal
 
 -- a write that took some byte is counted as none

@@ -1,6 +1,4 @@
-use Rattle.std.proofs.Common.{◌≡◌, ◌++◌, List, ℕ, length, false}
-use Rattle.std.specs.Io.KnownBytes.{Appends}
-use Rattle.ns_replay.specs.Prelude.{Counts}
+use Rattle.ns_replay.proofs.Prelude.{Appends, Counts, List, false, length, ℕ, ◌++◌, ◌≡◌}
 use Rattle.ns_replay.proofs.transfer.write_all.Given as goal
 
 abbrev pub invariant-loop-rest : goal.invariant-loop-rest

@@ -1,5 +1,4 @@
-use Rattle.std.proofs.lemmas.Iterator.Consumers.{map_from_collect}
-use Rattle.std.proofs.lemmas.Iterator.Splits.{YieldsList-from_str_split}
+use Rattle.ns_replay.proofs.Prelude.{YieldsList-from_str_split, map_from_collect}
 use Rattle.ns_replay.proofs.words.parts_at.Goals as goal
 
 pub returns : goal.returns

@@ -1,4 +1,4 @@
-use Rattle.std.proofs.Common.{refl}
+use Rattle.ns_word.proofs.Prelude.{refl}
 use Rattle.ns_word.proofs.Wakings.{tries_kept}
 use Rattle.ns_word.proofs.call_law.failed_tries_are_remembered.Goals as goal
 

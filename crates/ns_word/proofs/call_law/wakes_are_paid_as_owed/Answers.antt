@@ -1,5 +1,4 @@
-use Rattle.std.proofs.Common.{subst}
-use Rattle.ns_word.specs.Prelude.{Effect, part_of}
+use Rattle.ns_word.proofs.Prelude.{Effect, part_of, subst}
 use Rattle.ns_word.proofs.Paid.{pays_first}
 use Rattle.ns_word.proofs.call_law.wakes_are_paid_as_owed.Goals as goal
 

@@ -1,5 +1,4 @@
-use Rattle.std.proofs.Common.{◌≡◌, ◌∙◌, ◌≤◌, ◌/◌, ◌⊎◌, true, false, Ok, ap, sym, subst}
-use Rattle.ns_word.specs.Prelude.{Word, word_of}
+use Rattle.ns_word.proofs.Prelude.{Ok, Word, ap, false, subst, sym, true, word_of, ◌/◌, ◌∙◌, ◌≡◌, ◌≤◌, ◌⊎◌}
 use Rattle.ns_word.proofs.Codes.{decoded, read_back}
 use Rattle.ns_word.proofs.codec.decode.Goals as goal
 

@@ -1,5 +1,4 @@
-use Rattle.std.proofs.Common.{◌≤◌, ◌/◌, arith}
-use Rattle.ns_word.specs.Prelude.{word_of}
+use Rattle.ns_word.proofs.Prelude.{arith, word_of, ◌/◌, ◌≤◌}
 use Rattle.ns_word.proofs.codec.unpacked.Goals as goal
 
 pub taken_apart-requires : goal.taken_apart-requires

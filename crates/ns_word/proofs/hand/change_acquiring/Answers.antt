@@ -1,6 +1,4 @@
-use Rattle.std.proofs.Common.{refl}
-use Rattle.ns_queue.specs.Sizes.{queues_fit}
-use denote.Param.{number}
+use Rattle.ns_word.proofs.Prelude.{number, queues_fit, refl}
 use Rattle.ns_word.proofs.hand.change_acquiring.Goals as goal
 
 pub returns-in-Queue : goal.returns-in-Queue

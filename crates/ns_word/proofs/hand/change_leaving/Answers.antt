@@ -1,7 +1,4 @@
-use Rattle.std.proofs.Common.{◌≡◌, ℕ, [], refl}
-use Rattle.ns_word.specs.Prelude.{Cause, InLeaving, Leave, LeavePlace, Lists, Truths, Wait, Word, wait_hand}
-use Rattle.ns_queue.specs.Sizes.{queues_fit}
-use denote.Param.{number}
+use Rattle.ns_word.proofs.Prelude.{Cause, InLeaving, Leave, LeavePlace, Lists, Truths, Wait, Word, [], number, queues_fit, refl, wait_hand, ℕ, ◌≡◌}
 use Rattle.ns_word.proofs.hand.change_leaving.Goals as goal
 
 -- at no other place does it change the lists

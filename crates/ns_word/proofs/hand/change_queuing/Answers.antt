@@ -1,6 +1,4 @@
-use Rattle.std.proofs.Common.{refl}
-use Rattle.ns_queue.specs.Sizes.{queues_fit, row_fits}
-use denote.Param.{number}
+use Rattle.ns_word.proofs.Prelude.{number, queues_fit, refl, row_fits}
 use Rattle.ns_word.proofs.hand.change_queuing.Goals as goal
 
 pub returns-in-QueueToWait : goal.returns-in-QueueToWait

@@ -1,5 +1,4 @@
-use Rattle.ns_queue.specs.Sizes.{queues_fit, row_fits}
-use denote.Param.{number}
+use Rattle.ns_word.proofs.Prelude.{number, queues_fit, row_fits}
 use Rattle.ns_word.proofs.hand.change_releasing.Goals as goal
 
 pub returns-in-ScanAndRelease : goal.returns-in-ScanAndRelease

@@ -1,8 +1,4 @@
-use Rattle.std.proofs.Common.{◌≡◌, ℕ, refl}
-use Rattle.ns_word.specs.Prelude.{Lists, SignalPlace, WakeAndReturn, Waking, Word}
-use Rattle.ns_word.specs.Steps.{signal_hand}
-use Rattle.ns_queue.specs.Sizes.{queues_fit}
-use denote.Param.{number}
+use Rattle.ns_word.proofs.Prelude.{Lists, SignalPlace, WakeAndReturn, Waking, Word, number, queues_fit, refl, signal_hand, ℕ, ◌≡◌}
 use Rattle.ns_word.proofs.hand.change_signaling.Goals as goal
 
 pub returns-in-WakeAndReturn : goal.returns-in-WakeAndReturn

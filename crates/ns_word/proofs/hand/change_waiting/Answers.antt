@@ -1,7 +1,4 @@
-use Rattle.std.proofs.Common.{refl, ◌≡◌, ◌∙◌, ℕ, Bool, List, []}
-use Rattle.ns_word.specs.Prelude.{Cause, InLeaving, InQueuing, Leave, LeavePlace, Lists, QueuePlace, Truths, Wait, WaitPlace, wait_hand}
-use Rattle.ns_queue.specs.Sizes.{queues_fit, row_fits}
-use denote.Param.{number}
+use Rattle.ns_word.proofs.Prelude.{Bool, Cause, InLeaving, InQueuing, Leave, LeavePlace, List, Lists, QueuePlace, Truths, Wait, WaitPlace, [], number, queues_fit, refl, row_fits, wait_hand, ℕ, ◌∙◌, ◌≡◌}
 use Rattle.ns_word.proofs.hand.change_waiting.Goals as goal
 
 pub change_queuing-requires : goal.change_queuing-requires

@@ -1,6 +1,4 @@
-use Rattle.std.proofs.Common.{rules}
-use Rattle.ns_queue.specs.Sizes.{queues_fit}
-use denote.Param.{number}
+use Rattle.ns_word.proofs.Prelude.{number, queues_fit, rules}
 use Rattle.ns_word.proofs.hand.enter.Goals as goal
 
 pub returns-in-OnCondition : goal.returns-in-OnCondition

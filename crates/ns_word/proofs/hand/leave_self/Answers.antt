@@ -1,9 +1,4 @@
-use Rattle.std.proofs.Common.{◌≡◌, ℕ, ◌<◌, ◌≤◌, ◌↔◌, Bool, true, false, IsTrue, cond, refl, sym, ◌∙◌, arith}
-use Rattle.std.specs.Bool.{OnTrue}
-use Rattle.std.proofs.lemmas.Bool.{ltb-true}
-use Rattle.ns_word.specs.Prelude.{AtLock, AtVariables, Home, Lists, stands_at, times, without}
-use Rattle.ns_queue.specs.Sizes.{queues_fit}
-use denote.Param.{number}
+use Rattle.ns_word.proofs.Prelude.{AtLock, AtVariables, Bool, Home, IsTrue, Lists, OnTrue, arith, cond, false, ltb-true, number, queues_fit, refl, stands_at, sym, times, true, without, ℕ, ◌<◌, ◌↔◌, ◌∙◌, ◌≡◌, ◌≤◌}
 use Rattle.ns_word.proofs.hand.leave_self.Goals as goal
 
 -- who stands there stands in the lists

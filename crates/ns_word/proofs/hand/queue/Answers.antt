@@ -1,5 +1,4 @@
-use Rattle.ns_queue.specs.Sizes.{queues_fit}
-use denote.Param.{number}
+use Rattle.ns_word.proofs.Prelude.{number, queues_fit}
 use Rattle.ns_word.proofs.hand.queue.Goals as goal
 
 pub returns-then-front : goal.returns-then-front

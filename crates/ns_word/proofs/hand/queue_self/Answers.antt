@@ -1,5 +1,4 @@
-use Rattle.ns_queue.specs.Sizes.{queues_fit}
-use denote.Param.{number}
+use Rattle.ns_word.proofs.Prelude.{number, queues_fit}
 use Rattle.ns_word.proofs.hand.queue_self.Goals as goal
 
 pub queue-requires : goal.queue-requires

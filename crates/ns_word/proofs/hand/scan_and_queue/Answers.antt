@@ -1,8 +1,5 @@
-use Rattle.std.proofs.Common.{ap, ◌∙◌}
-use Rattle.ns_word.specs.Steps.{waits_at}
+use Rattle.ns_word.proofs.Prelude.{ap, number, queues_fit, row_fits, waits_at, ◌∙◌}
 use Rattle.ns_word.proofs.Hands.{free_scanned}
-use Rattle.ns_queue.specs.Sizes.{queues_fit, row_fits}
-use denote.Param.{number}
 use Rattle.ns_word.proofs.hand.scan_and_queue.Goals as goal
 
 pub enter-requires : goal.enter-requires

@@ -1,11 +1,5 @@
-use Rattle.std.proofs.Common.{◌≡◌, ℕ, ◌<◌, ◌≤◌, ◌++◌, Bool, true, false, List, [], ap, ◌∙◌, arith, if◌then◌else◌}
-use Rattle.ns_word.specs.Prelude.{Cv, HaveSeats, IsOrderly, Lists, Lock, Owed, Waiter, cvs_without, moved_to, taken_set, times, times_in, waiters_of, wakes_of, with_waiters}
-use Rattle.ns_queue.proofs.Orders.{list_small}
-use Rattle.ns_queue.proofs.Outside.{gone_those}
-use Rattle.ns_queue.proofs.Parts.{below_in, once_in}
-use Rattle.ns_queue.proofs.Taken.{times_signaled}
-use Rattle.ns_queue.specs.Sizes.{queues_fit}
-use denote.Param.{number}
+use Rattle.ns_word.proofs.Prelude.{Bool, Cv, HaveSeats, IsOrderly, List, Lists, Lock, Owed, Waiter, [], ap, arith, below_in, cvs_without, false, gone_those, if◌then◌else◌, list_small, moved_to, number, once_in, queues_fit, taken_set, times, times_in, times_signaled, true, waiters_of, wakes_of}
+use Rattle.ns_word.proofs.Prelude.{with_waiters, ℕ, ◌++◌, ◌<◌, ◌∙◌, ◌≡◌, ◌≤◌}
 use Rattle.ns_word.proofs.hand.wake_waiters.Goals.{in-Signaling, in-Broadcasting}
 use Rattle.ns_word.proofs.hand.wake_waiters.Goals as goal
 

@@ -1,4 +1,4 @@
-use Rattle.std.proofs.Common.{ap}
+use Rattle.ns_word.proofs.Prelude.{ap}
 use Rattle.ns_word.proofs.Longs.{readers_stand_behind}
 use Rattle.ns_word.proofs.WordTells.{plain_writer, tells_of_one}
 use Rattle.ns_word.proofs.law.no_fresh_reader_passes_a_writer.Goals as goal

@@ -1,4 +1,4 @@
-use Rattle.std.proofs.Common.{ap}
+use Rattle.ns_word.proofs.Prelude.{ap}
 use Rattle.ns_word.proofs.Phases.{waiter_tries}
 use Rattle.ns_word.proofs.law.the_word_tells_of_a_long_wait.Goals as goal
 

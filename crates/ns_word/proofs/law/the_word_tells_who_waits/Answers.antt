@@ -1,4 +1,4 @@
-use Rattle.std.proofs.Common.{ap}
+use Rattle.ns_word.proofs.Prelude.{ap}
 use Rattle.ns_word.proofs.WordTells.{all_wait, is_empty, plain_writer, tells_of_one, with_condition}
 use Rattle.ns_word.proofs.law.the_word_tells_who_waits.Goals as goal
 

@@ -1,4 +1,4 @@
-use Rattle.std.proofs.Common.{arith}
+use Rattle.ns_word.proofs.Prelude.{arith}
 use Rattle.ns_word.proofs.Called.{called_few, called_more}
 use Rattle.ns_word.proofs.owed.called.Goals as goal
 

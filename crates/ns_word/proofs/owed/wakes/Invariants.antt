@@ -1,5 +1,4 @@
-use Rattle.std.proofs.Common.{◌≡◌, take}
-use Rattle.ns_word.specs.Prelude.{wakes_of}
+use Rattle.ns_word.proofs.Prelude.{take, wakes_of, ◌≡◌}
 use Rattle.ns_word.proofs.owed.wakes.Given as goal
 
 -- the wakes so far

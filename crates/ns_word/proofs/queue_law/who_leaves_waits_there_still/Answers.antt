@@ -1,4 +1,4 @@
-use Rattle.std.proofs.Common.{sym, refl, true}
+use Rattle.ns_word.proofs.Prelude.{refl, sym, true}
 use Rattle.ns_word.proofs.Leavers.{is_gone, leaves_condition, leaves_variables}
 use Rattle.ns_word.proofs.queue_law.who_leaves_waits_there_still.Goals as goal
 

@@ -1,5 +1,4 @@
-use Rattle.std.proofs.Common.{◌≡◌, ◌+◌, suc, arith, rules, ap, ◌∙◌}
-use Rattle.ns_counters.specs.Prelude.{from_place}
+use Rattle.ns_counters.proofs.Prelude.{ap, arith, from_place, rules, suc, ◌+◌, ◌∙◌, ◌≡◌}
 use Rattle.ns_counters.proofs.round.Round.by_chain.Goals.{in_default-via-in-Go+in_default, in_default-via-in-Over+in-Is+else-next, in_default-via-in-Over+in_default, in_default-via-in_default}
 use Rattle.ns_counters.proofs.round.Round.by_chain.Goals as goal
 

@@ -1,8 +1,6 @@
-use Rattle.std.proofs.Common.{◌≡◌, ◌+◌, ℕ, suc, Some, None, arith, sym, ap, ◌∙◌}
-use Rattle.ns_counters.specs.Prelude.{OnNote, OnVariable, Round, from_items, from_place, item_at}
+use Rattle.ns_counters.proofs.Prelude.{None, OnCounter, OnNote, OnVariable, Round, Some, ap, arith, from_items, from_place, item_at, suc, sym, ℕ, ◌+◌, ◌∙◌, ◌≡◌}
 use Rattle.ns_counters.proofs.Listed.{left_at, none_behind_it, none_left}
 use Rattle.ns_counters.proofs.round.Round.from_place.Goals.{in-None, in-Some-OnVariable}
-use Rattle.ns_counters.specs.declared.items.Item.TheVariants.{OnCounter}
 use Rattle.ns_counters.proofs.round.Round.from_place.Goals as goal
 
 pub returns-in-Some-OnNote : goal.returns-in-Some-OnNote

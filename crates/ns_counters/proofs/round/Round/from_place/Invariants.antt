@@ -1,5 +1,4 @@
-use Rattle.std.proofs.Common.{◌≡◌}
-use Rattle.ns_counters.specs.Prelude.{from_place}
+use Rattle.ns_counters.proofs.Prelude.{from_place, ◌≡◌}
 use Rattle.ns_counters.proofs.round.Round.from_place.Given as goal
 
 -- what is left leads where all does

@@ -1,5 +1,4 @@
-use Rattle.std.proofs.Common.{arith, ap, inl, ◌+◌, ◌∙◌}
-use Rattle.ns_gate.specs.Prelude.{ArmFlag}
+use Rattle.ns_gate.proofs.Prelude.{ArmFlag, ap, arith, inl, ◌+◌, ◌∙◌}
 use Rattle.ns_gate.proofs.gate.Gate.arm_flag.Goals as goal
 
 pub flag_at-flag-requires : goal.flag_at-flag-requires

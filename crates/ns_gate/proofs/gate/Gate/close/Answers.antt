@@ -1,6 +1,4 @@
-use Rattle.std.proofs.Common.{arith, ap, ◌∙◌}
-use Rattle.std.specs.Prelude.{not}
-use Rattle.ns_gate.specs.Prelude.{is_held}
+use Rattle.ns_gate.proofs.Prelude.{ap, arith, is_held, not, ◌∙◌}
 use Rattle.ns_gate.proofs.Endings.{last_packs, ends}
 use Rattle.ns_gate.proofs.gate.Gate.close.Goals as goal
 

@@ -1,5 +1,4 @@
-use Rattle.std.proofs.Common.{arith, sym, ◌∙◌}
-use Rattle.ns_gate.specs.Prelude.{TableId}
+use Rattle.ns_gate.proofs.Prelude.{TableId, arith, sym, ◌∙◌}
 use Rattle.ns_gate.proofs.Guesses.{may_guess, guess_packs, came_so}
 use Rattle.ns_gate.proofs.gate.Gate.exchange_guessing.Goals as goal
 

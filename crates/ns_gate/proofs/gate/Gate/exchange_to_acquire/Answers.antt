@@ -1,5 +1,4 @@
-use Rattle.std.proofs.Common.{arith, ap, refl, ◌∙◌}
-use Rattle.ns_gate.specs.Prelude.{Acquire, word_acquired}
+use Rattle.ns_gate.proofs.Prelude.{Acquire, ap, arith, refl, word_acquired, ◌∙◌}
 use Rattle.ns_gate.proofs.gate.Gate.exchange_to_acquire.Goals as goal
 
 pub acquired-requires : goal.acquired-requires

@@ -1,5 +1,4 @@
-use Rattle.std.proofs.Common.{arith, refl}
-use Rattle.ns_gate.specs.Prelude.{Release}
+use Rattle.ns_gate.proofs.Prelude.{Release, arith, refl}
 use Rattle.ns_gate.proofs.gate.Gate.exchange_to_release.Goals as goal
 
 pub exchange-requires : goal.exchange-requires

@@ -1,6 +1,4 @@
-use Rattle.std.proofs.Common.{ℕ, List, arith, refl, ◌∙◌}
-use Rattle.ns_gate.specs.Prelude.{Changed, GateView, IsExchange, Lists, Released, Returning, Truths, Waited, Word, act_returning, word_returning}
-use Rattle.ns_gate.specs.Steps.{PutsBack}
+use Rattle.ns_gate.proofs.Prelude.{Changed, GateView, IsExchange, List, Lists, PutsBack, Released, Returning, Truths, Waited, Word, act_returning, arith, refl, word_returning, ℕ, ◌∙◌}
 use Rattle.ns_gate.proofs.Findings.{returned_so}
 use Rattle.ns_gate.proofs.gate.Gate.exchange_to_return.Goals as goal
 

@@ -1,5 +1,4 @@
-use Rattle.std.proofs.Common.{arith, refl}
-use Rattle.ns_gate.specs.Prelude.{TakeQueues}
+use Rattle.ns_gate.proofs.Prelude.{TakeQueues, arith, refl}
 use Rattle.ns_gate.proofs.gate.Gate.exchange_to_take.Goals as goal
 
 pub exchange-requires : goal.exchange-requires

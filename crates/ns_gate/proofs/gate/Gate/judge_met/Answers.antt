@@ -1,5 +1,4 @@
-use Rattle.std.proofs.Common.{arith, ap, ◌+◌}
-use Rattle.ns_gate.specs.Prelude.{JudgeMet}
+use Rattle.ns_gate.proofs.Prelude.{JudgeMet, ap, arith, ◌+◌}
 use Rattle.ns_gate.proofs.Findings.{met_cell}
 use Rattle.ns_gate.proofs.gate.Gate.judge_met.Goals as goal
 

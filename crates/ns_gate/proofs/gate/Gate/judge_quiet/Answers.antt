@@ -1,5 +1,4 @@
-use Rattle.std.proofs.Common.{arith, ap, ◌+◌}
-use Rattle.ns_gate.specs.Prelude.{JudgeQuiet}
+use Rattle.ns_gate.proofs.Prelude.{JudgeQuiet, ap, arith, ◌+◌}
 use Rattle.ns_gate.proofs.Findings.{quiet_cell}
 use Rattle.ns_gate.proofs.gate.Gate.judge_quiet.Goals as goal
 

@@ -1,5 +1,4 @@
-use Rattle.std.proofs.Common.{arith, refl, sym, subst}
-use Rattle.ns_gate.specs.Prelude.{IsPackable, LoadWord}
+use Rattle.ns_gate.proofs.Prelude.{IsPackable, LoadWord, arith, refl, subst, sym}
 use Rattle.ns_gate.proofs.Findings.{saw_word, word_packs}
 use Rattle.ns_gate.proofs.gate.Gate.load.Goals as goal
 

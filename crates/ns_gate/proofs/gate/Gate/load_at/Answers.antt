@@ -1,5 +1,4 @@
-use Rattle.std.proofs.Common.{arith, sym, ◌∙◌}
-use Rattle.ns_gate.specs.Prelude.{TableId}
+use Rattle.ns_gate.proofs.Prelude.{TableId, arith, sym, ◌∙◌}
 use Rattle.ns_gate.proofs.Allowed.{may_load}
 use Rattle.ns_gate.proofs.Findings.{stepped}
 use Rattle.ns_gate.proofs.gate.Gate.load_at.Goals as goal

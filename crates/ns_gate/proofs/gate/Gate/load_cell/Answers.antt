@@ -1,5 +1,4 @@
-use Rattle.std.proofs.Common.{arith, ap, ◌+◌}
-use Rattle.ns_gate.specs.Prelude.{LoadCell}
+use Rattle.ns_gate.proofs.Prelude.{LoadCell, ap, arith, ◌+◌}
 use Rattle.ns_gate.proofs.gate.Gate.load_cell.Goals as goal
 
 pub load_at-requires : goal.load_at-requires

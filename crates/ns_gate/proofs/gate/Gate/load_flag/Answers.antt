@@ -1,5 +1,4 @@
-use Rattle.std.proofs.Common.{arith, ap, inl, ◌+◌, ◌∙◌}
-use Rattle.ns_gate.specs.Prelude.{LoadFlag}
+use Rattle.ns_gate.proofs.Prelude.{LoadFlag, ap, arith, inl, ◌+◌, ◌∙◌}
 use Rattle.ns_gate.proofs.Findings.{small_flag}
 use Rattle.ns_gate.proofs.gate.Gate.load_flag.Goals as goal
 

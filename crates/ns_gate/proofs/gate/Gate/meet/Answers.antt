@@ -1,7 +1,4 @@
-use Rattle.std.proofs.Common.{ap, ◌∙◌, arith, sym}
-use Rattle.ns_gate.specs.Prelude.{SeatOf, TableId}
-use Rattle.ns_seats.proofs.Meetings.{cuts, glues}
-use Rattle.ns_seats.proofs.Views.{pair_of}
+use Rattle.ns_gate.proofs.Prelude.{SeatOf, TableId, ap, arith, cuts, glues, pair_of, sym, ◌∙◌}
 use Rattle.ns_gate.proofs.Meets.{by_sums, learns, met_at}
 use Rattle.ns_gate.proofs.gate.Gate.meet.Goals as goal
 

@@ -1,4 +1,4 @@
-use Rattle.std.proofs.Common.{arith, inl}
+use Rattle.ns_gate.proofs.Prelude.{arith, inl}
 use Rattle.ns_gate.proofs.gate.Gate.park.Goals as goal
 
 pub flag_at-requires : goal.flag_at-requires

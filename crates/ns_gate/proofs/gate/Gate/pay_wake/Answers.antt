@@ -1,5 +1,4 @@
-use Rattle.std.proofs.Common.{arith, inr, ap, ◌+◌, ◌∙◌}
-use Rattle.ns_gate.specs.Prelude.{PayWake}
+use Rattle.ns_gate.proofs.Prelude.{PayWake, ap, arith, inr, ◌+◌, ◌∙◌}
 use Rattle.ns_gate.proofs.Findings.{owed_next}
 use Rattle.ns_gate.proofs.gate.Gate.pay_wake.Goals as goal
 

@@ -1,5 +1,4 @@
-use Rattle.std.proofs.Common.{◌≡◌, ℕ, List, Bool, arith, refl, slice_index, slice_set}
-use Rattle.ns_gate.specs.Prelude.{Act, ArmFlag, IsOnWord, JudgeMet, JudgeQuiet, Limits, LoadCell, LoadFlag, LoadWord, Look, PayWake, StoreCell, before_in, row_in, the}
+use Rattle.ns_gate.proofs.Prelude.{Act, ArmFlag, Bool, IsOnWord, JudgeMet, JudgeQuiet, Limits, List, LoadCell, LoadFlag, LoadWord, Look, PayWake, StoreCell, arith, before_in, refl, row_in, slice_index, slice_set, the, ℕ, ◌≡◌}
 use Rattle.ns_gate.proofs.Besides.{beside_fits}
 use Rattle.ns_gate.proofs.gate.Gate.perform.Goals as goal
 

@@ -1,4 +1,4 @@
-use Rattle.std.proofs.Common.{arith}
+use Rattle.ns_gate.proofs.Prelude.{arith}
 use Rattle.ns_gate.proofs.gate.Gate.put_back.Goals as goal
 
 pub exchange_to_return-tries-requires : goal.exchange_to_return-tries-requires

@@ -1,5 +1,4 @@
-use Rattle.std.proofs.Common.{arith, refl}
-use Rattle.ns_gate.specs.Prelude.{Release}
+use Rattle.ns_gate.proofs.Prelude.{Release, arith, refl}
 use Rattle.ns_gate.proofs.gate.Gate.release_guessing.Goals as goal
 
 pub exchange_guessing-requires : goal.exchange_guessing-requires

@@ -1,6 +1,4 @@
-use Rattle.std.proofs.Common.{arith, sym, ◌∙◌}
-use Rattle.ns_gate.specs.Prelude.{TableId}
-use Rattle.std.specs.Prelude.{None}
+use Rattle.ns_gate.proofs.Prelude.{None, TableId, arith, sym, ◌∙◌}
 use Rattle.ns_gate.proofs.Allowed.{may_store}
 use Rattle.ns_gate.proofs.Findings.{stepped}
 use Rattle.ns_gate.proofs.gate.Gate.store_at.Goals as goal

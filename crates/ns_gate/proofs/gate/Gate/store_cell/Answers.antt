@@ -1,5 +1,4 @@
-use Rattle.std.proofs.Common.{arith, ap, refl, ◌+◌}
-use Rattle.ns_gate.specs.Prelude.{StoreCell}
+use Rattle.ns_gate.proofs.Prelude.{StoreCell, ap, arith, refl, ◌+◌}
 use Rattle.ns_gate.proofs.gate.Gate.store_cell.Goals as goal
 
 pub store_at-requires : goal.store_at-requires

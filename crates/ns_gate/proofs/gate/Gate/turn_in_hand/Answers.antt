@@ -1,5 +1,4 @@
-use Rattle.std.proofs.Common.{refl, rules, not, ap, ◌∙◌, sym, arith}
-use Rattle.ns_gate.specs.Prelude.{TableId, bits_of, lists_woken, the}
+use Rattle.ns_gate.proofs.Prelude.{TableId, ap, arith, bits_of, lists_woken, not, refl, rules, sym, the, ◌∙◌}
 use Rattle.ns_gate.proofs.Findings.{has_slot, was_in_hand, now_in_hand}
 use Rattle.ns_gate.proofs.Wakes.{may_turn, turned_over}
 use Rattle.ns_gate.proofs.Room.{queues_fit}

@@ -1,11 +1,7 @@
-use Rattle.std.proofs.Common.{◌≡◌, ◌&&◌, List, ap, refl, ◌∙◌, sym, arith}
-use Rattle.ns_gate.specs.Prelude.{TableId, bits_of, has_some, lists_woken, moved_to, taken_from, the}
+use Rattle.ns_gate.proofs.Prelude.{List, TableId, ap, arith, bits_of, has_some, list_fits, list_small, lists_woken, moved_to, number, refl, sym, taken_from, the, ◌&&◌, ◌∙◌, ◌≡◌}
 use Rattle.ns_gate.proofs.Findings.{has_slot, now_in_hand, was_in_hand}
 use Rattle.ns_gate.proofs.Wakes.{may_move}
-use Rattle.ns_queue.specs.Room.{list_fits}
-use Rattle.ns_queue.proofs.Orders.{list_small}
 use Rattle.ns_gate.proofs.Room.{queues_fit}
-use denote.Param.{number}
 use Rattle.ns_gate.proofs.gate.Gate.wake_in_hand.Given.{Over}
 use Rattle.ns_gate.proofs.gate.Gate.wake_in_hand.Goals.{After-move_if}
 use Rattle.ns_gate.proofs.gate.Gate.wake_in_hand.Goals as goal

@@ -1,5 +1,4 @@
-use Rattle.std.proofs.Common.{inl, inr, refl, arith, w8}
-use Rattle.std.proofs.lemmas.Bool.{cases_lt, lt-ltb, le-ltb, ne_eqb}
+use Rattle.ns_model.proofs.Prelude.{arith, cases_lt, inl, inr, le-ltb, lt-ltb, ne_eqb, refl, w8}
 use Rattle.ns_model.proofs.Sets.{bit_set}
 use Rattle.ns_model.proofs.cvs.Cvs.with.Goals as goal
 

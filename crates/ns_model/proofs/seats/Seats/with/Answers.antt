@@ -1,4 +1,4 @@
-use Rattle.std.proofs.Common.{w64}
+use Rattle.ns_model.proofs.Prelude.{w64}
 use Rattle.ns_model.proofs.Sets.{bit_set}
 use Rattle.ns_model.proofs.seats.Seats.with.Goals as goal
 

@@ -1,5 +1,4 @@
-use Rattle.std.proofs.Common.{arith, ap, sym, ◌∙◌}
-use Rattle.ns_monitor.specs.Prelude.{Known, TableId}
+use Rattle.ns_monitor.proofs.Prelude.{Known, TableId, ap, arith, sym, ◌∙◌}
 use Rattle.ns_monitor.proofs.handle.Acting+Free+C+N.meet.Goals as goal
 
 pub meet-first-requires : goal.meet-first-requires

@@ -1,5 +1,4 @@
-use Rattle.std.proofs.Common.{arith, ap, sym, ◌∙◌}
-use Rattle.ns_monitor.specs.Prelude.{Known, TableId}
+use Rattle.ns_monitor.proofs.Prelude.{Known, TableId, ap, arith, sym, ◌∙◌}
 use Rattle.ns_monitor.proofs.handle.Acting.both_read.Goals as goal
 
 pub both_read-first-requires : goal.both_read-first-requires

@@ -1,5 +1,4 @@
-use Rattle.std.proofs.Common.{arith, ◌∙◌}
-use Rattle.ns_monitor.specs.Prelude.{TableId}
+use Rattle.ns_monitor.proofs.Prelude.{TableId, arith, ◌∙◌}
 use Rattle.ns_monitor.proofs.handle_waits.WaitingForAny.any_leave.Goals as goal
 
 pub any_leave-caller-requires : goal.any_leave-caller-requires

@@ -1,6 +1,4 @@
-use Rattle.std.proofs.Common.{◌∙◌, sym, arith, None, rules}
-use Rattle.ns_monitor.specs.Prelude.{AcquireLoad, HasSince, InAcquire, LoadWord, Saw, TableId, the}
-use Rattle.ns_gate.proofs.Calls.{since, since_then}
+use Rattle.ns_monitor.proofs.Prelude.{AcquireLoad, HasSince, InAcquire, LoadWord, None, Saw, TableId, arith, rules, since, since_then, sym, the, ◌∙◌}
 use Rattle.ns_monitor.proofs.Standing.{can_load, loads, same_number}
 use Rattle.ns_monitor.proofs.monitor.Monitor.acquire.Given.{Over}
 use Rattle.ns_monitor.proofs.monitor.Monitor.acquire.Goals.{After-load-word}

@@ -1,6 +1,4 @@
-use Rattle.std.proofs.Common.{◌∙◌, sym, refl, arith, None}
-use Rattle.ns_monitor.specs.Prelude.{AcquireLoad, InAcquire, LoadWord, Saw, TableId, the}
-use Rattle.ns_gate.proofs.Calls.{since, since_itself, since_then}
+use Rattle.ns_monitor.proofs.Prelude.{AcquireLoad, InAcquire, LoadWord, None, Saw, TableId, arith, refl, since, since_itself, since_then, sym, the, ◌∙◌}
 use Rattle.ns_monitor.proofs.Standing.{can_load, loads, same_number}
 use Rattle.ns_monitor.proofs.monitor.Monitor.acquire_on.Goals as goal
 

@@ -1,7 +1,5 @@
-use Rattle.std.proofs.Common.{◌∙◌, sym, subst, ap, refl, arith, false, Some, None}
-use Rattle.ns_monitor.specs.Prelude.{AcquireLoad, Await, AwaitWakeInWait, CanStep, Flag, ForWait, HasAcquired, HasAnswered, HasSince, InAcquire, InWait, IsAtPlace, IsWaitingForAny, Limits, LoadFlag, Look, LookOut, Looked, Performed, TableId, Wait, WaitKnown, Woken, WokenBy, at_will, got_of, the}
-use Rattle.ns_monitor.specs.Prelude.{waits_for_any}
-use Rattle.ns_gate.proofs.Calls.{can_go, goes, since, since_then}
+use Rattle.ns_monitor.proofs.Prelude.{AcquireLoad, Await, AwaitWakeInWait, CanStep, Flag, ForWait, HasAcquired, HasAnswered, HasSince, InAcquire, InWait, IsAtPlace, IsWaitingForAny, Limits, LoadFlag, Look, LookOut, Looked, None, Performed, Some, TableId, Wait, WaitKnown, Woken, WokenBy, ap, arith}
+use Rattle.ns_monitor.proofs.Prelude.{at_will, can_go, false, goes, got_of, refl, since, since_then, subst, sym, the, waits_for_any, ◌∙◌}
 use Rattle.ns_monitor.proofs.SeveralWaits.{has_come_back, still_waits, tells_still}
 use Rattle.ns_monitor.proofs.Standing.{same_number}
 use Rattle.ns_monitor.proofs.Waits.{looks_out, woken_next}

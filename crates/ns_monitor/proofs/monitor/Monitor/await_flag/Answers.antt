@@ -1,6 +1,4 @@
-use Rattle.std.proofs.Common.{◌∙◌, sym, refl, arith, None, rules}
-use Rattle.ns_monitor.specs.Prelude.{Flag, HasSince, LoadFlag, TableId, the}
-use Rattle.ns_gate.proofs.Calls.{can_go, since, since_itself, since_then}
+use Rattle.ns_monitor.proofs.Prelude.{Flag, HasSince, LoadFlag, None, TableId, arith, can_go, refl, rules, since, since_itself, since_then, sym, the, ◌∙◌}
 use Rattle.ns_monitor.proofs.Standing.{is_woken, same_number, sleeps_on}
 use Rattle.ns_monitor.proofs.monitor.Monitor.await_flag.Given.{Over}
 use Rattle.ns_monitor.proofs.monitor.Monitor.await_flag.Goals.{After-load_flag-flag}

@@ -1,5 +1,4 @@
-use Rattle.std.proofs.Common.{◌≡◌, None}
-use Rattle.ns_monitor.specs.Prelude.{HasSince, IsAtPlace, the}
+use Rattle.ns_monitor.proofs.Prelude.{HasSince, IsAtPlace, None, the, ◌≡◌}
 use Rattle.ns_monitor.proofs.monitor.Monitor.await_flag.Given as goal
 
 abbrev pub invariant-loop : goal.invariant-loop

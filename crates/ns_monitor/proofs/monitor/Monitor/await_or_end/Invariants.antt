@@ -1,5 +1,4 @@
-use Rattle.std.proofs.Common.{◌≡◌, None}
-use Rattle.ns_monitor.specs.Prelude.{AwaitWakeInWait, HasSince, InWait, IsAtPlace, the}
+use Rattle.ns_monitor.proofs.Prelude.{AwaitWakeInWait, HasSince, InWait, IsAtPlace, None, the, ◌≡◌}
 use Rattle.ns_monitor.proofs.monitor.Monitor.await_or_end.Given as goal
 
 abbrev pub invariant-loop : goal.invariant-loop

@@ -1,5 +1,4 @@
-use Rattle.std.proofs.Common.{◌∙◌, arith, sym}
-use Rattle.ns_monitor.specs.Prelude.{TableId}
+use Rattle.ns_monitor.proofs.Prelude.{TableId, arith, sym, ◌∙◌}
 use Rattle.ns_monitor.proofs.Standing.{began_by}
 use Rattle.ns_monitor.proofs.monitor.Monitor.begin_to_go.Goals as goal
 

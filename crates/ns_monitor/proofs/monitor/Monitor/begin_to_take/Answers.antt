@@ -1,7 +1,4 @@
-use Rattle.std.proofs.Common.{◌∙◌, ap, refl, sym, subst, arith, Some}
-use Rattle.ns_monitor.specs.Prelude.{HasReached, HasSince, LoadWord, MayGoAlone, Part, Saw, TableId, asked_of, got_of, the}
-use Rattle.ns_gate.proofs.Calls.{since_then}
-use Rattle.ns_gate.proofs.Findings.{does}
+use Rattle.ns_monitor.proofs.Prelude.{HasReached, HasSince, LoadWord, MayGoAlone, Part, Saw, Some, TableId, ap, arith, asked_of, does, got_of, refl, since_then, subst, sym, the, ◌∙◌}
 use Rattle.ns_monitor.proofs.Standing.{loads_first, same_held}
 use Rattle.ns_monitor.proofs.monitor.Monitor.begin_to_take.Given.{Over}
 use Rattle.ns_monitor.proofs.monitor.Monitor.begin_to_take.Goals.{After-load-first}

@@ -1,5 +1,4 @@
-use Rattle.std.proofs.Common.{arith, None, rules}
-use Rattle.ns_gate.proofs.Calls.{since_then}
+use Rattle.ns_monitor.proofs.Prelude.{None, arith, rules, since_then}
 use Rattle.ns_monitor.proofs.Standing.{same_number}
 use Rattle.ns_monitor.proofs.monitor.Monitor.come_back.Goals as goal
 

@@ -1,4 +1,4 @@
-use Rattle.std.proofs.Common.{rules}
+use Rattle.ns_monitor.proofs.Prelude.{rules}
 use Rattle.ns_monitor.proofs.Looks.{ended_by}
 use Rattle.ns_monitor.proofs.monitor.Monitor.cv_wait_with_deadline.Goals as goal
 

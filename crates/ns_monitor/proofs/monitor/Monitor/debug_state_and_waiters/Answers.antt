@@ -1,6 +1,4 @@
-use Rattle.std.proofs.Common.{◌∙◌, ap, sym, subst, refl, arith, Some, None, rules}
-use Rattle.ns_monitor.specs.Prelude.{HasAnswered, HasSince, HasStood, InShow, IsAtPlace, IsPackable, Known, ReturnShown, Succeeded, TableId, ToChange, Word, bits_of, known_of, showing, the}
-use Rattle.ns_gate.proofs.Calls.{since_itself, since_then, works}
+use Rattle.ns_monitor.proofs.Prelude.{HasAnswered, HasSince, HasStood, InShow, IsAtPlace, IsPackable, Known, None, ReturnShown, Some, Succeeded, TableId, ToChange, Word, ap, arith, bits_of, known_of, refl, rules, showing, since_itself, since_then, subst, sym, the, works, ◌∙◌}
 use Rattle.ns_monitor.proofs.Callers.{saw_more}
 use Rattle.ns_monitor.proofs.Shows.{stood_since}
 use Rattle.ns_monitor.proofs.Standing.{still_since, taken_packs}

@@ -1,5 +1,4 @@
-use Rattle.std.proofs.Common.{◌∙◌, arith, sym}
-use Rattle.ns_monitor.specs.Prelude.{TableId}
+use Rattle.ns_monitor.proofs.Prelude.{TableId, arith, sym, ◌∙◌}
 use Rattle.ns_monitor.proofs.monitor.Monitor.enter.Goals as goal
 
 pub enter_in_hand-bits-requires : goal.enter_in_hand-bits-requires

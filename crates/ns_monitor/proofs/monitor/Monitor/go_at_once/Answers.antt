@@ -1,5 +1,4 @@
-use Rattle.std.proofs.Common.{refl, arith, Some, rules}
-use Rattle.ns_gate.proofs.Calls.{since_then}
+use Rattle.ns_monitor.proofs.Prelude.{Some, arith, refl, rules, since_then}
 use Rattle.ns_monitor.proofs.Standing.{goes_behind, loads_first, may_decide, wants_to_go}
 use Rattle.ns_monitor.proofs.monitor.Monitor.go_at_once.Goals as goal
 

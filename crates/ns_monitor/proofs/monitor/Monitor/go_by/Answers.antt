@@ -1,6 +1,4 @@
-use Rattle.std.proofs.Common.{◌≡◌, refl, subst, sym, arith, None, true, rules}
-use Rattle.ns_monitor.specs.Prelude.{CanStep, IsAtPlace, Made, Performed, Saw, going_act, going_at, going_of, may_go, the}
-use Rattle.ns_gate.proofs.Calls.{since, since_itself}
+use Rattle.ns_monitor.proofs.Prelude.{CanStep, IsAtPlace, Made, None, Performed, Saw, arith, going_act, going_at, going_of, may_go, refl, rules, since, since_itself, subst, sym, the, true, ◌≡◌}
 use Rattle.ns_monitor.proofs.Standing.{decided, can_go_by, goes_alone, goes_by, may_by, misses}
 use Rattle.ns_monitor.proofs.monitor.Monitor.go_by.Given.{Over}
 use Rattle.ns_monitor.proofs.monitor.Monitor.go_by.Goals.{After-may_go}

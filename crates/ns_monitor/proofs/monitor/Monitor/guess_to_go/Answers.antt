@@ -1,5 +1,4 @@
-use Rattle.std.proofs.Common.{◌≡◌, ◌∙◌, sym, arith, true, false}
-use Rattle.ns_monitor.specs.Prelude.{TableId}
+use Rattle.ns_monitor.proofs.Prelude.{TableId, arith, false, sym, true, ◌∙◌, ◌≡◌}
 use Rattle.ns_monitor.proofs.monitor.Monitor.guess_to_go.Goals as goal
 
 pub acquire_guessing-requires : goal.acquire_guessing-requires

@@ -1,6 +1,4 @@
-use Rattle.std.proofs.Common.{◌∙◌, ap, sym, subst, refl, arith, None, true, false, rules}
-use Rattle.ns_monitor.specs.Prelude.{Await, AwaitWakeToLeave, Changed, HasReached, HasSince, InLeaving, InWait, IsAtPlace, Leave, LeaveSelf, TableId, the}
-use Rattle.ns_gate.proofs.Calls.{since_then, works}
+use Rattle.ns_monitor.proofs.Prelude.{Await, AwaitWakeToLeave, Changed, HasReached, HasSince, InLeaving, InWait, IsAtPlace, Leave, LeaveSelf, None, TableId, ap, arith, false, refl, rules, since_then, subst, sym, the, true, works, ◌∙◌}
 use Rattle.ns_monitor.proofs.Standing.{hand_by, same_number, still_since}
 use Rattle.ns_monitor.proofs.Waits.{left_next, taken_ended, taken_next}
 use Rattle.ns_monitor.proofs.monitor.Monitor.leave.Given.{Over}

@@ -1,5 +1,4 @@
-use Rattle.std.proofs.Common.{◌∙◌, sym, arith, refl, rules}
-use Rattle.ns_monitor.specs.Prelude.{TableId}
+use Rattle.ns_monitor.proofs.Prelude.{TableId, arith, refl, rules, sym, ◌∙◌}
 use Rattle.ns_monitor.proofs.Begins.{may_judge}
 use Rattle.ns_monitor.proofs.Tests.{can_tell, is_judged}
 use Rattle.ns_monitor.proofs.monitor.Monitor.load_to_judge.Goals as goal

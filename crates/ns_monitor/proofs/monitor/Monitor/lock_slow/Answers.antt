@@ -1,4 +1,4 @@
-use Rattle.std.proofs.Common.{arith}
+use Rattle.ns_monitor.proofs.Prelude.{arith}
 use Rattle.ns_monitor.proofs.monitor.Monitor.lock_slow.Goals as goal
 
 pub acquire_on-requires : goal.acquire_on-requires

@@ -1,7 +1,4 @@
-use Rattle.std.proofs.Common.{◌≡◌, ◌∙◌, sym, refl, arith, IfSome, None, Option, Some, true, false, rules}
-use Rattle.ns_monitor.specs.Prelude.{Cause, InQueuing, InWait, Limits, Look, LookIn, Looked, TableId, is_limited, the}
-use Rattle.ns_gate.proofs.Calls.{can_go, since, since_itself}
-use Rattle.ns_gate.proofs.Findings.{does}
+use Rattle.ns_monitor.proofs.Prelude.{Cause, IfSome, InQueuing, InWait, Limits, Look, LookIn, Looked, None, Option, Some, TableId, arith, can_go, does, false, is_limited, refl, rules, since, since_itself, sym, the, true, ◌∙◌, ◌≡◌}
 use Rattle.ns_monitor.proofs.Standing.{commits_none}
 use Rattle.ns_monitor.proofs.Returns.{by_limits, look_fresh, looks_in}
 use Rattle.ns_monitor.proofs.monitor.Monitor.look_before.Goals as goal

@@ -1,5 +1,4 @@
-use Rattle.std.proofs.Common.{◌∙◌, sym, rules}
-use Rattle.ns_monitor.specs.Prelude.{TableId}
+use Rattle.ns_monitor.proofs.Prelude.{TableId, rules, sym, ◌∙◌}
 use Rattle.ns_monitor.proofs.Meetings.{learned}
 use Rattle.ns_monitor.proofs.monitor.Monitor.meet_as.Goals as goal
 

@@ -1,6 +1,4 @@
-use Rattle.std.proofs.Common.{rules, arith, ap, sym, refl, subst, ◌∙◌, ◌≡◌, ◌+◌, ◌<◌, ℕ, List, [], ◌∷◌, length, length-append}
-use Rattle.ns_monitor.specs.Prelude.{AreNew, GateView, IsNumberOf, Known, SeatOf, TableId, first_of, fresh_seat, known_of, new_seat, rest_of, the}
-use Rattle.ns_seats.proofs.Numbered.{all_new, new_more, numbered_first, numbered_rest}
+use Rattle.ns_monitor.proofs.Prelude.{AreNew, GateView, IsNumberOf, Known, List, SeatOf, TableId, [], all_new, ap, arith, first_of, fresh_seat, known_of, length, length-append, new_more, new_seat, numbered_first, numbered_rest, refl, rest_of, rules, subst, sym, the, ℕ, ◌+◌, ◌<◌, ◌∙◌, ◌∷◌, ◌≡◌}
 use Rattle.ns_monitor.proofs.Made.{new_rests}
 use Rattle.ns_monitor.proofs.monitor.Monitor.new.Goals as goal
 

@@ -1,7 +1,4 @@
-use Rattle.std.proofs.Common.{◌∙◌, ◌+◌, arith, drop, get_or, refl, sym, None}
-use Rattle.std.proofs.lemmas.List.{drop_all, drop_more}
-use Rattle.ns_monitor.specs.Prelude.{Owed, PayWake, TableId, owes_more, the}
-use Rattle.ns_gate.proofs.Calls.{can_go, since, since_itself, since_then}
+use Rattle.ns_monitor.proofs.Prelude.{None, Owed, PayWake, TableId, arith, can_go, drop, drop_all, drop_more, get_or, owes_more, refl, since, since_itself, since_then, sym, the, ◌+◌, ◌∙◌}
 use Rattle.ns_monitor.proofs.SeveralWaits.{true_now}
 use Rattle.ns_monitor.proofs.Standing.{all_paid, can_pay, is_paid, owes_next}
 use Rattle.ns_monitor.proofs.monitor.Monitor.pay.Goals as goal

@@ -1,5 +1,4 @@
-use Rattle.std.proofs.Common.{◌≡◌, drop, None}
-use Rattle.ns_monitor.specs.Prelude.{HasReached, HasSeenTrue, HasSince, Paid, asked_of, got_of, has_some, the}
+use Rattle.ns_monitor.proofs.Prelude.{HasReached, HasSeenTrue, HasSince, None, Paid, asked_of, drop, got_of, has_some, the, ◌≡◌}
 use Rattle.ns_monitor.proofs.monitor.Monitor.pay.Given as goal
 
 abbrev pub invariant-loop-wake : goal.invariant-loop-wake

@@ -1,7 +1,4 @@
-use Rattle.std.proofs.Common.{◌∙◌, sym, subst, refl, arith, None}
-use Rattle.ns_monitor.specs.Prelude.{CanStep, Performed, Saw, TableId, act_returning, found_back, the}
-use Rattle.ns_gate.proofs.Calls.{since, since_itself, since_then}
-use Rattle.ns_gate.proofs.Stays.{stays_itself, stays_through}
+use Rattle.ns_monitor.proofs.Prelude.{CanStep, None, Performed, Saw, TableId, act_returning, arith, found_back, refl, since, since_itself, since_then, stays_itself, stays_through, subst, sym, the, ◌∙◌}
 use Rattle.ns_monitor.proofs.SeveralWaits.{true_now}
 use Rattle.ns_monitor.proofs.Standing.{can_put_back, hand_stays, is_back_for, misses_back}
 use Rattle.ns_monitor.proofs.monitor.Monitor.put_back.Goals as goal

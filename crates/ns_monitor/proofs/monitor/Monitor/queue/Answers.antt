@@ -1,6 +1,4 @@
-use Rattle.std.proofs.Common.{◌≡◌, ◌∙◌, sym, subst, ap, refl, arith, None}
-use Rattle.ns_monitor.specs.Prelude.{Arm, ArmFlag, AwaitWake, Changed, InAcquire, IsAtPlace, Queue, QueueSelf, TableId, the, times}
-use Rattle.ns_gate.proofs.Calls.{can_go, since_then, works}
+use Rattle.ns_monitor.proofs.Prelude.{Arm, ArmFlag, AwaitWake, Changed, InAcquire, IsAtPlace, None, Queue, QueueSelf, TableId, ap, arith, can_go, refl, since_then, subst, sym, the, times, works, ◌∙◌, ◌≡◌}
 use Rattle.ns_monitor.proofs.Locks.{HasArmed, arms, comes_to_acquire}
 use Rattle.ns_monitor.proofs.Standing.{hand_by, same_number, still_since}
 use Rattle.ns_monitor.proofs.monitor.Monitor.queue.Given.{Over}

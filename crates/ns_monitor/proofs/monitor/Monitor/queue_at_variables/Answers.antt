@@ -1,6 +1,4 @@
-use Rattle.std.proofs.Common.{refl, arith, Some}
-use Rattle.ns_monitor.specs.Prelude.{queuing_first}
-use Rattle.ns_gate.proofs.Calls.{since_then}
+use Rattle.ns_monitor.proofs.Prelude.{Some, arith, queuing_first, refl, since_then}
 use Rattle.ns_monitor.proofs.Standing.{same_number}
 use Rattle.ns_monitor.proofs.VariableWaits.{needs_no_row, taken_now}
 use Rattle.ns_monitor.proofs.monitor.Monitor.queue_at_variables.Goals as goal

@@ -1,6 +1,4 @@
-use Rattle.std.proofs.Common.{ap, refl, sym, subst, arith, None}
-use Rattle.ns_monitor.specs.Prelude.{HasRow, InQueuing, InWait, Load, row_in}
-use Rattle.ns_gate.proofs.Calls.{since_then}
+use Rattle.ns_monitor.proofs.Prelude.{HasRow, InQueuing, InWait, Load, None, ap, arith, refl, row_in, since_then, subst, sym}
 use Rattle.ns_monitor.proofs.Standing.{same_number}
 use Rattle.ns_monitor.proofs.VariableWaits.{taken_now}
 use Rattle.ns_monitor.proofs.monitor.Monitor.queue_to_wait.Goals as goal

@@ -1,7 +1,5 @@
-use Rattle.std.proofs.Common.{◌≡◌, ◌∙◌, not, sym, subst, refl, ap, arith, None, rules}
-use Rattle.ns_monitor.specs.Prelude.{Carries, HasReturnedWoken, HasSince, HasWokenInHand, InSignal, IsAtPlace, IsOrderly, ReturnQueues, Saw, TableId, WakeAndReturn, WakeWaiters, change_found, is_held, lists_woken, taken_from, the}
-use Rattle.ns_gate.proofs.Calls.{since, since_itself, since_then, works}
-use Rattle.ns_gate.proofs.Stays.{HasKeptItsQueues}
+use Rattle.ns_monitor.proofs.Prelude.{Carries, HasKeptItsQueues, HasReturnedWoken, HasSince, HasWokenInHand, InSignal, IsAtPlace, IsOrderly, None, ReturnQueues, Saw, TableId, WakeAndReturn, WakeWaiters, ap, arith, change_found, is_held, lists_woken, not, refl, rules, since, since_itself}
+use Rattle.ns_monitor.proofs.Prelude.{since_then, subst, sym, taken_from, the, works, ◌∙◌, ◌≡◌}
 use Rattle.ns_monitor.proofs.Standing.{still_since}
 use Rattle.ns_monitor.proofs.Wakes.{by_both, by_one, can_return, hand_kept, hand_made, is_returned, misses_return}
 use Rattle.ns_monitor.proofs.monitor.Monitor.return_woken.Given.{Over}

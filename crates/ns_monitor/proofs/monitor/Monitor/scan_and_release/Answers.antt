@@ -1,6 +1,4 @@
-use Rattle.std.proofs.Common.{◌∙◌, sym, subst, refl, arith, None}
-use Rattle.ns_monitor.specs.Prelude.{InRelease, IsAtPlace, ScanAndRelease, row_in, scan_place, the}
-use Rattle.ns_gate.proofs.Calls.{since_then}
+use Rattle.ns_monitor.proofs.Prelude.{InRelease, IsAtPlace, None, ScanAndRelease, arith, refl, row_in, scan_place, since_then, subst, sym, the, ◌∙◌}
 use Rattle.ns_monitor.proofs.Releases.{scans_plain}
 use Rattle.ns_monitor.proofs.Tests.{moves_in}
 use Rattle.ns_monitor.proofs.monitor.Monitor.scan_and_release.Goals as goal

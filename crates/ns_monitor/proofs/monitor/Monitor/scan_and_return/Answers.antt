@@ -1,6 +1,4 @@
-use Rattle.std.proofs.Common.{◌≡◌, List, ◌∙◌, ap, sym, subst, arith, None, true, false}
-use Rattle.ns_monitor.specs.Prelude.{GateView, HasReached, HasSince, Paid, TableId, asked_of, got_of, has_some, lists_scanned, paying_at, ready_at, sought_at, the}
-use Rattle.ns_gate.proofs.Calls.{since_then, works}
+use Rattle.ns_monitor.proofs.Prelude.{GateView, HasReached, HasSince, List, None, Paid, TableId, ap, arith, asked_of, false, got_of, has_some, lists_scanned, paying_at, ready_at, since_then, sought_at, subst, sym, the, true, works, ◌∙◌, ◌≡◌}
 use Rattle.ns_monitor.proofs.Releases.{calls_few, found_first, hand_scanned, may_enter, may_still, owes_scanned, pay_scanned, pays_at, put_scanned, ready_still, scans_in_hand, told_list, turned_writer}
 use Rattle.ns_monitor.proofs.monitor.Monitor.scan_and_return.Given.{Over}
 use Rattle.ns_monitor.proofs.monitor.Monitor.scan_and_return.Goals.{After-put_back}

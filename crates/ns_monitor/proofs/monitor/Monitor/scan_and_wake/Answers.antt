@@ -1,7 +1,4 @@
-use Rattle.std.proofs.Common.{◌∙◌, ap, not, sym, subst, arith, None, false, rules}
-use Rattle.ns_monitor.specs.Prelude.{HasReached, HasSince, Paid, TableId, asked_of, called_by, got_of, has_some, lists_scanned, meets_at, ready_at, the, woken_of}
-use Rattle.ns_gate.proofs.Calls.{since_then, works}
-use Rattle.ns_word.proofs.Scans.{as_many}
+use Rattle.ns_monitor.proofs.Prelude.{HasReached, HasSince, None, Paid, TableId, ap, arith, as_many, asked_of, called_by, false, got_of, has_some, lists_scanned, meets_at, not, ready_at, rules, since_then, subst, sym, the, woken_of, works, ◌∙◌}
 use Rattle.ns_monitor.proofs.Releases.{calls_are, hand_scanned, may_enter, owes_scanned, pay_scanned, pays_at, put_scanned, scans_in_hand, took_some}
 use Rattle.ns_monitor.proofs.monitor.Monitor.scan_and_wake.Goals as goal
 

@@ -1,6 +1,4 @@
-use Rattle.std.proofs.Common.{◌∙◌, ap, arith, refl, sym, Some, rules}
-use Rattle.ns_monitor.specs.Prelude.{InCells, Known, SetStore, StoreCell, TableId, setting, the}
-use Rattle.ns_gate.proofs.Calls.{can_go}
+use Rattle.ns_monitor.proofs.Prelude.{InCells, Known, SetStore, Some, StoreCell, TableId, ap, arith, can_go, refl, rules, setting, sym, the, ◌∙◌}
 use Rattle.ns_monitor.proofs.Saves.{saves}
 use Rattle.ns_monitor.proofs.Standing.{same_number}
 use Rattle.ns_monitor.proofs.Callers.{grew, is_set, sets_next}

@@ -1,5 +1,4 @@
-use Rattle.std.proofs.Common.{◌∙◌, sym}
-use Rattle.ns_monitor.specs.Prelude.{Signaling, TableId, waking_by}
+use Rattle.ns_monitor.proofs.Prelude.{Signaling, TableId, sym, waking_by, ◌∙◌}
 use Rattle.ns_monitor.proofs.Callers.{grew}
 use Rattle.ns_monitor.proofs.Wakes.{has_woken}
 use Rattle.ns_monitor.proofs.monitor.Monitor.signal.Goals as goal

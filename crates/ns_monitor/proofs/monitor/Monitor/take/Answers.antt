@@ -1,6 +1,4 @@
-use Rattle.std.proofs.Common.{◌∙◌, sym, subst, arith, None}
-use Rattle.ns_monitor.specs.Prelude.{LoadWord, MayGoAlone, Saw, TableId}
-use Rattle.ns_gate.proofs.Calls.{since, since_then}
+use Rattle.ns_monitor.proofs.Prelude.{LoadWord, MayGoAlone, None, Saw, TableId, arith, since, since_then, subst, sym, ◌∙◌}
 use Rattle.ns_monitor.proofs.Standing.{can_load, loads, saw_held}
 use Rattle.ns_monitor.proofs.monitor.Monitor.take.Goals as goal
 

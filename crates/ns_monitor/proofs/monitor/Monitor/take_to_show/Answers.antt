@@ -1,6 +1,4 @@
-use Rattle.std.proofs.Common.{◌∙◌, arith, refl, true, false, Some, None, rules, subst, sym}
-use Rattle.ns_monitor.specs.Prelude.{CanStep, InShow, IsAtPlace, LoadWord, Made, Saw, ShowLoad, TableId, TakeQueues, TakeToShow, ToChange, Walk, showing}
-use Rattle.ns_gate.proofs.Calls.{can_go, since, since_then}
+use Rattle.ns_monitor.proofs.Prelude.{CanStep, InShow, IsAtPlace, LoadWord, Made, None, Saw, ShowLoad, Some, TableId, TakeQueues, TakeToShow, ToChange, Walk, arith, can_go, false, refl, rules, showing, since, since_then, subst, sym, true, ◌∙◌}
 use Rattle.ns_monitor.proofs.Shows.{has_stood, loads_to_show, misses_to_show, shows_by, takes_to_show}
 use Rattle.ns_monitor.proofs.Standing.{loads_first}
 use Rattle.ns_monitor.proofs.monitor.Monitor.take_to_show.Given.{Over}

@@ -1,5 +1,4 @@
-use Rattle.std.proofs.Common.{◌∙◌, ◌-◌, ap, sym, arith, rules}
-use Rattle.ns_monitor.specs.Prelude.{TableId, judge_of}
+use Rattle.ns_monitor.proofs.Prelude.{TableId, ap, arith, judge_of, rules, sym, ◌-◌, ◌∙◌}
 use Rattle.ns_monitor.proofs.Tests.{can_tell, is_tested}
 use Rattle.ns_monitor.proofs.monitor.Monitor.test.Goals as goal
 

@@ -1,8 +1,6 @@
-use Rattle.std.proofs.Common.{◌∙◌, arith, sym, true, false, None, Some, rules}
-use Rattle.ns_monitor.specs.Prelude.{Acquire, AsFresh, ForLock, InTry, IsAtPlace, TableId, TryAcquire, tried, trying}
+use Rattle.ns_monitor.proofs.Prelude.{Acquire, AsFresh, ForLock, InTry, IsAtPlace, None, Some, TableId, TryAcquire, arith, can_go, false, rules, since, since_then, sym, tried, true, trying, ◌∙◌}
 use Rattle.ns_monitor.proofs.Callers.{is_tried, may_try, tried_behind, tries_by, wants_to_try}
 use Rattle.ns_monitor.proofs.Standing.{loads_first}
-use Rattle.ns_gate.proofs.Calls.{can_go, since, since_then}
 use Rattle.ns_monitor.proofs.monitor.Monitor.try_acquire.Goals as goal
 
 pub begin_to_go-requires : goal.begin_to_go-requires

@@ -1,5 +1,4 @@
-use Rattle.std.proofs.Common.{◌∙◌, cond, sym, subst, rules}
-use Rattle.ns_monitor.specs.Prelude.{Busy, HasAnswered, HasLocked, HasSeenMore, Succeeded, TableId, TryLock, known_of, trying}
+use Rattle.ns_monitor.proofs.Prelude.{Busy, HasAnswered, HasLocked, HasSeenMore, Succeeded, TableId, TryLock, cond, known_of, rules, subst, sym, trying, ◌∙◌}
 use Rattle.ns_monitor.proofs.Callers.{locked, saw_more}
 use Rattle.ns_monitor.proofs.monitor.Monitor.try_lock_as.Goals as goal
 

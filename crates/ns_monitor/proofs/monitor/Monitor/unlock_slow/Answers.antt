@@ -1,5 +1,4 @@
-use Rattle.std.proofs.Common.{None, arith, refl}
-use Rattle.ns_gate.proofs.Calls.{since_then}
+use Rattle.ns_monitor.proofs.Prelude.{None, arith, refl, since_then}
 use Rattle.ns_monitor.proofs.monitor.Monitor.unlock_slow.Goals as goal
 
 pub go_or_take-requires : goal.go_or_take-requires

@@ -1,6 +1,4 @@
-use Rattle.std.proofs.Common.{Some, arith, refl, subst, sym}
-use Rattle.ns_monitor.specs.Prelude.{HasUnlocked, QuietWriter, releasing_by}
-use Rattle.ns_gate.proofs.Calls.{since_then}
+use Rattle.ns_monitor.proofs.Prelude.{HasUnlocked, QuietWriter, Some, arith, refl, releasing_by, since_then, subst, sym}
 use Rattle.ns_monitor.proofs.Callers.{CameSo, came_at_once, released_so}
 use Rattle.ns_monitor.proofs.monitor.Monitor.unlock_without_wakeup.Given.{Over}
 use Rattle.ns_monitor.proofs.monitor.Monitor.unlock_without_wakeup.Goals.{Joined-last, in-Some, in-None}

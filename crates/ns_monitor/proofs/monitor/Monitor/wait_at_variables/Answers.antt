@@ -1,6 +1,4 @@
-use Rattle.std.proofs.Common.{arith, Some}
-use Rattle.ns_monitor.specs.Prelude.{queuing_first}
-use Rattle.ns_gate.proofs.Calls.{since_then}
+use Rattle.ns_monitor.proofs.Prelude.{Some, arith, queuing_first, since_then}
 use Rattle.ns_monitor.proofs.Standing.{same_number}
 use Rattle.ns_monitor.proofs.monitor.Monitor.wait_at_variables.Goals as goal
 

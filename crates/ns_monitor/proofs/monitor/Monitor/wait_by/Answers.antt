@@ -1,6 +1,5 @@
-use Rattle.std.proofs.Common.{◌≡◌, ◌∙◌, inl, inr, sym, subst, ap, refl, arith, Some, IfSome, true, false, rules}
-use Rattle.ns_monitor.specs.Prelude.{Answer, Answered, Await, Cause, Grows, HasAnswered, HasMode, HasSince, HasWaitedFor, IsAtRest, IsFreshIn, Known, Met, OnEntry, QueuesOrEnds, SeatOf, TableId, answer_of, is_limited, known_of, row_in, the, wait_first, waits_by}
-use Rattle.ns_gate.proofs.Calls.{since_then}
+use Rattle.ns_monitor.proofs.Prelude.{Answer, Answered, Await, Cause, Grows, HasAnswered, HasMode, HasSince, HasWaitedFor, IfSome, IsAtRest, IsFreshIn, Known, Met, OnEntry, QueuesOrEnds, SeatOf, Some, TableId, answer_of, ap, arith, false, inl, inr, is_limited, known_of, refl, row_in, rules}
+use Rattle.ns_monitor.proofs.Prelude.{since_then, subst, sym, the, true, wait_first, waits_by, ◌∙◌, ◌≡◌}
 use Rattle.ns_monitor.proofs.Callers.{grew}
 use Rattle.ns_monitor.proofs.Returns.{ended_as, ended_since, fits_fresh, tested_so, wait_tells}
 use Rattle.ns_monitor.proofs.Standing.{same_number}

@@ -1,6 +1,4 @@
-use Rattle.std.proofs.Common.{◌≡◌, ◌∙◌, sym, subst, ap, refl, arith, None, Some, IfSome, true, false}
-use Rattle.ns_monitor.specs.Prelude.{Answered, Await, Cause, HasAnswered, HasReached, HasSince, IfEnded, IsFreshIn, OnReturn, QueuesOrEnds, TableId, is_limited, row_in, the, unmet_by}
-use Rattle.ns_gate.proofs.Calls.{since_itself, since_then}
+use Rattle.ns_monitor.proofs.Prelude.{Answered, Await, Cause, HasAnswered, HasReached, HasSince, IfEnded, IfSome, IsFreshIn, None, OnReturn, QueuesOrEnds, Some, TableId, ap, arith, false, is_limited, refl, row_in, since_itself, since_then, subst, sym, the, true, unmet_by, ◌∙◌, ◌≡◌}
 use Rattle.ns_monitor.proofs.Returns.{back_to_test, comes_fresh, ended_as, has_row, in_range, tested_so}
 use Rattle.ns_monitor.proofs.Standing.{same_number}
 use Rattle.ns_monitor.proofs.monitor.Monitor.wait_on.Given.{Over}

@@ -1,7 +1,4 @@
-use Rattle.std.proofs.Common.{◌∙◌, sym, arith, Some, rules}
-use Rattle.ns_monitor.specs.Prelude.{HasSince, TableId, is_held, taken_from, the, waking_by, woken_nobody}
-use Rattle.ns_gate.proofs.Calls.{since_then}
-use Rattle.ns_gate.proofs.Wakes.{found_nobody, takes_nobody}
+use Rattle.ns_monitor.proofs.Prelude.{HasSince, Some, TableId, arith, found_nobody, is_held, rules, since_then, sym, taken_from, takes_nobody, the, waking_by, woken_nobody, ◌∙◌}
 use Rattle.ns_monitor.proofs.Standing.{still_since}
 use Rattle.ns_monitor.proofs.Wakes.{hand_of_nobody, nobody_woken, taken_still}
 use Rattle.ns_monitor.proofs.monitor.Monitor.wake.Given.{Over}

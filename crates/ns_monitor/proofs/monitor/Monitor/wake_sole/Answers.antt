@@ -1,8 +1,4 @@
-use Rattle.std.proofs.Common.{sym, refl, arith, None}
-use Rattle.ns_monitor.specs.Prelude.{the}
-use denote.Param.{number}
-use Rattle.ns_queue.specs.Room.{waiter_fits}
-use Rattle.ns_gate.proofs.Calls.{since_then}
+use Rattle.ns_monitor.proofs.Prelude.{None, arith, number, refl, since_then, sym, the, waiter_fits}
 use Rattle.ns_monitor.proofs.Wakes.{owes_sole}
 use Rattle.ns_monitor.proofs.monitor.Monitor.wake_sole.Goals as goal
 

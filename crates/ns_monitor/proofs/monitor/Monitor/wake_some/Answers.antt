@@ -1,7 +1,4 @@
-use Rattle.std.proofs.Common.{◌∙◌, sym, subst, refl, arith, None, rules}
-use Rattle.ns_monitor.specs.Prelude.{HasSince, HasWokenInHand, InSignal, IsOrderly, TableId, WakeAndReturn, taken_from, the}
-use Rattle.ns_gate.proofs.Calls.{since_itself, since_then, works}
-use Rattle.ns_gate.proofs.Wakes.{found_sole}
+use Rattle.ns_monitor.proofs.Prelude.{HasSince, HasWokenInHand, InSignal, IsOrderly, None, TableId, WakeAndReturn, arith, found_sole, refl, rules, since_itself, since_then, subst, sym, taken_from, the, works, ◌∙◌}
 use Rattle.ns_monitor.proofs.Standing.{still_since}
 use Rattle.ns_monitor.proofs.Wakes.{hand_made, taken_still}
 use Rattle.ns_monitor.proofs.monitor.Monitor.wake_some.Given.{Over}

@@ -1,9 +1,4 @@
-use Rattle.std.proofs.Common.{◌≡◌, ◌∙◌, ap, sym, subst, refl, arith, Bool, None, rules}
-use Rattle.ns_monitor.specs.Prelude.{HasReached, HasWokenInHand, InSignal, IsOrderly, TableId, WakeAndReturn, has_some, owed_woken, pay_woken, taken_from, the, wakes_of}
-use denote.Param.{number}
-use Rattle.ns_queue.specs.Room.{list_fits}
-use Rattle.ns_queue.proofs.Orders.{list_small}
-use Rattle.ns_gate.proofs.Calls.{since_itself, since_then, works}
+use Rattle.ns_monitor.proofs.Prelude.{Bool, HasReached, HasWokenInHand, InSignal, IsOrderly, None, TableId, WakeAndReturn, ap, arith, has_some, list_fits, list_small, number, owed_woken, pay_woken, refl, rules, since_itself, since_then, subst, sym, taken_from, the, wakes_of, works, ◌∙◌, ◌≡◌}
 use Rattle.ns_monitor.proofs.Standing.{still_since}
 use Rattle.ns_monitor.proofs.Wakes.{hand_made}
 use Rattle.ns_monitor.proofs.monitor.Monitor.wake_waiters.Given.{Over}

@@ -1,4 +1,4 @@
-use Rattle.std.proofs.Common.{refl, rules}
+use Rattle.ns_monitor.proofs.Prelude.{refl, rules}
 use Rattle.ns_monitor.proofs.Looks.{has_looked}
 use Rattle.ns_monitor.proofs.watching.LookerWatch.look.Goals as goal
 

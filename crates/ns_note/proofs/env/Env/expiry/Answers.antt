@@ -1,7 +1,4 @@
-use Rattle.std.proofs.Common.{ℕ, Option, None, sym, ap, ◌∙◌, subst}
-use Rattle.ns_note.specs.Prelude.{NoteWord, earlier, env_after}
-use Rattle.ns_model.proofs.Environments.{made_below, legal_begins, expiry_begins}
-use Rattle.ns_model.proofs.Lines.{IsExpiryAt, expiry_starts, expiry_goes_on, line_falls, nearer}
+use Rattle.ns_note.proofs.Prelude.{IsExpiryAt, None, NoteWord, Option, ap, earlier, env_after, expiry_begins, expiry_goes_on, expiry_starts, legal_begins, line_falls, made_below, nearer, subst, sym, ℕ, ◌∙◌}
 use Rattle.ns_note.proofs.Rests.{grows_through}
 use Rattle.ns_note.proofs.env.Env.expiry.Goals as goal
 

@@ -1,6 +1,4 @@
-use Rattle.std.proofs.Common.{◌≡◌}
-use Rattle.ns_note.specs.Prelude.{Grows}
-use Rattle.ns_model.proofs.Lines.{IsExpiryAt, height}
+use Rattle.ns_note.proofs.Prelude.{Grows, IsExpiryAt, height, ◌≡◌}
 use Rattle.ns_note.proofs.env.Env.expiry.Given as goal
 
 abbrev pub invariant-loop-next : goal.invariant-loop-next

@@ -1,4 +1,4 @@
-use Rattle.ns_model.proofs.Environments.{made_begins}
+use Rattle.ns_note.proofs.Prelude.{made_begins}
 use Rattle.ns_note.proofs.Looks.{notified_at}
 use Rattle.ns_note.proofs.env.Env.is_notified.Goals as goal
 

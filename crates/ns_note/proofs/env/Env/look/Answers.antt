@@ -1,7 +1,4 @@
-use Rattle.std.proofs.Common.{◌∙◌, Option, option_map, sym, subst, IfSome}
-use Rattle.ns_note.specs.Prelude.{BeginsWith, EnvKnown, IsBetween, IsMade, IsUnnotified, Note}
-use Rattle.ns_model.proofs.Beginnings.{begins_itself}
-use Rattle.ns_model.proofs.Environments.{made_begins}
+use Rattle.ns_note.proofs.Prelude.{BeginsWith, EnvKnown, IfSome, IsBetween, IsMade, IsUnnotified, Note, Option, begins_itself, made_begins, option_map, subst, sym, ◌∙◌}
 use Rattle.ns_note.proofs.Looks.{times_out, shows_nothing}
 use Rattle.ns_note.proofs.env.Env.look.Goals.{After-is_due, in-Some+else-stops, in_default}
 use Rattle.ns_note.proofs.env.Env.look.Goals as goal

@@ -1,9 +1,6 @@
-use Rattle.std.proofs.Common.{ℕ, List, rules, ap, sym, subst, ◌∙◌}
-use Rattle.ns_note.specs.Prelude.{AreOfOneHistory, EnvKnown, EnvView, Grows, HaveLearned, Me, TableId, fresh_seat, known_of, the}
+use Rattle.ns_note.proofs.Prelude.{AreOfOneHistory, EnvKnown, EnvView, Grows, HaveLearned, List, Me, TableId, ap, cuts, fresh_seat, glues, known_of, meets, pair_of, rules, subst, sym, the, ℕ, ◌∙◌}
 use Rattle.ns_note.proofs.Rests.{grew, nowhere}
 use Rattle.ns_note.proofs.Seats.{by_sums, learns}
-use Rattle.ns_seats.proofs.Meetings.{cuts, glues, meets}
-use Rattle.ns_seats.proofs.Views.{pair_of}
 use Rattle.ns_note.proofs.env.Env.meet.Goals as goal
 
 abbrev views : {S : Type 0} → Me S (List EnvView) → List EnvView

@@ -1,8 +1,6 @@
-use Rattle.std.proofs.Common.{rules, arith, ap, sym, subst, refl, ◌∙◌, ◌≡◌, ◌+◌, ◌<◌, ℕ, List, [], ◌∷◌, length, length-append}
-use Rattle.ns_note.specs.Prelude.{AreNew, EnvKnown, EnvView, IsAtRest, IsNumberOf, Me, TableId, first_of, fresh_seat, known, known_of, rest_of, the}
+use Rattle.ns_note.proofs.Prelude.{AreNew, EnvKnown, EnvView, IsAtRest, IsNumberOf, List, Me, TableId, [], all_new, ap, arith, cuts, first_of, fresh_seat, known, known_of, length, length-append, new_more, numbered_first, numbered_rest, refl, rest_of, rules, subst, sym, the, ℕ, ◌+◌, ◌<◌, ◌∙◌, ◌∷◌}
+use Rattle.ns_note.proofs.Prelude.{◌≡◌}
 use Rattle.ns_note.proofs.Seats.{begins_with, by_sums}
-use Rattle.ns_seats.proofs.Meetings.{cuts}
-use Rattle.ns_seats.proofs.Numbered.{all_new, numbered_first, numbered_rest, new_more}
 use Rattle.ns_note.proofs.env.Env.new.Goals as goal
 
 abbrev Seated : Type 0

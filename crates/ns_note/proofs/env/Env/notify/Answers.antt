@@ -1,5 +1,4 @@
-use Rattle.std.proofs.Common.{rules, ◌∙◌, ◌+◌, ◌-◌, subst, sym, ℕ, arith}
-use Rattle.ns_note.specs.Prelude.{EnvKnown, Grows, IsMade, NotifyNote}
+use Rattle.ns_note.proofs.Prelude.{EnvKnown, Grows, IsMade, NotifyNote, arith, rules, subst, sym, ℕ, ◌+◌, ◌-◌, ◌∙◌}
 use Rattle.ns_note.proofs.Rests.{rests, grew, adds_by}
 use Rattle.ns_note.proofs.Allowed.{marks}
 use Rattle.ns_note.proofs.env.Env.notify.Goals as goal

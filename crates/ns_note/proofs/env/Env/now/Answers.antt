@@ -1,5 +1,4 @@
-use Rattle.std.proofs.Common.{rules, ◌∙◌, refl}
-use Rattle.ns_note.specs.Prelude.{LoadClock}
+use Rattle.ns_note.proofs.Prelude.{LoadClock, refl, rules, ◌∙◌}
 use Rattle.ns_note.proofs.Rests.{rests, grew, mine_stays, quiet_adds, clock_loaded}
 use Rattle.ns_note.proofs.Allowed.{loads_clock}
 use Rattle.ns_note.proofs.env.Env.now.Goals as goal

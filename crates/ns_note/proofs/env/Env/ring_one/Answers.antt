@@ -1,4 +1,4 @@
-use Rattle.std.proofs.Common.{rules, arith}
+use Rattle.ns_note.proofs.Prelude.{arith, rules}
 use Rattle.ns_note.proofs.Allowed.{rings}
 use Rattle.ns_note.proofs.env.Env.ring_one.Goals as goal
 

@@ -1,7 +1,4 @@
-use Rattle.std.proofs.Common.{Some, ap, ◌∙◌, subst, sym}
-use Rattle.ns_note.specs.Prelude.{IsLeftAt, NoteWord, env_after}
-use Rattle.ns_model.proofs.Environments.{made_below}
-use Rattle.ns_model.proofs.Lines.{line_falls, nearer}
+use Rattle.ns_note.proofs.Prelude.{IsLeftAt, NoteWord, Some, ap, env_after, line_falls, made_below, nearer, subst, sym, ◌∙◌}
 use Rattle.ns_note.proofs.Looks.{goes_above, over_above}
 use Rattle.ns_note.proofs.Rests.{grows_through}
 use Rattle.ns_note.proofs.env.Env.stops.Goals.{In-Some}

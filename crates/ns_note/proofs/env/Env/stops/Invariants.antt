@@ -1,6 +1,4 @@
-use Rattle.std.proofs.Common.{◌≡◌}
-use Rattle.ns_note.specs.Prelude.{Grows}
-use Rattle.ns_model.proofs.Lines.{height}
+use Rattle.ns_note.proofs.Prelude.{Grows, height, ◌≡◌}
 use Rattle.ns_note.proofs.Looks.{IsLoadedAt}
 use Rattle.ns_note.proofs.env.Env.stops.Given as goal
 

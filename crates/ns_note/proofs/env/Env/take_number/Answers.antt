@@ -1,4 +1,4 @@
-use Rattle.std.proofs.Common.{rules, arith}
+use Rattle.ns_note.proofs.Prelude.{arith, rules}
 use Rattle.ns_note.proofs.Rests.{next_left, has_taken, found_full}
 use Rattle.ns_note.proofs.Allowed.{loads_next, adds_one}
 use Rattle.ns_note.proofs.env.Env.take_number.Goals as goal

@@ -1,5 +1,4 @@
-use Rattle.std.proofs.Common.{rules, ◌∙◌, ◌+◌, ◌-◌, refl, arith}
-use Rattle.ns_note.specs.Prelude.{LoadNote}
+use Rattle.ns_note.proofs.Prelude.{LoadNote, arith, refl, rules, ◌+◌, ◌-◌, ◌∙◌}
 use Rattle.ns_note.proofs.Rests.{rests, grew, quiet_adds}
 use Rattle.ns_note.proofs.Allowed.{loads_note}
 use Rattle.ns_note.proofs.env.Env.word.Goals as goal

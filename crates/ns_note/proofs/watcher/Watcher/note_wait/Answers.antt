@@ -1,5 +1,4 @@
-use Rattle.std.proofs.Common.{subst}
-use Rattle.ns_note.specs.Prelude.{EnvKnown, Grows}
+use Rattle.ns_note.proofs.Prelude.{EnvKnown, Grows, subst}
 use Rattle.ns_note.proofs.Looks.{waited_since}
 use Rattle.ns_note.proofs.Rests.{made_grows}
 use Rattle.ns_note.proofs.watcher.Watcher.note_wait.Goals as goal

@@ -1,6 +1,4 @@
-use Rattle.std.proofs.Common.{ℕ, suc, Option, Some, None, refl, sym, ap, subst, ◌∙◌}
-use Rattle.ns_objects.specs.Prelude.{BothKnown, EnvGrows, EnvKnown, HasComeBackFromAny, HaveShownNothing, Known, RoundAnswers, Setup, WaitAnswers, WasReady, past_of}
-use Rattle.ns_counters.proofs.Rounds.{later_itself}
+use Rattle.ns_objects.proofs.Prelude.{BothKnown, EnvGrows, EnvKnown, HasComeBackFromAny, HaveShownNothing, Known, None, Option, RoundAnswers, Setup, Some, WaitAnswers, WasReady, ap, later_itself, past_of, refl, subst, suc, sym, ℕ, ◌∙◌}
 use Rattle.ns_objects.proofs.HeldWaits.{back_from_wait, place_by, waits_on_itself, waits_through}
 use Rattle.ns_objects.proofs.Rests.{env_grows_not, env_grows_through, grows_not, grows_through}
 use Rattle.ns_objects.proofs.Rounds.{all_known_later}

@@ -1,5 +1,4 @@
-use Rattle.std.proofs.Common.{rules, arith, refl, sym, subst, ◌<◌}
-use Rattle.ns_objects.specs.Prelude.{LookCounter, ObjectsKnown}
+use Rattle.ns_objects.proofs.Prelude.{LookCounter, ObjectsKnown, arith, refl, rules, subst, sym, ◌<◌}
 use Rattle.ns_objects.proofs.Allowed.{allows}
 use Rattle.ns_objects.proofs.objects.Objects.counter_value.Goals as goal
 

@@ -1,5 +1,4 @@
-use Rattle.std.proofs.Common.{rules, arith, ap, sym, ◌∙◌}
-use Rattle.ns_objects.specs.Prelude.{Running}
+use Rattle.ns_objects.proofs.Prelude.{Running, ap, arith, rules, sym, ◌∙◌}
 use Rattle.ns_objects.proofs.Allowed.{ends_once}
 use Rattle.ns_objects.proofs.objects.Objects.end_once.Goals as goal
 

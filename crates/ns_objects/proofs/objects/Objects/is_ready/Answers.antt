@@ -1,5 +1,4 @@
-use Rattle.std.proofs.Common.{eqb, false, sym, subst}
-use Rattle.ns_objects.specs.Prelude.{BothKnown, WasReadyIn}
+use Rattle.ns_objects.proofs.Prelude.{BothKnown, WasReadyIn, eqb, false, subst, sym}
 use Rattle.ns_objects.proofs.Rounds.{looked_at_counter, looked_at_note, passed_over}
 use Rattle.ns_objects.proofs.objects.Objects.is_ready.Goals as goal
 

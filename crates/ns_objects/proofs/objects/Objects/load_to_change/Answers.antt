@@ -1,4 +1,4 @@
-use Rattle.std.proofs.Common.{arith, to_z-of_z}
+use Rattle.ns_objects.proofs.Prelude.{arith, to_z-of_z}
 use Rattle.ns_objects.proofs.Allowed.{loads_to_change}
 use Rattle.ns_objects.proofs.Rests.{has_judged}
 use Rattle.ns_objects.proofs.objects.Objects.load_to_change.Goals as goal

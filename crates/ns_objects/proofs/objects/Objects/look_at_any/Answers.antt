@@ -1,10 +1,5 @@
-use Rattle.std.proofs.Common.{◌∙◌, inl, inr, refl, leb, [], ◌∷◌, ◌++◌, Bool, Some, sym, ap, subst, false, true, take}
-use Rattle.std.proofs.lemmas.Bool.{le-leb, lt-leb}
-use Rattle.std.proofs.lemmas.List.{take_more}
-use Rattle.std.proofs.lemmas.Option.{slice_get-get_or}
-use Rattle.ns_objects.specs.Prelude.{AnyItem, BothKnown, InTurn, IsNamed, Setup, WasReady, WasReadyIn, clock_of, is_due, past_of}
-use Rattle.ns_counters.proofs.Rounds.{turn_more, turn_until}
-use Rattle.ns_model.proofs.Beginnings.{begins_itself}
+use Rattle.ns_objects.proofs.Prelude.{AnyItem, Bool, BothKnown, InTurn, IsNamed, Setup, Some, WasReady, WasReadyIn, [], ap, begins_itself, clock_of, false, inl, inr, is_due, le-leb, leb, lt-leb, past_of, refl, slice_get-get_or, subst, sym, take, take_more, true, turn_more, turn_until, ◌++◌, ◌∙◌}
+use Rattle.ns_objects.proofs.Prelude.{◌∷◌}
 use Rattle.ns_objects.proofs.Rests.{env_grows_through, grows_through}
 use Rattle.ns_objects.proofs.Rounds.{every_get, known_later, whole_round}
 use Rattle.ns_objects.proofs.objects.Objects.look_at_any.Goals as goal

@@ -1,4 +1,4 @@
-use Rattle.std.proofs.Common.{rules, arith}
+use Rattle.ns_objects.proofs.Prelude.{arith, rules}
 use Rattle.ns_objects.proofs.Allowed.{looks_at_once}
 use Rattle.ns_objects.proofs.objects.Objects.look_once.Goals as goal
 

@@ -1,9 +1,6 @@
-use Rattle.std.proofs.Common.{ℕ, List, rules, ap, sym, subst, ◌∙◌}
-use Rattle.ns_objects.specs.Prelude.{AreOfOneHistory, Grows, HaveMet, Me, ObjectView, ObjectsKnown, TableId, fresh_seat, known_of, no_setup, the}
+use Rattle.ns_objects.proofs.Prelude.{AreOfOneHistory, Grows, HaveMet, List, Me, ObjectView, ObjectsKnown, TableId, ap, cuts, fresh_seat, glues, known_of, meets, no_setup, pair_of, rules, subst, sym, the, ℕ, ◌∙◌}
 use Rattle.ns_objects.proofs.Rests.{grew}
 use Rattle.ns_objects.proofs.Seats.{by_sums, learns}
-use Rattle.ns_seats.proofs.Meetings.{cuts, glues, meets}
-use Rattle.ns_seats.proofs.Views.{pair_of}
 use Rattle.ns_objects.proofs.objects.Objects.meet.Goals as goal
 
 abbrev views : {S : Type 0} → Me S (List ObjectView) → List ObjectView

@@ -1,9 +1,6 @@
-use Rattle.std.proofs.Common.{rules, arith, ap, sym, subst, refl, ◌∙◌, ◌≡◌, ◌+◌, ◌<◌, ℕ, List, [], ◌∷◌, length, length-append}
-use Rattle.ns_objects.specs.Prelude.{AreNew, IsAtRest, IsRuled, Me, ObjectEvent, ObjectView, ObjectsKnown, Setup, TableId, first_of, first_words, fresh, fresh_seat, known, known_of, padded, rest_of, setup_of, the}
-use Rattle.ns_counters.proofs.NewObjects.{new_lawful}
+use Rattle.ns_objects.proofs.Prelude.{AreNew, IsAtRest, IsRuled, List, Me, ObjectEvent, ObjectView, ObjectsKnown, Setup, TableId, [], all_new, ap, arith, cuts, first_of, first_words, fresh, fresh_seat, known, known_of, length, length-append, new_lawful, new_more, numbered_first, numbered_rest}
+use Rattle.ns_objects.proofs.Prelude.{padded, refl, rest_of, rules, setup_of, subst, sym, the, ℕ, ◌+◌, ◌<◌, ◌∙◌, ◌∷◌, ◌≡◌}
 use Rattle.ns_objects.proofs.Seats.{begins, by_sums}
-use Rattle.ns_seats.proofs.Meetings.{cuts}
-use Rattle.ns_seats.proofs.Numbered.{all_new, numbered_first, numbered_rest, new_more}
 use Rattle.ns_objects.proofs.objects.Objects.new.Goals as goal
 
 abbrev Seated : Type 0

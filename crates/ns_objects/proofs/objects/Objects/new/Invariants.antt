@@ -1,5 +1,4 @@
-use Rattle.std.proofs.Common.{◌≡◌, ◌-◌, length}
-use Rattle.ns_objects.specs.Prelude.{AreNew, fresh, setup_of}
+use Rattle.ns_objects.proofs.Prelude.{AreNew, fresh, length, setup_of, ◌-◌, ◌≡◌}
 use Rattle.ns_objects.proofs.objects.Objects.new.Given as goal
 
 abbrev pub invariant-loop-number : goal.invariant-loop-number

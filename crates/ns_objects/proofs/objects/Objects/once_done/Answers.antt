@@ -1,5 +1,4 @@
-use Rattle.std.proofs.Common.{rules, arith, sym, subst, ◌<◌}
-use Rattle.ns_objects.specs.Prelude.{ObjectsKnown}
+use Rattle.ns_objects.proofs.Prelude.{ObjectsKnown, arith, rules, subst, sym, ◌<◌}
 use Rattle.ns_objects.proofs.Allowed.{looks_at_once}
 use Rattle.ns_objects.proofs.objects.Objects.once_done.Goals as goal
 

@@ -1,5 +1,4 @@
-use Rattle.std.proofs.Common.{arith, subst, ◌∙◌, ◌<◌, sym}
-use Rattle.ns_objects.specs.Prelude.{IsNamed}
+use Rattle.ns_objects.proofs.Prelude.{IsNamed, arith, subst, sym, ◌<◌, ◌∙◌}
 use Rattle.ns_objects.proofs.Rounds.{every_get}
 use Rattle.ns_objects.proofs.objects.Objects.rest_for_any.Goals as goal
 

@@ -1,5 +1,4 @@
-use Rattle.std.proofs.Common.{◌≡◌, ℕ}
-use Rattle.ns_objects.specs.Prelude.{EnvGrows, Grows, HaveShownNothing, WasReady, any_of, past_of}
+use Rattle.ns_objects.proofs.Prelude.{EnvGrows, Grows, HaveShownNothing, WasReady, any_of, past_of, ℕ, ◌≡◌}
 use Rattle.ns_objects.proofs.objects.Objects.wait_any.Given as goal
 
 -- each round so far has shown nothing

@@ -1,7 +1,4 @@
-use Rattle.std.proofs.Common.{◌≡◌, ap, ◌∙◌, string_bytes}
-use Rattle.std.specs.BTreeMap.{get_by_text}
-use Rattle.std.proofs.lemmas.Map.Text.{btree_map_updates_text}
-use Rattle.ns_outcomes.specs.Tallies.{once_more}
+use Rattle.ns_outcomes.proofs.Prelude.{ap, btree_map_updates_text, get_by_text, once_more, string_bytes, ◌∙◌, ◌≡◌}
 use Rattle.ns_outcomes.proofs.tallying.Counts.count.Goals as goal
 use Rattle.ns_outcomes.proofs.tallying.Counts.count.Goals.{in-Some, in-None}
 

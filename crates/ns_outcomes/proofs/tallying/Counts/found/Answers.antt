@@ -1,5 +1,4 @@
-use Rattle.std.proofs.Common.{rules}
-use Rattle.std.proofs.lemmas.List.Sorted.{answers_always}
+use Rattle.ns_outcomes.proofs.Prelude.{answers_always, rules}
 use Rattle.ns_outcomes.proofs.Tallies.{in_order, tallied}
 use Rattle.ns_outcomes.proofs.tallying.Counts.found.Goals as goal
 

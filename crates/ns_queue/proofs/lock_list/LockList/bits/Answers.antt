@@ -1,8 +1,5 @@
-use Rattle.std.proofs.Common.{◌∙◌, ap, sym, nat_lt}
-use Rattle.ns_queue.specs.Prelude.{has_condition, is_long, writes_plainly}
+use Rattle.ns_queue.proofs.Prelude.{ap, has_condition, is_long, nat_lt, number, ring_fits, sym, writes_plainly, ◌∙◌}
 use Rattle.ns_queue.proofs.Ringed.{any_counted}
-use Rattle.ns_queue.specs.Sizes.{ring_fits}
-use denote.Param.{number}
 use Rattle.ns_queue.proofs.lock_list.LockList.bits.Goals as goal
 
 pub returns-clause-conditional : goal.returns-clause-conditional

@@ -1,7 +1,5 @@
-use Rattle.std.proofs.Common.{◌++◌, ◌∷◌, [], ap, sym, ◌∙◌}
+use Rattle.ns_queue.proofs.Prelude.{[], ap, lock_fits, number, ring_fits, sym, ◌++◌, ◌∙◌, ◌∷◌}
 use Rattle.ns_queue.proofs.Places.{ahead_free, from_none, own, seated_stands, smaller, stepped}
-use Rattle.ns_queue.specs.Sizes.{ring_fits, lock_fits}
-use denote.Param.{number}
 use Rattle.ns_queue.proofs.lock_list.LockList.copied.Goals as goal
 
 pub loop-waiter-init : goal.loop-waiter-init

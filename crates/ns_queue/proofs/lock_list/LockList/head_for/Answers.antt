@@ -1,8 +1,5 @@
-use Rattle.std.proofs.Common.{true, false}
-use Rattle.std.specs.Option.{option_copied}
+use Rattle.ns_queue.proofs.Prelude.{false, number, option_copied, ring_fits, true}
 use Rattle.ns_queue.proofs.Making.{back_head, back_place, back_read, head_begins, head_goes, joins_told}
-use Rattle.ns_queue.specs.Sizes.{ring_fits}
-use denote.Param.{number}
 use Rattle.ns_queue.proofs.Ringed.{place_fits}
 use Rattle.ns_queue.proofs.lock_list.LockList.head_for.Goals as goal
 

@@ -1,5 +1,4 @@
-use Rattle.ns_queue.specs.Sizes.{ring_fits}
-use denote.Param.{number}
+use Rattle.ns_queue.proofs.Prelude.{number, ring_fits}
 use Rattle.ns_queue.proofs.lock_list.LockList.holds.Goals as goal
 
 pub returns-clause-stands : goal.returns-clause-stands

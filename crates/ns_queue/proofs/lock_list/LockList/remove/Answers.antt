@@ -1,9 +1,6 @@
-use Rattle.std.proofs.Common.{sym, refl}
-use Rattle.ns_queue.specs.Prelude.{times_in}
+use Rattle.ns_queue.proofs.Prelude.{number, refl, ring_fits, sym, times_in}
 use Rattle.ns_queue.proofs.Inside.{told_no, told_yes}
 use Rattle.ns_queue.proofs.Seats.{none_without}
-use Rattle.ns_queue.specs.Sizes.{ring_fits}
-use denote.Param.{number}
 use Rattle.ns_queue.proofs.lock_list.LockList.remove.Goals as goal
 
 pub returns-then-not-holds-clause-removed : goal.returns-then-not-holds-clause-removed

@@ -1,6 +1,5 @@
 use Rattle.ns_queue.proofs.Making.{anew}
-use Rattle.ns_queue.specs.Sizes.{ring_fits, lock_fits}
-use denote.Param.{number}
+use Rattle.ns_queue.proofs.Prelude.{lock_fits, number, ring_fits}
 use Rattle.ns_queue.proofs.lock_list.LockList.remove_all.Goals as goal
 
 pub remake-requires : goal.remake-requires

@@ -1,10 +1,7 @@
-use Rattle.std.proofs.Common.{ap, map, ◌∙◌}
-use Rattle.ns_queue.specs.Prelude.{seated, via_in, without_all}
+use Rattle.ns_queue.proofs.Prelude.{ap, lock_fits, map, number, ring_fits, row_fits, seated, via_in, without_all, ◌∙◌}
 use Rattle.ns_queue.proofs.RunCounts.{tests_most}
 use Rattle.ns_queue.proofs.Leaving.{woken_leave}
 use Rattle.ns_queue.proofs.Vias.{vias_woken}
-use Rattle.ns_queue.specs.Sizes.{ring_fits, lock_fits, row_fits}
-use denote.Param.{number}
 use Rattle.ns_queue.proofs.lock_list.LockList.scan_from.Goals as goal
 
 pub choose-chosen-requires : goal.choose-chosen-requires

@@ -1,12 +1,8 @@
-use Rattle.std.proofs.Common.{true, false, sym}
-use Rattle.std.specs.Option.{option_copied}
-use Rattle.ns_queue.specs.Prelude.{has_condition}
+use Rattle.ns_queue.proofs.Prelude.{false, has_condition, number, option_copied, ring_fits, row_fits, sym, true}
 use Rattle.ns_queue.proofs.Seeking.{answered, counted}
 use Rattle.ns_queue.proofs.Places.{seated_stands}
 use Rattle.ns_queue.proofs.Running.{next_run, sought_few, sought_here, sought_none, sought_on, sought_smaller, sought_start, tests_fit}
 use Rattle.ns_queue.proofs.Making.{start_link}
-use Rattle.ns_queue.specs.Sizes.{ring_fits, row_fits}
-use denote.Param.{number}
 use Rattle.ns_queue.proofs.lock_list.LockList.seek.Goals as goal
 
 pub loop-waiter-init : goal.loop-waiter-init

@@ -1,5 +1,4 @@
-use Rattle.std.proofs.Common.{length}
-use Rattle.ns_queue.specs.Prelude.{from}
+use Rattle.ns_queue.proofs.Prelude.{from, length}
 use Rattle.ns_queue.proofs.Running.{Sought}
 use Rattle.ns_queue.proofs.lock_list.LockList.seek.Given as goal
 

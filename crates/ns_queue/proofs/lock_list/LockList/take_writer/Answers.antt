@@ -1,7 +1,5 @@
-use Rattle.std.proofs.Common.{refl, sym, ◌∙◌}
+use Rattle.ns_queue.proofs.Prelude.{lock_fits, number, refl, ring_fits, row_fits, sym, ◌∙◌}
 use Rattle.ns_queue.proofs.Reading.{nobody_first, reader_first, writer_first}
-use Rattle.ns_queue.specs.Sizes.{ring_fits, lock_fits, row_fits}
-use denote.Param.{number}
 use Rattle.ns_queue.proofs.lock_list.LockList.take_writer.Goals as goal
 
 pub returns-in_default-clause-told : goal.returns-in_default-clause-told

@@ -1,5 +1,4 @@
-use Rattle.std.proofs.Common.{◌≡◌, ◌++◌, take}
-use Rattle.ns_queue.specs.Prelude.{Lock, with_waiters}
+use Rattle.ns_queue.proofs.Prelude.{Lock, take, with_waiters, ◌++◌, ◌≡◌}
 use Rattle.ns_queue.proofs.queues.Queues.append.Given as goal
 
 -- those so far stand at the back

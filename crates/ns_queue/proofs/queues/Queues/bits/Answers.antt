@@ -1,5 +1,4 @@
-use Rattle.ns_queue.specs.Sizes.{lock_fits}
-use denote.Param.{number}
+use Rattle.ns_queue.proofs.Prelude.{lock_fits, number}
 use Rattle.ns_queue.proofs.queues.Queues.bits.Goals as goal
 
 pub returns-clause-writer_waits : goal.returns-clause-writer_waits

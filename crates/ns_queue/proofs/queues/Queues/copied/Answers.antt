@@ -1,9 +1,6 @@
-use Rattle.std.proofs.Common.{◌≡◌, ◌∙◌, ◌∷◌, [], subst, sym}
-use Rattle.ns_queue.specs.Prelude.{IsOrderly}
+use Rattle.ns_queue.proofs.Prelude.{IsOrderly, [], lock_fits, number, subst, sym, ◌∙◌, ◌∷◌, ◌≡◌}
 use Rattle.ns_queue.proofs.Inside.{again, shape}
 use Rattle.ns_queue.proofs.queues.Queues.copied.Given.{Over}
-use Rattle.ns_queue.specs.Sizes.{lock_fits}
-use denote.Param.{number}
 use Rattle.ns_queue.proofs.Orders.{list_small}
 use Rattle.ns_queue.proofs.queues.Queues.copied.Goals.{After-copied-5}
 use Rattle.ns_queue.proofs.queues.Queues.copied.Goals as goal

@@ -1,8 +1,5 @@
-use Rattle.std.proofs.Common.{arith}
-use Rattle.ns_queue.specs.Prelude.{times_in}
+use Rattle.ns_queue.proofs.Prelude.{arith, lock_fits, number, times_in}
 use Rattle.ns_queue.proofs.Inside.{on_none, told_no, told_yes}
-use Rattle.ns_queue.specs.Sizes.{lock_fits}
-use denote.Param.{number}
 use Rattle.ns_queue.proofs.Orders.{list_small, lists_small}
 use Rattle.ns_queue.proofs.queues.Queues.holds.Goals as goal
 

@@ -1,9 +1,6 @@
-use Rattle.std.proofs.Common.{◌≡◌, ◌++◌, ◌∷◌, [], sym, ◌∙◌, arith, ap, subst}
-use Rattle.ns_queue.specs.Prelude.{Cv, Waiter, beside, waiters_of, with_each, with_waiters}
+use Rattle.ns_queue.proofs.Prelude.{Cv, Waiter, [], ap, arith, beside, number, queues_fit, subst, sym, waiters_of, with_each, with_waiters, ◌++◌, ◌∙◌, ◌∷◌, ◌≡◌}
 use Rattle.ns_queue.proofs.Orders.{free_beside}
 use Rattle.ns_queue.proofs.Parts.{each_beside, each_less, each_more}
-use Rattle.ns_queue.specs.Sizes.{queues_fit}
-use denote.Param.{number}
 use Rattle.ns_queue.proofs.queues.Queues.push_any.Goals.{then-contains, else-contains}
 use Rattle.ns_queue.proofs.queues.Queues.push_any.Goals as goal
 

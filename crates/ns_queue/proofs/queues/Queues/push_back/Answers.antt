@@ -1,8 +1,6 @@
-use Rattle.std.proofs.Common.{◌<◌, arith}
+use Rattle.ns_queue.proofs.Prelude.{arith, lock_fits, number, queues_fit, ◌<◌}
 use Rattle.ns_queue.proofs.Orders.{free_beside}
 use Rattle.ns_queue.proofs.Inside.{lock_pushed}
-use Rattle.ns_queue.specs.Sizes.{lock_fits, queues_fit}
-use denote.Param.{number}
 use Rattle.ns_queue.proofs.queues.Queues.push_back.Goals as goal
 
 pub push_back-requires : goal.push_back-requires

@@ -1,7 +1,5 @@
-use Rattle.std.proofs.Common.{arith}
+use Rattle.ns_queue.proofs.Prelude.{arith, lock_fits, number}
 use Rattle.ns_queue.proofs.Inside.{lock_fronted}
-use Rattle.ns_queue.specs.Sizes.{lock_fits}
-use denote.Param.{number}
 use Rattle.ns_queue.proofs.queues.Queues.push_front.Goals as goal
 
 pub push_front-requires : goal.push_front-requires

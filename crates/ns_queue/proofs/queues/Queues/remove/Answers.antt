@@ -1,12 +1,8 @@
-use Rattle.std.proofs.Common.{refl, arith, not, eqb, map}
-use Rattle.std.specs.List.{sum_by}
-use Rattle.ns_queue.specs.Prelude.{Lock, times_in}
+use Rattle.ns_queue.proofs.Prelude.{Lock, arith, eqb, lock_fits, map, not, number, refl, sum_by, times_in}
 use Rattle.ns_queue.proofs.Inside.{lock_left, neither, shape, times_in-filter, told_no, told_yes}
 use Rattle.ns_queue.proofs.Orders.{list_small, lists_small}
 use Rattle.ns_queue.proofs.Outside.{all_below, low_of, orderly_outside}
 use Rattle.ns_queue.proofs.Parts.{lock_alone, removed_of, out_of_all}
-use Rattle.ns_queue.specs.Sizes.{lock_fits}
-use denote.Param.{number}
 use Rattle.ns_queue.proofs.queues.Queues.remove.Goals as goal
 
 pub invariant_of-self : goal.invariant_of-self

@@ -1,5 +1,4 @@
-use Rattle.ns_queue.specs.Sizes.{lock_fits, queues_fit, row_fits}
-use denote.Param.{number}
+use Rattle.ns_queue.proofs.Prelude.{lock_fits, number, queues_fit, row_fits}
 use Rattle.ns_queue.proofs.queues.Queues.scan.Goals as goal
 
 pub seek-sought-requires : goal.seek-sought-requires

@@ -1,9 +1,6 @@
-use Rattle.std.proofs.Common.{◌<◌, ap, map, ◌∙◌}
+use Rattle.ns_queue.proofs.Prelude.{ap, lock_fits, map, number, shown_of, ◌<◌, ◌∙◌}
 use Rattle.ns_queue.proofs.Orders.{offset_fits, list_small, number_fits}
-use Rattle.ns_queue.specs.Sizes.{lock_fits}
-use denote.Param.{number}
 use Rattle.ns_queue.proofs.Inside.{list_there, list_at}
-use Rattle.ns_queue.specs.Prelude.{shown_of}
 use Rattle.ns_queue.proofs.queues.Queues.shown.Goals as goal
 
 pub offset_bounds-self-inside-k : goal.offset_bounds-self-inside-k

@@ -1,9 +1,8 @@
-use Rattle.std.proofs.Common.{get_or, ap, ◌∙◌}
+use Rattle.ns_queue.proofs.Prelude.{ap, get_or, taken_set, ◌∙◌}
 use Rattle.ns_queue.proofs.Orders.{offset_fits, list_small}
 use Rattle.ns_queue.proofs.Appended.{have_seats_at}
 use Rattle.ns_queue.proofs.Taken.{below_signaled}
 use Rattle.ns_queue.proofs.Inside.{list_there, list_at}
-use Rattle.ns_queue.specs.Prelude.{taken_set}
 use Rattle.ns_queue.proofs.queues.Queues.signaled_set.Goals as goal
 
 pub offset_bounds-self-inside-k : goal.offset_bounds-self-inside-k

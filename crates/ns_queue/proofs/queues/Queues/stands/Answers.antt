@@ -1,10 +1,6 @@
-use Rattle.std.proofs.Common.{◌<◌, nat_lt, ap, ◌∙◌}
-use Rattle.std.proofs.lemmas.Bool.{ltb_from_iff}
-use Rattle.ns_queue.specs.Prelude.{times_in}
+use Rattle.ns_queue.proofs.Prelude.{ap, lock_fits, ltb_from_iff, nat_lt, number, times_in, ◌<◌, ◌∙◌}
 use Rattle.ns_queue.proofs.Orders.{offset_fits, list_small, number_fits}
 use Rattle.ns_queue.proofs.Inside.{list_at, list_there}
-use Rattle.ns_queue.specs.Sizes.{lock_fits}
-use denote.Param.{number}
 use Rattle.ns_queue.proofs.queues.Queues.stands.Goals as goal
 
 pub offset_bounds-self-inside-k : goal.offset_bounds-self-inside-k

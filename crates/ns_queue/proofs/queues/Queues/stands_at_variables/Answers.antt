@@ -1,4 +1,4 @@
-use Rattle.std.proofs.lemmas.Bool.{ltb_from_iff}
+use Rattle.ns_queue.proofs.Prelude.{ltb_from_iff}
 use Rattle.ns_queue.proofs.queues.Queues.stands_at_variables.Goals as goal
 
 pub returns : goal.returns

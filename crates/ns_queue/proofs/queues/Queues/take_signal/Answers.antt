@@ -1,5 +1,4 @@
-use Rattle.std.proofs.Common.{get_or, ap, arith, sym, ◌∙◌}
-use Rattle.ns_queue.specs.Prelude.{Cv, signaled_of, taken_set, waiters_of}
+use Rattle.ns_queue.proofs.Prelude.{Cv, ap, arith, get_or, signaled_of, sym, taken_set, waiters_of, ◌∙◌}
 use Rattle.ns_queue.proofs.Appended.{have_seats_at}
 use Rattle.ns_queue.proofs.Orders.{list_small, offset_fits}
 use Rattle.ns_queue.proofs.Inside.{list_at, shape, list_there}

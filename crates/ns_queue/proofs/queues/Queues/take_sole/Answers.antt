@@ -1,5 +1,4 @@
-use Rattle.std.proofs.Common.{ap, arith, sym, ◌∙◌, refl}
-use Rattle.ns_queue.specs.Prelude.{sole_of, taken_set}
+use Rattle.ns_queue.proofs.Prelude.{ap, arith, refl, sole_of, sym, taken_set, ◌∙◌}
 use Rattle.ns_queue.proofs.Appended.{have_seats_at}
 use Rattle.ns_queue.proofs.Orders.{list_small, offset_fits}
 use Rattle.ns_queue.proofs.Inside.{list_at, list_there}

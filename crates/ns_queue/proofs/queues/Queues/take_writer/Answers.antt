@@ -1,8 +1,6 @@
-use Rattle.std.proofs.Common.{refl}
+use Rattle.ns_queue.proofs.Prelude.{lock_fits, number, refl, row_fits}
 use Rattle.ns_queue.proofs.Inside.{lock_lessened}
 use Rattle.ns_queue.proofs.Leaving.{times_left_by_writer}
-use Rattle.ns_queue.specs.Sizes.{lock_fits, row_fits}
-use denote.Param.{number}
 use Rattle.ns_queue.proofs.queues.Queues.take_writer.Goals as goal
 
 pub invariant_of-self : goal.invariant_of-self

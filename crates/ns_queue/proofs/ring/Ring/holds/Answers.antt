@@ -1,8 +1,5 @@
-use Rattle.std.proofs.Common.{◌∙◌}
-use Rattle.std.specs.Option.{option_copied}
+use Rattle.ns_queue.proofs.Prelude.{number, option_copied, ring_fits, ◌∙◌}
 use Rattle.ns_queue.proofs.Ringed.{mapped_some, tells}
-use Rattle.ns_queue.specs.Sizes.{ring_fits}
-use denote.Param.{number}
 use Rattle.ns_queue.proofs.ring.Ring.holds.Goals as goal
 
 pub returns-clause-stands : goal.returns-clause-stands

@@ -1,4 +1,4 @@
-use Rattle.std.proofs.Common.{arith}
+use Rattle.ns_queue.proofs.Prelude.{arith}
 use Rattle.ns_queue.proofs.Ringed.{next_is, place_low}
 use Rattle.ns_queue.proofs.ring.Ring.next.Goals as goal
 

@@ -1,4 +1,4 @@
-use Rattle.std.proofs.Common.{arith}
+use Rattle.ns_queue.proofs.Prelude.{arith}
 use Rattle.ns_queue.proofs.Ringed.{prev_is, place_low}
 use Rattle.ns_queue.proofs.ring.Ring.prev.Goals as goal
 

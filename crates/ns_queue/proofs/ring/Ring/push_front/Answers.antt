@@ -1,4 +1,4 @@
-use Rattle.std.proofs.Common.{refl}
+use Rattle.ns_queue.proofs.Prelude.{refl}
 use Rattle.ns_queue.proofs.Ringed.{closes, entry_at, front_low, has_room, pushed_front, view_of, seat_place, place_fits, entry_there, are_counts}
 use Rattle.ns_queue.proofs.ring.Ring.push_front.Goals as goal
 

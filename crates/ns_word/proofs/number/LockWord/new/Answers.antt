@@ -1,5 +1,4 @@
-use Rattle.std.proofs.Common.{ap, ◌∙◌}
-use Rattle.ns_word.specs.Prelude.{word_of}
+use Rattle.ns_word.proofs.Prelude.{ap, word_of, ◌∙◌}
 use Rattle.ns_word.proofs.Codes.{decoded}
 use Rattle.ns_word.proofs.number.LockWord.new.Goals as goal
 

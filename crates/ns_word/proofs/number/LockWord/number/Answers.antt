@@ -1,5 +1,4 @@
-use Rattle.std.proofs.Common.{sym}
-use Rattle.ns_word.specs.Prelude.{encoded}
+use Rattle.ns_word.proofs.Prelude.{encoded, sym}
 use Rattle.ns_word.proofs.number.LockWord.number.Goals as goal
 
 pub returns : goal.returns

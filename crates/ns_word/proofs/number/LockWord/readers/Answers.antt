@@ -1,5 +1,4 @@
-use Rattle.std.proofs.Common.{refl}
-use Rattle.ns_word.specs.Prelude.{word_of}
+use Rattle.ns_word.proofs.Prelude.{refl, word_of}
 use Rattle.ns_word.proofs.number.LockWord.readers.Goals as goal
 
 pub returns : goal.returns

@@ -1,4 +1,4 @@
-use Rattle.ns_word.specs.Prelude.{word_of}
+use Rattle.ns_word.proofs.Prelude.{word_of}
 use Rattle.ns_word.proofs.number.LockWord.waiting.Goals as goal
 
 pub returns : goal.returns

@@ -1,5 +1,4 @@
-use Rattle.std.proofs.Common.{◌<◌, ◌≤◌, ◌*◌, ◌^◌, rules, ap, ◌∙◌}
-use Rattle.ns_word.specs.Prelude.{bit, is_set, word_with}
+use Rattle.ns_word.proofs.Prelude.{ap, bit, is_set, rules, word_with, ◌*◌, ◌<◌, ◌^◌, ◌∙◌, ◌≤◌}
 use Rattle.ns_word.proofs.Puts.{Puts, put}
 use Rattle.ns_word.proofs.number.LockWord.with.Goals as goal
 

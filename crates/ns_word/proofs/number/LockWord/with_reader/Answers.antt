@@ -1,4 +1,4 @@
-use Rattle.std.proofs.Common.{arith}
+use Rattle.ns_word.proofs.Prelude.{arith}
 use Rattle.ns_word.proofs.Puts.{more}
 use Rattle.ns_word.proofs.number.LockWord.with_reader.Goals as goal
 
