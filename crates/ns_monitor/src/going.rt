@@ -45,6 +45,44 @@ pub(crate) struct Begun<C: Condition<N>, const N: usize> {
     pub(crate) last: Option<LockWord>,
 }
 
+/// Acquires the lock in this mode, at once or behind a wait: the body of each call that locks. A call of a function
+/// that may wait costs a look at whether it was cut short, so these calls don't call one another.
+macro_rules! locked {
+    ($monitor:expr, $rt:expr, $seat:expr, $mode:expr) => {{
+        let Begun {
+            seat,
+            number,
+            alone,
+            last,
+        } = $monitor.begin_lock($seat, $mode);
+        let seat = match last {
+            None => seat,
+            Some(last) => $monitor.lock_slow($rt, seat, number, $mode, last),
+        };
+        holding(seat, number, alone)
+    }};
+}
+
+/// Releases the section in hand, at once or behind a scan: the body of each call that releases, likewise.
+macro_rules! released {
+    ($monitor:expr, $rt:expr, $held:expr, $releasing:expr) => {{
+        let Begun {
+            seat,
+            number,
+            alone,
+            last,
+        } = $monitor.begin_unlock($held, $releasing);
+        let seat = match last {
+            None => seat,
+            Some(last) => $monitor.unlock_slow($rt, seat, $releasing, last),
+        };
+        seated(seat, number, alone)
+    }};
+}
+
+pub(crate) use locked;
+pub(crate) use released;
+
 impl<C: Copy> Clone for Going<C> {
     ghost is_clone = { λ one other. other ≡ one };
 

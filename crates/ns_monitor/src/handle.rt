@@ -11,7 +11,7 @@ ghost use Rattle.ns_gate.specs.Prelude.{Broadcasting, Read, Signaling, Write, Qu
 ghost use Rattle.ns_monitor.specs.Prelude.{AreOfOneHistory, Grows, HasLearned, HasLocked, HasSeenMore, HasWoken, ShowsState, getting, judging, locking, releasing_by, setting, showing, trying, waking_by};
 
 use crate::caller::{Caller, Free, Hand, Reading as Reads, Seat, Section, Writing as Writes};
-use crate::going::Begun;
+use crate::going::{Begun, locked, released};
 use crate::monitor::{Monitor, holding, seated};
 use crate::showing::DebugState;
 use ns_model::condition::Condition;
@@ -114,17 +114,7 @@ impl<'m, C: Condition<N>, const N: usize> Acting<'m, Free, C, N> {
         ensures { HasLocked C.means (locking Write) Write self.entry result }
     {
         let Acting { monitor, caller } = self;
-        let Begun {
-            seat,
-            number,
-            alone,
-            last,
-        } = monitor.begin_lock(caller, Mode::Write);
-        let seat = match last {
-            None => seat,
-            Some(last) => monitor.lock_slow(rt, seat, number, Mode::Write, last),
-        };
-        let caller = holding(seat, number, alone);
+        let caller = locked!(monitor, rt, caller, Mode::Write);
         Acting { monitor, caller }
     }
 
@@ -134,17 +124,7 @@ impl<'m, C: Condition<N>, const N: usize> Acting<'m, Free, C, N> {
         ensures { HasLocked C.means (locking Read) Read self.entry result }
     {
         let Acting { monitor, caller } = self;
-        let Begun {
-            seat,
-            number,
-            alone,
-            last,
-        } = monitor.begin_lock(caller, Mode::Read);
-        let seat = match last {
-            None => seat,
-            Some(last) => monitor.lock_slow(rt, seat, number, Mode::Read, last),
-        };
-        let caller = holding(seat, number, alone);
+        let caller = locked!(monitor, rt, caller, Mode::Read);
         Acting { monitor, caller }
     }
 
@@ -256,18 +236,7 @@ impl<'m, C: Condition<N>, const N: usize> Acting<'m, Reads, C, N> {
         ensures mine { InHand self.entry.held (λ section. result.mine ≡ self.entry.mine ++ section_of C.means.holds self.entry.seat section TheExit.Plain ∷ []) }
     {
         let Acting { monitor, caller } = self;
-        let releasing = Releasing::Reader;
-        let Begun {
-            seat,
-            number,
-            alone,
-            last,
-        } = monitor.begin_unlock(caller, releasing);
-        let seat = match last {
-            None => seat,
-            Some(last) => monitor.unlock_slow(rt, seat, releasing, last),
-        };
-        let caller = seated(seat, number, alone);
+        let caller = released!(monitor, rt, caller, Releasing::Reader);
         Acting { monitor, caller }
     }
 }
@@ -303,18 +272,7 @@ impl<'m, C: Condition<N>, const N: usize> Acting<'m, Writes<N>, C, N> {
         ensures mine { InHand self.entry.held (λ section. result.mine ≡ self.entry.mine ++ section_of C.means.holds self.entry.seat section TheExit.Plain ∷ []) }
     {
         let Acting { monitor, caller } = self;
-        let releasing = Releasing::Writer;
-        let Begun {
-            seat,
-            number,
-            alone,
-            last,
-        } = monitor.begin_unlock(caller, releasing);
-        let seat = match last {
-            None => seat,
-            Some(last) => monitor.unlock_slow(rt, seat, releasing, last),
-        };
-        let caller = seated(seat, number, alone);
+        let caller = released!(monitor, rt, caller, Releasing::Writer);
         Acting { monitor, caller }
     }
 
@@ -328,18 +286,7 @@ impl<'m, C: Condition<N>, const N: usize> Acting<'m, Writes<N>, C, N> {
         ensures mine { InHand self.entry.held (λ section. result.mine ≡ self.entry.mine ++ section_of C.means.holds self.entry.seat section TheExit.Plain ∷ []) }
     {
         let Acting { monitor, caller } = self;
-        let releasing = Releasing::QuietWriter;
-        let Begun {
-            seat,
-            number,
-            alone,
-            last,
-        } = monitor.begin_unlock(caller, releasing);
-        let seat = match last {
-            None => seat,
-            Some(last) => monitor.unlock_slow(rt, seat, releasing, last),
-        };
-        let caller = seated(seat, number, alone);
+        let caller = released!(monitor, rt, caller, Releasing::QuietWriter);
         Acting { monitor, caller }
     }
 }

@@ -6,7 +6,7 @@ ghost use Rattle.ns_gate.specs.Prelude.{Read, Write, TryLock, Busy, Succeeded, Q
 ghost use Rattle.ns_monitor.specs.Prelude.{AreNew, AreOfOneHistory, EndsAs, Grows, HasBegun, HasLearned, HasLocked, HasSeenMore, IsFreshIn, IsNumberOf, IsQuietFor, WentAtOnce, getting, judging, known_of, locking, releasing_by, setting, trying};
 
 use crate::caller::{Caller, Free, Hand, ReadHeld, Renewed, Seat, Section, WriteHeld};
-use crate::going::{Begun, Going};
+use crate::going::{Begun, Going, locked, released};
 use crate::{Closed, Fault};
 use ns_gate::gate::{Gate, GateSeat};
 use ns_model::condition::Condition;
@@ -216,17 +216,7 @@ impl<C: Condition<N>, const N: usize> Monitor<C, N> {
         requires { seat.monitor ≡ self.now }
         ensures { HasLocked C.means (locking Write) Write seat result }
     {
-        let Begun {
-            seat,
-            number,
-            alone,
-            last,
-        } = self.begin_lock(seat, Mode::Write);
-        let seat = match last {
-            None => seat,
-            Some(last) => self.lock_slow(rt, seat, number, Mode::Write, last),
-        };
-        holding(seat, number, alone)
+        locked!(self, rt, seat, Mode::Write)
     }
 
     /// Acquires the lock to read, beside other readers, and waits as long as it has to. The section
@@ -236,17 +226,7 @@ impl<C: Condition<N>, const N: usize> Monitor<C, N> {
         requires { seat.monitor ≡ self.now }
         ensures { HasLocked C.means (locking Read) Read seat result }
     {
-        let Begun {
-            seat,
-            number,
-            alone,
-            last,
-        } = self.begin_lock(seat, Mode::Read);
-        let seat = match last {
-            None => seat,
-            Some(last) => self.lock_slow(rt, seat, number, Mode::Read, last),
-        };
-        holding(seat, number, alone)
+        locked!(self, rt, seat, Mode::Read)
     }
 
     /// The value of a cell of the section's row.
@@ -408,18 +388,7 @@ impl<C: Condition<N>, const N: usize> Monitor<C, N> {
         ensures grows { Grows C.means (releasing_by Writer) held result }
         ensures mine { InHand held.held (λ section. result.mine ≡ held.mine ++ section_of C.means.holds held.seat section TheExit.Plain ∷ []) }
     {
-        let releasing = Releasing::Writer;
-        let Begun {
-            seat,
-            number,
-            alone,
-            last,
-        } = self.begin_unlock(held, releasing);
-        let seat = match last {
-            None => seat,
-            Some(last) => self.unlock_slow(rt, seat, releasing, last),
-        };
-        seated(seat, number, alone)
+        released!(self, rt, held, Releasing::Writer)
     }
 
     /// Ends a read section: it is committed, and the caller's events have it as their last.
@@ -431,18 +400,7 @@ impl<C: Condition<N>, const N: usize> Monitor<C, N> {
         ensures grows { Grows C.means (releasing_by Reader) held result }
         ensures mine { InHand held.held (λ section. result.mine ≡ held.mine ++ section_of C.means.holds held.seat section TheExit.Plain ∷ []) }
     {
-        let releasing = Releasing::Reader;
-        let Begun {
-            seat,
-            number,
-            alone,
-            last,
-        } = self.begin_unlock(held, releasing);
-        let seat = match last {
-            None => seat,
-            Some(last) => self.unlock_slow(rt, seat, releasing, last),
-        };
-        seated(seat, number, alone)
+        released!(self, rt, held, Releasing::Reader)
     }
 
     /// Ends a write section that can't have made a false condition true: it is committed as it is, as
@@ -455,18 +413,7 @@ impl<C: Condition<N>, const N: usize> Monitor<C, N> {
         ensures grows { Grows C.means (releasing_by QuietWriter) held result }
         ensures mine { InHand held.held (λ section. result.mine ≡ held.mine ++ section_of C.means.holds held.seat section TheExit.Plain ∷ []) }
     {
-        let releasing = Releasing::QuietWriter;
-        let Begun {
-            seat,
-            number,
-            alone,
-            last,
-        } = self.begin_unlock(held, releasing);
-        let seat = match last {
-            None => seat,
-            Some(last) => self.unlock_slow(rt, seat, releasing, last),
-        };
-        seated(seat, number, alone)
+        released!(self, rt, held, Releasing::QuietWriter)
     }
 
     /// Ends the monitor, and tells the cells as they stand, and whether the lock is free. Where it
