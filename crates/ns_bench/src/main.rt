@@ -23,6 +23,8 @@
 //! * `to0_mu`, `to0_cv`, `to0_note`, `cancel0`: a wait whose deadline has come, or whose note is notified;
 //!   `note_no`, `note_yes`, `note_child`: a look at a note; `note_pp`: two threads hand a turn to and fro by
 //!   notes.
+//! * `waitn_ready`: a wait for any of three notes of which the last is notified; `to_tick`: a wait with a deadline
+//!   fifty ticks ahead, where a second thread moves the clock by one about each millisecond.
 //! * `counter_add`: a change of a counter for which nobody waits; `once_done`: a call that would have a
 //!   function run once, which has run.
 //! * `pairs`: one thread makes so many pairs of an acquire by a try and a release, and as many by hand on
@@ -53,8 +55,10 @@ mod ring;
 mod ring_variables;
 mod running;
 mod sections;
+mod several;
 mod signals;
 mod steps;
+mod ticking;
 mod variables;
 mod waiting;
 
@@ -128,12 +132,16 @@ enum Workload {
     RingByVariables,
     /// Turns by notes.
     NoteTurns,
+    /// Waits for any of several notes.
+    AnyReady,
+    /// Waits with a deadline, where the clock is moved.
+    ToTick,
     /// Pairs, by tries or by locks.
     Pairs(bool),
 }
 
 /// Each workload by its name.
-const WORKLOADS: [(&str, Workload); 38] = [
+const WORKLOADS: [(&str, Workload); 40] = [
     ("mu_lock", Workload::OneCell(Contending::Lock)),
     ("rw_wlock", Workload::OneCell(Contending::Lock)),
     ("mu_try", Workload::OneCell(Contending::TryLock)),
@@ -191,6 +199,8 @@ const WORKLOADS: [(&str, Workload); 38] = [
     ("live", Workload::Ring),
     ("live_cv", Workload::RingByVariables),
     ("note_pp", Workload::NoteTurns),
+    ("waitn_ready", Workload::AnyReady),
+    ("to_tick", Workload::ToTick),
     ("pairs", Workload::Pairs(true)),
     ("mu", Workload::Pairs(false)),
 ];
@@ -236,6 +246,8 @@ fn run<R: AllocGlobal + Print + Clock + Threads + Wait + Sync>(
         Workload::Ring => ring::run(rt, rt.alloc(), amount),
         Workload::RingByVariables => ring_variables::run(rt, rt.alloc(), amount),
         Workload::NoteTurns => note_turns::run(rt, rt.alloc(), amount),
+        Workload::AnyReady => several::run(rt, rt.alloc(), amount),
+        Workload::ToTick => ticking::run(rt, rt.alloc(), amount),
         Workload::Pairs(by_tries) => return compare(rt, by_tries, amount),
     };
     Ok(Ended::of(is_right))
