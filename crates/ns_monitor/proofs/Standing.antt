@@ -61,10 +61,28 @@ record DecidesAt {C : Type 0} (N : ℕ) (walk : Walk C) : Type 0 where
   takes : (last : Word) → TakesAt N walk last
 
 decides_at : {C : Type 0} (N : ℕ) (walk : Walk C) → Decides walk → DecidesAt N walk
-decides_at N (InAcquire (ForLock mode) (AcquireLoad arrival)) d = record { wants = refl; free = refl; by_word = λ word. refl; goes = λ last may. record { wants = refl; free = refl; missed = λ word. refl; made = refl; asked = refl }; takes = λ last. record { wants = refl; free = refl; missed = λ word. refl; made = refl; has = refl; asked = refl } }
+decides_at N (InAcquire (ForLock mode) (AcquireLoad arrival)) d = record {
+  wants = refl;
+  free = refl;
+  by_word = λ word. refl;
+  goes = λ last may. record { wants = refl; free = refl; missed = λ word. refl; made = refl; asked = refl };
+  takes = λ last. record { wants = refl; free = refl; missed = λ word. refl; made = refl; has = refl; asked = refl };
+}
 decides_at N (InAcquire (ForWait wait outcome)
-    (AcquireLoad arrival)) d = record { wants = refl; free = refl; by_word = λ word. refl; goes = λ last may. record { wants = refl; free = refl; missed = λ word. refl; made = refl; asked = refl }; takes = λ last. record { wants = refl; free = refl; missed = λ word. refl; made = refl; has = refl; asked = refl } }
-decides_at N (InRelease releasing ReleaseLoad) d = record { wants = refl; free = refl; by_word = λ word. refl; goes = λ last may. record { wants = refl; free = refl; missed = λ word. refl; made = refl; asked = refl }; takes = λ last. record { wants = refl; free = refl; missed = λ word. refl; made = refl; has = scanning_has N (word_taken ToChange last); asked = refl } }
+    (AcquireLoad arrival)) d = record {
+      wants = refl;
+      free = refl;
+      by_word = λ word. refl;
+      goes = λ last may. record { wants = refl; free = refl; missed = λ word. refl; made = refl; asked = refl };
+      takes = λ last. record { wants = refl; free = refl; missed = λ word. refl; made = refl; has = refl; asked = refl };
+    }
+decides_at N (InRelease releasing ReleaseLoad) d = record {
+  wants = refl;
+  free = refl;
+  by_word = λ word. refl;
+  goes = λ last may. record { wants = refl; free = refl; missed = λ word. refl; made = refl; asked = refl };
+  takes = λ last. record { wants = refl; free = refl; missed = λ word. refl; made = refl; has = scanning_has N (word_taken ToChange last); asked = refl };
+}
 decides_at N (InWait wait (InQueuing again Load)) d = record { wants = refl; free = refl; by_word = λ word. refl; goes = λ last may. absurd (cc); takes = λ last. record { wants = refl; free = refl; missed = λ word. refl; made = refl; has = refl; asked = refl } }
 decides_at N (InWait wait (InLeaving cause LeaveLoad)) d = record { wants = refl; free = refl; by_word = λ word. refl; goes = λ last may. absurd (cc); takes = λ last. record { wants = refl; free = refl; missed = λ word. refl; made = refl; has = refl; asked = refl } }
 decides_at N (InSignal waking k SignalLoad) d = record { wants = refl; free = refl; by_word = λ word. refl; goes = λ last may. absurd (cc); takes = λ last. record { wants = refl; free = refl; missed = λ word. refl; made = refl; has = refl; asked = refl } }

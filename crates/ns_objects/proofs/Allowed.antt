@@ -55,9 +55,9 @@ allows S setup slots id me act f one may is s holds _ at _ = let r = by me.0 one
       → (w : List ObjectView) × ((h : List ObjectEvent) × IsRuled setup (set s.words (word_at act) (f (slice_index s.words (word_at act)))) (set s.views id w) h) × OneActs {S = S} act (slice_index s.words (word_at act)) (vs, me.1) (w, me.1)
   by [] one may is at = absurd one
   by (v ∷ u ∷ us) one may is at = absurd one
-  by (v ∷ []) one may is at = let h = holds.0 in (
-    acted act (slice_index s.words (word_at act)) h v ∷ [],
-    (h ++ events_of act (slice_index s.words (word_at act)) v, subst (λ (n : ℕ). IsRuled setup (set s.words (word_at act) n) (set s.views id (acted act (slice_index s.words (word_at act)) h v ∷ [])) (h ++ events_of act (slice_index s.words (word_at act)) v)) (sym (is (slice_index s.words (word_at act)))) (keep setup s.words s.views h holds.1 id v at act may)),
+  by (v ∷ []) one may is at = let h = holds.0 in let found = slice_index s.words (word_at act) in (
+    acted act found h v ∷ [],
+    (h ++ events_of act found v, subst (λ (n : ℕ). IsRuled setup (set s.words (word_at act) n) (set s.views id (acted act found h v ∷ [])) (h ++ events_of act found v)) (sym (is found)) (keep setup s.words s.views h holds.1 id v at act may)),
     (tt, refl, tells setup s.words s.views h holds.1 id v at act may),
   )
 

@@ -1,5 +1,5 @@
 -- Seats of new objects, and seats that meet.
-use Rattle.ns_objects.proofs.Prelude.{Allows, AreObjectsBySeats, ArePair, Every, HasSight, HasWords, HaveMet, Holds, IsBySums, IsLawful, IsLegalObjects, IsRuled, Learned, List, Me, ObjectEvent, ObjectView, Setup, TableId, ViewFits, [], arith, begins_itself, eqb, fresh, fresh_seat, joined_learn}
+use Rattle.ns_objects.proofs.Prelude.{Grows, Allows, AreObjectsBySeats, ArePair, Every, HasSight, HasWords, HaveMet, Holds, IsBySums, IsLawful, IsLegalObjects, IsRuled, Learned, List, Me, ObjectEvent, ObjectView, Setup, TableId, ViewFits, [], arith, begins_itself, eqb, fresh, fresh_seat, joined_learn}
 use Rattle.ns_objects.proofs.Prelude.{known_of, no_setup, none_twice, numbered_count, objects_own, one_history, one_if, own-append, refl, sight_of, subst, suc, sym, zero, ℕ, ◌+◌, ◌∙◌, ◌∷◌, ◌≤◌}
 
 -- the rule reads the views by sums over what has to do with their numbers, and by what holds of each
@@ -25,10 +25,16 @@ has_sight setup h v objects f = record { begins = f.seen; own = f.mine; own_seen
 fits_now : (setup : Setup) (h : List ObjectEvent) (v : ObjectView) → ViewFits setup h v → ViewFits setup h (seen_now h v)
 fits_now setup h v f = record { made = f.made; below = f.below; seen = begins_itself h; mine = f.mine; mine_seen = f.mine; place = f.place }
 
+-- a seat that has seen it all has seen more, of a history that stays true
+grown : (setup : Setup) (words : List ℕ) (h : List ObjectEvent) → IsLawful setup words h → (v : ObjectView) → ViewFits setup h v → (objects : TableId) → Grows (known_of objects v) (known_of objects (seen_now h v))
+grown setup words h law v f objects =
+    let legal = subst (λ (s : Setup). IsLegalObjects s h) (sym f.made) law.legal in let by_seats = subst (λ (s : Setup). AreObjectsBySeats s h) (sym f.made) law.by_seats in
+    record { objects = refl; setup = refl; seat = refl; begins = f.seen; true_to = record { room = subst HasWords (sym f.made) law.room; legal = legal; by_seats = by_seats; own = f.mine } }
+
 have_met : (setup : Setup) (words : List ℕ) (h : List ObjectEvent) → IsLawful setup words h → (v u : ObjectView) → ViewFits setup h v → ViewFits setup h u → HaveMet v u (seen_now h v) (seen_now h u)
 have_met setup words h law v u f g = record {
-  first = λ objects. record { objects = refl; setup = refl; seat = refl; begins = f.seen; true_to = record { room = subst HasWords (sym f.made) law.room; legal = subst (λ (s : Setup). IsLegalObjects s h) (sym f.made) law.legal; by_seats = subst (λ (s : Setup). AreObjectsBySeats s h) (sym f.made) law.by_seats; own = f.mine } };
-  second = λ objects. record { objects = refl; setup = refl; seat = refl; begins = g.seen; true_to = record { room = subst HasWords (sym g.made) law.room; legal = subst (λ (s : Setup). IsLegalObjects s h) (sym g.made) law.legal; by_seats = subst (λ (s : Setup). AreObjectsBySeats s h) (sym g.made) law.by_seats; own = g.mine } };
+  first = grown setup words h law v f;
+  second = grown setup words h law u g;
   first_mine = refl;
   second_mine = refl;
   first_place = refl;

@@ -8,7 +8,8 @@ pub count-requires-then-count-eq0 : goal.count-requires-then-count-eq0
 count-requires-then-count-eq0 g c = assumption
 
 pub returns-then-count-eq0 : goal.returns-then-count-eq0
-returns-then-count-eq0 g c = (λ yes. record { no_stranger = sym c.count.ensures ∙ c.if-count-eq0.true; nobody_left = sym c.count-then-count-eq0.ensures ∙ eqb-true c.count-then-count-eq0.result 0 yes }, λ legal. eq-eqb c.count-then-count-eq0.result 0 (c.count-then-count-eq0.ensures ∙ legal.nobody_left))
+returns-then-count-eq0 g c = let left = c.count-then-count-eq0 in
+    (λ yes. record { no_stranger = sym c.count.ensures ∙ c.if-count-eq0.true; nobody_left = sym left.ensures ∙ eqb-true left.result 0 yes }, λ legal. eq-eqb left.result 0 (left.ensures ∙ legal.nobody_left))
 
 pub returns-else-count-eq0 : goal.returns-else-count-eq0
 returns-else-count-eq0 g c = rw (ne_eqb c.count.result 0 (λ e. absurd (omega (arith, e, c.if-count-eq0.false)))) (λ no. absurd cc, λ legal. absurd (omega (arith, c.count.ensures ∙ legal.no_stranger, c.if-count-eq0.false)))

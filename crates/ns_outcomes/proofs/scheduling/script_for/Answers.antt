@@ -34,7 +34,8 @@ returns-then-not-branch-clause-err c =
     let words = c.deref-2.ensures.value ∙ c.in_ok-schedule.ensures ∙ ap (λ ws. script.schedule.items ++ ws) c.deref.ensures.value in
     let has = has_text c.args.limit c.args.seed c.args.bytes.now script c.in_ok-run.run' _ (string_bytes c.in_ok-text.text) c.in_ok-script.ensures.ok.read c.in_ok-run.ensures.ok words c.in_ok-text.ensures in
     let few = subst (λ ws. length ws ≤ 4096) (c.in_ok-schedule.ensures ∙ ap (λ ws. script.schedule.items ++ ws) c.deref.ensures.value) (omega (arith, c.if-len-gt-MAX_WORDS.false, c.len.ensures)) in
-    inr (record { text = string_bytes c.in_ok-text.text; has = has; few = few; short = omega (arith, c.if-len-gt-MAX_BYTES.false, c.len-2.ensures); other = rw (c.deref-3.ensures, c.deref-4.ensures, c.in_ok-schedule.ensures, c.deref.ensures.value) at (c.in_ok-comes_to.ensures.other c.if-not-branch.true) })
+    let other = rw (c.deref-3.ensures, c.deref-4.ensures, c.in_ok-schedule.ensures, c.deref.ensures.value) at (c.in_ok-comes_to.ensures.other c.if-not-branch.true) in
+    inr (record { text = string_bytes c.in_ok-text.text; has = has; few = few; short = omega (arith, c.if-len-gt-MAX_BYTES.false, c.len-2.ensures); other = other })
 
 pub returns-clause-ok : goal.returns-clause-ok
 returns-clause-ok c =

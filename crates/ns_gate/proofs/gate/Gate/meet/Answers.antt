@@ -7,7 +7,8 @@ join_seat-requires g c = let wide = c.self.invariant.0 in (◌∙◌ {A = TableI
 
 pub load-requires : goal.load-requires
 load-requires g c = let wide = c.self.invariant.0 in
-    (◌∙◌ {A = TableId} c.join_seat.ensures.0 (◌∙◌ {A = TableId} c.requires.first.0 (sym c.self.view_is)), omega (arith, wide), learns _ _ _ _ c.join_seat.new.seat.me (pair_of c.args.first.me.0 c.args.second.me.0 _ c.requires.first.1.one c.requires.second.1.one (ap (λ (m : SeatOf _ _). m.0) c.join_seat.ensures.2)))
+    let learned = learns _ _ _ _ c.join_seat.new.seat.me (pair_of c.args.first.me.0 c.args.second.me.0 _ c.requires.first.1.one c.requires.second.1.one (ap (λ (m : SeatOf _ _). m.0) c.join_seat.ensures.2)) in
+    (◌∙◌ {A = TableId} c.join_seat.ensures.0 (◌∙◌ {A = TableId} c.requires.first.0 (sym c.self.view_is)), omega (arith, wide), learned)
 
 pub split_seat-first-requires : goal.split_seat-first-requires
 split_seat-first-requires g c = let wide = c.self.invariant.0 in (◌∙◌ {A = TableId} c.load.ensures.0 (◌∙◌ {A = TableId} c.join_seat.ensures.0 (◌∙◌ {A = TableId} c.requires.first.0 (sym c.self.view_is))), omega (arith, wide), cuts (by_sums _ _) _ _)

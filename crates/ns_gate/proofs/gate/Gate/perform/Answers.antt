@@ -76,7 +76,8 @@ test-requires g c = omega (arith, g.met.C.Condition.has_cells)
 
 pub perform_exchange-requires : goal.perform_exchange-requires
 perform_exchange-requires g c =
-    (omega arith, (omega arith, (omega arith, (beside_fits g.row.C g.row.N g.met.C.Condition.has_room, (c.requires.of, (on_word c.args.act c.in_default.not-LoadWord c.in_default.not-LoadCell c.in_default.not-JudgeQuiet c.in_default.not-JudgeMet c.in_default.not-StoreCell c.in_default.not-ArmFlag c.in_default.not-PayWake c.in_default.not-LoadFlag c.in_default.not-Look, (c.requires.can, c.requires.needs)))))))
+    let on = on_word c.args.act c.in_default.not-LoadWord c.in_default.not-LoadCell c.in_default.not-JudgeQuiet c.in_default.not-JudgeMet c.in_default.not-StoreCell c.in_default.not-ArmFlag c.in_default.not-PayWake c.in_default.not-LoadFlag c.in_default.not-Look in
+    (omega arith, (omega arith, (omega arith, (beside_fits g.row.C g.row.N g.met.C.Condition.has_room, (c.requires.of, (on, (c.requires.can, c.requires.needs)))))))
 
 pub parts-requires : goal.parts-requires
 parts-requires g c = c.load.ensures.word

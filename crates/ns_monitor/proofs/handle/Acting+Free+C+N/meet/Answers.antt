@@ -2,7 +2,8 @@ use Rattle.ns_monitor.proofs.Prelude.{Known, TableId, ap, arith, sym, ◌∙◌}
 use Rattle.ns_monitor.proofs.handle.Acting+Free+C+N.meet.Goals as goal
 
 pub meet-first-requires : goal.meet-first-requires
-meet-first-requires g c = (omega arith, (omega arith, (c.self.invariant, ◌∙◌ {A = TableId} (ap (λ (k : Known g.row.C.Denot g.row.N). k.monitor) c.other.view_is) (◌∙◌ {A = TableId} (sym c.requires) (◌∙◌ {A = TableId} (sym (ap (λ (k : Known g.row.C.Denot g.row.N). k.monitor) c.self.view_is)) c.self.invariant)))))
+meet-first-requires g c =
+    (omega arith, (omega arith, (c.self.invariant, ◌∙◌ {A = TableId} (ap (λ (k : Known g.row.C.Denot g.row.N). k.monitor) c.other.view_is) (◌∙◌ {A = TableId} (sym c.requires) (◌∙◌ {A = TableId} (sym (ap (λ (k : Known g.row.C.Denot g.row.N). k.monitor) c.self.view_is)) c.self.invariant)))))
 
 pub invariant_of-first : goal.invariant_of-first
 invariant_of-first g c = ◌∙◌ {A = TableId} c.meet-first.ensures.learned.0.monitor c.self.invariant

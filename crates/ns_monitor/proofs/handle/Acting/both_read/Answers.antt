@@ -2,7 +2,9 @@ use Rattle.ns_monitor.proofs.Prelude.{Known, TableId, ap, arith, sym, ◌∙◌}
 use Rattle.ns_monitor.proofs.handle.Acting.both_read.Goals as goal
 
 pub both_read-first-requires : goal.both_read-first-requires
-both_read-first-requires g c = (omega arith, (omega arith, (omega arith, (c.self.invariant, ◌∙◌ {A = TableId} (ap (λ (k : Known g.row.C.Denot g.row.N). k.monitor) c.other.view_is) (◌∙◌ {A = TableId} (sym c.requires) (◌∙◌ {A = TableId} (sym (ap (λ (k : Known g.row.C.Denot g.row.N). k.monitor) c.self.view_is)) c.self.invariant))))))
+both_read-first-requires g c =
+    let of = ◌∙◌ {A = TableId} (ap (λ (k : Known g.row.C.Denot g.row.N). k.monitor) c.other.view_is) (◌∙◌ {A = TableId} (sym c.requires) (◌∙◌ {A = TableId} (sym (ap (λ (k : Known g.row.C.Denot g.row.N). k.monitor) c.self.view_is)) c.self.invariant)) in
+    (omega arith, (omega arith, (omega arith, (c.self.invariant, of))))
 
 pub invariant_of-first : goal.invariant_of-first
 invariant_of-first g c = ◌∙◌ {A = TableId} c.both_read-first.ensures.learned.0.monitor c.self.invariant

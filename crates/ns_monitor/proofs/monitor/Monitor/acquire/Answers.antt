@@ -12,7 +12,9 @@ since_load g c = since g.C.Condition.means None LoadWord (Saw c.load-word.result
 
 pub acquire_on-requires : goal.acquire_on-requires
 acquire_on-requires g c = let t = g.C.Condition.means in
-    (omega arith, (omega arith, (omega arith, (◌∙◌ {A = TableId} c.load-word.ensures.seat c.requires.of, (same_number t None c.args.number c.args.seat.now.me c.load-word.new.seat.me c.requires.number (since_load g (goal.at.acquire_on-requires g c).After-load-word), (c.load-word.ensures.word, loads t (InAcquire c.args.aim (AcquireLoad c.args.arrival)) c.load-word.result c.args.seat.now.me c.load-word.new.seat.me tt c.requires.at c.load-word.ensures.did))))))
+    let loaded = loads t (InAcquire c.args.aim (AcquireLoad c.args.arrival)) c.load-word.result c.args.seat.now.me c.load-word.new.seat.me tt c.requires.at c.load-word.ensures.did in
+    let number = same_number t None c.args.number c.args.seat.now.me c.load-word.new.seat.me c.requires.number (since_load g (goal.at.acquire_on-requires g c).After-load-word) in
+    (omega arith, (omega arith, (omega arith, (◌∙◌ {A = TableId} c.load-word.ensures.seat c.requires.of, (number, (c.load-word.ensures.word, loaded))))))
 
 pub returns : goal.returns
 returns g c = record {

@@ -8,7 +8,8 @@ use Rattle.ns_monitor.proofs.monitor.Monitor.any_begin.Goals as goal
 pub queue_at_variables-requires : goal.queue_at_variables-requires
 queue_at_variables-requires g c = let held = c.held.inside in let mode = c.mode-mode.result in
     let in_mode = subst (λ m. HasMode m (the held.seat.me.0).at.held) (sym c.mode-mode.ensures) (g.met.H.Section.in_mode held.hand (the held.seat.me.0).at.held c.held.invariant.2) in
-    rw c.for_any-wait.ensures (omega arith, (omega arith, (omega arith, (◌∙◌ {A = TableId} (ap (λ (k : Known _ _). k.monitor) c.held.view_is) c.requires.of, (c.held.invariant.1, (c.held.invariant.0, ((tt, c.requires.variables), may_wait_for_any g.C.Condition.means mode c.args.cvs (the held.seat.me.0).at.held c.requires.variables in_mode c.held.invariant.0.settled)))))))
+    let fits = may_wait_for_any g.C.Condition.means mode c.args.cvs (the held.seat.me.0).at.held c.requires.variables in_mode c.held.invariant.0.settled in
+    rw c.for_any-wait.ensures (omega arith, (omega arith, (omega arith, (◌∙◌ {A = TableId} (ap (λ (k : Known _ _). k.monitor) c.held.view_is) c.requires.of, (c.held.invariant.1, (c.held.invariant.0, ((tt, c.requires.variables), fits)))))))
 
 -- what it waits for
 wait_is : (g : Over) (c : After-drop-held-inside g) → c.for_any-wait.result ≡ waits_for_any g.H.Section.mode c.args.cvs

@@ -3,13 +3,9 @@ use Rattle.ns_monitor.proofs.Standing.{goes_behind, loads_first, may_decide, wan
 use Rattle.ns_monitor.proofs.monitor.Monitor.go_at_once.Goals as goal
 
 pub begin_to_go-requires : goal.begin_to_go-requires
-begin_to_go-requires g c = (
-  omega arith,
-  (
-    omega arith,
-    (omega arith, (c.requires.of, (c.requires.alone, (may_decide g.C.Condition.means c.args.walk c.args.seat.now.me c.requires.decides c.requires.first c.requires.fits c.requires.rest, λ word may. wants_to_go g.C.Condition.means c.args.walk c.args.going word c.requires.decides c.requires.going may)))),
-  ),
-)
+begin_to_go-requires g c =
+    let decides = may_decide g.C.Condition.means c.args.walk c.args.seat.now.me c.requires.decides c.requires.first c.requires.fits c.requires.rest in
+    (omega arith, (omega arith, (omega arith, (c.requires.of, (c.requires.alone, (decides, λ word may. wants_to_go g.C.Condition.means c.args.walk c.args.going word c.requires.decides c.requires.going may))))))
 
 pub returns-in-Ok : goal.returns-in-Ok
 returns-in-Ok g c = let gone = goes_behind g.C.Condition.means c.args.walk c.args.going c.args.seat.now.me c.begin_to_go.new.seat.me c.requires.decides c.requires.going c.requires.rest c.in-Ok.ensures.began in record {

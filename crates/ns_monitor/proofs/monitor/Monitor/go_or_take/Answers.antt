@@ -8,7 +8,8 @@ loop-init g c = (tt, tt, refl, c.requires.word, since_itself (the c.args.seat.no
 pub exchange_to_go-requires : goal.exchange_to_go-requires
 exchange_to_go-requires g c = let t = g.C.Condition.means in let inv = c.loop.invariant in let walk = c.args._walk in let is = c.requires.going in let d = c.requires.decides in
     let may = may_by c.args.going walk c.loop.word c.may_go.result true is c.may_go.ensures c.if-may_go.true in
-    (omega arith, (omega arith, (omega arith, (◌∙◌ {A = TableId} inv.2 c.requires.of, (inv.3, (may.0, subst (λ x. CanStep t None (going_act x c.loop.word) c.loop.seat.me) (sym is) (can_go_by t walk c.loop.word c.loop.seat.me d may.1 (decided t walk c.loop.word true _ c.loop.seat.me d may.1 refl inv.6))))))))
+    let by = subst (λ x. CanStep t None (going_act x c.loop.word) c.loop.seat.me) (sym is) (can_go_by t walk c.loop.word c.loop.seat.me d may.1 (decided t walk c.loop.word true _ c.loop.seat.me d may.1 refl inv.6)) in
+    (omega arith, (omega arith, (omega arith, (◌∙◌ {A = TableId} inv.2 c.requires.of, (inv.3, (may.0, by))))))
 
 pub returns-in-Ok : goal.returns-in-Ok
 returns-in-Ok g c = record {
@@ -53,7 +54,8 @@ loop-preserved-then-spin g c = let t = g.C.Condition.means in let inv = c.loop.i
 pub exchange_to_take-requires : goal.exchange_to_take-requires
 exchange_to_take-requires g c = let t = g.C.Condition.means in let inv = c.loop.invariant in let walk = c.args._walk in let is = c.requires.going in let d = c.requires.decides in
     let may = (may_by c.args.going walk c.loop.word c.may_go.result false is c.may_go.ensures c.if-may_go.false).1 in
-    (omega arith, (omega arith, (omega arith, (◌∙◌ {A = TableId} inv.2 (◌∙◌ {A = TableId} c.requires.of (sym c.self.view_is)), (inv.3, subst (λ x. CanStep t None (TakeQueues x c.loop.word) c.loop.seat.me) (ap taking_for (sym is) ∙ sym c.taking-taking.ensures) (can_take t walk c.loop.word c.loop.seat.me d (decided t walk c.loop.word false false c.loop.seat.me d may (sym c.spin.ensures ∙ c.if-spin.false) inv.6)))))))
+    let by = subst (λ x. CanStep t None (TakeQueues x c.loop.word) c.loop.seat.me) (ap taking_for (sym is) ∙ sym c.taking-taking.ensures) (can_take t walk c.loop.word c.loop.seat.me d (decided t walk c.loop.word false false c.loop.seat.me d may (sym c.spin.ensures ∙ c.if-spin.false) inv.6)) in
+    (omega arith, (omega arith, (omega arith, (◌∙◌ {A = TableId} inv.2 (◌∙◌ {A = TableId} c.requires.of (sym c.self.view_is)), (inv.3, by)))))
 
 pub returns-in-Ok-exchange_to_take : goal.returns-in-Ok-exchange_to_take
 returns-in-Ok-exchange_to_take g c = record {

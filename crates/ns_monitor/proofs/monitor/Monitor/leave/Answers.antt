@@ -11,7 +11,8 @@ leave_in_hand-stood-requires g c = (omega arith, (omega arith, (omega arith, (�
 pub put_back-requires : goal.put_back-requires
 put_back-requires g c = let t = g.C.Condition.means in let took = c.take-word in let left = c.leave_in_hand-stood in let me1 = took.new.seat.me in let e = left.ensures in
     let hand = hand_by t (LeaveSelf c.home-home.result) c.args.number left.result.1 me1 left.new.seat.me (c.requires.number.0 ∙ sym took.ensures.since.seat) e.seat.1 (λ last. refl) e.lists e.bits in
-    (omega arith, (omega arith, (omega arith, (◌∙◌ {A = TableId} e.seat.0 took.ensures.seat, (tt, (ap (λ w. Changed (LeaveSelf w)) c.home-home.ensures, (took.ensures.taken.packs, (works t (InWait c.args.wait (InLeaving c.args.cause (Leave took.result))) me1 left.new.seat.me took.ensures.taken.at refl e.seat.1, hand))))))))
+    let stands = works t (InWait c.args.wait (InLeaving c.args.cause (Leave took.result))) me1 left.new.seat.me took.ensures.taken.at refl e.seat.1 in
+    (omega arith, (omega arith, (omega arith, (◌∙◌ {A = TableId} e.seat.0 took.ensures.seat, (tt, (ap (λ w. Changed (LeaveSelf w)) c.home-home.ensures, (took.ensures.taken.packs, (stands, hand))))))))
 
 -- it came so far, and stands where its list tells
 since_back : (g : Over) (c : After-put_back g) → HasSince None (the c.args.seat.now.me.0) (the c.put_back.new.seat.me.0)

@@ -23,13 +23,15 @@ load_to_scan-requires g c = let t = g.C.Condition.means in let word = c.args.wor
     let tells = took.tells ∙ ap (λ (l : Lists g.row.C.Denot). (bits_of l.lock).conditional) (sym is.kept.stood) in
     let has = subst (HasRow c.args.wait.on c.args.row.now) (ap row_in (sym is.kept.held)) c.requires.row in
     let lacks = rw c.parts-parts.ensures at c.lacks_row.ensures in
-    rw c.parts-parts.ensures (omega arith, (omega arith, (omega arith, (omega (arith, g.met.C.Condition.has_cells), (◌∙◌ {A = TableId} c.arm_flag.ensures.seat c.requires.of, (refl, (loads_or_queues t c.args.wait c.args.again word c.lacks_row.result me lacks is.at, (is.taken, λ full. scans_at_hand t c.args.wait.on word c.args.row.now (row_in (the me.0).at.held) lock has tells (sym lacks ∙ full)))))))))
+    let queues = loads_or_queues t c.args.wait c.args.again word c.lacks_row.result me lacks is.at in let of = ◌∙◌ {A = TableId} c.arm_flag.ensures.seat c.requires.of in
+    rw c.parts-parts.ensures (omega arith, (omega arith, (omega arith, (omega (arith, g.met.C.Condition.has_cells), (of, (refl, (queues, (is.taken, λ full. scans_at_hand t c.args.wait.on word c.args.row.now (row_in (the me.0).at.held) lock has tells (sym lacks ∙ full)))))))))
 
 pub scan_and_return-requires : goal.scan_and_return-requires
 scan_and_return-requires g c = let after = (goal.at.scan_and_return-requires g c).After-load_to_scan in let is = armed g after in let me = c.load_to_scan.new.seat.me in
     let nowhere = subst (λ (lists : Lists g.row.C.Denot). times (the me.0).at.seat lists ≡ 0) (sym c.load_to_scan.ensures.stood) (subst (λ n. times n (the c.arm_flag.new.seat.me.0).stood ≡ 0) (sym c.load_to_scan.ensures.since.seat) is.nowhere) in
     let number = number_is g after in
-    (omega arith, (omega arith, (omega arith, (omega (arith, g.met.C.Condition.has_cells), (c.load_to_scan.ensures.seat, (c.requires.taken.packs, ((c.requires.range, (number, c.requires.number.1), subst (λ n. times n (the me.0).stood ≡ 0) (sym number) nowhere), rw c.parts-parts.ensures at c.load_to_scan.ensures.ready)))))))
+    let by = subst (λ n. times n (the me.0).stood ≡ 0) (sym number) nowhere in
+    (omega arith, (omega arith, (omega arith, (omega (arith, g.met.C.Condition.has_cells), (c.load_to_scan.ensures.seat, (c.requires.taken.packs, ((c.requires.range, (number, c.requires.number.1), by), rw c.parts-parts.ensures at c.load_to_scan.ensures.ready)))))))
 
 pub returns : goal.returns
 returns g c = let e = c.scan_and_return.ensures in let scanned = e.scanned in record {

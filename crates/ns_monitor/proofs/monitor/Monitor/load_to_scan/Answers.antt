@@ -14,7 +14,8 @@ returns-then-not-needed g c = record {
 
 pub load_cells-requires : goal.load_cells-requires
 load_cells-requires g c = let t = g.C.Condition.means in
-    (omega arith, (omega arith, (omega arith, (omega (arith, g.met.C.Condition.has_cells), (c.requires.of, ((omega arith, sym c.requires.scans), subst (λ b. IsAtPlace t (cond b (loading_at g.row.N c.args.walk 0) (loading g.row.N c.args.walk).last) c.args.seat.now.me) c.if-not-needed.false c.requires.at))))))
+    let by = subst (λ b. IsAtPlace t (cond b (loading_at g.row.N c.args.walk 0) (loading g.row.N c.args.walk).last) c.args.seat.now.me) c.if-not-needed.false c.requires.at in
+    (omega arith, (omega arith, (omega arith, (omega (arith, g.met.C.Condition.has_cells), (c.requires.of, ((omega arith, sym c.requires.scans), by))))))
 
 pub returns : goal.returns
 returns g c = record {

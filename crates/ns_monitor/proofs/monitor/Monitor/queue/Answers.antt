@@ -19,7 +19,8 @@ queue_in_hand-bits-requires g c = let me1 = c.arm_flag.new.seat.me in let after 
 pub put_back-requires : goal.put_back-requires
 put_back-requires g c = let t = g.C.Condition.means in let me1 = c.arm_flag.new.seat.me in let queued = c.queue_in_hand-bits in let after = (goal.at.put_back-requires g c).After-arm_flag in let same = queued.ensures.seat.1 in let mode = c.mode-mode.result in
     let hand = hand_by t (QueueSelf mode c.args.arrival) c.args.number queued.result me1 queued.new.seat.me (number_is g after) same (λ last. refl) queued.ensures.lists queued.ensures.bits in
-    (omega arith, (omega arith, (omega arith, (◌∙◌ {A = TableId} queued.ensures.seat.0 (◌∙◌ {A = TableId} c.arm_flag.ensures.seat c.requires.of), (tt, (ap (λ m. Changed (QueueSelf m c.args.arrival)) c.mode-mode.ensures, (c.requires.word, (works t (InAcquire c.args.aim (Queue c.args.arrival c.args.word)) me1 queued.new.seat.me (armed g after).at refl same, hand))))))))
+    let stands = works t (InAcquire c.args.aim (Queue c.args.arrival c.args.word)) me1 queued.new.seat.me (armed g after).at refl same in
+    (omega arith, (omega arith, (omega arith, (◌∙◌ {A = TableId} queued.ensures.seat.0 (◌∙◌ {A = TableId} c.arm_flag.ensures.seat c.requires.of), (tt, (ap (λ m. Changed (QueueSelf m c.args.arrival)) c.mode-mode.ensures, (c.requires.word, (stands, hand))))))))
 
 pub returns : goal.returns
 returns g c = record {

@@ -5,7 +5,8 @@ use Rattle.ns_monitor.proofs.monitor.Monitor.scan_and_release.Goals as goal
 
 pub load_to_scan-requires : goal.load_to_scan-requires
 load_to_scan-requires g c = let t = g.C.Condition.means in let word = c.args.word in let me = c.args.seat.now.me in
-    rw c.parts-parts.ensures (omega arith, (omega arith, (omega arith, (omega (arith, g.met.C.Condition.has_cells), (c.requires.of, (refl, (subst (λ w. IsAtPlace t w me) (moves_in (λ place. InRelease c.args.releasing place) word.cond (scan_place g.row.N word 0) (ScanAndRelease word)) c.requires.at, (c.requires.taken, λ none. scans_plain t _ (row_in (the me.0).at.held) (the me.0).stood.lock (sym c.requires.tells ∙ none)))))))))
+    let by = subst (λ w. IsAtPlace t w me) (moves_in (λ place. InRelease c.args.releasing place) word.cond (scan_place g.row.N word 0) (ScanAndRelease word)) c.requires.at in
+    rw c.parts-parts.ensures (omega arith, (omega arith, (omega arith, (omega (arith, g.met.C.Condition.has_cells), (c.requires.of, (refl, (by, (c.requires.taken, λ none. scans_plain t _ (row_in (the me.0).at.held) (the me.0).stood.lock (sym c.requires.tells ∙ none)))))))))
 
 pub scan_and_return-requires : goal.scan_and_return-requires
 scan_and_return-requires g c =

@@ -6,7 +6,9 @@ pub load-first-requires : goal.load-first-requires
 load-first-requires g c = (omega arith, (omega arith, (omega arith, (◌∙◌ {A = TableId} c.requires.of (sym c.self.view_is), can_load g.C.Condition.means c.args._walk c.args.seat.now.me c.requires.decides c.requires.at))))
 
 pub go_or_take-requires : goal.go_or_take-requires
-go_or_take-requires g c = (omega arith, (omega arith, (omega arith, (◌∙◌ {A = TableId} c.load-first.ensures.seat c.requires.of, (c.requires.decides, (sym c.requires.going, (c.load-first.ensures.word, loads g.C.Condition.means c.args._walk c.load-first.result c.args.seat.now.me c.load-first.new.seat.me c.requires.decides c.requires.at c.load-first.ensures.did)))))))
+go_or_take-requires g c =
+    let loaded = loads g.C.Condition.means c.args._walk c.load-first.result c.args.seat.now.me c.load-first.new.seat.me c.requires.decides c.requires.at c.load-first.ensures.did in
+    (omega arith, (omega arith, (omega arith, (◌∙◌ {A = TableId} c.load-first.ensures.seat c.requires.of, (c.requires.decides, (sym c.requires.going, (c.load-first.ensures.word, loaded)))))))
 
 pub unreachable-requires : goal.unreachable-requires
 unreachable-requires g c = subst MayGoAlone c.requires.going c.in-None.ensures.came.0

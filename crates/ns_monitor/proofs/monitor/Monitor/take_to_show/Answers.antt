@@ -11,7 +11,8 @@ loop-init g c = let load = c.load-word in let led = loads_first g.C.Condition.me
 
 pub loop-preserved-then-spin : goal.loop-preserved-then-spin
 loop-preserved-then-spin g c = let t = g.C.Condition.means in let inv = c.loop.invariant in let load = c.load-word-then-spin in let me = c.loop.seat.me in let now = load.new.seat.me in
-    (tt, tt, ◌∙◌ {A = TableId} load.ensures.seat inv.2, load.ensures.word, since_then (Some showing) _ _ _ inv.4 (since t None LoadWord (Saw load.result) me now load.ensures.did), loads_to_show t load.result me now (shows_by t c.loop.word true me (sym c.spin.ensures ∙ c.if-spin.true) inv.5) load.ensures.did)
+    let shows = loads_to_show t load.result me now (shows_by t c.loop.word true me (sym c.spin.ensures ∙ c.if-spin.true) inv.5) load.ensures.did in
+    (tt, tt, ◌∙◌ {A = TableId} load.ensures.seat inv.2, load.ensures.word, since_then (Some showing) _ _ _ inv.4 (since t None LoadWord (Saw load.result) me now load.ensures.did), shows)
 
 -- nobody has the queues
 free : (g : Over) (c : In-Ok g) → IsAtPlace g.C.Condition.means (InShow (TakeToShow c.loop.word)) c.loop.seat.me
@@ -29,7 +30,8 @@ returns-in-Ok g c = record {
 
 pub loop-preserved : goal.loop-preserved
 loop-preserved g c = let t = g.C.Condition.means in let inv = c.loop.invariant in let tries = c.exchange_to_take in let me = c.loop.seat.me in let now = tries.new.seat.me in let other = c.in-Err.other in
-    (tt, tt, ◌∙◌ {A = TableId} tries.ensures.seat inv.2, c.in-Err.ensures.word, since_then (Some showing) _ _ _ inv.4 (since t None (TakeQueues ToChange c.loop.word) (Saw other) me now c.in-Err.ensures.did), misses_to_show t c.loop.word other me now (shows_by t c.loop.word false me (sym c.spin.ensures ∙ c.if-spin.false) inv.5) c.in-Err.ensures.did)
+    let shows = misses_to_show t c.loop.word other me now (shows_by t c.loop.word false me (sym c.spin.ensures ∙ c.if-spin.false) inv.5) c.in-Err.ensures.did in
+    (tt, tt, ◌∙◌ {A = TableId} tries.ensures.seat inv.2, c.in-Err.ensures.word, since_then (Some showing) _ _ _ inv.4 (since t None (TakeQueues ToChange c.loop.word) (Saw other) me now c.in-Err.ensures.did), shows)
 
 pub load-word-requires-then-spin : goal.load-word-requires-then-spin
 load-word-requires-then-spin g c = let t = g.C.Condition.means in let inv = c.loop.invariant in let me = c.loop.seat.me in let of = ◌∙◌ {A = TableId} inv.2 (◌∙◌ {A = TableId} c.requires.of (sym c.self.view_is)) in

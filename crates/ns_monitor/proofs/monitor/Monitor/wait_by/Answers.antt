@@ -12,7 +12,8 @@ in_mode : (g : Over) (c : After-wait g) → HasMode c.mode-mode.result (the c.he
 in_mode g c = subst (λ m. HasMode m (the c.held.inside.seat.me.0).at.held) (sym c.mode-mode.ensures) (g.met.H.Section.in_mode c.held.inside.hand (the c.held.inside.seat.me.0).at.held c.held.invariant.2)
 
 pub test-requires : goal.test-requires
-test-requires g c = (omega arith, (omega arith, (omega arith, (omega (arith, g.met.C.Condition.has_cells), (◌∙◌ {A = TableId} (ap (λ (k : Known _ _). k.monitor) c.held.view_is) c.requires.of, (refl, (c.wait.ensures.first, refl, c.held.invariant.0, in_mode g (goal.at.test-requires g c).After-wait)))))))
+test-requires g c =
+    (omega arith, (omega arith, (omega arith, (omega (arith, g.met.C.Condition.has_cells), (◌∙◌ {A = TableId} (ap (λ (k : Known _ _). k.monitor) c.held.view_is) c.requires.of, (refl, (c.wait.ensures.first, refl, c.held.invariant.0, in_mode g (goal.at.test-requires g c).After-wait)))))))
 
 -- the call that it began
 began : (g : Over) (c : After-test g) → HasSince (Some (wait_first g.row.N (waits_by c.mode-mode.result c.args.condition c.args.limits))) (the c.held.inside.seat.me.0) (the c.test.new.seat.me.0)
@@ -37,7 +38,8 @@ met g c is = tested_so g.C.Condition.means (waits_by c.mode-mode.result c.args.c
 
 pub invariant_of-back : goal.invariant_of-back
 invariant_of-back g c = let after = (goal.at.invariant_of-back g c).After-test in
-    ((met g after c.if-test.true).rest, same_number g.C.Condition.means (Some (wait_first g.row.N (waits_by c.mode-mode.result c.args.condition c.args.limits))) c.held.inside.number c.held.inside.seat.me c.test.new.seat.me c.held.invariant.1 (began g after), subst (λ o. g.H.Hand.fits c.held.inside.hand o) (sym c.test.ensures.tested.held) c.held.invariant.2)
+    let number = same_number g.C.Condition.means (Some (wait_first g.row.N (waits_by c.mode-mode.result c.args.condition c.args.limits))) c.held.inside.number c.held.inside.seat.me c.test.new.seat.me c.held.invariant.1 (began g after) in
+    ((met g after c.if-test.true).rest, number, subst (λ o. g.H.Hand.fits c.held.inside.hand o) (sym c.test.ensures.tested.held) c.held.invariant.2)
 
 pub returns-then-test : goal.returns-then-test
 returns-then-test g c = record {
@@ -62,7 +64,8 @@ ended g c cause is = let led = subst (λ o. QueuesOrEnds g.C.Condition.means (wa
 
 pub invariant_of-back-in-Some : goal.invariant_of-back-in-Some
 invariant_of-back-in-Some g c = let after = (goal.at.invariant_of-back-in-Some g c).After-look_before in let e = ended g after c.in-Some.cause c.in-Some.is in
-    (e.0.rest, same_number g.C.Condition.means (Some (wait_first g.row.N (waits_by c.mode-mode.result c.args.condition c.args.limits))) c.held.inside.number c.held.inside.seat.me c.look_before.new.seat.me c.held.invariant.1 (looked g after), subst (λ o. g.H.Hand.fits c.held.inside.hand o) (sym e.1) c.held.invariant.2)
+    let number = same_number g.C.Condition.means (Some (wait_first g.row.N (waits_by c.mode-mode.result c.args.condition c.args.limits))) c.held.inside.number c.held.inside.seat.me c.look_before.new.seat.me c.held.invariant.1 (looked g after) in
+    (e.0.rest, number, subst (λ o. g.H.Hand.fits c.held.inside.hand o) (sym e.1) c.held.invariant.2)
 
 pub returns-in-Some : goal.returns-in-Some
 returns-in-Some g c = record {
@@ -78,7 +81,9 @@ returns-in-Some g c = record {
 pub wait_on-answer-requires : goal.wait_on-answer-requires
 wait_on-answer-requires g c = let t = g.C.Condition.means in let wait = waits_by c.mode-mode.result c.args.condition c.args.limits in let now = c.look_before.new.seat.me in let after = (goal.at.wait_on-answer-requires g c).After-look_before in
     let led = subst (λ o. QueuesOrEnds t wait false o c.test.new.seat.me now) c.in_default.is c.look_before.ensures.leads in
-    (omega arith, (omega arith, (omega arith, (omega (arith, g.met.C.Condition.has_cells), (c.look_before.ensures.seat, (same_number t (Some (wait_first g.row.N wait)) c.held.inside.number c.held.inside.seat.me now c.held.invariant.1 (looked g after), (refl, (g.W.Watch.still c.args.watch.now c.look_before.new.watch c.args.limits c.look_before.ensures.looked c.requires.watches, (c.test.ensures.tested.row_is ∙ ap row_in (sym (led.1 ∙ c.test.ensures.tested.held)), led.0)))))))))
+    let number = same_number t (Some (wait_first g.row.N wait)) c.held.inside.number c.held.inside.seat.me now c.held.invariant.1 (looked g after) in
+    let watches = g.W.Watch.still c.args.watch.now c.look_before.new.watch c.args.limits c.look_before.ensures.looked c.requires.watches in
+    (omega arith, (omega arith, (omega arith, (omega (arith, g.met.C.Condition.has_cells), (c.look_before.ensures.seat, (number, (refl, (watches, (c.test.ensures.tested.row_is ∙ ap row_in (sym (led.1 ∙ c.test.ensures.tested.held)), led.0)))))))))
 
 -- it has waited
 over : (g : Over) (c : After-wait_on-answer g) → HasSince (Some (wait_first g.row.N (waits_by c.mode-mode.result c.args.condition c.args.limits))) (the c.held.inside.seat.me.0) (the c.wait_on-answer.new.seat.me.0)

@@ -10,7 +10,8 @@ use Rattle.ns_monitor.proofs.monitor.Monitor.wait_for_variable.Goals as goal
 pub wait_at_variables-outcome-requires : goal.wait_at_variables-outcome-requires
 wait_at_variables-outcome-requires g c = let held = c.held.inside in let mode = c.mode-mode.result in
     let in_mode = subst (λ m. HasMode m (the held.seat.me.0).at.held) (sym c.mode-mode.ensures) (g.met.H.Section.in_mode held.hand (the held.seat.me.0).at.held c.held.invariant.2) in
-    (omega arith, (omega arith, (omega arith, (◌∙◌ {A = TableId} (ap (λ (k : Known _ _). k.monitor) c.held.view_is) c.requires.of, (c.held.invariant.1, (c.held.invariant.0, ((tt, c.requires.variable), (may_wait g.C.Condition.means mode c.args.k c.args.limits (the held.seat.me.0).at.held c.requires.variable in_mode c.held.invariant.0.settled, c.requires.watches))))))))
+    let fits = may_wait g.C.Condition.means mode c.args.k c.args.limits (the held.seat.me.0).at.held c.requires.variable in_mode c.held.invariant.0.settled in
+    (omega arith, (omega arith, (omega arith, (◌∙◌ {A = TableId} (ap (λ (k : Known _ _). k.monitor) c.held.view_is) c.requires.of, (c.held.invariant.1, (c.held.invariant.0, ((tt, c.requires.variable), (fits, c.requires.watches))))))))
 
 answered : (g : Over) (c : After-wait_at_variables-outcome g) → HasAnswered g.C.Condition.means (Await (waits_for_variable c.mode-mode.result c.args.k c.args.limits)) (Answered (answer_of_wait c.wait_at_variables-outcome.result)) c.wait_at_variables-outcome.new.seat.me
 answered g c = c.wait_at_variables-outcome.ensures.acquired

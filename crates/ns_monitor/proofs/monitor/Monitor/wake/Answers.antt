@@ -13,7 +13,8 @@ pub return_woken-requires : goal.return_woken-requires
 return_woken-requires g c = let t = g.C.Condition.means in let took = c.begin_to_take-word in let look = c.wake_nobody_in_hand in let e = look.ensures in let me = took.new.seat.me in let now = look.new.seat.me in let nobody = sym e.nobody ∙ c.in-Some.is in
     let still = taken_still t c.args.waking c.args.k took.result c.args.seat.now.me me now took.ensures.taken e.seat.1 e.has in
     let none = (takes_nobody c.args.waking c.args.k (the me.0).stood (found_nobody c.args.k (the me.0).stood c.in-Some.made nobody).0).0 in
-    (omega arith, (omega arith, (omega arith, (◌∙◌ {A = TableId} e.seat.0 took.ensures.seat, (c.requires.variable, (still.packs, (still.at, (still.orderly, (sym none ∙ (λ i. taken_from c.args.waking c.args.k (the (sym e.seat.1 i)).stood), hand_of_nobody c.args.waking c.args.k (is_held took.result) c.in-Some.made me now e.seat.1 e.has nobody)))))))))
+    let hand = hand_of_nobody c.args.waking c.args.k (is_held took.result) c.in-Some.made me now e.seat.1 e.has nobody in
+    (omega arith, (omega arith, (omega arith, (◌∙◌ {A = TableId} e.seat.0 took.ensures.seat, (c.requires.variable, (still.packs, (still.at, (still.orderly, (sym none ∙ (λ i. taken_from c.args.waking c.args.k (the (sym e.seat.1 i)).stood), hand)))))))))
 
 pub returns-in-Some : goal.returns-in-Some
 returns-in-Some g c = record {

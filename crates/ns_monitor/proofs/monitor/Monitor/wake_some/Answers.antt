@@ -12,7 +12,9 @@ since_look g c = let me = c.args.seat.now.me in still_since g.C.Condition.means 
 pub wake_sole-requires : goal.wake_sole-requires
 wake_sole-requires g c = let t = g.C.Condition.means in let waking = c.args.waking in let k = c.args.k in let taken = c.requires.taken in let look = c.wake_sole_in_hand in let e = c.in-Some.ensures in let me = c.args.seat.now.me in let now = look.new.seat.me in let same = e.seat.1 in
     let held = c.is_held-held.result in let found = found_sole waking k held (the me.0).stood c.in-Some.sole c.in-Some.made (sym e.sole) in
-    (omega arith, (omega arith, (omega arith, (◌∙◌ {A = TableId} e.seat.0 c.requires.of, (c.requires.variable, (taken.packs, (works t (InSignal waking k (WakeAndReturn c.args.word)) me now taken.at refl same, (subst IsOrderly (λ i. (the (sym same i)).stood) e.orderly, ((λ i. taken_from waking k (the (same i)).stood) ∙ found.0, subst (λ b. HasWokenInHand waking k b c.in-Some.made now) c.is_held-held.ensures (hand_made waking k held c.in-Some.made me now same e.lists found.1 found.2))))))))))
+    let by = subst (λ b. HasWokenInHand waking k b c.in-Some.made now) c.is_held-held.ensures (hand_made waking k held c.in-Some.made me now same e.lists found.1 found.2) in
+    let stands = works t (InSignal waking k (WakeAndReturn c.args.word)) me now taken.at refl same in
+    (omega arith, (omega arith, (omega arith, (◌∙◌ {A = TableId} e.seat.0 c.requires.of, (c.requires.variable, (taken.packs, (stands, (subst IsOrderly (λ i. (the (sym same i)).stood) e.orderly, ((λ i. taken_from waking k (the (same i)).stood) ∙ found.0, by)))))))))
 
 pub returns-in-Some : goal.returns-in-Some
 returns-in-Some g c = record {

@@ -48,7 +48,8 @@ paid g c = let made = c.wake_in_hand-taken in let waking = c.args.waking in let 
 
 pub pay-requires : goal.pay-requires
 pay-requires g c = let t = g.C.Condition.means in let back = c.return_woken-moved.ensures in let now = c.return_woken-moved.new.seat.me in
-    (omega arith, (omega arith, (omega arith, (back.seat, (record { pays = refl; free = refl; more = refl }, (subst (λ ns. HasReached t (TheRequest.Wake c.args.waking c.args.k) (pay_woken c.args.waking c.args.k (has_some ns)) now) (sym back.returned.owed) back.returned.leads, back.returned.owed ∙ sym (paid g (goal.at.pay-requires g c).Joined-moved)))))))
+    let by = subst (λ ns. HasReached t (TheRequest.Wake c.args.waking c.args.k) (pay_woken c.args.waking c.args.k (has_some ns)) now) (sym back.returned.owed) back.returned.leads in
+    (omega arith, (omega arith, (omega arith, (back.seat, (record { pays = refl; free = refl; more = refl }, (by, back.returned.owed ∙ sym (paid g (goal.at.pay-requires g c).Joined-moved)))))))
 
 pub returns : goal.returns
 returns g c = record {

@@ -26,7 +26,8 @@ seated-requires c = let l = c.load.ensures.2 in let s = c.split_seat-first.ensur
 pub seated-requires-2 : goal.seated-requires-2
 seated-requires-2 c = let l = c.load.ensures.2 in let s = c.split_seat-first.ensures in
     let m = meets (fresh_seat 0 0) HaveLearned c.first.inside.seat.me.0 c.second.inside.seat.me.0 _ _ _ _ c.first.invariant.0.one c.second.invariant.0.one (ap views c.join_seat.ensures.2) l.pair l.met (ap views s.4) (ap views s.2) in
-    (record { one = m.1; empty = ap held s.2 ∙ (l.carried ∙ (ap held c.join_seat.ensures.2 ∙ c.first.invariant.0.empty)); idle = m.2.second_making ∙ c.second.invariant.0.idle; true_to = (m.2.second.grows c.split_seat-first.new.seat.table_id).true_to }, (c.second.invariant.1.0 ∙ sym (m.2.second.grows nowhere).seat, c.second.invariant.1.1))
+    let empty = ap held s.2 ∙ (l.carried ∙ (ap held c.join_seat.ensures.2 ∙ c.first.invariant.0.empty)) in
+    (record { one = m.1; empty = empty; idle = m.2.second_making ∙ c.second.invariant.0.idle; true_to = (m.2.second.grows c.split_seat-first.new.seat.table_id).true_to }, (c.second.invariant.1.0 ∙ sym (m.2.second.grows nowhere).seat, c.second.invariant.1.1))
 
 pub returns-clause-grows : goal.returns-clause-grows
 returns-clause-grows c = let l = c.load.ensures.2 in let s = c.split_seat-first.ensures in

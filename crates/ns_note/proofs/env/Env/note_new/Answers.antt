@@ -18,7 +18,8 @@ pub store-requires : goal.store-requires
 store-requires c = let e = c.in_ok-index.ensures in let is = c.index_of.ensures in let low = e.taken.0 in let same = c.from.ensures in
     let given = subst (λ (k : EnvKnown). IfSome c.args.parent (λ p. IsMade k.seen p.index)) (sym c.seat.view_is) c.requires.parent in
     let above = subst (λ (z : Option ℕ × ℕ). ParentFits (env_after (the c.take_number.new.seat.me.0).seen) z.1 z.0) (λ i. (sym is i, sym c.from.ensures i)) (parent_above c.args.parent c.in_ok-index.index _ _ e.taken c.seat.invariant.0.true_to.legal given) in
-    (search rules, search rules, makes _ _ _ _ c.take_number.new.seat.me c.from.result c.encode_note-word.result c.index_of.result c.args.deadline e.seat.1 (omega (arith, low, same)) (e.taken.2 ∙ ap Taken (sym c.from.ensures)) c.encode_note-word.ensures (note_fits c.args.parent c.args.deadline c.index_of.result is c.requires.deadline) above)
+    let taken = e.taken.2 ∙ ap Taken (sym c.from.ensures) in let fits = note_fits c.args.parent c.args.deadline c.index_of.result is c.requires.deadline in
+    (search rules, search rules, makes _ _ _ _ c.take_number.new.seat.me c.from.result c.encode_note-word.result c.index_of.result c.args.deadline e.seat.1 (omega (arith, low, same)) taken c.encode_note-word.ensures fits above)
 
 -- the two events of a call that made a note
 both_added : (parent : Option Note) (deadline : Option ℕ) (above : Option ℕ) (number index word old : ℕ) (v u w : EnvView) → above ≡ option_map (λ n. n.index) parent → IfSome deadline (λ d. d < 2 ^ 54) → word ≡ word_of (state_of (made_note above deadline)) → number ≡ index
