@@ -86,17 +86,17 @@ turned_writer truths row wake turned stood told =
 module _ {C : Type 0} where
   pub scans_in_hand : (scanning : Scanning C) (last : Word) → has_queues (Some (ready_at scanning last)) ≡ true
   scans_in_hand (ToRelease releasing) last = refl
-  scans_in_hand (ToWait number wait again) last = refl
+  scans_in_hand (ToWait queuing) last = refl
 
   -- it puts the queues back, and what for
   puts_for : (scanning : Scanning C) (last : Word) → PutsBack (ready_at scanning last) × (returning_for scanning ≡ returning_of (ready_at scanning last)) × (returning_at (ready_at scanning last) last ≡ ready_at scanning last)
   puts_for (ToRelease releasing) last = (tt, refl, refl)
-  puts_for (ToWait number wait again) last = (tt, refl, refl)
+  puts_for (ToWait queuing) last = (tt, refl, refl)
 
   -- and then pays wakes
   pays_for : (N : ℕ) (scanning : Scanning C) → Pays N (paying_at scanning)
   pays_for N (ToRelease releasing) = record { pays = refl; free = refl; more = refl }
-  pays_for N (ToWait number wait again) = record { pays = refl; free = refl; more = refl }
+  pays_for N (ToWait queuing) = record { pays = refl; free = refl; more = refl }
 
 -- ---- in a call
 
@@ -127,18 +127,18 @@ module _ {C : Type 0} {N : ℕ} (truths : Truths C) where
       → turned.some ≡ has_some (woken_of (meets_at truths row) (the me.0).stood.lock) → turned.bits ≡ bits_of (entered scanning (lists_scanned truths row (the me.0).stood)).lock → HasInHand truths (returning_for scanning) turned now
   hand_scanned (ToRelease releasing) last row turned me now ready may same carries took tells =
       hand_at (Released releasing) (ready_at (ToRelease releasing) last) row (the me.0).at.seat turned.some turned.bits me now ready refl same (λ _. carries) (λ _. took) (λ _. tells)
-  hand_scanned (ToWait number wait again) last row turned me now ready may same carries took tells =
-      hand_at (Waited wait again) (ready_at (ToWait number wait again) last) row number turned.some turned.bits me now ready may.1.0 same (λ _. carries) (λ _. took) (λ _. tells)
+  hand_scanned (ToWait queuing) last row turned me now ready may same carries took tells =
+      hand_at (Waited queuing.wait queuing.again) (ready_at (ToWait queuing) last) row queuing.number turned.some turned.bits me now ready may.1.0 same (λ _. carries) (λ _. took) (λ _. tells)
 
   -- what a call may scan for it still may where only the lists in hand have changed
   pub may_still : (scanning : Scanning C) (me now : SeatOf C N) → MayScan scanning me → now.0 ≡ me.0 → MayScan scanning now
   may_still (ToRelease releasing) me now may same = tt
-  may_still (ToWait number wait again) me now may same = subst (λ (vs : List (GateView C N)). IsInRange wait.on × ((number ≡ (the vs).at.seat) × (number < 64)) × (times number (the vs).stood ≡ 0)) (sym same) may
+  may_still (ToWait queuing) me now may same = subst (λ (vs : List (GateView C N)). IsInRange queuing.wait.on × ((queuing.number ≡ (the vs).at.seat) × (queuing.number < 64)) × (times queuing.number (the vs).stood ≡ 0)) (sym same) may
 
   -- a wait that stands in no list stands in none that a scan has left
   pub may_enter : (scanning : Scanning C) (row : List ℕ) (me now : SeatOf C N) → MayScan scanning me → Carries (lists_scanned truths row (the me.0).stood) now → MayEnter scanning now
   may_enter (ToRelease releasing) row me now may carries = tt
-  may_enter (ToWait number wait again) row me now may carries = (may.0, may.1.1, (lists_scanned truths row (the me.0).stood, carries, free_scanned number (meets_at truths row) (the me.0).stood _ refl may.2))
+  may_enter (ToWait queuing) row me now may carries = (may.0, may.1.1, (lists_scanned truths row (the me.0).stood, carries, free_scanned queuing.number (meets_at truths row) (the me.0).stood _ refl may.2))
 
   -- the queues may go back, with what the scan has made of them
   pub put_scanned : (scanning : Scanning C) (last : Word) (turned : Turned) (now : SeatOf C N) (place : Walk C) (returning : Returning C) → place ≡ ready_at scanning last → returning ≡ returning_for scanning →
@@ -153,7 +153,7 @@ module _ {C : Type 0} {N : ℕ} (truths : Truths C) where
       HasReached truths (asked_of (ready_at scanning last)) (got_of N (ready_at scanning last) (found_back truths (returning_for scanning) last me)) now →
       HasReached truths (asked_of (paying_at scanning)) (got_of N (paying_at scanning) (Paid (has_some (the now.0).at.owed))) now
   pays_next (ToRelease releasing) last me now owes back = subst (λ ns. HasReached truths (Release releasing) (pay_releasing releasing (has_some ns)) now) (sym owes) back
-  pays_next (ToWait number wait again) last me now owes back = subst (λ ns. HasReached truths (Await wait) (pay_waiting wait (has_some ns)) now) (sym owes) back
+  pays_next (ToWait queuing) last me now owes back = subst (λ ns. HasReached truths (Await queuing.wait) (pay_waiting queuing.wait (has_some ns)) now) (sym owes) back
 
   pub pay_scanned : (scanning : Scanning C) (last : Word) (me now : SeatOf C N) (place : Walk C) (returning : Returning C) → place ≡ ready_at scanning last → returning ≡ returning_for scanning →
       OwesTheWoken truths returning me (the now.0).at.owed → HasReached truths (asked_of place) (got_of N place (found_back truths returning last me)) now →
@@ -170,7 +170,7 @@ module _ {C : Type 0} {N : ℕ} (truths : Truths C) where
   -- what is owed are the wakes of those whom the scan took
   owes_called : (scanning : Scanning C) (me : SeatOf C N) (owed : List Owed) → OwesTheWoken truths (returning_for scanning) me owed → owed ≡ called_of (woken_of (meets_at truths (row_in (the me.0).at.held)) (the me.0).stood.lock)
   owes_called (ToRelease releasing) me owed owes = owes
-  owes_called (ToWait number wait again) me owed owes = owes
+  owes_called (ToWait queuing) me owed owes = owes
 
   pub owes_scanned : (scanning : Scanning C) (returning : Returning C) (me : SeatOf C N) (owed : List Owed) → returning ≡ returning_for scanning → OwesTheWoken truths returning me owed →
       owed ≡ called_of (woken_of (meets_at truths (row_in (the me.0).at.held)) (the me.0).stood.lock)

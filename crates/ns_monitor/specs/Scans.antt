@@ -8,32 +8,32 @@ use Rattle.ns_monitor.specs.declared.scanning.Scanning.TheVariants.{ToRelease, T
 -- what the queues are put back for after it
 abbrev pub returning_for : {C : Type 0} → Scanning C → Returning C
 returning_for (ToRelease releasing) = Released releasing
-returning_for (ToWait number wait again) = Waited wait again
+returning_for (ToWait queuing) = Waited queuing.wait queuing.again
 
 -- where its call stands with a row ready for it, by the word last seen
 abbrev pub ready_at : {C : Type 0} → Scanning C → Word → Walk C
 ready_at (ToRelease releasing) last = InRelease releasing (ScanAndRelease last)
-ready_at (ToWait number wait again) last = InWait wait (InQueuing again (QueueToWait last))
+ready_at (ToWait queuing) last = InWait queuing.wait (InQueuing queuing.again (QueueToWait last))
 
 -- where its call pays the wakes
 abbrev pub paying_at : {C : Type 0} → Scanning C → Walk C
 paying_at (ToRelease releasing) = InRelease releasing Pay
-paying_at (ToWait number wait again) = InWait wait PayInWait
+paying_at (ToWait queuing) = InWait queuing.wait PayInWait
 
 -- the lists once a wait has queued, if the call is one
 abbrev pub entered : {C : Type 0} → Scanning C → Lists C → Lists C
 entered (ToRelease releasing) lists = lists
-entered (ToWait number wait again) lists = waits_at wait.on number wait.mode again lists
+entered (ToWait queuing) lists = waits_at queuing.wait.on queuing.number queuing.wait.mode queuing.again lists
 
 -- a wait is for variables that there are, if it is for variables, and by its own seat, which stands in no list
 abbrev pub MayScan : {C : Type 0} {N : ℕ} → Scanning C → SeatOf C N → Type 0
 MayScan (ToRelease releasing) me = Unit {0}
-MayScan (ToWait number wait again) me = IsInRange wait.on × IsNumberOf number me × (times number (the me.0).stood ≡ 0)
+MayScan (ToWait queuing) me = IsInRange queuing.wait.on × IsNumberOf queuing.number me × (times queuing.number (the me.0).stood ≡ 0)
 
 -- a wait may queue by the lists in hand
 abbrev pub MayEnter : {C : Type 0} {N : ℕ} → Scanning C → SeatOf C N → Type 0
 MayEnter (ToRelease releasing) me = Unit {0}
-MayEnter (ToWait number wait again) me = IsInRange wait.on × (number < 64) × StandsNowhere number me
+MayEnter (ToWait queuing) me = IsInRange queuing.wait.on × (queuing.number < 64) × StandsNowhere queuing.number me
 
 -- The queues are back, the section is released or left, and each wake that was owed is paid.
 pub record HasScanned {C : Type 0} {N : ℕ} (truths : Truths C) (scanning : Scanning C) (me now : SeatOf C N) : Type 0 where

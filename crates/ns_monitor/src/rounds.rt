@@ -8,6 +8,7 @@ ghost use Rattle.ns_monitor.specs.Prelude.{EndedBy, Grows, HadLooked, HasWaitedF
 
 use crate::caller::{Caller, Renewed};
 use crate::monitor::Monitor;
+use crate::scanning::Queuing;
 use crate::watching::{Looker, Nothing, Watch};
 use ns_env::limits::{Cause, Limits};
 use ns_gate::gate::GateSeat;
@@ -52,34 +53,42 @@ impl<C: Condition<N>, const N: usize> Monitor<C, N> {
         shown
     }
 
-    /// Waits until the condition is true, or the wait is ended early. The condition is false of this
+    /// Queues, and waits until the condition is true, or the wait is ended early. The condition is false of this
     /// row of the section in hand.
     fn wait_on<R: Wait, W: Watch>(
         &self,
         rt: &R,
         seat: &mut GateSeat<C, N>,
-        number: u8,
-        wait: Waiting<C>,
+        first: Queuing<C>,
         condition: C,
         row: &mut [u64; N],
         watch: &mut W,
     ) -> Answer
         requires of { seat.old.table_id ≡ self.now }
-        requires number { IsNumberOf number seat.old.me }
-        requires on { wait.on ≡ OnCondition condition }
-        requires watches { W.watches watch.old wait.limits }
+        requires number { IsNumberOf first.number seat.old.me }
+        requires on { first.wait.on ≡ OnCondition condition }
+        requires watches { W.watches watch.old first.wait.limits }
         requires row { row.old ≡ row_in (the seat.old.me.0).at.held }
-        requires at { IsAtPlace C.means (InWait wait (InQueuing false Load)) seat.old.me }
+        requires at { IsAtPlace C.means (InWait first.wait (InQueuing first.again Load)) seat.old.me }
         ensures seat { seat.new.table_id ≡ self.now }
         ensures since { HasSince None (the seat.old.me.0) (the seat.new.me.0) }
         ensures looked { W.since watch.old watch.new }
-        ensures ended { IfAnswered result (λ cause. (is_limited wait.limits ≡ true) × W.shows watch.old watch.new wait.limits (Some cause)) }
-        ensures answered { HasAnswered C.means (Await wait) (Answered result) seat.new.me }
-        ensures fresh { IsFreshIn N wait.mode (the seat.new.me.0).at.held }
+        ensures ended { IfAnswered result (λ cause. (is_limited first.wait.limits ≡ true) × W.shows watch.old watch.new first.wait.limits (Some cause)) }
+        ensures answered { HasAnswered C.means (Await first.wait) (Answered result) seat.new.me }
+        ensures fresh { IsFreshIn N first.wait.mode (the seat.new.me.0).at.held }
     {
-        let mut again = false;
+        let Queuing {
+            number,
+            wait,
+            mut again,
+        } = first;
         for _ in rt.forever() {
-            self.queue_to_wait(rt, seat, number, wait, again, row);
+            let queuing = Queuing {
+                number,
+                wait,
+                again,
+            };
+            self.queue_to_wait(rt, seat, queuing, row);
             let outcome = self.come_back(rt, seat, number, wait, watch);
             let visit = Visit::OnReturn(outcome);
             if self.test(seat, None, wait, condition, visit, row) {
@@ -145,7 +154,12 @@ impl<C: Condition<N>, const N: usize> Monitor<C, N> {
             };
             return (back, answer_of(cause));
         }
-        let answer = self.wait_on(rt, &mut seat, number, wait, condition, &mut row, watch);
+        let first = Queuing {
+            number,
+            wait,
+            again: false,
+        };
+        let answer = self.wait_on(rt, &mut seat, first, condition, &mut row, watch);
         let hand = H::begun();
         let back = Caller {
             seat,

@@ -18,14 +18,34 @@ use ns_word::word::{Releasing, Word};
 use std::alloc::AllocError;
 use std::sync::Wait;
 
+/// A seat that queues for a wait, and leaves its section.
+#[derive(Copy)]
+pub struct Queuing<C> {
+    /// The seat's number.
+    pub number: u8,
+    /// The wait.
+    pub wait: Waiting<C>,
+    /// Whether it queues again.
+    pub again: bool,
+}
+
+impl<C: Copy> Clone for Queuing<C> {
+    ghost is_clone = { λ one other. other ≡ one };
+
+    ghost is_infallible = { λ _. ⊤ };
+
+    fn clone(&self) -> Result<Self, AllocError> {
+        Ok(*self)
+    }
+}
+
 /// What a call scans the lock list for, with the queues in hand.
 #[derive(Copy)]
 pub enum Scanning<C> {
     /// It releases its section so.
     ToRelease(Releasing),
-    /// Its seat, which has this number, queues for this wait, and leaves its section. The flag tells whether
-    /// it queues again.
-    ToWait(u8, Waiting<C>, bool),
+    /// It waits.
+    ToWait(Queuing<C>),
 }
 
 impl<C: Copy> Clone for Scanning<C> {
@@ -46,7 +66,7 @@ impl<C: Copy> Scanning<C> {
     {
         match self {
             Scanning::ToRelease(releasing) => Returning::Released(releasing),
-            Scanning::ToWait(_, wait, again) => Returning::Waited(wait, again),
+            Scanning::ToWait(queuing) => Returning::Waited(queuing.wait, queuing.again),
         }
     }
 
@@ -59,9 +79,9 @@ impl<C: Copy> Scanning<C> {
             Scanning::ToRelease(releasing) => {
                 Walk::InRelease(releasing, ReleasePlace::ScanAndRelease(parts))
             }
-            Scanning::ToWait(_, wait, again) => Walk::InWait(
-                wait,
-                WaitPlace::InQueuing(again, QueuePlace::QueueToWait(parts)),
+            Scanning::ToWait(queuing) => Walk::InWait(
+                queuing.wait,
+                WaitPlace::InQueuing(queuing.again, QueuePlace::QueueToWait(parts)),
             ),
         }
     }
@@ -73,7 +93,7 @@ impl<C: Copy> Scanning<C> {
     {
         match self {
             Scanning::ToRelease(releasing) => Walk::InRelease(releasing, ReleasePlace::Pay),
-            Scanning::ToWait(_, wait, _) => Walk::InWait(wait, WaitPlace::PayInWait),
+            Scanning::ToWait(queuing) => Walk::InWait(queuing.wait, WaitPlace::PayInWait),
         }
     }
 }
@@ -92,7 +112,13 @@ impl<C: Condition<N>, const N: usize> Monitor<C, N> {
     {
         match scanning {
             Scanning::ToRelease(_) => turned,
-            Scanning::ToWait(number, wait, again) => {
+            Scanning::ToWait(
+                Queuing {
+                    number,
+                    wait,
+                    again,
+                },
+            ) => {
                 let bits = self.gate.enter_in_hand(seat, number, wait, again);
                 Turned { bits, ..turned }
             }

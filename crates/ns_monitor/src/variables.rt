@@ -7,6 +7,7 @@ ghost use Rattle.ns_monitor.specs.Prelude.{EndedBy, Grows, HasAcquired, HasSeenT
 
 use crate::caller::{Caller, Renewed};
 use crate::monitor::Monitor;
+use crate::scanning::Queuing;
 use crate::watching::{Looker, Watch};
 use ns_env::limits::Limits;
 use ns_gate::gate::GateSeat;
@@ -44,7 +45,12 @@ impl<C: Condition<N>, const N: usize> Monitor<C, N> {
         let place = Walk::InWait(wait, WaitPlace::InQueuing(false, QueuePlace::Load));
         let word = self.begin_to_take(rt, seat, place);
         let mut row = [0; N];
-        self.leave_section(rt, seat, number, wait, false, word, &mut row);
+        let queuing = Queuing {
+            number,
+            wait,
+            again: false,
+        };
+        self.leave_section(rt, seat, queuing, word, &mut row);
     }
 
     /// Waits for variables until it is woken, or what watches for its limits ends the wait. Answers what came

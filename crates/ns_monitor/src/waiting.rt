@@ -5,7 +5,7 @@ ghost use Rattle.ns_gate.specs.Prelude.{row_in, IsInRange, is_limited, AcquireLo
 ghost use Rattle.ns_monitor.specs.Prelude.{HasAcquired, HasRow, HasSeenTrue, HasTakenAt, IfEnded, IsNumberOf, WokenOrEnded, lacks_row};
 
 use crate::monitor::Monitor;
-use crate::scanning::Scanning;
+use crate::scanning::{Queuing, Scanning};
 use crate::watching::Watch;
 use ns_env::limits::Cause;
 use ns_gate::gate::GateSeat;
@@ -39,23 +39,22 @@ impl<C: Condition<N>, const N: usize> Monitor<C, N> {
         &self,
         rt: &R,
         seat: &mut GateSeat<C, N>,
-        number: u8,
-        wait: Waiting<C>,
-        again: bool,
+        queuing: Queuing<C>,
         row: &mut [u64; N],
     )
         requires of { seat.old.table_id ≡ self.now }
-        requires number { IsNumberOf number seat.old.me }
-        requires range { IsInRange wait.on }
-        requires at { IsAtPlace C.means (InWait wait (InQueuing again Load)) seat.old.me }
-        requires row { HasRow wait.on row.old (row_in (the seat.old.me.0).at.held) }
+        requires number { IsNumberOf queuing.number seat.old.me }
+        requires range { IsInRange queuing.wait.on }
+        requires at { IsAtPlace C.means (InWait queuing.wait (InQueuing queuing.again Load)) seat.old.me }
+        requires row { HasRow queuing.wait.on row.old (row_in (the seat.old.me.0).at.held) }
         ensures seat { seat.new.table_id ≡ self.now }
         ensures since { HasSince None (the seat.old.me.0) (the seat.new.me.0) }
-        ensures waits { IsAtPlace C.means (InWait wait AwaitWakeInWait) seat.new.me }
+        ensures waits { IsAtPlace C.means (InWait queuing.wait AwaitWakeInWait) seat.new.me }
     {
+        let Queuing { wait, again, .. } = queuing;
         let place = Walk::InWait(wait, WaitPlace::InQueuing(again, QueuePlace::Load));
         let word = self.take(rt, seat, place);
-        self.leave_section(rt, seat, number, wait, again, word, row);
+        self.leave_section(rt, seat, queuing, word, row);
     }
 
     /// The same with the queues in hand, taken at this word.
@@ -63,30 +62,32 @@ impl<C: Condition<N>, const N: usize> Monitor<C, N> {
         &self,
         rt: &R,
         seat: &mut GateSeat<C, N>,
-        number: u8,
-        wait: Waiting<C>,
-        again: bool,
+        queuing: Queuing<C>,
         word: LockWord,
         row: &mut [u64; N],
     )
         requires of { seat.old.table_id ≡ self.now }
-        requires number { IsNumberOf number seat.old.me }
-        requires range { IsInRange wait.on }
-        requires taken { HasTakenAt C.means (InWait wait (InQueuing again Load)) word seat.old.me seat.old.me }
-        requires row { HasRow wait.on row.old (row_in (the seat.old.me.0).at.held) }
+        requires number { IsNumberOf queuing.number seat.old.me }
+        requires range { IsInRange queuing.wait.on }
+        requires taken { HasTakenAt C.means (InWait queuing.wait (InQueuing queuing.again Load)) word seat.old.me seat.old.me }
+        requires row { HasRow queuing.wait.on row.old (row_in (the seat.old.me.0).at.held) }
         ensures seat { seat.new.table_id ≡ self.now }
         ensures since { HasSince None (the seat.old.me.0) (the seat.new.me.0) }
-        ensures waits { IsAtPlace C.means (InWait wait AwaitWakeInWait) seat.new.me }
+        ensures waits { IsAtPlace C.means (InWait queuing.wait AwaitWakeInWait) seat.new.me }
         ensures owes { (the seat.new.me.0).at.owed ≡ [] }
         ensures true_to { HasSeenTrue C.means seat.new.me }
     {
+        let Queuing {
+            number,
+            wait,
+            again,
+        } = queuing;
         self.gate.arm_flag(seat, number);
         let parts = word.parts();
         let loads = QueuePlace::LoadToScan(parts, 0);
         let place = Walk::InWait(wait, WaitPlace::InQueuing(again, loads));
         self.load_to_scan(seat, lacks_row(wait.on, parts), place, row);
-        let scanning = Scanning::ToWait(number, wait, again);
-        self.scan_and_return(rt, seat, scanning, word, row);
+        self.scan_and_return(rt, seat, Scanning::ToWait(queuing), word, row);
     }
 
     /// Takes a wait out of its list that is ended early. Where it was taken from there before, waits

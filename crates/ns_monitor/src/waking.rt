@@ -30,6 +30,15 @@ fn is_held_by_one(word: LockWord, other: LockWord) -> bool
     }
 }
 
+/// A call that wakes: a signal or a broadcast, of this variable.
+#[derive(Clone, Copy)]
+struct WakeCall {
+    /// Which of both it is.
+    waking: Waking,
+    /// The variable.
+    k: u8,
+}
+
 impl<C: Condition<N>, const N: usize> Monitor<C, N> {
     /// Puts the queues back without those whom the call has taken, who are at the back of the lock list
     /// where the word that the exchange compares is held: what is in hand is turned each time the word
@@ -42,24 +51,23 @@ impl<C: Condition<N>, const N: usize> Monitor<C, N> {
         &self,
         rt: &R,
         seat: &mut GateSeat<C, N>,
-        waking: Waking,
-        k: u8,
+        call: WakeCall,
         first: LockWord,
         taken: &[Waiter<C>],
         made: Turned,
     ) -> bool
         requires of { seat.old.table_id ≡ self.now }
-        requires variable { k < 4 }
+        requires variable { call.k < 4 }
         requires word { IsPackable first }
-        requires at { IsAtPlace C.means (InSignal waking k (WakeAndReturn first)) seat.old.me }
+        requires at { IsAtPlace C.means (InSignal call.waking call.k (WakeAndReturn first)) seat.old.me }
         requires orderly { IsOrderly (the seat.old.me.0).stood }
-        requires taken { taken.now ≡ taken_from waking k (the seat.old.me.0).stood }
-        requires hand { HasWokenInHand waking k (is_held first) made seat.old.me }
+        requires taken { taken.now ≡ taken_from call.waking call.k (the seat.old.me.0).stood }
+        requires hand { HasWokenInHand call.waking call.k (is_held first) made seat.old.me }
         ensures seat { seat.new.table_id ≡ self.now }
         ensures since { HasSince None (the seat.old.me.0) (the seat.new.me.0) }
-        ensures returned { HasReturnedWoken C.means waking k result (the seat.old.me.0).stood seat.new.me }
+        ensures returned { HasReturnedWoken C.means call.waking call.k result (the seat.old.me.0).stood seat.new.me }
     {
-        let returning = Returning::Changed(Change::WakeWaiters(waking, k));
+        let returning = Returning::Changed(Change::WakeWaiters(call.waking, call.k));
         let mut word = first;
         let mut turned = made;
         for _ in rt.forever() {
@@ -68,7 +76,9 @@ impl<C: Condition<N>, const N: usize> Monitor<C, N> {
                 Err(other) => {
                     let held = other.is_held();
                     if is_held_by_one(word, other) {
-                        turned = self.gate.turn_in_hand(seat, taken, waking, k, held);
+                        turned = self
+                            .gate
+                            .turn_in_hand(seat, taken, call.waking, call.k, held);
                     }
                     word = other;
                 }
@@ -83,28 +93,27 @@ impl<C: Condition<N>, const N: usize> Monitor<C, N> {
         &self,
         rt: &R,
         seat: &mut GateSeat<C, N>,
-        waking: Waking,
-        k: u8,
+        call: WakeCall,
         word: LockWord,
         sole: Waiter<C>,
         made: Turned,
     )
         requires of { seat.old.table_id ≡ self.now }
-        requires variable { k < 4 }
+        requires variable { call.k < 4 }
         requires word { IsPackable word }
-        requires at { IsAtPlace C.means (InSignal waking k (WakeAndReturn word)) seat.old.me }
+        requires at { IsAtPlace C.means (InSignal call.waking call.k (WakeAndReturn word)) seat.old.me }
         requires orderly { IsOrderly (the seat.old.me.0).stood }
-        requires alone { taken_from waking k (the seat.old.me.0).stood ≡ sole ∷ [] }
-        requires hand { HasWokenInHand waking k (is_held word) made seat.old.me }
+        requires alone { taken_from call.waking call.k (the seat.old.me.0).stood ≡ sole ∷ [] }
+        requires hand { HasWokenInHand call.waking call.k (is_held word) made seat.old.me }
         ensures seat { seat.new.table_id ≡ self.now }
         ensures since { HasSince None (the seat.old.me.0) (the seat.new.me.0) }
-        ensures woke { HasAnswered C.means (TheRequest.Wake waking k) Succeeded seat.new.me }
+        ensures woke { HasAnswered C.means (TheRequest.Wake call.waking call.k) Succeeded seat.new.me }
     {
         let taken = [sole];
-        let moved = self.return_woken(rt, seat, waking, k, word, &taken, made);
+        let moved = self.return_woken(rt, seat, call, word, &taken, made);
         if !moved {
-            let place = Walk::InSignal(waking, k, SignalPlace::PayTheWoken);
-            self.pay_one(seat, place, wake_by(k, sole.seat));
+            let place = Walk::InSignal(call.waking, call.k, SignalPlace::PayTheWoken);
+            self.pay_one(seat, place, wake_by(call.k, sole.seat));
         }
     }
 
@@ -117,71 +126,63 @@ impl<C: Condition<N>, const N: usize> Monitor<C, N> {
         &self,
         rt: &R,
         seat: &mut GateSeat<C, N>,
-        waking: Waking,
-        k: u8,
+        call: WakeCall,
         word: LockWord,
     )
         requires of { seat.old.table_id ≡ self.now }
-        requires variable { k < 4 }
-        requires taken { HasTakenAt C.means (InSignal waking k SignalLoad) word seat.old.me seat.old.me }
+        requires variable { call.k < 4 }
+        requires taken { HasTakenAt C.means (InSignal call.waking call.k SignalLoad) word seat.old.me seat.old.me }
         ensures seat { seat.new.table_id ≡ self.now }
         ensures since { HasSince None (the seat.old.me.0) (the seat.new.me.0) }
-        ensures woke { HasAnswered C.means (TheRequest.Wake waking k) Succeeded seat.new.me }
+        ensures woke { HasAnswered C.means (TheRequest.Wake call.waking call.k) Succeeded seat.new.me }
     {
         let held = word.is_held();
-        let (taken, made) = self.gate.wake_in_hand(seat, waking, k, held);
-        let moved = self.return_woken(rt, seat, waking, k, word, taken.as_slice(), made);
+        let (taken, made) = self.gate.wake_in_hand(seat, call.waking, call.k, held);
+        let moved = self.return_woken(rt, seat, call, word, taken.as_slice(), made);
         let owed = if moved {
             ArrayVec::new()
         } else {
-            wakes(k, taken.as_slice())
+            wakes(call.k, taken.as_slice())
         };
-        let place = Walk::InSignal(waking, k, SignalPlace::PayTheWoken);
+        let place = Walk::InSignal(call.waking, call.k, SignalPlace::PayTheWoken);
         self.pay(seat, place, &owed);
     }
 
     /// With the queues in hand, taken at this word: wakes those of the list of the variable whom the
     /// call wakes, with no list made where just one waits.
-    fn wake_some<R: Wait>(
-        &self,
-        rt: &R,
-        seat: &mut GateSeat<C, N>,
-        waking: Waking,
-        k: u8,
-        word: LockWord,
-    )
+    fn wake_some<R: Wait>(&self, rt: &R, seat: &mut GateSeat<C, N>, call: WakeCall, word: LockWord)
         requires of { seat.old.table_id ≡ self.now }
-        requires variable { k < 4 }
-        requires taken { HasTakenAt C.means (InSignal waking k SignalLoad) word seat.old.me seat.old.me }
+        requires variable { call.k < 4 }
+        requires taken { HasTakenAt C.means (InSignal call.waking call.k SignalLoad) word seat.old.me seat.old.me }
         ensures seat { seat.new.table_id ≡ self.now }
         ensures since { HasSince None (the seat.old.me.0) (the seat.new.me.0) }
-        ensures woke { HasAnswered C.means (TheRequest.Wake waking k) Succeeded seat.new.me }
+        ensures woke { HasAnswered C.means (TheRequest.Wake call.waking call.k) Succeeded seat.new.me }
     {
         let held = word.is_held();
-        match self.gate.wake_sole_in_hand(seat, waking, k, held) {
-            Some((sole, made)) => self.wake_sole(rt, seat, waking, k, word, sole, made),
-            None => self.wake_waiters(rt, seat, waking, k, word),
+        match self.gate.wake_sole_in_hand(seat, call.waking, call.k, held) {
+            Some((sole, made)) => self.wake_sole(rt, seat, call, word, sole, made),
+            None => self.wake_waiters(rt, seat, call, word),
         }
     }
 
     /// Takes the queues, and wakes those whom the call wakes. Where nobody waits for the variable, it
     /// only puts the queues back.
-    fn wake<R: Wait>(&self, rt: &R, seat: &mut GateSeat<C, N>, waking: Waking, k: u8)
+    fn wake<R: Wait>(&self, rt: &R, seat: &mut GateSeat<C, N>, call: WakeCall)
         requires of { seat.old.table_id ≡ self.now }
-        requires variable { k < 4 }
+        requires variable { call.k < 4 }
         requires rest { IsAtRest C.means seat.old.me }
         ensures seat { seat.new.table_id ≡ self.now }
-        ensures since { HasSince (Some (waking_by waking k)) (the seat.old.me.0) (the seat.new.me.0) }
-        ensures woke { HasAnswered C.means (TheRequest.Wake waking k) Succeeded seat.new.me }
+        ensures since { HasSince (Some (waking_by call.waking call.k)) (the seat.old.me.0) (the seat.new.me.0) }
+        ensures woke { HasAnswered C.means (TheRequest.Wake call.waking call.k) Succeeded seat.new.me }
     {
-        let place = Walk::InSignal(waking, k, SignalPlace::SignalLoad);
+        let place = Walk::InSignal(call.waking, call.k, SignalPlace::SignalLoad);
         let word = self.begin_to_take(rt, seat, place);
-        if let Some(made) = self.gate.wake_nobody_in_hand(seat, k) {
+        if let Some(made) = self.gate.wake_nobody_in_hand(seat, call.k) {
             let taken: [Waiter<C>; 0] = [];
-            self.return_woken(rt, seat, waking, k, word, &taken, made);
+            self.return_woken(rt, seat, call, word, &taken, made);
             return;
         }
-        self.wake_some(rt, seat, waking, k, word);
+        self.wake_some(rt, seat, call, word);
     }
 }
 
@@ -201,7 +202,8 @@ impl<C: Condition<N>, const N: usize> Monitor<C, N> {
         ensures grows { Grows C.means (waking_by Signaling k) caller.old caller.new }
         ensures woke { HasWoken Signaling k caller.old caller.new }
     {
-        self.wake(rt, &mut caller.seat, Waking::Signaling, k);
+        let waking = Waking::Signaling;
+        self.wake(rt, &mut caller.seat, WakeCall { waking, k });
     }
 
     /// Wakes everybody who waits for a condition variable, as [`Monitor::signal`] wakes at least one.
@@ -214,6 +216,7 @@ impl<C: Condition<N>, const N: usize> Monitor<C, N> {
         ensures grows { Grows C.means (waking_by Broadcasting k) caller.old caller.new }
         ensures woke { HasWoken Broadcasting k caller.old caller.new }
     {
-        self.wake(rt, &mut caller.seat, Waking::Broadcasting, k);
+        let waking = Waking::Broadcasting;
+        self.wake(rt, &mut caller.seat, WakeCall { waking, k });
     }
 }

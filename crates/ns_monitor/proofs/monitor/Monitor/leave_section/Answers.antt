@@ -7,24 +7,24 @@ use Rattle.ns_monitor.proofs.monitor.Monitor.leave_section.Goals.{After-load_to_
 use Rattle.ns_monitor.proofs.monitor.Monitor.leave_section.Goals as goal
 
 -- the wait has set its flag
-armed : (g : Over) (c : After-load_to_scan g) → HasArmed g.C.Condition.means (InWait c.args.wait (InQueuing c.args.again (armed_place g.row.N c.args.wait.on c.args.word))) c.args.seat.now.me c.arm_flag.new.seat.me
-armed g c = arms_to_wait g.C.Condition.means c.args.wait c.args.again c.args.word c.args.seat.now.me c.args.seat.now.me c.arm_flag.new.seat.me c.requires.taken c.arm_flag.ensures.did
+armed : (g : Over) (c : After-load_to_scan g) → HasArmed g.C.Condition.means (InWait c.args.queuing.wait (InQueuing c.args.queuing.again (armed_place g.row.N c.args.queuing.wait.on c.args.word))) c.args.seat.now.me c.arm_flag.new.seat.me
+armed g c = arms_to_wait g.C.Condition.means c.args.queuing.wait c.args.queuing.again c.args.word c.args.seat.now.me c.args.seat.now.me c.arm_flag.new.seat.me c.requires.taken c.arm_flag.ensures.did
 
 since_start : (g : Over) (c : After-load_to_scan g) → HasSince None (the c.args.seat.now.me.0) (the c.load_to_scan.new.seat.me.0)
 since_start g c = since_then None _ _ _ (armed g c).since c.load_to_scan.ensures.since
 
 -- its number is the seat's
-number_is : (g : Over) (c : After-load_to_scan g) → c.args.number ≡ (the c.load_to_scan.new.seat.me.0).at.seat
+number_is : (g : Over) (c : After-load_to_scan g) → c.args.queuing.number ≡ (the c.load_to_scan.new.seat.me.0).at.seat
 number_is g c = c.requires.number.0 ∙ sym (since_start g c).seat
 
 pub load_to_scan-requires : goal.load_to_scan-requires
 load_to_scan-requires g c = let t = g.C.Condition.means in let word = c.args.word in let me = c.arm_flag.new.seat.me in let took = c.requires.taken in
-    let is = arms_to_wait t c.args.wait c.args.again word c.args.seat.now.me c.args.seat.now.me me took c.arm_flag.ensures.did in let lock = (the me.0).stood.lock in
+    let is = arms_to_wait t c.args.queuing.wait c.args.queuing.again word c.args.seat.now.me c.args.seat.now.me me took c.arm_flag.ensures.did in let lock = (the me.0).stood.lock in
     let tells = took.tells ∙ ap (λ (l : Lists g.row.C.Denot). (bits_of l.lock).conditional) (sym is.kept.stood) in
-    let has = subst (HasRow c.args.wait.on c.args.row.now) (ap row_in (sym is.kept.held)) c.requires.row in
+    let has = subst (HasRow c.args.queuing.wait.on c.args.row.now) (ap row_in (sym is.kept.held)) c.requires.row in
     let lacks = rw c.parts-parts.ensures at c.lacks_row.ensures in
-    let queues = loads_or_queues t c.args.wait c.args.again word c.lacks_row.result me lacks is.at in let of = ◌∙◌ {A = TableId} c.arm_flag.ensures.seat c.requires.of in
-    rw c.parts-parts.ensures (omega arith, (omega arith, (omega arith, (omega (arith, g.met.C.Condition.has_cells), (of, (refl, (queues, (is.taken, λ full. scans_at_hand t c.args.wait.on word c.args.row.now (row_in (the me.0).at.held) lock has tells (sym lacks ∙ full)))))))))
+    let queues = loads_or_queues t c.args.queuing.wait c.args.queuing.again word c.lacks_row.result me lacks is.at in let of = ◌∙◌ {A = TableId} c.arm_flag.ensures.seat c.requires.of in
+    rw c.parts-parts.ensures (omega arith, (omega arith, (omega arith, (omega (arith, g.met.C.Condition.has_cells), (of, (refl, (queues, (is.taken, λ full. scans_at_hand t c.args.queuing.wait.on word c.args.row.now (row_in (the me.0).at.held) lock has tells (sym lacks ∙ full)))))))))
 
 pub scan_and_return-requires : goal.scan_and_return-requires
 scan_and_return-requires g c = let after = (goal.at.scan_and_return-requires g c).After-load_to_scan in let is = armed g after in let me = c.load_to_scan.new.seat.me in

@@ -11,29 +11,29 @@ loop-init g c = (tt, tt, refl, c.requires.word, since_itself (the c.args.seat.no
 
 pub exchange_to_return-requires : goal.exchange_to_return-requires
 exchange_to_return-requires g c = let t = g.C.Condition.means in let inv = c.loop.invariant in let hand = inv.7 in
-    (omega arith, (omega arith, (omega arith, (◌∙◌ {A = TableId} inv.2 (◌∙◌ {A = TableId} c.requires.of (sym c.self.view_is)), (inv.3, (can_return t c.args.waking c.args.k c.loop.word c.loop.seat.me inv.6, (hand.carries, (hand.some, hand.bits))))))))
+    (omega arith, (omega arith, (omega arith, (◌∙◌ {A = TableId} inv.2 (◌∙◌ {A = TableId} c.requires.of (sym c.self.view_is)), (inv.3, (can_return t c.args.call.waking c.args.call.k c.loop.word c.loop.seat.me inv.6, (hand.carries, (hand.some, hand.bits))))))))
 
 pub returns-in-Ok : goal.returns-in-Ok
 returns-in-Ok g c = record {
   seat = search rules;
-  since = let me = c.loop.seat.me in
-      since_then None _ _ _ c.loop.invariant.4 (since g.C.Condition.means None (ReturnQueues (WakeWaiters c.args.waking c.args.k) c.loop.word) (change_found (the me.0).at.seat (WakeWaiters c.args.waking c.args.k) c.loop.word (the me.0).stood) me c.exchange_to_return.new.seat.me c.in-Ok.ensures.did);
+  since = let me = c.loop.seat.me in let change = WakeWaiters c.args.call.waking c.args.call.k in
+      since_then None _ _ _ c.loop.invariant.4 (since g.C.Condition.means None (ReturnQueues change c.loop.word) (change_found (the me.0).at.seat change c.loop.word (the me.0).stood) me c.exchange_to_return.new.seat.me c.in-Ok.ensures.did);
   returned = let t = g.C.Condition.means in let inv = c.loop.invariant in let now = c.exchange_to_return.new.seat.me in
-      subst (λ held. HasReturnedWoken t c.args.waking c.args.k held (the c.args.seat.now.me.0).stood now) (sym c.is_held.ensures)
-      (is_returned t c.args.waking c.args.k c.loop.word c.loop.turned (the c.args.seat.now.me.0).stood c.loop.seat.me now inv.6 inv.7 inv.5 c.in-Ok.ensures.did);
+      subst (λ held. HasReturnedWoken t c.args.call.waking c.args.call.k held (the c.args.seat.now.me.0).stood now) (sym c.is_held.ensures)
+      (is_returned t c.args.call.waking c.args.call.k c.loop.word c.loop.turned (the c.args.seat.now.me.0).stood c.loop.seat.me now inv.6 inv.7 inv.5 c.in-Ok.ensures.did);
 }
 
 -- ---- another step came between
 
-missed : (g : Over) (c : In-Err g) → IsAtPlace g.C.Condition.means (InSignal c.args.waking c.args.k (WakeAndReturn c.in-Err.other)) c.exchange_to_return.new.seat.me × HasKeptItsQueues c.loop.seat.me c.exchange_to_return.new.seat.me
-missed g c = misses_return g.C.Condition.means c.args.waking c.args.k c.loop.word c.in-Err.other c.loop.seat.me c.exchange_to_return.new.seat.me c.loop.invariant.6 c.in-Err.ensures.did
+missed : (g : Over) (c : In-Err g) → IsAtPlace g.C.Condition.means (InSignal c.args.call.waking c.args.call.k (WakeAndReturn c.in-Err.other)) c.exchange_to_return.new.seat.me × HasKeptItsQueues c.loop.seat.me c.exchange_to_return.new.seat.me
+missed g c = misses_return g.C.Condition.means c.args.call.waking c.args.call.k c.loop.word c.in-Err.other c.loop.seat.me c.exchange_to_return.new.seat.me c.loop.invariant.6 c.in-Err.ensures.did
 
 gone : (g : Over) (c : In-Err g) → HasSince None (the c.args.seat.now.me.0) (the c.exchange_to_return.new.seat.me.0)
-gone g c = since_then None _ _ _ c.loop.invariant.4 (since g.C.Condition.means None (ReturnQueues (WakeWaiters c.args.waking c.args.k) c.loop.word) (Saw c.in-Err.other) c.loop.seat.me c.exchange_to_return.new.seat.me c.in-Err.ensures.did)
+gone g c = since_then None _ _ _ c.loop.invariant.4 (since g.C.Condition.means None (ReturnQueues (WakeWaiters c.args.call.waking c.args.call.k) c.loop.word) (Saw c.in-Err.other) c.loop.seat.me c.exchange_to_return.new.seat.me c.in-Err.ensures.did)
 
 -- what is in hand is for the word that was seen before
-kept : (g : Over) (c : In-Err g) → HasWokenInHand c.args.waking c.args.k (is_held c.loop.word) c.loop.turned c.exchange_to_return.new.seat.me
-kept g c = hand_kept c.args.waking c.args.k (is_held c.loop.word) c.loop.turned c.loop.seat.me c.exchange_to_return.new.seat.me (missed g c).1 c.loop.invariant.7
+kept : (g : Over) (c : In-Err g) → HasWokenInHand c.args.call.waking c.args.call.k (is_held c.loop.word) c.loop.turned c.exchange_to_return.new.seat.me
+kept g c = hand_kept c.args.call.waking c.args.call.k (is_held c.loop.word) c.loop.turned c.loop.seat.me c.exchange_to_return.new.seat.me (missed g c).1 c.loop.invariant.7
 
 pub turn_in_hand-turned-requires : goal.turn_in_hand-turned-requires
 turn_in_hand-turned-requires g c = let after = (goal.at.turn_in_hand-turned-requires g c).In-Err in let now = c.exchange_to_return.new.seat.me in let held = c.is_held-held.result in
@@ -52,8 +52,8 @@ turn_in_hand-turned-requires g c = let after = (goal.at.turn_in_hand-turned-requ
               (
                 subst IsOrderly stood c.requires.orderly,
                 (
-                  c.requires.taken ∙ ap (taken_from c.args.waking c.args.k) stood,
-                  subst (λ b. Carries (lists_woken c.args.waking c.args.k b (the now.0).stood) now) other (kept g after).carries,
+                  c.requires.taken ∙ ap (taken_from c.args.call.waking c.args.call.k) stood,
+                  subst (λ b. Carries (lists_woken c.args.call.waking c.args.call.k b (the now.0).stood) now) other (kept g after).carries,
                 ),
               ),
             ),
@@ -70,8 +70,8 @@ loop-preserved-then-is_held_by_one g c = let t = g.C.Condition.means in let afte
   c.in-Err.ensures.word,
   still_since t None _ me now same (gone g after),
   (λ i. (the (same i)).stood) ∙ ((missed g after).1.stood ∙ c.loop.invariant.5),
-  works t (InSignal c.args.waking c.args.k (WakeAndReturn c.in-Err.other)) me now (missed g after).0 refl same,
-  subst (λ held. HasWokenInHand c.args.waking c.args.k held turn.result now) c.is_held-held.ensures (hand_made c.args.waking c.args.k c.is_held-held.result turn.result me now same turn.ensures.lists turn.ensures.some turn.ensures.bits),
+  works t (InSignal c.args.call.waking c.args.call.k (WakeAndReturn c.in-Err.other)) me now (missed g after).0 refl same,
+  subst (λ held. HasWokenInHand c.args.call.waking c.args.call.k held turn.result now) c.is_held-held.ensures (hand_made c.args.call.waking c.args.call.k c.is_held-held.result turn.result me now same turn.ensures.lists turn.ensures.some turn.ensures.bits),
 )
 
 pub loop-preserved : goal.loop-preserved
@@ -83,5 +83,5 @@ loop-preserved g c = let after = (goal.at.loop-preserved g c).In-Err in let now 
   gone g after,
   (missed g after).1.stood ∙ c.loop.invariant.5,
   (missed g after).0,
-  subst (λ held. HasWokenInHand c.args.waking c.args.k held c.loop.turned now) (by_both c.loop.word c.in-Err.other (sym c.is_held_by_one.ensures ∙ c.if-is_held_by_one.false)) (kept g after),
+  subst (λ held. HasWokenInHand c.args.call.waking c.args.call.k held c.loop.turned now) (by_both c.loop.word c.in-Err.other (sym c.is_held_by_one.ensures ∙ c.if-is_held_by_one.false)) (kept g after),
 )

@@ -6,32 +6,32 @@ use Rattle.ns_monitor.proofs.monitor.Monitor.wake.Goals.{After-wake_nobody_in_ha
 use Rattle.ns_monitor.proofs.monitor.Monitor.wake.Goals as goal
 
 -- behind the look at the list of the variable
-since_look : (g : Over) (c : After-wake_nobody_in_hand g) → HasSince (Some (waking_by c.args.waking c.args.k)) (the c.args.seat.now.me.0) (the c.wake_nobody_in_hand.new.seat.me.0)
-since_look g c = still_since g.C.Condition.means (Some (waking_by c.args.waking c.args.k)) (the c.args.seat.now.me.0) c.begin_to_take-word.new.seat.me c.wake_nobody_in_hand.new.seat.me c.wake_nobody_in_hand.ensures.seat.1 c.begin_to_take-word.ensures.since
+since_look : (g : Over) (c : After-wake_nobody_in_hand g) → HasSince (Some (waking_by c.args.call.waking c.args.call.k)) (the c.args.seat.now.me.0) (the c.wake_nobody_in_hand.new.seat.me.0)
+since_look g c = still_since g.C.Condition.means (Some (waking_by c.args.call.waking c.args.call.k)) (the c.args.seat.now.me.0) c.begin_to_take-word.new.seat.me c.wake_nobody_in_hand.new.seat.me c.wake_nobody_in_hand.ensures.seat.1 c.begin_to_take-word.ensures.since
 
 pub return_woken-requires : goal.return_woken-requires
 return_woken-requires g c = let t = g.C.Condition.means in let took = c.begin_to_take-word in let look = c.wake_nobody_in_hand in let e = look.ensures in let me = took.new.seat.me in let now = look.new.seat.me in let nobody = sym e.nobody ∙ c.in-Some.is in
-    let still = taken_still t c.args.waking c.args.k took.result c.args.seat.now.me me now took.ensures.taken e.seat.1 e.has in
-    let none = (takes_nobody c.args.waking c.args.k (the me.0).stood (found_nobody c.args.k (the me.0).stood c.in-Some.made nobody).0).0 in
-    let hand = hand_of_nobody c.args.waking c.args.k (is_held took.result) c.in-Some.made me now e.seat.1 e.has nobody in
-    (omega arith, (omega arith, (omega arith, (◌∙◌ {A = TableId} e.seat.0 took.ensures.seat, (c.requires.variable, (still.packs, (still.at, (still.orderly, (sym none ∙ (λ i. taken_from c.args.waking c.args.k (the (sym e.seat.1 i)).stood), hand)))))))))
+    let still = taken_still t c.args.call.waking c.args.call.k took.result c.args.seat.now.me me now took.ensures.taken e.seat.1 e.has in
+    let none = (takes_nobody c.args.call.waking c.args.call.k (the me.0).stood (found_nobody c.args.call.k (the me.0).stood c.in-Some.made nobody).0).0 in
+    let hand = hand_of_nobody c.args.call.waking c.args.call.k (is_held took.result) c.in-Some.made me now e.seat.1 e.has nobody in
+    (omega arith, (omega arith, (omega arith, (◌∙◌ {A = TableId} e.seat.0 took.ensures.seat, (c.requires.variable, (still.packs, (still.at, (still.orderly, (sym none ∙ (λ i. taken_from c.args.call.waking c.args.call.k (the (sym e.seat.1 i)).stood), hand)))))))))
 
 pub returns-in-Some : goal.returns-in-Some
 returns-in-Some g c = record {
   seat = search rules;
-  since = since_then (Some (waking_by c.args.waking c.args.k)) _ _ _ (since_look g (goal.at.returns-in-Some g c).After-wake_nobody_in_hand) c.return_woken.ensures.since;
+  since = since_then (Some (waking_by c.args.call.waking c.args.call.k)) _ _ _ (since_look g (goal.at.returns-in-Some g c).After-wake_nobody_in_hand) c.return_woken.ensures.since;
   woke = let e = c.wake_nobody_in_hand.ensures in let now = c.wake_nobody_in_hand.new.seat.me in
-      let nobody = (λ i. woken_nobody c.args.k (the (e.seat.1 i)).stood) ∙ (sym e.nobody ∙ c.in-Some.is) in
-      nobody_woken g.C.Condition.means c.args.waking c.args.k c.return_woken.result (the now.0).stood c.in-Some.made c.return_woken.new.seat.me nobody c.return_woken.ensures.returned;
+      let nobody = (λ i. woken_nobody c.args.call.k (the (e.seat.1 i)).stood) ∙ (sym e.nobody ∙ c.in-Some.is) in
+      nobody_woken g.C.Condition.means c.args.call.waking c.args.call.k c.return_woken.result (the now.0).stood c.in-Some.made c.return_woken.new.seat.me nobody c.return_woken.ensures.returned;
 }
 
 pub wake_some-requires : goal.wake_some-requires
 wake_some-requires g c = let t = g.C.Condition.means in let took = c.begin_to_take-word in let look = c.wake_nobody_in_hand in let e = look.ensures in
-    (omega arith, (omega arith, (omega arith, (◌∙◌ {A = TableId} e.seat.0 took.ensures.seat, (c.requires.variable, taken_still t c.args.waking c.args.k took.result c.args.seat.now.me took.new.seat.me look.new.seat.me took.ensures.taken e.seat.1 e.has)))))
+    (omega arith, (omega arith, (omega arith, (◌∙◌ {A = TableId} e.seat.0 took.ensures.seat, (c.requires.variable, taken_still t c.args.call.waking c.args.call.k took.result c.args.seat.now.me took.new.seat.me look.new.seat.me took.ensures.taken e.seat.1 e.has)))))
 
 pub returns : goal.returns
 returns g c = record {
   seat = search rules;
-  since = since_then (Some (waking_by c.args.waking c.args.k)) _ _ _ (since_look g (goal.at.returns g c).After-wake_nobody_in_hand) c.wake_some.ensures.since;
+  since = since_then (Some (waking_by c.args.call.waking c.args.call.k)) _ _ _ (since_look g (goal.at.returns g c).After-wake_nobody_in_hand) c.wake_some.ensures.since;
   woke = search rules;
 }

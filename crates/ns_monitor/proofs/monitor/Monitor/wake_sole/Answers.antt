@@ -7,7 +7,7 @@ return_woken-moved-requires g c = (omega arith, (omega arith, (omega arith, (c.r
 
 pub pay_one-requires : goal.pay_one-requires
 pay_one-requires g c = let t = g.C.Condition.means in let back = c.return_woken-moved.ensures in let now = c.return_woken-moved.new.seat.me in
-    let owes = owes_sole t c.args.waking c.args.k c.return_woken-moved.result (the c.args.seat.now.me.0).stood c.args.sole c.wake_by.result now c.requires.alone c.if-not-moved.true c.wake_by.ensures back.returned in
+    let owes = owes_sole t c.args.call.waking c.args.call.k c.return_woken-moved.result (the c.args.seat.now.me.0).stood c.args.sole c.wake_by.result now c.requires.alone c.if-not-moved.true c.wake_by.ensures back.returned in
     (omega arith, (omega arith, (omega arith, (back.seat, (record { pays = refl; free = refl; more = refl }, (owes.1, owes.0))))))
 
 pub returns-then-not-moved-clause-since : goal.returns-then-not-moved-clause-since

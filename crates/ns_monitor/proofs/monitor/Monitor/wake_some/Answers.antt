@@ -10,7 +10,7 @@ since_look : (g : Over) (c : After-wake_sole_in_hand g) → HasSince None (the c
 since_look g c = let me = c.args.seat.now.me in still_since g.C.Condition.means None (the me.0) me c.wake_sole_in_hand.new.seat.me c.wake_sole_in_hand.ensures.seat.1 (since_itself (the me.0))
 
 pub wake_sole-requires : goal.wake_sole-requires
-wake_sole-requires g c = let t = g.C.Condition.means in let waking = c.args.waking in let k = c.args.k in let taken = c.requires.taken in let look = c.wake_sole_in_hand in let e = c.in-Some.ensures in let me = c.args.seat.now.me in let now = look.new.seat.me in let same = e.seat.1 in
+wake_sole-requires g c = let t = g.C.Condition.means in let waking = c.args.call.waking in let k = c.args.call.k in let taken = c.requires.taken in let look = c.wake_sole_in_hand in let e = c.in-Some.ensures in let me = c.args.seat.now.me in let now = look.new.seat.me in let same = e.seat.1 in
     let held = c.is_held-held.result in let found = found_sole waking k held (the me.0).stood c.in-Some.sole c.in-Some.made (sym e.sole) in
     let by = subst (λ b. HasWokenInHand waking k b c.in-Some.made now) c.is_held-held.ensures (hand_made waking k held c.in-Some.made me now same e.lists found.1 found.2) in
     let stands = works t (InSignal waking k (WakeAndReturn c.args.word)) me now taken.at refl same in
@@ -25,7 +25,7 @@ returns-in-Some g c = record {
 
 pub wake_waiters-requires : goal.wake_waiters-requires
 wake_waiters-requires g c = let t = g.C.Condition.means in let look = c.wake_sole_in_hand in let e = c.in-None.ensures in let me = c.args.seat.now.me in let now = look.new.seat.me in
-    (omega arith, (omega arith, (omega arith, (◌∙◌ {A = TableId} e.seat.0 c.requires.of, (c.requires.variable, taken_still t c.args.waking c.args.k c.args.word me me now c.requires.taken e.seat.1 e.same)))))
+    (omega arith, (omega arith, (omega arith, (◌∙◌ {A = TableId} e.seat.0 c.requires.of, (c.requires.variable, taken_still t c.args.call.waking c.args.call.k c.args.word me me now c.requires.taken e.seat.1 e.same)))))
 
 pub returns-in-None : goal.returns-in-None
 returns-in-None g c = record {

@@ -20,12 +20,12 @@ return_woken-moved-requires g c = let t = g.C.Condition.means in let taken = c.r
           (
             taken.packs,
             (
-              works t (InSignal c.args.waking c.args.k (WakeAndReturn c.args.word)) me now taken.at refl same,
+              works t (InSignal c.args.call.waking c.args.call.k (WakeAndReturn c.args.word)) me now taken.at refl same,
               (
                 subst IsOrderly (λ i. (the (sym same i)).stood) e.orderly,
                 (
-                  c.as_slice.ensures.value ∙ (e.taken ∙ (λ i. taken_from c.args.waking c.args.k (the (sym same i)).stood)),
-                  subst (λ held. HasWokenInHand c.args.waking c.args.k held made.result.1 now) c.is_held-held.ensures (hand_made c.args.waking c.args.k c.is_held-held.result made.result.1 me now same e.lists e.some e.bits),
+                  c.as_slice.ensures.value ∙ (e.taken ∙ (λ i. taken_from c.args.call.waking c.args.call.k (the (sym same i)).stood)),
+                  subst (λ held. HasWokenInHand c.args.call.waking c.args.call.k held made.result.1 now) c.is_held-held.ensures (hand_made c.args.call.waking c.args.call.k c.is_held-held.result made.result.1 me now same e.lists e.some e.bits),
                 ),
               ),
             ),
@@ -37,8 +37,8 @@ return_woken-moved-requires g c = let t = g.C.Condition.means in let taken = c.r
 )
 
 -- those to whom it pays are those to whom it owes a wake
-paid : (g : Over) (c : Joined-moved g) → c.if-moved.owed.items ≡ owed_woken c.args.waking c.args.k c.return_woken-moved.result (the c.wake_in_hand-taken.new.seat.me.0).stood
-paid g c = let made = c.wake_in_hand-taken in let waking = c.args.waking in let k = c.args.k in let same = made.ensures.seat.1 in
+paid : (g : Over) (c : Joined-moved g) → c.if-moved.owed.items ≡ owed_woken c.args.call.waking c.args.call.k c.return_woken-moved.result (the c.wake_in_hand-taken.new.seat.me.0).stood
+paid g c = let made = c.wake_in_hand-taken in let waking = c.args.call.waking in let k = c.args.call.k in let same = made.ensures.seat.1 in
     let owed = λ (b : Bool). owed_woken waking k b (the made.new.seat.me.0).stood in
     let taken = made.ensures.taken ∙ (λ i. taken_from waking k (the (sym same i)).stood) in
     elim c.if-moved.branch [
@@ -48,7 +48,7 @@ paid g c = let made = c.wake_in_hand-taken in let waking = c.args.waking in let 
 
 pub pay-requires : goal.pay-requires
 pay-requires g c = let t = g.C.Condition.means in let back = c.return_woken-moved.ensures in let now = c.return_woken-moved.new.seat.me in
-    let by = subst (λ ns. HasReached t (TheRequest.Wake c.args.waking c.args.k) (pay_woken c.args.waking c.args.k (has_some ns)) now) (sym back.returned.owed) back.returned.leads in
+    let by = subst (λ ns. HasReached t (TheRequest.Wake c.args.call.waking c.args.call.k) (pay_woken c.args.call.waking c.args.call.k (has_some ns)) now) (sym back.returned.owed) back.returned.leads in
     (omega arith, (omega arith, (omega arith, (back.seat, (record { pays = refl; free = refl; more = refl }, (by, back.returned.owed ∙ sym (paid g (goal.at.pay-requires g c).Joined-moved)))))))
 
 pub returns : goal.returns
