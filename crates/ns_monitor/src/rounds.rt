@@ -4,6 +4,7 @@
 ghost use Rattle.std.specs.Prelude.{◌≡◌, ◌⊎◌, ◌||◌, is_some, None, Some, IfSome, false, true};
 ghost use Rattle.ns_gate.specs.Prelude.{IsMade, row_in, is_limited, look_or_queue, wait_first, Await, Load, OnCondition, InQueuing, Answered, InWait, HasAnswered, HasSince, IsAtPlace, HasReached, the};
 ghost use Rattle.ns_note.specs.Known.{Grows as EnvGrows};
+ghost use Rattle.ns_word.specs.Places.{IsForCondition};
 ghost use Rattle.ns_monitor.specs.Prelude.{EndedBy, Grows, HadLooked, HasWaitedFor, IfAnswered, IsFreshIn, IsNumberOf, QueuesOrEnds, waiting, waits_by};
 
 use crate::caller::{Caller, Renewed};
@@ -53,35 +54,34 @@ impl<C: Condition<N>, const N: usize> Monitor<C, N> {
         shown
     }
 
-    /// Queues, and waits until the condition is true, or the wait is ended early. The condition is false of this
-    /// row of the section in hand.
+    /// Queues, and waits until the wait's condition is true, or the wait is ended early. The condition is false of
+    /// this row of the section in hand.
     fn wait_on<R: Wait, W: Watch>(
         &self,
         rt: &R,
         seat: &mut GateSeat<C, N>,
-        first: Queuing<C>,
-        condition: C,
+        number: u8,
+        wait: Waiting<C>,
         row: &mut [u64; N],
         watch: &mut W,
     ) -> Answer
         requires of { seat.old.table_id ≡ self.now }
-        requires number { IsNumberOf first.number seat.old.me }
-        requires on { first.wait.on ≡ OnCondition condition }
-        requires watches { W.watches watch.old first.wait.limits }
+        requires number { IsNumberOf number seat.old.me }
+        requires on { IsForCondition wait.on }
+        requires watches { W.watches watch.old wait.limits }
         requires row { row.old ≡ row_in (the seat.old.me.0).at.held }
-        requires at { IsAtPlace C.means (InWait first.wait (InQueuing first.again Load)) seat.old.me }
+        requires at { IsAtPlace C.means (InWait wait (InQueuing false Load)) seat.old.me }
         ensures seat { seat.new.table_id ≡ self.now }
         ensures since { HasSince None (the seat.old.me.0) (the seat.new.me.0) }
         ensures looked { W.since watch.old watch.new }
-        ensures ended { IfAnswered result (λ cause. (is_limited first.wait.limits ≡ true) × W.shows watch.old watch.new first.wait.limits (Some cause)) }
-        ensures answered { HasAnswered C.means (Await first.wait) (Answered result) seat.new.me }
-        ensures fresh { IsFreshIn N first.wait.mode (the seat.new.me.0).at.held }
+        ensures ended { IfAnswered result (λ cause. (is_limited wait.limits ≡ true) × W.shows watch.old watch.new wait.limits (Some cause)) }
+        ensures answered { HasAnswered C.means (Await wait) (Answered result) seat.new.me }
+        ensures fresh { IsFreshIn N wait.mode (the seat.new.me.0).at.held }
     {
-        let Queuing {
-            number,
-            wait,
-            mut again,
-        } = first;
+        let Subject::OnCondition(condition) = wait.on else {
+            unreachable!()
+        };
+        let mut again = false;
         for _ in rt.forever() {
             let queuing = Queuing {
                 number,
@@ -154,12 +154,7 @@ impl<C: Condition<N>, const N: usize> Monitor<C, N> {
             };
             return (back, answer_of(cause));
         }
-        let first = Queuing {
-            number,
-            wait,
-            again: false,
-        };
-        let answer = self.wait_on(rt, &mut seat, first, condition, &mut row, watch);
+        let answer = self.wait_on(rt, &mut seat, number, wait, &mut row, watch);
         let hand = H::begun();
         let back = Caller {
             seat,

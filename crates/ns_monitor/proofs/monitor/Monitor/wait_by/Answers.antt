@@ -83,7 +83,7 @@ wait_on-answer-requires g c = let t = g.C.Condition.means in let wait = waits_by
     let led = subst (λ o. QueuesOrEnds t wait false o c.test.new.seat.me now) c.in_default.is c.look_before.ensures.leads in
     let number = same_number t (Some (wait_first g.row.N wait)) c.held.inside.number c.held.inside.seat.me now c.held.invariant.1 (looked g after) in
     let watches = g.W.Watch.still c.args.watch.now c.look_before.new.watch c.args.limits c.look_before.ensures.looked c.requires.watches in
-    (omega arith, (omega arith, (omega arith, (omega (arith, g.met.C.Condition.has_cells), (c.look_before.ensures.seat, (number, (refl, (watches, (c.test.ensures.tested.row_is ∙ ap row_in (sym (led.1 ∙ c.test.ensures.tested.held)), led.0)))))))))
+    (omega arith, (omega arith, (omega arith, (omega (arith, g.met.C.Condition.has_cells), (c.look_before.ensures.seat, (number, (tt, (watches, (c.test.ensures.tested.row_is ∙ ap row_in (sym (led.1 ∙ c.test.ensures.tested.held)), led.0)))))))))
 
 -- it has waited
 over : (g : Over) (c : After-wait_on-answer g) → HasSince (Some (wait_first g.row.N (waits_by c.mode-mode.result c.args.condition c.args.limits))) (the c.held.inside.seat.me.0) (the c.wait_on-answer.new.seat.me.0)
