@@ -11,7 +11,7 @@ use ns_queue::room::Queueable;
 use std::alloc::{AllocError, Global};
 use std::marker::Model;
 
-/// The waiter queues on the heap. Their callers see the lists alone.
+/// The waiter queues on the heap. In contracts their value is the lists.
 ///
 /// A seat of the table is over what its slot holds. So whoever passes a seat on, over any condition, has to show
 /// that a slot fits in memory, and a pointer always does.

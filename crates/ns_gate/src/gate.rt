@@ -62,7 +62,7 @@ fn zeros(alloc: Global, count: usize) -> Result<Vec<u64>, AllocError>
     vec![in alloc; 0; count]
 }
 
-/// Queues in which nobody stands.
+/// The one slot of the table: queues in which nobody stands.
 fn no_waiters<C: Condition<N>, const N: usize>(
     alloc: Global,
 ) -> Result<Vec<BoxedQueues<C, N>>, AllocError>

@@ -68,14 +68,13 @@ decides_at N (InAcquire (ForLock mode) (AcquireLoad arrival)) d = record {
   goes = λ last may. record { wants = refl; free = refl; missed = λ word. refl; made = refl; asked = refl };
   takes = λ last. record { wants = refl; free = refl; missed = λ word. refl; made = refl; has = refl; asked = refl };
 }
-decides_at N (InAcquire (ForWait wait outcome)
-    (AcquireLoad arrival)) d = record {
-      wants = refl;
-      free = refl;
-      by_word = λ word. refl;
-      goes = λ last may. record { wants = refl; free = refl; missed = λ word. refl; made = refl; asked = refl };
-      takes = λ last. record { wants = refl; free = refl; missed = λ word. refl; made = refl; has = refl; asked = refl };
-    }
+decides_at N (InAcquire (ForWait wait outcome) (AcquireLoad arrival)) d = record {
+  wants = refl;
+  free = refl;
+  by_word = λ word. refl;
+  goes = λ last may. record { wants = refl; free = refl; missed = λ word. refl; made = refl; asked = refl };
+  takes = λ last. record { wants = refl; free = refl; missed = λ word. refl; made = refl; has = refl; asked = refl };
+}
 decides_at N (InRelease releasing ReleaseLoad) d = record {
   wants = refl;
   free = refl;
