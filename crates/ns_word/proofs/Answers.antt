@@ -1,56 +1,25 @@
 -- What a wait answers is what its section is committed with.
-use Rattle.std.proofs.Common.{◌≡◌, ◌≢◌, ℕ, Bool, true, false, cond, eqb, List, Option, None, Some, slice_set, refl, ap, sym, ◌∙◌, subst}
-use Rattle.ns_word.specs.Prelude.{Acquire, AcquireExchange, AcquireLoad, AcquirePlace, Act, Aim, Answer, Answered, Any, Arm, ArmFlag, ArmToWait, Arrival, AwaitWake, AwaitWakeInWait, AwaitWakeToLeave, CameBack, CanWait, Cause, Cell, CellPlace, ComesBack, Done, EachFits, Effect, Ended, Event}
-use Rattle.ns_word.specs.Prelude.{Expired, Flag, ForWait, Found, GetLoad, Held, InAcquire, InCells, InLeaving, InQueuing, InRelease, InShow, InSignal, InTry, InWait, IsForCondition, IsLawful, IsSaidBy, IsUnmet, JudgeMet, JudgeQuiet, Leave, LeaveLoad, LeavePlace, Left, Limits, Load, LoadCell}
-use Rattle.ns_word.specs.Prelude.{LoadFlag, LoadToScan, LoadWord, LockState, Look, LookIn, LookOut, Looked, Made, MayWait, Met, Mode, Next, Notified, On, OnCondition, OnEntry, OnReturn, OnVariables, Only, Outcome, Paid, Part, PayInWait, PayWake, PlaceFits, Queue, QueueToWait, Quiet, Release}
-use Rattle.ns_word.specs.Prelude.{ReleaseLoad, ReleasePlace, ReleaseReturning, Releasing, Reply, ReturnQueues, Saw, Scanned, SeatView, ShowLoad, ShowPlace, SignalLoad, SignalPlace, Step, StoreCell, Subject, Take, TakeQueues, TakeToLeave, TakeToQueue, TestCells, TestLast, Tested, Tests, Truths}
-use Rattle.ns_word.specs.Prelude.{TryAcquire, TryLoad, TryPlace, Variables, Visit, Wait, WaitFits, WaitPlace, WaitReturning, Waited, Waking, Walk, Woke, Woken, Word, acquire_by, answer_of, back_with, comes_back, entry_for, entry_of, got_acquiring, got_of, got_waiting, has_come_back, held_after}
-use Rattle.ns_word.specs.Prelude.{is_limited, is_met, judge_of, look_or_queue, may_acquire, mode_for, newly_held, opening_by, part_of, place_has_come_back, reply_for, reply_of, standing_after, unmet_by, want_acquiring, want_in_cells, want_leaving, want_of, want_releasing, want_showing}
+use Rattle.std.proofs.Common.{◌≡◌, ◌≢◌, ℕ, Bool, true, false, not, cond, List, Option, None, Some, slice_set, refl, ap, sym, ◌∙◌, subst}
+use Rattle.std.proofs.lemmas.Bool.{both_ways, not-false}
+use Rattle.ns_word.specs.Prelude.{Acquire, AcquireExchange, AcquireLoad, AcquirePlace, Act, Aim, Answer, Answered, Any, ArmFlag, ArmToWait, CameBack, CanWait, Cause, Cell, CellPlace, ComesBack, Done, EachFits, Effect, Ended, Event}
+use Rattle.ns_word.specs.Prelude.{Expired, Flag, ForWait, Found, GetLoad, Held, InAcquire, InCells, InLeaving, InQueuing, InRelease, InShow, InSignal, InTry, InWait, IsForCondition, IsLawful, IsSaidBy, IsUnmet, JudgeMet, JudgeQuiet, LeaveLoad, LeavePlace, Left, Limits, Load, LoadCell}
+use Rattle.ns_word.specs.Prelude.{LoadFlag, LoadToScan, LoadWord, LockState, Look, LookIn, Looked, Made, MayWait, Met, Mode, Notified, On, OnCondition, OnEntry, OnReturn, OnVariables, Only, Outcome, Paid, Part, PayWake, PlaceFits, QueueToWait, Quiet, Release}
+use Rattle.ns_word.specs.Prelude.{ReleaseLoad, ReleasePlace, ReleaseReturning, Releasing, Reply, ReturnQueues, Saw, Scanned, SeatView, ShowLoad, ShowPlace, SignalLoad, SignalPlace, Step, StoreCell, Subject, Take, TakeQueues, TestLast, Tested, Tests, Truths}
+use Rattle.ns_word.specs.Prelude.{TryAcquire, TryLoad, TryPlace, Variables, Visit, Wait, WaitFits, WaitPlace, WaitReturning, Waited, Waking, Walk, Woke, Woken, answer_of, back_with, comes_back, entry_for, entry_of, got_acquiring, got_of, got_waiting, has_come_back, held_after}
+use Rattle.ns_word.specs.Prelude.{is_limited, is_met, judge_of, look_or_queue, newly_held, opening_by, part_of, place_has_come_back, reply_for, standing_after, unmet_by, want_acquiring, want_in_cells, want_leaving, want_of, want_releasing, want_showing}
 use Rattle.ns_word.specs.Prelude.{want_signaling, want_trying, want_waiting}
+use Rattle.ns_word.proofs.Follows.{Follows, follows, may_end}
 use Rattle.ns_word.proofs.Views.{each_parts}
 
--- ---- where a wait answers nothing
+-- where a wait answers nothing, the call goes on
+ends_not : {C : Type 0} (N : ℕ) (walk : Walk C) (found : Found) (reply : Reply) → may_end walk found ≡ false → got_of N walk found ≢ Done reply
+ends_not N walk found reply e is = let ends : not (may_end walk found) ≡ false = (subst (λ next. Follows walk found next) is (follows N walk found)).ends in absurd (both_ways (may_end walk found) e (not-false (may_end walk found) ends))
 
--- the call goes on
-abbrev GoesOn : {C : Type 0} → Next C → Type 0
-GoesOn next = reply_of next ≡ None
-
-goes_on_not : {C : Type 0} (next : Next C) (reply : Reply) → GoesOn next → next ≡ Done reply → ⊥
-goes_on_not next reply on e = let same : None ≡ Some reply = sym on ∙ ap reply_of e in absurd (cc)
-
-either_on : {C : Type 0} (b : Bool) (one other : Next C) → GoesOn one → GoesOn other → GoesOn (cond b one other)
-either_on true one other p q = p
-either_on false one other p q = q
-
--- the place is one where a wait may answer
-abbrev may_answer : WaitPlace → Bool
-may_answer (TestLast visit i) = true
-may_answer (InQueuing again LookIn) = true
-may_answer place = false
-
-module _ {C : Type 0} (N : ℕ) (wait : Wait C) where
-  looks_on : (again : Bool) → GoesOn (look_or_queue wait again)
-  looks_on again = either_on (is_limited wait.limits) (On (InWait wait (InQueuing again LookIn))) (On (InWait wait (InQueuing again Load))) refl refl
-
-  -- at any other place the wait goes on
-  others_on : (place : WaitPlace) (found : Found) → may_answer place ≡ false → GoesOn (got_waiting N wait place found)
-  others_on (TestLast visit i) found e = absurd (cc)
-  others_on (InQueuing again LookIn) found e = absurd (cc)
-  others_on (TestCells visit i) (Cell v) e = refl
-  others_on (InQueuing again (ArmToWait last)) Made e = refl
-  others_on (InQueuing again Load) (Saw word) e = either_on word.spin _ _ refl refl
-  others_on (InQueuing again (Take last)) (Saw word) e = either_on word.spin _ _ refl refl
-  others_on (InQueuing again (LoadToScan last i)) (Cell v) e = refl
-  others_on (InQueuing again (QueueToWait last)) (Scanned owes tests) e = either_on owes _ _ refl refl
-  others_on PayInWait (Paid owes) e = either_on owes _ _ refl refl
-  others_on AwaitWakeInWait (Flag v) e = either_on (eqb v 1) _ _ (either_on (is_limited wait.limits) _ _ refl refl) refl
-  others_on (InLeaving cause LeaveLoad) (Saw word) e = either_on word.spin _ _ refl refl
-  others_on (InLeaving cause (TakeToLeave last)) (Saw word) e = either_on word.spin _ _ refl refl
-  others_on (InLeaving cause (Leave last)) (Left stood) e = either_on stood _ _ refl refl
-  others_on (InLeaving cause AwaitWakeToLeave) (Flag v) e = either_on (eqb v 1) _ _ refl refl
-  others_on LookOut (Looked None) e = refl
-  others_on LookOut (Looked (Some cause)) e = refl
-  others_on _ _ e = refl
+looks_on : {C : Type 0} (wait : Wait C) (again : Bool) (reply : Reply) → look_or_queue wait again ≢ Done reply
+looks_on wait again reply is = go (is_limited wait.limits) is where
+  go : (b : Bool) → cond b (On (InWait wait (InQueuing again LookIn))) (On (InWait wait (InQueuing again Load))) ≢ Done reply
+  go true e = absurd (cc)
+  go false e = absurd (cc)
 
 -- ---- what it answers, and what is left of the section
 
@@ -90,8 +59,8 @@ module _ {C : Type 0} {N : ℕ} (truths : Truths C) (wait : Wait C) (c : C) wher
   -- and one that finds it false
   unmet_answers : (visit : Visit) (held : Held C N) (answer : Answer) → wait.on ≡ OnCondition c → Tests truths wait visit (Some held) → truths.holds c held.row ≡ false → unmet_by wait visit ≡ Done (Answered answer) →
       AnswersOf (comes_back visit) (Some held) answer
-  unmet_answers OnEntry held answer for p e is = absurd (goes_on_not (look_or_queue wait false) (Answered answer) (looks_on N wait false) is)
-  unmet_answers (OnReturn (Woken by)) held answer for p e is = absurd (goes_on_not (look_or_queue wait true) (Answered answer) (looks_on N wait true) is)
+  unmet_answers OnEntry held answer for p e is = absurd (looks_on wait false (Answered answer) is)
+  unmet_answers (OnReturn (Woken by)) held answer for p e is = absurd (looks_on wait true (Answered answer) is)
   unmet_answers (OnReturn (Ended cause)) held answer for p e is =
       let same : answer_of cause ≡ answer = cc in
       subst (AnswersOf true (Some held)) same (held, refl, p.0, unmet_cause cause ∙ sym e, λ _. begins_so cause held false for p.1 e)
@@ -129,7 +98,7 @@ module _ {C : Type 0} {N : ℕ} (truths : Truths C) (wait : Wait C) (c : C) wher
       let same : answer_of cause ≡ answer = cc in
       subst (λ left. AnswersOf again left answer) (sym (ap (λ (part : Part C N). part.held) e.1)) (subst (AnswersOf again (held_after again (Some cause) old.held)) same (looked_answers again cause old.held for p.0))
   answers_at seat (InQueuing again LookIn) old _ new commits answer for p e is = absurd e
-  answers_at seat place old found new commits answer for p e is = absurd (goes_on_not (got_waiting N wait place found) (Answered answer) (others_on N wait place found refl) is)
+  answers_at seat place old found new commits answer for p e is = absurd (ends_not N (InWait wait place) found (Answered answer) refl is)
 
 -- A wait for a condition answers what its section is committed with.
 pub answers_rightly : {C : Type 0} {N : ℕ} (truths : Truths C) (seats : ℕ) (h : List (Event C N)) (old new : LockState C N) (view : SeatView C N) (found : Found) (commits : List (Event C N)) (wait : Wait C) (c : C) (place : WaitPlace) (answer : Answer) →
@@ -142,28 +111,6 @@ answers_rightly {C} {N} truths seats h old new view found commits wait c place a
     (subst (λ walk. Effect truths view.seat (want_of walk) (part_of old view.held view.owed) found (part_of new step.held step.owed) commits) walks step.effect) (ap (λ walk. got_of N walk found) (sym walks) ∙ is))
 
 -- ---- what a wait for variables answers
-
--- the step acquires the lock
-abbrev is_acquired : AcquirePlace → Found → Bool
-is_acquired (AcquireExchange arrival last) Made = true
-is_acquired place found = false
-
-module _ {C : Type 0} (N : ℕ) (aim : Aim C) where
-  decides_on : (arrival : Arrival) (word : Word) → GoesOn (acquire_by aim arrival word)
-  decides_on arrival word = either_on (may_acquire (mode_for aim) arrival word) _ _ refl (either_on word.spin _ _ refl refl)
-
-  -- at any other step the acquire goes on
-  acquires_on : (place : AcquirePlace) (found : Found) → is_acquired place found ≡ false → GoesOn (got_acquiring N aim place found)
-  acquires_on (AcquireExchange arrival last) Made e = absurd (cc)
-  acquires_on (AcquireLoad arrival) (Saw word) e = decides_on arrival word
-  acquires_on (AcquireExchange arrival last) (Saw word) e = decides_on arrival word
-  acquires_on (TakeToQueue arrival last) (Saw word) e = decides_on arrival word
-  acquires_on (TakeToQueue arrival last) Made e = refl
-  acquires_on (Arm arrival last) Made e = refl
-  acquires_on (Queue arrival last) (Saw word) e = refl
-  acquires_on (Queue arrival last) Made e = refl
-  acquires_on (AwaitWake tries) (Flag v) e = either_on (eqb v 1) _ _ refl refl
-  acquires_on _ _ e = refl
 
 -- a section says how it began just what the wait answers
 said : (C : Type 0) (outcome : Outcome) (variables : Variables) → IsSaidBy {C = C} variables (reply_for variables outcome) (entry_for variables outcome)
@@ -186,7 +133,7 @@ module _ {C : Type 0} {N : ℕ} (truths : Truths C) (wait : Wait C) (outcome : O
         refl,
         subst (IsSaidBy variables reply) (sym entry) (subst (λ r. IsSaidBy {C = C} variables r (entry_for variables outcome)) same (said C outcome variables)),
       )
-  after_at seat place old found new commits reply for e is = absurd (goes_on_not (got_acquiring N (ForWait wait outcome) place found) reply (acquires_on N (ForWait wait outcome) place found refl) is)
+  after_at seat place old found new commits reply for e is = absurd (ends_not N (InAcquire (ForWait wait outcome) place) found reply refl is)
 
 -- A wait for variables answers what its section says of how it began.
 pub variable_answers_rightly : {C : Type 0} {N : ℕ} (truths : Truths C) (old new : LockState C N) (view : SeatView C N) (found : Found) (commits : List (Event C N)) (wait : Wait C) (outcome : Outcome) (place : AcquirePlace) (variables : Variables) (reply : Reply) →
@@ -201,7 +148,7 @@ module _ {C : Type 0} {N : ℕ} (truths : Truths C) (wait : Wait C) (variables :
   none_at : (place : WaitPlace) (held : Option (Held C N)) (found : Found) (reply : Reply) → wait.on ≡ OnVariables variables → WaitFits truths wait place held → got_waiting N wait place found ≢ Done reply
   none_at (TestLast visit i) held found reply for p is = subst IsForCondition for p.2
   none_at (InQueuing again LookIn) held found reply for p is = subst IsForCondition for p.1
-  none_at place held found reply for p is = goes_on_not (got_waiting N wait place found) reply (others_on N wait place found refl) is
+  none_at place held found reply for p is = ends_not N (InWait wait place) found reply refl is
 
 -- A wait for variables doesn't answer before it acquires again.
 pub variable_answers_back : {C : Type 0} {N : ℕ} (truths : Truths C) (seats : ℕ) (h : List (Event C N)) (old new : LockState C N) (view : SeatView C N) (found : Found) (commits : List (Event C N)) (wait : Wait C) (place : WaitPlace) (variables : Variables) (reply : Reply) →

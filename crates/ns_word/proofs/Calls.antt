@@ -1,19 +1,19 @@
 -- What a call owes once it is over, whom it wakes, and when it looks and acquires as woken.
 use Rattle.std.specs.Prelude.{slice_get}
-use Rattle.std.proofs.Common.{◌≡◌, ◌⊎◌, inl, inr, ℕ, ◌-◌, ◌≤◌, ◌<◌, arith, Bool, true, false, not, ◌||◌, cond, eqb, ltb, ◌+◌, suc, take, drop, List, [], ◌∷◌, length, None, Some, refl, ap, sym, ◌∙◌, subst}
-use Rattle.std.proofs.lemmas.Bool.{cases_eq, ltb-true, ne_eqb}
+use Rattle.std.proofs.Common.{◌≡◌, ◌⊎◌, inl, inr, ℕ, ◌≤◌, ◌<◌, arith, Bool, true, false, cond, suc, take, drop, List, [], ◌∷◌, length, None, Some, refl, ap, sym, ◌∙◌, subst}
 use Rattle.std.proofs.lemmas.List.{get_or-map}
-use Rattle.ns_word.specs.Prelude.{AcquireExchange, AcquireLoad, AcquirePlace, Act, Aim, Answered, Arm, ArmToWait, Arrival, AsFresh, AsWoken, Await, AwaitWake, AwaitWakeInWait, AwaitWakeToLeave, Broadcasting, Busy, Cause, Cell, CellPlace, Cv, Done, EachFits, Effect, Ended, Event, Every, Flag}
-use Rattle.ns_word.specs.Prelude.{ForLock, ForWait, Found, GetLoad, Idle, InAcquire, InCells, InLeaving, InQueuing, InRelease, InShow, InSignal, InTry, InWait, IsLawful, Judging, Leave, LeaveLoad, LeavePlace, Left, Limits, Lists, Load, LoadFlag, LoadToScan, LockState, Look, LookIn, LookOut}
-use Rattle.ns_word.specs.Prelude.{Looked, Made, Met, Mode, Next, Noisy, On, OnCondition, OnEntry, OnReturn, OnVariables, Paid, Part, Pay, PayInWait, PayTheWoken, PlaceFits, Queue, QueuePlace, QueueToWait, Quiet, QuietCells, QuietLast, QuietWriter, ReleaseExchange, ReleaseLoad, ReleasePlace}
-use Rattle.ns_word.specs.Prelude.{Releasing, ReturnShown, Saw, ScanAndRelease, ScanCells, Scanned, SeatView, SetLoad, SetStore, ShowLoad, ShowPlace, SignalLoad, SignalPlace, Signaling, Step, Subject, Succeeded, Take, TakeToLeave, TakeToQueue, TakeToScan, TakeToShow, TakeToWake, Tells, TestCells}
-use Rattle.ns_word.specs.Prelude.{TestLast, Tested, ToRelease, ToTell, Truths, TryAcquire, TryLoad, TryPlace, Visit, Wait, WaitPlace, Waiter, Wake, WakeAndReturn, WakeWaiters, Waking, Walk, Woke, Woken, Word, acquire_by, acquired_for, arrival_of, asked_in_cells, asked_of, asked_to_judge}
-use Rattle.ns_word.specs.Prelude.{back_with, calls_from_lock, changed, cvs_without, got_acquiring, got_in_cells, got_leaving, got_of, got_queuing, got_releasing, got_showing, got_signaling, got_trying, got_waiting, has_come_back, is_arrival_woken, is_from_lock, is_held, is_limited, is_met}
-use Rattle.ns_word.specs.Prelude.{is_woken, judge_of, kept_by, look_or_queue, may_acquire, mode_for, moved_to, needs_scan, outcome_taken, outside, part_of, pays, release_by, rest_or_look, standing_after, taken_by, taken_set, test_place, times_in, unmet_by, waiters_of, wake_of, walk_after}
-use Rattle.ns_word.specs.Prelude.{want_acquiring, want_in_cells, want_leaving, want_of, want_releasing, want_showing, want_signaling, want_trying, want_waiting, was_woken, woken_by}
+use Rattle.ns_word.specs.Prelude.{Act, ArmToWait, Await, AwaitWakeInWait, Broadcasting, CellPlace, Cv, EachFits, Effect, Event, Every, Flag}
+use Rattle.ns_word.specs.Prelude.{ForLock, ForWait, Found, GetLoad, Idle, InAcquire, InCells, InLeaving, InQueuing, InRelease, InShow, InSignal, InTry, InWait, IsLawful, Judging, Left, Limits, Lists, Load, LoadToScan, LockState, Look, LookIn, LookOut}
+use Rattle.ns_word.specs.Prelude.{Made, On, Paid, Part, PayInWait, PayTheWoken, PlaceFits, QueueToWait, QuietCells, QuietLast}
+use Rattle.ns_word.specs.Prelude.{Saw, SeatView, SetLoad, SetStore, SignalLoad, SignalPlace, Signaling, Step, Take, TakeToWake, Tells, TestCells}
+use Rattle.ns_word.specs.Prelude.{TestLast, ToRelease, ToTell, Truths, Wait, WaitPlace, Waiter, Wake, WakeAndReturn, WakeWaiters, Waking, Walk, Woke, Word, asked_in_cells, asked_of, asked_to_judge}
+use Rattle.ns_word.specs.Prelude.{calls_from_lock, changed, cvs_without, got_of, has_come_back, is_held, is_limited}
+use Rattle.ns_word.specs.Prelude.{judge_of, kept_by, moved_to, outside, part_of, pays, standing_after, taken_by, taken_set, times_in, waiters_of, wake_of, walk_after}
+use Rattle.ns_word.specs.Prelude.{want_acquiring, want_in_cells, want_leaving, want_of, want_releasing, want_showing, want_signaling, want_trying, want_waiting, was_woken}
 use Rattle.ns_queue.proofs.Outside.{broadcast_outside, signal_outside}
 use Rattle.ns_word.proofs.CountsIn.{OnceInEach}
 use Rattle.ns_word.proofs.Answers.{acquire_looks_not, cells_look_not, judge_looks_not, leaver_looks_not, look_of_act, release_looks_not, signal_looks_not, show_looks_not, try_looks_not}
+use Rattle.ns_word.proofs.Follows.{FoundCalled, follows}
 use Rattle.ns_word.proofs.Keeps.{none_of}
 use Rattle.ns_word.proofs.Numbers.{split_at}
 use Rattle.ns_word.proofs.Views.{each_parts}
@@ -144,174 +144,6 @@ set_flag_looks N wait e = (InWait wait LookOut, ap (λ b. walk_after (cond b (On
 
 -- ---- who acquires as woken
 
--- its flag was loaded, and told that it was taken from the lock list
-abbrev FoundCalled : {C : Type 0} → Walk C → Found → Type 0
-FoundCalled walk found = (value : ℕ) × (want_of walk ≡ LoadFlag) × (found ≡ Flag value) × ((value ≡ 0) ⊎ (5 < value))
-
--- what a flag tells so is 0, or more than 5
-called_values : (v : ℕ) → is_from_lock v ≡ true → (v ≡ 0) ⊎ (5 < v)
-called_values v said = elim (cases_eq v 0) [
-  | inl e ↦ inl e
-  | inr ne ↦ inr (ltb-true 5 v (subst (λ b. (b || ltb 5 v) ≡ true) (ne_eqb v 0 ne) said))
-]
-
-module _ (C : Type 0) (N : ℕ) where
-  -- it was woken before, or found its flag cleared by a wake from the lock list
-  record IsCalled (walk : Walk C) (found : Found) (next : Next C) : Type 0 where
-    called : was_woken (walk_after next) ≡ true → (was_woken (Some walk) ≡ true) ⊎ FoundCalled walk found
-
-  two_ways : (walk : Walk C) (found : Found) (b : Bool) (one other : Next C) → IsCalled walk found one → IsCalled walk found other → IsCalled walk found (cond b one other)
-  two_ways walk found true one other p q = p
-  two_ways walk found false one other p q = q
-
-  -- the place isn't that of an acquire, so nobody is woken there
-  not_there : (walk : Walk C) (found : Found) (next : Next C) → was_woken (walk_after next) ≡ false → IsCalled walk found next
-  not_there walk found next e = record { called = λ woken. let clash : false ≡ true = sym e ∙ woken in absurd (cc) }
-
-  -- by the decision of an acquire nobody becomes woken
-  decides : (aim : Aim C) (place : AcquirePlace) (found : Found) (arrival : Arrival) (word : Word) → is_arrival_woken place ≡ is_woken arrival → IsCalled (InAcquire aim place) found (acquire_by aim arrival word)
-  decides aim place found arrival word e =
-      two_ways (InAcquire aim place) found (may_acquire (mode_for aim) arrival word) (On (InAcquire aim (AcquireExchange arrival word))) _ (record { called = λ woken. inl (e ∙ woken) })
-      (two_ways (InAcquire aim place) found word.spin (Idle (InAcquire aim (AcquireLoad arrival))) (On (InAcquire aim (TakeToQueue arrival word))) (record { called = λ woken. inl (e ∙ woken) }) (record { called = λ woken. inl (e ∙ woken) }))
-
-  -- who finds its flag cleared acquires as woken where the wake was one from the lock list
-  flag_tells : (walk : Walk C) (other : Next C) (aim : Aim C) (tries v : ℕ) → want_of walk ≡ LoadFlag → was_woken (walk_after other) ≡ false → IsCalled walk (Flag v) (cond (eqb v 1) other (On (InAcquire aim (AcquireLoad (arrival_of tries v)))))
-  flag_tells walk other aim tries v loads e = two_ways walk (Flag v) (eqb v 1) other _ (not_there walk (Flag v) other e) (record { called = cleared (is_from_lock v) refl })
-    where
-      cleared : (b : Bool) → is_from_lock v ≡ b → is_woken (cond b (AsWoken tries) AsFresh) ≡ true → (was_woken (Some walk) ≡ true) ⊎ FoundCalled walk (Flag v)
-      cleared true z woken = inr (v, loads, refl, called_values v z)
-      cleared false z woken = absurd (cc)
-
-  -- of two places that are no acquire's
-  neither : (walk : Walk C) (found : Found) (b : Bool) (one other : Next C) → was_woken (walk_after one) ≡ false → was_woken (walk_after other) ≡ false → IsCalled walk found (cond b one other)
-  neither walk found b one other e f = two_ways walk found b one other (not_there walk found one e) (not_there walk found other f)
-
-  try_calls : (mode : Mode) (place : TryPlace) (found : Found) → IsCalled (InTry mode place) found (got_trying mode place found)
-  try_calls mode TryLoad (Saw word) = neither _ (Saw word) (may_acquire mode AsFresh word) (On (InTry mode (TryAcquire word))) (Done Busy) refl refl
-  try_calls mode (TryAcquire last) (Saw word) = not_there _ _ _ refl
-  try_calls mode (TryAcquire last) Made = not_there _ _ _ refl
-  try_calls mode place found = not_there _ _ _ refl
-
-  test_calls : (walk : Walk C) (found : Found) (wait : Wait C) (visit : Visit) (loaded : ℕ) → IsCalled walk found (On (test_place N wait visit loaded))
-  test_calls walk found wait visit loaded = go (ltb loaded (N - 1)) where
-    go : (b : Bool) → IsCalled walk found (On (cond b (InWait wait (TestCells visit loaded)) (InWait wait (TestLast visit (N - 1)))))
-    go true = not_there walk found _ refl
-    go false = not_there walk found _ refl
-
-  acquired_calls : (walk : Walk C) (found : Found) (aim : Aim C) → IsCalled walk found (acquired_for N aim)
-  acquired_calls walk found (ForLock mode) = not_there walk found _ refl
-  acquired_calls walk found (ForWait wait outcome) = go wait.on where
-    go : (on : Subject C) → IsCalled walk found (back_with N on wait outcome)
-    go (OnCondition c) = test_calls walk found wait (OnReturn outcome) 0
-    go (OnVariables variables) = not_there walk found _ refl
-
-  acquire_calls : (aim : Aim C) (place : AcquirePlace) (found : Found) → IsCalled (InAcquire aim place) found (got_acquiring N aim place found)
-  acquire_calls aim (AcquireLoad arrival) (Saw word) = decides aim (AcquireLoad arrival) (Saw word) arrival word refl
-  acquire_calls aim (AcquireExchange arrival last) (Saw word) = decides aim (AcquireExchange arrival last) (Saw word) arrival word refl
-  acquire_calls aim (AcquireExchange arrival last) Made = acquired_calls _ _ aim
-  acquire_calls aim (TakeToQueue arrival last) (Saw word) = decides aim (TakeToQueue arrival last) (Saw word) arrival word refl
-  acquire_calls aim (TakeToQueue arrival last) Made = not_there _ _ _ refl
-  acquire_calls aim (Arm arrival last) Made = not_there _ _ _ refl
-  acquire_calls aim (Queue arrival last) (Saw word) = not_there _ _ _ refl
-  acquire_calls aim (Queue arrival last) Made = not_there _ _ _ refl
-  acquire_calls aim (AwaitWake tries) (Flag v) = flag_tells (InAcquire aim (AwaitWake tries)) (Idle (InAcquire aim (AwaitWake tries))) aim tries v refl refl
-  acquire_calls aim place found = record { called = λ woken. inl woken }
-
-  released_calls : (walk : Walk C) (found : Found) (releasing : Releasing) (word : Word) → IsCalled walk found (release_by releasing word)
-  released_calls walk found releasing word =
-      two_ways walk found (not (needs_scan releasing word)) (On (InRelease releasing (ReleaseExchange word))) _ (not_there walk found _ refl) (neither walk found word.spin (Idle (InRelease releasing ReleaseLoad)) (On (InRelease releasing (TakeToScan word))) refl refl)
-
-  release_calls : (releasing : Releasing) (place : ReleasePlace) (found : Found) → IsCalled (InRelease releasing place) found (got_releasing N releasing place found)
-  release_calls releasing ReleaseLoad (Saw word) = released_calls _ _ releasing word
-  release_calls releasing (ReleaseExchange last) (Saw word) = released_calls _ _ releasing word
-  release_calls releasing (ReleaseExchange last) Made = not_there _ _ _ refl
-  release_calls releasing (TakeToScan last) (Saw word) = released_calls _ _ releasing word
-  release_calls releasing (TakeToScan last) Made = not_there _ _ _ refl
-  release_calls releasing (ScanCells last i) (Cell v) = not_there _ _ _ refl
-  release_calls releasing (ScanAndRelease last) (Saw word) = not_there _ _ _ refl
-  release_calls releasing (ScanAndRelease last) (Scanned owes tests) = neither _ _ owes (On (InRelease releasing Pay)) (Done Succeeded) refl refl
-  release_calls releasing Pay (Paid owes) = neither _ _ owes (On (InRelease releasing Pay)) (Done Succeeded) refl refl
-  release_calls releasing place found = not_there _ _ _ refl
-
-  cells_call : (place : CellPlace) (found : Found) → IsCalled (InCells place) found (got_in_cells N place found)
-  cells_call (GetLoad i) (Cell v) = not_there _ _ _ refl
-  cells_call (SetLoad i v) (Cell w) = not_there _ _ _ refl
-  cells_call (SetStore i v) Made = not_there _ _ _ refl
-  cells_call (QuietCells judging i) (Cell v) = not_there _ _ _ refl
-  cells_call (QuietLast ToTell i) (Quiet quiet) = not_there _ _ _ refl
-  cells_call (QuietLast ToRelease i) (Quiet quiet) = neither _ _ quiet (On (InRelease QuietWriter ReleaseLoad)) (Done Noisy) refl refl
-  cells_call place found = not_there _ _ _ refl
-
-  look_calls : (walk : Walk C) (found : Found) (wait : Wait C) (again : Bool) → IsCalled walk found (look_or_queue wait again)
-  look_calls walk found wait again = neither walk found (is_limited wait.limits) (On (InWait wait (InQueuing again LookIn))) (On (InWait wait (InQueuing again Load))) refl refl
-
-  unmet_calls : (walk : Walk C) (found : Found) (wait : Wait C) (visit : Visit) → IsCalled walk found (unmet_by wait visit)
-  unmet_calls walk found wait OnEntry = look_calls walk found wait false
-  unmet_calls walk found wait (OnReturn (Woken by)) = look_calls walk found wait true
-  unmet_calls walk found wait (OnReturn (Ended cause)) = not_there walk found _ refl
-
-  queue_calls : (wait : Wait C) (again : Bool) (place : QueuePlace) (found : Found) → IsCalled (InWait wait (InQueuing again place)) found (got_queuing N wait again place found)
-  queue_calls wait again LookIn (Looked None) = not_there _ _ _ refl
-  queue_calls wait again LookIn (Looked (Some cause)) = not_there _ _ _ refl
-  queue_calls wait again Load (Saw word) = neither _ _ word.spin (Idle (InWait wait (InQueuing again Load))) (On (InWait wait (InQueuing again (Take word)))) refl refl
-  queue_calls wait again (Take last) (Saw word) = neither _ _ word.spin (Idle (InWait wait (InQueuing again Load))) (On (InWait wait (InQueuing again (Take word)))) refl refl
-  queue_calls wait again (Take last) Made = not_there _ _ _ refl
-  queue_calls wait again (ArmToWait last) Made = not_there _ _ _ refl
-  queue_calls wait again (LoadToScan last i) (Cell v) = not_there _ _ _ refl
-  queue_calls wait again (QueueToWait last) (Saw word) = not_there _ _ _ refl
-  queue_calls wait again (QueueToWait last) (Scanned owes tests) = neither _ _ owes (On (InWait wait PayInWait)) (On (InWait wait AwaitWakeInWait)) refl refl
-  queue_calls wait again place found = not_there _ _ _ refl
-
-  leave_calls : (wait : Wait C) (cause : Cause) (place : LeavePlace) (found : Found) → IsCalled (InWait wait (InLeaving cause place)) found (got_leaving wait cause place found)
-  leave_calls wait cause LeaveLoad (Saw word) = neither _ _ word.spin (Idle (InWait wait (InLeaving cause LeaveLoad))) (On (InWait wait (InLeaving cause (TakeToLeave word)))) refl refl
-  leave_calls wait cause (TakeToLeave last) (Saw word) = neither _ _ word.spin (Idle (InWait wait (InLeaving cause LeaveLoad))) (On (InWait wait (InLeaving cause (TakeToLeave word)))) refl refl
-  leave_calls wait cause (TakeToLeave last) Made = not_there _ _ _ refl
-  leave_calls wait cause (Leave last) (Saw word) = not_there _ _ _ refl
-  leave_calls wait cause (Leave last) (Left stood) = neither _ _ stood (On (InAcquire (ForWait wait (Ended cause)) (AcquireLoad AsFresh))) (On (InWait wait (InLeaving cause AwaitWakeToLeave))) refl refl
-  leave_calls wait cause AwaitWakeToLeave (Flag v) = flag_tells (InWait wait (InLeaving cause AwaitWakeToLeave)) (Idle (InWait wait (InLeaving cause AwaitWakeToLeave))) (ForWait wait (outcome_taken wait.on cause v)) 0 v refl refl
-  leave_calls wait cause place found = not_there _ _ _ refl
-
-  rest_stays : (wait : Wait C) (b : Bool) → was_woken (walk_after (cond b (On (InWait wait LookOut)) (Idle (InWait wait AwaitWakeInWait)))) ≡ false
-  rest_stays wait true = refl
-  rest_stays wait false = refl
-
-  wait_calls : (wait : Wait C) (place : WaitPlace) (found : Found) → IsCalled (InWait wait place) found (got_waiting N wait place found)
-  wait_calls wait (TestCells visit i) (Cell v) = test_calls _ _ wait visit (i + 1)
-  wait_calls wait (TestLast visit i) (Tested is_met) = two_ways _ _ is_met (Done (Answered Met)) (unmet_by wait visit) (not_there _ _ _ refl) (unmet_calls _ _ wait visit)
-  wait_calls wait (InQueuing again place) found = queue_calls wait again place found
-  wait_calls wait PayInWait (Paid owes) = neither _ _ owes (On (InWait wait PayInWait)) (On (InWait wait AwaitWakeInWait)) refl refl
-  wait_calls wait AwaitWakeInWait (Flag v) = flag_tells (InWait wait AwaitWakeInWait) (rest_or_look wait) (ForWait wait (woken_by wait.on v)) 0 v refl (rest_stays wait (is_limited wait.limits))
-  wait_calls wait LookOut (Looked None) = not_there _ _ _ refl
-  wait_calls wait LookOut (Looked (Some cause)) = not_there _ _ _ refl
-  wait_calls wait (InLeaving cause place) found = leave_calls wait cause place found
-  wait_calls wait place found = not_there _ _ _ refl
-
-  signal_calls : (waking : Waking) (k : ℕ) (place : SignalPlace) (found : Found) → IsCalled (InSignal waking k place) found (got_signaling waking k place found)
-  signal_calls waking k SignalLoad (Saw word) = neither _ _ word.spin (Idle (InSignal waking k SignalLoad)) (On (InSignal waking k (TakeToWake word))) refl refl
-  signal_calls waking k (TakeToWake last) (Saw word) = neither _ _ word.spin (Idle (InSignal waking k SignalLoad)) (On (InSignal waking k (TakeToWake word))) refl refl
-  signal_calls waking k (TakeToWake last) Made = not_there _ _ _ refl
-  signal_calls waking k (WakeAndReturn last) (Saw word) = not_there _ _ _ refl
-  signal_calls waking k (WakeAndReturn last) (Woke owes) = neither _ _ owes (On (InSignal waking k PayTheWoken)) (Done Succeeded) refl refl
-  signal_calls waking k PayTheWoken (Paid owes) = neither _ _ owes (On (InSignal waking k PayTheWoken)) (Done Succeeded) refl refl
-  signal_calls waking k place found = not_there _ _ _ refl
-
-  show_calls : (place : ShowPlace) (found : Found) → IsCalled (InShow place) found (got_showing place found)
-  show_calls ShowLoad (Saw word) = neither _ _ word.spin (Idle (InShow ShowLoad)) (On (InShow (TakeToShow word))) refl refl
-  show_calls (TakeToShow last) (Saw word) = neither _ _ word.spin (Idle (InShow ShowLoad)) (On (InShow (TakeToShow word))) refl refl
-  show_calls (TakeToShow last) Made = not_there _ _ _ refl
-  show_calls (ReturnShown last) (Saw word) = not_there _ _ _ refl
-  show_calls (ReturnShown last) Made = not_there _ _ _ refl
-  show_calls place found = not_there _ _ _ refl
-
-  every_call : (walk : Walk C) (found : Found) → IsCalled walk found (got_of N walk found)
-  every_call (InTry mode place) found = try_calls mode place found
-  every_call (InAcquire aim place) found = acquire_calls aim place found
-  every_call (InRelease releasing place) found = release_calls releasing place found
-  every_call (InCells place) found = cells_call place found
-  every_call (InWait wait place) found = wait_calls wait place found
-  every_call (InSignal waking k place) found = signal_calls waking k place found
-  every_call (InShow place) found = show_calls place found
-
--- Who acquires as woken was called.
+-- Who acquires as woken was woken before, or found its flag cleared by a wake from the lock list.
 pub woken_was_called : (C : Type 0) (N : ℕ) (walk : Walk C) (found : Found) → was_woken (walk_after (got_of N walk found)) ≡ true → (was_woken (Some walk) ≡ true) ⊎ FoundCalled walk found
-woken_was_called C N walk found = (every_call C N walk found).called
+woken_was_called C N walk found = (follows N walk found).woken

@@ -14,7 +14,7 @@ use Rattle.ns_word.specs.Prelude.{leave_of, leave_told, left_by, load_place, loo
 use Rattle.ns_word.specs.Prelude.{release_by, rest_or_look, row_after, scan_place, section_of, show_by, signal_by, standing_after, stands_at, taken_by, test_place, tries_of, unmet_by, variable_in, waiters_of, wake_of, want_acquiring, want_in_cells, want_leaving, want_of, want_queuing}
 use Rattle.ns_word.specs.Prelude.{want_releasing, want_showing, want_signaling, want_trying, want_waiting, woken_by, word_taken}
 use Rattle.ns_word.proofs.Leaving.{not_left}
-use Rattle.ns_word.proofs.Asked.{Asks, asks_on}
+use Rattle.ns_word.proofs.Follows.{follows, next_asked}
 use Rattle.ns_word.specs.declared.request.Request.TheVariants.{Release}
 use Rattle.ns_word.proofs.Views.{each_parts}
 use Rattle.ns_model.specs.declared.event.Exit.TheVariants as TheExit
@@ -27,7 +27,7 @@ module _ (C : Type 0) (N : ℕ) (truths : Truths C) (seat : ℕ) (row : List ℕ
   Comes request course (Done reply) held = Means truths seat row request course reply held
 
   -- with it, where the step leads
-  goes_as_asked : (request : Request C) (course : Course C N) (next : Next C) (held : Option (Held C N)) → Asks request next → Comes request course next held → CallGoes truths seat row request course next held
+  goes_as_asked : (request : Request C) (course : Course C N) (next : Next C) (held : Option (Held C N)) → next_asked request next ≡ request → Comes request course next held → CallGoes truths seat row request course next held
   goes_as_asked request course (On walk) held asked so_far = record { asked = asked; so_far = so_far }
   goes_as_asked request course (Idle walk) held asked so_far = record { asked = asked; so_far = so_far }
   goes_as_asked request course (Done reply) held asked means = means
@@ -615,7 +615,7 @@ takes_on C N truths seats history old new view found commits course step lawful 
     let same : commits ≡ [] → row_after history ≡ row = λ silent. ap (λ es. row_after es) (sym (ap (λ cs. history ++ cs) silent ∙ append-nil history)) in
     let stands = stands_by C N truths view.seat row seats history old view commits same lawful fits in
     let place = subst (λ w. PlaceFits truths w view.held) step.walks fits.place in
-    goes_as_asked C N truths view.seat row (asked_of step.walk) (course_after found commits course) (got_of N step.walk found) step.held (asks_on C N step.walk found)
+    goes_as_asked C N truths view.seat row (asked_of step.walk) (course_after found commits course) (got_of N step.walk found) step.held (follows N step.walk found).asked
     (comes_on C N truths view.seat row (part_of old view.held view.owed) (part_of new step.held step.owed) commits course stands step.walk found step.effect place so_far)
 
 -- A call that begins has changed nothing.

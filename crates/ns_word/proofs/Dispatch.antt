@@ -26,7 +26,8 @@ use Rattle.ns_word.proofs.Owns.{long_eligible}
 use Rattle.ns_word.proofs.CountsIn.{counts_somewhere, cvs_left, out_of_cvs, out_of_lock}
 use Rattle.ns_word.proofs.Ranges.{counts_once, lists_orderly}
 use Rattle.ns_word.proofs.Safes.{section, same_section}
-use Rattle.ns_word.proofs.Seen.{packable, found_fits, seen_next}
+use Rattle.ns_word.proofs.Follows.{follows}
+use Rattle.ns_word.proofs.Seen.{packable, found_fits}
 use Rattle.ns_word.proofs.Scans.{some_wakes}
 use Rattle.ns_word.proofs.Keeps.{Same, Stays, none_of, rests, acquires, stores, releases, takes, arms, enqueues, withdraws, returns, leaves as leaves_variable, scans, waits, waits_on, waits_for, wakes, sees, wakes_waiters}
 use Rattle.ns_word.proofs.Leads.{Leads, none_settled, shown_settled, try_leads, acquire_leads, acquired_leads, test_leads, met_leads, shown_section, queue_leads, leave_leads, rest_leads, pay_waiting_leads, release_leads, scan_leads, taken_leads, quiet_leads, judged_leads, pay_leads, calm_release}
@@ -641,5 +642,5 @@ keeps {C} {N} truths some quiet seats h old view found new commits few step p =
     (record { word = new.word; row = new.row; lists = new.lists; flags = new.flags; held = step.held; owed = step.owed }) commits few some quiet step.effect (groups_of truths seats h _ here) in
     let seen = every_parts (λ (v : SeatView C N). HasNumber (word_seen v.walk)) step.front (view_of view.seat (Some step.walk) view.held view.owed) step.back here.words_seen in
     let found_has = found_fits truths view.seat (want_of step.walk) _ found _ commits (packable truths seats h old few p) step.effect in
-    let seen_after = every_join (λ (v : SeatView C N). HasNumber (word_seen v.walk)) step.front (view_of view.seat (walk_after (got_of N step.walk found)) step.held step.owed) step.back seen.0 (seen_next C N step.walk found found_has seen.1) seen.2 in
+    let seen_after = every_join (λ (v : SeatView C N). HasNumber (word_seen v.walk)) step.front (view_of view.seat (walk_after (got_of N step.walk found)) step.held step.owed) step.back seen.0 ((follows N step.walk found).word found_has seen.1) seen.2 in
     subst (λ views. IsLawful truths seats (h ++ commits) (record { word = new.word; row = new.row; lists = new.lists; flags = new.flags; views = views })) (sym step.becomes) (lawful_by truths seats (h ++ commits) _ after_all seen_after)

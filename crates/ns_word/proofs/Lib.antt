@@ -11,6 +11,7 @@ pub mod Dispatch
 pub mod Enters
 pub mod Finds
 pub mod Firsts
+pub mod Follows
 pub mod Groups
 pub mod Hands
 pub mod Homes
