@@ -4,9 +4,9 @@ use Rattle.ns_word.specs.Prelude.{AcquireExchange, AcquireLoad, ActFits, AreApar
 use Rattle.ns_word.specs.Prelude.{IsInRange, IsLawful, IsUnmet, Leave, LeaveLoad, Load, LoadToScan, LockState, LookIn, LookOut, OnCondition, OnVariables, Owed, OwesOne, Pay, PayInWait, PayTheWoken, PlaceFits, Queue, QueueToWait, QuietCells, QuietLast, ReleaseExchange, ReleaseLoad, ReturnShown}
 use Rattle.ns_word.specs.Prelude.{ScanAndRelease, ScanCells, SeatView, SetLoad, SetStore, ShowLoad, SignalLoad, Subject, Take, TakeToLeave, TakeToQueue, TakeToScan, TakeToShow, TakeToWake, TestCells, TestLast, Truths, TryAcquire, TryLoad, ViewFits, Wait, WaitFits, WaitPlace, WakeAndReturn, Walk}
 use Rattle.ns_word.specs.Prelude.{awaits, has_some, judge_of, part_of, pays, standing_after, times, times_among, walk_at, want_of, want_waiting}
+use Rattle.ns_word.specs.Prelude.{Tests, Visit}
 use Rattle.ns_word.proofs.Views.{walk_here, apart_parts, each_parts}
 use Rattle.ns_word.proofs.Keeps.{none_of}
-use Rattle.ns_word.proofs.Leads.{tests_some}
 use Rattle.ns_word.proofs.Ranges.{else_not, owed_below, readers_fewer}
 
 -- ---- the list of a wait is one that there is
@@ -58,13 +58,18 @@ module _ {C : Type 0} {N : ℕ} (truths : Truths C) (seats : ℕ) (few : seats �
       let one : times_among x.seat view.owed ≡ 1 + times_among x.seat xs = ap (times_among x.seat) e ∙ rw (eq-eqb x.seat x.seat refl) refl in
       owed_below truths seats h s p.waiters_placed p.one_history.each front view back split x.seat (omega (arith, one))
 
+  -- a section is in hand where a condition is tested
+  tests_some : (wait : Wait C) (visit : Visit) (held : Option (Held C N)) → Tests truths wait visit held → IsSome held
+  tests_some wait visit None p = absurd p
+  tests_some wait visit (Some held) p = refl
+
   judges : (on : Subject C) (i : ℕ) → IsSome view.held → i < N → ActFits truths seats view.seat (judge_of on i) (part_of s view.held view.owed)
   judges (OnCondition c) i some less = (some, less)
   judges (OnVariables variables) i some less = less
 
   waiting_at : (wait : Wait C) (at_place : WaitPlace) → view.walk ≡ Some (InWait wait at_place) → WaitFits truths wait at_place view.held → has_some view.owed ≡ pays (Some (InWait wait at_place)) → ActFits truths seats view.seat (want_waiting wait at_place) (part_of s view.held view.owed)
   waiting_at wait (TestCells visit i) e place owes = omega (arith, place.1)
-  waiting_at wait (TestLast visit i) e place owes = judges wait.on i (tests_some truths wait visit view.held place.0) (omega (arith, place.1))
+  waiting_at wait (TestLast visit i) e place owes = judges wait.on i (tests_some wait visit view.held place.0) (omega (arith, place.1))
   waiting_at wait (InQueuing again LookIn) e place owes = tt
   waiting_at wait (InQueuing again Load) e place owes = tt
   waiting_at wait (InQueuing again (Take last)) e place owes = place.1

@@ -30,7 +30,7 @@ use Rattle.ns_word.proofs.Follows.{follows}
 use Rattle.ns_word.proofs.Seen.{packable, found_fits}
 use Rattle.ns_word.proofs.Scans.{some_wakes}
 use Rattle.ns_word.proofs.Keeps.{Same, Stays, none_of, rests, acquires, stores, releases, takes, arms, enqueues, withdraws, returns, leaves as leaves_variable, scans, waits, waits_on, waits_for, wakes, sees, wakes_waiters}
-use Rattle.ns_word.proofs.Leads.{Leads, none_settled, shown_settled, try_leads, acquire_leads, acquired_leads, test_leads, met_leads, shown_section, queue_leads, leave_leads, rest_leads, pay_waiting_leads, release_leads, scan_leads, taken_leads, quiet_leads, judged_leads, pay_leads, calm_release}
+use Rattle.ns_word.proofs.Leads.{Leads, leads_to, none_settled, shown_settled, try_leads, acquire_leads, acquired_leads, test_leads, met_leads, shown_section, queue_leads, leave_leads, rest_leads, pay_waiting_leads, release_leads, scan_leads, taken_leads, quiet_leads, judged_leads, pay_leads, calm_release}
 use Rattle.ns_word.proofs.Leads.{load_leads, armed_leads, signal_leads, pay_woken_leads, show_leads}
 
 -- whether one that leaves found itself in the list
@@ -156,7 +156,7 @@ module _ {C : Type 0} {N : ℕ} (truths : Truths C) (seats : ℕ) (h : List (Eve
   finds : (walk : Walk C) (next : Option (Walk C)) (part part' : Part C N) (commits : List (Event C N)) → part' ≡ part → commits ≡ [] → pays (Some walk) ≡ false → Leads truths (Some walk) next part.held →
       Groups truths seats h (at part (Some walk)) → Kept commits part' next
   finds walk next part part' commits e f idle fits p =
-      moved next part part' [] commits e f (none_more (at part next) (rests truths seats h front who (Some walk) next back part.word part.row part.lists part.flags part.held part.held part.owed idle fits.0 fits.1 fits.2 fits.3 (same_section (Some walk) next part.held fits.4) p))
+      moved next part part' [] commits e f (none_more (at part next) (rests truths seats h front who (Some walk) next back part.word part.row part.lists part.flags part.held part.held part.owed idle fits.place fits.same fits.queuing fits.way (same_section (Some walk) next part.held fits.stays) p))
 
   -- the part with another section
   with_held : (walk : Walk C) (part : Part C N) (held : Option (Held C N)) → part.held ≡ held → Groups truths seats h (at part (Some walk)) → Groups truths seats h (at (record part { held = held }) (Some walk))
@@ -389,29 +389,29 @@ module _ {C : Type 0} {N : ℕ} (truths : Truths C) (seats : ℕ) (h : List (Eve
       (place (InWait wait (TestCells visit i)) part p).0.2) p
   by_wait wait (TestLast visit i) found part next commits few some e p = tested wait.mode wait.on wait.limits visit i found part next commits e p
   -- it looks
-  by_wait wait (InQueuing again LookIn) (Looked None) part next commits few some e p = finds (InWait wait (InQueuing again LookIn)) _ part next commits e.1 e.2 refl ((((place (InWait wait (InQueuing again LookIn)) part p).0.0, tt), tt), (refl, refl, refl, refl), refl, λ flag n f. f, λ none. refl) p
+  by_wait wait (InQueuing again LookIn) (Looked None) part next commits few some e p = finds (InWait wait (InQueuing again LookIn)) _ part next commits e.1 e.2 refl (leads_to truths refl (((place (InWait wait (InQueuing again LookIn)) part p).0.0, tt), tt)) p
   by_wait wait (InQueuing again LookIn) (Looked (Some cause)) part next commits few some e p =
       moved None (record part { held = held_after again (Some cause) part.held }) next [] commits e.1 e.2
       (none_more _ (rests truths seats h front who (Some (InWait wait (InQueuing again LookIn))) None back part.word part.row part.lists part.flags part.held
       (held_after again (Some cause) part.held) part.owed refl (shown_settled truths wait again cause part.held (place (InWait wait (InQueuing again LookIn)) part p).0.0)
       (refl, refl, refl, refl) refl (λ flag n f. f)
       (shown_section truths wait again cause part.held (place (InWait wait (InQueuing again LookIn)) part p).0.0) p))
-  by_wait wait LookOut (Looked None) part next commits few some e p = finds (InWait wait LookOut) _ part next commits e.1 e.2 refl (place (InWait wait LookOut) part p, (refl, refl, refl, refl), refl, λ flag n f. f, λ none. refl) p
+  by_wait wait LookOut (Looked None) part next commits few some e p = finds (InWait wait LookOut) _ part next commits e.1 e.2 refl (leads_to truths refl (place (InWait wait LookOut) part p)) p
   by_wait wait LookOut (Looked (Some cause)) part next commits few some e p =
       let here = (place (InWait wait LookOut) part p).0 in
-      finds (InWait wait LookOut) _ part next commits e.1 e.2 refl (((here.0, tt, here.1), e.0), (refl, refl, refl, refl), refl, λ flag n f. f, λ none. refl) p
+      finds (InWait wait LookOut) _ part next commits e.1 e.2 refl (leads_to truths refl ((here.0, tt, here.1), e.0)) p
   -- it sees the word
   by_wait wait (InQueuing again Load) (Saw word) part next commits few some e p = finds (InWait wait (InQueuing again Load)) _ part next commits e.1 e.2 refl (queue_leads truths wait again word part.held (place (InWait wait (InQueuing again Load)) part p).0.0) p
   by_wait wait (InQueuing again (Take last)) (Saw word) part next commits few some e p = finds (InWait wait (InQueuing again (Take last))) _ part next commits e.2 e.3 refl (queue_leads truths wait again word part.held (place (InWait wait (InQueuing again (Take last))) part p).0.0) p
   by_wait wait (InQueuing again (QueueToWait last)) (Saw word) part next commits few some e p = finds (InWait wait (InQueuing again (QueueToWait last))) _ part next commits e.2 e.3 refl
-      (place (InWait wait (InQueuing again (QueueToWait last))) part p, (refl, refl, refl, refl), refl, λ flag n f. f, λ none. refl) p
+      (leads_to truths refl (place (InWait wait (InQueuing again (QueueToWait last))) part p)) p
   by_wait wait (InLeaving cause LeaveLoad) (Saw word) part next commits few some e p = finds (InWait wait (InLeaving cause LeaveLoad)) _ part next commits e.1 e.2 refl
       (leave_leads truths wait cause word part.held (place (InWait wait (InLeaving cause LeaveLoad)) part p).0.0 (place (InWait wait (InLeaving cause LeaveLoad)) part p).0.2
       (place (InWait wait (InLeaving cause LeaveLoad)) part p).1) p
   by_wait wait (InLeaving cause (TakeToLeave last)) (Saw word) part next commits few some e p = finds (InWait wait (InLeaving cause (TakeToLeave last))) _ part next commits e.2 e.3 refl
       (leave_leads truths wait cause word part.held (place (InWait wait (InLeaving cause (TakeToLeave last))) part p).0.0
       (place (InWait wait (InLeaving cause (TakeToLeave last))) part p).0.2 (place (InWait wait (InLeaving cause (TakeToLeave last))) part p).1) p
-  by_wait wait (InLeaving cause (Leave last)) (Saw word) part next commits few some e p = finds (InWait wait (InLeaving cause (Leave last))) _ part next commits e.2 e.3 refl (place (InWait wait (InLeaving cause (Leave last))) part p, (refl, refl, refl, refl), refl, λ flag n f. f, λ none. refl) p
+  by_wait wait (InLeaving cause (Leave last)) (Saw word) part next commits few some e p = finds (InWait wait (InLeaving cause (Leave last))) _ part next commits e.2 e.3 refl (leads_to truths refl (place (InWait wait (InLeaving cause (Leave last))) part p)) p
   -- it takes the queues, and sets its flag
   by_wait wait (InQueuing again (Take last)) Made part next commits few some e p = wait_took wait (InQueuing again (Take last))
       (InQueuing again (ArmToWait (word_taken ToChange last))) last part next commits e.0 e.1 e.2 e.3 refl
@@ -423,7 +423,7 @@ module _ {C : Type 0} {N : ℕ} (truths : Truths C) (seats : ℕ) (h : List (Eve
       let walk = InWait wait (InQueuing again (ArmToWait last)) in
       let to = armed_leads truths wait wait.on again last part.held (place walk part p).0.0 in
       moved (Some (InWait wait (InQueuing again (armed_place N wait.on last)))) (record part { flags = flags_with part.flags who 1 }) next [] commits e.0 e.1
-      (none_more _ (arms truths seats h front who (Some walk) (Some (InWait wait (InQueuing again (armed_place N wait.on last)))) back part.word part.row part.lists part.flags part.held part.owed refl to.0 to.1.0 to.1.1 refl to.1.2 to.2 (λ flag n. refl) to.4 p))
+      (none_more _ (arms truths seats h front who (Some walk) (Some (InWait wait (InQueuing again (armed_place N wait.on last)))) back part.word part.row part.lists part.flags part.held part.owed refl to.place to.same.0 to.same.1 refl to.same.2 to.queuing (λ flag n. refl) to.stays p))
   by_wait wait (InQueuing again (LoadToScan last i)) (Cell v) part next commits few some e p =
       finds (InWait wait (InQueuing again (LoadToScan last i))) _ part next commits e.1 e.2 refl (load_leads truths wait again last part.held (i + 1) (place (InWait wait (InQueuing again (LoadToScan last i))) part p).0.0) p
   -- it queues, and leaves its section
@@ -444,7 +444,7 @@ module _ {C : Type 0} {N : ℕ} (truths : Truths C) (seats : ℕ) (h : List (Eve
   by_wait wait (InLeaving cause AwaitWakeToLeave) (Flag v) part next commits few some e p =
       let here = place (InWait wait (InLeaving cause AwaitWakeToLeave)) part p in
       checks (InWait wait (InLeaving cause AwaitWakeToLeave)) (ForWait wait (outcome_taken wait.on cause v)) 0 (Idle (InWait wait (InLeaving cause AwaitWakeToLeave))) v (eqb v 1) part next commits refl e.0 e.1 e.2 here.0.0 refl refl refl refl
-      (λ ph told. let is = taken_so wait.on wait.mode cause v ph told in (is.0, (is.1, taken_given wait.on wait.limits cause v here.1))) (here, (refl, refl, refl, refl), refl, λ flag n f. f, λ none. refl) p
+      (λ ph told. let is = taken_so wait.on wait.mode cause v ph told in (is.0, (is.1, taken_given wait.on wait.limits cause v here.1))) (leads_to truths refl here) p
   -- it leaves
   by_wait wait (InLeaving cause (Leave last)) (Left stood) part next commits few some e p =
       let here = place (InWait wait (InLeaving cause (Leave last))) part p in
@@ -474,7 +474,7 @@ module _ {C : Type 0} {N : ℕ} (truths : Truths C) (seats : ℕ) (h : List (Eve
       let here = place (InSignal waking k (TakeToWake last)) part p in
       finds (InSignal waking k (TakeToWake last)) _ part next commits e.2 e.3 refl (signal_leads truths waking k word part.held here.1 here.2) p
   by_signal waking k (WakeAndReturn last) (Saw word) part next commits few e p =
-      finds (InSignal waking k (WakeAndReturn last)) _ part next commits e.2 e.3 refl (place (InSignal waking k (WakeAndReturn last)) part p, (refl, refl, refl, refl), refl, λ flag n f. f, λ none. refl) p
+      finds (InSignal waking k (WakeAndReturn last)) _ part next commits e.2 e.3 refl (leads_to truths refl (place (InSignal waking k (WakeAndReturn last)) part p)) p
   by_signal waking k (TakeToWake last) Made part next commits few e p =
       let walk = InSignal waking k (TakeToWake last) in
       let to = InSignal waking k (WakeAndReturn (word_taken ToChange last)) in
@@ -503,7 +503,7 @@ module _ {C : Type 0} {N : ℕ} (truths : Truths C) (seats : ℕ) (h : List (Eve
   by_show (TakeToShow last) (Saw word) part next commits e p =
       finds (InShow (TakeToShow last)) _ part next commits e.2 e.3 refl (show_leads truths word part.held (place (InShow (TakeToShow last)) part p).1) p
   by_show (ReturnShown last) (Saw word) part next commits e p =
-      finds (InShow (ReturnShown last)) _ part next commits e.2 e.3 refl (place (InShow (ReturnShown last)) part p, (refl, refl, refl, refl), refl, λ flag n f. f, λ none. refl) p
+      finds (InShow (ReturnShown last)) _ part next commits e.2 e.3 refl (leads_to truths refl (place (InShow (ReturnShown last)) part p)) p
   by_show (TakeToShow last) Made part next commits e p =
       let walk = InShow (TakeToShow last) in
       let to = InShow (ReturnShown (word_taken ToChange last)) in
@@ -520,9 +520,9 @@ module _ {C : Type 0} {N : ℕ} (truths : Truths C) (seats : ℕ) (h : List (Eve
   by_walk : (walk : Walk C) (found : Found) (part next : Part C N) (commits : List (Event C N)) → seats ≤ 64 → 0 < N → QuietKeeps N truths →
       Effect truths who (want_of walk) part found next commits → Groups truths seats h (at part (Some walk)) → Kept commits next (walk_after (got_of N walk found))
   -- found and no more
-  by_walk (InTry mode TryLoad) (Saw word) part next commits few some quiet e p = finds (InTry mode TryLoad) _ part next commits e.1 e.2 refl (try_leads truths mode word part.held (may_acquire mode AsFresh word) refl (place (InTry mode TryLoad) part p).0) p
+  by_walk (InTry mode TryLoad) (Saw word) part next commits few some quiet e p = finds (InTry mode TryLoad) _ part next commits e.1 e.2 refl (try_leads truths mode word part.held (place (InTry mode TryLoad) part p).0) p
   by_walk (InTry mode (TryAcquire last)) (Saw word) part next commits few some quiet e p = finds (InTry mode (TryAcquire last)) _ part next commits e.2 e.3 refl
-      (none_settled truths part.held (place (InTry mode (TryAcquire last)) part p).0, (refl, refl, refl, refl), refl, λ flag n f. f, λ none. refl) p
+      (leads_to truths refl (none_settled truths part.held (place (InTry mode (TryAcquire last)) part p).0)) p
   by_walk (InAcquire aim (AcquireLoad arrival)) (Saw word) part next commits few some quiet e p = finds (InAcquire aim (AcquireLoad arrival)) _ part next commits e.1 e.2 refl
       (acquire_leads truths aim arrival word part.held (place (InAcquire aim (AcquireLoad arrival)) part p).0 (place (InAcquire aim (AcquireLoad arrival)) part p).2) p
   by_walk (InAcquire aim (AcquireExchange arrival last)) (Saw word) part next commits few some quiet e p = finds
@@ -530,14 +530,14 @@ module _ {C : Type 0} {N : ℕ} (truths : Truths C) (seats : ℕ) (h : List (Eve
       (place (InAcquire aim (AcquireExchange arrival last)) part p).0 (place (InAcquire aim (AcquireExchange arrival last)) part p).2) p
   by_walk (InAcquire aim (TakeToQueue arrival last)) (Saw word) part next commits few some quiet e p = finds (InAcquire aim (TakeToQueue arrival last)) _ part next commits e.2 e.3 refl
       (acquire_leads truths aim arrival word part.held (place (InAcquire aim (TakeToQueue arrival last)) part p).0 (place (InAcquire aim (TakeToQueue arrival last)) part p).2) p
-  by_walk (InAcquire aim (Queue arrival last)) (Saw word) part next commits few some quiet e p = finds (InAcquire aim (Queue arrival last)) _ part next commits e.2 e.3 refl (place (InAcquire aim (Queue arrival last)) part p, (refl, refl, refl, refl), refl, λ flag n f. f, λ none. refl) p
+  by_walk (InAcquire aim (Queue arrival last)) (Saw word) part next commits few some quiet e p = finds (InAcquire aim (Queue arrival last)) _ part next commits e.2 e.3 refl (leads_to truths refl (place (InAcquire aim (Queue arrival last)) part p)) p
   by_walk (InRelease releasing ReleaseLoad) (Saw word) part next commits few some quiet e p = finds (InRelease releasing ReleaseLoad) _ part next commits e.1 e.2 refl (release_leads truths releasing word part.held (place (InRelease releasing ReleaseLoad) part p)) p
   by_walk (InRelease releasing (ReleaseExchange last)) (Saw word) part next commits few some quiet e p = finds (InRelease releasing (ReleaseExchange last)) _ part next commits e.2 e.3 refl (release_leads truths releasing word part.held (place (InRelease releasing (ReleaseExchange last)) part p).0) p
   by_walk (InRelease releasing (TakeToScan last)) (Saw word) part next commits few some quiet e p = finds (InRelease releasing (TakeToScan last)) _ part next commits e.2 e.3 refl (release_leads truths releasing word part.held (place (InRelease releasing (TakeToScan last)) part p).0) p
   by_walk (InRelease releasing (ScanAndRelease last)) (Saw word) part next commits few some quiet e p = finds (InRelease releasing (ScanAndRelease last)) _ part next commits e.2 e.3 refl
-      (place (InRelease releasing (ScanAndRelease last)) part p, (refl, refl, refl, refl), refl, λ flag n f. f, λ none. refl) p
-  by_walk (InCells (GetLoad i)) (Cell v) part next commits few some quiet e p = finds (InCells (GetLoad i)) _ part next commits e.1 e.2 refl ((place (InCells (GetLoad i)) part p).1, (refl, refl, refl, refl), refl, λ flag n f. f, λ none. refl) p
-  by_walk (InCells (SetLoad i v)) (Cell w) part next commits few some quiet e p = finds (InCells (SetLoad i v)) _ part next commits e.1 e.2 refl (place (InCells (SetLoad i v)) part p, (refl, refl, refl, refl), refl, λ flag n f. f, λ none. refl) p
+      (leads_to truths refl (place (InRelease releasing (ScanAndRelease last)) part p)) p
+  by_walk (InCells (GetLoad i)) (Cell v) part next commits few some quiet e p = finds (InCells (GetLoad i)) _ part next commits e.1 e.2 refl (leads_to truths refl ((place (InCells (GetLoad i)) part p).1)) p
+  by_walk (InCells (SetLoad i v)) (Cell w) part next commits few some quiet e p = finds (InCells (SetLoad i v)) _ part next commits e.1 e.2 refl (leads_to truths refl (place (InCells (SetLoad i v)) part p)) p
   by_walk (InRelease releasing (ScanCells last i)) (Cell v) part next commits few some quiet e p = finds (InRelease releasing (ScanCells last i)) _ part next commits e.1 e.2 refl (scan_leads truths releasing last part.held (i + 1) (place (InRelease releasing (ScanCells last i)) part p).0) p
   by_walk (InCells (QuietCells judging i)) (Cell v) part next commits few some quiet e p =
       let at_cell = place (InCells (QuietCells judging i)) part p in
@@ -581,10 +581,10 @@ module _ {C : Type 0} {N : ℕ} (truths : Truths C) (seats : ℕ) (h : List (Eve
       (long_eligible (λ c. truths.holds c (standing_after h).row) part.lists.lock _ p.own) (λ flag n w f. absurd (not_way (is_woken arrival) false false w refl f)) known) p
   by_walk (InRelease releasing (TakeToScan last)) Made part next commits few some quiet e p =
       let fits = taken_leads truths releasing (word_taken ToChange last) part.held last.cond (place (InRelease releasing (TakeToScan last)) part p).0 in
-      took (InRelease releasing (TakeToScan last)) _ ToChange last part next commits e.0 e.1 e.2 e.3 refl fits.0 fits.1.0 refl fits.1.1 fits.1.2 fits.1.3 fits.4
+      took (InRelease releasing (TakeToScan last)) _ ToChange last part next commits e.0 e.1 e.2 e.3 refl fits.place fits.same.0 refl fits.same.1 fits.same.2 fits.same.3 fits.stays
       (λ apart homed known. known_rests truths.holds front who (Some (InRelease releasing (TakeToScan last))) part.held part.owed
       (walk_after (got_of N (InRelease releasing (TakeToScan last)) Made)) part.held part.owed back part.word (word_taken ToChange part.word)
-      (standing_after h).row part.lists.lock part.flags apart (λ seat. refl) refl refl refl refl refl fits.2 fits.3 known) p
+      (standing_after h).row part.lists.lock part.flags apart (λ seat. refl) refl refl refl refl refl fits.queuing fits.way known) p
   -- a flag is set, a seat queues
   by_walk (InAcquire aim (Arm arrival last)) Made part next commits few some quiet e p =
       moved (Some (InAcquire aim (Queue arrival last))) (record part { flags = flags_with part.flags who 1 }) next [] commits e.0 e.1
@@ -603,7 +603,7 @@ module _ {C : Type 0} {N : ℕ} (truths : Truths C) (seats : ℕ) (h : List (Eve
   by_walk (InAcquire aim (Queue arrival last)) (Woke owes) part next commits few some quiet e p = let never : Made ≡ Woke owes = e.0 in absurd (cc)
   by_walk (InAcquire aim (AwaitWake tries)) (Flag v) part next commits few some quiet e p =
       let here = place (InAcquire aim (AwaitWake tries)) part p in
-      checks (InAcquire aim (AwaitWake tries)) aim tries (Idle (InAcquire aim (AwaitWake tries))) v (eqb v 1) part next commits refl e.0 e.1 e.2 here.0 refl refl refl refl (λ ph told. (λ is. is, here.2)) (here, (refl, refl, refl, refl), refl, λ flag n f. f, λ none. refl) p
+      checks (InAcquire aim (AwaitWake tries)) aim tries (Idle (InAcquire aim (AwaitWake tries))) v (eqb v 1) part next commits refl e.0 e.1 e.2 here.0 refl refl refl refl (λ ph told. (λ is. is, here.2)) (leads_to truths refl here) p
   -- a release with a scan
   by_walk (InRelease releasing (ScanAndRelease last)) (Scanned owes tests) part next commits few some quiet e p =
       let held = e.0 in

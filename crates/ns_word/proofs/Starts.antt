@@ -1,5 +1,5 @@
 -- A fresh lock is lawful, and so is one where a call begins.
-use Rattle.std.proofs.Common.{◌≡◌, ℕ, Bool, zero, suc, ◌+◌, ◌-◌, ◌<◌, ◌≤◌, true, false, cond, eqb, ltb, List, [], ◌∷◌, ◌++◌, Option, None, Some, refl, sym, subst, replicate, arith}
+use Rattle.std.proofs.Common.{◌≡◌, ℕ, Bool, zero, suc, ◌+◌, ◌-◌, ◌<◌, ◌≤◌, true, false, cond, eqb, ltb, List, [], ◌∷◌, ◌++◌, Option, None, Some, refl, ap, sym, subst, replicate, arith}
 use Rattle.std.proofs.lemmas.List.{length-replicate}
 use Rattle.std.proofs.lemmas.Bool.{both_ways, ltb-false}
 use Rattle.ns_word.specs.Prelude.{AcquireLoad, AreApart, Begins, CanWait, Cv, EachFits, Event, Every, ForLock, HasNumber, Held, InAcquire, InCells, InQueuing, InRelease, InShow, InSignal, InTry, InWait, IsFirst, IsForVariables, IsLawful, Judging, Load, LockState, NoneIs, OnCondition, OnEntry}
@@ -12,7 +12,7 @@ use Rattle.ns_word.proofs.Groups.{groups_of, lawful_by}
 use Rattle.ns_word.proofs.Views.{view_of}
 use Rattle.ns_word.proofs.Safes.{same_section}
 use Rattle.ns_word.proofs.Keeps.{rests}
-use Rattle.ns_word.proofs.Leads.{Leads}
+use Rattle.ns_word.proofs.Leads.{Leads, leads_as, leads_to, tags_of}
 
 module _ (C : Type 0) (N : ℕ) where
   abbrev fresh : ℕ → ℕ → List (SeatView C N)
@@ -131,16 +131,16 @@ wait_is_first N wait = first_is_for N wait.on wait refl
 module _ {C : Type 0} {N : ℕ} (truths : Truths C) (seats : ℕ) (h : List (Event C N)) where
   -- A first place tells nothing that no place doesn't, but that a wait begins with its section in hand.
   first_place : (walk : Walk C) (held : Option (Held C N)) → IsFirst N walk → PlaceFits truths (Some walk) held → Leads truths None (Some walk) held
-  first_place (InTry mode TryLoad) held e p = (p, (refl, refl, refl, refl), refl, λ flag n f. absurd (cc), λ none. refl)
-  first_place (InAcquire (ForLock mode) (AcquireLoad arrival)) held e p = (p, (refl, refl, refl, refl), refl, λ flag n f. absurd (cc), λ none. refl)
-  first_place (InRelease releasing ReleaseLoad) held e p = (p, (refl, refl, refl, refl), refl, λ flag n f. absurd (cc), λ none. refl)
-  first_place (InCells place) held e p = (p, (refl, refl, refl, refl), refl, λ flag n f. absurd (cc), λ none. refl)
-  first_place (InWait wait (TestCells OnEntry i)) held e p = (p, (refl, refl, refl, refl), refl, λ flag n f. absurd (cc), λ none. absurd (subst (λ x. Tests truths wait OnEntry x) none p.0.0))
-  first_place (InWait wait (TestLast OnEntry i)) held e p = (p, (refl, refl, refl, refl), refl, λ flag n f. absurd (cc), λ none. absurd (subst (λ x. Tests truths wait OnEntry x) none p.0.0))
-  first_place (InWait wait (InQueuing false Load)) held e p = (p, (refl, refl, refl, refl), refl, λ flag n f. absurd (cc), λ none. absurd (subst (λ x. CanWait truths wait false x) none p.0.0))
+  first_place (InTry mode TryLoad) held e p = leads_to truths refl p
+  first_place (InAcquire (ForLock mode) (AcquireLoad arrival)) held e p = leads_to truths (ap (λ a. tags_of (Some (InAcquire (ForLock mode) (AcquireLoad a)))) e) p
+  first_place (InRelease releasing ReleaseLoad) held e p = leads_to truths refl p
+  first_place (InCells place) held e p = leads_to truths refl p
+  first_place (InWait wait (TestCells OnEntry i)) held e p = leads_as truths _ refl (λ none. absurd (subst (λ x. Tests truths wait OnEntry x) none p.0.0)) p
+  first_place (InWait wait (TestLast OnEntry i)) held e p = leads_as truths _ refl (λ none. absurd (subst (λ x. Tests truths wait OnEntry x) none p.0.0)) p
+  first_place (InWait wait (InQueuing false Load)) held e p = leads_as truths _ refl (λ none. absurd (subst (λ x. CanWait truths wait false x) none p.0.0)) p
   first_place (InWait wait (InQueuing true Load)) held e p = let never : true ≡ false = e.0 in absurd (cc)
-  first_place (InSignal waking k SignalLoad) held e p = (p, (refl, refl, refl, refl), refl, λ flag n f. absurd (cc), λ none. refl)
-  first_place (InShow ShowLoad) held e p = (p, (refl, refl, refl, refl), refl, λ flag n f. absurd (cc), λ none. refl)
+  first_place (InSignal waking k SignalLoad) held e p = leads_to truths refl p
+  first_place (InShow ShowLoad) held e p = leads_to truths refl p
   first_place _ held e p = absurd e
 
   pub begins : (old : LockState C N) (view : SeatView C N) (walk : Walk C) (new : LockState C N) → Begins truths old view walk new → IsLawful truths seats h old → IsLawful truths seats h new
@@ -148,7 +148,7 @@ module _ {C : Type 0} {N : ℕ} (truths : Truths C) (seats : ℕ) (h : List (Eve
       let start = subst (λ views. IsLawful truths seats h (record { word = old.word; row = old.row; lists = old.lists; flags = old.flags; views = views })) b.was p in
       let here = subst (λ w. IsLawful truths seats h (record { word = old.word; row = old.row; lists = old.lists; flags = old.flags; views = b.front ++ view_of view.seat w view.held view.owed ∷ b.back })) b.over start in
       let leads = first_place walk view.held b.first b.fits in
-      let moved = rests truths seats h b.front view.seat None (Some walk) b.back old.word old.row old.lists old.flags view.held view.held view.owed refl leads.0 leads.1 leads.2 leads.3 (same_section None (Some walk) view.held leads.4) (groups_of truths seats h _ here) in
+      let moved = rests truths seats h b.front view.seat None (Some walk) b.back old.word old.row old.lists old.flags view.held view.held view.owed refl leads.place leads.same leads.queuing leads.way (same_section None (Some walk) view.held leads.stays) (groups_of truths seats h _ here) in
       let parts = every_parts (λ (v : SeatView C N). HasNumber (word_seen v.walk)) b.front (view_of view.seat None view.held view.owed) b.back here.words_seen in
       let seen = every_join (λ (v : SeatView C N). HasNumber (word_seen v.walk)) b.front (view_of view.seat (Some walk) view.held view.owed) b.back parts.0 (subst HasNumber (sym (first_is_bare N walk b.first).unseen) tt) parts.2 in
       subst (λ s. IsLawful truths seats h s) (sym b.becomes) (lawful_by truths seats h _ moved seen)
