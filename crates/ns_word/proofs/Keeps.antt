@@ -28,7 +28,7 @@ use Rattle.ns_word.proofs.Scans.{calls_tell, tells_clear, tells_few, tells_from,
 use Rattle.ns_word.proofs.Enters.{counts_entered, entered_at, once_entered}
 use Rattle.ns_word.proofs.Leaving.{left_event, left_next_here, left_next_there, left_row}
 use Rattle.ns_word.proofs.Homes.{at_home, away, back_home}
-use Rattle.ns_word.proofs.Safes.{section, SameSection, same_section, unchanged, unchanged_by, woken, left_variables, acquired_write, acquired_read, stored, released, dropped, left_by}
+use Rattle.ns_word.proofs.Safes.{section, SameSection, same_section, unchanged, unchanged_by, woken, left_variables, Acquires, GivesUp, acquired, left_here, left_same, left_there, phases_here, phases_there, row_left, stored, released, dropped}
 
 -- the places tell the same
 abbrev pub Same : {C : Type 0} → Option (Walk C) → Option (Walk C) → Type 0
@@ -50,12 +50,6 @@ Stays walk walk' held = held ≡ None → phase_by walk' ≡ phase_by walk
 abbrev pub SameHolders : Word → Word → Type 0
 SameHolders word word' = (word'.write ≡ word.write) × (word'.readers ≡ word.readers)
 
-open_write : (arrival : Arrival) (word : Word) → may_acquire Write arrival word ≡ true → (word.write ≡ false) × (word.readers ≡ 0)
-open_write arrival word e = let parts = and_parts _ _ e in (not-true word.write parts.0, eqb-true word.readers 0 (and_parts (eqb word.readers 0) _ parts.1).0)
-
-open_read : (arrival : Arrival) (word : Word) → may_acquire Read arrival word ≡ true → word.write ≡ false
-open_read arrival word e = not-true word.write (and_parts _ _ e).0
-
 taken_holders : (taking : Taking) (word : Word) → SameHolders word (word_taken taking word)
 taken_holders ToChange word = (refl, refl)
 taken_holders (ToQueue mode arrival) word = (refl, refl)
@@ -68,25 +62,23 @@ released_queues : (releasing : Releasing) (word : Word) → ((word_released rele
 released_queues Writer word = (refl, refl)
 released_queues other word = (refl, refl)
 
-released_write : (releasing : Releasing) (word : Word) → mode_released releasing ≡ Write → (word_released releasing word).write ≡ false
-released_write Writer word e = refl
-released_write QuietWriter word e = refl
-released_write Reader word e = absurd (cc)
+-- what an acquire and a release make of the word
+acquired_queues : (mode : Mode) (arrival : Arrival) (word : Word) → ((word_acquired mode arrival word).spin ≡ word.spin) × (bits_in (word_acquired mode arrival word) ≡ bits_in word)
+acquired_queues Write arrival word = (refl, refl)
+acquired_queues Read arrival word = (refl, refl)
 
-kept_write : (releasing : Releasing) (word : Word) → mode_released releasing ≡ Read → (word_released releasing word).write ≡ word.write
-kept_write Writer word e = absurd (cc)
-kept_write QuietWriter word e = absurd (cc)
-kept_write Reader word e = refl
+acquired_holders : (mode : Mode) (arrival : Arrival) (word : Word) → may_acquire mode arrival word ≡ true → (word.write ≡ false) × Acquires mode word (word_acquired mode arrival word).write (word_acquired mode arrival word).readers
+acquired_holders Write arrival word e = let parts = and_parts _ _ e in (not-true word.write parts.0, (eqb-true word.readers 0 (and_parts (eqb word.readers 0) _ parts.1).0, refl, refl))
+acquired_holders Read arrival word e = let free = not-true word.write (and_parts _ _ e).0 in (free, (free, refl))
 
-kept_readers : (releasing : Releasing) (word : Word) → mode_released releasing ≡ Write → (word_released releasing word).readers ≡ word.readers
-kept_readers Writer word e = refl
-kept_readers QuietWriter word e = refl
-kept_readers Reader word e = absurd (cc)
+released_holders : (releasing : Releasing) (word : Word) → GivesUp (mode_released releasing) word (word_released releasing word).write (word_released releasing word).readers
+released_holders Writer word = (refl, refl)
+released_holders QuietWriter word = (refl, refl)
+released_holders Reader word = (refl, refl)
 
-released_readers : (releasing : Releasing) (word : Word) → mode_released releasing ≡ Read → (word_released releasing word).readers ≡ word.readers - 1
-released_readers Writer word e = absurd (cc)
-released_readers QuietWriter word e = absurd (cc)
-released_readers Reader word e = refl
+-- by a release in this mode
+gives_up : (releasing : Releasing) (mode : Mode) (word : Word) → mode_released releasing ≡ mode → GivesUp mode word (word_released releasing word).write (word_released releasing word).readers
+gives_up releasing mode word is = subst (λ m. GivesUp m word (word_released releasing word).write (word_released releasing word).readers) is (released_holders releasing word)
 
 -- what a scan owes tells that it was taken from the lock list
 calls_told : {C : Type 0} (walk' : Option (Walk C)) (ws : List (Waiter C)) → calls_from_lock walk' ≡ true → Every (Tells (calls_from_lock walk')) (called_of ws)
@@ -203,33 +195,20 @@ module _ {C : Type 0} {N : ℕ} (truths : Truths C) (seats : ℕ) (h : List (Eve
   pub acquires : (mode : Mode) (entry : Opening C) (arrival : Arrival) (word : Word) (row : List ℕ) (lists : Lists C) (flags : ℕ → ℕ) (owed : List Owed) → pays walk ≡ false → may_acquire mode arrival word ≡ true → ((ph : Phase C) → IsExpected (phase_by walk) ph → ph ≡ phase_before mode entry) →
       PlaceFits truths walk' (Some (section {C = C} {N = N} mode entry row row)) → Same walk walk' → is_queuing walk' ≡ is_queuing walk → ((flag n : ℕ) → is_woken arrival ≡ false → is_on_way walk flag n ≡ true → is_on_way walk' flag n ≡ true) →
       Groups truths seats h (st walk word row lists flags None owed) → Groups truths seats h (st walk' (word_acquired mode arrival word) row lists flags (Some (section mode entry row row)) owed)
-  acquires Write entry arrival word row lists flags owed idle may phase place same q o p =
+  acquires mode entry arrival word row lists flags owed idle may phase place same q o p =
       let fit = fits word row None owed p.safe in
       let apart = others word row None owed p.safe in
-      let free = open_write arrival word may in
-      let held' = Some (section {C = C} {N = N} Write entry row row) in
+      let holders = acquired_holders mode arrival word may in
+      let queues = acquired_queues mode arrival word in
+      let held' = Some (section {C = C} {N = N} mode entry row row) in
       record {
-        safe = acquired_write truths seats h front who walk owed walk' owed back word (word_acquired Write arrival word) row entry phase free.0 free.1 refl refl place (still_owes walk walk' owed idle same.0 fit.owes) p.safe;
-        homed = at_home front who walk None owed walk' held' owed back word (word_acquired Write arrival word) lists.lock refl refl same.1 p.homed;
+        safe = acquired truths seats h front who walk owed walk' owed back mode word (word_acquired mode arrival word) row entry phase holders.0 holders.1 place (still_owes walk walk' owed idle same.0 fit.owes) p.safe;
+        homed = at_home front who walk None owed walk' held' owed back word (word_acquired mode arrival word) lists.lock queues.0 queues.1 same.1 p.homed;
         placed = rested front who walk None owed walk' held' owed back lists flags apart refl (due same.2 (flags who)) (λ f. sym same.3 ∙ f) p.placed;
         own = own_same front who walk None owed walk' held' owed back lists.lock apart same.2 p.own;
         told = tell_same front who walk None owed walk' held' owed back (standing_after h).phases lists lists apart refl same.2 p.told;
         taken = taken_still None held' owed (standing_after h).phases flags lists.lock apart same.2 p.taken;
-        known = known_acquires truths.holds front who walk None owed walk' held' owed back Write arrival word (standing_after h).row lists.lock flags apart (calls word row None owed idle p.safe) q o p.known;
-      }
-  acquires Read entry arrival word row lists flags owed idle may phase place same q o p =
-      let fit = fits word row None owed p.safe in
-      let apart = others word row None owed p.safe in
-      let free = open_read arrival word may in
-      let held' = Some (section {C = C} {N = N} Read entry row row) in
-      record {
-        safe = acquired_read truths seats h front who walk owed walk' owed back word (word_acquired Read arrival word) row entry phase free free refl place (still_owes walk walk' owed idle same.0 fit.owes) p.safe;
-        homed = at_home front who walk None owed walk' held' owed back word (word_acquired Read arrival word) lists.lock refl refl same.1 p.homed;
-        placed = rested front who walk None owed walk' held' owed back lists flags apart refl (due same.2 (flags who)) (λ f. sym same.3 ∙ f) p.placed;
-        own = own_same front who walk None owed walk' held' owed back lists.lock apart same.2 p.own;
-        told = tell_same front who walk None owed walk' held' owed back (standing_after h).phases lists lists apart refl same.2 p.told;
-        taken = taken_still None held' owed (standing_after h).phases flags lists.lock apart same.2 p.taken;
-        known = known_acquires truths.holds front who walk None owed walk' held' owed back Read arrival word (standing_after h).row lists.lock flags apart (calls word row None owed idle p.safe) q o p.known;
+        known = known_acquires truths.holds front who walk None owed walk' held' owed back mode arrival word (standing_after h).row lists.lock flags apart (calls word row None owed idle p.safe) q o p.known;
       }
 
   -- a store into a cell
@@ -252,20 +231,6 @@ module _ {C : Type 0} {N : ℕ} (truths : Truths C) (seats : ℕ) (h : List (Eve
         known = known_rests truths.holds front who walk held owed walk' held' owed back word word (standing_after h).row lists.lock flags apart (calls word row held owed idle p.safe) refl refl refl refl refl q o p.known;
       }
 
-  -- the phases after a section of the seat
-  phases_there : (held : Held C N) (exit : Exit C) (seat : ℕ) → who ≢ seat → (standing_after (h ++ section_of truths.holds who held exit ∷ [])).phases seat ≡ (standing_after h).phases seat
-  phases_there held exit seat ne = ap (λ (s : Standing C). s.phases seat) (left_by truths seats h who held exit) ∙ rw (ne_eqb who seat ne) refl
-
-  phases_here : (held : Held C N) (exit : Exit C) → (standing_after (h ++ section_of truths.holds who held exit ∷ [])).phases who ≡ phase_after held.mode exit
-  phases_here held exit = ap (λ (s : Standing C). s.phases who) (left_by truths seats h who held exit) ∙ rw (eq-eqb who who refl) refl
-
-  -- the phases after the seat has left its variables
-  left_there : (variables : Variables) (seat : ℕ) → who ≢ seat → (standing_after (h ++ left_event who variables ∷ [])).phases seat ≡ (standing_after h).phases seat
-  left_there variables seat ne = ap (λ (s : Standing C). s.phases seat) (standing_from-append (first_standing N) h (left_event who variables ∷ [])) ∙ left_next_there C N who variables (standing_after h) seat ne
-
-  left_here : (variables : Variables) (mode : Mode) → (standing_after h).phases who ≡ Waiting variables mode → (standing_after (h ++ left_event who variables ∷ [])).phases who ≡ Left variables mode
-  left_here variables mode was = ap (λ (s : Standing C). s.phases who) (standing_from-append (first_standing N) h (left_event who variables ∷ [])) ∙ left_next_here C N who variables (standing_after h) ∙ ap left_phase was
-
   -- a release without a scan
   pub releases : (releasing : Releasing) (word : Word) (row : List ℕ) (lists : Lists C) (flags : ℕ → ℕ) (entry : Opening C) (before cells : List ℕ) (owed : List Owed) → pays walk ≡ false → awaits walk ≡ false → seats ≤ 64 → IsSettledBy truths.holds before entry → IsExpected (phase_by walk') Idle →
       PlaceFits {C = C} {N = N} truths walk' None → Same walk walk' → needs_scan releasing word ≡ false → is_queuing walk' ≡ is_queuing walk → Way walk walk' →
@@ -282,16 +247,16 @@ module _ {C : Type 0} {N : ℕ} (truths : Truths C) (seats : ℕ) (h : List (Eve
       let apart = others word row held owed p.safe in
       let queues = released_queues releasing word in
       let starts : before ≡ (standing_after h).row = fit.section.starts in
-      let left : (standing_after (h ++ section_of truths.holds who section_is Plain ∷ [])).row ≡ cells = ap (λ s. s.row) (left_by truths seats h who section_is Plain) in
+      let left : (standing_after (h ++ section_of truths.holds who section_is Plain ∷ [])).row ≡ cells = row_left truths seats h who section_is Plain in
       record {
         safe = released truths seats h front who walk owed walk' owed back mode Plain word (word_released releasing word) row entry before cells few settled tt phase
-            (released_write releasing word) (kept_write releasing word) (kept_readers releasing word) (released_readers releasing word) place (still_owes walk walk' owed idle same.0 fit.owes) p.safe;
+            (released_holders releasing word) place (still_owes walk walk' owed idle same.0 fit.owes) p.safe;
         homed = at_home front who walk held owed walk' None owed back word (word_released releasing word) lists.lock queues.0 queues.1 same.1 p.homed;
         placed = rested front who walk held owed walk' None owed back lists flags apart refl (due same.2 (flags who)) (λ f. sym same.3 ∙ f) p.placed;
         own = own_same front who walk held owed walk' None owed back lists.lock apart same.2 p.own;
         told = tell_moves front who walk held owed walk' None owed back (standing_after h).phases (standing_after (h ++ section_of truths.holds who section_is Plain ∷ [])).phases lists lists p.placed.four refl (stands_not word row lists flags held owed a p)
-            (phases_there section_is Plain) (λ k m e. let clash : Idle ≡ Waiting k m = sym (phases_here section_is Plain) ∙ e in absurd (cc)) p.told;
-        taken = taken_gone held None owed (standing_after h).phases (standing_after (h ++ section_of truths.holds who section_is Plain ∷ [])).phases flags lists.lock apart (same.2 ∙ not_waiting (waits_in walk) a) (phases_there section_is Plain) p.taken;
+            (phases_there truths seats h who section_is Plain) (λ k m e. let clash : Idle ≡ Waiting k m = sym (phases_here truths seats h who section_is Plain) ∙ e in absurd (cc)) p.told;
+        taken = taken_gone held None owed (standing_after h).phases (standing_after (h ++ section_of truths.holds who section_is Plain ∷ [])).phases flags lists.lock apart (same.2 ∙ not_waiting (waits_in walk) a) (phases_there truths seats h who section_is Plain) p.taken;
         known = known_releases truths.holds front who walk held owed walk' None owed back releasing word (standing_after h).row (standing_after (h ++ section_of truths.holds who section_is Plain ∷ [])).row lists.lock flags apart (calls word row held owed idle p.safe) calm
             (λ soft e. subst (λ r. has_eligible (meets_at truths r) lists.lock ≡ false) (sym left)
             (quiet (ap length starts ∙ p.safe.one_history.cells_after) (ap length fit.section.cells ∙ p.safe.one_history.cells) fit.section.reads soft lists.lock
@@ -437,7 +402,7 @@ module _ {C : Type 0} {N : ℕ} (truths : Truths C) (seats : ℕ) (h : List (Eve
       let same_mode : waiter.0.mode ≡ mode = ap stance_mode stance in
       let same_among : waiter.2.among ≡ variables = ap stance_variables stance in
       let was : (standing_after h).phases who ≡ Waiting variables mode = subst (λ seat. (standing_after h).phases seat ≡ Waiting waiter.2.among waiter.0.mode) waiter.1 waiter.2.waits ∙ (λ i. Waiting (same_among i) (same_mode i)) in
-      let row_same : (standing_after (h ++ left_event who variables ∷ [])).row ≡ (standing_after h).row = ap (λ (s : Standing C). s.row) (standing_from-append (first_standing N) h (left_event who variables ∷ [])) ∙ left_row C N who variables (standing_after h) in
+      let row_same = left_same truths seats h who variables in
       record {
         safe = left_variables truths seats h front who walk owed walk' owed back variables mode word (word_returned false (bits_of lists.lock) word) row few was phase refl refl place (still_owes walk walk' owed idle pay fit.owes) p.safe;
         homed = back_home front who walk None owed walk' None owed back word (word_returned false (bits_of lists.lock) word) lists.lock lists.lock refl refl s s' p.homed;
@@ -445,8 +410,8 @@ module _ {C : Type 0} {N : ℕ} (truths : Truths C) (seats : ℕ) (h : List (Eve
             (omega (arith, counts_gone who lists, there)) (λ seat ne. counts_others seat who lists ne) (λ some. a') (λ z. absurd (omega (arith, z))) p.placed;
         own = own_stays front who walk None owed walk' None owed back lists.lock (omega (arith, here, most, there)) p.own;
         told = tell_leaves front who walk None owed walk' None owed back (standing_after h).phases (standing_after (h ++ left_event who variables ∷ [])).phases lists four
-            (left_there variables) (λ j m e. let now_is : Left variables mode ≡ Waiting j m = sym (left_here variables mode was) ∙ e in absurd (cc)) p.told;
-        taken = taken_gone None None owed (standing_after h).phases (standing_after (h ++ left_event who variables ∷ [])).phases flags lists.lock apart (not_waiting (waits_in walk') a') (left_there variables) p.taken;
+            (left_there truths seats h who variables) (λ j m e. let now_is : Left variables mode ≡ Waiting j m = sym (left_here truths seats h who variables mode was) ∙ e in absurd (cc)) p.told;
+        taken = taken_gone None None owed (standing_after h).phases (standing_after (h ++ left_event who variables ∷ [])).phases flags lists.lock apart (not_waiting (waits_in walk') a') (left_there truths seats h who variables) p.taken;
         known = subst (λ r. Known truths.holds (word_returned false (bits_of lists.lock) word) r lists.lock flags (front ++ view_of who walk' None owed ∷ back)) (sym row_same)
             (known_withdraws truths.holds front who walk None owed walk' None owed back word (standing_after h).row lists.lock lists.lock flags apart (calls word row None owed idle p.safe) s q q'
             (λ f. absurd (both_ways (is_on_way walk 1 0) o (subst (λ n. is_on_way walk 1 n ≡ true) unowed (subst (λ n. is_on_way walk n (called_to who (front ++ view_of who walk None owed ∷ back)) ≡ true) flag f))))
@@ -479,19 +444,19 @@ module _ {C : Type 0} {N : ℕ} (truths : Truths C) (seats : ℕ) (h : List (Eve
       let word' = word_released_returning releasing (has_some (woken_of meets lists.lock)) (bits_of stay) word in
       record {
         safe = released truths seats h front who walk owed walk' took back (mode_released releasing) Plain word word' row entry before cells few settled tt phase
-            (released_write releasing word) (kept_write releasing word) (kept_readers releasing word) (released_readers releasing word) place (sym pay', calls_told walk' (woken_of meets lists.lock) from) p.safe;
+            (released_holders releasing word) place (sym pay', calls_told walk' (woken_of meets lists.lock) from) p.safe;
         homed = back_home front who walk held owed walk' None took back word word' lists.lock stay refl refl s s' p.homed;
         placed = taken front who walk held owed walk' None took back lists (with_lock lists stay) flags apart p.placed.four p.placed.once owing (scan_parts meets lists) a a' set' p.placed;
         own = own_scanned front who walk held owed walk' None took back meets lists.lock (lock_nowhere lists none) p.own;
         told = tell_moves front who walk held owed walk' None took back (standing_after h).phases (standing_after (h ++ section_of truths.holds who section_is Plain ∷ [])).phases lists (with_lock lists stay) p.placed.four refl none
-            (phases_there section_is Plain) (λ k m e. let clash : Idle ≡ Waiting k m = sym (phases_here section_is Plain) ∙ e in absurd (cc)) p.told;
+            (phases_there truths seats h who section_is Plain) (λ k m e. let clash : Idle ≡ Waiting k m = sym (phases_here truths seats h who section_is Plain) ∙ e in absurd (cc)) p.told;
         taken = told_stays front who walk held owed walk' None took back (standing_after h).phases (standing_after
             (h ++ section_of truths.holds who section_is Plain ∷ [])).phases flags lists.lock stay (left_stays front who walk held owed walk' None took back (standing_after h).phases
-            (standing_after (h ++ section_of truths.holds who section_is Plain ∷ [])).phases apart (not_waiting (waits_in walk') a') (phases_there section_is Plain))
+            (standing_after (h ++ section_of truths.holds who section_is Plain ∷ [])).phases apart (not_waiting (waits_in walk') a') (phases_there truths seats h who section_is Plain))
             (λ due listed. listed_woken (standing_after (h ++ section_of truths.holds who section_is Plain ∷ [])).phases
             (front ++ view_of who walk' None took ∷ back) meets lists.lock listed) (λ listed. listed_left
             (WaiterNames (standing_after (h ++ section_of truths.holds who section_is Plain ∷ [])).phases (front ++ view_of who walk' None took ∷ back)) meets lists.lock listed) p.taken;
-        known = subst (λ r. Known truths.holds word' r stay flags (front ++ view_of who walk' None took ∷ back)) (sym fit.section.cells ∙ sym (ap (λ s. s.row) (left_by truths seats h who section_is Plain)))
+        known = subst (λ r. Known truths.holds word' r stay flags (front ++ view_of who walk' None took ∷ back)) (sym fit.section.cells ∙ sym (row_left truths seats h who section_is Plain))
             (known_scans truths.holds front who walk held owed walk' None took back releasing word (standing_after h).row row lists stay flags apart s q' a o owing refl from (λ e. e) p.homed p.placed p.known);
       }
 
@@ -546,10 +511,10 @@ module _ {C : Type 0} {N : ℕ} (truths : Truths C) (seats : ℕ) (h : List (Eve
       let lock' = queued who mode (Some c) 0 again (left_of meets lists.lock) in
       let word' = word_released_returning releasing (has_some (woken_of meets lists.lock)) (bits_of lock') word in
       queues_scanned releasing mode c again (h ++ section_of truths.holds who held (CondWait c) ∷ []) word row lists flags (Some held) owed
-      (subst (λ r. truths.holds c r ≡ false) fit.section.cells unmet) (sym fit.section.cells ∙ sym (ap (λ s. s.row) (left_by truths seats h who held (CondWait c))))
+      (subst (λ r. truths.holds c r ≡ false) fit.section.cells unmet) (sym fit.section.cells ∙ sym (row_left truths seats h who held (CondWait c)))
       (released truths seats h front who walk owed walk' took back mode (CondWait c) word word' row entry before cells few settled unmet phase
-      (λ m. released_write releasing word (is ∙ m)) (λ m. kept_write releasing word (is ∙ m)) (λ m. kept_readers releasing word (is ∙ m)) (λ m. released_readers releasing word (is ∙ m)) place (sym pay', calls_told walk' (woken_of meets lists.lock) from) p.safe)
-      (phases_there held (CondWait c)) (λ k m e. let clash : Cond c mode ≡ Waiting k m = sym (phases_here held (CondWait c)) ∙ e in absurd (cc))
+      (gives_up releasing mode word is) place (sym pay', calls_told walk' (woken_of meets lists.lock) from) p.safe)
+      (phases_there truths seats h who held (CondWait c)) (λ k m e. let clash : Cond c mode ≡ Waiting k m = sym (phases_here truths seats h who held (CondWait c)) ∙ e in absurd (cc))
       idle from s s' a a' set set' q' o p
 
   -- a wait for a condition that came back gives its section up, and commits nothing
@@ -571,7 +536,7 @@ module _ {C : Type 0} {N : ℕ} (truths : Truths C) (seats : ℕ) (h : List (Eve
       queues_scanned releasing mode c again h word row lists flags (Some held) owed
       (subst (λ r. truths.holds c r ≡ false) fit.section.cells unmet) (sym fit.section.cells ∙ same ∙ fit.section.starts)
       (dropped truths seats h front who walk owed walk' took back mode word word' row entry before cells same (subst (λ ph. IsExpected (phase_by walk') ph) (sym comes) phase)
-      (λ m. released_write releasing word (is ∙ m)) (λ m. kept_write releasing word (is ∙ m)) (λ m. kept_readers releasing word (is ∙ m)) (λ m. released_readers releasing word (is ∙ m)) place (sym pay', calls_told walk' (woken_of meets lists.lock) from) p.safe)
+      (gives_up releasing mode word is) place (sym pay', calls_told walk' (woken_of meets lists.lock) from) p.safe)
       (λ seat ne. refl) (λ k m e. let clash : Cond c mode ≡ Waiting k m = sym (fit.section.enters ∙ comes) ∙ e in absurd (cc))
       idle from s s' a a' set set' q' o p
 
@@ -597,23 +562,23 @@ module _ {C : Type 0} {N : ℕ} (truths : Truths C) (seats : ℕ) (h : List (Eve
       let lists' = waits_at (OnVariables variables) who mode false stay in
       let in_lists = entered_at variables who mode false stay p.placed.four are in
       let waits_now : phase_after mode exit ≡ Waiting variables mode = after_exit mode variables in
-      let row_is = sym fit.section.cells ∙ sym (ap (λ s. s.row) (left_by truths seats h who held exit)) in
+      let row_is = sym fit.section.cells ∙ sym (row_left truths seats h who held exit) in
       let owing = owes_none word row (Some held) owed idle p.safe in
       let none = stands_not word row lists flags (Some held) owed a p in
       let out : times who stay ≡ 0 = omega (arith, none, times_scan who meets lists.lock) in
       let word' = word_released_returning releasing (has_some (woken_of meets lists.lock)) (bits_of lists'.lock) word in
       record {
         safe = released truths seats h front who walk owed walk' took back mode exit word word' row entry before cells few settled (exit_fits truths.holds cells variables) (subst (IsExpected (phase_by walk')) (sym waits_now) phase)
-            (λ m. released_write releasing word (is ∙ m)) (λ m. kept_write releasing word (is ∙ m)) (λ m. kept_readers releasing word (is ∙ m)) (λ m. released_readers releasing word (is ∙ m)) place (sym pay', calls_told walk' (woken_of meets lists.lock) from) p.safe;
+            (gives_up releasing mode word is) place (sym pay', calls_told walk' (woken_of meets lists.lock) from) p.safe;
         homed = back_home front who walk (Some held) owed walk' None took back word word' lists.lock lists'.lock refl refl s s' p.homed;
         placed = entered front who walk (Some held) owed walk' None took back lists lists' flags apart in_lists.four (once_entered variables who mode stay lists' p.placed.four are out in_lists p.placed.once) owing
             (λ seat. omega (arith, scan_parts meets lists seat, counts_entered variables who mode stay lists' p.placed.four are out in_lists seat)) set a (ap is_some a') set' p.placed;
         own = subst (λ lock. WaitersOwn lock (front ++ view_of who walk' None took ∷ back)) (sym in_lists.lock) (own_scanned front who walk (Some held) owed walk' None took back meets lists.lock (lock_nowhere lists none) p.own);
         told = tell_enters front who walk (Some held) owed walk' None took back (standing_after h).phases (standing_after (h ++ section_of truths.holds who held exit ∷ [])).phases stay lists' variables mode apart p.placed.four are out in_lists a'
-            (phases_here held exit ∙ waits_now) (phases_there held exit) (tell_lists (standing_after h).phases lists stay (front ++ view_of who walk (Some held) owed ∷ back) refl p.told);
+            (phases_here truths seats h who held exit ∙ waits_now) (phases_there truths seats h who held exit) (tell_lists (standing_after h).phases lists stay (front ++ view_of who walk (Some held) owed ∷ back) refl p.told);
         taken = subst (λ lock. TakenTold (standing_after (h ++ section_of truths.holds who held exit ∷ [])).phases flags lock (front ++ view_of who walk' None took ∷ back))
             (sym in_lists.lock) (told_enters front who walk (Some held) owed walk' None took back (standing_after h).phases
-            (standing_after (h ++ section_of truths.holds who held exit ∷ [])).phases flags lists.lock (left_of meets lists.lock) (phases_there held exit) (lock_nowhere lists none)
+            (standing_after (h ++ section_of truths.holds who held exit ∷ [])).phases flags lists.lock (left_of meets lists.lock) (phases_there truths seats h who held exit) (lock_nowhere lists none)
             (unowed lists flags (Some held) owed apart a p.placed) (armed_now lists flags (Some held) owed apart set p.placed)
             (λ due listed. listed_woken (standing_after (h ++ section_of truths.holds who held exit ∷ [])).phases (front ++ view_of who walk' None took ∷ back) meets lists.lock listed)
             (λ listed. listed_left (WaiterNames (standing_after (h ++ section_of truths.holds who held exit ∷ [])).phases
