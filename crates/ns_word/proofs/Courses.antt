@@ -13,6 +13,7 @@ use Rattle.ns_word.specs.Prelude.{exit_for, got_acquiring, got_in_cells, got_lea
 use Rattle.ns_word.specs.Prelude.{leave_of, leave_told, left_by, load_place, look_or_queue, looked_after, may_acquire, mode_for, mode_released, needs_scan, new_section, newly_held, opening_by, outcome_taken, part_of, pay_releasing, pay_waiting, pay_woken, place_cause_kept, queue_by, quiet_place}
 use Rattle.ns_word.specs.Prelude.{release_by, rest_or_look, row_after, scan_place, section_of, show_by, signal_by, standing_after, stands_at, taken_by, test_place, tries_of, unmet_by, variable_in, waiters_of, wake_of, want_acquiring, want_in_cells, want_leaving, want_of, want_queuing}
 use Rattle.ns_word.specs.Prelude.{want_releasing, want_showing, want_signaling, want_trying, want_waiting, woken_by, word_taken}
+use Rattle.ns_word.proofs.Keeps.{acquired_holders}
 use Rattle.ns_word.proofs.Leaving.{not_left}
 use Rattle.ns_word.proofs.Follows.{follows, next_asked}
 use Rattle.ns_word.specs.declared.request.Request.TheVariants.{Release}
@@ -33,9 +34,9 @@ module _ (C : Type 0) (N : ℕ) (truths : Truths C) (seat : ℕ) (row : List ℕ
   goes_as_asked request course (Done reply) held asked means = means
 
   -- of two ways
-  either : (request : Request C) (course : Course C N) (held : Option (Held C N)) (b : Bool) (one other : Next C) → (b ≡ true → Comes request course one held) → (b ≡ false → Comes request course other held) → Comes request course (cond b one other) held
-  either request course held true one other p q = p refl
-  either request course held false one other p q = q refl
+  either : {A : Type 0} (request : Request C) (course : Course C N) (held : Option (Held C N)) (go : A → Next C) (b : Bool) (one other : A) → (b ≡ true → Comes request course (go one) held) → (b ≡ false → Comes request course (go other) held) → Comes request course (go (cond b one other)) held
+  either request course held go true one other p q = p refl
+  either request course held go false one other p q = q refl
 
   -- ---- what stays
 
@@ -78,77 +79,50 @@ module _ (C : Type 0) (N : ℕ) (truths : Truths C) (seat : ℕ) (row : List ℕ
   -- of an acquire, by the word last seen
   acquire_comes : (request : Request C) (course : Course C N) (held : Option (Held C N)) (aim : Aim C) (arrival : Arrival) (word : Word) → AcquireSoFar truths seat aim course held → Comes request course (acquire_by aim arrival word) held
   acquire_comes request course held aim arrival word so_far =
-      either request course held (may_acquire (mode_for aim) arrival word) (On (InAcquire aim (AcquireExchange arrival word))) _ (λ b. so_far)
-      (λ b. either request course held word.spin (Idle (InAcquire aim (AcquireLoad arrival))) (On (InAcquire aim (TakeToQueue arrival word))) (λ b. so_far) (λ b. so_far))
+      either request course held (λ n. n) (may_acquire (mode_for aim) arrival word) (On (InAcquire aim (AcquireExchange arrival word))) _ (λ b. so_far)
+      (λ b. either request course held (λ n. n) word.spin (Idle (InAcquire aim (AcquireLoad arrival))) (On (InAcquire aim (TakeToQueue arrival word))) (λ b. so_far) (λ b. so_far))
 
   -- of a release
   release_comes : (request : Request C) (course : Course C N) (held : Option (Held C N)) (releasing : Releasing) (word : Word) → Unchanged course held → Comes request course (release_by releasing word) held
   release_comes request course held releasing word so_far =
-      either request course held (not (needs_scan releasing word)) (On (InRelease releasing (ReleaseExchange word))) _ (λ b. so_far)
-      (λ b. either request course held word.spin (Idle (InRelease releasing ReleaseLoad)) (On (InRelease releasing (TakeToScan word))) (λ b. so_far) (λ b. so_far))
-
-  -- of a call that wakes
-  signal_comes : (request : Request C) (course : Course C N) (held : Option (Held C N)) (waking : Waking) (k : ℕ) (word : Word) → Unchanged course held → Comes request course (signal_by waking k word) held
-  signal_comes request course held waking k word so_far = either request course held word.spin (Idle (InSignal waking k SignalLoad)) (On (InSignal waking k (TakeToWake word))) (λ b. so_far) (λ b. so_far)
-
-  -- of a call that shows
-  show_comes : (request : Request C) (course : Course C N) (held : Option (Held C N)) (word : Word) → Unchanged course held → Comes request course (show_by word) held
-  show_comes request course held word so_far = either request course held word.spin (Idle (InShow ShowLoad)) (On (InShow (TakeToShow word))) (λ b. so_far) (λ b. so_far)
+      either request course held (λ n. n) (not (needs_scan releasing word)) (On (InRelease releasing (ReleaseExchange word))) _ (λ b. so_far)
+      (λ b. either request course held (λ n. n) word.spin (Idle (InRelease releasing ReleaseLoad)) (On (InRelease releasing (TakeToScan word))) (λ b. so_far) (λ b. so_far))
 
   -- of a release that has loaded cells
-  scan_so_far : (course : Course C N) (held : Option (Held C N)) (releasing : Releasing) (last : Word) (loaded : ℕ) → Unchanged course held → SoFar truths seat course (InRelease releasing (scan_place N last loaded)) held
-  scan_so_far course held releasing last loaded so_far = go (ltb loaded N) where
-    go : (b : Bool) → SoFar truths seat course (InRelease releasing (cond b (ScanCells last loaded) (ScanAndRelease last))) held
-    go true = so_far
-    go false = so_far
-
-  taken_so_far : (course : Course C N) (held : Option (Held C N)) (releasing : Releasing) (last : Word) (b : Bool) → Unchanged course held → SoFar truths seat course (InRelease releasing (cond b (scan_place N last 0) (ScanAndRelease last))) held
-  taken_so_far course held releasing last true so_far = scan_so_far course held releasing last 0 so_far
-  taken_so_far course held releasing last false so_far = so_far
+  scan_comes : (course : Course C N) (held : Option (Held C N)) (releasing : Releasing) (last : Word) (loaded : ℕ) → Unchanged course held → SoFar truths seat course (InRelease releasing (scan_place N last loaded)) held
+  scan_comes course held releasing last loaded so_far = either (Release releasing) course held (λ p. On (InRelease releasing p)) (ltb loaded N) (ScanCells last loaded) (ScanAndRelease last) (λ b. so_far) (λ b. so_far)
 
   -- of a wait that tests its condition
   test_so_far : (course : Course C N) (held : Option (Held C N)) (wait : Wait C) (visit : Visit) (loaded : ℕ) → TestsSoFar truths seat wait visit course held → SoFar truths seat course (test_place N wait visit loaded) held
-  test_so_far course held wait visit loaded so_far = go (ltb loaded (N - 1)) where
-    go : (b : Bool) → SoFar truths seat course (cond b (InWait wait (TestCells visit loaded)) (InWait wait (TestLast visit (N - 1)))) held
-    go true = so_far
-    go false = so_far
+  test_so_far course held wait visit loaded so_far = either (Await wait) course held On (ltb loaded (N - 1)) (InWait wait (TestCells visit loaded)) (InWait wait (TestLast visit (N - 1))) (λ b. so_far) (λ b. so_far)
 
   -- of one that has to go on waiting: it looks first where something may end it
   look_comes : (request : Request C) (course : Course C N) (held : Option (Held C N)) (wait : Wait C) (again : Bool) → QueuesSoFar truths seat wait again course held → Comes request course (look_or_queue wait again) held
   look_comes request course held wait again so_far =
-      either request course held (is_limited wait.limits) (On (InWait wait (InQueuing again LookIn))) (On (InWait wait (InQueuing again Load))) (λ b. (so_far, tt)) (λ b. (so_far, unlimited wait.on b))
+      either request course held (λ n. n) (is_limited wait.limits) (On (InWait wait (InQueuing again LookIn))) (On (InWait wait (InQueuing again Load))) (λ b. (so_far, tt)) (λ b. (so_far, unlimited wait.on b))
     where
       unlimited : (on : Subject C) → is_limited wait.limits ≡ false → HasLookedFor on wait.limits course.looked
       unlimited (OnCondition c) b = λ limited. absurd (cc)
       unlimited (OnVariables variables) b = tt
 
   -- of one that is about to queue
-  queue_comes : (request : Request C) (course : Course C N) (held : Option (Held C N)) (wait : Wait C) (again : Bool) (word : Word) → QueuesSoFar truths seat wait again course held × HasLookedFor wait.on wait.limits course.looked → Comes request course (queue_by wait again word) held
-  queue_comes request course held wait again word so_far = either request course held word.spin (Idle (InWait wait (InQueuing again Load))) (On (InWait wait (InQueuing again (Take word)))) (λ b. so_far) (λ b. so_far)
+  queue_comes : (course : Course C N) (held : Option (Held C N)) (wait : Wait C) (again : Bool) (word : Word) → QueuesSoFar truths seat wait again course held × HasLookedFor wait.on wait.limits course.looked → Comes (Await wait) course (queue_by wait again word) held
+  queue_comes course held wait again word so_far = either (Await wait) course held (λ n. n) word.spin (Idle (InWait wait (InQueuing again Load))) (On (InWait wait (InQueuing again (Take word)))) (λ b. so_far) (λ b. so_far)
 
   -- of one that loads cells for its scan
   load_so_far : (course : Course C N) (held : Option (Held C N)) (wait : Wait C) (again : Bool) (last : Word) (loaded : ℕ) →
       QueuesSoFar truths seat wait again course held × HasLookedFor wait.on wait.limits course.looked → SoFar truths seat course (InWait wait (InQueuing again (load_place N last loaded))) held
-  load_so_far course held wait again last loaded so_far = go (ltb loaded N) where
-    go : (b : Bool) → SoFar truths seat course (InWait wait (InQueuing again (cond b (LoadToScan last loaded) (QueueToWait last)))) held
-    go true = so_far
-    go false = so_far
+  load_so_far course held wait again last loaded so_far = either (Await wait) course held (λ p. On (InWait wait (InQueuing again p))) (ltb loaded N) (LoadToScan last loaded) (QueueToWait last) (λ b. so_far) (λ b. so_far)
 
   armed_so_far : (course : Course C N) (held : Option (Held C N)) (wait : Wait C) (again : Bool) (on : Subject C) (last : Word) →
       QueuesSoFar truths seat wait again course held × HasLookedFor wait.on wait.limits course.looked → SoFar truths seat course (InWait wait (InQueuing again (armed_place N on last))) held
   armed_so_far course held wait again (OnCondition c) last so_far = so_far
-  armed_so_far course held wait again (OnVariables variables) last so_far = go last.cond where
-    go : (b : Bool) → SoFar truths seat course (InWait wait (InQueuing again (cond b (load_place N last 0) (QueueToWait last)))) held
-    go true = load_so_far course held wait again last 0 so_far
-    go false = so_far
-
-  -- of one that has queued
-  pay_wait_comes : (request : Request C) (course : Course C N) (held : Option (Held C N)) (wait : Wait C) (owes : Bool) → HasLeft truths seat wait None course → Comes request course (pay_waiting wait owes) held
-  pay_wait_comes request course held wait owes left = either request course held owes (On (InWait wait PayInWait)) (On (InWait wait AwaitWakeInWait)) (λ b. left) (λ b. left)
+  armed_so_far course held wait again (OnVariables variables) last so_far =
+      either (Await wait) course held (λ p. On (InWait wait (InQueuing again p))) last.cond (load_place N last 0) (QueueToWait last) (λ b. load_so_far course held wait again last 0 so_far) (λ b. so_far)
 
   -- of one that leaves
-  leave_comes : (request : Request C) (course : Course C N) (held : Option (Held C N)) (wait : Wait C) (cause : Cause) (word : Word) → HasLeft truths seat wait None course × (course.looked ≡ Some (Some cause)) → Comes request course (leave_by wait cause word) held
-  leave_comes request course held wait cause word so_far = either request course held word.spin (Idle (InWait wait (InLeaving cause LeaveLoad))) (On (InWait wait (InLeaving cause (TakeToLeave word)))) (λ b. so_far) (λ b. so_far)
+  leave_comes : (course : Course C N) (held : Option (Held C N)) (wait : Wait C) (cause : Cause) (word : Word) → HasLeft truths seat wait None course × (course.looked ≡ Some (Some cause)) → Comes (Await wait) course (leave_by wait cause word) held
+  leave_comes course held wait cause word so_far = either (Await wait) course held (λ n. n) word.spin (Idle (InWait wait (InLeaving cause LeaveLoad))) (On (InWait wait (InLeaving cause (TakeToLeave word)))) (λ b. so_far) (λ b. so_far)
 
   -- ---- what is new
 
@@ -157,17 +131,6 @@ module _ (C : Type 0) (N : ℕ) (truths : Truths C) (seat : ℕ) (row : List ℕ
     free : commits ≡ [] → part.word.write ≡ false → part.row ≡ row
     cells : (held : Held C N) → part.held ≡ Some held → held.row ≡ part.row
     starts : commits ≡ [] → (held : Held C N) → part.held ≡ Some held → held.before ≡ row
-
-  -- who may acquire finds no writer
-  no_writer : (mode : Mode) (arrival : Arrival) (word : Word) → may_acquire mode arrival word ≡ true → word.write ≡ false
-  no_writer Write arrival word may = go word.write may where
-    go : (b : Bool) → (not b && (eqb word.readers 0 && (is_woken arrival || not word.long))) ≡ true → b ≡ false
-    go true e = absurd (cc)
-    go false e = refl
-  no_writer Read arrival word may = go word.write may where
-    go : (b : Bool) → (not b && (is_woken arrival || (not word.writer_waits && not word.long))) ≡ true → b ≡ false
-    go true e = absurd (cc)
-    go false e = refl
 
   -- the lock was acquired by a call that locks
   has_locked : (mode : Mode) (course : Course C N) (old new : Option (Held C N)) (commits : List (Event C N)) (cells : List ℕ) → cells ≡ row → new ≡ Some (newly_held (ForLock mode) cells) → commits ≡ [] → Unchanged course old →
@@ -334,20 +297,20 @@ module _ (C : Type 0) (N : ℕ) (truths : Truths C) (seat : ℕ) (row : List ℕ
     finds request found to looks same silent so_far = leaves_course request course found to part.held next.held commits looks same silent so_far
 
     tries_on : (mode : Mode) (place : TryPlace) (found : Found) → Effect truths seat (want_trying mode place) part found next commits → Unchanged course part.held → Comes (TryLock mode) (course_after found commits course) (got_trying mode place found) next.held
-    tries_on mode TryLoad (Saw word) e was = finds (TryLock mode) (Saw word) _ refl (held_in part e.1) e.2 (either (TryLock mode) course part.held (may_acquire mode AsFresh word) (On (InTry mode (TryAcquire word))) (Done Busy) (λ b. was) (λ b. was))
+    tries_on mode TryLoad (Saw word) e was = finds (TryLock mode) (Saw word) _ refl (held_in part e.1) e.2 (either (TryLock mode) course part.held (λ n. n) (may_acquire mode AsFresh word) (On (InTry mode (TryAcquire word))) (Done Busy) (λ b. was) (λ b. was))
     tries_on mode (TryAcquire last) (Saw word) e was = finds (TryLock mode) (Saw word) (Done Busy) refl (held_in part e.2) e.3 was
     tries_on mode (TryAcquire last) Made e was =
-        has_locked mode course part.held next.held commits part.row (stands.free e.4 (no_writer mode AsFresh part.word (subst (λ word. may_acquire mode AsFresh word ≡ true) e.0 e.1))) (ap (λ p. p.held) e.3) e.4 was
+        has_locked mode course part.held next.held commits part.row (stands.free e.4 (acquired_holders mode AsFresh part.word (subst (λ word. may_acquire mode AsFresh word ≡ true) e.0 e.1)).0) (ap (λ p. p.held) e.3) e.4 was
     tries_on mode _ _ e was = absurd e
 
     -- an acquire was made
     acquired_on : (aim : Aim C) (arrival : Arrival) (last : Word) → Effect truths seat (Acquire aim arrival last) part Made next commits → AimFits aim → AcquireSoFar truths seat aim course part.held →
         Comes (asked_of (InAcquire aim (AcquireExchange arrival last))) (course_after Made commits course) (acquired_for N aim) next.held
     acquired_on (ForLock mode) arrival last e given so_far =
-        has_locked mode course part.held next.held commits part.row (stands.free e.4 (no_writer mode arrival part.word (subst (λ word. may_acquire mode arrival word ≡ true) e.0 e.1))) (ap (λ p. p.held) e.3) e.4 so_far
+        has_locked mode course part.held next.held commits part.row (stands.free e.4 (acquired_holders mode arrival part.word (subst (λ word. may_acquire mode arrival word ≡ true) e.0 e.1)).0) (ap (λ p. p.held) e.3) e.4 so_far
     acquired_on (ForWait wait outcome) arrival last e given so_far =
         subst (λ now. Comes (Await wait) now (back_with N wait.on wait outcome) next.held) (sym (same_course Made commits course refl e.4))
-        (comes_back (Await wait) course wait.mode wait.on wait.limits outcome next.held part.row refl (stands.free e.4 (no_writer wait.mode arrival part.word (subst (λ word. may_acquire wait.mode arrival word ≡ true) e.0 e.1))) (ap (λ p. p.held) e.3) given.1 given.0 so_far)
+        (comes_back (Await wait) course wait.mode wait.on wait.limits outcome next.held part.row refl (stands.free e.4 (acquired_holders wait.mode arrival part.word (subst (λ word. may_acquire wait.mode arrival word ≡ true) e.0 e.1)).0) (ap (λ p. p.held) e.3) given.1 given.0 so_far)
 
     acquires_on : (aim : Aim C) (place : AcquirePlace) (found : Found) → Effect truths seat (want_acquiring aim place) part found next commits → AimFits aim → AcquireSoFar truths seat aim course part.held →
         Comes (asked_of (InAcquire aim place)) (course_after found commits course) (got_acquiring N aim place found) next.held
@@ -364,7 +327,7 @@ module _ (C : Type 0) (N : ℕ) (truths : Truths C) (seat : ℕ) (row : List ℕ
     acquires_on aim (Queue arrival last) (Left stood) e given so_far = let other : Made ≡ Left stood = e.0 in absurd (cc)
     acquires_on aim (Queue arrival last) (Woke owes) e given so_far = let other : Made ≡ Woke owes = e.0 in absurd (cc)
     acquires_on aim (AwaitWake tries) (Flag v) e given so_far =
-        finds _ (Flag v) _ refl (held_in part e.1) e.2 (either _ course part.held (eqb v 1) (Idle (InAcquire aim (AwaitWake tries))) (On (InAcquire aim (AcquireLoad (arrival_of tries v)))) (λ b. so_far) (λ b. so_far))
+        finds _ (Flag v) _ refl (held_in part e.1) e.2 (either _ course part.held (λ n. n) (eqb v 1) (Idle (InAcquire aim (AwaitWake tries))) (On (InAcquire aim (AcquireLoad (arrival_of tries v)))) (λ b. so_far) (λ b. so_far))
     acquires_on aim _ _ e given so_far = absurd e
 
     releases_on : (releasing : Releasing) (place : ReleasePlace) (found : Found) → Effect truths seat (want_releasing releasing place) part found next commits → ReleaseFits truths releasing place part.held → ReleaseSoFar truths seat releasing place course part.held →
@@ -376,15 +339,16 @@ module _ (C : Type 0) (N : ℕ) (truths : Truths C) (seat : ℕ) (row : List ℕ
         has_released releasing Made course part.held next.held commits e.0 e.1 e.2 can.1 (ap (λ p. p.held) e.4) e.5 was
     releases_on releasing (TakeToScan last) (Saw word) e fits was = finds (Release releasing) (Saw word) (release_by releasing word) refl (held_in part e.2) e.3 (release_comes (Release releasing) course part.held releasing word was)
     releases_on releasing (TakeToScan last) Made e fits was =
-        finds (Release releasing) Made (On (InRelease releasing (cond last.cond (scan_place N (word_taken ToChange last) 0) (ScanAndRelease (word_taken ToChange last))))) refl (ap (λ p. p.held) e.2) e.3 (taken_so_far course part.held releasing (word_taken ToChange last) last.cond was)
-    releases_on releasing (ScanCells last i) (Cell v) e fits was = finds (Release releasing) (Cell v) (On (InRelease releasing (scan_place N last (i + 1)))) refl (held_in part e.1) e.2 (scan_so_far course part.held releasing last (i + 1) was)
+        finds (Release releasing) Made (On (InRelease releasing (cond last.cond (scan_place N (word_taken ToChange last) 0) (ScanAndRelease (word_taken ToChange last))))) refl (ap (λ p. p.held) e.2) e.3 (either (Release releasing) course part.held (λ p. On (InRelease releasing p)) last.cond (scan_place N (word_taken ToChange last) 0) (ScanAndRelease (word_taken ToChange last))
+        (λ b. scan_comes course part.held releasing (word_taken ToChange last) 0 was) (λ b. was))
+    releases_on releasing (ScanCells last i) (Cell v) e fits was = finds (Release releasing) (Cell v) (On (InRelease releasing (scan_place N last (i + 1)))) refl (held_in part e.1) e.2 (scan_comes course part.held releasing last (i + 1) was)
     releases_on releasing (ScanAndRelease last) (Saw word) e fits was = finds (Release releasing) (Saw word) (On (InRelease releasing (ScanAndRelease word))) refl (held_in part e.2) e.3 was
     releases_on releasing (ScanAndRelease last) (Scanned owes tests) e fits was =
         let can = subst (λ held. CanLeave truths releasing held) e.1 fits in
         let released = has_released releasing (Scanned owes tests) course part.held next.held commits e.0 e.1 e.2 can.1 (ap (λ p. p.held) e.4) e.7 was in
-        either (Release releasing) _ next.held owes (On (InRelease releasing Pay)) (Done Succeeded) (λ b. released) (λ b. released)
+        either (Release releasing) _ next.held (λ n. n) owes (On (InRelease releasing Pay)) (Done Succeeded) (λ b. released) (λ b. released)
     releases_on releasing Pay (Paid owes) e fits was =
-        finds (Release releasing) (Paid owes) (pay_releasing releasing owes) refl (ap (λ p. p.held) e.3) e.5 (either (Release releasing) course part.held owes (On (InRelease releasing Pay)) (Done Succeeded) (λ b. was) (λ b. was))
+        finds (Release releasing) (Paid owes) (pay_releasing releasing owes) refl (ap (λ p. p.held) e.3) e.5 (either (Release releasing) course part.held (λ n. n) owes (On (InRelease releasing Pay)) (Done Succeeded) (λ b. was) (λ b. was))
     releases_on releasing _ _ e fits was = absurd e
 
     cells_on : (place : CellPlace) (found : Found) → Effect truths seat (want_in_cells place) part found next commits → CellFits place part.held → Unchanged course part.held →
@@ -404,7 +368,7 @@ module _ (C : Type 0) (N : ℕ) (truths : Truths C) (seat : ℕ) (row : List ℕ
     cells_on (QuietCells judging i) (Cell v) e fits was = finds (asked_to_judge judging) (Cell v) (On (InCells (quiet_place N judging (i + 1)))) refl (held_in part e.1) e.2 was
     cells_on (QuietLast ToTell i) (Quiet quiet) e fits was = finds IsQuiet (Quiet quiet) (Done (Is quiet)) refl (held_in part e.3) e.4 (was, subst (λ held. IsQuietSection truths quiet held) (sym e.1) e.2)
     cells_on (QuietLast ToRelease i) (Quiet quiet) e fits was =
-        finds (Release QuietWriter) (Quiet quiet) _ refl (held_in part e.3) e.4 (either (Release QuietWriter) course part.held quiet (On (InRelease QuietWriter ReleaseLoad)) (Done Noisy) (λ b. was)
+        finds (Release QuietWriter) (Quiet quiet) _ refl (held_in part e.3) e.4 (either (Release QuietWriter) course part.held (λ n. n) quiet (On (InRelease QuietWriter ReleaseLoad)) (Done Noisy) (λ b. was)
         (λ b. (was, subst (λ held. IsQuietSection truths false held) (sym e.1) (sym b ∙ e.2))))
     cells_on _ _ e fits was = absurd e
 
@@ -414,35 +378,30 @@ module _ (C : Type 0) (N : ℕ) (truths : Truths C) (seat : ℕ) (row : List ℕ
         Comes (Await wait) (course_after found commits course) (got_waiting N wait (TestLast visit i) found) next.held
     tested_on mode (OnCondition c) limits visit i (Tested is_met) e fits given so_far =
         let wait : Wait C = record { mode = mode; on = OnCondition c; limits = limits } in
-        finds (Await wait) (Tested is_met) _ refl (held_in part e.3) e.4 (either (Await wait) course part.held is_met (Done (Answered Met)) (unmet_by wait visit)
+        finds (Await wait) (Tested is_met) _ refl (held_in part e.3) e.4 (either (Await wait) course part.held (λ n. n) is_met (Done (Answered Met)) (unmet_by wait visit)
         (λ b. met_comes mode c limits visit course part.held e.0 e.1 (sym e.2 ∙ b) fits.0 (stands.starts e.4 e.0 e.1) so_far)
         (λ b. unmet_comes mode c limits visit course part.held e.0 e.1 (sym e.2 ∙ b) fits.0 given (stands.starts e.4 e.0 e.1) so_far))
     tested_on mode (OnCondition c) limits visit i _ e fits given so_far = absurd e
     tested_on mode (OnVariables variables) limits visit i found e fits given so_far = absurd fits.2
 
+    looked_none : (on : Subject C) (limits : Limits) → HasLookedFor on limits (Some None)
+    looked_none (OnCondition c) limits = λ limited. refl
+    looked_none (OnVariables variables) limits = tt
+
+    untold : (on : Subject C) → [] ≡ left_by {C = C} {N = N} seat on None
+    untold (OnCondition c) = refl
+    untold (OnVariables (Only k)) = refl
+    untold (OnVariables (Any cvs)) = refl
+
     -- a wait looks before it queues
     looks_on : (mode : Mode) (on : Subject C) (limits : Limits) (again : Bool) (shown : Option Cause) → let wait : Wait C = record { mode = mode; on = on; limits = limits } in
         Effect truths seat (Look limits again) part (Looked shown) next commits → CanWait truths wait again part.held → IsForCondition on → QueuesSoFar truths seat wait again course part.held →
         Comes (Await wait) (course_after (Looked shown) commits course) (got_queuing N wait again LookIn (Looked shown)) next.held
-    looks_on mode on limits false None e can for so_far = (still_unchanged (Looked None) commits course part.held next.held (ap (λ p. p.held) e.1) e.2 so_far, looked on)
-      where
-        looked : (on : Subject C) → HasLookedFor on limits (Some None)
-        looked (OnCondition c) = λ limited. refl
-        looked (OnVariables variables) = tt
-    looks_on mode on limits true None e can for so_far = (still_left (record { mode = mode; on = on; limits = limits }) None (Looked None) commits course e.2 so_far, looked on)
-      where
-        looked : (on : Subject C) → HasLookedFor on limits (Some None)
-        looked (OnCondition c) = λ limited. refl
-        looked (OnVariables variables) = tt
+    looks_on mode on limits false None e can for so_far = (still_unchanged (Looked None) commits course part.held next.held (ap (λ p. p.held) e.1) e.2 so_far, looked_none on limits)
+    looks_on mode on limits true None e can for so_far = (still_left (record { mode = mode; on = on; limits = limits }) None (Looked None) commits course e.2 so_far, looked_none on limits)
     looks_on mode (OnVariables variables) limits again (Some cause) e can for so_far = absurd for
     looks_on mode (OnCondition c) limits again (Some cause) e can for so_far = go part.held refl can
       where
-        wait : Wait C
-        wait = record { mode = mode; on = OnCondition c; limits = limits }
-
-        now : Course C N
-        now = course_after (Looked (Some cause)) commits course
-
         so : (b : Bool) → QueuesSoFar truths seat (record { mode = mode; on = OnCondition c; limits = limits }) b course part.held → QueuesSoFar truths seat (record { mode = mode; on = OnCondition c; limits = limits }) b (course_after (Looked (Some cause)) commits course) part.held
         so false was = still_unchanged (Looked (Some cause)) commits course part.held part.held refl e.2 was
         so true left = still_left (record { mode = mode; on = OnCondition c; limits = limits }) None (Looked (Some cause)) commits course e.2 left
@@ -467,22 +426,19 @@ module _ (C : Type 0) (N : ℕ) (truths : Truths C) (seat : ℕ) (row : List ℕ
           unmet = may.unmet;
           committed = first_commits (Scanned owes tests) commits (section_of truths.holds seat e.0 (exit_for on) ∷ []) course part.held so_far e.7 ∙ ap (λ events. section_of truths.holds seat e.0 (exit_for on) ∷ events) (untold on);
         }
-      where
-        untold : (on : Subject C) → [] ≡ left_by {C = C} {N = N} seat on None
-        untold (OnCondition c) = refl
-        untold (OnVariables (Only k)) = refl
-        untold (OnVariables (Any cvs)) = refl
 
     queues_on : (wait : Wait C) (again : Bool) (place : QueuePlace) (found : Found) → Effect truths seat (want_queuing wait again place) part found next commits → CanWait truths wait again part.held → QueueFits N wait.on place →
         QueuesSoFar truths seat wait again course part.held × QueuesAfter wait place course.looked → Comes (Await wait) (course_after found commits course) (got_queuing N wait again place found) next.held
     queues_on wait again LookIn (Looked shown) e can fits so_far = looks_on wait.mode wait.on wait.limits again shown e can fits so_far.0
-    queues_on wait again Load (Saw word) e can fits so_far = finds (Await wait) (Saw word) (queue_by wait again word) refl (held_in part e.1) e.2 (queue_comes (Await wait) course part.held wait again word so_far)
-    queues_on wait again (Take last) (Saw word) e can fits so_far = finds (Await wait) (Saw word) (queue_by wait again word) refl (held_in part e.2) e.3 (queue_comes (Await wait) course part.held wait again word so_far)
+    queues_on wait again Load (Saw word) e can fits so_far = finds (Await wait) (Saw word) (queue_by wait again word) refl (held_in part e.1) e.2 (queue_comes course part.held wait again word so_far)
+    queues_on wait again (Take last) (Saw word) e can fits so_far = finds (Await wait) (Saw word) (queue_by wait again word) refl (held_in part e.2) e.3 (queue_comes course part.held wait again word so_far)
     queues_on wait again (Take last) Made e can fits so_far = finds (Await wait) Made (On (InWait wait (InQueuing again (ArmToWait (word_taken ToChange last))))) refl (ap (λ p. p.held) e.2) e.3 so_far
     queues_on wait again (ArmToWait last) Made e can fits so_far = finds (Await wait) Made (On (InWait wait (InQueuing again (armed_place N wait.on last)))) refl (ap (λ p. p.held) e.0) e.1 (armed_so_far course part.held wait again wait.on last so_far)
     queues_on wait again (LoadToScan last i) (Cell v) e can fits so_far = finds (Await wait) (Cell v) (On (InWait wait (InQueuing again (load_place N last (i + 1))))) refl (held_in part e.1) e.2 (load_so_far course part.held wait again last (i + 1) so_far)
     queues_on wait again (QueueToWait last) (Saw word) e can fits so_far = finds (Await wait) (Saw word) (On (InWait wait (InQueuing again (QueueToWait word)))) refl (held_in part e.2) e.3 so_far
-    queues_on wait again (QueueToWait last) (Scanned owes tests) e can fits so_far = pay_wait_comes (Await wait) _ next.held wait owes (queued_on wait.mode wait.on wait.limits again last owes tests e can so_far.0)
+    queues_on wait again (QueueToWait last) (Scanned owes tests) e can fits so_far =
+        let left = queued_on wait.mode wait.on wait.limits again last owes tests e can so_far.0 in
+        either (Await wait) _ next.held (λ n. n) owes (On (InWait wait PayInWait)) (On (InWait wait AwaitWakeInWait)) (λ b. left) (λ b. left)
     queues_on wait again _ _ e can fits so_far = absurd e
 
     -- a wait takes itself from its list, or was taken before
@@ -493,10 +449,6 @@ module _ (C : Type 0) (N : ℕ) (truths : Truths C) (seat : ℕ) (row : List ℕ
       where
         same : stands_at seat (home_of on) part.lists ≡ stood
         same = let found : Left (stands_at seat (home_of on) part.lists) ≡ Left stood = e.0 in cc
-
-        untold : (variables : Variables) → [] ≡ left_by {C = C} {N = N} seat (OnVariables variables) None
-        untold (Only k) = refl
-        untold (Any cvs) = refl
 
         left_of : (variables : Variables) → leave_of {C = C} {N = N} seat (AtVariables variables) true ≡ left_by seat (OnVariables variables) (Some cause)
         left_of (Only k) = refl
@@ -512,7 +464,7 @@ module _ (C : Type 0) (N : ℕ) (truths : Truths C) (seat : ℕ) (row : List ℕ
             mode = left.mode;
             unmet = left.unmet;
             committed = ap (λ events. course.committed ++ events) (told ∙ left_of variables) ∙ ap (λ events. events ++ left_by {C = C} {N = N} seat (OnVariables variables) (Some cause))
-                (left.committed ∙ ap (λ events. section_of truths.holds seat left.was (exit_for {C = C} (OnVariables variables)) ∷ events) (sym (untold variables)));
+                (left.committed ∙ ap (λ events. section_of truths.holds seat left.was (exit_for {C = C} (OnVariables variables)) ∷ events) (sym (untold (OnVariables variables))));
           };
           shown = so_far.1;
         }
@@ -527,15 +479,15 @@ module _ (C : Type 0) (N : ℕ) (truths : Truths C) (seat : ℕ) (row : List ℕ
 
     leaves_on : (wait : Wait C) (cause : Cause) (place : LeavePlace) (found : Found) → Effect truths seat (want_leaving wait place) part found next commits → HasLeft truths seat wait None course × (course.looked ≡ Some (Some cause)) →
         Comes (Await wait) (course_after found commits course) (got_leaving wait cause place found) next.held
-    leaves_on wait cause LeaveLoad (Saw word) e so_far = finds (Await wait) (Saw word) (leave_by wait cause word) refl (held_in part e.1) e.2 (leave_comes (Await wait) course part.held wait cause word so_far)
-    leaves_on wait cause (TakeToLeave last) (Saw word) e so_far = finds (Await wait) (Saw word) (leave_by wait cause word) refl (held_in part e.2) e.3 (leave_comes (Await wait) course part.held wait cause word so_far)
+    leaves_on wait cause LeaveLoad (Saw word) e so_far = finds (Await wait) (Saw word) (leave_by wait cause word) refl (held_in part e.1) e.2 (leave_comes course part.held wait cause word so_far)
+    leaves_on wait cause (TakeToLeave last) (Saw word) e so_far = finds (Await wait) (Saw word) (leave_by wait cause word) refl (held_in part e.2) e.3 (leave_comes course part.held wait cause word so_far)
     leaves_on wait cause (TakeToLeave last) Made e so_far = finds (Await wait) Made (On (InWait wait (InLeaving cause (Leave (word_taken ToChange last))))) refl (ap (λ p. p.held) e.2) e.3 so_far
     leaves_on wait cause (Leave last) (Saw word) e so_far = finds (Await wait) (Saw word) (On (InWait wait (InLeaving cause (Leave word)))) refl (held_in part e.2) e.3 so_far
     leaves_on wait cause (Leave last) (Left stood) e so_far = withdrawn_on wait.mode wait.on wait.limits cause last stood e so_far
     leaves_on wait cause (Leave last) Made e so_far = let other : Left (stands_at seat (home_of wait.on) part.lists) ≡ Made = e.0 in absurd (cc)
     leaves_on wait cause (Leave last) (Woke owes) e so_far = let other : Left (stands_at seat (home_of wait.on) part.lists) ≡ Woke owes = e.0 in absurd (cc)
     leaves_on wait cause AwaitWakeToLeave (Flag v) e so_far =
-        finds (Await wait) (Flag v) _ refl (held_in part e.1) e.2 (either (Await wait) course part.held (eqb v 1) (Idle (InWait wait (InLeaving cause AwaitWakeToLeave))) (On (InAcquire (ForWait wait (outcome_taken wait.on cause v)) (AcquireLoad (arrival_of 0 v))))
+        finds (Await wait) (Flag v) _ refl (held_in part e.1) e.2 (either (Await wait) course part.held (λ n. n) (eqb v 1) (Idle (InWait wait (InLeaving cause AwaitWakeToLeave))) (On (InAcquire (ForWait wait (outcome_taken wait.on cause v)) (AcquireLoad (arrival_of 0 v))))
         (λ b. so_far) (λ b. taken_comes wait.mode wait.on wait.limits cause v so_far))
     leaves_on wait cause _ _ e so_far = absurd e
 
@@ -544,10 +496,10 @@ module _ (C : Type 0) (N : ℕ) (truths : Truths C) (seat : ℕ) (row : List ℕ
     waits_on wait (TestCells visit i) (Cell v) e fits given so_far = finds (Await wait) (Cell v) (On (test_place N wait visit (i + 1))) refl (held_in part e.1) e.2 (test_so_far course part.held wait visit (i + 1) so_far)
     waits_on wait (TestLast visit i) found e fits given so_far = tested_on wait.mode wait.on wait.limits visit i found e fits given so_far
     waits_on wait (InQueuing again place) found e fits given so_far = queues_on wait again place found e fits.0 fits.1 so_far
-    waits_on wait PayInWait (Paid owes) e fits given so_far = finds (Await wait) (Paid owes) (pay_waiting wait owes) refl (ap (λ p. p.held) e.3) e.5 (pay_wait_comes (Await wait) course part.held wait owes so_far)
+    waits_on wait PayInWait (Paid owes) e fits given so_far = finds (Await wait) (Paid owes) (pay_waiting wait owes) refl (ap (λ p. p.held) e.3) e.5 (either (Await wait) course part.held (λ n. n) owes (On (InWait wait PayInWait)) (On (InWait wait AwaitWakeInWait)) (λ b. so_far) (λ b. so_far))
     waits_on wait AwaitWakeInWait (Flag v) e fits given so_far =
-        finds (Await wait) (Flag v) _ refl (held_in part e.1) e.2 (either (Await wait) course part.held (eqb v 1) (rest_or_look wait) (On (InAcquire (ForWait wait (woken_by wait.on v)) (AcquireLoad (arrival_of 0 v))))
-        (λ b. either (Await wait) course part.held (is_limited wait.limits) (On (InWait wait LookOut)) (Idle (InWait wait AwaitWakeInWait)) (λ b. so_far) (λ b. so_far)) (λ b. record { left = so_far; shown = tt }))
+        finds (Await wait) (Flag v) _ refl (held_in part e.1) e.2 (either (Await wait) course part.held (λ n. n) (eqb v 1) (rest_or_look wait) (On (InAcquire (ForWait wait (woken_by wait.on v)) (AcquireLoad (arrival_of 0 v))))
+        (λ b. either (Await wait) course part.held (λ n. n) (is_limited wait.limits) (On (InWait wait LookOut)) (Idle (InWait wait AwaitWakeInWait)) (λ b. so_far) (λ b. so_far)) (λ b. record { left = so_far; shown = tt }))
     waits_on wait LookOut (Looked None) e fits given so_far = still_left wait None (Looked None) commits course e.2 so_far
     waits_on wait LookOut (Looked (Some cause)) e fits given so_far = (still_left wait None (Looked (Some cause)) commits course e.2 so_far, refl)
     waits_on wait (InLeaving cause place) found e fits given so_far = leaves_on wait cause place found e so_far
@@ -555,8 +507,8 @@ module _ (C : Type 0) (N : ℕ) (truths : Truths C) (seat : ℕ) (row : List ℕ
 
     signals_on : (waking : Waking) (k : ℕ) (place : SignalPlace) (found : Found) → Effect truths seat (want_signaling waking k place) part found next commits → SignalSoFar seat waking k place course part.held →
         Comes (Wake waking k) (course_after found commits course) (got_signaling waking k place found) next.held
-    signals_on waking k SignalLoad (Saw word) e was = finds (Wake waking k) (Saw word) (signal_by waking k word) refl (held_in part e.1) e.2 (signal_comes (Wake waking k) course part.held waking k word was)
-    signals_on waking k (TakeToWake last) (Saw word) e was = finds (Wake waking k) (Saw word) (signal_by waking k word) refl (held_in part e.2) e.3 (signal_comes (Wake waking k) course part.held waking k word was)
+    signals_on waking k SignalLoad (Saw word) e was = finds (Wake waking k) (Saw word) (signal_by waking k word) refl (held_in part e.1) e.2 (either (Wake waking k) course part.held (λ n. n) word.spin (Idle (InSignal waking k SignalLoad)) (On (InSignal waking k (TakeToWake word))) (λ b. was) (λ b. was))
+    signals_on waking k (TakeToWake last) (Saw word) e was = finds (Wake waking k) (Saw word) (signal_by waking k word) refl (held_in part e.2) e.3 (either (Wake waking k) course part.held (λ n. n) word.spin (Idle (InSignal waking k SignalLoad)) (On (InSignal waking k (TakeToWake word))) (λ b. was) (λ b. was))
     signals_on waking k (TakeToWake last) Made e was = finds (Wake waking k) Made (On (InSignal waking k (WakeAndReturn (word_taken ToChange last)))) refl (ap (λ p. p.held) e.2) e.3 was
     signals_on waking k (WakeAndReturn last) (Saw word) e was = finds (Wake waking k) (Saw word) (On (InSignal waking k (WakeAndReturn word))) refl (held_in part e.2) e.3 was
     signals_on waking k (WakeAndReturn last) (Woke owes) e was =
@@ -566,16 +518,16 @@ module _ (C : Type 0) (N : ℕ) (truths : Truths C) (seat : ℕ) (row : List ℕ
           waiters = waiters_of part.lists (Cv k);
           committed = first_commits (Woke owes) commits (wake_of seat waking k taken ∷ []) course part.held was e.3;
         } in
-        either (Wake waking k) _ next.held owes (On (InSignal waking k PayTheWoken)) (Done Succeeded) (λ b. woken) (λ b. woken)
+        either (Wake waking k) _ next.held (λ n. n) owes (On (InSignal waking k PayTheWoken)) (Done Succeeded) (λ b. woken) (λ b. woken)
     signals_on waking k (WakeAndReturn last) Made e was = let other : Woke (not (is_held last) && has_some (taken_by waking (waiters_of part.lists (Cv k)))) ≡ Made = e.0 in absurd (cc)
     signals_on waking k (WakeAndReturn last) (Left stood) e was = let other : Woke (not (is_held last) && has_some (taken_by waking (waiters_of part.lists (Cv k)))) ≡ Left stood = e.0 in absurd (cc)
     signals_on waking k PayTheWoken (Paid owes) e was =
-        finds (Wake waking k) (Paid owes) (pay_woken waking k owes) refl (ap (λ p. p.held) e.3) e.5 (either (Wake waking k) course part.held owes (On (InSignal waking k PayTheWoken)) (Done Succeeded) (λ b. was) (λ b. was))
+        finds (Wake waking k) (Paid owes) (pay_woken waking k owes) refl (ap (λ p. p.held) e.3) e.5 (either (Wake waking k) course part.held (λ n. n) owes (On (InSignal waking k PayTheWoken)) (Done Succeeded) (λ b. was) (λ b. was))
     signals_on waking k _ _ e was = absurd e
 
     shows_on : (place : ShowPlace) (found : Found) → Effect truths seat (want_showing place) part found next commits → Unchanged course part.held → Comes Show (course_after found commits course) (got_showing place found) next.held
-    shows_on ShowLoad (Saw word) e was = finds Show (Saw word) (show_by word) refl (held_in part e.1) e.2 (show_comes Show course part.held word was)
-    shows_on (TakeToShow last) (Saw word) e was = finds Show (Saw word) (show_by word) refl (held_in part e.2) e.3 (show_comes Show course part.held word was)
+    shows_on ShowLoad (Saw word) e was = finds Show (Saw word) (show_by word) refl (held_in part e.1) e.2 (either Show course part.held (λ n. n) word.spin (Idle (InShow ShowLoad)) (On (InShow (TakeToShow word))) (λ b. was) (λ b. was))
+    shows_on (TakeToShow last) (Saw word) e was = finds Show (Saw word) (show_by word) refl (held_in part e.2) e.3 (either Show course part.held (λ n. n) word.spin (Idle (InShow ShowLoad)) (On (InShow (TakeToShow word))) (λ b. was) (λ b. was))
     shows_on (TakeToShow last) Made e was = finds Show Made (On (InShow (ReturnShown (word_taken ToChange last)))) refl (ap (λ p. p.held) e.2) e.3 was
     shows_on (ReturnShown last) (Saw word) e was = finds Show (Saw word) (On (InShow (ReturnShown word))) refl (held_in part e.2) e.3 was
     shows_on (ReturnShown last) Made e was = finds Show Made (Done Succeeded) refl (ap (λ p. p.held) e.2) e.3 was

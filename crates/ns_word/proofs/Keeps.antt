@@ -67,7 +67,7 @@ acquired_queues : (mode : Mode) (arrival : Arrival) (word : Word) → ((word_acq
 acquired_queues Write arrival word = (refl, refl)
 acquired_queues Read arrival word = (refl, refl)
 
-acquired_holders : (mode : Mode) (arrival : Arrival) (word : Word) → may_acquire mode arrival word ≡ true → (word.write ≡ false) × Acquires mode word (word_acquired mode arrival word).write (word_acquired mode arrival word).readers
+pub acquired_holders : (mode : Mode) (arrival : Arrival) (word : Word) → may_acquire mode arrival word ≡ true → (word.write ≡ false) × Acquires mode word (word_acquired mode arrival word).write (word_acquired mode arrival word).readers
 acquired_holders Write arrival word e = let parts = and_parts _ _ e in (not-true word.write parts.0, (eqb-true word.readers 0 (and_parts (eqb word.readers 0) _ parts.1).0, refl, refl))
 acquired_holders Read arrival word e = let free = not-true word.write (and_parts _ _ e).0 in (free, (free, refl))
 
