@@ -9,6 +9,7 @@ use Rattle.ns_word.specs.Prelude.{TryAcquire, TryLoad, TryPlace, Variables, Visi
 use Rattle.ns_word.specs.Prelude.{is_limited, is_met, judge_of, look_or_queue, newly_held, opening_by, part_of, place_has_come_back, reply_for, standing_after, unmet_by, want_acquiring, want_in_cells, want_leaving, want_of, want_releasing, want_showing}
 use Rattle.ns_word.specs.Prelude.{want_signaling, want_trying, want_waiting}
 use Rattle.ns_word.proofs.Follows.{Follows, follows, may_end}
+use Rattle.ns_word.proofs.Looks.{look_in, marks_at, marks_of}
 use Rattle.ns_word.proofs.Views.{each_parts}
 
 -- where a wait answers nothing, the call goes on
@@ -160,72 +161,19 @@ variable_answers_back {C} {N} truths seats h old new view found commits wait pla
 
 -- ---- from the answer to the commit
 
--- what a look goes by, where the act is one, and whether its wait has come back
-abbrev pub look_of_act : {C : Type 0} → Act C → Option (Limits × Bool)
-look_of_act (Look limits again) = Some (limits, again)
-look_of_act act = None
-
 -- a look with the section in hand of a wait that has come back
+abbrev again_by : Option (Limits × Bool) → Bool
+again_by None = false
+again_by (Some look) = look.1
+
 abbrev looks_again : {C : Type 0} → Act C → Bool
-looks_again (Look limits again) = again
-looks_again act = false
-
--- only waits look
-pub try_looks_not : (C : Type 0) (mode : Mode) (place : TryPlace) → look_of_act {C = C} (want_trying mode place) ≡ None
-try_looks_not C mode TryLoad = refl
-try_looks_not C mode (TryAcquire last) = refl
-
-pub acquire_looks_not : {C : Type 0} (aim : Aim C) (place : AcquirePlace) → look_of_act (want_acquiring aim place) ≡ None
-acquire_looks_not aim (AcquireLoad arrival) = refl
-acquire_looks_not aim other = refl
-
-pub release_looks_not : (C : Type 0) (releasing : Releasing) (place : ReleasePlace) → look_of_act {C = C} (want_releasing releasing place) ≡ None
-release_looks_not C releasing ReleaseLoad = refl
-release_looks_not C releasing other = refl
-
-pub cells_look_not : (C : Type 0) (place : CellPlace) → look_of_act {C = C} (want_in_cells place) ≡ None
-cells_look_not C (GetLoad i) = refl
-cells_look_not C other = refl
-
-pub leaver_looks_not : {C : Type 0} (wait : Wait C) (place : LeavePlace) → look_of_act (want_leaving wait place) ≡ None
-leaver_looks_not wait LeaveLoad = refl
-leaver_looks_not wait other = refl
-
-pub judge_looks_not : {C : Type 0} (on : Subject C) (i : ℕ) → look_of_act (judge_of on i) ≡ None
-judge_looks_not (OnCondition c) i = refl
-judge_looks_not (OnVariables variables) i = refl
-
-pub signal_looks_not : (C : Type 0) (waking : Waking) (k : ℕ) (place : SignalPlace) → look_of_act {C = C} (want_signaling waking k place) ≡ None
-signal_looks_not C waking k SignalLoad = refl
-signal_looks_not C waking k other = refl
-
-pub show_looks_not : (C : Type 0) (place : ShowPlace) → look_of_act {C = C} (want_showing place) ≡ None
-show_looks_not C ShowLoad = refl
-show_looks_not C other = refl
-
-looks_none : {C : Type 0} (act : Act C) → look_of_act act ≡ None → looks_again act ≡ false
-looks_none (Look limits again) e = absurd (cc)
-looks_none act e = refl
-
-looks_at : {C : Type 0} (wait : Wait C) (place : WaitPlace) → place_has_come_back place ≡ false → looks_again (want_waiting wait place) ≡ false
-looks_at wait (TestLast visit i) e = looks_none (judge_of wait.on i) (judge_looks_not wait.on i)
-looks_at wait (InQueuing again LookIn) e = e
-looks_at wait (InQueuing again Load) e = refl
-looks_at wait (InQueuing again (Take last)) e = refl
-looks_at wait (InQueuing again (ArmToWait last)) e = refl
-looks_at wait (InQueuing again (LoadToScan last i)) e = refl
-looks_at wait (InQueuing again (QueueToWait last)) e = refl
-looks_at wait (InLeaving cause place) e = looks_none (want_leaving wait place) (leaver_looks_not wait place)
-looks_at wait other e = refl
+looks_again act = again_by (marks_of act).0
 
 looks_by : {C : Type 0} (walk : Walk C) → has_come_back walk ≡ false → looks_again (want_of walk) ≡ false
-looks_by {C} (InTry mode place) e = looks_none (want_trying mode place) (try_looks_not C mode place)
-looks_by (InAcquire aim place) e = looks_none (want_acquiring aim place) (acquire_looks_not aim place)
-looks_by {C} (InRelease releasing place) e = looks_none (want_releasing releasing place) (release_looks_not C releasing place)
-looks_by {C} (InCells place) e = looks_none (want_in_cells place) (cells_look_not C place)
-looks_by (InWait wait place) e = looks_at wait place e
-looks_by {C} (InSignal waking k place) e = looks_none (want_signaling waking k place) (signal_looks_not C waking k place)
-looks_by {C} (InShow place) e = looks_none (want_showing place) (show_looks_not C place)
+looks_by walk out = ap (λ (marks : Option (Limits × Bool) × Bool). again_by marks.0) (marks_at walk) ∙ first walk out where
+  first : {C : Type 0} (walk : Walk C) → has_come_back walk ≡ false → again_by (look_in walk) ≡ false
+  first (InWait wait (InQueuing again LookIn)) e = e
+  first walk e = refl
 
 module _ {C : Type 0} {N : ℕ} where
   -- what a section says of how it began is the same

@@ -12,7 +12,7 @@ use Rattle.ns_word.specs.Prelude.{judge_of, kept_by, moved_to, outside, part_of,
 use Rattle.ns_word.specs.Prelude.{want_acquiring, want_in_cells, want_leaving, want_of, want_releasing, want_showing, want_signaling, want_trying, want_waiting, was_woken}
 use Rattle.ns_queue.proofs.Outside.{broadcast_outside, signal_outside}
 use Rattle.ns_word.proofs.CountsIn.{OnceInEach}
-use Rattle.ns_word.proofs.Answers.{acquire_looks_not, cells_look_not, judge_looks_not, leaver_looks_not, look_of_act, release_looks_not, signal_looks_not, show_looks_not, try_looks_not}
+use Rattle.ns_word.proofs.Looks.{look_here, look_in}
 use Rattle.ns_word.proofs.Follows.{FoundCalled, follows}
 use Rattle.ns_word.proofs.Keeps.{none_of}
 use Rattle.ns_word.proofs.Numbers.{split_at}
@@ -107,36 +107,12 @@ module _ {C : Type 0} (limits : Limits) (again : Bool) where
   abbrev LooksBy : Walk C → Type 0
   LooksBy walk = (wait : Wait C) × (asked_of walk ≡ Await wait) × (wait.limits ≡ limits) × (again ≡ has_come_back walk)
 
-  -- an act that is no look
-  pub no_look : (act : Act C) → look_of_act act ≡ None → act ≡ Look limits again → ⊥
-  no_look act none e = let some : look_of_act act ≡ Some (limits, again) = ap look_of_act e in absurd (cc)
-
-  -- an act that is the look of a wait
-  looks_so : (wait : Wait C) (place : WaitPlace) (act : Act C) (flag : Bool) → act ≡ Look wait.limits flag → flag ≡ has_come_back (InWait wait place) → act ≡ Look limits again → LooksBy (InWait wait place)
-  looks_so wait place act flag e back is = let both = ap look_of_act (sym e ∙ is) in let same : flag ≡ again = cc in (wait, refl, cc, sym same ∙ back)
-
-  wait_looks : (wait : Wait C) (place : WaitPlace) → want_waiting wait place ≡ Look limits again → LooksBy (InWait wait place)
-  wait_looks wait (TestCells visit i) e = absurd (cc)
-  wait_looks wait (TestLast visit i) e = absurd (no_look (judge_of wait.on i) (judge_looks_not wait.on i) e)
-  wait_looks wait (InQueuing flag LookIn) e = looks_so wait (InQueuing flag LookIn) _ flag refl refl e
-  wait_looks wait (InQueuing flag Load) e = absurd (cc)
-  wait_looks wait (InQueuing flag (Take last)) e = absurd (cc)
-  wait_looks wait (InQueuing flag (ArmToWait last)) e = absurd (cc)
-  wait_looks wait (InQueuing flag (LoadToScan last i)) e = absurd (cc)
-  wait_looks wait (InQueuing flag (QueueToWait last)) e = absurd (cc)
-  wait_looks wait PayInWait e = absurd (cc)
-  wait_looks wait AwaitWakeInWait e = absurd (cc)
-  wait_looks wait LookOut e = looks_so wait LookOut _ false refl refl e
-  wait_looks wait (InLeaving cause place) e = absurd (no_look (want_leaving wait place) (leaver_looks_not wait place) e)
-
   pub looks_by_asked : (walk : Walk C) → want_of walk ≡ Look limits again → LooksBy walk
-  looks_by_asked (InTry mode place) e = absurd (no_look (want_trying mode place) (try_looks_not C mode place) e)
-  looks_by_asked (InAcquire aim place) e = absurd (no_look (want_acquiring aim place) (acquire_looks_not aim place) e)
-  looks_by_asked (InRelease releasing place) e = absurd (no_look (want_releasing releasing place) (release_looks_not C releasing place) e)
-  looks_by_asked (InCells place) e = absurd (no_look (want_in_cells place) (cells_look_not C place) e)
-  looks_by_asked (InWait wait place) e = wait_looks wait place e
-  looks_by_asked (InSignal waking k place) e = absurd (no_look (want_signaling waking k place) (signal_looks_not C waking k place) e)
-  looks_by_asked (InShow place) e = absurd (no_look (want_showing place) (show_looks_not C place) e)
+  looks_by_asked walk e = found walk (look_here walk limits again e) where
+    found : (walk : Walk C) → look_in walk ≡ Some (limits, again) → LooksBy walk
+    found (InWait wait (InQueuing flag LookIn)) is = let same : ◌≡◌ {A = Limits × Bool} (wait.limits, flag) (limits, again) = cc in (wait, refl, ap (λ look. look.0) same, ap (λ look. look.1) (sym same))
+    found (InWait wait LookOut) is = let same : ◌≡◌ {A = Limits × Bool} (wait.limits, false) (limits, again) = cc in (wait, refl, ap (λ look. look.0) same, ap (λ look. look.1) (sym same))
+    found walk is = absurd (cc)
 
 -- A wait that something may end early looks where it finds its flag set.
 pub set_flag_looks : {C : Type 0} (N : ℕ) (wait : Wait C) → is_limited wait.limits ≡ true → (next : Walk C) × (walk_after (got_of N (InWait wait AwaitWakeInWait) (Flag 1)) ≡ Some next) × (want_of next ≡ Look wait.limits false)

@@ -22,6 +22,7 @@ pub mod Leads
 pub mod Leavers
 pub mod Leaving
 pub mod Longs
+pub mod Looks
 pub mod Mapped
 pub mod Numbers
 pub mod Owns

@@ -1,0 +1,45 @@
+-- Which places look, and which load their seat's flag.
+use Rattle.std.proofs.Common.{◌≡◌, ℕ, Bool, true, false, Option, None, Some, refl, ap, sym, ◌∙◌}
+use Rattle.ns_word.specs.Prelude.{AcquireLoad, Act, AwaitWake, AwaitWakeInWait, AwaitWakeToLeave, GetLoad, InAcquire, InCells, InLeaving, InQueuing, InRelease, InShow, InSignal, InTry, InWait, LeaveLoad, Limits, Load, LoadFlag, Look, LookIn, LookOut, OnCondition, OnVariables, ReleaseLoad, ShowLoad, SignalLoad, Subject, TestLast, TryLoad, Walk, judge_of, want_of}
+
+-- what a look goes by, where the act is one, and whether its wait has come back; then whether the act loads the flag
+abbrev pub marks_of : {C : Type 0} → Act C → Option (Limits × Bool) × Bool
+marks_of (Look limits again) = (Some (limits, again), false)
+marks_of LoadFlag = (None, true)
+marks_of act = (None, false)
+
+-- the look that a place wants, and whether it wants its flag
+abbrev pub look_in : {C : Type 0} → Walk C → Option (Limits × Bool)
+look_in (InWait wait (InQueuing again LookIn)) = Some (wait.limits, again)
+look_in (InWait wait LookOut) = Some (wait.limits, false)
+look_in walk = None
+
+abbrev pub flag_in : {C : Type 0} → Walk C → Bool
+flag_in (InAcquire aim (AwaitWake tries)) = true
+flag_in (InWait wait AwaitWakeInWait) = true
+flag_in (InWait wait (InLeaving cause AwaitWakeToLeave)) = true
+flag_in walk = false
+
+judges : {C : Type 0} (on : Subject C) (i : ℕ) → marks_of (judge_of on i) ≡ (None, false)
+judges (OnCondition c) i = refl
+judges (OnVariables variables) i = refl
+
+-- naming one place of each group makes the last line stand for each of the others
+pub marks_at : {C : Type 0} (walk : Walk C) → marks_of (want_of walk) ≡ (look_in walk, flag_in walk)
+marks_at (InTry mode TryLoad) = refl
+marks_at (InAcquire aim (AcquireLoad arrival)) = refl
+marks_at (InRelease releasing ReleaseLoad) = refl
+marks_at (InCells (GetLoad i)) = refl
+marks_at (InWait wait (TestLast visit i)) = judges wait.on i
+marks_at (InWait wait (InQueuing again Load)) = refl
+marks_at (InWait wait (InLeaving cause LeaveLoad)) = refl
+marks_at (InSignal waking k SignalLoad) = refl
+marks_at (InShow ShowLoad) = refl
+marks_at walk = refl
+
+-- so of an act that is known
+pub look_here : {C : Type 0} (walk : Walk C) (limits : Limits) (again : Bool) → want_of walk ≡ Look limits again → look_in walk ≡ Some (limits, again)
+look_here walk limits again e = sym (ap (λ marks. marks.0) (marks_at walk)) ∙ ap (λ act. (marks_of act).0) e
+
+pub flag_here : {C : Type 0} (walk : Walk C) → want_of walk ≡ LoadFlag → flag_in walk ≡ true
+flag_here walk e = sym (ap (λ marks. marks.1) (marks_at walk)) ∙ ap (λ act. (marks_of act).1) e
