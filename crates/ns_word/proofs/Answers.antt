@@ -9,7 +9,8 @@ use Rattle.ns_word.specs.Prelude.{TryAcquire, TryLoad, TryPlace, Variables, Visi
 use Rattle.ns_word.specs.Prelude.{is_limited, is_met, judge_of, look_or_queue, newly_held, opening_by, part_of, place_has_come_back, reply_for, standing_after, unmet_by, want_acquiring, want_in_cells, want_leaving, want_of, want_releasing, want_showing}
 use Rattle.ns_word.specs.Prelude.{want_signaling, want_trying, want_waiting}
 use Rattle.ns_word.proofs.Follows.{Follows, follows, may_end}
-use Rattle.ns_word.proofs.Looks.{look_in, marks_at, marks_of}
+use Rattle.ns_word.proofs.Effects.{BeganSo, makes}
+use Rattle.ns_word.proofs.Looks.{looks_by}
 use Rattle.ns_word.proofs.Views.{each_parts}
 
 -- where a wait answers nothing, the call goes on
@@ -161,74 +162,8 @@ variable_answers_back {C} {N} truths seats h old new view found commits wait pla
 
 -- ---- from the answer to the commit
 
--- a look with the section in hand of a wait that has come back
-abbrev again_by : Option (Limits × Bool) → Bool
-again_by None = false
-again_by (Some look) = look.1
-
-abbrev looks_again : {C : Type 0} → Act C → Bool
-looks_again act = again_by (marks_of act).0
-
-looks_by : {C : Type 0} (walk : Walk C) → has_come_back walk ≡ false → looks_again (want_of walk) ≡ false
-looks_by walk out = ap (λ (marks : Option (Limits × Bool) × Bool). again_by marks.0) (marks_at walk) ∙ first walk out where
-  first : {C : Type 0} (walk : Walk C) → has_come_back walk ≡ false → again_by (look_in walk) ≡ false
-  first (InWait wait (InQueuing again LookIn)) e = e
-  first walk e = refl
-
-module _ {C : Type 0} {N : ℕ} where
-  -- what a section says of how it began is the same
-  abbrev BeganSo : Held C N → Held C N → Type 0
-  BeganSo was held = (held.mode ≡ was.mode) × (held.before ≡ was.before) × (held.entry ≡ was.entry)
-
-  same_section : (was held : Held C N) → held ≡ was → BeganSo was held
-  same_section was held e = (ap (λ (x : Held C N). x.mode) e, ap (λ (x : Held C N). x.before) e, ap (λ (x : Held C N). x.entry) e)
-
-  stays_so : (was held : Held C N) (old new : Option (Held C N)) → old ≡ Some was → new ≡ Some held → new ≡ old → BeganSo was held
-  stays_so was held old new p q e = let same : Some held ≡ Some was = sym q ∙ e ∙ p in same_section was held cc
-
-  -- there is none before, or none after
-  none_so : (was held : Held C N) (some : Held C N) (one : Option (Held C N)) → one ≡ Some some → one ≡ None → BeganSo was held
-  none_so was held some one p e = let clash : None ≡ Some some = sym e ∙ p in absurd (cc)
-
-  -- a cell is stored
-  stored_so : (was held from : Held C N) (row : List ℕ) (old new : Option (Held C N)) → old ≡ Some was → new ≡ Some held → old ≡ Some from → new ≡ Some (record from { row = row }) → BeganSo was held
-  stored_so was held from row old new p q e f =
-      let one : Some from ≡ Some was = sym e ∙ p in let other : Some held ≡ Some (record from { row = row }) = sym q ∙ f in
-      let start : from ≡ was = cc in let end : held ≡ record from { row = row } = cc in
-      let b = same_section (record from { row = row }) held end in let a = same_section was from start in
-      (b.0 ∙ a.0, b.1 ∙ a.1, b.2 ∙ a.2)
-
-  effect_so : (truths : Truths C) (seat : ℕ) (act : Act C) (old : Part C N) (found : Found) (new : Part C N) (commits : List (Event C N)) (was held : Held C N) → looks_again act ≡ false →
-      Effect truths seat act old found new commits → old.held ≡ Some was → new.held ≡ Some held → BeganSo was held
-  effect_so truths seat LoadWord old (Saw word) new commits was held n e p q = stays_so was held old.held new.held p q (ap (λ (x : Part C N). x.held) e.1)
-  effect_so truths seat (Acquire aim arrival last) old (Saw word) new commits was held n e p q = stays_so was held old.held new.held p q (ap (λ (x : Part C N). x.held) e.2)
-  effect_so truths seat (TakeQueues taking last) old (Saw word) new commits was held n e p q = stays_so was held old.held new.held p q (ap (λ (x : Part C N). x.held) e.2)
-  effect_so truths seat (ReturnQueues change last) old (Saw word) new commits was held n e p q = stays_so was held old.held new.held p q (ap (λ (x : Part C N). x.held) e.2)
-  effect_so truths seat (Release releasing last) old (Saw word) new commits was held n e p q = stays_so was held old.held new.held p q (ap (λ (x : Part C N). x.held) e.2)
-  effect_so truths seat (ReleaseReturning releasing last) old (Saw word) new commits was held n e p q = stays_so was held old.held new.held p q (ap (λ (x : Part C N). x.held) e.2)
-  effect_so truths seat (WaitReturning wait again last) old (Saw word) new commits was held n e p q = stays_so was held old.held new.held p q (ap (λ (x : Part C N). x.held) e.2)
-  effect_so truths seat (Acquire aim arrival last) old Made new commits was held n e p q = none_so was held was old.held p e.2
-  effect_so truths seat (TakeQueues taking last) old Made new commits was held n e p q = stays_so was held old.held new.held p q (ap (λ (x : Part C N). x.held) e.2)
-  effect_so truths seat (ReturnQueues change last) old Made new commits was held n e p q = stays_so was held old.held new.held p q (ap (λ (x : Part C N). x.held) e.2)
-  effect_so truths seat (ReturnQueues change last) old (Left stood) new commits was held n e p q = stays_so was held old.held new.held p q (ap (λ (x : Part C N). x.held) e.2)
-  effect_so truths seat (ReturnQueues change last) old (Woke owes) new commits was held n e p q = stays_so was held old.held new.held p q (ap (λ (x : Part C N). x.held) e.2)
-  effect_so truths seat (Release releasing last) old Made new commits was held n e p q = none_so was held held new.held q (ap (λ (x : Part C N). x.held) e.4)
-  effect_so truths seat (ReleaseReturning releasing last) old (Scanned owes tests) new commits was held n e p q = none_so was held held new.held q (ap (λ (x : Part C N). x.held) e.4)
-  effect_so truths seat (WaitReturning wait again last) old (Scanned owes tests) new commits was held n e p q = none_so was held held new.held q (ap (λ (x : Part C N). x.held) e.4)
-  effect_so truths seat (LoadCell i) old (Cell v) new commits was held n e p q = stays_so was held old.held new.held p q (ap (λ (x : Part C N). x.held) e.1)
-  effect_so truths seat (JudgeQuiet i) old (Quiet is_quiet) new commits was held n e p q = stays_so was held old.held new.held p q (ap (λ (x : Part C N). x.held) e.3)
-  effect_so truths seat (JudgeMet i c) old (Tested met) new commits was held n e p q = stays_so was held old.held new.held p q (ap (λ (x : Part C N). x.held) e.3)
-  effect_so truths seat (StoreCell i v) old Made new commits was held n e p q = stored_so was held e.0 (slice_set e.0.row i v) old.held new.held p q e.1 (ap (λ (x : Part C N). x.held) e.3)
-  effect_so truths seat ArmFlag old Made new commits was held n e p q = stays_so was held old.held new.held p q (ap (λ (x : Part C N). x.held) e.0)
-  effect_so truths seat PayWake old (Paid owes) new commits was held n e p q = stays_so was held old.held new.held p q (ap (λ (x : Part C N). x.held) e.3)
-  effect_so truths seat LoadFlag old (Flag v) new commits was held n e p q = stays_so was held old.held new.held p q (ap (λ (x : Part C N). x.held) e.1)
-  effect_so truths seat (Look limits false) old (Looked None) new commits was held n e p q = stays_so was held old.held new.held p q (ap (λ (x : Part C N). x.held) e.1)
-  effect_so truths seat (Look limits false) old (Looked (Some cause)) new commits was held n e p q = stays_so was held old.held new.held p q (ap (λ (x : Part C N). x.held) e.1)
-  effect_so truths seat (Look limits true) old (Looked cause) new commits was held n e p q = absurd (cc)
-  effect_so truths seat _ old _ new commits was held n e p q = absurd e
-
 -- What a section says of how it began stays until it is left, but for the looks of a wait that has come back.
 pub keep_beginning : {C : Type 0} {N : ℕ} (truths : Truths C) (old new : LockState C N) (view : SeatView C N) (found : Found) (commits : List (Event C N)) (was held : Held C N) →
     (step : Step truths old view found new commits) → has_come_back step.walk ≡ false → view.held ≡ Some was → step.held ≡ Some held → BeganSo was held
 keep_beginning truths old new view found commits was held step n p q =
-    effect_so truths view.seat (want_of step.walk) (part_of old view.held view.owed) found (part_of new step.held step.owed) commits was held (looks_by step.walk n) step.effect p q
+    (makes truths view.seat (want_of step.walk) (part_of old view.held view.owed) found (part_of new step.held step.owed) commits step.effect).began was held (looks_by step.walk n) p q

@@ -8,6 +8,7 @@ pub mod Codes
 pub mod CountsIn
 pub mod Courses
 pub mod Dispatch
+pub mod Effects
 pub mod Enters
 pub mod Finds
 pub mod Firsts

@@ -1,6 +1,6 @@
 -- Which places look, and which load their seat's flag.
 use Rattle.std.proofs.Common.{◌≡◌, ℕ, Bool, true, false, Option, None, Some, refl, ap, sym, ◌∙◌}
-use Rattle.ns_word.specs.Prelude.{AcquireLoad, Act, AwaitWake, AwaitWakeInWait, AwaitWakeToLeave, GetLoad, InAcquire, InCells, InLeaving, InQueuing, InRelease, InShow, InSignal, InTry, InWait, LeaveLoad, Limits, Load, LoadFlag, Look, LookIn, LookOut, OnCondition, OnVariables, ReleaseLoad, ShowLoad, SignalLoad, Subject, TestLast, TryLoad, Walk, judge_of, want_of}
+use Rattle.ns_word.specs.Prelude.{has_come_back, AcquireLoad, Act, AwaitWake, AwaitWakeInWait, AwaitWakeToLeave, GetLoad, InAcquire, InCells, InLeaving, InQueuing, InRelease, InShow, InSignal, InTry, InWait, LeaveLoad, Limits, Load, LoadFlag, Look, LookIn, LookOut, OnCondition, OnVariables, ReleaseLoad, ShowLoad, SignalLoad, Subject, TestLast, TryLoad, Walk, judge_of, want_of}
 
 -- what a look goes by, where the act is one, and whether its wait has come back; then whether the act loads the flag
 abbrev pub marks_of : {C : Type 0} → Act C → Option (Limits × Bool) × Bool
@@ -43,3 +43,17 @@ look_here walk limits again e = sym (ap (λ marks. marks.0) (marks_at walk)) ∙
 
 pub flag_here : {C : Type 0} (walk : Walk C) → want_of walk ≡ LoadFlag → flag_in walk ≡ true
 flag_here walk e = sym (ap (λ marks. marks.1) (marks_at walk)) ∙ ap (λ act. (marks_of act).1) e
+
+-- a look with the section in hand of a wait that has come back
+abbrev pub again_by : Option (Limits × Bool) → Bool
+again_by None = false
+again_by (Some look) = look.1
+
+abbrev pub looks_again : {C : Type 0} → Act C → Bool
+looks_again act = again_by (marks_of act).0
+
+pub looks_by : {C : Type 0} (walk : Walk C) → has_come_back walk ≡ false → looks_again (want_of walk) ≡ false
+looks_by walk out = ap (λ (marks : Option (Limits × Bool) × Bool). again_by marks.0) (marks_at walk) ∙ first walk out where
+  first : {C : Type 0} (walk : Walk C) → has_come_back walk ≡ false → again_by (look_in walk) ≡ false
+  first (InWait wait (InQueuing again LookIn)) e = e
+  first walk e = refl
