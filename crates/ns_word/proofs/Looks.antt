@@ -1,14 +1,15 @@
--- Which places look, and which load their seat's flag.
+-- Which places look, which load their seat's flag, and which acquire.
 use Rattle.std.proofs.Common.{◌≡◌, ℕ, Bool, true, false, Option, None, Some, refl, ap, sym, ◌∙◌}
-use Rattle.ns_word.specs.Prelude.{has_come_back, AcquireLoad, Act, AwaitWake, AwaitWakeInWait, AwaitWakeToLeave, GetLoad, InAcquire, InCells, InLeaving, InQueuing, InRelease, InShow, InSignal, InTry, InWait, LeaveLoad, Limits, Load, LoadFlag, Look, LookIn, LookOut, OnCondition, OnVariables, ReleaseLoad, ShowLoad, SignalLoad, Subject, TestLast, TryLoad, Walk, judge_of, want_of}
+use Rattle.ns_word.specs.Prelude.{Acquire, AcquireExchange, Arrival, AsFresh, Mode, TryAcquire, Word, mode_for, has_come_back, AcquireLoad, Act, AwaitWake, AwaitWakeInWait, AwaitWakeToLeave, GetLoad, InAcquire, InCells, InLeaving, InQueuing, InRelease, InShow, InSignal, InTry, InWait, LeaveLoad, Limits, Load, LoadFlag, Look, LookIn, LookOut, OnCondition, OnVariables, ReleaseLoad, ShowLoad, SignalLoad, Subject, TestLast, TryLoad, Walk, judge_of, want_of}
 
--- what a look goes by, where the act is one, and whether its wait has come back; then whether the act loads the flag
-abbrev pub marks_of : {C : Type 0} → Act C → Option (Limits × Bool) × Bool
-marks_of (Look limits again) = (Some (limits, again), false)
-marks_of LoadFlag = (None, true)
-marks_of act = (None, false)
+-- what a look goes by, where the act is one, and whether its wait has come back; whether the act loads the flag; and how it acquires, and by which word, if it does
+abbrev pub marks_of : {C : Type 0} → Act C → Option (Limits × Bool) × Bool × Option (Mode × Arrival × Word)
+marks_of (Look limits again) = (Some (limits, again), false, None)
+marks_of LoadFlag = (None, true, None)
+marks_of (Acquire aim arrival last) = (None, false, Some (mode_for aim, arrival, last))
+marks_of act = (None, false, None)
 
--- the look that a place wants, and whether it wants its flag
+-- the look that a place wants, whether it wants its flag, and how it wants to acquire
 abbrev pub look_in : {C : Type 0} → Walk C → Option (Limits × Bool)
 look_in (InWait wait (InQueuing again LookIn)) = Some (wait.limits, again)
 look_in (InWait wait LookOut) = Some (wait.limits, false)
@@ -20,12 +21,17 @@ flag_in (InWait wait AwaitWakeInWait) = true
 flag_in (InWait wait (InLeaving cause AwaitWakeToLeave)) = true
 flag_in walk = false
 
-judges : {C : Type 0} (on : Subject C) (i : ℕ) → marks_of (judge_of on i) ≡ (None, false)
+abbrev pub acquire_in : {C : Type 0} → Walk C → Option (Mode × Arrival × Word)
+acquire_in (InTry mode (TryAcquire last)) = Some (mode, AsFresh, last)
+acquire_in (InAcquire aim (AcquireExchange arrival last)) = Some (mode_for aim, arrival, last)
+acquire_in walk = None
+
+judges : {C : Type 0} (on : Subject C) (i : ℕ) → marks_of (judge_of on i) ≡ (None, false, None)
 judges (OnCondition c) i = refl
 judges (OnVariables variables) i = refl
 
 -- naming one place of each group makes the last line stand for each of the others
-pub marks_at : {C : Type 0} (walk : Walk C) → marks_of (want_of walk) ≡ (look_in walk, flag_in walk)
+pub marks_at : {C : Type 0} (walk : Walk C) → marks_of (want_of walk) ≡ (look_in walk, flag_in walk, acquire_in walk)
 marks_at (InTry mode TryLoad) = refl
 marks_at (InAcquire aim (AcquireLoad arrival)) = refl
 marks_at (InRelease releasing ReleaseLoad) = refl
@@ -53,7 +59,7 @@ abbrev pub looks_again : {C : Type 0} → Act C → Bool
 looks_again act = again_by (marks_of act).0
 
 pub looks_by : {C : Type 0} (walk : Walk C) → has_come_back walk ≡ false → looks_again (want_of walk) ≡ false
-looks_by walk out = ap (λ (marks : Option (Limits × Bool) × Bool). again_by marks.0) (marks_at walk) ∙ first walk out where
+looks_by walk out = ap again_by (ap (λ marks. marks.0) (marks_at walk)) ∙ first walk out where
   first : {C : Type 0} (walk : Walk C) → has_come_back walk ≡ false → again_by (look_in walk) ≡ false
   first (InWait wait (InQueuing again LookIn)) e = e
   first walk e = refl
