@@ -6,7 +6,7 @@ use Rattle.ns_word.specs.Prelude.{ScanAndRelease, ScanCells, SeatView, SetLoad, 
 use Rattle.ns_word.specs.Prelude.{awaits, has_some, judge_of, part_of, pays, standing_after, times, times_among, walk_at, want_of, want_waiting}
 use Rattle.ns_word.specs.Prelude.{Tests, Visit}
 use Rattle.ns_word.proofs.Views.{walk_here, apart_parts, each_parts}
-use Rattle.ns_word.proofs.Keeps.{none_of}
+use Rattle.ns_word.proofs.Listed.{none_of}
 use Rattle.ns_word.proofs.Ranges.{else_not, owed_below, readers_fewer}
 
 -- ---- the list of a wait is one that there is

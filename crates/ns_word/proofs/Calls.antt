@@ -14,7 +14,7 @@ use Rattle.ns_queue.proofs.Outside.{broadcast_outside, signal_outside}
 use Rattle.ns_word.proofs.CountsIn.{OnceInEach}
 use Rattle.ns_word.proofs.Looks.{look_here, look_in}
 use Rattle.ns_word.proofs.Follows.{FoundCalled, follows}
-use Rattle.ns_word.proofs.Keeps.{none_of}
+use Rattle.ns_word.proofs.Listed.{none_of}
 use Rattle.ns_word.proofs.Numbers.{split_at}
 use Rattle.ns_word.proofs.Views.{each_parts}
 

@@ -17,6 +17,7 @@ use Rattle.ns_model.specs.declared.phase.Phase.TheVariants.{Woken}
 use Rattle.ns_model.proofs.Tallies.{every_parts, every_join}
 use Rattle.ns_queue.proofs.Taken.{times_signaled, every_signaled}
 use Rattle.ns_queue.proofs.Wakes.{signal_legal, broadcast_legal}
+use Rattle.ns_word.proofs.Listed.{none_of}
 use Rattle.ns_word.proofs.Groups.{Homed, Known, Groups, groups_of, lawful_by}
 use Rattle.ns_word.proofs.Knows.{nothing_called, rests as known_rests, takes as known_takes}
 use Rattle.ns_word.proofs.Views.{apart_parts, view_of, each_parts, walk_here}
@@ -29,7 +30,7 @@ use Rattle.ns_word.proofs.Safes.{section, same_section}
 use Rattle.ns_word.proofs.Follows.{follows}
 use Rattle.ns_word.proofs.Seen.{packable, found_fits}
 use Rattle.ns_word.proofs.Scans.{some_wakes}
-use Rattle.ns_word.proofs.Keeps.{Same, Stays, none_of, rests, acquires, stores, releases, takes, arms, enqueues, withdraws, returns, leaves as leaves_variable, scans, waits, waits_on, waits_for, wakes, sees, wakes_waiters}
+use Rattle.ns_word.proofs.Keeps.{Same, Stays, rests, acquires, stores, releases, takes, arms, enqueues, withdraws, returns, leaves as leaves_variable, scans, waits, waits_on, waits_for, wakes, sees, wakes_waiters}
 use Rattle.ns_word.proofs.Leads.{Leads, leads_to, none_settled, shown_settled, try_leads, acquire_leads, acquired_leads, test_leads, met_leads, shown_section, queue_leads, leave_leads, rest_leads, pay_waiting_leads, release_leads, scan_leads, taken_leads, quiet_leads, judged_leads, pay_leads, calm_release}
 use Rattle.ns_word.proofs.Leads.{load_leads, armed_leads, signal_leads, pay_woken_leads, show_leads}
 

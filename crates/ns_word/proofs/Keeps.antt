@@ -2,7 +2,7 @@
 use Rattle.std.proofs.Common.{◌≡◌, ◌≢◌, ◌⊎◌, inl, inr, ℕ, ◌+◌, ◌-◌, ◌<◌, ◌≤◌, Bool, true, false, not, cond, eqb, ◌&&◌, List, [], ◌∷◌, ◌++◌, length, Option, None, Some, is_some, slice_set, refl, ap, sym, ◌∙◌, subst, arith, eq-eqb}
 use Rattle.std.specs.List.{sum_by}
 use Rattle.std.proofs.lemmas.List.{length-map}
-use Rattle.std.proofs.lemmas.Bool.{ne_eqb, eqb-true, and_parts, not-true, both_ways}
+use Rattle.std.proofs.lemmas.Bool.{cases_Bool, ne_eqb, eqb-true, and_parts, not-true, both_ways}
 use Rattle.ns_word.specs.Prelude.{Any, AreVariables, Arrival, Cond, CondWait, Cv, Event, Every, Exit, ExitFits, Held, IsExpected, IsLegalEvent, IsNamed, IsSettledBy, Lists, LockState, Mode, NoneIs, OnCondition, OnVariables, Only, Opening, Owed, OwesAs, Phase, PlaceFits, Plain, QuietWriter, Read}
 use Rattle.ns_word.specs.Prelude.{Reader, Releasing, SeatView, Stance, Standing, Subject, TakenTold, Taking, Tells, ToChange, ToQueue, Truths, VariableWaiterFits, Variables, VariablesTell, ViewFits, Waiter, WaiterNames, WaitersOwn, WaitersPlaced, Waiting, Walk, Word, Write, Writer, awaits}
 use Rattle.ns_word.specs.Prelude.{bits_in, bits_of, called_of, called_to, calls_from_lock, counts_in, cvs_without, exit_for, first_standing, flags_with, has_armed, has_eligible, has_queues, has_some, is_armed, is_held, is_in, is_of, is_on_way, is_queuing, is_unwoken, is_woken, left_of, left_phase}
@@ -15,15 +15,16 @@ use Rattle.ns_queue.proofs.Seats.{times_in-append}
 use Rattle.ns_queue.proofs.Taken.{in_stands}
 use Rattle.ns_queue.proofs.Wakes.{stands_waits}
 use Rattle.ns_queue.proofs.Parts.{times_at_most}
+use Rattle.ns_word.proofs.Listed.{listed_left, listed_queued, listed_without, none_of}
 use Rattle.ns_word.proofs.Groups.{Safe, Homed, Known, Groups}
-use Rattle.ns_word.proofs.Knows.{bool_cases, is_loud, due_flag, nothing_called, rests as known_rests, acquires as known_acquires, arms as known_arms, puts, withdraws as known_withdraws, moves_in as known_moves, releases as known_releases, scans as known_scans, pays_one as known_pays}
+use Rattle.ns_word.proofs.Knows.{is_loud, due_flag, nothing_called, rests as known_rests, acquires as known_acquires, arms as known_arms, puts, withdraws as known_withdraws, moves_in as known_moves, releases as known_releases, scans as known_scans, pays_one as known_pays}
 use Rattle.ns_word.proofs.Knows.{sees_wake as known_sees}
 use Rattle.ns_word.proofs.Views.{view_of, apart_parts, each_parts, called_most, walk_here}
 use Rattle.ns_word.proofs.Waits.{not_due, cleared, placed_here, rested, armed, taken, entered, withdraws as withdrawn, woke, seen}
 use Rattle.ns_word.proofs.Owns.{own_stays, own_same, nowhere, own_queued, own_scanned, own_waited, own_without, own_moved}
 use Rattle.ns_word.proofs.CountsIn.{counts_gone, counts_lock, counts_none, counts_others, counts_somewhere, counts_taken, cvs_left, once_left, once_taken, some_list}
-use Rattle.ns_word.proofs.TakenTold.{left_stays, listed_left, listed_queued, listed_without, listed_woken, same_stays, told_arms, told_enters, told_pays, told_stays, told_wakes}
-use Rattle.ns_word.proofs.Variables.{one_of, tell_same, tell_moves, tell_enters, tell_leaves, tell_lists, tell_taken, waits_of}
+use Rattle.ns_word.proofs.TakenTold.{left_stays, listed_woken, same_stays, told_arms, told_enters, told_pays, told_stays, told_wakes}
+use Rattle.ns_word.proofs.Variables.{stands_still, tell_same, tell_moves, tell_enters, tell_leaves, tell_lists, tell_taken, waits_of}
 use Rattle.ns_word.proofs.Scans.{calls_tell, tells_clear, tells_few, tells_from, times_wakes, wakes_tell, times_queued, times_seats, times_scan, times_without, times_others, filter_eligible, queued_eligible}
 use Rattle.ns_word.proofs.Enters.{counts_entered, entered_at, once_entered}
 use Rattle.ns_word.proofs.Leaving.{left_event, left_next_here, left_next_there, left_row}
@@ -90,20 +91,6 @@ wakes_told b k took owed low (inl none) from = subst (λ xs. Every (Tells b) xs)
 wakes_told b k took owed low (inr are) (inr none) = subst (λ xs. Every (Tells b) xs) (sym none) tt
 wakes_told b k took owed low (inr are) (inl other) = subst (λ xs. Every (Tells b) xs) (sym are) (subst (λ c. Every (Tells c) (wakes_of k took)) (sym other) (wakes_tell k took low))
 
--- the mode in which one waits
-abbrev pub stance_mode : {C : Type 0} → Option (Stance C) → Mode
-stance_mode None = Write
-stance_mode (Some stance) = stance.mode
-
--- and for which variables, if it is for any
-abbrev variables_on : {C : Type 0} → Option (Subject C) → Variables
-variables_on (Some (OnVariables variables)) = variables
-variables_on on = Only 0
-
-abbrev pub stance_variables : {C : Type 0} → Option (Stance C) → Variables
-stance_variables None = Only 0
-stance_variables (Some stance) = variables_on stance.on
-
 -- a section that ends with a wait for variables may end so, and leaves its seat waiting for them
 exit_fits : {C : Type 0} (holds : C → List ℕ → Bool) (after : List ℕ) (variables : Variables) → ExitFits holds after (exit_for {C = C} (OnVariables variables))
 exit_fits holds after (Only k) = tt
@@ -112,10 +99,6 @@ exit_fits holds after (Any cvs) = tt
 after_exit : {C : Type 0} (mode : Mode) (variables : Variables) → phase_after mode (exit_for {C = C} (OnVariables variables)) ≡ Waiting variables mode
 after_exit mode (Only k) = refl
 after_exit mode (Any cvs) = refl
-
-pub none_of : {A : Type 0} (xs : List A) → has_some xs ≡ false → xs ≡ []
-none_of [] e = refl
-none_of (x ∷ xs) e = absurd (cc)
 
 not_waiting : {C : Type 0} (stance : Option (Stance C)) → is_some stance ≡ false → stance ≡ None
 not_waiting None e = refl
@@ -391,17 +374,11 @@ module _ {C : Type 0} {N : ℕ} (truths : Truths C) (seats : ℕ) (h : List (Eve
       let four = p.placed.four in
       let here = placed_here front who walk None owed walk' None owed back lists flags apart p.placed in
       let there = counts_somewhere who lists stood in
-      let list = some_list who lists four stood in
       let most = one_most (is_unwoken walk (flags who)) in
       let flag : flags who ≡ 1 = due_flag walk (flags who) (omega (arith, here, most, there)) in
       let unowed : called_to who (front ++ view_of who walk None owed ∷ back) ≡ 0 = let less = called_most who (front ++ view_of who walk None owed ∷ back) in omega (arith, here, most, there, less) in
-      let waiter = one_of (VariableWaiterFits (standing_after h).phases (front ++ view_of who walk None owed ∷ back) list.0) who (waiters_of lists (Cv list.0)) list.2 (p.told.own list.0 list.1) in
-      let stance : Some (record { mode = waiter.0.mode; on = Some (OnVariables waiter.2.among); tries = 0 }) ≡ Some
-      (record { mode = mode; on = Some (OnVariables variables); tries = 0 }) = sym waiter.2.stands
-      ∙ ap (λ seat. waits_in (walk_at seat (front ++ view_of who walk None owed ∷ back))) waiter.1 ∙ ap waits_in (walk_here front (view_of who walk None owed) back apart) ∙ wait in
-      let same_mode : waiter.0.mode ≡ mode = ap stance_mode stance in
-      let same_among : waiter.2.among ≡ variables = ap stance_variables stance in
-      let was : (standing_after h).phases who ≡ Waiting variables mode = subst (λ seat. (standing_after h).phases seat ≡ Waiting waiter.2.among waiter.0.mode) waiter.1 waiter.2.waits ∙ (λ i. Waiting (same_among i) (same_mode i)) in
+      let stance = ap waits_in (walk_here front (view_of who walk None owed) back apart) ∙ wait in
+      let was = stands_still (standing_after h).phases lists (front ++ view_of who walk None owed ∷ back) who mode variables p.told four stance stood in
       let row_same = left_same truths seats h who variables in
       record {
         safe = left_variables truths seats h front who walk owed walk' owed back variables mode word (word_returned false (bits_of lists.lock) word) row few was phase refl refl place (still_owes walk walk' owed idle pay fit.owes) p.safe;
@@ -671,7 +648,7 @@ module _ {C : Type 0} {N : ℕ} (truths : Truths C) (seats : ℕ) (h : List (Eve
       ] in
       record {
         safe = woken truths seats h front who walk owed walk' owed' back e k word word' row held by legal (ap (λ (x : Standing C). x.row) after_it)
-            (λ seat. elim (bool_cases (is_in (taken_set took) seat)) [
+            (λ seat. elim (cases_Bool (is_in (taken_set took) seat)) [
               | inl in_it ↦ inr (stands_waits k (standing_after h).phases took seat (waits_of (standing_after h).phases (front ++ view_of who walk held owed ∷ back) k took takes) (in_stands took seat in_it), ap (λ (x : Standing C). x.phases seat) after_it ∙ ap (λ b. cond b (woken_phase k ((standing_after h).phases seat)) ((standing_after h).phases seat)) in_it)
               | inr out_of_it ↦ inl (ap (λ (x : Standing C). x.phases seat) after_it ∙ ap (λ b. cond b (woken_phase k ((standing_after h).phases seat)) ((standing_after h).phases seat)) out_of_it)
             ])

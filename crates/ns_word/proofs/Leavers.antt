@@ -6,25 +6,13 @@ use Rattle.std.proofs.lemmas.List.Sums.{get_or-le-sum_by}
 use Rattle.ns_word.specs.Prelude.{AreApart, Cause, Cv, EachFits, Event, InLeaving, InWait, IsExpected, IsFoundLeaving, IsLawful, Leave, Left, Lists, LockState, Mode, OnCondition, OnVariables, Phase, PlaceFits, SeatView, SectionFits, Step, Truths, VariableWaiterFits, Variables, VariablesTell}
 use Rattle.ns_word.specs.Prelude.{ViewFits, Wait, Waiting, Word, expected_for, home_of, phase_by, standing_after, stands_at, times, times_in, waiters_of, waits_in, walk_at, without, without_in}
 use Rattle.ns_word.proofs.CountsIn.{gone_from, left_at, some_list}
-use Rattle.ns_word.proofs.Keeps.{stance_mode, stance_variables}
+use Rattle.ns_word.proofs.Variables.{stands_still}
 use Rattle.ns_word.proofs.Scans.{times_without}
 use Rattle.ns_word.proofs.Stands.{effect_at}
-use Rattle.ns_word.proofs.Variables.{one_of}
 use Rattle.ns_word.proofs.Views.{apart_parts, each_parts, walk_here}
 
 module _ {C : Type 0} {N : ℕ} (phases : ℕ → Phase C) (lists : Lists C) (views : List (SeatView C N)) (seat : ℕ) (mode : Mode) (variables : Variables) where
-  -- one that waits for variables, by its place, and stands in some list, waits for them by the history
-  stands_still : VariablesTell phases lists views → length lists.cvs ≡ 4 → waits_in (walk_at seat views) ≡ Some (record { mode = mode; on = Some (OnVariables variables); tries = 0 }) → 1 ≤ sum_by (times_in seat) lists.cvs → phases seat ≡ Waiting variables mode
-  stands_still p four stance some =
-      let list = some_list seat lists four some in
-      let waiter = one_of (VariableWaiterFits phases views list.0) seat (waiters_of lists (Cv list.0)) list.2 (p.own list.0 list.1) in
-      let both : Some (record { mode = waiter.0.mode; on = Some (OnVariables waiter.2.among); tries = 0 }) ≡ Some (record { mode = mode; on = Some (OnVariables variables); tries = 0 }) =
-      sym waiter.2.stands ∙ ap (λ s. waits_in (walk_at s views)) waiter.1 ∙ stance in
-      let same_mode : waiter.0.mode ≡ mode = ap stance_mode both in
-      let same_among : waiter.2.among ≡ variables = ap stance_variables both in
-      subst (λ s. phases s ≡ Waiting waiter.2.among waiter.0.mode) waiter.1 waiter.2.waits ∙ (λ i. Waiting (same_among i) (same_mode i))
-
-  -- and who stands in none has been woken by one of them
+  -- who waits for variables, by its place, and stands in none of their lists, has been woken by one of them
   stands_no_more : VariablesTell phases lists views → length lists.cvs ≡ 4 → IsExpected (expected_for (OnVariables variables) mode) (phases seat) → sum_by (times_in seat) lists.cvs ≡ 0 → IsFoundLeaving false variables mode (phases seat)
   stands_no_more p four (inl waits) none =
       let one = p.some variables seat mode waits in

@@ -22,6 +22,7 @@ pub mod Knows
 pub mod Leads
 pub mod Leavers
 pub mod Leaving
+pub mod Listed
 pub mod Longs
 pub mod Looks
 pub mod Mapped
@@ -36,7 +37,6 @@ pub mod Same
 pub mod Scans
 pub mod Seen
 pub mod Stands
-pub mod StandsOnce
 pub mod Starts
 pub mod TakenTold
 pub mod ToldAfter

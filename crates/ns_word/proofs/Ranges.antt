@@ -54,7 +54,7 @@ module _ {C : Type 0} {N : ℕ} (truths : Truths C) (seats : ℕ) (h : List (Eve
   ])
 
   -- nor does one stand in the lock list and in that of a variable
-  beside_once : (seat k : ℕ) → k < 4 → beside s.lists seat k ≤ 1
+  pub beside_once : (seat k : ℕ) → k < 4 → beside s.lists seat k ≤ 1
   beside_once seat k low = elim (cases_eq (times_in seat (waiters_of s.lists (Cv k))) 0) [
     | inl none ↦ omega (arith, none, once_in_lock seat)
     | inr some ↦ let there = counts_there seat k s.lists placed.four low (omega (arith, some)) in omega (arith, there, counts_once seat, placed.once seat k low)

@@ -10,43 +10,10 @@ use Rattle.ns_queue.proofs.Seats.{own_times, times_in-cons}
 use Rattle.ns_queue.proofs.Vias.{every_filter, every_woken}
 use Rattle.ns_queue.proofs.Wakes.{stands_waiting}
 use Rattle.ns_queue.proofs.Taken.{in_list, in_stands}
+use Rattle.ns_word.proofs.Listed.{every_cut}
+use Rattle.ns_model.proofs.Tallies.{every-append}
 use Rattle.ns_word.proofs.Variables.{waits_of}
 use Rattle.ns_word.proofs.Views.{view_of, walk_here, walk_there}
-
--- ---- lists of wakes
-
-module _ (P : Owed → Type 0) where
-  pub every_cut : (xs ys : List Owed) → Every P (xs ++ ys) → Every P xs × Every P ys
-  every_cut [] ys p = (tt, p)
-  every_cut (x ∷ xs) ys p = let rest = every_cut xs ys p.1 in ((p.0, rest.0), rest.1)
-
-  pub every_both_parts : (xs ys : List Owed) → Every P xs → Every P ys → Every P (xs ++ ys)
-  every_both_parts [] ys p q = q
-  every_both_parts (x ∷ xs) ys p q = (p.0, every_both_parts xs ys p.1 q)
-
-module _ {C : Type 0} (Q : Waiter C → Type 0) where
-  -- of those who stay where a scan takes some, of all but one, and of more
-  pub listed_left : (meets : C → Bool) (ws : List (Waiter C)) → Every Q ws → Every Q (left_of meets ws)
-  listed_left meets [] p = tt
-  listed_left meets (w ∷ ws) p = elim (cases_Bool (is_eligible meets w)) [
-    | inl goes ↦ elim (cases_Bool (writes w)) [
-      | inl alone ↦ rw (goes, alone) p.1
-      | inr reader ↦ rw (goes, reader) (every_filter Q (λ v. not (goes_along meets v)) ws p.1)
-    ]
-    | inr stays ↦ rw stays (p.0, listed_left meets ws p.1)
-  ]
-
-  pub listed_without : (who : ℕ) (ws : List (Waiter C)) → Every Q ws → Every Q (without_in who ws)
-  listed_without who ws p = every_filter Q (λ w. not (is_of who w)) ws p
-
-  pub listed_moved : (ws took : List (Waiter C)) → Every Q ws → Every Q took → Every Q (ws ++ took)
-  listed_moved [] took p q = q
-  listed_moved (w ∷ ws) took p q = (p.0, listed_moved ws took p.1 q)
-
-  -- of one more, who was moved by nobody
-  pub listed_queued : (who : ℕ) (mode : Mode) (c : Option C) (tries : ℕ) (front : Bool) (ws : List (Waiter C)) → Q (record { seat = who; mode = mode; cond = c; tries = tries; via = None }) → Every Q ws → Every Q (queued who mode c tries front ws)
-  listed_queued who mode c tries true ws own p = (own, p)
-  listed_queued who mode c tries false ws own p = listed_moved ws (record { seat = who; mode = mode; cond = c; tries = tries; via = None } ∷ []) p (own, tt)
 
 -- waiters of other seats
 every_apart : {C : Type 0} (Q R : Waiter C → Type 0) (who : ℕ) (ws : List (Waiter C)) → times_in who ws ≡ 0 → ((w : Waiter C) → who ≢ w.seat → Q w → R w) → Every Q ws → Every R ws
@@ -153,7 +120,7 @@ module _ {C : Type 0} {N : ℕ} where
           let cut = every_cut Is (owed_in front) (owed ++ owed_in back) (subst (Every Is) (owed_at front (view_of who walk held owed) back) kept) in
           let behind = every_cut Is owed (owed_in back) cut.1 in record {
             flag = flag;
-            owed = subst (Every Is) (sym (owed_at front (view_of who walk' held' owed') back)) (every_both_parts Is (owed_in front) (owed' ++ owed_in back) cut.0 (every_both_parts Is owed' (owed_in back) (due behind.0) behind.1));
+            owed = subst (Every Is) (sym (owed_at front (view_of who walk' held' owed') back)) (every-append Is (owed_in front) (owed' ++ owed_in back) cut.0 (every-append Is owed' (owed_in back) (due behind.0) behind.1));
             listed = listed;
           }
 
@@ -275,6 +242,6 @@ module _ {C : Type 0} {N : ℕ} where
           told_stays phases woken flags lock lock' stay
           (λ own listed. elim ways [ inl move ↦ subst (Every (WakeTells woken news)) (sym move.1) tt | inr owe ↦ subst (Every (WakeTells woken news)) (sym owe.1) (owed_told took each) ])
           (λ listed. elim ways [
-            | inl move ↦ subst (Every (WaiterNames woken news)) (sym move.0) (listed_moved (WaiterNames woken news) lock took listed (moved_named took each))
+            | inl move ↦ subst (Every (WaiterNames woken news)) (sym move.0) (every-append (WaiterNames woken news) lock took listed (moved_named took each))
             | inr owe ↦ subst (Every (WaiterNames woken news)) (sym owe.0) listed
           ]) p

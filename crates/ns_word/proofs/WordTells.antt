@@ -1,4 +1,5 @@
 -- What the lock word tells of the lock list, in words on the list; and who stands back where a writer waits.
+use Rattle.ns_word.proofs.Listed.{none_of}
 use Rattle.std.proofs.Common.{◌≡◌, inl, inr, Bool, true, false, not, ◌&&◌, ◌||◌, is_some, List, [], ◌∷◌, Option, None, Some, IsSome, IsSomeAnd, refl, sym, ap, ◌∙◌}
 use Rattle.std.specs.List.{list_any}
 use Rattle.std.specs.Prelude.{◌↔◌}
@@ -6,13 +7,9 @@ use Rattle.std.proofs.lemmas.Bool.{or_cases, or_parts}
 use Rattle.ns_word.specs.Prelude.{Every, HasOne, IsPlainWriter, Mode, Read, Waiter, Write, has_condition, has_eligible, has_some, is_satisfied, is_write, writes}
 
 module _ {C : Type 0} where
-  nobody_there : (ws : List (Waiter C)) → has_some ws ≡ false → ws ≡ []
-  nobody_there [] e = refl
-  nobody_there (w ∷ ws) e = absurd (cc)
-
   -- nobody stands in a list that has nobody
   pub is_empty : (b : Bool) (ws : List (Waiter C)) → b ≡ has_some ws → (b ≡ false ↔ ws ≡ [])
-  is_empty b ws is = (λ no. nobody_there ws (sym is ∙ no), λ none. is ∙ ap has_some none)
+  is_empty b ws is = (λ no. none_of ws (sym is ∙ no), λ none. is ∙ ap has_some none)
 
   one_passes : (test : Waiter C → Bool) (P : Waiter C → Type 0) → ((w : Waiter C) → test w ≡ true → P w) → (ws : List (Waiter C)) → list_any test ws ≡ true → HasOne P ws
   one_passes test P means [] e = absurd (cc)
