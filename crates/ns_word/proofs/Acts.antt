@@ -21,7 +21,7 @@ module _ {C : Type 0} where
   unmet_in_range truths (OnVariables variables) row p = p
 
 module _ {C : Type 0} {N : ℕ} (truths : Truths C) where
-  can_in_range : (wait : Wait C) (again : Bool) (held : Option (Held C N)) → CanWait truths wait again held → IsInRange wait.on
+  pub can_in_range : (wait : Wait C) (again : Bool) (held : Option (Held C N)) → CanWait truths wait again held → IsInRange wait.on
   can_in_range wait again None p = absurd p
   can_in_range wait again (Some held) p = unmet_in_range truths wait.on held.row p.unmet
 

@@ -6,18 +6,14 @@ use Rattle.ns_word.specs.Prelude.{waiters_of, walk_at}
 use Rattle.ns_queue.proofs.Seats.{times_in-cons, few, room_for}
 use Rattle.ns_model.proofs.Tallies.{one_most}
 use Rattle.ns_word.proofs.CountsIn.{counts_none, counts_there}
-use Rattle.ns_word.proofs.Views.{owed_at, none_parts, each_parts}
+use Rattle.ns_word.proofs.Views.{view_with, owed_at, none_parts, each_parts}
 use Rattle.ns_word.proofs.Knows.{due_awaits}
 
 -- ---- seats that wait
 
 module _ {C : Type 0} {N : ℕ} (truths : Truths C) (seats : ℕ) (now : Standing C) (row : List ℕ) where
   pub waiting_below : (seat : ℕ) (views : List (SeatView C N)) → EachFits truths seats now row views → awaits (walk_at seat views) ≡ true → seat < seats
-  waiting_below seat [] p a = absurd (cc)
-  waiting_below seat (u ∷ views) p a = elim (cases_eq u.seat seat) [
-    | inl e ↦ subst (λ s. s < seats) e p.0.in_range
-    | inr ne ↦ waiting_below seat views p.1 (subst (λ b. awaits (cond b u.walk (walk_at seat views)) ≡ true) (ne_eqb u.seat seat ne) a)
-  ]
+  waiting_below seat views p a = let view = view_with truths seats now row (λ walk. awaits walk ≡ true) seat views (λ e. absurd (cc)) p a in subst (λ s. s < seats) view.1 view.3.in_range
 
 module _ {C : Type 0} {N : ℕ} (lists : Lists C) (flags : ℕ → ℕ) (views : List (SeatView C N)) where
   -- any other stands nowhere, and is owed nothing
@@ -144,5 +140,3 @@ module _ {C : Type 0} {N : ℕ} (truths : Truths C) (seats : ℕ) (h : List (Eve
       let here = (each_parts truths seats (standing_after h) s.row front view back each).1 in
       let room = room_for seats (reading views) (reader view) (λ seat. reading_once seat views apart) (λ seat high. reading_below truths seats (standing_after h) s.row seat views each high) here.in_range (reading_not front view back apart none) in
       omega (arith, count, reading_length views, room)
-
--- ---- flags in an array

@@ -5,6 +5,7 @@ use Rattle.std.proofs.lemmas.Bool.{cases_Bool, ltb-true, ltb-false}
 use Rattle.ns_word.specs.Prelude.{Aim, AreCalled, Arrival, AsFresh, AsWoken, CanWait, Cv, EachFits, Effect, Event, Found, Held, InAcquire, InQueuing, InSignal, InWait, IsInRange, IsLawful, IsUnmet, Lists, LockState, Made, Mode, OnCondition, OnVariables, PlaceFits, Queue, QueueSelf, QueueToWait}
 use Rattle.ns_word.specs.Prelude.{QueuesFor, Scanned, SeatView, Step, Subject, Truths, Wait, Waiter, WaitsFor, WakeAndReturn, WakeWaiters, Waking, Walk, Woke, Word, changed, cvs_without, has, is_held, is_woken, left_of, meets_at, mode_for, moved_to, outside, part_of, queued, standing_after}
 use Rattle.ns_word.specs.Prelude.{taken_by, taken_set, tries_of, waiter, waiters_of, waits_at, wakes_of, want_of, with_lock}
+use Rattle.ns_word.proofs.Acts.{can_in_range}
 use Rattle.ns_word.proofs.Enters.{entered_at}
 use Rattle.ns_word.proofs.CountsIn.{taken_at}
 use Rattle.ns_word.proofs.Views.{each_parts}
@@ -56,16 +57,8 @@ waits_in_place {C} {N} truths seats h old new view commits wait again last owes 
     let e = effect_at truths old new view (Scanned owes tests) commits (InWait wait (InQueuing again (QueueToWait last))) step walks in
     let fits = (each_parts truths seats (standing_after h) old.row step.front view step.back (subst (λ vs. EachFits truths seats (standing_after h) old.row vs) step.was lawful.one_history.each)).1 in
     let place = subst (λ w. PlaceFits truths w view.held) (step.walks ∙ ap Some walks) fits.place in
-    let range = can_range wait again view.held place.0.0 in
+    let range = can_in_range truths wait again view.held place.0.0 in
     subst (λ lists. WaitsFor truths view.seat wait.mode wait.on again old.row old.lists lists) (sym (ap (λ p. p.lists) e.4)) (waits_for C N truths view.seat wait.mode wait.on again old.row old.lists lawful.waiters_placed.four range)
-  where
-    in_range : (on : Subject C) (row : List ℕ) → IsUnmet truths on row → IsInRange on
-    in_range (OnCondition c) row p = tt
-    in_range (OnVariables variables) row p = p
-
-    can_range : (wait : Wait C) (again : Bool) (held : Option (Held C N)) → CanWait truths wait again held → IsInRange wait.on
-    can_range wait again None p = absurd p
-    can_range wait again (Some held) p = in_range wait.on held.row p.unmet
 
 -- who stays in a variable's list behind a wake
 pub stays_behind_wake : {C : Type 0} {N : ℕ} (truths : Truths C) (seats : ℕ) (h : List (Event C N)) (old new : LockState C N) (view : SeatView C N) (commits : List (Event C N)) (waking : Waking) (k : ℕ) (last : Word) (owes : Bool) (j : ℕ) →

@@ -2,7 +2,8 @@
 use Rattle.std.proofs.Common.{◌≡◌, ℕ, Bool, zero, suc, ◌+◌, ◌-◌, ◌<◌, ◌≤◌, true, false, cond, eqb, ltb, List, [], ◌∷◌, ◌++◌, Option, None, Some, refl, ap, sym, subst, replicate, arith}
 use Rattle.std.proofs.lemmas.List.{length-replicate}
 use Rattle.std.proofs.lemmas.Bool.{both_ways, ltb-false}
-use Rattle.ns_word.specs.Prelude.{AcquireLoad, AreApart, Begins, CanWait, Cv, EachFits, Event, Every, ForLock, HasNumber, Held, InAcquire, InCells, InQueuing, InRelease, InShow, InSignal, InTry, InWait, IsFirst, IsForVariables, IsLawful, Judging, Load, LockState, NoneIs, OnCondition, OnEntry}
+use Rattle.ns_model.specs.Tallies.{total}
+use Rattle.ns_word.specs.Prelude.{times_among, has_queues, is_queuing, is_reading, is_writing, one_if, AcquireLoad, AreApart, Begins, CanWait, Cv, EachFits, Event, Every, ForLock, HasNumber, Held, InAcquire, InCells, InQueuing, InRelease, InShow, InSignal, InTry, InWait, IsFirst, IsForVariables, IsLawful, Judging, Load, LockState, NoneIs, OnCondition, OnEntry}
 use Rattle.ns_word.specs.Prelude.{OnVariables, PlaceFits, QuietCells, QuietLast, ReleaseLoad, SeatView, ShowLoad, SignalLoad, Subject, TestCells, TestLast, Tests, Truths, TryLoad, VariableWaiterFits, Wait, Waiter, WakeTells, Walk, WordsSeen, first_for, first_row, first_standing, fresh_state}
 use Rattle.ns_word.specs.Prelude.{fresh_views, has_armed, owed_in, owed_to, queuers, quiet_first, readers, takers, times_in, wait_first, waiters_of, walk_at, word_seen, writers}
 use Rattle.ns_model.specs.declared.phase.Phase.TheVariants.{Idle}
@@ -18,25 +19,19 @@ module _ (C : Type 0) (N : ℕ) where
   abbrev fresh : ℕ → ℕ → List (SeatView C N)
   fresh first n = fresh_views first n
 
-  no_writers : (first n : ℕ) → writers (fresh first n) ≡ 0
-  no_writers first zero = refl
-  no_writers first (suc n) = let rest = no_writers (first + 1) n in omega arith
+  -- nobody counts who has no section and no call
+  none_counted : (count : SeatView C N → ℕ) → ((seat : ℕ) → count (record { seat = seat; walk = None; held = None; owed = [] }) ≡ 0) → (first n : ℕ) → total count (fresh first n) ≡ 0
+  none_counted count none first zero = refl
+  none_counted count none first (suc n) = omega (arith, none first, none_counted count none (first + 1) n)
 
-  no_readers : (first n : ℕ) → readers (fresh first n) ≡ 0
-  no_readers first zero = refl
-  no_readers first (suc n) = let rest = no_readers (first + 1) n in omega arith
+  no_writers : (n : ℕ) → writers (fresh 0 n) ≡ 0
+  no_writers n = none_counted (λ view. one_if (is_writing view.held)) (λ seat. refl) 0 n
 
-  no_takers : (first n : ℕ) → takers (fresh first n) ≡ 0
-  no_takers first zero = refl
-  no_takers first (suc n) = let rest = no_takers (first + 1) n in omega arith
+  no_readers : (n : ℕ) → readers (fresh 0 n) ≡ 0
+  no_readers n = none_counted (λ view. one_if (is_reading view.held)) (λ seat. refl) 0 n
 
-  no_queuers : (first n : ℕ) → queuers (fresh first n) ≡ 0
-  no_queuers first zero = refl
-  no_queuers first (suc n) = let rest = no_queuers (first + 1) n in omega arith
-
-  none_owed : (seat first n : ℕ) → owed_to seat (fresh first n) ≡ 0
-  none_owed seat first zero = refl
-  none_owed seat first (suc n) = let rest = none_owed seat (first + 1) n in omega arith
+  no_queuers : (n : ℕ) → queuers (fresh 0 n) ≡ 0
+  no_queuers n = none_counted (λ view. one_if (is_queuing view.walk)) (λ seat. refl) 0 n
 
   no_walk : (seat first n : ℕ) → walk_at seat (fresh first n) ≡ None
   no_walk seat first zero = refl
@@ -79,8 +74,8 @@ module _ (C : Type 0) (N : ℕ) where
 
   pub lawful_fresh : (truths : Truths C) (seats : ℕ) → seats ≤ 64 → IsLawful truths seats [] (fresh_state {C = C} {N = N} seats)
   lawful_fresh truths seats few = record {
-    one_writer = record { bit = no_writers 0 seats; alone = λ e. absurd (cc) };
-    readers_counted = sym (no_readers 0 seats);
+    one_writer = record { bit = no_writers seats; alone = λ e. absurd (cc) };
+    readers_counted = sym (no_readers seats);
     one_history = record {
       legal = tt;
       by_seats = tt;
@@ -89,12 +84,12 @@ module _ (C : Type 0) (N : ℕ) where
       cells = length-replicate N 0;
       cells_after = length-replicate N 0;
     };
-    spin_held_once = no_takers 0 seats;
-    bits_tell = record { at_home = λ e. refl; nobody = λ e. (refl, no_queuers 0 seats) };
+    spin_held_once = none_counted (λ view. one_if (has_queues view.walk)) (λ seat. refl) 0 seats;
+    bits_tell = record { at_home = λ e. refl; nobody = λ e. (refl, no_queuers seats) };
     waiters_placed = record {
       four = refl;
       once = λ seat k low. none_listed seat k;
-      placed = λ seat. let none = none_owed seat 0 seats in rw (no_walk seat 0 seats) (omega (arith, none));
+      placed = λ seat. let none = none_counted (λ view. times_among seat view.owed) (λ other. refl) 0 seats in rw (no_walk seat 0 seats) (omega (arith, none));
       armed = λ seat e. absurd (both_ways (has_armed (walk_at seat (fresh 0 seats))) (rw (no_walk seat 0 seats) refl) e);
       flag = λ seat. omega arith;
     };
@@ -102,7 +97,7 @@ module _ (C : Type 0) (N : ℕ) where
     variables_tell = record { own = λ k low. nobody_waits (VariableWaiterFits (λ seat. Idle) (fresh 0 seats) k) k; all = λ vs k seat mode e is. absurd (cc); some = λ vs seat mode e. absurd (cc) };
     taken_told = record { flag = λ seat clear. rw (no_walk seat 0 seats) tt; owed = subst (Every (WakeTells (λ seat. Idle) (fresh 0 seats))) (sym (none_owed_in 0 seats)) tt; listed = tt };
     desig_on_its_way = λ e. absurd (cc);
-    idle_waiters_false = λ e f g. (refl, no_queuers 0 seats);
+    idle_waiters_false = λ e f g. (refl, no_queuers seats);
     all_false_true = λ e. absurd (cc);
     apart = apart 0 seats;
     words_seen = none_seen 0 seats;

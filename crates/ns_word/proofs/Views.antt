@@ -1,6 +1,6 @@
 -- A view among the views: what holds of all of them, by the views before it, itself, and those behind it.
 use Rattle.std.proofs.Common.{◌≡◌, ◌≢◌, ℕ, ◌+◌, ◌≤◌, Bool, true, false, not, cond, ◌⊎◌, inl, inr, List, [], ◌∷◌, ◌++◌, Option, None, Some, eqb, refl, ap, sym, ◌∙◌, subst, arith, eq-eqb}
-use Rattle.std.proofs.lemmas.Bool.{ne_eqb}
+use Rattle.std.proofs.lemmas.Bool.{cases_eq, ne_eqb}
 use Rattle.ns_word.specs.Prelude.{Aim, AreApart, CameBack, Cond, EachFits, ForLock, ForWait, Held, InAcquire, InCells, InRelease, InShow, InSignal, InTry, InWait, IsEither, IsExpected, Locked, Mode, NoneIs, OnCondition, OnVariables, Opening, Outcome, Owed, Phase, SeatView, SectionFits, Standing}
 use Rattle.ns_word.specs.Prelude.{Subject, Truths, Variables, ViewFits, Waiting, Walk, called_to, calls_from_lock, expected_for, has_queues, is_queuing, is_reading, is_waiting, is_write, is_writing, one_if, owed_to, phase_before, phase_by, phase_by_wake, phase_for, phase_kept, queuers, readers}
 use Rattle.ns_word.specs.Prelude.{takers, times_among, variable_in, walk_at, woken_phase, writers}
@@ -133,6 +133,15 @@ module _ {C : Type 0} {N : ℕ} where
       record { in_range = p.0.in_range; place = p.0.place; owes = p.0.owes; section = section_moves now next row cells u.seat u.walk u.held (phases u.seat apart.0) (inr (none_held u.held (omega arith))) p.0.section },
       each_moves now next row cells who views apart.1 phases (inr (omega arith)) p.1,
     )
+
+    -- a seat with such a place, where no seat has none such, is one with a view
+    pub view_with : (now : Standing C) (row : List ℕ) (Q : Option (Walk C) → Type 0) (seat : ℕ) (views : List (SeatView C N)) → (Q None → ⊥) → EachFits truths seats now row views → Q (walk_at seat views) →
+        (view : SeatView C N) × (view.seat ≡ seat) × Q view.walk × ViewFits truths seats now row view
+    view_with now row Q seat [] never p q = absurd (never q)
+    view_with now row Q seat (u ∷ views) never p q = elim (cases_eq u.seat seat) [
+      | inl e ↦ (u, e, subst (λ b. Q (cond b u.walk (walk_at seat views))) (eq-eqb u.seat seat e) q, p.0)
+      | inr ne ↦ view_with now row Q seat views never p.1 (subst (λ b. Q (cond b u.walk (walk_at seat views))) (ne_eqb u.seat seat ne) q)
+    ]
 
 -- ---- what a wake leaves of the phases
 
