@@ -339,8 +339,9 @@ module _ (C : Type 0) (N : ℕ) (truths : Truths C) (seat : ℕ) (row : List ℕ
         has_released releasing Made course part.held next.held commits e.0 e.1 e.2 can.1 (ap (λ p. p.held) e.4) e.5 was
     releases_on releasing (TakeToScan last) (Saw word) e fits was = finds (Release releasing) (Saw word) (release_by releasing word) refl (held_in part e.2) e.3 (release_comes (Release releasing) course part.held releasing word was)
     releases_on releasing (TakeToScan last) Made e fits was =
-        finds (Release releasing) Made (On (InRelease releasing (cond last.cond (scan_place N (word_taken ToChange last) 0) (ScanAndRelease (word_taken ToChange last))))) refl (ap (λ p. p.held) e.2) e.3 (either (Release releasing) course part.held (λ p. On (InRelease releasing p)) last.cond (scan_place N (word_taken ToChange last) 0) (ScanAndRelease (word_taken ToChange last))
-        (λ b. scan_comes course part.held releasing (word_taken ToChange last) 0 was) (λ b. was))
+        let taken = word_taken ToChange last in
+        finds (Release releasing) Made (On (InRelease releasing (cond last.cond (scan_place N taken 0) (ScanAndRelease taken)))) refl (ap (λ p. p.held) e.2) e.3
+        (either (Release releasing) course part.held (λ p. On (InRelease releasing p)) last.cond (scan_place N taken 0) (ScanAndRelease taken) (λ b. scan_comes course part.held releasing taken 0 was) (λ b. was))
     releases_on releasing (ScanCells last i) (Cell v) e fits was = finds (Release releasing) (Cell v) (On (InRelease releasing (scan_place N last (i + 1)))) refl (held_in part e.1) e.2 (scan_comes course part.held releasing last (i + 1) was)
     releases_on releasing (ScanAndRelease last) (Saw word) e fits was = finds (Release releasing) (Saw word) (On (InRelease releasing (ScanAndRelease word))) refl (held_in part e.2) e.3 was
     releases_on releasing (ScanAndRelease last) (Scanned owes tests) e fits was =
@@ -456,7 +457,9 @@ module _ (C : Type 0) (N : ℕ) (truths : Truths C) (seat : ℕ) (row : List ℕ
 
         go : (stood : Bool) (on : Subject C) → commits ≡ leave_of seat (home_of on) stood → HasLeft truths seat (record { mode = mode; on = on; limits = limits }) None course →
             Comes (Await (record { mode = mode; on = on; limits = limits })) (course_after (Left stood) commits course) (got_leaving (record { mode = mode; on = on; limits = limits }) cause (Leave last) (Left stood)) next.held
-        go true (OnCondition c) silent left = record { left = still_left (record { mode = mode; on = OnCondition c; limits = limits }) (Some cause) (Left true) commits course silent (record { was = left.was; began = left.began; mode = left.mode; unmet = left.unmet; committed = left.committed }); shown = so_far.1 }
+        go true (OnCondition c) silent left =
+            let ended : HasLeft truths seat (record { mode = mode; on = OnCondition c; limits = limits }) (Some cause) course = record { was = left.was; began = left.began; mode = left.mode; unmet = left.unmet; committed = left.committed } in
+            record { left = still_left (record { mode = mode; on = OnCondition c; limits = limits }) (Some cause) (Left true) commits course silent ended; shown = so_far.1 }
         go true (OnVariables variables) told left = record {
           left = record {
             was = left.was;
@@ -507,8 +510,12 @@ module _ (C : Type 0) (N : ℕ) (truths : Truths C) (seat : ℕ) (row : List ℕ
 
     signals_on : (waking : Waking) (k : ℕ) (place : SignalPlace) (found : Found) → Effect truths seat (want_signaling waking k place) part found next commits → SignalSoFar seat waking k place course part.held →
         Comes (Wake waking k) (course_after found commits course) (got_signaling waking k place found) next.held
-    signals_on waking k SignalLoad (Saw word) e was = finds (Wake waking k) (Saw word) (signal_by waking k word) refl (held_in part e.1) e.2 (either (Wake waking k) course part.held (λ n. n) word.spin (Idle (InSignal waking k SignalLoad)) (On (InSignal waking k (TakeToWake word))) (λ b. was) (λ b. was))
-    signals_on waking k (TakeToWake last) (Saw word) e was = finds (Wake waking k) (Saw word) (signal_by waking k word) refl (held_in part e.2) e.3 (either (Wake waking k) course part.held (λ n. n) word.spin (Idle (InSignal waking k SignalLoad)) (On (InSignal waking k (TakeToWake word))) (λ b. was) (λ b. was))
+    signals_on waking k SignalLoad (Saw word) e was =
+        finds (Wake waking k) (Saw word) (signal_by waking k word) refl (held_in part e.1) e.2
+        (either (Wake waking k) course part.held (λ n. n) word.spin (Idle (InSignal waking k SignalLoad)) (On (InSignal waking k (TakeToWake word))) (λ b. was) (λ b. was))
+    signals_on waking k (TakeToWake last) (Saw word) e was =
+        finds (Wake waking k) (Saw word) (signal_by waking k word) refl (held_in part e.2) e.3
+        (either (Wake waking k) course part.held (λ n. n) word.spin (Idle (InSignal waking k SignalLoad)) (On (InSignal waking k (TakeToWake word))) (λ b. was) (λ b. was))
     signals_on waking k (TakeToWake last) Made e was = finds (Wake waking k) Made (On (InSignal waking k (WakeAndReturn (word_taken ToChange last)))) refl (ap (λ p. p.held) e.2) e.3 was
     signals_on waking k (WakeAndReturn last) (Saw word) e was = finds (Wake waking k) (Saw word) (On (InSignal waking k (WakeAndReturn word))) refl (held_in part e.2) e.3 was
     signals_on waking k (WakeAndReturn last) (Woke owes) e was =

@@ -158,21 +158,31 @@ module _ {C : Type 0} {N : ℕ} (truths : Truths C) (seats : ℕ) (h : List (Eve
   armed_now : (lists : Lists C) (flags : ℕ → ℕ) (held : Option (Held C N)) (owed : List Owed) → NoneIs who front → has_armed walk ≡ true → WaitersPlaced lists flags (front ++ view_of who walk held owed ∷ back) → flags who ≡ 1
   armed_now lists flags held owed apart set p = p.armed who (ap has_armed (walk_here front (view_of who walk held owed) back apart) ∙ set)
 
+  -- a seat that waits as before, and lists, flags and history that stay
+  steady : (word word' : Word) (row row' : List ℕ) (lists : Lists C) (flags : ℕ → ℕ) (held held' : Option (Held C N)) (owed : List Owed) → waits_in walk' ≡ waits_in walk → let news = front ++ view_of who walk' held' owed ∷ back in
+      Safe truths seats h word' row' news → Homed word' lists.lock news → WaitersPlaced lists flags news → Known truths.holds word' (standing_after h).row lists.lock flags news →
+      Groups truths seats h (st walk word row lists flags held owed) → Groups truths seats h (st walk' word' row' lists flags held' owed)
+  steady word word' row row' lists flags held held' owed same safe homed placed known p =
+      let apart = others word row held owed p.safe in
+      record {
+        safe = safe;
+        homed = homed;
+        placed = placed;
+        own = own_same front who walk held owed walk' held' owed back lists.lock apart same p.own;
+        told = tell_same front who walk held owed walk' held' owed back (standing_after h).phases lists lists apart refl same p.told;
+        taken = taken_still held held' owed (standing_after h).phases flags lists.lock apart same p.taken;
+        known = known;
+      }
+
   -- the place in the call changes, and no more of the section in hand than how it is said to have begun
   pub rests : (word : Word) (row : List ℕ) (lists : Lists C) (flags : ℕ → ℕ) (held held' : Option (Held C N)) (owed : List Owed) → pays walk ≡ false → PlaceFits truths walk' held' → Same walk walk' → is_queuing walk' ≡ is_queuing walk → Way walk walk' → SameSection walk held walk' held' →
       Groups truths seats h (st walk word row lists flags held owed) → Groups truths seats h (st walk' word row lists flags held' owed)
   rests word row lists flags held held' owed idle place same q o section p =
       let fit = fits word row held owed p.safe in
       let apart = others word row held owed p.safe in
-      record {
-        safe = unchanged truths seats h front who walk owed walk' owed back word word row held held' refl refl place (still_owes walk walk' owed idle same.0 fit.owes) section p.safe;
-        homed = at_home front who walk held owed walk' held' owed back word word lists.lock refl refl same.1 p.homed;
-        placed = rested front who walk held owed walk' held' owed back lists flags apart refl (due same.2 (flags who)) (λ f. sym same.3 ∙ f) p.placed;
-        own = own_same front who walk held owed walk' held' owed back lists.lock apart same.2 p.own;
-        told = tell_same front who walk held owed walk' held' owed back (standing_after h).phases lists lists apart refl same.2 p.told;
-        taken = taken_still held held' owed (standing_after h).phases flags lists.lock apart same.2 p.taken;
-        known = known_rests truths.holds front who walk held owed walk' held' owed back word word (standing_after h).row lists.lock flags apart (calls word row held owed idle p.safe) refl refl refl refl refl q o p.known;
-      }
+      steady word word row row lists flags held held' owed same.2 (unchanged truths seats h front who walk owed walk' owed back word word row held held' refl refl place (still_owes walk walk' owed idle same.0 fit.owes) section p.safe)
+      (at_home front who walk held owed walk' held' owed back word word lists.lock refl refl same.1 p.homed) (rested front who walk held owed walk' held' owed back lists flags apart refl (due same.2 (flags who)) (λ f. sym same.3 ∙ f) p.placed)
+      (known_rests truths.holds front who walk held owed walk' held' owed back word word (standing_after h).row lists.lock flags apart (calls word row held owed idle p.safe) refl refl refl refl refl q o p.known) p
 
   -- an acquire
   pub acquires : (mode : Mode) (entry : Opening C) (arrival : Arrival) (word : Word) (row : List ℕ) (lists : Lists C) (flags : ℕ → ℕ) (owed : List Owed) → pays walk ≡ false → may_acquire mode arrival word ≡ true → ((ph : Phase C) → IsExpected (phase_by walk) ph → ph ≡ phase_before mode entry) →
@@ -184,15 +194,9 @@ module _ {C : Type 0} {N : ℕ} (truths : Truths C) (seats : ℕ) (h : List (Eve
       let holders = acquired_holders mode arrival word may in
       let queues = acquired_queues mode arrival word in
       let held' = Some (section {C = C} {N = N} mode entry row row) in
-      record {
-        safe = acquired truths seats h front who walk owed walk' owed back mode word (word_acquired mode arrival word) row entry phase holders.0 holders.1 place (still_owes walk walk' owed idle same.0 fit.owes) p.safe;
-        homed = at_home front who walk None owed walk' held' owed back word (word_acquired mode arrival word) lists.lock queues.0 queues.1 same.1 p.homed;
-        placed = rested front who walk None owed walk' held' owed back lists flags apart refl (due same.2 (flags who)) (λ f. sym same.3 ∙ f) p.placed;
-        own = own_same front who walk None owed walk' held' owed back lists.lock apart same.2 p.own;
-        told = tell_same front who walk None owed walk' held' owed back (standing_after h).phases lists lists apart refl same.2 p.told;
-        taken = taken_still None held' owed (standing_after h).phases flags lists.lock apart same.2 p.taken;
-        known = known_acquires truths.holds front who walk None owed walk' held' owed back mode arrival word (standing_after h).row lists.lock flags apart (calls word row None owed idle p.safe) q o p.known;
-      }
+      steady word (word_acquired mode arrival word) row row lists flags None held' owed same.2 (acquired truths seats h front who walk owed walk' owed back mode word (word_acquired mode arrival word) row entry phase holders.0 holders.1 place (still_owes walk walk' owed idle same.0 fit.owes) p.safe)
+      (at_home front who walk None owed walk' held' owed back word (word_acquired mode arrival word) lists.lock queues.0 queues.1 same.1 p.homed) (rested front who walk None owed walk' held' owed back lists flags apart refl (due same.2 (flags who)) (λ f. sym same.3 ∙ f) p.placed)
+      (known_acquires truths.holds front who walk None owed walk' held' owed back mode arrival word (standing_after h).row lists.lock flags apart (calls word row None owed idle p.safe) q o p.known) p
 
   -- a store into a cell
   pub stores : (word : Word) (row : List ℕ) (lists : Lists C) (flags : ℕ → ℕ) (entry : Opening C) (before cells : List ℕ) (owed : List Owed) (i v : ℕ) → pays walk ≡ false →
@@ -204,15 +208,9 @@ module _ {C : Type 0} {N : ℕ} (truths : Truths C) (seats : ℕ) (h : List (Eve
       let held' = Some (section {C = C} {N = N} Write entry before (slice_set cells i v)) in
       let fit = fits word row held owed p.safe in
       let apart = others word row held owed p.safe in
-      record {
-        safe = stored truths seats h front who walk owed walk' owed back word row entry before cells i v place (still_owes walk walk' owed idle same.0 fit.owes) p.safe;
-        homed = at_home front who walk held owed walk' held' owed back word word lists.lock refl refl same.1 p.homed;
-        placed = rested front who walk held owed walk' held' owed back lists flags apart refl (due same.2 (flags who)) (λ f. sym same.3 ∙ f) p.placed;
-        own = own_same front who walk held owed walk' held' owed back lists.lock apart same.2 p.own;
-        told = tell_same front who walk held owed walk' held' owed back (standing_after h).phases lists lists apart refl same.2 p.told;
-        taken = taken_still held held' owed (standing_after h).phases flags lists.lock apart same.2 p.taken;
-        known = known_rests truths.holds front who walk held owed walk' held' owed back word word (standing_after h).row lists.lock flags apart (calls word row held owed idle p.safe) refl refl refl refl refl q o p.known;
-      }
+      steady word word row (slice_set row i v) lists flags held held' owed same.2 (stored truths seats h front who walk owed walk' owed back word row entry before cells i v place (still_owes walk walk' owed idle same.0 fit.owes) p.safe)
+      (at_home front who walk held owed walk' held' owed back word word lists.lock refl refl same.1 p.homed) (rested front who walk held owed walk' held' owed back lists flags apart refl (due same.2 (flags who)) (λ f. sym same.3 ∙ f) p.placed)
+      (known_rests truths.holds front who walk held owed walk' held' owed back word word (standing_after h).row lists.lock flags apart (calls word row held owed idle p.safe) refl refl refl refl refl q o p.known) p
 
   -- a release without a scan
   pub releases : (releasing : Releasing) (word : Word) (row : List ℕ) (lists : Lists C) (flags : ℕ → ℕ) (entry : Opening C) (before cells : List ℕ) (owed : List Owed) → pays walk ≡ false → awaits walk ≡ false → seats ≤ 64 → IsSettledBy truths.holds before entry → IsExpected (phase_by walk') Idle →
@@ -256,15 +254,9 @@ module _ {C : Type 0} {N : ℕ} (truths : Truths C) (seats : ℕ) (h : List (Eve
       let fit = fits word row held owed p.safe in
       let apart = others word row held owed p.safe in
       let same = taken_holders taking word in
-      record {
-        safe = unchanged truths seats h front who walk owed walk' owed back word (word_taken taking word) row held held same.0 same.1 place (still_owes walk walk' owed idle pay fit.owes) (same_section walk walk' held stays) p.safe;
-        homed = away front who walk held owed walk' held owed back word (word_taken taking word) lists.lock none (taken_spin taking word) a a' p.homed;
-        placed = rested front who walk held owed walk' held owed back lists flags apart refl (due wait (flags who)) (λ f. absurd (cc)) p.placed;
-        own = own_same front who walk held owed walk' held owed back lists.lock apart wait p.own;
-        told = tell_same front who walk held owed walk' held owed back (standing_after h).phases lists lists apart refl wait p.told;
-        taken = taken_still held held owed (standing_after h).phases flags lists.lock apart wait p.taken;
-        known = knows apart p.homed p.known;
-      }
+      steady word (word_taken taking word) row row lists flags held held owed wait (unchanged truths seats h front who walk owed walk' owed back word (word_taken taking word) row held held same.0 same.1 place (still_owes walk walk' owed idle pay fit.owes) (same_section walk walk' held stays) p.safe)
+      (away front who walk held owed walk' held owed back word (word_taken taking word) lists.lock none (taken_spin taking word) a a' p.homed) (rested front who walk held owed walk' held owed back lists flags apart refl (due wait (flags who)) (λ f. absurd (cc)) p.placed)
+      (knows apart p.homed p.known) p
 
   -- a seat sets its flag
   pub arms : (word : Word) (row : List ℕ) (lists : Lists C) (flags : ℕ → ℕ) (held : Option (Held C N)) (owed : List Owed) → pays walk ≡ false →
@@ -349,16 +341,10 @@ module _ {C : Type 0} {N : ℕ} (truths : Truths C) (seats : ℕ) (h : List (Eve
   returns word row lists flags held owed idle place pay s s' wait set' q q' o stays p =
       let fit = fits word row held owed p.safe in
       let apart = others word row held owed p.safe in
-      record {
-        safe = unchanged truths seats h front who walk owed walk' owed back word (word_returned false (bits_of lists.lock) word) row held held refl refl place (still_owes walk walk' owed idle pay fit.owes) (same_section walk walk' held stays) p.safe;
-        homed = back_home front who walk held owed walk' held owed back word (word_returned false (bits_of lists.lock) word) lists.lock lists.lock refl refl s s' p.homed;
-        placed = rested front who walk held owed walk' held owed back lists flags apart refl (due wait (flags who)) (λ f. absurd (cc)) p.placed;
-        own = own_same front who walk held owed walk' held owed back lists.lock apart wait p.own;
-        told = tell_same front who walk held owed walk' held owed back (standing_after h).phases lists lists apart refl wait p.told;
-        taken = taken_still held held owed (standing_after h).phases flags lists.lock apart wait p.taken;
-        known = known_withdraws truths.holds front who walk held owed walk' held owed back word (standing_after h).row lists.lock lists.lock flags apart
-            (calls word row held owed idle p.safe) s q q' (λ f. o (flags who) (called_to who (front ++ view_of who walk held owed ∷ back)) f) (λ e. e) p.homed p.known;
-      }
+      steady word (word_returned false (bits_of lists.lock) word) row row lists flags held held owed wait (unchanged truths seats h front who walk owed walk' owed back word (word_returned false (bits_of lists.lock) word) row held held refl refl place (still_owes walk walk' owed idle pay fit.owes) (same_section walk walk' held stays) p.safe)
+      (back_home front who walk held owed walk' held owed back word (word_returned false (bits_of lists.lock) word) lists.lock lists.lock refl refl s s' p.homed) (rested front who walk held owed walk' held owed back lists flags apart refl (due wait (flags who)) (λ f. absurd (cc)) p.placed)
+      (known_withdraws truths.holds front who walk held owed walk' held owed back word (standing_after h).row lists.lock lists.lock flags apart
+            (calls word row held owed idle p.safe) s q q' (λ f. o (flags who) (called_to who (front ++ view_of who walk held owed ∷ back)) f) (λ e. e) p.homed p.known) p
 
   -- a seat that leaves takes itself out of the lists of variables, and commits that
   pub leaves : (variables : Variables) (mode : Mode) (word : Word) (row : List ℕ) (lists : Lists C) (flags : ℕ → ℕ) (owed : List Owed) → seats ≤ 64 → pays walk ≡ false → 1 ≤ sum_by (times_in who) lists.cvs →
@@ -649,7 +635,8 @@ module _ {C : Type 0} {N : ℕ} (truths : Truths C) (seats : ℕ) (h : List (Eve
       record {
         safe = woken truths seats h front who walk owed walk' owed' back e k word word' row held by legal (ap (λ (x : Standing C). x.row) after_it)
             (λ seat. elim (cases_Bool (is_in (taken_set took) seat)) [
-              | inl in_it ↦ inr (stands_waits k (standing_after h).phases took seat (waits_of (standing_after h).phases (front ++ view_of who walk held owed ∷ back) k took takes) (in_stands took seat in_it), ap (λ (x : Standing C). x.phases seat) after_it ∙ ap (λ b. cond b (woken_phase k ((standing_after h).phases seat)) ((standing_after h).phases seat)) in_it)
+              | inl in_it ↦ inr (stands_waits k (standing_after h).phases took seat (waits_of (standing_after h).phases (front ++ view_of who walk held owed ∷ back) k took takes) (in_stands took seat in_it),
+                  ap (λ (x : Standing C). x.phases seat) after_it ∙ ap (λ b. cond b (woken_phase k ((standing_after h).phases seat)) ((standing_after h).phases seat)) in_it)
               | inr out_of_it ↦ inl (ap (λ (x : Standing C). x.phases seat) after_it ∙ ap (λ b. cond b (woken_phase k ((standing_after h).phases seat)) ((standing_after h).phases seat)) out_of_it)
             ])
             refl refl place (sym pay, wakes_told (calls_from_lock walk') k took owed' low (elim ways [ inl move ↦ inl move.4 | inr owe ↦ inr owe.2 ]) from) ((same_section walk walk' held stays).fits (standing_after h) row who) p.safe;

@@ -116,4 +116,5 @@ module _ {C : Type 0} {N : ℕ} (truths : Truths C) (cells : 0 < N) (quiet : Qui
   seat_step_tells old view begun found new commits made p told was =
       let after_all = seat_steps_keep old view begun found new commits made p in
       let led = led_if truths view begun made.between found new commits old made.begins made.step told.begun was.led in
-      (told_here truths.holds seats h view.seat view.walk (walk_after (got_of N made.step.walk found)) commits (calls_of begun) told (seat_step_by truths old view begun found new commits made) after_all.one_history.legal after_all.one_history.by_seats led.0 led.1 was, seen_grows h told.seen commits was.seen_of)
+      (told_here truths.holds seats h view.seat view.walk (walk_after (got_of N made.step.walk found)) commits (calls_of begun) told
+          (seat_step_by truths old view begun found new commits made) after_all.one_history.legal after_all.one_history.by_seats led.0 led.1 was, seen_grows h told.seen commits was.seen_of)
