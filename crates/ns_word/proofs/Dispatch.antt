@@ -30,7 +30,7 @@ use Rattle.ns_word.proofs.Safes.{section, same_section}
 use Rattle.ns_word.proofs.Follows.{follows}
 use Rattle.ns_word.proofs.Seen.{packable, found_fits}
 use Rattle.ns_word.proofs.Scans.{some_wakes}
-use Rattle.ns_word.proofs.Keeps.{Same, Stays, rests, acquires, stores, releases, takes, arms, enqueues, withdraws, returns, leaves as leaves_variable, scans, waits, waits_on, waits_for, wakes, sees, wakes_waiters}
+use Rattle.ns_word.proofs.Keeps.{PutsBack, Same, Stays, rests, acquires, stores, releases, takes, arms, enqueues, withdraws, returns, leaves as leaves_variable, scans, waits, waits_on, waits_for, wakes, sees, wakes_waiters}
 use Rattle.ns_word.proofs.Leads.{Leads, leads_to, none_settled, shown_settled, try_leads, acquire_leads, acquired_leads, test_leads, met_leads, shown_section, queue_leads, leave_leads, rest_leads, pay_waiting_leads, release_leads, scan_leads, taken_leads, quiet_leads, judged_leads, pay_leads, calm_release}
 use Rattle.ns_word.proofs.Leads.{load_leads, armed_leads, signal_leads, pay_woken_leads, show_leads}
 
@@ -277,6 +277,10 @@ module _ {C : Type 0} {N : ℕ} (truths : Truths C) (seats : ℕ) (h : List (Eve
       let woken = woken_of (meets_at truths part.row) part.lists.lock in let lists = waited_in truths who wait again part.row part.lists in
       record part { word = word_released_returning (releasing_of wait.mode) (has_some woken) (bits_of lists.lock) word; lists = lists; held = None; owed = called_of woken }
 
+  puts_back : (wait : Wait C) (again : Bool) (last : Word) (owes : Bool) (took : List Owed) → owes ≡ has_some took → PutsBack (Some (InWait wait (InQueuing again (QueueToWait last)))) (walk_after (pay_waiting wait owes)) took
+  puts_back wait again last true took e = record { idle = refl; owes = e; from = refl; had = refl; gave = refl; still = refl; unarmed = refl; unqueued = refl; off_way = λ flag n. refl }
+  puts_back wait again last false took e = record { idle = refl; owes = e; from = refl; had = refl; gave = refl; still = refl; unarmed = refl; unqueued = refl; off_way = λ flag n. refl }
+
   -- a wait queues, and leaves its section; one that queues again says nothing of it
   queued_up : (mode : Mode) (on : Subject C) (limits : Limits) (again : Bool) (last : Word) (owes : Bool) (tests : ℕ) (part next : Part C N) (commits : List (Event C N)) → seats ≤ 64 → let wait : Wait C = record { mode = mode; on = on; limits = limits } in
       Effect truths who (WaitReturning wait again last) part (Scanned owes tests) next commits → Groups truths seats h (at part (Some (InWait wait (InQueuing again (QueueToWait last))))) → Kept commits next (walk_after (pay_waiting wait owes))
@@ -289,7 +293,7 @@ module _ {C : Type 0} {N : ℕ} (truths : Truths C) (seats : ℕ) (h : List (Eve
       moved (walk_after (pay_waiting wait owes)) (put_back wait false part part.word) next (section_of truths.holds who (section mode held.entry held.before held.row) (CondWait c) ∷ []) commits
       (e.4 ∙ ap (put_back wait false part) e.3) (said_of held mode (CondWait c) commits e.2 e.7)
       (waits truths seats h front who (Some walk) (walk_after (pay_waiting wait owes)) back (releasing_of mode) mode c false part.word part.row part.lists part.flags held.entry held.before held.row part.owed few (may.settled refl)
-      may.unmet (left_mode mode) (subst (λ x. IsExpected x (Cond c mode)) (sym to.7) refl) (to.0 refl tt) refl (to.1 ∙ e.5) to.6 refl to.2 refl to.3 refl to.4 to.5 (λ flag n. refl) (in_its_mode walk part held mode e.1 e.2 p))
+      may.unmet (left_mode mode) (subst (λ x. IsExpected x (Cond c mode)) (sym to.7) refl) (to.0 refl tt) (puts_back wait false last owes _ e.5) refl to.3 (in_its_mode walk part held mode e.1 e.2 p))
   queued_up mode (OnCondition c) limits true last owes tests part next commits few e p =
       let wait : Wait C = record { mode = mode; on = OnCondition c; limits = limits } in
       let held = e.0 in
@@ -299,7 +303,7 @@ module _ {C : Type 0} {N : ℕ} (truths : Truths C) (seats : ℕ) (h : List (Eve
       let back_from = (may.back refl).1 in
       moved (walk_after (pay_waiting wait owes)) (put_back wait true part part.word) next [] commits (e.4 ∙ ap (put_back wait true part) e.3) e.7
       (none_more _ (waits_on truths seats h front who (Some walk) (walk_after (pay_waiting wait owes)) back (releasing_of mode) mode c true part.word part.row part.lists part.flags held.entry held.before held.row part.owed
-      may.unmet (left_mode mode) back_from.cells (ap (λ entry. phase_before mode entry) back_from.entry) (subst (λ x. IsExpected x (Cond c mode)) (sym to.7) refl) (to.0 refl tt) refl (to.1 ∙ e.5) to.6 refl to.2 refl to.3 refl to.4 to.5 (λ flag n. refl)
+      may.unmet (left_mode mode) back_from.cells (ap (λ entry. phase_before mode entry) back_from.entry) (subst (λ x. IsExpected x (Cond c mode)) (sym to.7) refl) (to.0 refl tt) (puts_back wait true last owes _ e.5) refl to.3
       (in_its_mode walk part held mode e.1 e.2 p)))
   queued_up mode (OnVariables variables) limits false last owes tests part next commits few e p =
       let wait : Wait C = record { mode = mode; on = OnVariables variables; limits = limits } in
@@ -310,7 +314,7 @@ module _ {C : Type 0} {N : ℕ} (truths : Truths C) (seats : ℕ) (h : List (Eve
       moved (walk_after (pay_waiting wait owes)) (put_back wait false part part.word) next (section_of truths.holds who (section mode held.entry held.before held.row) (exit_for (OnVariables variables)) ∷ []) commits
       (e.4 ∙ ap (put_back wait false part) e.3) (said_of held mode (exit_for (OnVariables variables)) commits e.2 e.7)
       (waits_for truths seats h front who (Some walk) (walk_after (pay_waiting wait owes)) back (releasing_of mode) mode variables part.word part.row part.lists part.flags held.entry held.before held.row part.owed few may.unmet (may.settled refl)
-      (left_mode mode) (subst (λ x. IsExpected x (Waiting variables mode)) (sym to.7) (inl refl)) (to.0 refl may.unmet) refl (to.1 ∙ e.5) to.6 refl to.2 refl to.3 refl to.4 to.5 (λ flag n. refl) (in_its_mode walk part held mode e.1 e.2 p))
+      (left_mode mode) (subst (λ x. IsExpected x (Waiting variables mode)) (sym to.7) (inl refl)) (to.0 refl may.unmet) (puts_back wait false last owes _ e.5) refl to.3 (in_its_mode walk part held mode e.1 e.2 p))
   queued_up mode (OnVariables variables) limits true last owes tests part next commits few e p =
       let wait : Wait C = record { mode = mode; on = OnVariables variables; limits = limits } in
       let walk = InWait wait (InQueuing true (QueueToWait last)) in
@@ -588,8 +592,8 @@ module _ {C : Type 0} {N : ℕ} (truths : Truths C) (seats : ℕ) (h : List (Eve
       (section_of truths.holds who (section (mode_released releasing) held.entry held.before held.row) Plain ∷ []) commits
       (e.4 ∙ ap (λ word. record part { word = word_released_returning releasing some (bits_of stay) word; lists = with_lock part.lists stay; held = None; owed = owed }) e.3)
       (said_of held (mode_released releasing) Plain commits e.2 e.7)
-      (scans truths seats h front who (Some (InRelease releasing (ScanAndRelease last))) (walk_after (got_of N (InRelease releasing (ScanAndRelease last)) (Scanned owes tests))) back releasing part.word part.row part.lists part.flags held.entry held.before held.row part.owed few start.2 to.8 to.7
-      (to.0 refl) refl (to.1 ∙ e.5) refl to.2 refl (ap is_some to.3) to.4 to.5 (λ flag n. refl) start.0)
+      (scans truths seats h front who (Some (InRelease releasing (ScanAndRelease last))) (walk_after (got_of N (InRelease releasing (ScanAndRelease last)) (Scanned owes tests))) back releasing part.word part.row part.lists part.flags held.entry held.before held.row part.owed few start.2 to.8 (to.0 refl)
+      (record { idle = refl; owes = to.1 ∙ e.5; from = to.7; had = refl; gave = to.2; still = refl; unarmed = to.4; unqueued = to.5; off_way = λ flag n. refl }) (ap is_some to.3) start.0)
   -- a wake
   by_walk (InRelease releasing Pay) (Paid owes) part next commits few some quiet e here p =
       let to = pay_leads truths releasing part.held owes in

@@ -104,6 +104,18 @@ not_waiting : {C : Type 0} (stance : Option (Stance C)) → is_some stance ≡ f
 not_waiting None e = refl
 not_waiting (Some stance) e = absurd (cc)
 
+-- What the places tell of one that puts the queues back after a scan, and owes these wakes for those whom it took: it stood in no list, and neither had set out to acquire.
+pub record PutsBack {C : Type 0} (walk walk' : Option (Walk C)) (took : List Owed) : Type 0 where
+  pub idle : pays walk ≡ false
+  pub owes : pays walk' ≡ has_some took
+  pub from : calls_from_lock walk' ≡ true
+  pub had : has_queues walk ≡ true
+  pub gave : has_queues walk' ≡ false
+  pub still : awaits walk ≡ false
+  pub unarmed : has_armed walk' ≡ false
+  pub unqueued : is_queuing walk' ≡ false
+  pub off_way : NoWay walk
+
 -- one that owes no wake owes none at another place of that kind
 still_owes : {C : Type 0} (walk walk' : Option (Walk C)) (owed : List Owed) → pays walk ≡ false → pays walk' ≡ pays walk → OwesAs walk owed → OwesAs walk' owed
 still_owes walk walk' owed idle same owes =
@@ -341,7 +353,8 @@ module _ {C : Type 0} {N : ℕ} (truths : Truths C) (seats : ℕ) (h : List (Eve
   returns word row lists flags held owed idle place pay s s' wait set' q q' o stays p =
       let fit = fits word row held owed p.safe in
       let apart = others word row held owed p.safe in
-      steady word (word_returned false (bits_of lists.lock) word) row row lists flags held held owed wait (unchanged truths seats h front who walk owed walk' owed back word (word_returned false (bits_of lists.lock) word) row held held refl refl place (still_owes walk walk' owed idle pay fit.owes) (same_section walk walk' held stays) p.safe)
+      steady word (word_returned false (bits_of lists.lock) word) row row lists flags held held owed wait
+      (unchanged truths seats h front who walk owed walk' owed back word (word_returned false (bits_of lists.lock) word) row held held refl refl place (still_owes walk walk' owed idle pay fit.owes) (same_section walk walk' held stays) p.safe)
       (back_home front who walk held owed walk' held owed back word (word_returned false (bits_of lists.lock) word) lists.lock lists.lock refl refl s s' p.homed) (rested front who walk held owed walk' held owed back lists flags apart refl (due wait (flags who)) (λ f. absurd (cc)) p.placed)
       (known_withdraws truths.holds front who walk held owed walk' held owed back word (standing_after h).row lists.lock lists.lock flags apart
             (calls word row held owed idle p.safe) s q q' (λ f. o (flags who) (called_to who (front ++ view_of who walk held owed ∷ back)) f) (λ e. e) p.homed p.known) p
@@ -389,12 +402,11 @@ module _ {C : Type 0} {N : ℕ} (truths : Truths C) (seats : ℕ) (h : List (Eve
 
   -- a seat puts the queues back as a scan leaves them, and releases its section
   pub scans : (releasing : Releasing) (word : Word) (row : List ℕ) (lists : Lists C) (flags : ℕ → ℕ) (entry : Opening C) (before cells : List ℕ) (owed : List Owed) → seats ≤ 64 → IsSettledBy truths.holds before entry → let meets : C → Bool = meets_at truths row in
-      IsExpected (phase_by walk') Idle → calls_from_lock walk' ≡ true →
-      PlaceFits {C = C} {N = N} truths walk' None → pays walk ≡ false → pays walk' ≡ has_some (called_of (woken_of meets lists.lock)) → has_queues walk ≡ true → has_queues walk' ≡ false → awaits walk ≡ false → awaits walk' ≡ false → has_armed walk' ≡ false → is_queuing walk' ≡ false → NoWay walk →
+      IsExpected (phase_by walk') Idle → PlaceFits {C = C} {N = N} truths walk' None → PutsBack walk walk' (called_of (woken_of meets lists.lock)) → awaits walk' ≡ false →
       Groups truths seats h (st walk word row lists flags (Some (section (mode_released releasing) entry before cells)) owed) →
       Groups truths seats (h ++ section_of truths.holds who (section (mode_released releasing) entry before cells) Plain ∷ [])
       (st walk' (word_released_returning releasing (has_some (woken_of meets lists.lock)) (bits_of (left_of meets lists.lock)) word) row (with_lock lists (left_of meets lists.lock)) flags None (called_of (woken_of meets lists.lock)))
-  scans releasing word row lists flags entry before cells owed few settled phase from place idle pay' s s' a a' set' q' o p =
+  scans releasing word row lists flags entry before cells owed few settled phase place puts a' p =
       let meets : C → Bool = meets_at truths row in
       let section_is = section {C = C} {N = N} (mode_released releasing) entry before cells in
       let held = Some section_is in
@@ -402,14 +414,14 @@ module _ {C : Type 0} {N : ℕ} (truths : Truths C) (seats : ℕ) (h : List (Eve
       let apart = others word row held owed p.safe in
       let took = called_of (woken_of meets lists.lock) in
       let stay = left_of meets lists.lock in
-      let owing = owes_none word row held owed idle p.safe in
-      let none = stands_not word row lists flags held owed a p in
+      let owing = owes_none word row held owed puts.idle p.safe in
+      let none = stands_not word row lists flags held owed puts.still p in
       let word' = word_released_returning releasing (has_some (woken_of meets lists.lock)) (bits_of stay) word in
       record {
         safe = released truths seats h front who walk owed walk' took back (mode_released releasing) Plain word word' row entry before cells few settled tt phase
-            (released_holders releasing word) place (sym pay', calls_told walk' (woken_of meets lists.lock) from) p.safe;
-        homed = back_home front who walk held owed walk' None took back word word' lists.lock stay refl refl s s' p.homed;
-        placed = taken front who walk held owed walk' None took back lists (with_lock lists stay) flags apart p.placed.four p.placed.once owing (scan_parts meets lists) a a' set' p.placed;
+            (released_holders releasing word) place (sym puts.owes, calls_told walk' (woken_of meets lists.lock) puts.from) p.safe;
+        homed = back_home front who walk held owed walk' None took back word word' lists.lock stay refl refl puts.had puts.gave p.homed;
+        placed = taken front who walk held owed walk' None took back lists (with_lock lists stay) flags apart p.placed.four p.placed.once owing (scan_parts meets lists) puts.still a' puts.unarmed p.placed;
         own = own_scanned front who walk held owed walk' None took back meets lists.lock (lock_nowhere lists none) p.own;
         told = tell_moves front who walk held owed walk' None took back (standing_after h).phases (standing_after (h ++ section_of truths.holds who section_is Plain ∷ [])).phases lists (with_lock lists stay) p.placed.four refl none
             (phases_there truths seats h who section_is Plain) (λ k m e. let clash : Idle ≡ Waiting k m = sym (phases_here truths seats h who section_is Plain) ∙ e in absurd (cc)) p.told;
@@ -420,7 +432,7 @@ module _ {C : Type 0} {N : ℕ} (truths : Truths C) (seats : ℕ) (h : List (Eve
             (front ++ view_of who walk' None took ∷ back) meets lists.lock listed) (λ listed. listed_left
             (WaiterNames (standing_after (h ++ section_of truths.holds who section_is Plain ∷ [])).phases (front ++ view_of who walk' None took ∷ back)) meets lists.lock listed) p.taken;
         known = subst (λ r. Known truths.holds word' r stay flags (front ++ view_of who walk' None took ∷ back)) (sym fit.section.cells ∙ sym (row_left truths seats h who section_is Plain))
-            (known_scans truths.holds front who walk held owed walk' None took back releasing word (standing_after h).row row lists stay flags apart s q' a o owing refl from (λ e. e) p.homed p.placed p.known);
+            (known_scans truths.holds front who walk held owed walk' None took back releasing word (standing_after h).row row lists stay flags apart puts.had puts.unqueued puts.still puts.off_way owing refl puts.from (λ e. e) p.homed p.placed p.known);
       }
 
   -- The same with itself in the lock list, for a condition that is false. What it leaves of the sections is told, and the history after that.
@@ -428,31 +440,30 @@ module _ {C : Type 0} {N : ℕ} (truths : Truths C) (seats : ℕ) (h : List (Eve
       let meets : C → Bool = meets_at truths row in let took = called_of (woken_of meets lists.lock) in let lock' = queued who mode (Some c) 0 again (left_of meets lists.lock) in let word' = word_released_returning releasing (has_some (woken_of meets lists.lock)) (bits_of lock') word in
       truths.holds c row ≡ false → row ≡ (standing_after h').row → Safe truths seats h' word' row (front ++ view_of who walk' None took ∷ back) →
       ((seat : ℕ) → who ≢ seat → (standing_after h').phases seat ≡ (standing_after h).phases seat) → ((vs : Variables) (m : Mode) → (standing_after h').phases who ≡ Waiting vs m → ⊥) →
-      pays walk ≡ false → calls_from_lock walk' ≡ true → has_queues walk ≡ true → has_queues walk' ≡ false → awaits walk ≡ false
-      → waits_in walk' ≡ Some (record { mode = mode; on = Some (OnCondition c); tries = 0 }) → has_armed walk ≡ true → has_armed walk' ≡ false → is_queuing walk' ≡ false → NoWay walk →
+      PutsBack walk walk' took → has_armed walk ≡ true → waits_in walk' ≡ Some (record { mode = mode; on = Some (OnCondition c); tries = 0 }) →
       Groups truths seats h (st walk word row lists flags held owed) → Groups truths seats h' (st walk' word' row (with_lock lists lock') flags None took)
-  queues_scanned releasing mode c again h' word row lists flags held owed unmet now safe there idles idle from s s' a a' set set' q' o p =
+  queues_scanned releasing mode c again h' word row lists flags held owed unmet now safe there idles puts set a' p =
       let meets : C → Bool = meets_at truths row in
       let apart = others word row held owed p.safe in
       let took = called_of (woken_of meets lists.lock) in
       let lock' = queued who mode (Some c) 0 again (left_of meets lists.lock) in
-      let owing = owes_none word row held owed idle p.safe in
-      let none = stands_not word row lists flags held owed a p in
+      let owing = owes_none word row held owed puts.idle p.safe in
+      let none = stands_not word row lists flags held owed puts.still p in
       let word' = word_released_returning releasing (has_some (woken_of meets lists.lock)) (bits_of lock') word in
       record {
         safe = safe;
-        homed = back_home front who walk held owed walk' None took back word word' lists.lock lock' refl refl s s' p.homed;
+        homed = back_home front who walk held owed walk' None took back word word' lists.lock lock' refl refl puts.had puts.gave p.homed;
         placed = entered front who walk held owed walk' None took back lists (with_lock lists lock') flags apart p.placed.four p.placed.once owing
-            (λ seat. omega (arith, times_scan seat meets lists.lock, times_seats seat (woken_of meets lists.lock), counts_lock lists lock' seat, times_queued seat who mode (Some c) 0 again (left_of meets lists.lock))) set a (ap is_some a') set' p.placed;
+            (λ seat. omega (arith, times_scan seat meets lists.lock, times_seats seat (woken_of meets lists.lock), counts_lock lists lock' seat, times_queued seat who mode (Some c) 0 again (left_of meets lists.lock))) set puts.still (ap is_some a') puts.unarmed p.placed;
         own = own_waited front who walk held owed walk' None took back meets mode (Some c) 0 again lists.lock apart (lock_nowhere lists none) (ap lock_stance a') p.own;
         told = tell_moves front who walk held owed walk' None took back (standing_after h).phases (standing_after h').phases lists (with_lock lists lock') p.placed.four refl none there idles p.told;
-        taken = told_enters front who walk held owed walk' None took back (standing_after h).phases (standing_after h').phases flags lists.lock lock' there (lock_nowhere lists none) (unowed lists flags held owed apart a p.placed) (armed_now lists flags held owed apart set p.placed)
+        taken = told_enters front who walk held owed walk' None took back (standing_after h).phases (standing_after h').phases flags lists.lock lock' there (lock_nowhere lists none) (unowed lists flags held owed apart puts.still p.placed) (armed_now lists flags held owed apart set p.placed)
             (λ due listed. listed_woken (standing_after h').phases (front ++ view_of who walk' None took ∷ back) meets lists.lock listed)
             (λ listed. listed_queued (WaiterNames (standing_after h').phases (front ++ view_of who walk' None took ∷ back)) who mode (Some c) 0 again (left_of meets lists.lock)
             (subst (λ s. IsNamed s ((standing_after h').phases who) None) (sym (ap waits_in (walk_here front (view_of who walk' None took) back apart) ∙ a')) refl)
             (listed_left (WaiterNames (standing_after h').phases (front ++ view_of who walk' None took ∷ back)) meets lists.lock listed)) p.taken;
         known = subst (λ r. Known truths.holds word' r lock' flags (front ++ view_of who walk' None took ∷ back)) now
-            (known_scans truths.holds front who walk held owed walk' None took back releasing word (standing_after h).row row lists lock' flags apart s q' a o owing refl from
+            (known_scans truths.holds front who walk held owed walk' None took back releasing word (standing_after h).row row lists lock' flags apart puts.had puts.unqueued puts.still puts.off_way owing refl puts.from
             (λ e. queued_eligible meets who mode c 0 again (left_of meets lists.lock) unmet e) p.homed p.placed p.known);
       }
 
@@ -460,13 +471,11 @@ module _ {C : Type 0} {N : ℕ} (truths : Truths C) (seats : ℕ) (h : List (Eve
   pub waits : (releasing : Releasing) (mode : Mode) (c : C) (again : Bool) (word : Word) (row : List ℕ) (lists : Lists C) (flags : ℕ → ℕ) (entry : Opening C) (before cells : List ℕ) (owed : List Owed) → seats ≤ 64 → IsSettledBy truths.holds before entry →
       let meets : C → Bool = meets_at truths row in let lock' = queued who mode (Some c) 0 again (left_of meets lists.lock) in
       truths.holds c cells ≡ false → mode_released releasing ≡ mode → IsExpected (phase_by walk') (Cond c mode) →
-      PlaceFits {C = C} {N = N} truths walk' None → pays walk ≡ false → pays walk' ≡ has_some (called_of (woken_of meets lists.lock)) → calls_from_lock walk' ≡ true
-      → has_queues walk ≡ true → has_queues walk' ≡ false → awaits walk ≡ false → waits_in walk' ≡ Some (record { mode = mode; on = Some (OnCondition c); tries = 0 })
-      → has_armed walk ≡ true → has_armed walk' ≡ false → is_queuing walk' ≡ false → NoWay walk →
+      PlaceFits {C = C} {N = N} truths walk' None → PutsBack walk walk' (called_of (woken_of meets lists.lock)) → has_armed walk ≡ true → waits_in walk' ≡ Some (record { mode = mode; on = Some (OnCondition c); tries = 0 }) →
       Groups truths seats h (st walk word row lists flags (Some (section mode entry before cells)) owed) →
       Groups truths seats (h ++ section_of truths.holds who (section mode entry before cells) (CondWait c) ∷ [])
       (st walk' (word_released_returning releasing (has_some (woken_of meets lists.lock)) (bits_of lock') word) row (with_lock lists lock') flags None (called_of (woken_of meets lists.lock)))
-  waits releasing mode c again word row lists flags entry before cells owed few settled unmet is phase place idle pay' from s s' a a' set set' q' o p =
+  waits releasing mode c again word row lists flags entry before cells owed few settled unmet is phase place puts set a' p =
       let meets : C → Bool = meets_at truths row in
       let held = section {C = C} {N = N} mode entry before cells in
       let fit = fits word row (Some held) owed p.safe in
@@ -476,20 +485,18 @@ module _ {C : Type 0} {N : ℕ} (truths : Truths C) (seats : ℕ) (h : List (Eve
       queues_scanned releasing mode c again (h ++ section_of truths.holds who held (CondWait c) ∷ []) word row lists flags (Some held) owed
       (subst (λ r. truths.holds c r ≡ false) fit.section.cells unmet) (sym fit.section.cells ∙ sym (row_left truths seats h who held (CondWait c)))
       (released truths seats h front who walk owed walk' took back mode (CondWait c) word word' row entry before cells few settled unmet phase
-      (gives_up releasing mode word is) place (sym pay', calls_told walk' (woken_of meets lists.lock) from) p.safe)
+      (gives_up releasing mode word is) place (sym puts.owes, calls_told walk' (woken_of meets lists.lock) puts.from) p.safe)
       (phases_there truths seats h who held (CondWait c)) (λ k m e. let clash : Cond c mode ≡ Waiting k m = sym (phases_here truths seats h who held (CondWait c)) ∙ e in absurd (cc))
-      idle from s s' a a' set set' q' o p
+      puts set a' p
 
   -- a wait for a condition that came back gives its section up, and commits nothing
   pub waits_on : (releasing : Releasing) (mode : Mode) (c : C) (again : Bool) (word : Word) (row : List ℕ) (lists : Lists C) (flags : ℕ → ℕ) (entry : Opening C) (before cells : List ℕ) (owed : List Owed) →
       let meets : C → Bool = meets_at truths row in let lock' = queued who mode (Some c) 0 again (left_of meets lists.lock) in
       truths.holds c cells ≡ false → mode_released releasing ≡ mode → cells ≡ before → phase_before mode entry ≡ Cond c mode → IsExpected (phase_by walk') (Cond c mode) →
-      PlaceFits {C = C} {N = N} truths walk' None → pays walk ≡ false → pays walk' ≡ has_some (called_of (woken_of meets lists.lock)) → calls_from_lock walk' ≡ true
-      → has_queues walk ≡ true → has_queues walk' ≡ false → awaits walk ≡ false → waits_in walk' ≡ Some (record { mode = mode; on = Some (OnCondition c); tries = 0 })
-      → has_armed walk ≡ true → has_armed walk' ≡ false → is_queuing walk' ≡ false → NoWay walk →
+      PlaceFits {C = C} {N = N} truths walk' None → PutsBack walk walk' (called_of (woken_of meets lists.lock)) → has_armed walk ≡ true → waits_in walk' ≡ Some (record { mode = mode; on = Some (OnCondition c); tries = 0 }) →
       Groups truths seats h (st walk word row lists flags (Some (section mode entry before cells)) owed) →
       Groups truths seats h (st walk' (word_released_returning releasing (has_some (woken_of meets lists.lock)) (bits_of lock') word) row (with_lock lists lock') flags None (called_of (woken_of meets lists.lock)))
-  waits_on releasing mode c again word row lists flags entry before cells owed unmet is same comes phase place idle pay' from s s' a a' set set' q' o p =
+  waits_on releasing mode c again word row lists flags entry before cells owed unmet is same comes phase place puts set a' p =
       let meets : C → Bool = meets_at truths row in
       let held = section {C = C} {N = N} mode entry before cells in
       let fit = fits word row (Some held) owed p.safe in
@@ -499,22 +506,20 @@ module _ {C : Type 0} {N : ℕ} (truths : Truths C) (seats : ℕ) (h : List (Eve
       queues_scanned releasing mode c again h word row lists flags (Some held) owed
       (subst (λ r. truths.holds c r ≡ false) fit.section.cells unmet) (sym fit.section.cells ∙ same ∙ fit.section.starts)
       (dropped truths seats h front who walk owed walk' took back mode word word' row entry before cells same (subst (λ ph. IsExpected (phase_by walk') ph) (sym comes) phase)
-      (gives_up releasing mode word is) place (sym pay', calls_told walk' (woken_of meets lists.lock) from) p.safe)
+      (gives_up releasing mode word is) place (sym puts.owes, calls_told walk' (woken_of meets lists.lock) puts.from) p.safe)
       (λ seat ne. refl) (λ k m e. let clash : Cond c mode ≡ Waiting k m = sym (fit.section.enters ∙ comes) ∙ e in absurd (cc))
-      idle from s s' a a' set set' q' o p
+      puts set a' p
 
   -- a wait for variables leaves its section, commits it, and goes to the back of their lists
   pub waits_for : (releasing : Releasing) (mode : Mode) (variables : Variables) (word : Word) (row : List ℕ) (lists : Lists C) (flags : ℕ → ℕ) (entry : Opening C) (before cells : List ℕ) (owed : List Owed) → seats ≤ 64 → AreVariables variables → IsSettledBy truths.holds before entry →
       let meets : C → Bool = meets_at truths row in let stay = with_lock lists (left_of meets lists.lock) in
       let lists' = waits_at (OnVariables variables) who mode false stay in
       mode_released releasing ≡ mode → IsExpected (phase_by walk') (Waiting variables mode) →
-      PlaceFits {C = C} {N = N} truths walk' None → pays walk ≡ false → pays walk' ≡ has_some (called_of (woken_of meets lists.lock)) → calls_from_lock walk' ≡ true
-      → has_queues walk ≡ true → has_queues walk' ≡ false → awaits walk ≡ false → waits_in walk' ≡ Some (record { mode = mode; on = Some (OnVariables variables); tries = 0 })
-      → has_armed walk ≡ true → has_armed walk' ≡ false → is_queuing walk' ≡ false → NoWay walk →
+      PlaceFits {C = C} {N = N} truths walk' None → PutsBack walk walk' (called_of (woken_of meets lists.lock)) → has_armed walk ≡ true → waits_in walk' ≡ Some (record { mode = mode; on = Some (OnVariables variables); tries = 0 }) →
       Groups truths seats h (st walk word row lists flags (Some (section mode entry before cells)) owed) →
       Groups truths seats (h ++ section_of truths.holds who (section mode entry before cells) (exit_for (OnVariables variables)) ∷ [])
       (st walk' (word_released_returning releasing (has_some (woken_of meets lists.lock)) (bits_of lists'.lock) word) row lists' flags None (called_of (woken_of meets lists.lock)))
-  waits_for releasing mode variables word row lists flags entry before cells owed few are settled is phase place idle pay' from s s' a a' set set' q' o p =
+  waits_for releasing mode variables word row lists flags entry before cells owed few are settled is phase place puts set a' p =
       let meets : C → Bool = meets_at truths row in
       let held = section {C = C} {N = N} mode entry before cells in
       let fit = fits word row (Some held) owed p.safe in
@@ -526,28 +531,28 @@ module _ {C : Type 0} {N : ℕ} (truths : Truths C) (seats : ℕ) (h : List (Eve
       let in_lists = entered_at variables who mode false stay p.placed.four are in
       let waits_now : phase_after mode exit ≡ Waiting variables mode = after_exit mode variables in
       let row_is = sym fit.section.cells ∙ sym (row_left truths seats h who held exit) in
-      let owing = owes_none word row (Some held) owed idle p.safe in
-      let none = stands_not word row lists flags (Some held) owed a p in
+      let owing = owes_none word row (Some held) owed puts.idle p.safe in
+      let none = stands_not word row lists flags (Some held) owed puts.still p in
       let out : times who stay ≡ 0 = omega (arith, none, times_scan who meets lists.lock) in
       let word' = word_released_returning releasing (has_some (woken_of meets lists.lock)) (bits_of lists'.lock) word in
       record {
         safe = released truths seats h front who walk owed walk' took back mode exit word word' row entry before cells few settled (exit_fits truths.holds cells variables) (subst (IsExpected (phase_by walk')) (sym waits_now) phase)
-            (gives_up releasing mode word is) place (sym pay', calls_told walk' (woken_of meets lists.lock) from) p.safe;
-        homed = back_home front who walk (Some held) owed walk' None took back word word' lists.lock lists'.lock refl refl s s' p.homed;
+            (gives_up releasing mode word is) place (sym puts.owes, calls_told walk' (woken_of meets lists.lock) puts.from) p.safe;
+        homed = back_home front who walk (Some held) owed walk' None took back word word' lists.lock lists'.lock refl refl puts.had puts.gave p.homed;
         placed = entered front who walk (Some held) owed walk' None took back lists lists' flags apart in_lists.four (once_entered variables who mode stay lists' p.placed.four are out in_lists p.placed.once) owing
-            (λ seat. omega (arith, scan_parts meets lists seat, counts_entered variables who mode stay lists' p.placed.four are out in_lists seat)) set a (ap is_some a') set' p.placed;
+            (λ seat. omega (arith, scan_parts meets lists seat, counts_entered variables who mode stay lists' p.placed.four are out in_lists seat)) set puts.still (ap is_some a') puts.unarmed p.placed;
         own = subst (λ lock. WaitersOwn lock (front ++ view_of who walk' None took ∷ back)) (sym in_lists.lock) (own_scanned front who walk (Some held) owed walk' None took back meets lists.lock (lock_nowhere lists none) p.own);
         told = tell_enters front who walk (Some held) owed walk' None took back (standing_after h).phases (standing_after (h ++ section_of truths.holds who held exit ∷ [])).phases stay lists' variables mode apart p.placed.four are out in_lists a'
             (phases_here truths seats h who held exit ∙ waits_now) (phases_there truths seats h who held exit) (tell_lists (standing_after h).phases lists stay (front ++ view_of who walk (Some held) owed ∷ back) refl p.told);
         taken = subst (λ lock. TakenTold (standing_after (h ++ section_of truths.holds who held exit ∷ [])).phases flags lock (front ++ view_of who walk' None took ∷ back))
             (sym in_lists.lock) (told_enters front who walk (Some held) owed walk' None took back (standing_after h).phases
             (standing_after (h ++ section_of truths.holds who held exit ∷ [])).phases flags lists.lock (left_of meets lists.lock) (phases_there truths seats h who held exit) (lock_nowhere lists none)
-            (unowed lists flags (Some held) owed apart a p.placed) (armed_now lists flags (Some held) owed apart set p.placed)
+            (unowed lists flags (Some held) owed apart puts.still p.placed) (armed_now lists flags (Some held) owed apart set p.placed)
             (λ due listed. listed_woken (standing_after (h ++ section_of truths.holds who held exit ∷ [])).phases (front ++ view_of who walk' None took ∷ back) meets lists.lock listed)
             (λ listed. listed_left (WaiterNames (standing_after (h ++ section_of truths.holds who held exit ∷ [])).phases
             (front ++ view_of who walk' None took ∷ back)) meets lists.lock listed) p.taken);
         known = subst (λ (x : List ℕ × List (Waiter C)). Known truths.holds (word_released_returning releasing (has_some (woken_of meets lists.lock)) (bits_of x.1) word) x.0 x.1 flags (front ++ view_of who walk' None took ∷ back)) (λ i. (row_is i, sym in_lists.lock i))
-            (known_scans truths.holds front who walk (Some held) owed walk' None took back releasing word (standing_after h).row row lists (left_of meets lists.lock) flags apart s q' a o owing refl from (λ e. e) p.homed p.placed p.known);
+            (known_scans truths.holds front who walk (Some held) owed walk' None took back releasing word (standing_after h).row row lists (left_of meets lists.lock) flags apart puts.had puts.unqueued puts.still puts.off_way owing refl puts.from (λ e. e) p.homed p.placed p.known);
       }
 
   -- ---- wakes
