@@ -11,7 +11,7 @@ use Rattle.ns_word.specs.Prelude.{want_signaling, want_trying, want_waiting}
 use Rattle.ns_word.proofs.Follows.{Follows, follows, may_end}
 use Rattle.ns_word.proofs.Effects.{BeganSo, makes}
 use Rattle.ns_word.proofs.Looks.{looks_by}
-use Rattle.ns_word.proofs.Views.{each_parts}
+use Rattle.ns_word.proofs.Stepping.{effect_at, place_at}
 
 -- where a wait answers nothing, the call goes on
 ends_not : {C : Type 0} (N : ℕ) (walk : Walk C) (found : Found) (reply : Reply) → may_end walk found ≡ false → got_of N walk found ≢ Done reply
@@ -106,11 +106,10 @@ module _ {C : Type 0} {N : ℕ} (truths : Truths C) (wait : Wait C) (c : C) wher
 pub answers_rightly : {C : Type 0} {N : ℕ} (truths : Truths C) (seats : ℕ) (h : List (Event C N)) (old new : LockState C N) (view : SeatView C N) (found : Found) (commits : List (Event C N)) (wait : Wait C) (c : C) (place : WaitPlace) (answer : Answer) →
     (step : Step truths old view found new commits) → IsLawful truths seats h old → step.walk ≡ InWait wait place → wait.on ≡ OnCondition c → got_of N step.walk found ≡ Done (Answered answer) → AnswersOf truths wait c (has_come_back step.walk) step.held answer
 answers_rightly {C} {N} truths seats h old new view found commits wait c place answer step lawful walks for is =
-    let fits = (each_parts truths seats (standing_after h) old.row step.front view step.back (subst (λ vs. EachFits truths seats (standing_after h) old.row vs) step.was lawful.one_history.each)).1 in
-    let here : PlaceFits truths (Some (InWait wait place)) view.held = subst (λ walk. PlaceFits truths walk view.held) (step.walks ∙ ap Some walks) fits.place in
+    let here = place_at step seats h (InWait wait place) walks lawful in
     subst (λ back. AnswersOf truths wait c back step.held answer) (ap has_come_back (sym walks))
     (answers_at truths wait c view.seat place (part_of old view.held view.owed) found (part_of new step.held step.owed) commits answer for here.0
-    (subst (λ walk. Effect truths view.seat (want_of walk) (part_of old view.held view.owed) found (part_of new step.held step.owed) commits) walks step.effect) (ap (λ walk. got_of N walk found) (sym walks) ∙ is))
+    (effect_at step (InWait wait place) walks) (ap (λ walk. got_of N walk found) (sym walks) ∙ is))
 
 -- ---- what a wait for variables answers
 
@@ -142,7 +141,7 @@ pub variable_answers_rightly : {C : Type 0} {N : ℕ} (truths : Truths C) (old n
     (step : Step truths old view found new commits) → step.walk ≡ InAcquire (ForWait wait outcome) place → wait.on ≡ OnVariables variables → got_of N step.walk found ≡ Done reply → AnswersAfter truths wait outcome variables step.held reply
 variable_answers_rightly {C} {N} truths old new view found commits wait outcome place variables reply step walks for is =
     after_at truths wait outcome variables view.seat place (part_of old view.held view.owed) found (part_of new step.held step.owed) commits reply for
-    (subst (λ walk. Effect truths view.seat (want_of walk) (part_of old view.held view.owed) found (part_of new step.held step.owed) commits) walks step.effect) (ap (λ walk. got_of N walk found) (sym walks) ∙ is)
+    (effect_at step (InAcquire (ForWait wait outcome) place) walks) (ap (λ walk. got_of N walk found) (sym walks) ∙ is)
 
 -- ---- and where it answers nothing
 
@@ -156,8 +155,7 @@ module _ {C : Type 0} {N : ℕ} (truths : Truths C) (wait : Wait C) (variables :
 pub variable_answers_back : {C : Type 0} {N : ℕ} (truths : Truths C) (seats : ℕ) (h : List (Event C N)) (old new : LockState C N) (view : SeatView C N) (found : Found) (commits : List (Event C N)) (wait : Wait C) (place : WaitPlace) (variables : Variables) (reply : Reply) →
     (step : Step truths old view found new commits) → IsLawful truths seats h old → step.walk ≡ InWait wait place → wait.on ≡ OnVariables variables → got_of N step.walk found ≢ Done reply
 variable_answers_back {C} {N} truths seats h old new view found commits wait place variables reply step lawful walks for is =
-    let fits = (each_parts truths seats (standing_after h) old.row step.front view step.back (subst (λ vs. EachFits truths seats (standing_after h) old.row vs) step.was lawful.one_history.each)).1 in
-    let here : PlaceFits truths (Some (InWait wait place)) view.held = subst (λ walk. PlaceFits truths walk view.held) (step.walks ∙ ap Some walks) fits.place in
+    let here = place_at step seats h (InWait wait place) walks lawful in
     none_at truths wait variables place view.held found reply for here.0 (ap (λ walk. got_of N walk found) (sym walks) ∙ is)
 
 -- ---- from the answer to the commit

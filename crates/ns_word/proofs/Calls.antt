@@ -16,6 +16,7 @@ use Rattle.ns_word.proofs.Looks.{look_here, look_in}
 use Rattle.ns_word.proofs.Follows.{FoundCalled, follows}
 use Rattle.ns_word.proofs.Listed.{none_of}
 use Rattle.ns_word.proofs.Numbers.{split_at}
+use Rattle.ns_word.proofs.Stepping.{place_at}
 use Rattle.ns_word.proofs.Views.{each_parts}
 
 -- A seat whose call is over owes nobody a wake.
@@ -98,8 +99,7 @@ pub wakes_by_rule : {C : Type 0} {N : ℕ} (truths : Truths C) (seats : ℕ) (h 
     (step : Step truths old view found new commits) → IsLawful truths seats h old → asked_of step.walk ≡ Wake waking k →
     WakesBy C N truths view.seat waking k (part_of old view.held view.owed) (part_of new step.held step.owed) commits
 wakes_by_rule {C} {N} truths seats h old new view found commits waking k step lawful asked =
-    let fits = (each_parts truths seats (standing_after h) old.row step.front view step.back (subst (λ vs. EachFits truths seats (standing_after h) old.row vs) step.was lawful.one_history.each)).1 in
-    wakes_by C N truths view.seat waking k step.walk found (part_of old view.held view.owed) (part_of new step.held step.owed) commits asked (subst (λ w. PlaceFits truths w view.held) step.walks fits.place) (lawful.waiters_placed.four, lawful.waiters_placed.once) step.effect
+    wakes_by C N truths view.seat waking k step.walk found (part_of old view.held view.owed) (part_of new step.held step.owed) commits asked (place_at step seats h step.walk refl lawful) (lawful.waiters_placed.four, lawful.waiters_placed.once) step.effect
 
 -- ---- looks
 

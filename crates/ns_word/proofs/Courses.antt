@@ -17,7 +17,7 @@ use Rattle.ns_word.proofs.Keeps.{acquired_holders}
 use Rattle.ns_word.proofs.Leaving.{not_left}
 use Rattle.ns_word.proofs.Follows.{follows, next_asked}
 use Rattle.ns_word.specs.declared.request.Request.TheVariants.{Release}
-use Rattle.ns_word.proofs.Views.{each_parts}
+use Rattle.ns_word.proofs.Stepping.{place_at, step_fits}
 use Rattle.ns_model.specs.declared.event.Exit.TheVariants as TheExit
 
 module _ (C : Type 0) (N : ℕ) (truths : Truths C) (seat : ℕ) (row : List ℕ) where
@@ -570,10 +570,10 @@ pub takes_on : (C : Type 0) (N : ℕ) (truths : Truths C) (seats : ℕ) (history
     CallGoes truths view.seat (row_after (history ++ commits)) (asked_of step.walk) (course_after found commits course) (got_of N step.walk found) step.held
 takes_on C N truths seats history old new view found commits course step lawful so_far =
     let row = row_after (history ++ commits) in
-    let fits = (each_parts truths seats (standing_after history) old.row step.front view step.back (subst (λ vs. EachFits truths seats (standing_after history) old.row vs) step.was lawful.one_history.each)).1 in
+    let fits = step_fits step seats history lawful in
     let same : commits ≡ [] → row_after history ≡ row = λ silent. ap (λ es. row_after es) (sym (ap (λ cs. history ++ cs) silent ∙ append-nil history)) in
     let stands = stands_by C N truths view.seat row seats history old view commits same lawful fits in
-    let place = subst (λ w. PlaceFits truths w view.held) step.walks fits.place in
+    let place = place_at step seats history step.walk refl lawful in
     goes_as_asked C N truths view.seat row (asked_of step.walk) (course_after found commits course) (got_of N step.walk found) step.held (follows N step.walk found).asked
     (comes_on C N truths view.seat row (part_of old view.held view.owed) (part_of new step.held step.owed) commits course stands step.walk found step.effect place so_far)
 

@@ -8,7 +8,7 @@ use Rattle.ns_word.specs.Prelude.{ViewFits, Wait, Waiting, Word, expected_for, h
 use Rattle.ns_word.proofs.CountsIn.{gone_from, left_at, some_list}
 use Rattle.ns_word.proofs.Variables.{stands_still}
 use Rattle.ns_word.proofs.Scans.{times_without}
-use Rattle.ns_word.proofs.Stands.{effect_at}
+use Rattle.ns_word.proofs.Stepping.{effect_at, place_at, step_fits}
 use Rattle.ns_word.proofs.Views.{apart_parts, each_parts, walk_here}
 
 module _ {C : Type 0} {N : ℕ} (phases : ℕ → Phase C) (lists : Lists C) (views : List (SeatView C N)) (seat : ℕ) (mode : Mode) (variables : Variables) where
@@ -25,7 +25,7 @@ module _ {C : Type 0} {N : ℕ} (truths : Truths C) (old new : LockState C N) (v
     (stood : Bool) (step : Step truths old view (Left stood) new commits) (walks : step.walk ≡ InWait wait (InLeaving cause (Leave last))) where
   -- it finds whether it stands there
   found_so : stands_at view.seat (home_of wait.on) old.lists ≡ stood
-  found_so = let e = effect_at truths old new view (Left stood) commits (InWait wait (InLeaving cause (Leave last))) step walks in let found : Left (stands_at view.seat (home_of wait.on) old.lists) ≡ Left stood = e.0 in cc
+  found_so = let e = effect_at step (InWait wait (InLeaving cause (Leave last))) walks in let found : Left (stands_at view.seat (home_of wait.on) old.lists) ≡ Left stood = e.0 in cc
 
   pub leaves_variables : (seats : ℕ) (h : List (Event C N)) (variables : Variables) → IsLawful truths seats h old → wait.on ≡ OnVariables variables → IsFoundLeaving stood variables wait.mode ((standing_after h).phases view.seat)
   leaves_variables seats h variables lawful on = go stood (ap (λ on. stands_at view.seat (home_of on) old.lists) (sym on) ∙ found_so) where
@@ -33,7 +33,7 @@ module _ {C : Type 0} {N : ℕ} (truths : Truths C) (old new : LockState C N) (v
     place = step.walks ∙ ap Some walks
 
     fits : ViewFits truths seats (standing_after h) old.row view
-    fits = (each_parts truths seats (standing_after h) old.row step.front view step.back (subst (λ vs. EachFits truths seats (standing_after h) old.row vs) step.was lawful.one_history.each)).1
+    fits = step_fits step seats h lawful
 
     stance : waits_in (walk_at view.seat old.views) ≡ Some (record { mode = wait.mode; on = Some (OnVariables variables); tries = 0 })
     stance =
@@ -41,7 +41,7 @@ module _ {C : Type 0} {N : ℕ} (truths : Truths C) (old new : LockState C N) (v
         ∙ ap waits_in place ∙ ap (λ on. Some (record { mode = wait.mode; on = Some on; tries = 0 })) on
 
     free : view.held ≡ None
-    free = (subst (λ w. PlaceFits truths w view.held) place fits.place).0.0
+    free = (place_at step seats h (InWait wait (InLeaving cause (Leave last))) walks lawful).0.0
 
     expected : IsExpected (expected_for (OnVariables variables) wait.mode) ((standing_after h).phases view.seat)
     expected = subst (λ on. IsExpected (expected_for on wait.mode) ((standing_after h).phases view.seat)) on
@@ -57,7 +57,7 @@ module _ {C : Type 0} {N : ℕ} (truths : Truths C) (old new : LockState C N) (v
   -- the lists without it
   lists_left : stood ≡ true → new.lists ≡ without view.seat old.lists
   lists_left is =
-      let e = effect_at truths old new view (Left stood) commits (InWait wait (InLeaving cause (Leave last))) step walks in
+      let e = effect_at step (InWait wait (InLeaving cause (Leave last))) walks in
       ap (λ p. p.lists) e.2 ∙ ap (λ b. cond b (without view.seat old.lists) old.lists) (found_so ∙ is)
 
   -- and then it stands nowhere

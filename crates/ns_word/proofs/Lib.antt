@@ -38,6 +38,7 @@ pub mod Scans
 pub mod Seen
 pub mod Stands
 pub mod Starts
+pub mod Stepping
 pub mod TakenTold
 pub mod ToldAfter
 pub mod Variables

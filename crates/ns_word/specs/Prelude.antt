@@ -22,7 +22,7 @@ pub use Rattle.ns_word.specs.Told.{AreBy, IsLed, IsTold, LedBy, Told, calls_of, 
 pub use Rattle.ns_word.specs.Views.{AreApart, AreNumbered, NoneIs, called_to, is_reading, is_writing, owed_in, owed_to, queuers, readers, takers, walk_at, writers}
 pub use Rattle.ns_word.specs.Waits.{IsWokenBy, OutcomeFits, answer_of, answer_of_wait, arrival_of, cause_in, home_of, mode_for, outcome_taken, phase_by_wake, phase_for, phase_kept, variable_in, woken_by}
 pub use Rattle.ns_word.specs.Walks.{Stance, acquire_by, acquired_for, after_judging, armed_place, awaits, back_with, calls_from_lock, expected_for, first_for, got_acquiring, got_in_cells, got_leaving, got_of, got_queuing, got_releasing, got_showing, got_signaling, got_trying, got_waiting}
-pub use Rattle.ns_word.specs.Walks.{has_armed, has_queues, is_arrival_woken, is_on_way, is_queuing, judge_of, leave_by, load_place, look_or_queue, pay_releasing, pay_waiting, pay_woken, pays, phase_by, place_awaits, queue_by, quiet_first, quiet_place, release_by, reply_for, reply_of, rest_or_look}
+pub use Rattle.ns_word.specs.Walks.{has_armed, has_queues, is_arrival_woken, is_on_way, is_queuing, judge_of, leave_by, load_place, look_or_queue, pay_releasing, pay_waiting, pay_woken, pays, phase_by, place_awaits, queue_by, quiet_first, quiet_place, release_by, reply_for, rest_or_look}
 pub use Rattle.ns_word.specs.Walks.{scan_place, show_by, signal_by, test_place, unmet_by, wait_first, wait_has_queues, waits_in, walk_after, want_acquiring, want_in_cells, want_leaving, want_of, want_queuing, want_releasing, want_showing, want_signaling, want_trying, want_waiting, was_woken}
 pub use Rattle.ns_word.specs.Words.{is_held, is_woken, may_acquire, mode_released, needs_scan, releasing_of, tries_of, word_acquired, word_released, word_released_returning, word_returned, word_taken}
 pub use Rattle.ns_word.specs.declared.number.Bit.{Bit}
