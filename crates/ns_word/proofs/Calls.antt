@@ -70,29 +70,15 @@ module _ (C : Type 0) (N : ℕ) (truths : Truths C) (seat : ℕ) (waking : Wakin
   wakes_at PayTheWoken (Paid owes) old new commits below four e = inl (e.5, ap (λ p. p.lists) e.3)
   wakes_at _ _ old new commits below four e = absurd e
 
-  -- only such a place is asked so
-  judge_asks_not : (judging : Judging) → asked_to_judge {C = C} judging ≡ Wake waking k → ⊥
-  judge_asks_not ToTell e = absurd (cc)
-  judge_asks_not ToRelease e = absurd (cc)
-
-  cells_ask_not : (place : CellPlace) → asked_in_cells {C = C} place ≡ Wake waking k → ⊥
-  cells_ask_not (GetLoad i) e = absurd (cc)
-  cells_ask_not (SetLoad i v) e = absurd (cc)
-  cells_ask_not (SetStore i v) e = absurd (cc)
-  cells_ask_not (QuietCells judging i) e = judge_asks_not judging e
-  cells_ask_not (QuietLast judging i) e = judge_asks_not judging e
-
+  -- only the place of such a call is asked so
   wakes_by : (walk : Walk C) (found : Found) (old new : Part C N) (commits : List (Event C N)) → asked_of walk ≡ Wake waking k → PlaceFits truths (Some walk) old.held → IsWhole old.lists → Effect truths seat (want_of walk) old found new commits → WakesBy old new commits
-  wakes_by (InTry mode place) found old new commits asked fits four e = absurd (cc)
-  wakes_by (InAcquire (ForLock mode) place) found old new commits asked fits four e = absurd (cc)
-  wakes_by (InAcquire (ForWait wait outcome) place) found old new commits asked fits four e = absurd (cc)
-  wakes_by (InRelease releasing place) found old new commits asked fits four e = absurd (cc)
-  wakes_by (InCells place) found old new commits asked fits four e = absurd (cells_ask_not place asked)
-  wakes_by (InWait wait place) found old new commits asked fits four e = absurd (cc)
   wakes_by (InSignal other j place) found old new commits asked fits four e =
       let one : other ≡ waking = cc in let two : j ≡ k = cc in
       wakes_at place found old new commits (subst (λ n. n < 4) two fits.1) four (subst (λ n. Effect truths seat (want_signaling waking n place) old found new commits) two (subst (λ w. Effect truths seat (want_signaling w j place) old found new commits) one e))
-  wakes_by (InShow place) found old new commits asked fits four e = absurd (cc)
+  wakes_by (InAcquire (ForLock mode) place) found old new commits asked fits four e = absurd (cc)
+  wakes_by (InCells (QuietCells ToTell i)) found old new commits asked fits four e = absurd (cc)
+  wakes_by (InCells (QuietLast ToTell i)) found old new commits asked fits four e = absurd (cc)
+  wakes_by walk found old new commits asked fits four e = absurd (cc)
 
 -- A step of a call that wakes commits whom the rule takes, or nothing.
 pub wakes_by_rule : {C : Type 0} {N : ℕ} (truths : Truths C) (seats : ℕ) (h : List (Event C N)) (old new : LockState C N) (view : SeatView C N) (found : Found) (commits : List (Event C N)) (waking : Waking) (k : ℕ) →
