@@ -70,24 +70,19 @@ module _ {C : Type 0} {N : ℕ} (truths : Truths C) (seats : ℕ) (few : seats �
   waiting_at : (wait : Wait C) (at_place : WaitPlace) → view.walk ≡ Some (InWait wait at_place) → WaitFits truths wait at_place view.held → has_some view.owed ≡ pays (Some (InWait wait at_place)) → ActFits truths seats view.seat (want_waiting wait at_place) (part_of s view.held view.owed)
   waiting_at wait (TestCells visit i) e place owes = omega (arith, place.1)
   waiting_at wait (TestLast visit i) e place owes = judges wait.on i (tests_some wait visit view.held place.0) (omega (arith, place.1))
-  waiting_at wait (InQueuing again LookIn) e place owes = tt
-  waiting_at wait (InQueuing again Load) e place owes = tt
   waiting_at wait (InQueuing again (Take last)) e place owes = place.1
   waiting_at wait (InQueuing again (ArmToWait last)) e place owes = view_fits.in_range
   waiting_at wait (InQueuing again (LoadToScan last i)) e place owes = place.1
   waiting_at wait (InQueuing again (QueueToWait last)) e place owes = (place.0, none_of view.owed owes, view_fits.in_range, stands_nowhere (ap awaits e))
   waiting_at wait PayInWait e place owes = owes_one view.owed refl owes
   waiting_at wait AwaitWakeInWait e place owes = view_fits.in_range
-  waiting_at wait LookOut e place owes = tt
-  waiting_at wait (InLeaving cause LeaveLoad) e place owes = tt
   waiting_at wait (InLeaving cause (TakeToLeave last)) e place owes = place.1
   waiting_at wait (InLeaving cause (Leave last)) e place owes = (view_fits.in_range, tt)
   waiting_at wait (InLeaving cause AwaitWakeToLeave) e place owes = view_fits.in_range
+  waiting_at wait other e place owes = tt
 
   fits_at : (walk : Walk C) → view.walk ≡ Some walk → PlaceFits truths (Some walk) view.held → has_some view.owed ≡ pays (Some walk) → ActFits truths seats view.seat (want_of walk) (part_of s view.held view.owed)
-  fits_at (InTry mode TryLoad) e place owes = tt
   fits_at (InTry mode (TryAcquire last)) e place owes = (place.0, place.1, omega (arith, readers_fewer truths seats h s p front view back split place.0, few))
-  fits_at (InAcquire aim (AcquireLoad arrival)) e place owes = tt
   fits_at (InAcquire aim (AcquireExchange arrival last)) e place owes = (place.0, place.1, omega (arith, readers_fewer truths seats h s p front view back split place.0, few))
   fits_at (InAcquire aim (TakeToQueue arrival last)) e place owes = place.1.0
   fits_at (InAcquire aim (Arm arrival last)) e place owes = view_fits.in_range
@@ -95,7 +90,6 @@ module _ {C : Type 0} {N : ℕ} (truths : Truths C) (seats : ℕ) (few : seats �
   fits_at (InAcquire aim (AwaitWake tries)) e place owes = view_fits.in_range
   fits_at (InCells (QuietCells judging i)) e place owes = omega (arith, place.0.1)
   fits_at (InCells (QuietLast judging i)) e place owes = (place.0.0, omega (arith, place.0.1))
-  fits_at (InRelease releasing ReleaseLoad) e place owes = tt
   fits_at (InRelease releasing (ReleaseExchange last)) e place owes = place.0
   fits_at (InRelease releasing (TakeToScan last)) e place owes = place.1
   fits_at (InRelease releasing (ScanCells last i)) e place owes = place.1
@@ -105,13 +99,12 @@ module _ {C : Type 0} {N : ℕ} (truths : Truths C) (seats : ℕ) (few : seats �
   fits_at (InCells (SetLoad i v)) e place owes = place.0.1
   fits_at (InCells (SetStore i v)) e place owes = place.0
   fits_at (InWait wait at_place) e place owes = waiting_at wait at_place e place.0 owes
-  fits_at (InSignal waking k SignalLoad) e place owes = tt
   fits_at (InSignal waking k (TakeToWake last)) e place owes = place.0
   fits_at (InSignal waking k (WakeAndReturn last)) e place owes = (view_fits.in_range, place.1)
   fits_at (InSignal waking k PayTheWoken) e place owes = owes_one view.owed refl owes
-  fits_at (InShow ShowLoad) e place owes = tt
   fits_at (InShow (TakeToShow last)) e place owes = place.0
   fits_at (InShow (ReturnShown last)) e place owes = (view_fits.in_range, tt)
+  fits_at walk e place owes = tt
 
   -- The act that the seat's walk wants may be made.
   pub act_fits : (walk : Walk C) → view.walk ≡ Some walk → ActFits truths seats view.seat (want_of walk) (part_of s view.held view.owed)

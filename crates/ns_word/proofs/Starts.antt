@@ -50,19 +50,12 @@ module _ (C : Type 0) (N : ℕ) where
   each truths seats first (suc n) row few = (record { in_range = omega arith; place = tt; owes = (refl, tt); section = refl }, each truths seats (first + 1) n row (omega arith))
 
   -- nobody stands in the list of a variable
-  nobody_waits : (P : Waiter C → Type 0) (k : ℕ) → Every P (waiters_of {C = C} (record { lock = []; cvs = replicate 4 [] }) (Cv k))
-  nobody_waits P zero = tt
-  nobody_waits P (suc zero) = tt
-  nobody_waits P (suc (suc zero)) = tt
-  nobody_waits P (suc (suc (suc zero))) = tt
-  nobody_waits P (suc (suc (suc (suc k)))) = tt
-
-  none_listed : (seat k : ℕ) → times_in seat (waiters_of {C = C} (record { lock = []; cvs = replicate 4 [] }) (Cv k)) ≤ 1
-  none_listed seat zero = omega arith
-  none_listed seat (suc zero) = omega arith
-  none_listed seat (suc (suc zero)) = omega arith
-  none_listed seat (suc (suc (suc zero))) = omega arith
-  none_listed seat (suc (suc (suc (suc k)))) = omega arith
+  none_at : (k : ℕ) → waiters_of {C = C} (record { lock = []; cvs = replicate 4 [] }) (Cv k) ≡ []
+  none_at zero = refl
+  none_at (suc zero) = refl
+  none_at (suc (suc zero)) = refl
+  none_at (suc (suc (suc zero))) = refl
+  none_at (suc (suc (suc (suc k)))) = refl
 
   none_seen : (first n : ℕ) → WordsSeen (fresh first n)
   none_seen first zero = tt
@@ -88,13 +81,13 @@ module _ (C : Type 0) (N : ℕ) where
     bits_tell = record { at_home = λ e. refl; nobody = λ e. (refl, no_queuers seats) };
     waiters_placed = record {
       four = refl;
-      once = λ seat k low. none_listed seat k;
+      once = λ seat k low. rw (none_at k) (omega arith);
       placed = λ seat. let none = none_counted (λ view. times_among seat view.owed) (λ other. refl) 0 seats in rw (no_walk seat 0 seats) (omega (arith, none));
       armed = λ seat e. absurd (both_ways (has_armed (walk_at seat (fresh 0 seats))) (rw (no_walk seat 0 seats) refl) e);
       flag = λ seat. omega arith;
     };
     waiters_own = tt;
-    variables_tell = record { own = λ k low. nobody_waits (VariableWaiterFits (λ seat. Idle) (fresh 0 seats) k) k; all = λ vs k seat mode e is. absurd (cc); some = λ vs seat mode e. absurd (cc) };
+    variables_tell = record { own = λ k low. rw (none_at k) tt; all = λ vs k seat mode e is. absurd (cc); some = λ vs seat mode e. absurd (cc) };
     taken_told = record { flag = λ seat clear. rw (no_walk seat 0 seats) tt; owed = subst (Every (WakeTells (λ seat. Idle) (fresh 0 seats))) (sym (none_owed_in 0 seats)) tt; listed = tt };
     desig_on_its_way = λ e. absurd (cc);
     idle_waiters_false = λ e f g. (refl, no_queuers seats);

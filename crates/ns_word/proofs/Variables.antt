@@ -161,10 +161,7 @@ module _ {C : Type 0} where
   still_waiting : (b : Bool) (k : ℕ) (phase : Phase C) (vs : Variables) (mode : Mode) → cond b (woken_phase k phase) phase ≡ Waiting vs mode → (b ≡ false) × (phase ≡ Waiting vs mode)
   still_waiting false k phase vs mode e = (refl, e)
   still_waiting true k Idle vs mode e = absurd (cc)
-  still_waiting true k (Cond c m) vs mode e = absurd (cc)
-  still_waiting true k (Waiting j m) vs mode e = absurd (cc)
-  still_waiting true k (Woken j m) vs mode e = absurd (cc)
-  still_waiting true k (Left j m) vs mode e = absurd (cc)
+  still_waiting true k other vs mode e = absurd (cc)
 
 module _ {C : Type 0} {N : ℕ} where
   -- other lists
@@ -191,10 +188,7 @@ module _ {C : Type 0} {N : ℕ} where
   } where
     waiting_for : (phase : Phase C) (k : ℕ) → is_waiting k phase ≡ true → (vs : Variables) × (mode : Mode) × (phase ≡ Waiting vs mode) × (has vs k ≡ true)
     waiting_for (Waiting vs mode) k e = (vs, mode, refl, e)
-    waiting_for Idle k e = absurd (cc)
-    waiting_for (Cond c mode) k e = absurd (cc)
-    waiting_for (Woken j mode) k e = absurd (cc)
-    waiting_for (Left j mode) k e = absurd (cc)
+    waiting_for other k e = absurd (cc)
 
   module _ (front : List (SeatView C N)) (who : ℕ) (walk : Option (Walk C)) (held : Option (Held C N)) (owed : List Owed) (walk' : Option (Walk C)) (held' : Option (Held C N)) (owed' : List Owed) (back : List (SeatView C N)) where
     -- those who are taken from the list of k are out of all variables' lists, and woken, and the others stay

@@ -181,14 +181,9 @@ module _ {C : Type 0} (k : ℕ) where
   subject_woken (OnVariables variables) mode now waits p = either_woken true (Waiting variables mode) now (λ e. absurd (cc)) waits p
 
   pub expected_woken : (walk : Option (Walk C)) (now : Phase C) → is_waiting k now ≡ true → IsExpected (phase_by walk) now → IsExpected (phase_by walk) (woken_phase k now)
-  expected_woken None now waits p = either_woken false Idle now (λ e. refl) waits p
-  expected_woken (Some (InTry mode place)) now waits p = either_woken false Idle now (λ e. refl) waits p
   expected_woken (Some (InAcquire aim place)) now waits p = either_woken false (phase_for aim) now (λ e. for_steady aim) waits p
-  expected_woken (Some (InRelease releasing place)) now waits p = either_woken false Idle now (λ e. refl) waits p
-  expected_woken (Some (InCells place)) now waits p = either_woken false Idle now (λ e. refl) waits p
   expected_woken (Some (InWait wait place)) now waits p = subject_woken wait.on wait.mode now waits p
-  expected_woken (Some (InSignal waking j place)) now waits p = either_woken false Idle now (λ e. refl) waits p
-  expected_woken (Some (InShow place)) now waits p = either_woken false Idle now (λ e. refl) waits p
+  expected_woken walk now waits p = either_woken false Idle now (λ e. refl) waits p
 
 module _ {C : Type 0} {N : ℕ} (truths : Truths C) (seats : ℕ) where
   section_woken : (k : ℕ) (now next : Standing C) (row : List ℕ) (who : ℕ) (walk : Option (Walk C)) (held : Option (Held C N)) →
