@@ -1,8 +1,8 @@
 -- The act that a lawful place wants may be made.
 use Rattle.std.proofs.Common.{◌≡◌, ℕ, ◌+◌, ◌<◌, ◌≤◌, Bool, true, false, List, [], ◌∷◌, ◌++◌, Option, None, Some, IsSome, refl, ap, ◌∙◌, subst, arith, eq-eqb}
-use Rattle.ns_word.specs.Prelude.{AcquireExchange, AcquireLoad, ActFits, AreApart, Arm, ArmToWait, AwaitWake, AwaitWakeInWait, AwaitWakeToLeave, CanWait, EachFits, Event, GetLoad, HasList, Held, InAcquire, InCells, InLeaving, InQueuing, InRelease, InShow, InSignal, InTry, InWait, IsForCondition}
-use Rattle.ns_word.specs.Prelude.{IsInRange, IsLawful, IsUnmet, Leave, LeaveLoad, Load, LoadToScan, LockState, LookIn, LookOut, OnCondition, OnVariables, Owed, OwesOne, Pay, PayInWait, PayTheWoken, PlaceFits, Queue, QueueToWait, QuietCells, QuietLast, ReleaseExchange, ReleaseLoad, ReturnShown}
-use Rattle.ns_word.specs.Prelude.{ScanAndRelease, ScanCells, SeatView, SetLoad, SetStore, ShowLoad, SignalLoad, Subject, Take, TakeToLeave, TakeToQueue, TakeToScan, TakeToShow, TakeToWake, TestCells, TestLast, Truths, TryAcquire, TryLoad, ViewFits, Wait, WaitFits, WaitPlace, WakeAndReturn, Walk}
+use Rattle.ns_word.specs.Prelude.{AcquireExchange, ActFits, AreApart, Arm, ArmToWait, AwaitWake, AwaitWakeInWait, AwaitWakeToLeave, CanWait, EachFits, Event, GetLoad, HasList, Held, InAcquire, InCells, InLeaving, InQueuing, InRelease, InShow, InSignal, InTry, InWait, IsForCondition}
+use Rattle.ns_word.specs.Prelude.{IsInRange, IsLawful, IsUnmet, Leave, LoadToScan, LockState, OnCondition, OnVariables, Owed, OwesOne, Pay, PayInWait, PayTheWoken, PlaceFits, Queue, QueueToWait, QuietCells, QuietLast, ReleaseExchange, ReturnShown}
+use Rattle.ns_word.specs.Prelude.{ScanAndRelease, ScanCells, SeatView, SetLoad, SetStore, Subject, Take, TakeToLeave, TakeToQueue, TakeToScan, TakeToShow, TakeToWake, TestCells, TestLast, Truths, TryAcquire, ViewFits, Wait, WaitFits, WaitPlace, WakeAndReturn, Walk}
 use Rattle.ns_word.specs.Prelude.{awaits, has_some, judge_of, part_of, pays, standing_after, times, times_among, walk_at, want_of, want_waiting}
 use Rattle.ns_word.specs.Prelude.{Tests, Visit}
 use Rattle.ns_word.proofs.Views.{walk_here, apart_parts, each_parts}

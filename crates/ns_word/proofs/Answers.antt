@@ -1,13 +1,13 @@
 -- What a wait answers is what its section is committed with.
-use Rattle.std.proofs.Common.{◌≡◌, ◌≢◌, ℕ, Bool, true, false, not, cond, List, Option, None, Some, slice_set, refl, ap, sym, ◌∙◌, subst}
+use Rattle.std.proofs.Common.{◌≡◌, ◌≢◌, ℕ, Bool, true, false, not, cond, List, Option, None, Some, refl, ap, sym, ◌∙◌, subst}
 use Rattle.std.proofs.lemmas.Bool.{both_ways, not-false}
-use Rattle.ns_word.specs.Prelude.{Acquire, AcquireExchange, AcquireLoad, AcquirePlace, Act, Aim, Answer, Answered, Any, ArmFlag, ArmToWait, CameBack, CanWait, Cause, Cell, CellPlace, ComesBack, Done, EachFits, Effect, Ended, Event}
-use Rattle.ns_word.specs.Prelude.{Expired, Flag, ForWait, Found, GetLoad, Held, InAcquire, InCells, InLeaving, InQueuing, InRelease, InShow, InSignal, InTry, InWait, IsForCondition, IsLawful, IsSaidBy, IsUnmet, JudgeMet, JudgeQuiet, LeaveLoad, LeavePlace, Left, Limits, Load, LoadCell}
-use Rattle.ns_word.specs.Prelude.{LoadFlag, LoadToScan, LoadWord, LockState, Look, LookIn, Looked, Made, MayWait, Met, Mode, Notified, On, OnCondition, OnEntry, OnReturn, OnVariables, Only, Outcome, Paid, Part, PayWake, PlaceFits, QueueToWait, Quiet, Release}
-use Rattle.ns_word.specs.Prelude.{ReleaseLoad, ReleasePlace, ReleaseReturning, Releasing, Reply, ReturnQueues, Saw, Scanned, SeatView, ShowLoad, ShowPlace, SignalLoad, SignalPlace, Step, StoreCell, Subject, Take, TakeQueues, TestLast, Tested, Tests, Truths}
-use Rattle.ns_word.specs.Prelude.{TryAcquire, TryLoad, TryPlace, Variables, Visit, Wait, WaitFits, WaitPlace, WaitReturning, Waited, Waking, Walk, Woke, Woken, answer_of, back_with, comes_back, entry_for, entry_of, got_acquiring, got_of, got_waiting, has_come_back, held_after}
-use Rattle.ns_word.specs.Prelude.{is_limited, is_met, judge_of, look_or_queue, newly_held, opening_by, part_of, place_has_come_back, reply_for, standing_after, unmet_by, want_acquiring, want_in_cells, want_leaving, want_of, want_releasing, want_showing}
-use Rattle.ns_word.specs.Prelude.{want_signaling, want_trying, want_waiting}
+use Rattle.ns_word.specs.Prelude.{AcquireExchange, AcquirePlace, Answer, Answered, Any, CameBack, CanWait, Cause, ComesBack, Done, Effect, Ended, Event}
+use Rattle.ns_word.specs.Prelude.{Expired, ForWait, Found, Held, InAcquire, InQueuing, InWait, IsForCondition, IsLawful, IsSaidBy, IsUnmet, JudgeMet, Load}
+use Rattle.ns_word.specs.Prelude.{LockState, LookIn, Looked, Made, MayWait, Met, Notified, On, OnCondition, OnEntry, OnReturn, OnVariables, Only, Outcome, Part}
+use Rattle.ns_word.specs.Prelude.{Reply, SeatView, Step, Subject, TestLast, Tested, Tests, Truths}
+use Rattle.ns_word.specs.Prelude.{Variables, Visit, Wait, WaitFits, WaitPlace, Waited, Walk, Woken, answer_of, back_with, comes_back, entry_for, entry_of, got_acquiring, got_of, got_waiting, has_come_back, held_after}
+use Rattle.ns_word.specs.Prelude.{is_limited, is_met, judge_of, look_or_queue, newly_held, opening_by, part_of, place_has_come_back, reply_for, unmet_by, want_acquiring, want_of}
+use Rattle.ns_word.specs.Prelude.{want_waiting}
 use Rattle.ns_word.proofs.Follows.{Follows, follows, may_end}
 use Rattle.ns_word.proofs.Effects.{BeganSo, makes}
 use Rattle.ns_word.proofs.Looks.{looks_by}

@@ -2,14 +2,14 @@
 use Rattle.std.specs.Prelude.{slice_get}
 use Rattle.std.proofs.Common.{◌≡◌, ◌⊎◌, inl, inr, ℕ, ◌≤◌, ◌<◌, arith, Bool, true, false, cond, suc, take, drop, List, [], ◌∷◌, length, None, Some, refl, ap, sym, ◌∙◌, subst}
 use Rattle.std.proofs.lemmas.List.{get_or-map}
-use Rattle.ns_word.specs.Prelude.{Act, ArmToWait, Await, AwaitWakeInWait, Broadcasting, CellPlace, Cv, EachFits, Effect, Event, Every, Flag}
-use Rattle.ns_word.specs.Prelude.{ForLock, ForWait, Found, GetLoad, Idle, InAcquire, InCells, InLeaving, InQueuing, InRelease, InShow, InSignal, InTry, InWait, IsLawful, Judging, Left, Limits, Lists, Load, LoadToScan, LockState, Look, LookIn, LookOut}
-use Rattle.ns_word.specs.Prelude.{Made, On, Paid, Part, PayInWait, PayTheWoken, PlaceFits, QueueToWait, QuietCells, QuietLast}
-use Rattle.ns_word.specs.Prelude.{Saw, SeatView, SetLoad, SetStore, SignalLoad, SignalPlace, Signaling, Step, Take, TakeToWake, Tells, TestCells}
-use Rattle.ns_word.specs.Prelude.{TestLast, ToRelease, ToTell, Truths, Wait, WaitPlace, Waiter, Wake, WakeAndReturn, WakeWaiters, Waking, Walk, Woke, Word, asked_in_cells, asked_of, asked_to_judge}
+use Rattle.ns_word.specs.Prelude.{Await, AwaitWakeInWait, Broadcasting, Cv, EachFits, Effect, Event, Every, Flag}
+use Rattle.ns_word.specs.Prelude.{ForLock, Found, Idle, InAcquire, InCells, InQueuing, InSignal, InWait, IsLawful, Left, Limits, Lists, LockState, Look, LookIn, LookOut}
+use Rattle.ns_word.specs.Prelude.{Made, On, Paid, Part, PayTheWoken, PlaceFits, QuietCells, QuietLast}
+use Rattle.ns_word.specs.Prelude.{Saw, SeatView, SignalLoad, SignalPlace, Signaling, Step, TakeToWake, Tells}
+use Rattle.ns_word.specs.Prelude.{ToTell, Truths, Wait, Waiter, Wake, WakeAndReturn, WakeWaiters, Waking, Walk, Woke, Word, asked_of}
 use Rattle.ns_word.specs.Prelude.{calls_from_lock, changed, cvs_without, got_of, has_come_back, is_held, is_limited}
-use Rattle.ns_word.specs.Prelude.{judge_of, kept_by, moved_to, outside, part_of, pays, standing_after, taken_by, taken_set, times_in, waiters_of, wake_of, walk_after}
-use Rattle.ns_word.specs.Prelude.{want_acquiring, want_in_cells, want_leaving, want_of, want_releasing, want_showing, want_signaling, want_trying, want_waiting, was_woken}
+use Rattle.ns_word.specs.Prelude.{kept_by, moved_to, outside, part_of, pays, standing_after, taken_by, taken_set, times_in, waiters_of, wake_of, walk_after}
+use Rattle.ns_word.specs.Prelude.{want_of, want_signaling, was_woken}
 use Rattle.ns_queue.proofs.Outside.{broadcast_outside, signal_outside}
 use Rattle.ns_word.proofs.CountsIn.{OnceInEach}
 use Rattle.ns_word.proofs.Looks.{look_here, look_in}

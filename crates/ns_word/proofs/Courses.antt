@@ -1,15 +1,15 @@
 -- Each step takes its call on: it goes on as it was asked, or its answer means what it says.
-use Rattle.std.proofs.Common.{◌≡◌, ◌&&◌, ◌||◌, inl, inr, ℕ, ◌+◌, ◌-◌, Bool, true, false, not, cond, eqb, ltb, List, [], ◌∷◌, ◌++◌, Option, None, Some, IsSome, slice_index, refl, ap, sym, ◌∙◌, subst}
+use Rattle.std.proofs.Common.{◌≡◌, ◌&&◌, inl, inr, ℕ, ◌+◌, ◌-◌, Bool, true, false, not, cond, eqb, ltb, List, [], ◌∷◌, ◌++◌, Option, None, Some, IsSome, slice_index, refl, ap, sym, ◌∙◌, subst}
 use Rattle.std.proofs.lemmas.List.{append-nil}
 use Rattle.ns_word.specs.Prelude.{Acquire, AcquireExchange, AcquireLoad, AcquirePlace, AcquireSoFar, Aim, AimFits, Answer, Answered, Any, AnyWait, AnyWaitMeans, Arm, ArmToWait, Arrival, AsFresh, AtVariables, Await, AwaitWake, AwaitWakeInWait, AwaitWakeToLeave, Busy, CallGoes, CameBack, CanLeave}
-use Rattle.ns_word.specs.Prelude.{CanWait, Cause, Cell, CellFits, CellPlace, ComesBack, ConditionWaitMeans, Course, Cv, CvWait, Cvs, Done, EachFits, Effect, Ended, Event, Expired, Flag, ForLock, ForWait, Found, Get, GetLoad, HasLeft, HasLocked, HasLookedFor, HasReleased, HasWoken, Held, HeldFits}
+use Rattle.ns_word.specs.Prelude.{CanWait, Cause, Cell, CellFits, CellPlace, ComesBack, ConditionWaitMeans, Course, Cv, CvWait, Cvs, Done, Effect, Ended, Event, Expired, Flag, ForLock, ForWait, Found, Get, GetLoad, HasLeft, HasLocked, HasLookedFor, HasReleased, HasWoken, Held, HeldFits}
 use Rattle.ns_word.specs.Prelude.{Idle, InAcquire, InCells, InHand, InLeaving, InQueuing, InRelease, InShow, InSignal, InTry, InWait, Is, IsComing, IsFirst, IsForCondition, IsForVariables, IsLawful, IsLeft, IsQuiet, IsQuietSection, KeptFits, Leave, LeaveLoad, LeavePlace, LeaveSelf, Left, Limits}
 use Rattle.ns_word.specs.Prelude.{Load, LoadToScan, LockState, Look, LookIn, LookOut, Looked, Made, MayAnswer, MayEnd, MayShow, MayWait, Means, Met, Mode, Next, Noisy, Notified, Number, On, OnCondition, OnEntry, OnReturn, OnVariables, Only, Outcome, OutcomeFits, Paid, Part, Pay, PayInWait}
-use Rattle.ns_word.specs.Prelude.{PayTheWoken, PlaceFits, Plain, Queue, QueueFits, QueuePlace, QueueToWait, QueuesAfter, QueuesSoFar, Quiet, QuietCells, QuietLast, QuietWriter, Read, Release, ReleaseExchange, ReleaseFits, ReleaseLoad, ReleasePlace, ReleaseSoFar, Releasing, Request, ReturnQueues}
+use Rattle.ns_word.specs.Prelude.{PayTheWoken, PlaceFits, Plain, Queue, QueueFits, QueuePlace, QueueToWait, QueuesAfter, QueuesSoFar, Quiet, QuietCells, QuietLast, QuietWriter, Release, ReleaseExchange, ReleaseFits, ReleaseLoad, ReleasePlace, ReleaseSoFar, Releasing, Request, ReturnQueues}
 use Rattle.ns_word.specs.Prelude.{ReturnShown, Saw, ScanAndRelease, ScanCells, Scanned, SeatView, SectionFits, Set, SetLoad, SetStore, Show, ShowLoad, ShowPlace, SignalLoad, SignalPlace, SignalSoFar, SoFar, Step, Subject, Succeeded, Take, TakeToLeave, TakeToQueue, TakeToScan, TakeToShow}
 use Rattle.ns_word.specs.Prelude.{TakeToWake, TestCells, TestLast, Tested, Tests, TestsSoFar, ToChange, ToQueue, ToRelease, ToTell, Truths, TryAcquire, TryLoad, TryLock, TryPlace, Unchanged, VariableWaitMeans, Variables, ViewFits, Visit, Wait, WaitFits, WaitPlace, WaitReturning, WaitSoFar, Waited}
-use Rattle.ns_word.specs.Prelude.{Wake, WakeAndReturn, Waking, Walk, Woke, Woken, WokenBy, Word, Write, acquire_by, acquired_for, answer_of, answer_of_wait, armed_place, arrival_of, asked_in_cells, asked_of, asked_to_judge, back_with, cause_by, cause_in, course_after, course_from, entry_of}
-use Rattle.ns_word.specs.Prelude.{exit_for, got_acquiring, got_in_cells, got_leaving, got_of, got_queuing, got_releasing, got_showing, got_signaling, got_trying, got_waiting, has_some, held_after, held_by, home_of, is_held, is_limited, is_met, is_woken, judge_of, leave_any_told, leave_by}
+use Rattle.ns_word.specs.Prelude.{Wake, WakeAndReturn, Waking, Walk, Woke, Woken, WokenBy, Word, acquire_by, acquired_for, answer_of, answer_of_wait, armed_place, arrival_of, asked_in_cells, asked_of, asked_to_judge, back_with, cause_by, cause_in, course_after, course_from, entry_of}
+use Rattle.ns_word.specs.Prelude.{exit_for, got_acquiring, got_in_cells, got_leaving, got_of, got_queuing, got_releasing, got_showing, got_signaling, got_trying, got_waiting, has_some, held_after, held_by, home_of, is_held, is_limited, is_met, judge_of, leave_any_told, leave_by}
 use Rattle.ns_word.specs.Prelude.{leave_of, leave_told, left_by, load_place, look_or_queue, looked_after, may_acquire, mode_for, mode_released, needs_scan, new_section, newly_held, opening_by, outcome_taken, part_of, pay_releasing, pay_waiting, pay_woken, place_cause_kept, queue_by, quiet_place}
 use Rattle.ns_word.specs.Prelude.{release_by, rest_or_look, row_after, scan_place, section_of, show_by, signal_by, standing_after, stands_at, taken_by, test_place, tries_of, unmet_by, variable_in, waiters_of, wake_of, want_acquiring, want_in_cells, want_leaving, want_of, want_queuing}
 use Rattle.ns_word.specs.Prelude.{want_releasing, want_showing, want_signaling, want_trying, want_waiting, woken_by, word_taken}

@@ -1,7 +1,7 @@
 -- What each act commits, and what it leaves of its seat's section.
 use Rattle.std.proofs.Common.{◌≡◌, ℕ, Bool, true, false, List, [], ◌∷◌, Option, None, Some, slice_set, refl, ap, sym, ◌∙◌, subst}
-use Rattle.ns_word.specs.Prelude.{Acquire, Act, Any, AreBy, ArmFlag, AtLock, AtVariables, Broadcasting, Cell, Change, Effect, Event, Flag, Found, Held, Home, JudgeMet, JudgeQuiet, LeaveSelf, Left, Lists, LoadCell, LoadFlag, LoadWord, Look, Looked, Made, Nothing, Only, Paid, Part, PayWake, Quiet, QueueSelf, Release}
-use Rattle.ns_word.specs.Prelude.{ReleaseReturning, ReturnQueues, Saw, Scanned, Signaling, StoreCell, TakeQueues, Tested, Truths, WaitReturning, Waiter, WakeWaiters, Waking, Woke, change_commits, leave_of, stands_at, taken_by, wake_of, waiters_of, who_of}
+use Rattle.ns_word.specs.Prelude.{Acquire, Act, Any, AreBy, ArmFlag, AtVariables, Broadcasting, Cell, Change, Effect, Event, Flag, Found, Held, Home, JudgeMet, JudgeQuiet, LeaveSelf, Left, Lists, LoadCell, LoadFlag, LoadWord, Look, Looked, Made, Only, Paid, Part, PayWake, Quiet, Release}
+use Rattle.ns_word.specs.Prelude.{ReleaseReturning, ReturnQueues, Saw, Scanned, Signaling, StoreCell, TakeQueues, Tested, Truths, WaitReturning, Waiter, WakeWaiters, Waking, Woke, change_commits, leave_of, wake_of, who_of}
 use Rattle.ns_word.specs.Prelude.{Arrival, Mode, Word, held_after, may_acquire, newly_held}
 use Rattle.ns_word.proofs.Looks.{looks_again, marks_of}
 

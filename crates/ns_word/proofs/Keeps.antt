@@ -1,13 +1,13 @@
 -- Each kind of step keeps what holds of a lock and its seats.
-use Rattle.std.proofs.Common.{◌≡◌, ◌≢◌, ◌⊎◌, inl, inr, ℕ, ◌+◌, ◌-◌, ◌<◌, ◌≤◌, Bool, true, false, not, cond, eqb, ◌&&◌, List, [], ◌∷◌, ◌++◌, length, Option, None, Some, is_some, slice_set, refl, ap, sym, ◌∙◌, subst, arith, eq-eqb}
+use Rattle.std.proofs.Common.{◌≡◌, ◌≢◌, ◌⊎◌, inl, inr, ℕ, ◌+◌, ◌<◌, ◌≤◌, Bool, true, false, not, cond, eqb, ◌&&◌, List, [], ◌∷◌, ◌++◌, length, Option, None, Some, is_some, slice_set, refl, ap, sym, ◌∙◌, subst, arith}
 use Rattle.std.specs.List.{sum_by}
 use Rattle.std.proofs.lemmas.List.{length-map}
-use Rattle.std.proofs.lemmas.Bool.{cases_Bool, ne_eqb, eqb-true, and_parts, not-true, both_ways}
+use Rattle.std.proofs.lemmas.Bool.{cases_Bool, eqb-true, and_parts, not-true, both_ways}
 use Rattle.ns_word.specs.Prelude.{Any, AreVariables, Arrival, Cond, CondWait, Cv, Event, Every, Exit, ExitFits, Held, IsExpected, IsLegalEvent, IsNamed, IsSettledBy, Lists, LockState, Mode, NoneIs, OnCondition, OnVariables, Only, Opening, Owed, OwesAs, Phase, PlaceFits, Plain, QuietWriter, Read}
-use Rattle.ns_word.specs.Prelude.{Reader, Releasing, SeatView, Stance, Standing, Subject, TakenTold, Taking, Tells, ToChange, ToQueue, Truths, VariableWaiterFits, Variables, VariablesTell, ViewFits, Waiter, WaiterNames, WaitersOwn, WaitersPlaced, Waiting, Walk, Word, Write, Writer, awaits}
-use Rattle.ns_word.specs.Prelude.{bits_in, bits_of, called_of, called_to, calls_from_lock, counts_in, cvs_without, exit_for, first_standing, flags_with, has_armed, has_eligible, has_queues, has_some, is_armed, is_held, is_in, is_of, is_on_way, is_queuing, is_unwoken, is_woken, left_of, left_phase}
+use Rattle.ns_word.specs.Prelude.{Reader, Releasing, SeatView, Stance, Standing, TakenTold, Taking, Tells, ToChange, ToQueue, Truths, VariableWaiterFits, Variables, VariablesTell, ViewFits, Waiter, WaiterNames, WaitersOwn, WaitersPlaced, Waiting, Walk, Word, Write, Writer, awaits}
+use Rattle.ns_word.specs.Prelude.{bits_in, bits_of, called_of, called_to, calls_from_lock, counts_in, cvs_without, exit_for, first_standing, flags_with, has_armed, has_eligible, has_queues, has_some, is_armed, is_held, is_in, is_of, is_on_way, is_queuing, is_unwoken, is_woken, left_of}
 use Rattle.ns_word.specs.Prelude.{lock_stance, may_acquire, meets_at, mode_released, needs_scan, one_if, outside, owed_to, pays, phase_after, phase_before, phase_by, queued, section_of, standing_after, standing_next, taken_set, times, times_among, times_in, tries_of, waiters_of, waits_at}
-use Rattle.ns_word.specs.Prelude.{waits_in, wakes_of, walk_at, was_woken, who_of, with_lock, without_in, woken_of, woken_phase, woken_phases, word_acquired, word_released, word_released_returning, word_returned, word_taken}
+use Rattle.ns_word.specs.Prelude.{waits_in, wakes_of, was_woken, who_of, with_lock, without_in, woken_of, woken_phase, woken_phases, word_acquired, word_released, word_released_returning, word_returned, word_taken}
 use Rattle.ns_model.specs.declared.phase.Phase.TheVariants.{Idle, Left}
 use Rattle.ns_model.proofs.Tallies.{one_most}
 use Rattle.ns_model.proofs.Histories.{standing_from-append}
@@ -22,12 +22,12 @@ use Rattle.ns_word.proofs.Knows.{sees_wake as known_sees}
 use Rattle.ns_word.proofs.Views.{view_of, apart_parts, each_parts, called_most, walk_here}
 use Rattle.ns_word.proofs.Waits.{not_due, cleared, placed_here, rested, armed, taken, entered, withdraws as withdrawn, woke, seen}
 use Rattle.ns_word.proofs.Owns.{own_stays, own_same, nowhere, own_queued, own_scanned, own_waited, own_without, own_moved}
-use Rattle.ns_word.proofs.CountsIn.{counts_gone, counts_lock, counts_none, counts_others, counts_somewhere, counts_taken, cvs_left, once_left, once_taken, some_list}
+use Rattle.ns_word.proofs.CountsIn.{counts_gone, counts_lock, counts_none, counts_others, counts_somewhere, counts_taken, cvs_left, once_left, once_taken}
 use Rattle.ns_word.proofs.TakenTold.{left_stays, listed_woken, same_stays, told_arms, told_enters, told_pays, told_stays, told_wakes}
 use Rattle.ns_word.proofs.Variables.{stands_still, tell_same, tell_moves, tell_enters, tell_leaves, tell_lists, tell_taken, waits_of}
 use Rattle.ns_word.proofs.Scans.{calls_tell, tells_clear, tells_few, tells_from, times_wakes, wakes_tell, times_queued, times_seats, times_scan, times_without, times_others, filter_eligible, queued_eligible}
 use Rattle.ns_word.proofs.Enters.{counts_entered, entered_at, once_entered}
-use Rattle.ns_word.proofs.Leaving.{left_event, left_next_here, left_next_there, left_row}
+use Rattle.ns_word.proofs.Leaving.{left_event}
 use Rattle.ns_word.proofs.Homes.{at_home, away, back_home}
 use Rattle.ns_word.proofs.Safes.{section, SameSection, same_section, unchanged, unchanged_by, woken, left_variables, Acquires, GivesUp, acquired, left_here, left_same, left_there, phases_here, phases_there, row_left, stored, released, dropped}
 
@@ -357,7 +357,7 @@ module _ {C : Type 0} {N : ℕ} (truths : Truths C) (seats : ℕ) (h : List (Eve
       (unchanged truths seats h front who walk owed walk' owed back word (word_returned false (bits_of lists.lock) word) row held held refl refl place (still_owes walk walk' owed idle pay fit.owes) (same_section walk walk' held stays) p.safe)
       (back_home front who walk held owed walk' held owed back word (word_returned false (bits_of lists.lock) word) lists.lock lists.lock refl refl s s' p.homed) (rested front who walk held owed walk' held owed back lists flags apart refl (due wait (flags who)) (λ f. absurd (cc)) p.placed)
       (known_withdraws truths.holds front who walk held owed walk' held owed back word (standing_after h).row lists.lock lists.lock flags apart
-            (calls word row held owed idle p.safe) s q q' (λ f. o (flags who) (called_to who (front ++ view_of who walk held owed ∷ back)) f) (λ e. e) p.homed p.known) p
+      (calls word row held owed idle p.safe) s q q' (λ f. o (flags who) (called_to who (front ++ view_of who walk held owed ∷ back)) f) (λ e. e) p.homed p.known) p
 
   -- a seat that leaves takes itself out of the lists of variables, and commits that
   pub leaves : (variables : Variables) (mode : Mode) (word : Word) (row : List ℕ) (lists : Lists C) (flags : ℕ → ℕ) (owed : List Owed) → seats ≤ 64 → pays walk ≡ false → 1 ≤ sum_by (times_in who) lists.cvs →
@@ -640,8 +640,10 @@ module _ {C : Type 0} {N : ℕ} (truths : Truths C) (seats : ℕ) (h : List (Eve
       record {
         safe = woken truths seats h front who walk owed walk' owed' back e k word word' row held by legal (ap (λ (x : Standing C). x.row) after_it)
             (λ seat. elim (cases_Bool (is_in (taken_set took) seat)) [
-              | inl in_it ↦ inr (stands_waits k (standing_after h).phases took seat (waits_of (standing_after h).phases (front ++ view_of who walk held owed ∷ back) k took takes) (in_stands took seat in_it),
-                  ap (λ (x : Standing C). x.phases seat) after_it ∙ ap (λ b. cond b (woken_phase k ((standing_after h).phases seat)) ((standing_after h).phases seat)) in_it)
+              | inl in_it ↦ inr (
+                stands_waits k (standing_after h).phases took seat (waits_of (standing_after h).phases (front ++ view_of who walk held owed ∷ back) k took takes) (in_stands took seat in_it),
+                ap (λ (x : Standing C). x.phases seat) after_it ∙ ap (λ b. cond b (woken_phase k ((standing_after h).phases seat)) ((standing_after h).phases seat)) in_it,
+              )
               | inr out_of_it ↦ inl (ap (λ (x : Standing C). x.phases seat) after_it ∙ ap (λ b. cond b (woken_phase k ((standing_after h).phases seat)) ((standing_after h).phases seat)) out_of_it)
             ])
             refl refl place (sym pay, wakes_told (calls_from_lock walk') k took owed' low (elim ways [ inl move ↦ inl move.4 | inr owe ↦ inr owe.2 ]) from) ((same_section walk walk' held stays).fits (standing_after h) row who) p.safe;

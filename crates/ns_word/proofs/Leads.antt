@@ -1,5 +1,5 @@
 -- Where a decision leads: the place goes with the section in hand, and tells the same as the place before.
-use Rattle.std.proofs.Common.{◌≡◌, ℕ, ◌-◌, ◌<◌, Bool, true, false, not, cond, ltb, List, length, ◌&&◌, ◌||◌, is_some, Option, None, Some, IsSome, refl, ap, sym, ◌∙◌, subst, arith}
+use Rattle.std.proofs.Common.{◌≡◌, ℕ, ◌-◌, ◌<◌, Bool, true, false, not, cond, ltb, List, length, ◌&&◌, ◌||◌, is_some, Option, None, Some, refl, ap, sym, ◌∙◌, subst, arith}
 use Rattle.std.proofs.lemmas.Bool.{ltb-true, not-false, not-true}
 use Rattle.ns_word.specs.Prelude.{AcquireExchange, AcquireLoad, Aim, AimFits, Answered, Arrival, AsFresh, AwaitWakeInWait, Busy, CameBack, CanLeave, CanWait, Cause, ComesBack, Done, Ended, ForLock, ForWait, HasMode, Held, Idle, InAcquire, InCells, InLeaving, InQueuing, InRelease, InShow, InSignal}
 use Rattle.ns_word.specs.Prelude.{InTry, InWait, IsExpected, IsForCondition, IsInRange, IsLeft, IsSettled, IsSettledBy, IsUnmet, IsWokenBy, Judging, LeaveLoad, Load, LoadToScan, LookIn, LookOut, MayShow, Met, Mode, On, OnCondition, OnEntry, OnReturn, OnVariables, Opening, Outcome, OutcomeFits}
@@ -11,7 +11,7 @@ use Rattle.ns_word.specs.Prelude.{held_after, is_limited, is_queuing, leave_by, 
 use Rattle.ns_word.specs.Prelude.{rest_or_look, row_in, scan_place, show_by, signal_by, test_place, unmet_by, waits_in, walk_after, was_woken}
 use Rattle.ns_word.proofs.Scans.{quiet_eligible}
 use Rattle.ns_word.proofs.Knows.{is_loud}
-use Rattle.ns_word.proofs.Keeps.{Same, Way, Stays}
+use Rattle.ns_word.proofs.Keeps.{Same, Way}
 use Rattle.ns_word.proofs.Safes.{section, SameSection}
 use Rattle.ns_model.specs.declared.phase.Phase.TheVariants as ThePhase
 

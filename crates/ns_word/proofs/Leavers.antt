@@ -1,15 +1,15 @@
 -- Whether a wait that leaves still stands where it waits.
-use Rattle.std.proofs.Common.{◌≡◌, ℕ, ◌≤◌, ◌<◌, inl, inr, Bool, true, false, ltb, List, [], length, cond, None, Some, refl, ap, sym, ◌∙◌, subst, arith}
+use Rattle.std.proofs.Common.{◌≡◌, ℕ, ◌<◌, inl, inr, Bool, true, false, ltb, List, [], length, cond, None, Some, refl, ap, sym, ◌∙◌, subst, arith}
 use Rattle.std.specs.List.{sum_by}
 use Rattle.std.proofs.lemmas.Bool.{ltb-true, ltb-false}
 use Rattle.std.proofs.lemmas.List.Sums.{get_or-le-sum_by}
-use Rattle.ns_word.specs.Prelude.{AreApart, Cause, Cv, EachFits, Event, InLeaving, InWait, IsExpected, IsFoundLeaving, IsLawful, Leave, Left, Lists, LockState, Mode, OnCondition, OnVariables, Phase, PlaceFits, SeatView, SectionFits, Step, Truths, VariableWaiterFits, Variables, VariablesTell}
-use Rattle.ns_word.specs.Prelude.{ViewFits, Wait, Waiting, Word, expected_for, home_of, phase_by, standing_after, stands_at, times, times_in, waiters_of, waits_in, walk_at, without, without_in}
-use Rattle.ns_word.proofs.CountsIn.{gone_from, left_at, some_list}
+use Rattle.ns_word.specs.Prelude.{AreApart, Cause, Cv, Event, InLeaving, InWait, IsExpected, IsFoundLeaving, IsLawful, Leave, Left, Lists, LockState, Mode, OnCondition, OnVariables, Phase, SeatView, SectionFits, Step, Truths, Variables, VariablesTell}
+use Rattle.ns_word.specs.Prelude.{ViewFits, Wait, Word, expected_for, home_of, phase_by, standing_after, stands_at, times, times_in, waiters_of, waits_in, walk_at, without, without_in}
+use Rattle.ns_word.proofs.CountsIn.{gone_from, left_at}
 use Rattle.ns_word.proofs.Variables.{stands_still}
 use Rattle.ns_word.proofs.Scans.{times_without}
 use Rattle.ns_word.proofs.Stepping.{effect_at, place_at, step_fits}
-use Rattle.ns_word.proofs.Views.{apart_parts, each_parts, walk_here}
+use Rattle.ns_word.proofs.Views.{apart_parts, walk_here}
 
 module _ {C : Type 0} {N : ℕ} (phases : ℕ → Phase C) (lists : Lists C) (views : List (SeatView C N)) (seat : ℕ) (mode : Mode) (variables : Variables) where
   -- who waits for variables, by its place, and stands in none of their lists, has been woken by one of them

@@ -1,12 +1,12 @@
 -- While one waits long, only those acquire who were woken.
-use Rattle.std.proofs.Common.{◌≡◌, ℕ, Bool, true, false, not, eqb, inl, inr, refl, List, Option, None, Some, ap, sym, subst, ◌∙◌}
+use Rattle.std.proofs.Common.{◌≡◌, ℕ, true, false, not, eqb, inl, inr, refl, List, None, Some, ap, subst, ◌∙◌}
 use Rattle.std.proofs.lemmas.Bool.{and_parts, both_ways, or_cases, not-true}
 use Rattle.ns_word.proofs.Effects.{Gains, makes}
 use Rattle.ns_word.proofs.Looks.{acquire_in, marks_at}
-use Rattle.ns_word.specs.Prelude.{Acquire, AcquireExchange, AcquireLoad, Act, Arm, ArmFlag, Arrival, AsFresh, AwaitWake, Cause, Cell, CellPlace, Effect, Event, Flag, Found, GetLoad, Held, InAcquire, InCells, InLeaving, InQueuing, InRelease, InShow, InSignal, InTry, InWait, JudgeMet, JudgeQuiet}
-use Rattle.ns_word.specs.Prelude.{LeaveLoad, LeavePlace, Left, LoadCell, LoadFlag, LoadWord, LockState, Look, LookIn, Looked, Made, Mode, OnCondition, OnVariables, Paid, Part, PayWake, Queue, QueuePlace, Quiet, Read, Release, ReleaseLoad, ReleasePlace, ReleaseReturning, Releasing, ReturnQueues}
-use Rattle.ns_word.specs.Prelude.{Saw, Scanned, SeatView, ShowLoad, ShowPlace, SignalLoad, SignalPlace, Step, StoreCell, Subject, TakeQueues, TakeToQueue, TestLast, Tested, Truths, TryAcquire, TryLoad, Wait, WaitPlace, WaitReturning, Waking, Walk, Woke, Word, Write, held_after, is_woken, judge_of}
-use Rattle.ns_word.specs.Prelude.{may_acquire, mode_for, newly_held, part_of, want_in_cells, want_leaving, want_of, want_queuing, want_releasing, want_showing, want_signaling, want_waiting, was_woken}
+use Rattle.ns_word.specs.Prelude.{AcquireExchange, Arrival, AsFresh, Event, Found, Held, InAcquire, InTry}
+use Rattle.ns_word.specs.Prelude.{LockState, Mode, Read}
+use Rattle.ns_word.specs.Prelude.{SeatView, Step, Truths, TryAcquire, Walk, Word, Write, is_woken}
+use Rattle.ns_word.specs.Prelude.{may_acquire, mode_for, part_of, want_of, was_woken}
 
 -- such a word is acquired by one that was woken alone
 long_shuts : (mode : Mode) (arrival : Arrival) (word : Word) → word.long ≡ true → may_acquire mode arrival word ≡ true → is_woken arrival ≡ true

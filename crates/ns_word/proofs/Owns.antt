@@ -1,9 +1,9 @@
 -- What the steps leave of the waiters: each is its seat's own.
-use Rattle.std.proofs.Common.{◌≡◌, ◌≢◌, ℕ, ◌+◌, Bool, true, false, not, ◌&&◌, ◌||◌, cond, eqb, suc, inl, inr, List, [], ◌∷◌, ◌++◌, Option, None, Some, refl, ap, sym, ◌∙◌, subst, arith, eq-eqb}
-use Rattle.std.specs.List.{filter, list_any}
+use Rattle.std.proofs.Common.{◌≡◌, ◌≢◌, ℕ, ◌+◌, Bool, true, false, ◌||◌, cond, eqb, suc, inl, inr, List, [], ◌∷◌, ◌++◌, Option, None, Some, refl, ap, sym, ◌∙◌, subst, arith, eq-eqb}
+use Rattle.std.specs.List.{list_any}
 use Rattle.std.proofs.lemmas.Bool.{cases_eq, eqb-true, or_right}
-use Rattle.ns_word.specs.Prelude.{AwaitWake, Every, Held, InAcquire, InWait, Lists, Mode, NoneIs, Owed, Phase, SeatView, VariableWaiterFits, Waiter, WaiterFits, WaitersOwn, WaitersPlaced, Walk, counts_in, has_eligible, is_eligible, is_long, is_of, is_unwoken, left_of, lock_stance, one_if, owed_to}
-use Rattle.ns_word.specs.Prelude.{place_awaits, queued, reads, times, times_in, waits_in, walk_at, without_in, writes}
+use Rattle.ns_word.specs.Prelude.{AwaitWake, Every, Held, InAcquire, InWait, Lists, Mode, NoneIs, Owed, Phase, SeatView, VariableWaiterFits, Waiter, WaiterFits, WaitersOwn, WaitersPlaced, Walk, counts_in, has_eligible, is_eligible, is_long, is_unwoken, left_of, lock_stance, one_if, owed_to}
+use Rattle.ns_word.specs.Prelude.{place_awaits, queued, times, times_in, waits_in, walk_at, without_in}
 use Rattle.ns_queue.proofs.Seats.{times_in-cons}
 use Rattle.ns_word.proofs.Listed.{listed_left, listed_queued, listed_without}
 use Rattle.ns_model.proofs.Tallies.{every-append}

@@ -1,9 +1,8 @@
 -- A waiter that has a condition is in the wait for it, by the history.
 use Rattle.std.specs.Prelude.{slice_get}
-use Rattle.std.proofs.Common.{◌≡◌, ℕ, zero, suc, Bool, true, false, cond, inl, inr, List, [], ◌∷◌, Option, None, Some, refl, ap, ◌∙◌, subst, eq-eqb, ◌≤◌, arith}
-use Rattle.std.proofs.lemmas.Bool.{ne_eqb, cases_eq}
+use Rattle.std.proofs.Common.{◌≡◌, ℕ, zero, suc, Bool, true, false, cond, List, [], ◌∷◌, Option, None, Some, refl, ap, ◌∙◌, subst, ◌≤◌, arith}
 use Rattle.ns_word.proofs.Views.{view_with}
-use Rattle.ns_word.specs.Prelude.{AwaitWake, AwaitWakeInWait, Cond, EachFits, Event, Held, InAcquire, InLeaving, InWait, IsExpected, IsLawful, LockState, LookOut, Mode, OnCondition, OnVariables, PayInWait, Phase, PlaceFits, SeatView, SectionFits, Stance, Standing, Subject, Truths, Wait, WaitFits}
+use Rattle.ns_word.specs.Prelude.{AwaitWake, AwaitWakeInWait, Cond, Event, Held, InAcquire, InLeaving, InWait, IsExpected, IsLawful, LockState, LookOut, Mode, OnCondition, OnVariables, PayInWait, Phase, PlaceFits, SeatView, SectionFits, Stance, Standing, Subject, Truths, Wait, WaitFits}
 use Rattle.ns_word.specs.Prelude.{WaitPlace, Waiter, WaiterFits, WaitersOwn, Walk, cond_on, expected_for, lock_stance, phase_of, place_awaits, standing_after, waits_in, walk_at}
 
 -- how one waits that waits for this condition in this mode

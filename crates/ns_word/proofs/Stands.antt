@@ -1,10 +1,10 @@
 -- Where a seat stands that queues, and where those go that a call wakes.
 use Rattle.std.specs.Prelude.{min}
-use Rattle.std.proofs.Common.{◌≡◌, ℕ, ◌+◌, ◌<◌, inl, inr, Bool, true, false, cond, ltb, List, [], ◌∷◌, ◌++◌, length, Option, None, Some, refl, ap, sym, ◌∙◌, subst, arith}
+use Rattle.std.proofs.Common.{◌≡◌, ℕ, ◌+◌, ◌<◌, inl, inr, Bool, true, false, cond, ltb, List, [], ◌∷◌, ◌++◌, length, None, Some, refl, ap, sym, ◌∙◌, subst, arith}
 use Rattle.std.proofs.lemmas.Bool.{cases_Bool, ltb-true, ltb-false}
-use Rattle.ns_word.specs.Prelude.{Aim, AreCalled, Arrival, AsFresh, AsWoken, CanWait, Cv, EachFits, Effect, Event, Found, Held, InAcquire, InQueuing, InSignal, InWait, IsInRange, IsLawful, IsUnmet, Lists, LockState, Made, Mode, OnCondition, OnVariables, PlaceFits, Queue, QueueSelf, QueueToWait}
-use Rattle.ns_word.specs.Prelude.{QueuesFor, Scanned, SeatView, Step, Subject, Truths, Wait, Waiter, WaitsFor, WakeAndReturn, WakeWaiters, Waking, Walk, Woke, Word, changed, cvs_without, has, is_held, is_woken, left_of, meets_at, mode_for, moved_to, outside, part_of, queued, standing_after}
-use Rattle.ns_word.specs.Prelude.{taken_by, taken_set, tries_of, waiter, waiters_of, waits_at, wakes_of, want_of, with_lock}
+use Rattle.ns_word.specs.Prelude.{Aim, AreCalled, Arrival, AsFresh, AsWoken, Cv, Event, InAcquire, InQueuing, InSignal, InWait, IsInRange, IsLawful, Lists, LockState, Made, Mode, OnCondition, OnVariables, Queue, QueueSelf, QueueToWait}
+use Rattle.ns_word.specs.Prelude.{QueuesFor, Scanned, SeatView, Step, Subject, Truths, Wait, Waiter, WaitsFor, WakeAndReturn, WakeWaiters, Waking, Woke, Word, changed, cvs_without, has, is_held, is_woken, left_of, meets_at, mode_for, moved_to, outside, queued}
+use Rattle.ns_word.specs.Prelude.{taken_by, taken_set, tries_of, waiter, waiters_of, waits_at, wakes_of, with_lock}
 use Rattle.ns_word.proofs.Acts.{can_in_range}
 use Rattle.ns_word.proofs.Enters.{entered_at}
 use Rattle.ns_word.proofs.CountsIn.{taken_at}

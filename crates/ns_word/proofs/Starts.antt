@@ -4,8 +4,8 @@ use Rattle.std.proofs.lemmas.List.{length-replicate}
 use Rattle.std.proofs.lemmas.Bool.{both_ways, ltb-false}
 use Rattle.ns_model.specs.Tallies.{total}
 use Rattle.ns_word.specs.Prelude.{times_among, has_queues, is_queuing, is_reading, is_writing, one_if, AcquireLoad, AreApart, Begins, CanWait, Cv, EachFits, Event, Every, ForLock, HasNumber, Held, InAcquire, InCells, InQueuing, InRelease, InShow, InSignal, InTry, InWait, IsFirst, IsForVariables, IsLawful, Judging, Load, LockState, NoneIs, OnCondition, OnEntry}
-use Rattle.ns_word.specs.Prelude.{OnVariables, PlaceFits, QuietCells, QuietLast, ReleaseLoad, SeatView, ShowLoad, SignalLoad, Subject, TestCells, TestLast, Tests, Truths, TryLoad, VariableWaiterFits, Wait, Waiter, WakeTells, Walk, WordsSeen, first_for, first_row, first_standing, fresh_state}
-use Rattle.ns_word.specs.Prelude.{fresh_views, has_armed, owed_in, owed_to, queuers, quiet_first, readers, takers, times_in, wait_first, waiters_of, walk_at, word_seen, writers}
+use Rattle.ns_word.specs.Prelude.{OnVariables, PlaceFits, QuietCells, QuietLast, ReleaseLoad, SeatView, ShowLoad, SignalLoad, Subject, TestCells, TestLast, Tests, Truths, TryLoad, Wait, WakeTells, Walk, WordsSeen, first_for, first_row, first_standing, fresh_state}
+use Rattle.ns_word.specs.Prelude.{fresh_views, has_armed, owed_in, queuers, quiet_first, readers, wait_first, waiters_of, walk_at, word_seen, writers}
 use Rattle.ns_model.specs.declared.phase.Phase.TheVariants.{Idle}
 use Rattle.ns_model.proofs.Tallies.{every_parts, every_join}
 use Rattle.ns_word.proofs.Firsts.{first_is_bare}

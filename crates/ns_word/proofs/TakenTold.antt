@@ -1,13 +1,12 @@
 -- What the taken are told stays so, by each kind of step.
-use Rattle.std.proofs.Common.{◌≡◌, ◌≢◌, ◌⊎◌, inl, inr, ℕ, ◌+◌, ◌<◌, ◌≤◌, Bool, true, false, not, cond, eqb, List, [], ◌∷◌, ◌++◌, Option, None, Some, refl, ap, sym, ◌∙◌, subst, arith, eq-eqb, append_assoc}
+use Rattle.std.proofs.Common.{◌≡◌, ◌≢◌, ◌⊎◌, inl, inr, ℕ, ◌+◌, ◌<◌, ◌≤◌, Bool, true, cond, eqb, List, [], ◌∷◌, ◌++◌, Option, None, Some, refl, ap, sym, ◌∙◌, subst, arith, eq-eqb, append_assoc}
 use Rattle.std.proofs.lemmas.Bool.{cases_eq, cases_Bool, lt-ltb, ne_eqb}
 use Rattle.ns_word.specs.Prelude.{Every, Held, IsNamed, IsToldSo, Mode, NamesOn, NoneIs, OnCondition, OnVariables, Owed, Phase, SeatView, Stance, Subject, TakenTold, ToldOn, VariableWaiterFits, Variables, Waiter, WaiterNames, Waiting, WaitsAmong, WakeTells, Walk, called_of, flags_with, has}
-use Rattle.ns_word.specs.Prelude.{is_eligible, is_in, is_of, left_of, one_if, owed_in, owed_to, queued, taken_set, times_among, times_in, value_of, waits_in, wakes_of, walk_at, without_in, woken_of, woken_phase, woken_phases, writes}
+use Rattle.ns_word.specs.Prelude.{is_in, one_if, owed_in, owed_to, taken_set, times_among, times_in, value_of, waits_in, wakes_of, walk_at, woken_of, woken_phase, woken_phases}
 use Rattle.ns_model.specs.declared.phase.Phase.TheVariants.{Woken}
 use Rattle.ns_model.proofs.Tallies.{every_map}
-use Rattle.ns_queue.proofs.Seeking.{goes_along}
 use Rattle.ns_queue.proofs.Seats.{own_times, times_in-cons}
-use Rattle.ns_queue.proofs.Vias.{every_filter, every_woken}
+use Rattle.ns_queue.proofs.Vias.{every_woken}
 use Rattle.ns_queue.proofs.Wakes.{stands_waiting}
 use Rattle.ns_queue.proofs.Taken.{in_list, in_stands}
 use Rattle.ns_word.proofs.Listed.{every_cut}

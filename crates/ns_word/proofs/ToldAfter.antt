@@ -1,12 +1,12 @@
 -- What a step leaves of what the seats were told.
 use Rattle.std.specs.Prelude.{All}
-use Rattle.std.proofs.Common.{◌≡◌, ◌≢◌, ℕ, ◌<◌, ◌≤◌, Bool, true, false, eqb, List, [], ◌∷◌, ◌++◌, Option, None, Some, refl, ap, sym, ◌∙◌, subst, append_assoc, eq-eqb}
+use Rattle.std.proofs.Common.{◌≡◌, ◌≢◌, ℕ, ◌<◌, ◌≤◌, Bool, eqb, List, [], ◌∷◌, ◌++◌, Option, None, Some, refl, ap, sym, ◌∙◌, subst, append_assoc, eq-eqb}
 use Rattle.std.proofs.lemmas.List.{append-nil}
 use Rattle.std.proofs.lemmas.List.Elements.{All-nil, All-push, All-append, filter-append}
 use Rattle.std.proofs.lemmas.Bool.{ne_eqb}
-use Rattle.ns_word.specs.Prelude.{Acquire, Act, Any, AreBy, ArmFlag, AtLock, AtVariables, BeginsIf, BeginsWith, Broadcasting, Cell, Change, Effect, Event, Flag, Found, Home, IsBySeats, IsFirst, IsLawful, IsLed, IsLegal, IsTold, JudgeMet, JudgeQuiet, LeaveSelf, LedBy, Left, Lists, LoadCell}
-use Rattle.ns_word.specs.Prelude.{LoadFlag, LoadWord, LockState, Look, Looked, Made, Nothing, Only, Paid, Part, PayWake, QueueSelf, Quiet, QuietKeeps, Release, ReleaseReturning, ReturnQueues, Saw, Scanned, SeatStep, SeatView, Signaling, Step, StoreCell, TakeQueues, Tested, Told, Truths}
-use Rattle.ns_word.specs.Prelude.{WaitReturning, Waiter, WakeWaiters, Waking, Walk, Woke, calls_of, change_commits, got_of, leave_of, nothing_told, own, told_after, view_in, wake_of, walk_after, walk_over, want_of, who_of}
+use Rattle.ns_word.specs.Prelude.{AreBy, BeginsIf, BeginsWith, Event, Found, IsBySeats, IsFirst, IsLawful, IsLed, IsLegal, IsTold, LedBy}
+use Rattle.ns_word.specs.Prelude.{LockState, QuietKeeps, SeatStep, SeatView, Step, Told, Truths}
+use Rattle.ns_word.specs.Prelude.{Walk, calls_of, got_of, nothing_told, own, told_after, view_in, walk_after, walk_over, want_of, who_of}
 use Rattle.ns_word.proofs.Starts.{begins}
 use Rattle.ns_word.proofs.Dispatch.{keeps}
 use Rattle.ns_word.proofs.Effects.{makes}
@@ -115,6 +115,8 @@ module _ {C : Type 0} {N : ℕ} (truths : Truths C) (cells : 0 < N) (quiet : Qui
       IsTold truths.holds seats (h ++ commits) view.seat (walk_after (got_of N made.step.walk found)) (told_after h commits (calls_of begun) told) × BeginsWith (h ++ commits) told.seen
   seat_step_tells old view begun found new commits made p told was =
       let after_all = seat_steps_keep old view begun found new commits made p in
-      let led = led_if truths view begun made.between found new commits old made.begins made.step told.begun was.led in
-      (told_here truths.holds seats h view.seat view.walk (walk_after (got_of N made.step.walk found)) commits (calls_of begun) told
-          (seat_step_by truths old view begun found new commits made) after_all.one_history.legal after_all.one_history.by_seats led.0 led.1 was, seen_grows h told.seen commits was.seen_of)
+      let led = led_if truths view begun made.between found new commits old made.begins made.step told.begun was.led in (
+        told_here truths.holds seats h view.seat view.walk (walk_after (got_of N made.step.walk found)) commits (calls_of begun) told
+            (seat_step_by truths old view begun found new commits made) after_all.one_history.legal after_all.one_history.by_seats led.0 led.1 was,
+        seen_grows h told.seen commits was.seen_of,
+      )

@@ -1,9 +1,9 @@
 -- What the steps leave of the lists of the variables.
-use Rattle.std.proofs.Common.{Option, None, Some, sum_by, ◌≡◌, ◌≢◌, ℕ, ◌<◌, ◌≤◌, inl, inr, Bool, true, false, not, cond, eqb, List, [], ◌∷◌, ◌++◌, length, Option, Some, refl, ap, sym, ◌∙◌, subst, arith, eq-eqb}
+use Rattle.std.proofs.Common.{Option, None, Some, sum_by, ◌≡◌, ◌≢◌, ℕ, ◌<◌, ◌≤◌, inl, inr, Bool, true, false, not, cond, eqb, List, [], ◌∷◌, ◌++◌, length, refl, ap, sym, ◌∙◌, subst, arith, eq-eqb}
 use Rattle.std.proofs.lemmas.Bool.{ne_eqb, cases_Bool, cases_eq}
-use Rattle.ns_word.specs.Prelude.{Only, Write, Subject, Stance, AreVariables, AreWaiting, Cond, Cv, Every, Held, IsOrderly, Lists, Mode, NoneIs, OnVariables, Owed, Phase, SeatView, Seats, VariableWaiterFits, Variables, VariablesTell, WaitFor, Waiter, Waiting, Walk, cvs_without, has, is_in, is_of, is_waiting, one_if, outside}
+use Rattle.ns_word.specs.Prelude.{Only, Write, Subject, Stance, AreVariables, AreWaiting, Cv, Every, Held, IsOrderly, Lists, Mode, NoneIs, OnVariables, Owed, Phase, SeatView, Seats, VariableWaiterFits, Variables, VariablesTell, WaitFor, Waiter, Waiting, Walk, cvs_without, has, is_in, is_waiting, one_if, outside}
 use Rattle.ns_word.specs.Prelude.{taken_set, times, times_in, waiters_of, waits_in, walk_at, without_in, woken_phase, woken_phases}
-use Rattle.ns_model.specs.declared.phase.Phase.TheVariants.{Idle, Woken, Left}
+use Rattle.ns_model.specs.declared.phase.Phase.TheVariants.{Idle}
 use Rattle.ns_queue.proofs.Seats.{times_in-cons, times_in-append}
 use Rattle.ns_queue.proofs.Outside.{gone_outside, times_outside}
 use Rattle.ns_queue.proofs.Parts.{times_at_most, once_in, below_in}

@@ -1,7 +1,7 @@
 -- A view among the views: what holds of all of them, by the views before it, itself, and those behind it.
 use Rattle.std.proofs.Common.{◌≡◌, ◌≢◌, ℕ, ◌+◌, ◌≤◌, Bool, true, false, not, cond, ◌⊎◌, inl, inr, List, [], ◌∷◌, ◌++◌, Option, None, Some, eqb, refl, ap, sym, ◌∙◌, subst, arith, eq-eqb}
 use Rattle.std.proofs.lemmas.Bool.{cases_eq, ne_eqb}
-use Rattle.ns_word.specs.Prelude.{Aim, AreApart, CameBack, Cond, EachFits, ForLock, ForWait, Held, InAcquire, InCells, InRelease, InShow, InSignal, InTry, InWait, IsEither, IsExpected, Locked, Mode, NoneIs, OnCondition, OnVariables, Opening, Outcome, Owed, Phase, SeatView, SectionFits, Standing}
+use Rattle.ns_word.specs.Prelude.{Aim, AreApart, CameBack, Cond, EachFits, ForLock, ForWait, Held, InAcquire, InWait, IsEither, IsExpected, Locked, Mode, NoneIs, OnCondition, OnVariables, Opening, Outcome, Owed, Phase, SeatView, SectionFits, Standing}
 use Rattle.ns_word.specs.Prelude.{Subject, Truths, Variables, ViewFits, Waiting, Walk, called_to, calls_from_lock, expected_for, has_queues, is_queuing, is_reading, is_waiting, is_write, is_writing, one_if, owed_to, phase_before, phase_by, phase_by_wake, phase_for, phase_kept, queuers, readers}
 use Rattle.ns_word.specs.Prelude.{takers, times_among, variable_in, walk_at, woken_phase, writers}
 use Rattle.ns_model.proofs.Tallies.{total_amid, every_parts, every_join}

@@ -1,10 +1,10 @@
 -- Where the woken go, when a try is busy, and what a shown cause does.
-use Rattle.std.proofs.Common.{sym, ◌≡◌, ◌≢◌, ◌<◌, ◌⊎◌, inl, inr, ℕ, arith, Bool, true, false, not, ◌&&◌, ◌||◌, cond, eqb, ltb, Some, refl, ap, ◌∙◌}
+use Rattle.std.proofs.Common.{◌≡◌, ◌≢◌, ◌<◌, ◌⊎◌, inl, inr, ℕ, arith, Bool, true, false, not, ◌&&◌, ◌||◌, cond, eqb, ltb, Some, refl, ap, ◌∙◌}
 use Rattle.std.proofs.lemmas.Bool.{cases_eq, lt-ltb, ne_eqb}
-use Rattle.ns_word.specs.Prelude.{AcquireExchange, AcquireLoad, Aim, Answered, Arm, ArmToWait, Arrival, AsFresh, AsWoken, AwaitWake, AwaitWakeInWait, AwaitWakeToLeave, Busy, Cause, Done, Flag, ForWait, Found, GetLoad, Idle, InAcquire, InCells, InLeaving, InQueuing, InRelease, InShow, InSignal}
-use Rattle.ns_word.specs.Prelude.{InTry, InWait, Leave, LeaveLoad, Limits, Load, LoadFlag, LoadToScan, Look, LookIn, LookOut, Looked, Made, Mode, Next, On, OnCondition, OnVariables, Pay, PayInWait, PayTheWoken, Queue, QueueToWait, QuietCells, QuietLast, Read, ReleaseExchange, ReleaseLoad}
-use Rattle.ns_word.specs.Prelude.{ReturnShown, Saw, ScanAndRelease, ScanCells, SetLoad, SetStore, ShowLoad, SignalLoad, Subject, Take, TakeToLeave, TakeToQueue, TakeToScan, TakeToShow, TakeToWake, TestCells, TestLast, TryAcquire, TryLoad, TryPlace, WakeAndReturn, Walk, Word, answer_of, arrival_of}
-use Rattle.ns_word.specs.Prelude.{cause_kept, got_of, is_from_lock, is_woken, judge_of, may_acquire, outcome_taken, rest_or_look, walk_after, want_acquiring, want_in_cells, want_leaving, want_of, want_releasing, want_showing, want_signaling, want_trying, woken_by}
+use Rattle.ns_word.specs.Prelude.{AcquireLoad, Aim, Answered, Arrival, AsFresh, AsWoken, AwaitWake, AwaitWakeInWait, AwaitWakeToLeave, Busy, Cause, Done, Flag, ForWait, Found, Idle, InAcquire, InLeaving, InQueuing}
+use Rattle.ns_word.specs.Prelude.{InTry, InWait, LeaveLoad, Limits, LoadFlag, Look, LookIn, LookOut, Looked, Made, Mode, Next, On, Read}
+use Rattle.ns_word.specs.Prelude.{Saw, TryAcquire, TryLoad, TryPlace, Walk, Word, answer_of, arrival_of}
+use Rattle.ns_word.specs.Prelude.{cause_kept, got_of, is_from_lock, is_woken, may_acquire, outcome_taken, rest_or_look, walk_after, want_of, woken_by}
 use Rattle.ns_word.proofs.Looks.{flag_here, flag_in, look_here, look_in}
 
 -- ---- tries, and readers
