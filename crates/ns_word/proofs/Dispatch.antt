@@ -74,19 +74,6 @@ from_by : (C : Type 0) (waking : Waking) (k : ℕ) (owes : Bool) (owed : List Ow
 from_by C waking k true owed e = inl refl
 from_by C waking k false owed e = inr (none_of owed (sym e))
 
-from_others : (C : Type 0) (waking : Waking) (k : ℕ) (owes : Bool) (owed : List Owed) → owes ≡ has_some owed → (seat : ℕ) → ◌≡◌ {A = ℕ} (cond (calls_from_lock {C = C} (walk_after (pay_woken waking k owes))) (times_among seat owed) 0) 0
-from_others C waking k owes owed e seat = elim (from_by C waking k owes owed e) [
-  | inl other ↦ ap (λ b. cond b (times_among seat owed) 0) other
-  | inr none ↦ nothing_called (walk_after (pay_woken {C = C} waking k owes)) owed seat none
-]
-
--- and what they are owed still tells so
-told_on : (C : Type 0) (waking : Waking) (k : ℕ) (owes : Bool) (owed : List Owed) → owes ≡ has_some owed → Every (Tells false) owed → Every (Tells (calls_from_lock {C = C} (walk_after (pay_woken waking k owes)))) owed
-told_on C waking k owes owed e told = elim (from_by C waking k owes owed e) [
-  | inl other ↦ subst (λ b. Every (Tells b) owed) (sym other) told
-  | inr none ↦ subst (λ xs. Every (Tells (calls_from_lock {C = C} (walk_after (pay_woken waking k owes)))) xs) (sym none) tt
-]
-
 paid_phase : {C : Type 0} (releasing : Releasing) (b : Bool) → phase_by (walk_after (pay_releasing {C = C} releasing b)) ≡ phase_by {C = C} None
 paid_phase releasing true = refl
 paid_phase releasing false = refl
@@ -429,7 +416,7 @@ module _ {C : Type 0} {N : ℕ} (truths : Truths C) (seats : ℕ) (h : List (Eve
       let to = pay_waiting_leads truths wait part.held owes in
       moved (walk_after (pay_waiting wait owes)) (record part { flags = flags_with part.flags e.0.seat e.0.value; owed = e.1 }) next [] commits e.3 e.5
       (none_more _ (wakes truths seats h front who (Some (InWait wait PayInWait)) (walk_after (pay_waiting wait owes)) back part.word part.row part.lists part.flags part.held e.0 e.1
-      (λ seat. ap (λ b. cond b (times_among seat e.1) 0) to.6) (to.0 here.0.0 here.0.1) (to.1 ∙ e.4) (λ told. subst (λ b. Every (Tells b) e.1) (sym to.6) told) to.2 to.3 to.8 to.4 to.5 (λ n. to.7)
+      (inl to.6) (to.0 here.0.0 here.0.1) (to.1 ∙ e.4) to.2 to.3 to.8 to.4 to.5 (λ n. to.7)
       (subst (λ owed. Groups truths seats h (at (record part { owed = owed }) (Some (InWait wait PayInWait)))) e.2 p)))
   -- it looks at its flag
   by_wait wait AwaitWakeInWait (Flag v) part next commits few some e here p =
@@ -478,7 +465,7 @@ module _ {C : Type 0} {N : ℕ} (truths : Truths C) (seats : ℕ) (h : List (Eve
       let to = pay_woken_leads truths waking k part.held owes in
       moved (walk_after (pay_woken waking k owes)) (record part { flags = flags_with part.flags e.0.seat e.0.value; owed = e.1 }) next [] commits e.3 e.5
       (none_more _ (wakes truths seats h front who (Some walk) (walk_after (pay_woken waking k owes)) back part.word part.row part.lists part.flags part.held e.0 e.1
-      (λ seat. from_others C waking k owes e.1 e.4 seat) (to.0 here.1 here.2) (to.1 ∙ e.4) (told_on C waking k owes e.1 e.4) to.2 to.3 to.8 to.4 to.5 (λ n. to.7)
+      (from_by C waking k owes e.1 e.4) (to.0 here.1 here.2) (to.1 ∙ e.4) to.2 to.3 to.8 to.4 to.5 (λ n. to.7)
       (subst (λ owed. Groups truths seats h (at (record part { owed = owed }) (Some walk))) e.2 p)))
   by_signal waking k _ _ part next commits few e here p = absurd e
 
@@ -600,7 +587,7 @@ module _ {C : Type 0} {N : ℕ} (truths : Truths C) (seats : ℕ) (h : List (Eve
       let none : part.held ≡ None = here in
       moved (walk_after (got_of N (InRelease releasing Pay) (Paid owes))) (record part { flags = flags_with part.flags e.0.seat e.0.value; owed = e.1 }) next [] commits e.3 e.5
       (none_more _ (wakes truths seats h front who (Some (InRelease releasing Pay)) (walk_after (got_of N (InRelease releasing Pay) (Paid owes))) back part.word part.row part.lists part.flags part.held e.0 e.1
-      (λ seat. ap (λ b. cond b (times_among seat e.1) 0) to.7) (to.0 none) (to.1 ∙ e.4) (λ told. subst (λ b. Every (Tells b) e.1) (sym to.7) told) to.2 to.3 to.9 to.4 to.5 (λ n. paid_phase releasing owes)
+      (inl to.7) (to.0 none) (to.1 ∙ e.4) to.2 to.3 to.9 to.4 to.5 (λ n. paid_phase releasing owes)
       (subst (λ owed. Groups truths seats h (at (record part { owed = owed }) (Some (InRelease releasing Pay)))) e.2 p)))
   by_walk (InWait wait at_place) found part next commits few some quiet e here p = by_wait wait at_place found part next commits few some e here p
   by_walk (InSignal waking k at_place) found part next commits few some quiet e here p = by_signal waking k at_place found part next commits few e here p

@@ -558,17 +558,21 @@ module _ {C : Type 0} {N : ℕ} (truths : Truths C) (seats : ℕ) (h : List (Eve
   -- ---- wakes
 
   -- a seat pays a wake that it owes
-  pub wakes : (word : Word) (row : List ℕ) (lists : Lists C) (flags : ℕ → ℕ) (held : Option (Held C N)) (wake : Owed) (rest : List Owed) → ((seat : ℕ) → ◌≡◌ {A = ℕ} (cond (calls_from_lock walk') (times_among seat rest) 0) (cond (calls_from_lock walk) (times_among seat rest) 0)) →
-      PlaceFits truths walk' held → pays walk' ≡ has_some rest → (Every (Tells (calls_from_lock walk)) rest → Every (Tells (calls_from_lock walk')) rest)
-      → has_queues walk' ≡ has_queues walk → waits_in walk' ≡ waits_in walk → was_woken walk' ≡ was_woken walk → has_armed walk' ≡ false → is_queuing walk' ≡ is_queuing walk
+  pub wakes : (word : Word) (row : List ℕ) (lists : Lists C) (flags : ℕ → ℕ) (held : Option (Held C N)) (wake : Owed) (rest : List Owed) → (calls_from_lock walk' ≡ calls_from_lock walk) ⊎ (rest ≡ []) →
+      PlaceFits truths walk' held → pays walk' ≡ has_some rest → has_queues walk' ≡ has_queues walk → waits_in walk' ≡ waits_in walk → was_woken walk' ≡ was_woken walk → has_armed walk' ≡ false → is_queuing walk' ≡ is_queuing walk
       → Stays walk walk' held →
       Groups truths seats h (st walk word row lists flags held (wake ∷ rest)) → Groups truths seats h (st walk' word row lists (flags_with flags wake.seat wake.value) held rest)
-  wakes word row lists flags held wake rest after_all place pay tell spin a w set' q stays p =
+  wakes word row lists flags held wake rest same place pay spin a w set' q stays p =
       let apart = others word row held (wake ∷ rest) p.safe in
       let tells = (fits word row held (wake ∷ rest) p.safe).owes.1 in
       let from = tells_from (calls_from_lock walk) wake tells.0 in
+      let tell : Every (Tells (calls_from_lock walk')) rest = elim same [ inl e ↦ subst (λ b. Every (Tells b) rest) (sym e) tells.1 | inr none ↦ subst (Every (Tells (calls_from_lock walk'))) (sym none) tt ] in
+      let after_all : (seat : ℕ) → ◌≡◌ {A = ℕ} (cond (calls_from_lock walk') (times_among seat rest) 0) (cond (calls_from_lock walk) (times_among seat rest) 0) = λ seat. elim same [
+        | inl e ↦ ap (λ b. cond b (times_among seat rest) 0) e
+        | inr none ↦ nothing_called walk' rest seat none ∙ sym (nothing_called walk rest seat none)
+      ] in
       record {
-        safe = unchanged truths seats h front who walk (wake ∷ rest) walk' rest back word word row held held refl refl place (sym pay, tell tells.1) (same_section walk walk' held stays) p.safe;
+        safe = unchanged truths seats h front who walk (wake ∷ rest) walk' rest back word word row held held refl refl place (sym pay, tell) (same_section walk walk' held stays) p.safe;
         homed = at_home front who walk held (wake ∷ rest) walk' held rest back word word lists.lock refl refl spin p.homed;
         placed = woke front who walk held (wake ∷ rest) walk' held rest back wake lists flags apart refl (tells_clear (calls_from_lock walk) wake tells.0) (tells_few (calls_from_lock walk) wake tells.0) (ap is_some a) set' p.placed;
         own = own_same front who walk held (wake ∷ rest) walk' held rest back lists.lock apart a p.own;
