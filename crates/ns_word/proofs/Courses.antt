@@ -1,6 +1,7 @@
 -- Each step takes its call on: it goes on as it was asked, or its answer means what it says.
 use Rattle.std.proofs.Common.{◌≡◌, ◌&&◌, inl, inr, ℕ, ◌+◌, ◌-◌, Bool, true, false, not, cond, eqb, ltb, List, [], ◌∷◌, ◌++◌, Option, None, Some, IsSome, slice_index, refl, ap, sym, ◌∙◌, subst}
 use Rattle.std.proofs.lemmas.List.{append-nil}
+use Rattle.ns_word.specs.Asked.{request_for}
 use Rattle.ns_word.specs.Prelude.{Acquire, AcquireExchange, AcquireLoad, AcquirePlace, AcquireSoFar, Aim, AimFits, Answer, Answered, Any, AnyWait, AnyWaitMeans, Arm, ArmToWait, Arrival, AsFresh, AtVariables, Await, AwaitWake, AwaitWakeInWait, AwaitWakeToLeave, Busy, CallGoes, CameBack, CanLeave}
 use Rattle.ns_word.specs.Prelude.{CanWait, Cause, Cell, CellFits, CellPlace, ComesBack, ConditionWaitMeans, Course, Cv, CvWait, Cvs, Done, Effect, Ended, Event, Expired, Flag, ForLock, ForWait, Found, Get, GetLoad, HasLeft, HasLocked, HasLookedFor, HasReleased, HasWoken, Held, HeldFits}
 use Rattle.ns_word.specs.Prelude.{Idle, InAcquire, InCells, InHand, InLeaving, InQueuing, InRelease, InShow, InSignal, InTry, InWait, Is, IsComing, IsFirst, IsForCondition, IsForVariables, IsLawful, IsLeft, IsQuiet, IsQuietSection, KeptFits, Leave, LeaveLoad, LeavePlace, LeaveSelf, Left, Limits}
@@ -305,7 +306,7 @@ module _ (C : Type 0) (N : ℕ) (truths : Truths C) (seat : ℕ) (row : List ℕ
 
     -- an acquire was made
     acquired_on : (aim : Aim C) (arrival : Arrival) (last : Word) → Effect truths seat (Acquire aim arrival last) part Made next commits → AimFits aim → AcquireSoFar truths seat aim course part.held →
-        Comes (asked_of (InAcquire aim (AcquireExchange arrival last))) (course_after Made commits course) (acquired_for N aim) next.held
+        Comes (request_for aim) (course_after Made commits course) (acquired_for N aim) next.held
     acquired_on (ForLock mode) arrival last e given so_far =
         has_locked mode course part.held next.held commits part.row (stands.free e.4 (acquired_holders mode arrival part.word (subst (λ word. may_acquire mode arrival word ≡ true) e.0 e.1)).0) (ap (λ p. p.held) e.3) e.4 so_far
     acquired_on (ForWait wait outcome) arrival last e given so_far =
@@ -314,16 +315,16 @@ module _ (C : Type 0) (N : ℕ) (truths : Truths C) (seat : ℕ) (row : List ℕ
 
     acquires_on : (aim : Aim C) (place : AcquirePlace) (found : Found) → Effect truths seat (want_acquiring aim place) part found next commits → AimFits aim → AcquireSoFar truths seat aim course part.held →
         Comes (asked_of (InAcquire aim place)) (course_after found commits course) (got_acquiring N aim place found) next.held
-    acquires_on aim (AcquireLoad arrival) (Saw word) e given so_far = finds (asked_of (InAcquire aim (AcquireLoad arrival))) (Saw word) (acquire_by aim arrival word) refl (held_in part e.1) e.2 (acquire_comes (asked_of (InAcquire aim (AcquireLoad arrival))) course part.held aim arrival word so_far)
-    acquires_on aim (AcquireExchange arrival last) (Saw word) e given so_far = finds (asked_of (InAcquire aim (AcquireExchange arrival last))) (Saw word)
-        (acquire_by aim arrival word) refl (held_in part e.2) e.3 (acquire_comes (asked_of (InAcquire aim (AcquireExchange arrival last))) course part.held aim arrival word so_far)
+    acquires_on aim (AcquireLoad arrival) (Saw word) e given so_far = finds (request_for aim) (Saw word) (acquire_by aim arrival word) refl (held_in part e.1) e.2 (acquire_comes (request_for aim) course part.held aim arrival word so_far)
+    acquires_on aim (AcquireExchange arrival last) (Saw word) e given so_far = finds (request_for aim) (Saw word)
+        (acquire_by aim arrival word) refl (held_in part e.2) e.3 (acquire_comes (request_for aim) course part.held aim arrival word so_far)
     acquires_on aim (AcquireExchange arrival last) Made e given so_far = acquired_on aim arrival last e given so_far
-    acquires_on aim (TakeToQueue arrival last) (Saw word) e given so_far = finds (asked_of (InAcquire aim (TakeToQueue arrival last))) (Saw word) (acquire_by aim arrival word) refl
-        (held_in part e.2) e.3 (acquire_comes (asked_of (InAcquire aim (TakeToQueue arrival last))) course part.held aim arrival word so_far)
-    acquires_on aim (TakeToQueue arrival last) Made e given so_far = finds (asked_of (InAcquire aim (TakeToQueue arrival last))) Made (On (InAcquire aim (Arm arrival (word_taken (ToQueue (mode_for aim) arrival) last)))) refl (ap (λ p. p.held) e.2) e.3 so_far
-    acquires_on aim (Arm arrival last) Made e given so_far = finds (asked_of (InAcquire aim (Arm arrival last))) Made (On (InAcquire aim (Queue arrival last))) refl (ap (λ p. p.held) e.0) e.1 so_far
-    acquires_on aim (Queue arrival last) (Saw word) e given so_far = finds (asked_of (InAcquire aim (Queue arrival last))) (Saw word) (On (InAcquire aim (Queue arrival word))) refl (held_in part e.2) e.3 so_far
-    acquires_on aim (Queue arrival last) Made e given so_far = finds (asked_of (InAcquire aim (Queue arrival last))) Made (On (InAcquire aim (AwaitWake (tries_of arrival)))) refl (ap (λ p. p.held) e.2) e.3 so_far
+    acquires_on aim (TakeToQueue arrival last) (Saw word) e given so_far = finds (request_for aim) (Saw word) (acquire_by aim arrival word) refl
+        (held_in part e.2) e.3 (acquire_comes (request_for aim) course part.held aim arrival word so_far)
+    acquires_on aim (TakeToQueue arrival last) Made e given so_far = finds (request_for aim) Made (On (InAcquire aim (Arm arrival (word_taken (ToQueue (mode_for aim) arrival) last)))) refl (ap (λ p. p.held) e.2) e.3 so_far
+    acquires_on aim (Arm arrival last) Made e given so_far = finds (request_for aim) Made (On (InAcquire aim (Queue arrival last))) refl (ap (λ p. p.held) e.0) e.1 so_far
+    acquires_on aim (Queue arrival last) (Saw word) e given so_far = finds (request_for aim) (Saw word) (On (InAcquire aim (Queue arrival word))) refl (held_in part e.2) e.3 so_far
+    acquires_on aim (Queue arrival last) Made e given so_far = finds (request_for aim) Made (On (InAcquire aim (AwaitWake (tries_of arrival)))) refl (ap (λ p. p.held) e.2) e.3 so_far
     acquires_on aim (Queue arrival last) (Left stood) e given so_far = let other : Made ≡ Left stood = e.0 in absurd (cc)
     acquires_on aim (Queue arrival last) (Woke owes) e given so_far = let other : Made ≡ Woke owes = e.0 in absurd (cc)
     acquires_on aim (AwaitWake tries) (Flag v) e given so_far =
