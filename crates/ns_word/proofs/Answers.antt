@@ -26,7 +26,7 @@ looks_on wait again reply is = go (is_limited wait.limits) is where
 -- ---- what it answers, and what is left of the section
 
 -- a wait that was ended early wasn't met
-unmet_cause : (cause : Cause) → is_met (answer_of cause) ≡ false
+pub unmet_cause : (cause : Cause) → is_met (answer_of cause) ≡ false
 unmet_cause Expired = refl
 unmet_cause Notified = refl
 

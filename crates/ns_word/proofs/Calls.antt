@@ -11,7 +11,7 @@ use Rattle.ns_word.specs.Prelude.{calls_from_lock, changed, cvs_without, got_of,
 use Rattle.ns_word.specs.Prelude.{kept_by, moved_to, outside, part_of, pays, standing_after, taken_by, taken_set, times_in, waiters_of, wake_of, walk_after}
 use Rattle.ns_word.specs.Prelude.{want_of, want_signaling, was_woken}
 use Rattle.ns_queue.proofs.Outside.{broadcast_outside, signal_outside}
-use Rattle.ns_word.proofs.CountsIn.{OnceInEach}
+use Rattle.ns_word.proofs.CountsIn.{OnceInEach, moved_at, taken_at}
 use Rattle.ns_word.proofs.Looks.{look_here, look_in}
 use Rattle.ns_word.proofs.Follows.{FoundCalled, follows}
 use Rattle.ns_word.proofs.Listed.{none_of}
@@ -43,11 +43,6 @@ module _ (C : Type 0) (N : ℕ) (truths : Truths C) (seat : ℕ) (waking : Wakin
       ((commits ≡ []) × (new.lists ≡ old.lists))
       ⊎ ((commits ≡ wake_of seat waking k (taken_by waking (waiters_of old.lists (Cv k))) ∷ []) × (waiters_of new.lists (Cv k) ≡ kept_by waking (waiters_of old.lists (Cv k))))
 
-  -- who is moved to the lock list changes no variable's
-  moved_reads : (held : Bool) (taken : List (Waiter C)) (lists : Lists C) → waiters_of (moved_to held taken lists) (Cv k) ≡ waiters_of lists (Cv k)
-  moved_reads true taken lists = refl
-  moved_reads false taken lists = refl
-
   -- those who are left stay there
   left_there : (waking : Waking) (ws : List (Waiter C)) → ((seat : ℕ) → times_in seat ws ≤ 1) → outside (taken_set (taken_by waking ws)) ws ≡ kept_by waking ws
   left_there Signaling ws once = signal_outside ws once
@@ -56,8 +51,8 @@ module _ (C : Type 0) (N : ℕ) (truths : Truths C) (seat : ℕ) (waking : Wakin
   kept_there : (last : Word) (lists : Lists C) → k < 4 → IsWhole lists → waiters_of (changed seat (WakeWaiters waking k) last lists) (Cv k) ≡ kept_by waking (waiters_of lists (Cv k))
   kept_there last lists below whole =
       let taken = taken_by waking (waiters_of lists (Cv k)) in
-      moved_reads (is_held last) taken (cvs_without (taken_set taken) lists)
-      ∙ get_or-map (outside (taken_set taken)) lists.cvs k [] [] (omega (arith, below, whole.0)) ∙ left_there waking (waiters_of lists (Cv k)) (λ seat. whole.1 seat k below)
+      moved_at (is_held last) taken (cvs_without (taken_set taken) lists) k
+      ∙ taken_at (taken_set taken) k lists whole.0 below ∙ left_there waking (waiters_of lists (Cv k)) (λ seat. whole.1 seat k below)
 
   wakes_at : (place : SignalPlace) (found : Found) (old new : Part C N) (commits : List (Event C N)) → k < 4 → IsWhole old.lists → Effect truths seat (want_signaling waking k place) old found new commits → WakesBy old new commits
   wakes_at SignalLoad (Saw word) old new commits below four e = inl (e.2, ap (λ p. p.lists) e.1)

@@ -4,7 +4,7 @@ use Rattle.std.specs.List.{sum_by}
 use Rattle.std.proofs.lemmas.Bool.{cases_eq, lt-ltb, ne_eqb}
 use Rattle.std.proofs.lemmas.List.{get_or-map}
 use Rattle.std.proofs.lemmas.List.Sums.{get_or-le-sum_by, sum_by-cons}
-use Rattle.ns_word.specs.Prelude.{Cv, Lists, Seats, Waiter, counts_in, cvs_without, is_in, one_if, outside, taken_set, times, times_in, waiters_of, with_lock, without, without_in}
+use Rattle.ns_word.specs.Prelude.{moved_to, Cv, Lists, Seats, Waiter, counts_in, cvs_without, is_in, one_if, outside, taken_set, times, times_in, waiters_of, with_lock, without, without_in}
 use Rattle.ns_queue.proofs.Outside.{gone_each, times_outside}
 use Rattle.ns_queue.proofs.Parts.{lists_without}
 use Rattle.ns_queue.proofs.Seats.{none_without, times_in-cons}
@@ -115,6 +115,11 @@ module _ {C : Type 0} where
 
   pub taken_at : (set : Seats) (k : ℕ) (lists : Lists C) → length lists.cvs ≡ 4 → k < 4 → waiters_of (cvs_without set lists) (Cv k) ≡ outside set (waiters_of lists (Cv k))
   taken_at set k lists four low = get_or-map (outside set) lists.cvs k [] [] (omega (arith, four, low))
+
+  -- who is moved to the lock list changes no variable's
+  pub moved_at : (held : Bool) (taken : List (Waiter C)) (lists : Lists C) (k : ℕ) → waiters_of (moved_to held taken lists) (Cv k) ≡ waiters_of lists (Cv k)
+  moved_at true taken lists k = refl
+  moved_at false taken lists k = refl
 
   pub once_taken : (set : Seats) (lists : Lists C) → length lists.cvs ≡ 4 → OnceInEach lists → OnceInEach (cvs_without set lists)
   once_taken set lists four once seat k low = omega (arith, ap (times_in seat) (taken_at set k lists four low), times_outside set (waiters_of lists (Cv k)) seat, once seat k low)

@@ -15,6 +15,7 @@ use Rattle.ns_word.specs.Prelude.{leave_of, leave_told, left_by, load_place, loo
 use Rattle.ns_word.specs.Prelude.{release_by, rest_or_look, row_after, scan_place, section_of, show_by, signal_by, standing_after, stands_at, taken_by, test_place, tries_of, unmet_by, variable_in, waiters_of, wake_of, want_acquiring, want_in_cells, want_leaving, want_of, want_queuing}
 use Rattle.ns_word.specs.Prelude.{want_releasing, want_showing, want_signaling, want_trying, want_waiting, woken_by, word_taken}
 use Rattle.ns_word.proofs.Keeps.{acquired_holders}
+use Rattle.ns_word.proofs.Answers.{unmet_cause}
 use Rattle.ns_word.proofs.Leaving.{not_left}
 use Rattle.ns_word.proofs.Follows.{follows, next_asked}
 use Rattle.ns_word.specs.declared.request.Request.TheVariants.{Release}
@@ -205,10 +206,6 @@ module _ (C : Type 0) (N : ℕ) (truths : Truths C) (seat : ℕ) (row : List ℕ
 
   -- ---- waits for a condition
 
-  not_met : (cause : Cause) → is_met (answer_of cause) ≡ false
-  not_met Expired = refl
-  not_met Notified = refl
-
   -- what a section says of how it began that came back, where the condition is true, and where it is false
   says_met : (c : C) (outcome : Outcome) (before : List ℕ) → truths.holds c before ≡ true → entry_of truths.holds before (CameBack (OnCondition c) outcome) ≡ Waited c Met
   says_met c (Woken by) before e = refl
@@ -271,20 +268,20 @@ module _ (C : Type 0) (N : ℕ) (truths : Truths C) (seat : ℕ) (row : List ℕ
         let tested : (section.mode ≡ mode) × ComesBack asked (Ended cause) section = subst (λ h. Tests truths asked (OnReturn (Ended cause)) h) e tests in
         let cells : section.row ≡ section.before = tested.1.cells in
         let says : entry_of truths.holds section.before section.entry ≡ Waited c (answer_of cause) = ap (λ entry. entry_of truths.holds section.before entry) tested.1.entry ∙ says_ended c cause section.before (ap (truths.holds c) (sym cells) ∙ failing) in
-        answers_back course held section (Some cause) (answer_of cause) e tested.0 starts cells (not_met cause ∙ sym failing) (may_answer limits course.looked (Ended cause) given so_far.shown) says so_far.left
+        answers_back course held section (Some cause) (answer_of cause) e tested.0 starts cells (unmet_cause cause ∙ sym failing) (may_answer limits course.looked (Ended cause) given so_far.shown) says so_far.left
 
     -- a look has shown what ends it, before it queued
     shown_comes : (again : Bool) (cause : Cause) (course : Course C N) (old new : Option (Held C N)) (section : Held C N) → old ≡ Some section → new ≡ held_after again (Some cause) old →
         MayWait truths asked again section → MayShow limits (Some cause) → section.before ≡ row → course.looked ≡ Some (Some cause) →
         QueuesSoFar truths seat asked again course old → Means truths seat row (Await asked) course (Answered (answer_of cause)) new
     shown_comes false cause course old new section e same may given starts shown so_far =
-        answers_on_entry course new section (answer_of cause) (same ∙ e) may.mode (not_met cause ∙ sym may.unmet) (may_answer limits course.looked (Ended cause) given shown) (subst (λ h. Unchanged course h) (sym same) so_far)
+        answers_on_entry course new section (answer_of cause) (same ∙ e) may.mode (unmet_cause cause ∙ sym may.unmet) (may_answer limits course.looked (Ended cause) given shown) (subst (λ h. Unchanged course h) (sym same) so_far)
     shown_comes true cause course old new section e same may given starts shown so_far =
         let back : ComesBack asked (Woken None) section = (may.back refl).1 in
         let now : Held C N = record section { entry = opening_by cause section.entry } in
         let cells : section.row ≡ section.before = back.cells in
         let says : entry_of truths.holds section.before now.entry ≡ Waited c (answer_of cause) = ap (λ entry. entry_of truths.holds section.before (opening_by cause entry)) back.entry ∙ says_ended c cause section.before (ap (truths.holds c) (sym cells) ∙ may.unmet) in
-        answers_back course new now None (answer_of cause) (same ∙ ap (λ h. held_by cause h) e) may.mode starts cells (not_met cause ∙ sym may.unmet) (may_answer limits course.looked (Ended cause) given shown) says so_far
+        answers_back course new now None (answer_of cause) (same ∙ ap (λ h. held_by cause h) e) may.mode starts cells (unmet_cause cause ∙ sym may.unmet) (may_answer limits course.looked (Ended cause) given shown) says so_far
 
   -- ---- by group
 

@@ -7,7 +7,7 @@ use Rattle.ns_word.specs.Prelude.{QueuesFor, Scanned, SeatView, Step, Subject, T
 use Rattle.ns_word.specs.Prelude.{taken_by, taken_set, tries_of, waiter, waiters_of, waits_at, wakes_of, with_lock}
 use Rattle.ns_word.proofs.Acts.{can_in_range}
 use Rattle.ns_word.proofs.Enters.{entered_at}
-use Rattle.ns_word.proofs.CountsIn.{taken_at}
+use Rattle.ns_word.proofs.CountsIn.{moved_at, taken_at}
 use Rattle.ns_word.proofs.Stepping.{effect_at, place_at}
 
 -- one try more, and none above 30
@@ -61,11 +61,7 @@ pub stays_behind_wake : {C : Type 0} {N : ℕ} (truths : Truths C) (seats : ℕ)
 stays_behind_wake {C} {N} truths seats h old new view commits waking k last owes j step walks lawful low =
     let e = effect_at step (InSignal waking k (WakeAndReturn last)) walks in
     let taken = taken_by waking (waiters_of old.lists (Cv k)) in
-    ap (λ p. waiters_of p.lists (Cv j)) e.2 ∙ (moved_at (is_held last) taken (cvs_without (taken_set taken) old.lists) ∙ taken_at (taken_set taken) j old.lists lawful.waiters_placed.four low)
-  where
-    moved_at : (held : Bool) (taken : List (Waiter C)) (lists : Lists C) → waiters_of (moved_to held taken lists) (Cv j) ≡ waiters_of lists (Cv j)
-    moved_at true taken lists = refl
-    moved_at false taken lists = refl
+    ap (λ p. waiters_of p.lists (Cv j)) e.2 ∙ (moved_at (is_held last) taken (cvs_without (taken_set taken) old.lists) j ∙ taken_at (taken_set taken) j old.lists lawful.waiters_placed.four low)
 
 pub taken_called : {C : Type 0} {N : ℕ} (truths : Truths C) (old new : LockState C N) (view : SeatView C N) (commits : List (Event C N)) (waking : Waking) (k : ℕ) (last : Word) (owes : Bool) →
     (step : Step truths old view (Woke owes) new commits) → step.walk ≡ InSignal waking k (WakeAndReturn last) →
