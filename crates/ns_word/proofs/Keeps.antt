@@ -123,24 +123,28 @@ still_owes walk walk' owed idle same owes =
     subst (λ xs. OwesAs walk' xs) (sym none) (sym (same ∙ idle), tt)
 
 module _ {C : Type 0} {N : ℕ} (truths : Truths C) (seats : ℕ) (h : List (Event C N)) (front : List (SeatView C N)) (who : ℕ) (walk walk' : Option (Walk C)) (back : List (SeatView C N)) where
-  abbrev st : Option (Walk C) → Word → List ℕ → Lists C → (ℕ → ℕ) → Option (Held C N) → List Owed → LockState C N
-  st walk word row lists flags held owed = record { word = word; row = row; lists = lists; flags = flags; views = front ++ view_of who walk held owed ∷ back }
+  -- all views, with the seat's own at this place
+  abbrev around : Option (Walk C) → Option (Held C N) → List Owed → List (SeatView C N)
+  around walk held owed = front ++ view_of who walk held owed ∷ back
 
-  fits : (word : Word) (row : List ℕ) (held : Option (Held C N)) (owed : List Owed) → Safe truths seats h word row (front ++ view_of who walk held owed ∷ back) →
+  abbrev st : Option (Walk C) → Word → List ℕ → Lists C → (ℕ → ℕ) → Option (Held C N) → List Owed → LockState C N
+  st walk word row lists flags held owed = record { word = word; row = row; lists = lists; flags = flags; views = around walk held owed }
+
+  fits : (word : Word) (row : List ℕ) (held : Option (Held C N)) (owed : List Owed) → Safe truths seats h word row (around walk held owed) →
       ViewFits truths seats (standing_after h) row (view_of who walk held owed)
   fits word row held owed p = (each_parts truths seats (standing_after h) row front (view_of who walk held owed) back p.one_history.each).1
 
-  others : (word : Word) (row : List ℕ) (held : Option (Held C N)) (owed : List Owed) → Safe truths seats h word row (front ++ view_of who walk held owed ∷ back) → NoneIs who front
+  others : (word : Word) (row : List ℕ) (held : Option (Held C N)) (owed : List Owed) → Safe truths seats h word row (around walk held owed) → NoneIs who front
   others word row held owed p = (apart_parts front (view_of who walk held owed) back p.apart).0
 
   due : waits_in walk' ≡ waits_in walk → (flag : ℕ) → one_if (awaits walk' && is_armed flag) ≡ one_if (awaits walk && is_armed flag)
   due e flag = ap (λ w. one_if (is_some w && is_armed flag)) e
 
   -- one that isn't about to pay owes nothing
-  owes_none : (word : Word) (row : List ℕ) (held : Option (Held C N)) (owed : List Owed) → pays walk ≡ false → Safe truths seats h word row (front ++ view_of who walk held owed ∷ back) → owed ≡ []
+  owes_none : (word : Word) (row : List ℕ) (held : Option (Held C N)) (owed : List Owed) → pays walk ≡ false → Safe truths seats h word row (around walk held owed) → owed ≡ []
   owes_none word row held owed idle p = none_of owed ((fits word row held owed p).owes.0 ∙ idle)
 
-  calls : (word : Word) (row : List ℕ) (held : Option (Held C N)) (owed : List Owed) → pays walk ≡ false → Safe truths seats h word row (front ++ view_of who walk held owed ∷ back) →
+  calls : (word : Word) (row : List ℕ) (held : Option (Held C N)) (owed : List Owed) → pays walk ≡ false → Safe truths seats h word row (around walk held owed) →
       (seat : ℕ) → cond (calls_from_lock walk') (times_among seat owed) 0 ≡ cond (calls_from_lock walk) (times_among seat owed) 0
   calls word row held owed idle p seat = let none = owes_none word row held owed idle p in nothing_called walk' owed seat none ∙ sym (nothing_called walk owed seat none)
 
@@ -156,22 +160,22 @@ module _ {C : Type 0} {N : ℕ} (truths : Truths C) (seats : ℕ) (h : List (Eve
 
   -- what the taken are told, where the seat waits as before, and where it waits no more, or did not
   taken_still : (held held' : Option (Held C N)) (owed : List Owed) (phases : ℕ → Phase C) (flags : ℕ → ℕ) (lock : List (Waiter C)) → NoneIs who front → waits_in walk' ≡ waits_in walk →
-      TakenTold phases flags lock (front ++ view_of who walk held owed ∷ back) → TakenTold phases flags lock (front ++ view_of who walk' held' owed ∷ back)
+      TakenTold phases flags lock (around walk held owed) → TakenTold phases flags lock (around walk' held' owed)
   taken_still held held' owed phases flags lock apart same p = told_stays front who walk held owed walk' held' owed back phases phases flags lock lock (same_stays front who walk held owed walk' held' owed back phases apart same) (λ due listed. due) (λ listed. listed) p
 
   taken_gone : (held held' : Option (Held C N)) (owed : List Owed) (phases phases' : ℕ → Phase C) (flags : ℕ → ℕ) (lock : List (Waiter C)) → NoneIs who front → waits_in walk' ≡ None → ((seat : ℕ) → who ≢ seat → phases' seat ≡ phases seat) →
-      TakenTold phases flags lock (front ++ view_of who walk held owed ∷ back) → TakenTold phases' flags lock (front ++ view_of who walk' held' owed ∷ back)
+      TakenTold phases flags lock (around walk held owed) → TakenTold phases' flags lock (around walk' held' owed)
   taken_gone held held' owed phases phases' flags lock apart none others p = told_stays front who walk held owed walk' held' owed back phases phases' flags lock lock (left_stays front who walk held owed walk' held' owed back phases phases' apart none others) (λ due listed. due) (λ listed. listed) p
 
   -- one that doesn't wait is owed no wake, and one that is about to queue has set its flag
-  unowed : (lists : Lists C) (flags : ℕ → ℕ) (held : Option (Held C N)) (owed : List Owed) → NoneIs who front → awaits walk ≡ false → WaitersPlaced lists flags (front ++ view_of who walk held owed ∷ back) → owed_to who (front ++ view_of who walk held owed ∷ back) ≡ 0
+  unowed : (lists : Lists C) (flags : ℕ → ℕ) (held : Option (Held C N)) (owed : List Owed) → NoneIs who front → awaits walk ≡ false → WaitersPlaced lists flags (around walk held owed) → owed_to who (around walk held owed) ≡ 0
   unowed lists flags held owed apart a p = let here = placed_here front who walk held owed walk' held owed back lists flags apart p in let none = ap one_if (not_due walk (flags who) a) in omega (arith, here, none)
 
-  armed_now : (lists : Lists C) (flags : ℕ → ℕ) (held : Option (Held C N)) (owed : List Owed) → NoneIs who front → has_armed walk ≡ true → WaitersPlaced lists flags (front ++ view_of who walk held owed ∷ back) → flags who ≡ 1
+  armed_now : (lists : Lists C) (flags : ℕ → ℕ) (held : Option (Held C N)) (owed : List Owed) → NoneIs who front → has_armed walk ≡ true → WaitersPlaced lists flags (around walk held owed) → flags who ≡ 1
   armed_now lists flags held owed apart set p = p.armed who (ap has_armed (walk_here front (view_of who walk held owed) back apart) ∙ set)
 
   -- a seat that waits as before, and lists, flags and history that stay
-  steady : (word word' : Word) (row row' : List ℕ) (lists : Lists C) (flags : ℕ → ℕ) (held held' : Option (Held C N)) (owed : List Owed) → waits_in walk' ≡ waits_in walk → let news = front ++ view_of who walk' held' owed ∷ back in
+  steady : (word word' : Word) (row row' : List ℕ) (lists : Lists C) (flags : ℕ → ℕ) (held held' : Option (Held C N)) (owed : List Owed) → waits_in walk' ≡ waits_in walk → let news = around walk' held' owed in
       Safe truths seats h word' row' news → Homed word' lists.lock news → WaitersPlaced lists flags news → Known truths.holds word' (standing_after h).row lists.lock flags news →
       Groups truths seats h (st walk word row lists flags held owed) → Groups truths seats h (st walk' word' row' lists flags held' owed)
   steady word word' row row' lists flags held held' owed same safe homed placed known p =
@@ -229,8 +233,7 @@ module _ {C : Type 0} {N : ℕ} (truths : Truths C) (seats : ℕ) (h : List (Eve
       PlaceFits {C = C} {N = N} truths walk' None → Same walk walk' → needs_scan releasing word ≡ false → is_queuing walk' ≡ is_queuing walk → Way walk walk' →
       -- no condition becomes true where the release is a reader's or quiet
       (length before ≡ N → length cells ≡ N → (mode_released releasing ≡ Read → cells ≡ before) → is_loud releasing ≡ false → (ws : List (Waiter C)) →
-      has_eligible (meets_at truths before) ws ≡ false → has_eligible (meets_at truths cells) ws ≡ false) →
-      Groups truths seats h (st walk word row lists flags (Some (section (mode_released releasing) entry before cells)) owed) →
+      has_eligible (meets_at truths before) ws ≡ false → has_eligible (meets_at truths cells) ws ≡ false) → Groups truths seats h (st walk word row lists flags (Some (section (mode_released releasing) entry before cells)) owed) →
       Groups truths seats (h ++ section_of truths.holds who (section (mode_released releasing) entry before cells) Plain ∷ []) (st walk' (word_released releasing word) row lists flags None owed)
   releases releasing word row lists flags entry before cells owed idle a few settled phase place same calm q o quiet p =
       let mode = mode_released releasing in
@@ -259,8 +262,8 @@ module _ {C : Type 0} {N : ℕ} (truths : Truths C) (seats : ℕ) (h : List (Eve
   -- the queues are taken
   pub takes : (taking : Taking) (word : Word) (row : List ℕ) (lists : Lists C) (flags : ℕ → ℕ) (held : Option (Held C N)) (owed : List Owed) → pays walk ≡ false → word.spin ≡ false →
       PlaceFits truths walk' held → pays walk' ≡ pays walk → has_queues walk ≡ false → has_queues walk' ≡ true → waits_in walk' ≡ waits_in walk → has_armed walk' ≡ false → Stays walk walk' held →
-      (NoneIs who front → Homed word lists.lock (front ++ view_of who walk held owed ∷ back) → Known truths.holds word (standing_after h).row lists.lock flags
-      (front ++ view_of who walk held owed ∷ back) → Known truths.holds (word_taken taking word) (standing_after h).row lists.lock flags (front ++ view_of who walk' held owed ∷ back)) →
+      (NoneIs who front → Homed word lists.lock (around walk held owed) → Known truths.holds word (standing_after h).row lists.lock flags
+      (around walk held owed) → Known truths.holds (word_taken taking word) (standing_after h).row lists.lock flags (around walk' held owed)) →
       Groups truths seats h (st walk word row lists flags held owed) → Groups truths seats h (st walk' (word_taken taking word) row lists flags held owed)
   takes taking word row lists flags held owed idle none place pay a a' wait set stays knows p =
       let fit = fits word row held owed p.safe in
@@ -290,8 +293,7 @@ module _ {C : Type 0} {N : ℕ} (truths : Truths C) (seats : ℕ) (h : List (Eve
   -- a seat puts itself into the lock list, and puts the queues back
   pub enqueues : (mode : Mode) (arrival : Arrival) (word : Word) (row : List ℕ) (lists : Lists C) (flags : ℕ → ℕ) (held : Option (Held C N)) (owed : List Owed) → pays walk ≡ false →
       PlaceFits truths walk' held → pays walk' ≡ pays walk → has_queues walk ≡ true → has_queues walk' ≡ false → awaits walk ≡ false
-      → waits_in walk' ≡ Some (record { mode = mode; on = None; tries = tries_of arrival }) → has_armed walk ≡ true → has_armed walk' ≡ false → is_queuing walk ≡ true
-      → NoWay walk → Stays walk walk' held →
+      → waits_in walk' ≡ Some (record { mode = mode; on = None; tries = tries_of arrival }) → has_armed walk ≡ true → has_armed walk' ≡ false → is_queuing walk ≡ true → NoWay walk → Stays walk walk' held →
       let lock' = queued who mode None (tries_of arrival) (is_woken arrival) lists.lock in
       Groups truths seats h (st walk word row lists flags held owed) → Groups truths seats h (st walk' (word_returned false (bits_of lock') word) row (with_lock lists lock') flags held owed)
   enqueues mode arrival word row lists flags held owed idle place pay s s' a a' set set' q o stays p =
@@ -308,9 +310,8 @@ module _ {C : Type 0} {N : ℕ} (truths : Truths C) (seats : ℕ) (h : List (Eve
         own = own_queued front who walk held owed walk' held owed back mode None (tries_of arrival) (is_woken arrival) lists.lock apart (lock_nowhere lists none) (ap lock_stance a') p.own;
         told = tell_moves front who walk held owed walk' held owed back (standing_after h).phases (standing_after h).phases lists (with_lock lists lock') p.placed.four refl none (λ seat ne. refl) (waits_not lists _ p.placed.four none p.told) p.told;
         taken = told_enters front who walk held owed walk' held owed back (standing_after h).phases (standing_after h).phases flags lists.lock lock' (λ seat ne. refl) (lock_nowhere lists none) (unowed lists flags held owed apart a p.placed) (armed_now lists flags held owed apart set p.placed)
-            (λ due listed. due) (λ listed. listed_queued (WaiterNames (standing_after h).phases (front ++ view_of who walk' held owed ∷ back)) who mode None (tries_of arrival)
-            (is_woken arrival) lists.lock (subst (λ s. IsNamed s ((standing_after h).phases who) None)
-            (sym (ap waits_in (walk_here front (view_of who walk' held owed) back apart) ∙ a')) refl) listed) p.taken;
+            (λ due listed. due) (λ listed. listed_queued (WaiterNames (standing_after h).phases (around walk' held owed)) who mode None (tries_of arrival)
+            (is_woken arrival) lists.lock (subst (λ s. IsNamed s ((standing_after h).phases who) None) (sym (ap waits_in (walk_here front (view_of who walk' held owed) back apart) ∙ a')) refl) listed) p.taken;
         known = puts truths.holds front who walk held owed walk' held owed back mode None (tries_of arrival) (is_woken arrival) word (standing_after h).row lists.lock flags apart (calls word row held owed idle p.safe) q o p.known;
       }
 
@@ -327,7 +328,7 @@ module _ {C : Type 0} {N : ℕ} (truths : Truths C) (seats : ℕ) (h : List (Eve
       let here = placed_here front who walk None owed walk' None owed back lists flags apart p.placed in
       let most = one_most (is_unwoken walk (flags who)) in
       let flag : flags who ≡ 1 = due_flag walk (flags who) (omega (arith, here, most, stood)) in
-      let unowed : called_to who (front ++ view_of who walk None owed ∷ back) ≡ 0 = let few = called_most who (front ++ view_of who walk None owed ∷ back) in omega (arith, here, most, stood, few) in
+      let unowed : called_to who (around walk None owed) ≡ 0 = let few = called_most who (around walk None owed) in omega (arith, here, most, stood, few) in
       let placed = withdrawn front who walk None owed walk' None owed back lists (with_lock lists lock') (times_in who lists.lock) flags apart p.placed.four p.placed.once refl set'
       (omega (arith, counts_lock lists lock' who, gone)) (λ seat ne. let same = times_others seat who lists.lock ne in omega (arith, counts_lock lists lock' seat, same)) (λ some. a') (λ z. absurd (omega (arith, stood, z))) p.placed in
       let nowhere_now : times who (with_lock lists lock') ≡ 0 = counts_none who (with_lock lists lock') (omega (arith, counts_lock lists lock' who, gone, here, most, stood)) in
@@ -336,13 +337,13 @@ module _ {C : Type 0} {N : ℕ} (truths : Truths C) (seats : ℕ) (h : List (Eve
         homed = back_home front who walk None owed walk' None owed back word (word_returned false (bits_of lock') word) lists.lock lock' refl refl s s' p.homed;
         placed = placed;
         own = own_without front who walk None owed walk' None owed back lists.lock p.own;
-        told = let as_put = tell_lists (standing_after h).phases lists (with_lock lists lock') (front ++ view_of who walk None owed ∷ back) refl p.told in
+        told = let as_put = tell_lists (standing_after h).phases lists (with_lock lists lock') (around walk None owed) refl p.told in
             tell_moves front who walk None owed walk' None owed back (standing_after h).phases (standing_after h).phases (with_lock lists lock') (with_lock lists lock') p.placed.four refl nowhere_now (λ seat ne. refl) (waits_not (with_lock lists lock') _ p.placed.four nowhere_now as_put) as_put;
         taken = told_stays front who walk None owed walk' None owed back (standing_after h).phases (standing_after h).phases flags lists.lock lock'
             (left_stays front who walk None owed walk' None owed back (standing_after h).phases (standing_after h).phases apart (not_waiting (waits_in walk') a') (λ seat ne. refl))
-            (λ due listed. due) (λ listed. listed_without (WaiterNames (standing_after h).phases (front ++ view_of who walk' None owed ∷ back)) who lists.lock listed) p.taken;
+            (λ due listed. due) (λ listed. listed_without (WaiterNames (standing_after h).phases (around walk' None owed)) who lists.lock listed) p.taken;
         known = known_withdraws truths.holds front who walk None owed walk' None owed back word (standing_after h).row lists.lock lock' flags apart (calls word row None owed idle p.safe) s q q'
-            (λ f. absurd (both_ways (is_on_way walk 1 0) o (subst (λ n. is_on_way walk 1 n ≡ true) unowed (subst (λ n. is_on_way walk n (called_to who (front ++ view_of who walk None owed ∷ back)) ≡ true) flag f))))
+            (λ f. absurd (both_ways (is_on_way walk 1 0) o (subst (λ n. is_on_way walk 1 n ≡ true) unowed (subst (λ n. is_on_way walk n (called_to who (around walk None owed)) ≡ true) flag f))))
             (filter_eligible (meets_at truths (standing_after h).row) (λ w. not (is_of who w)) lists.lock) p.homed p.known;
       }
 
@@ -357,14 +358,13 @@ module _ {C : Type 0} {N : ℕ} (truths : Truths C) (seats : ℕ) (h : List (Eve
       (unchanged truths seats h front who walk owed walk' owed back word (word_returned false (bits_of lists.lock) word) row held held refl refl place (still_owes walk walk' owed idle pay fit.owes) (same_section walk walk' held stays) p.safe)
       (back_home front who walk held owed walk' held owed back word (word_returned false (bits_of lists.lock) word) lists.lock lists.lock refl refl s s' p.homed) (rested front who walk held owed walk' held owed back lists flags apart refl (due wait (flags who)) (λ f. absurd (cc)) p.placed)
       (known_withdraws truths.holds front who walk held owed walk' held owed back word (standing_after h).row lists.lock lists.lock flags apart
-      (calls word row held owed idle p.safe) s q q' (λ f. o (flags who) (called_to who (front ++ view_of who walk held owed ∷ back)) f) (λ e. e) p.homed p.known) p
+      (calls word row held owed idle p.safe) s q q' (λ f. o (flags who) (called_to who (around walk held owed)) f) (λ e. e) p.homed p.known) p
 
   -- a seat that leaves takes itself out of the lists of variables, and commits that
   pub leaves : (variables : Variables) (mode : Mode) (word : Word) (row : List ℕ) (lists : Lists C) (flags : ℕ → ℕ) (owed : List Owed) → seats ≤ 64 → pays walk ≡ false → 1 ≤ sum_by (times_in who) lists.cvs →
       waits_in walk ≡ Some (record { mode = mode; on = Some (OnVariables variables); tries = 0 }) →
       PlaceFits {C = C} {N = N} truths walk' None → pays walk' ≡ pays walk → has_queues walk ≡ true → has_queues walk' ≡ false → has_armed walk' ≡ false → is_queuing walk ≡ false
-      → is_queuing walk' ≡ false → awaits walk' ≡ false → is_on_way walk 1 0 ≡ false → IsExpected (phase_by walk') (Left variables mode) →
-      let lists' = cvs_left who lists in
+      → is_queuing walk' ≡ false → awaits walk' ≡ false → is_on_way walk 1 0 ≡ false → IsExpected (phase_by walk') (Left variables mode) → let lists' = cvs_left who lists in
       Groups truths seats h (st walk word row lists flags None owed) → Groups truths seats (h ++ left_event who variables ∷ []) (st walk' (word_returned false (bits_of lists.lock) word) row lists' flags None owed)
   leaves variables mode word row lists flags owed few idle stood wait place pay s s' set' q q' a' o phase p =
       let fit = fits word row None owed p.safe in
@@ -375,9 +375,9 @@ module _ {C : Type 0} {N : ℕ} (truths : Truths C) (seats : ℕ) (h : List (Eve
       let there = counts_somewhere who lists stood in
       let most = one_most (is_unwoken walk (flags who)) in
       let flag : flags who ≡ 1 = due_flag walk (flags who) (omega (arith, here, most, there)) in
-      let unowed : called_to who (front ++ view_of who walk None owed ∷ back) ≡ 0 = let less = called_most who (front ++ view_of who walk None owed ∷ back) in omega (arith, here, most, there, less) in
+      let unowed : called_to who (around walk None owed) ≡ 0 = let less = called_most who (around walk None owed) in omega (arith, here, most, there, less) in
       let stance = ap waits_in (walk_here front (view_of who walk None owed) back apart) ∙ wait in
-      let was = stands_still (standing_after h).phases lists (front ++ view_of who walk None owed ∷ back) who mode variables p.told four stance stood in
+      let was = stands_still (standing_after h).phases lists (around walk None owed) who mode variables p.told four stance stood in
       let row_same = left_same truths seats h who variables in
       record {
         safe = left_variables truths seats h front who walk owed walk' owed back variables mode word (word_returned false (bits_of lists.lock) word) row few was phase refl refl place (still_owes walk walk' owed idle pay fit.owes) p.safe;
@@ -388,10 +388,9 @@ module _ {C : Type 0} {N : ℕ} (truths : Truths C) (seats : ℕ) (h : List (Eve
         told = tell_leaves front who walk None owed walk' None owed back (standing_after h).phases (standing_after (h ++ left_event who variables ∷ [])).phases lists four
             (left_there truths seats h who variables) (λ j m e. let now_is : Left variables mode ≡ Waiting j m = sym (left_here truths seats h who variables mode was) ∙ e in absurd (cc)) p.told;
         taken = taken_gone None None owed (standing_after h).phases (standing_after (h ++ left_event who variables ∷ [])).phases flags lists.lock apart (not_waiting (waits_in walk') a') (left_there truths seats h who variables) p.taken;
-        known = subst (λ r. Known truths.holds (word_returned false (bits_of lists.lock) word) r lists.lock flags (front ++ view_of who walk' None owed ∷ back)) (sym row_same)
+        known = subst (λ r. Known truths.holds (word_returned false (bits_of lists.lock) word) r lists.lock flags (around walk' None owed)) (sym row_same)
             (known_withdraws truths.holds front who walk None owed walk' None owed back word (standing_after h).row lists.lock lists.lock flags apart (calls word row None owed idle p.safe) s q q'
-            (λ f. absurd (both_ways (is_on_way walk 1 0) o (subst (λ n. is_on_way walk 1 n ≡ true) unowed (subst (λ n. is_on_way walk n (called_to who (front ++ view_of who walk None owed ∷ back)) ≡ true) flag f))))
-            (λ e. e) p.homed p.known);
+            (λ f. absurd (both_ways (is_on_way walk 1 0) o (subst (λ n. is_on_way walk 1 n ≡ true) unowed (subst (λ n. is_on_way walk n (called_to who (around walk None owed)) ≡ true) flag f)))) (λ e. e) p.homed p.known);
       }
 
   -- ---- with a scan
@@ -428,17 +427,16 @@ module _ {C : Type 0} {N : ℕ} (truths : Truths C) (seats : ℕ) (h : List (Eve
         taken = told_stays front who walk held owed walk' None took back (standing_after h).phases (standing_after
             (h ++ section_of truths.holds who section_is Plain ∷ [])).phases flags lists.lock stay (left_stays front who walk held owed walk' None took back (standing_after h).phases
             (standing_after (h ++ section_of truths.holds who section_is Plain ∷ [])).phases apart (not_waiting (waits_in walk') a') (phases_there truths seats h who section_is Plain))
-            (λ due listed. listed_woken (standing_after (h ++ section_of truths.holds who section_is Plain ∷ [])).phases
-            (front ++ view_of who walk' None took ∷ back) meets lists.lock listed) (λ listed. listed_left
-            (WaiterNames (standing_after (h ++ section_of truths.holds who section_is Plain ∷ [])).phases (front ++ view_of who walk' None took ∷ back)) meets lists.lock listed) p.taken;
-        known = subst (λ r. Known truths.holds word' r stay flags (front ++ view_of who walk' None took ∷ back)) (sym fit.section.cells ∙ sym (row_left truths seats h who section_is Plain))
+            (λ due listed. listed_woken (standing_after (h ++ section_of truths.holds who section_is Plain ∷ [])).phases (around walk' None took) meets lists.lock listed) (λ listed. listed_left
+            (WaiterNames (standing_after (h ++ section_of truths.holds who section_is Plain ∷ [])).phases (around walk' None took)) meets lists.lock listed) p.taken;
+        known = subst (λ r. Known truths.holds word' r stay flags (around walk' None took)) (sym fit.section.cells ∙ sym (row_left truths seats h who section_is Plain))
             (known_scans truths.holds front who walk held owed walk' None took back releasing word (standing_after h).row row lists stay flags apart puts.had puts.unqueued puts.still puts.off_way owing refl puts.from (λ e. e) p.homed p.placed p.known);
       }
 
   -- The same with itself in the lock list, for a condition that is false. What it leaves of the sections is told, and the history after that.
   pub queues_scanned : (releasing : Releasing) (mode : Mode) (c : C) (again : Bool) (h' : List (Event C N)) (word : Word) (row : List ℕ) (lists : Lists C) (flags : ℕ → ℕ) (held : Option (Held C N)) (owed : List Owed) →
       let meets : C → Bool = meets_at truths row in let took = called_of (woken_of meets lists.lock) in let lock' = queued who mode (Some c) 0 again (left_of meets lists.lock) in let word' = word_released_returning releasing (has_some (woken_of meets lists.lock)) (bits_of lock') word in
-      truths.holds c row ≡ false → row ≡ (standing_after h').row → Safe truths seats h' word' row (front ++ view_of who walk' None took ∷ back) →
+      truths.holds c row ≡ false → row ≡ (standing_after h').row → Safe truths seats h' word' row (around walk' None took) →
       ((seat : ℕ) → who ≢ seat → (standing_after h').phases seat ≡ (standing_after h).phases seat) → ((vs : Variables) (m : Mode) → (standing_after h').phases who ≡ Waiting vs m → ⊥) →
       PutsBack walk walk' took → has_armed walk ≡ true → waits_in walk' ≡ Some (record { mode = mode; on = Some (OnCondition c); tries = 0 }) →
       Groups truths seats h (st walk word row lists flags held owed) → Groups truths seats h' (st walk' word' row (with_lock lists lock') flags None took)
@@ -458,11 +456,11 @@ module _ {C : Type 0} {N : ℕ} (truths : Truths C) (seats : ℕ) (h : List (Eve
         own = own_waited front who walk held owed walk' None took back meets mode (Some c) 0 again lists.lock apart (lock_nowhere lists none) (ap lock_stance a') p.own;
         told = tell_moves front who walk held owed walk' None took back (standing_after h).phases (standing_after h').phases lists (with_lock lists lock') p.placed.four refl none there idles p.told;
         taken = told_enters front who walk held owed walk' None took back (standing_after h).phases (standing_after h').phases flags lists.lock lock' there (lock_nowhere lists none) (unowed lists flags held owed apart puts.still p.placed) (armed_now lists flags held owed apart set p.placed)
-            (λ due listed. listed_woken (standing_after h').phases (front ++ view_of who walk' None took ∷ back) meets lists.lock listed)
-            (λ listed. listed_queued (WaiterNames (standing_after h').phases (front ++ view_of who walk' None took ∷ back)) who mode (Some c) 0 again (left_of meets lists.lock)
+            (λ due listed. listed_woken (standing_after h').phases (around walk' None took) meets lists.lock listed)
+            (λ listed. listed_queued (WaiterNames (standing_after h').phases (around walk' None took)) who mode (Some c) 0 again (left_of meets lists.lock)
             (subst (λ s. IsNamed s ((standing_after h').phases who) None) (sym (ap waits_in (walk_here front (view_of who walk' None took) back apart) ∙ a')) refl)
-            (listed_left (WaiterNames (standing_after h').phases (front ++ view_of who walk' None took ∷ back)) meets lists.lock listed)) p.taken;
-        known = subst (λ r. Known truths.holds word' r lock' flags (front ++ view_of who walk' None took ∷ back)) now
+            (listed_left (WaiterNames (standing_after h').phases (around walk' None took)) meets lists.lock listed)) p.taken;
+        known = subst (λ r. Known truths.holds word' r lock' flags (around walk' None took)) now
             (known_scans truths.holds front who walk held owed walk' None took back releasing word (standing_after h).row row lists lock' flags apart puts.had puts.unqueued puts.still puts.off_way owing refl puts.from
             (λ e. queued_eligible meets who mode c 0 again (left_of meets lists.lock) unmet e) p.homed p.placed p.known);
       }
@@ -472,8 +470,7 @@ module _ {C : Type 0} {N : ℕ} (truths : Truths C) (seats : ℕ) (h : List (Eve
       let meets : C → Bool = meets_at truths row in let lock' = queued who mode (Some c) 0 again (left_of meets lists.lock) in
       truths.holds c cells ≡ false → mode_released releasing ≡ mode → IsExpected (phase_by walk') (Cond c mode) →
       PlaceFits {C = C} {N = N} truths walk' None → PutsBack walk walk' (called_of (woken_of meets lists.lock)) → has_armed walk ≡ true → waits_in walk' ≡ Some (record { mode = mode; on = Some (OnCondition c); tries = 0 }) →
-      Groups truths seats h (st walk word row lists flags (Some (section mode entry before cells)) owed) →
-      Groups truths seats (h ++ section_of truths.holds who (section mode entry before cells) (CondWait c) ∷ [])
+      Groups truths seats h (st walk word row lists flags (Some (section mode entry before cells)) owed) → Groups truths seats (h ++ section_of truths.holds who (section mode entry before cells) (CondWait c) ∷ [])
       (st walk' (word_released_returning releasing (has_some (woken_of meets lists.lock)) (bits_of lock') word) row (with_lock lists lock') flags None (called_of (woken_of meets lists.lock)))
   waits releasing mode c again word row lists flags entry before cells owed few settled unmet is phase place puts set a' p =
       let meets : C → Bool = meets_at truths row in
@@ -541,17 +538,16 @@ module _ {C : Type 0} {N : ℕ} (truths : Truths C) (seats : ℕ) (h : List (Eve
         homed = back_home front who walk (Some held) owed walk' None took back word word' lists.lock lists'.lock refl refl puts.had puts.gave p.homed;
         placed = entered front who walk (Some held) owed walk' None took back lists lists' flags apart in_lists.four (once_entered variables who mode stay lists' p.placed.four are out in_lists p.placed.once) owing
             (λ seat. omega (arith, scan_parts meets lists seat, counts_entered variables who mode stay lists' p.placed.four are out in_lists seat)) set puts.still (ap is_some a') puts.unarmed p.placed;
-        own = subst (λ lock. WaitersOwn lock (front ++ view_of who walk' None took ∷ back)) (sym in_lists.lock) (own_scanned front who walk (Some held) owed walk' None took back meets lists.lock (lock_nowhere lists none) p.own);
+        own = subst (λ lock. WaitersOwn lock (around walk' None took)) (sym in_lists.lock) (own_scanned front who walk (Some held) owed walk' None took back meets lists.lock (lock_nowhere lists none) p.own);
         told = tell_enters front who walk (Some held) owed walk' None took back (standing_after h).phases (standing_after (h ++ section_of truths.holds who held exit ∷ [])).phases stay lists' variables mode apart p.placed.four are out in_lists a'
-            (phases_here truths seats h who held exit ∙ waits_now) (phases_there truths seats h who held exit) (tell_lists (standing_after h).phases lists stay (front ++ view_of who walk (Some held) owed ∷ back) refl p.told);
-        taken = subst (λ lock. TakenTold (standing_after (h ++ section_of truths.holds who held exit ∷ [])).phases flags lock (front ++ view_of who walk' None took ∷ back))
+            (phases_here truths seats h who held exit ∙ waits_now) (phases_there truths seats h who held exit) (tell_lists (standing_after h).phases lists stay (around walk (Some held) owed) refl p.told);
+        taken = subst (λ lock. TakenTold (standing_after (h ++ section_of truths.holds who held exit ∷ [])).phases flags lock (around walk' None took))
             (sym in_lists.lock) (told_enters front who walk (Some held) owed walk' None took back (standing_after h).phases
             (standing_after (h ++ section_of truths.holds who held exit ∷ [])).phases flags lists.lock (left_of meets lists.lock) (phases_there truths seats h who held exit) (lock_nowhere lists none)
             (unowed lists flags (Some held) owed apart puts.still p.placed) (armed_now lists flags (Some held) owed apart set p.placed)
-            (λ due listed. listed_woken (standing_after (h ++ section_of truths.holds who held exit ∷ [])).phases (front ++ view_of who walk' None took ∷ back) meets lists.lock listed)
-            (λ listed. listed_left (WaiterNames (standing_after (h ++ section_of truths.holds who held exit ∷ [])).phases
-            (front ++ view_of who walk' None took ∷ back)) meets lists.lock listed) p.taken);
-        known = subst (λ (x : List ℕ × List (Waiter C)). Known truths.holds (word_released_returning releasing (has_some (woken_of meets lists.lock)) (bits_of x.1) word) x.0 x.1 flags (front ++ view_of who walk' None took ∷ back)) (λ i. (row_is i, sym in_lists.lock i))
+            (λ due listed. listed_woken (standing_after (h ++ section_of truths.holds who held exit ∷ [])).phases (around walk' None took) meets lists.lock listed)
+            (λ listed. listed_left (WaiterNames (standing_after (h ++ section_of truths.holds who held exit ∷ [])).phases (around walk' None took)) meets lists.lock listed) p.taken);
+        known = subst (λ (x : List ℕ × List (Waiter C)). Known truths.holds (word_released_returning releasing (has_some (woken_of meets lists.lock)) (bits_of x.1) word) x.0 x.1 flags (around walk' None took)) (λ i. (row_is i, sym in_lists.lock i))
             (known_scans truths.holds front who walk (Some held) owed walk' None took back releasing word (standing_after h).row row lists (left_of meets lists.lock) flags apart puts.had puts.unqueued puts.still puts.off_way owing refl puts.from (λ e. e) p.homed p.placed p.known);
       }
 
@@ -560,8 +556,7 @@ module _ {C : Type 0} {N : ℕ} (truths : Truths C) (seats : ℕ) (h : List (Eve
   -- a seat pays a wake that it owes
   pub wakes : (word : Word) (row : List ℕ) (lists : Lists C) (flags : ℕ → ℕ) (held : Option (Held C N)) (wake : Owed) (rest : List Owed) → (calls_from_lock walk' ≡ calls_from_lock walk) ⊎ (rest ≡ []) →
       PlaceFits truths walk' held → pays walk' ≡ has_some rest → has_queues walk' ≡ has_queues walk → waits_in walk' ≡ waits_in walk → was_woken walk' ≡ was_woken walk → has_armed walk' ≡ false → is_queuing walk' ≡ is_queuing walk
-      → Stays walk walk' held →
-      Groups truths seats h (st walk word row lists flags held (wake ∷ rest)) → Groups truths seats h (st walk' word row lists (flags_with flags wake.seat wake.value) held rest)
+      → Stays walk walk' held → Groups truths seats h (st walk word row lists flags held (wake ∷ rest)) → Groups truths seats h (st walk' word row lists (flags_with flags wake.seat wake.value) held rest)
   wakes word row lists flags held wake rest same place pay spin a w set' q stays p =
       let apart = others word row held (wake ∷ rest) p.safe in
       let tells = (fits word row held (wake ∷ rest) p.safe).owes.1 in
@@ -605,8 +600,7 @@ module _ {C : Type 0} {N : ℕ} (truths : Truths C) (seats : ℕ) (h : List (Eve
   -- A call takes waiters from the list of a variable and puts the queues back: they are owed wakes, or stand at the back of the lock list, if the lock is held. What it takes, and that its event is legal, is told.
   pub wakes_waiters : (e : Event C N) (k : ℕ) (took : List (Waiter C)) (word : Word) (row : List ℕ) (lists : Lists C) (flags : ℕ → ℕ) (held : Option (Held C N)) (owed owed' : List Owed) (lock' : List (Waiter C)) (moved : Bool) → seats ≤ 64 → k < 4 → who_of e ≡ who →
       IsLegalEvent truths.holds (standing_after h) e → standing_next (standing_after h) e ≡ record { row = (standing_after h).row; phases = woken_phases k (taken_set took) (standing_after h).phases } →
-      ((seat : ℕ) → times_in seat took ≤ times_in seat (waiters_of lists (Cv k))) →
-      Every (VariableWaiterFits (standing_after h).phases (front ++ view_of who walk held owed ∷ back) k) took → pays walk ≡ false →
+      ((seat : ℕ) → times_in seat took ≤ times_in seat (waiters_of lists (Cv k))) → Every (VariableWaiterFits (standing_after h).phases (around walk held owed) k) took → pays walk ≡ false →
       -- moved, or owed
       ((moved ≡ true) × (is_held word ≡ true) × (has_some took ≡ true) × (lock' ≡ lists.lock ++ took) × (owed' ≡ [])) ⊎ ((moved ≡ false) × (lock' ≡ lists.lock) × (owed' ≡ wakes_of k took)) →
       PlaceFits truths walk' held → pays walk' ≡ has_some owed' → calls_from_lock walk' ≡ false ⊎ (owed' ≡ []) → has_queues walk ≡ true → has_queues walk' ≡ false
@@ -632,42 +626,38 @@ module _ {C : Type 0} {N : ℕ} (truths : Truths C) (seats : ℕ) (h : List (Eve
       let counts : (seat : ℕ) → counts_in seat lists' + times_among seat owed' ≡ counts_in seat lists = λ seat.
       let at_cv = counts_taken took k lists seat four low p.placed.once (part seat) in let at_lock = counts_lock put lock' seat in
       elim ways [
-        | inl move ↦
-            let more : times_in seat lock' ≡ times_in seat lists.lock + times_in seat took = ap (times_in seat) move.3 ∙ times_in-append seat lists.lock took in
+        | inl move ↦ let more : times_in seat lock' ≡ times_in seat lists.lock + times_in seat took = ap (times_in seat) move.3 ∙ times_in-append seat lists.lock took in
             let nothing : times_among seat owed' ≡ 0 = ap (times_among seat) move.4 in
             omega (arith, at_cv, at_lock, more, nothing)
-        | inr owe ↦
-            let same : times_in seat lock' ≡ times_in seat lists.lock = ap (times_in seat) owe.1 in
+        | inr owe ↦ let same : times_in seat lock' ≡ times_in seat lists.lock = ap (times_in seat) owe.1 in
             let due_now : times_among seat owed' ≡ times_in seat took = ap (times_among seat) owe.2 ∙ times_wakes seat k took in
             omega (arith, at_cv, at_lock, same, due_now)
       ] in
       record {
-        safe = woken truths seats h front who walk owed walk' owed' back e k word word' row held by legal (ap (λ (x : Standing C). x.row) after_it)
-            (λ seat. elim (cases_Bool (is_in (taken_set took) seat)) [
-              | inl in_it ↦ inr (
-                stands_waits k (standing_after h).phases took seat (waits_of (standing_after h).phases (front ++ view_of who walk held owed ∷ back) k took takes) (in_stands took seat in_it),
-                ap (λ (x : Standing C). x.phases seat) after_it ∙ ap (λ b. cond b (woken_phase k ((standing_after h).phases seat)) ((standing_after h).phases seat)) in_it,
-              )
-              | inr out_of_it ↦ inl (ap (λ (x : Standing C). x.phases seat) after_it ∙ ap (λ b. cond b (woken_phase k ((standing_after h).phases seat)) ((standing_after h).phases seat)) out_of_it)
-            ])
+        safe = woken truths seats h front who walk owed walk' owed' back e k word word' row held by legal (ap (λ (x : Standing C). x.row) after_it) (λ seat. elim (cases_Bool (is_in (taken_set took) seat)) [
+          | inl in_it ↦ inr (
+            stands_waits k (standing_after h).phases took seat (waits_of (standing_after h).phases (around walk held owed) k took takes) (in_stands took seat in_it),
+            ap (λ (x : Standing C). x.phases seat) after_it ∙ ap (λ b. cond b (woken_phase k ((standing_after h).phases seat)) ((standing_after h).phases seat)) in_it,
+          )
+          | inr out_of_it ↦ inl (ap (λ (x : Standing C). x.phases seat) after_it ∙ ap (λ b. cond b (woken_phase k ((standing_after h).phases seat)) ((standing_after h).phases seat)) out_of_it)
+        ])
             refl refl place (sym pay, wakes_told (calls_from_lock walk') k took owed' low (elim ways [ inl move ↦ inl move.4 | inr owe ↦ inr owe.2 ]) from) ((same_section walk walk' held stays).fits (standing_after h) row who) p.safe;
         homed = back_home front who walk held owed walk' held owed' back word word' lists.lock lock' refl refl s s' p.homed;
         placed = taken front who walk held owed walk' held owed' back lists lists' flags apart (length-map lists.cvs (outside (taken_set took)) ∙ four) (once_taken (taken_set took) lists four p.placed.once) owing counts (ap is_some a) (ap is_some a') set' p.placed;
         own = elim ways [
-          | inl move ↦ subst (λ ws. WaitersOwn ws (front ++ view_of who walk' held owed' ∷ back)) (sym move.3)
-              (own_same front who walk held owed walk' held owed' back (lists.lock ++ took) apart (a' ∙ sym a) (own_moved (standing_after h).phases (front ++ view_of who walk held owed ∷ back) k lists.lock took p.own takes))
-          | inr owe ↦ subst (λ ws. WaitersOwn ws (front ++ view_of who walk' held owed' ∷ back)) (sym owe.1) (own_same front who walk held owed walk' held owed' back lists.lock apart (a' ∙ sym a) p.own)
+          | inl move ↦ subst (λ ws. WaitersOwn ws (around walk' held owed')) (sym move.3)
+              (own_same front who walk held owed walk' held owed' back (lists.lock ++ took) apart (a' ∙ sym a) (own_moved (standing_after h).phases (around walk held owed) k lists.lock took p.own takes))
+          | inr owe ↦ subst (λ ws. WaitersOwn ws (around walk' held owed')) (sym owe.1) (own_same front who walk held owed walk' held owed' back lists.lock apart (a' ∙ sym a) p.own)
         ];
-        told = subst (λ ph. VariablesTell ph lists' (front ++ view_of who walk' held owed' ∷ back)) (sym phases)
-            (tell_taken front who walk held owed walk' held owed' back (standing_after h).phases lists lists' k took four none refl p.told);
-        taken = subst (λ ph. TakenTold ph flags lock' (front ++ view_of who walk' held owed' ∷ back)) (sym phases)
+        told = subst (λ ph. VariablesTell ph lists' (around walk' held owed')) (sym phases) (tell_taken front who walk held owed walk' held owed' back (standing_after h).phases lists lists' k took four none refl p.told);
+        taken = subst (λ ph. TakenTold ph flags lock' (around walk' held owed')) (sym phases)
             (told_wakes front who walk held owed walk' held owed' back (standing_after h).phases k took low takes apart (a' ∙ sym a) flags lists.lock lock' (elim ways [ inl move ↦ inl (move.3, move.4) | inr owe ↦ inr (owe.1, owe.2) ]) p.taken);
-        known = subst (λ r. Known truths.holds word' r lock' flags (front ++ view_of who walk' held owed' ∷ back)) (sym row_same) (elim ways [
-          | inl move ↦ subst (λ b. Known truths.holds (word_returned b (bits_of lock') word) (standing_after h).row lock' flags (front ++ view_of who walk' held owed' ∷ back)) (sym move.0)
-              (subst (λ ws. Known truths.holds (word_returned true (bits_of ws) word) (standing_after h).row ws flags (front ++ view_of who walk' held owed' ∷ back)) (sym move.3)
+        known = subst (λ r. Known truths.holds word' r lock' flags (around walk' held owed')) (sym row_same) (elim ways [
+          | inl move ↦ subst (λ b. Known truths.holds (word_returned b (bits_of lock') word) (standing_after h).row lock' flags (around walk' held owed')) (sym move.0)
+              (subst (λ ws. Known truths.holds (word_returned true (bits_of ws) word) (standing_after h).row ws flags (around walk' held owed')) (sym move.3)
               (known_moves truths.holds front who walk held owed walk' held owed' back word (standing_after h).row lists.lock took flags apart no_calls s q q' o move.1 move.2 p.homed p.known))
-          | inr owe ↦ subst (λ b. Known truths.holds (word_returned b (bits_of lock') word) (standing_after h).row lock' flags (front ++ view_of who walk' held owed' ∷ back)) (sym owe.0)
-              (subst (λ ws. Known truths.holds (word_returned false (bits_of ws) word) (standing_after h).row ws flags (front ++ view_of who walk' held owed' ∷ back)) (sym owe.1)
-              (known_withdraws truths.holds front who walk held owed walk' held owed' back word (standing_after h).row lists.lock lists.lock flags apart no_calls s q q' (λ f. o (flags who) (called_to who (front ++ view_of who walk held owed ∷ back)) f) (λ x. x) p.homed p.known))
+          | inr owe ↦ subst (λ b. Known truths.holds (word_returned b (bits_of lock') word) (standing_after h).row lock' flags (around walk' held owed')) (sym owe.0)
+              (subst (λ ws. Known truths.holds (word_returned false (bits_of ws) word) (standing_after h).row ws flags (around walk' held owed')) (sym owe.1)
+              (known_withdraws truths.holds front who walk held owed walk' held owed' back word (standing_after h).row lists.lock lists.lock flags apart no_calls s q q' (λ f. o (flags who) (called_to who (around walk held owed)) f) (λ x. x) p.homed p.known))
         ]);
       }
