@@ -22,6 +22,10 @@ use Rattle.ns_word.specs.declared.request.Request.TheVariants.{Release}
 use Rattle.ns_word.proofs.Stepping.{place_at, step_fits}
 use Rattle.ns_model.specs.declared.event.Exit.TheVariants as TheExit
 
+-- a wait by its parts, so that what it is for may be known
+abbrev wait_for : {C : Type 0} → Mode → Subject C → Limits → Wait C
+wait_for mode on limits = record { mode = mode; on = on; limits = limits }
+
 module _ (C : Type 0) (N : ℕ) (truths : Truths C) (seat : ℕ) (row : List ℕ) where
   -- where a step leads, but for what was asked
   abbrev Comes : Request C → Course C N → Next C → Option (Held C N) → Type 0
@@ -166,9 +170,9 @@ module _ (C : Type 0) (N : ℕ) (truths : Truths C) (seat : ℕ) (row : List ℕ
   may_end cvs limits looked (Ended cause) given shown so = (cause, given, shown)
 
   -- a wait that came back has acquired
-  comes_back : (request : Request C) (course : Course C N) (mode : Mode) (on : Subject C) (limits : Limits) (outcome : Outcome) (held : Option (Held C N)) (cells : List ℕ) → let wait : Wait C = record { mode = mode; on = on; limits = limits } in
+  comes_back : (request : Request C) (course : Course C N) (mode : Mode) (on : Subject C) (limits : Limits) (outcome : Outcome) (held : Option (Held C N)) (cells : List ℕ) → let wait = wait_for mode on limits in
       request ≡ Await wait → cells ≡ row → held ≡ Some (newly_held (ForWait wait outcome) cells) → MayShow limits (cause_in outcome) → OutcomeFits on outcome → IsComing truths seat wait outcome course → Comes request course (back_with N on wait outcome) held
-  comes_back request course mode (OnCondition c) limits outcome held cells asked same e given so coming = test_so_far course held (record { mode = mode; on = OnCondition c; limits = limits }) (OnReturn outcome) 0 coming
+  comes_back request course mode (OnCondition c) limits outcome held cells asked same e given so coming = test_so_far course held (wait_for mode (OnCondition c) limits) (OnReturn outcome) 0 coming
   comes_back request course mode (OnVariables (Only k)) limits outcome held cells asked same e given so coming =
       subst (λ r. Means truths seat row r course (Answered (answer_of_wait outcome)) held) (sym asked) (subst (λ h. InHand h (λ back. VariableWaitMeans truths seat row mode k limits course (answer_of_wait outcome) back)) (sym e)
       (record {
@@ -372,11 +376,11 @@ module _ (C : Type 0) (N : ℕ) (truths : Truths C) (seat : ℕ) (row : List ℕ
     cells_on _ _ e fits was = absurd e
 
     -- a wait tests its condition
-    tested_on : (mode : Mode) (on : Subject C) (limits : Limits) (visit : Visit) (i : ℕ) (found : Found) → let wait : Wait C = record { mode = mode; on = on; limits = limits } in
+    tested_on : (mode : Mode) (on : Subject C) (limits : Limits) (visit : Visit) (i : ℕ) (found : Found) → let wait = wait_for mode on limits in
         Effect truths seat (judge_of on i) part found next commits → WaitFits truths wait (TestLast visit i) part.held → MayShow limits (cause_by visit) → TestsSoFar truths seat wait visit course part.held →
         Comes (Await wait) (course_after found commits course) (got_waiting N wait (TestLast visit i) found) next.held
     tested_on mode (OnCondition c) limits visit i (Tested is_met) e fits given so_far =
-        let wait : Wait C = record { mode = mode; on = OnCondition c; limits = limits } in
+        let wait = wait_for mode (OnCondition c) limits in
         finds (Await wait) (Tested is_met) _ refl (held_in part e.3) e.4 (either (Await wait) course part.held (λ n. n) is_met (Done (Answered Met)) (unmet_by wait visit)
         (λ b. met_comes mode c limits visit course part.held e.0 e.1 (sym e.2 ∙ b) fits.0 (stands.starts e.4 e.0 e.1) so_far)
         (λ b. unmet_comes mode c limits visit course part.held e.0 e.1 (sym e.2 ∙ b) fits.0 given (stands.starts e.4 e.0 e.1) so_far))
@@ -393,31 +397,31 @@ module _ (C : Type 0) (N : ℕ) (truths : Truths C) (seat : ℕ) (row : List ℕ
     untold (OnVariables (Any cvs)) = refl
 
     -- a wait looks before it queues
-    looks_on : (mode : Mode) (on : Subject C) (limits : Limits) (again : Bool) (shown : Option Cause) → let wait : Wait C = record { mode = mode; on = on; limits = limits } in
+    looks_on : (mode : Mode) (on : Subject C) (limits : Limits) (again : Bool) (shown : Option Cause) → let wait = wait_for mode on limits in
         Effect truths seat (Look limits again) part (Looked shown) next commits → CanWait truths wait again part.held → IsForCondition on → QueuesSoFar truths seat wait again course part.held →
         Comes (Await wait) (course_after (Looked shown) commits course) (got_queuing N wait again LookIn (Looked shown)) next.held
     looks_on mode on limits false None e can for so_far = (still_unchanged (Looked None) commits course part.held next.held (ap (λ p. p.held) e.1) e.2 so_far, looked_none on limits)
-    looks_on mode on limits true None e can for so_far = (still_left (record { mode = mode; on = on; limits = limits }) None (Looked None) commits course e.2 so_far, looked_none on limits)
+    looks_on mode on limits true None e can for so_far = (still_left (wait_for mode on limits) None (Looked None) commits course e.2 so_far, looked_none on limits)
     looks_on mode (OnVariables variables) limits again (Some cause) e can for so_far = absurd for
     looks_on mode (OnCondition c) limits again (Some cause) e can for so_far = go part.held refl can
       where
-        so : (b : Bool) → QueuesSoFar truths seat (record { mode = mode; on = OnCondition c; limits = limits }) b course part.held → QueuesSoFar truths seat (record { mode = mode; on = OnCondition c; limits = limits }) b (course_after (Looked (Some cause)) commits course) part.held
+        so : (b : Bool) → QueuesSoFar truths seat (wait_for mode (OnCondition c) limits) b course part.held → QueuesSoFar truths seat (wait_for mode (OnCondition c) limits) b (course_after (Looked (Some cause)) commits course) part.held
         so false was = still_unchanged (Looked (Some cause)) commits course part.held part.held refl e.2 was
-        so true left = still_left (record { mode = mode; on = OnCondition c; limits = limits }) None (Looked (Some cause)) commits course e.2 left
+        so true left = still_left (wait_for mode (OnCondition c) limits) None (Looked (Some cause)) commits course e.2 left
 
-        go : (held : Option (Held C N)) → part.held ≡ held → CanWait truths (record { mode = mode; on = OnCondition c; limits = limits }) again held →
-            Means truths seat row (Await (record { mode = mode; on = OnCondition c; limits = limits })) (course_after (Looked (Some cause)) commits course) (Answered (answer_of cause)) next.held
+        go : (held : Option (Held C N)) → part.held ≡ held → CanWait truths (wait_for mode (OnCondition c) limits) again held →
+            Means truths seat row (Await (wait_for mode (OnCondition c) limits)) (course_after (Looked (Some cause)) commits course) (Answered (answer_of cause)) next.held
         go None is may = absurd may
         go (Some section) is may =
             shown_comes mode c limits again cause (course_after (Looked (Some cause)) commits course) part.held next.held section is (ap (λ p. p.held) e.1) may e.0 (stands.starts e.2 section is) refl (so again so_far)
 
     -- a wait queues, and leaves its section; one that queues again says nothing of it
-    queued_on : (mode : Mode) (on : Subject C) (limits : Limits) (again : Bool) (last : Word) (owes : Bool) (tests : ℕ) → let wait : Wait C = record { mode = mode; on = on; limits = limits } in
+    queued_on : (mode : Mode) (on : Subject C) (limits : Limits) (again : Bool) (last : Word) (owes : Bool) (tests : ℕ) → let wait = wait_for mode on limits in
         Effect truths seat (WaitReturning wait again last) part (Scanned owes tests) next commits → CanWait truths wait again part.held → QueuesSoFar truths seat wait again course part.held →
         HasLeft truths seat wait None (course_after (Scanned owes tests) commits course)
-    queued_on mode on limits true last owes tests e can so_far = still_left (record { mode = mode; on = on; limits = limits }) None (Scanned owes tests) commits course e.7 so_far
+    queued_on mode on limits true last owes tests e can so_far = still_left (wait_for mode on limits) None (Scanned owes tests) commits course e.7 so_far
     queued_on mode on limits false last owes tests e can so_far =
-        let may : MayWait truths (record { mode = mode; on = on; limits = limits }) false e.0 = subst (λ held. CanWait truths (record { mode = mode; on = on; limits = limits }) false held) e.1 can in
+        let may : MayWait truths (wait_for mode on limits) false e.0 = subst (λ held. CanWait truths (wait_for mode on limits) false held) e.1 can in
         record {
           was = e.0;
           began = sym so_far.same ∙ e.1;
@@ -441,7 +445,7 @@ module _ (C : Type 0) (N : ℕ) (truths : Truths C) (seat : ℕ) (row : List ℕ
     queues_on wait again _ _ e can fits so_far = absurd e
 
     -- a wait takes itself from its list, or was taken before
-    withdrawn_on : (mode : Mode) (on : Subject C) (limits : Limits) (cause : Cause) (last : Word) (stood : Bool) → let wait : Wait C = record { mode = mode; on = on; limits = limits } in
+    withdrawn_on : (mode : Mode) (on : Subject C) (limits : Limits) (cause : Cause) (last : Word) (stood : Bool) → let wait = wait_for mode on limits in
         Effect truths seat (ReturnQueues (LeaveSelf (home_of on)) last) part (Left stood) next commits → HasLeft truths seat wait None course × (course.looked ≡ Some (Some cause)) →
         Comes (Await wait) (course_after (Left stood) commits course) (got_leaving wait cause (Leave last) (Left stood)) next.held
     withdrawn_on mode on limits cause last stood e so_far = go stood on (e.3 ∙ ap (leave_of seat (home_of on)) same) so_far.0
@@ -453,11 +457,11 @@ module _ (C : Type 0) (N : ℕ) (truths : Truths C) (seat : ℕ) (row : List ℕ
         left_of (Only k) = refl
         left_of (Any cvs) = refl
 
-        go : (stood : Bool) (on : Subject C) → commits ≡ leave_of seat (home_of on) stood → HasLeft truths seat (record { mode = mode; on = on; limits = limits }) None course →
-            Comes (Await (record { mode = mode; on = on; limits = limits })) (course_after (Left stood) commits course) (got_leaving (record { mode = mode; on = on; limits = limits }) cause (Leave last) (Left stood)) next.held
+        go : (stood : Bool) (on : Subject C) → commits ≡ leave_of seat (home_of on) stood → HasLeft truths seat (wait_for mode on limits) None course →
+            Comes (Await (wait_for mode on limits)) (course_after (Left stood) commits course) (got_leaving (wait_for mode on limits) cause (Leave last) (Left stood)) next.held
         go true (OnCondition c) silent left =
-            let ended : HasLeft truths seat (record { mode = mode; on = OnCondition c; limits = limits }) (Some cause) course = record { was = left.was; began = left.began; mode = left.mode; unmet = left.unmet; committed = left.committed } in
-            record { left = still_left (record { mode = mode; on = OnCondition c; limits = limits }) (Some cause) (Left true) commits course silent ended; shown = so_far.1 }
+            let ended : HasLeft truths seat (wait_for mode (OnCondition c) limits) (Some cause) course = record { was = left.was; began = left.began; mode = left.mode; unmet = left.unmet; committed = left.committed } in
+            record { left = still_left (wait_for mode (OnCondition c) limits) (Some cause) (Left true) commits course silent ended; shown = so_far.1 }
         go true (OnVariables variables) told left = record {
           left = record {
             was = left.was;
@@ -469,11 +473,11 @@ module _ (C : Type 0) (N : ℕ) (truths : Truths C) (seat : ℕ) (row : List ℕ
           };
           shown = so_far.1;
         }
-        go false (OnCondition c) silent left = (still_left (record { mode = mode; on = OnCondition c; limits = limits }) None (Left false) commits course silent left, so_far.1)
-        go false (OnVariables variables) silent left = (still_left (record { mode = mode; on = OnVariables variables; limits = limits }) None (Left false) commits course (silent ∙ not_left C N seat (AtVariables variables)) left, so_far.1)
+        go false (OnCondition c) silent left = (still_left (wait_for mode (OnCondition c) limits) None (Left false) commits course silent left, so_far.1)
+        go false (OnVariables variables) silent left = (still_left (wait_for mode (OnVariables variables) limits) None (Left false) commits course (silent ∙ not_left C N seat (AtVariables variables)) left, so_far.1)
 
     -- one that was taken from its list before it could leave: a wait for a condition was ended all the same
-    taken_comes : (mode : Mode) (on : Subject C) (limits : Limits) (cause : Cause) (flag : ℕ) → let wait : Wait C = record { mode = mode; on = on; limits = limits } in
+    taken_comes : (mode : Mode) (on : Subject C) (limits : Limits) (cause : Cause) (flag : ℕ) → let wait = wait_for mode on limits in
         HasLeft truths seat wait None course × (course.looked ≡ Some (Some cause)) → IsComing truths seat wait (outcome_taken on cause flag) course
     taken_comes mode (OnCondition c) limits cause flag so_far = record { left = record { was = so_far.0.was; began = so_far.0.began; mode = so_far.0.mode; unmet = so_far.0.unmet; committed = so_far.0.committed }; shown = so_far.1 }
     taken_comes mode (OnVariables variables) limits cause flag so_far = record { left = so_far.0; shown = tt }
