@@ -1,14 +1,13 @@
 -- What a call owes once it is over, whom it wakes, and when it looks and acquires as woken.
 use Rattle.std.specs.Prelude.{slice_get}
-use Rattle.std.proofs.Common.{◌≡◌, ◌⊎◌, inl, inr, ℕ, ◌≤◌, ◌<◌, arith, Bool, true, false, cond, suc, take, drop, List, [], ◌∷◌, length, None, Some, refl, ap, sym, ◌∙◌, subst}
-use Rattle.std.proofs.lemmas.List.{get_or-map}
+use Rattle.std.proofs.Common.{◌≡◌, ◌⊎◌, inl, inr, ℕ, ◌≤◌, ◌<◌, Bool, true, false, cond, suc, take, drop, List, [], ◌∷◌, length, None, Some, refl, ap, sym, ◌∙◌, subst}
 use Rattle.ns_word.specs.Prelude.{Await, AwaitWakeInWait, Broadcasting, Cv, EachFits, Effect, Event, Every, Flag}
 use Rattle.ns_word.specs.Prelude.{ForLock, Found, Idle, InAcquire, InCells, InQueuing, InSignal, InWait, IsLawful, Left, Limits, Lists, LockState, Look, LookIn, LookOut}
 use Rattle.ns_word.specs.Prelude.{Made, On, Paid, Part, PayTheWoken, PlaceFits, QuietCells, QuietLast}
 use Rattle.ns_word.specs.Prelude.{Saw, SeatView, SignalLoad, SignalPlace, Signaling, Step, TakeToWake, Tells}
 use Rattle.ns_word.specs.Prelude.{ToTell, Truths, Wait, Waiter, Wake, WakeAndReturn, WakeWaiters, Waking, Walk, Woke, Word, asked_of}
 use Rattle.ns_word.specs.Prelude.{calls_from_lock, changed, cvs_without, got_of, has_come_back, is_held, is_limited}
-use Rattle.ns_word.specs.Prelude.{kept_by, moved_to, outside, part_of, pays, standing_after, taken_by, taken_set, times_in, waiters_of, wake_of, walk_after}
+use Rattle.ns_word.specs.Prelude.{kept_by, outside, part_of, pays, standing_after, taken_by, taken_set, times_in, waiters_of, wake_of, walk_after}
 use Rattle.ns_word.specs.Prelude.{want_of, want_signaling, was_woken}
 use Rattle.ns_queue.proofs.Outside.{broadcast_outside, signal_outside}
 use Rattle.ns_word.proofs.CountsIn.{OnceInEach, moved_at, taken_at}

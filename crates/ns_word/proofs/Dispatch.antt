@@ -7,11 +7,11 @@ use Rattle.ns_word.specs.Prelude.{AcquireExchange, AcquireLoad, Aim, AimFits, Ar
 use Rattle.ns_word.specs.Prelude.{ForLock, ForWait, Found, GetLoad, HasMode, HasNumber, Held, Idle, InAcquire, InCells, InLeaving, InQueuing, InRelease, InShow, InSignal, InTry, InWait, IsExpected, IsInRange, IsLawful, IsLeft, IsLegalEvent, IsSettled, IsSettledBy, IsToldSo, Leave, LeaveLoad, Left}
 use Rattle.ns_word.specs.Prelude.{Limits, Load, LoadToScan, LockState, LookIn, LookOut, Looked, Made, MayShow, MayWait, Mode, Next, NoneIs, On, OnCondition, OnVariables, Outcome, OutcomeFits, Owed, Paid, Part, Pay, PayInWait, PayTheWoken, Phase, PlaceFits, Plain, Queue, QueueToWait, Quiet}
 use Rattle.ns_word.specs.Prelude.{QuietCells, QuietKeeps, QuietLast, QuietWriter, Read, ReleaseExchange, ReleaseLoad, Releasing, ReturnQueues, ReturnShown, Saw, ScanAndRelease, ScanCells, Scanned, SeatView, SetLoad, SetStore, ShowLoad, ShowPlace, SignalLoad, SignalPlace, Signaling, Step, Subject}
-use Rattle.ns_word.specs.Prelude.{Take, TakeToLeave, TakeToQueue, TakeToScan, TakeToShow, TakeToWake, Taking, Tells, TestCells, TestLast, Tested, ToChange, ToQueue, ToldOn, Truths, TryAcquire, TryLoad, VariableWaiterFits, Visit, Wait, WaitPlace, WaitReturning, Waiter, Waiting, WakeAndReturn}
+use Rattle.ns_word.specs.Prelude.{Take, TakeToLeave, TakeToQueue, TakeToScan, TakeToShow, TakeToWake, Taking, TestCells, TestLast, Tested, ToChange, ToQueue, ToldOn, Truths, TryAcquire, TryLoad, VariableWaiterFits, Visit, Wait, WaitPlace, WaitReturning, Waiter, Waiting, WakeAndReturn}
 use Rattle.ns_word.specs.Prelude.{WakeWaiters, Waking, Walk, Woke, Word, Write, acquired_for, armed_place, arrival_of, awaits, bits_of, called_of, calls_from_lock, cause_in, change_found, changed, counts_in, cvs_without, exit_for, expected_for, flags_with, got_leaving, got_of, got_showing}
 use Rattle.ns_word.specs.Prelude.{got_signaling, got_waiting, has, has_armed, has_queues, has_some, held_after, home_of, is_from_lock, is_held, is_on_way, is_queuing, is_woken, judge_of, kept_by, leave_of, left_of, may_acquire, meets_at, mode_for, mode_released, moved_to, moves, needs_scan}
 use Rattle.ns_word.specs.Prelude.{newly_held, opening_for, outcome_taken, owed_after, pay_releasing, pay_waiting, pay_woken, pays, phase_before, phase_by, phase_for, phase_kept, place_awaits, queued, releasing_of, rest_or_look, row_in, section_of, standing_after, standing_next, stands_at}
-use Rattle.ns_word.specs.Prelude.{taken_by, taken_set, times_among, times_in, tries_of, variable_told, wait_has_queues, waited_in, waiters_of, waits_in, wake_of, wakes_of, walk_after, want_of, want_showing, want_signaling, want_waiting, was_woken, who_of, with_lock, without, without_in, woken_by}
+use Rattle.ns_word.specs.Prelude.{taken_by, taken_set, times_in, tries_of, variable_told, wait_has_queues, waited_in, waiters_of, waits_in, wake_of, wakes_of, walk_after, want_of, want_showing, want_signaling, want_waiting, was_woken, who_of, with_lock, without, without_in, woken_by}
 use Rattle.ns_word.specs.Prelude.{woken_of, woken_phases, word_acquired, word_released, word_released_returning, word_returned, word_seen, word_taken}
 use Rattle.ns_model.specs.declared.phase.Phase.TheVariants.{Woken}
 use Rattle.ns_model.proofs.Tallies.{every_parts, every_join}
@@ -19,7 +19,7 @@ use Rattle.ns_queue.proofs.Taken.{times_signaled, every_signaled}
 use Rattle.ns_queue.proofs.Wakes.{signal_legal, broadcast_legal}
 use Rattle.ns_word.proofs.Listed.{none_of}
 use Rattle.ns_word.proofs.Groups.{Homed, Known, Groups, groups_of, lawful_by}
-use Rattle.ns_word.proofs.Knows.{nothing_called, rests as known_rests, takes as known_takes}
+use Rattle.ns_word.proofs.Knows.{rests as known_rests, takes as known_takes}
 use Rattle.ns_word.proofs.Views.{apart_parts, view_of, each_parts, walk_here}
 use Rattle.ns_word.proofs.Leaving.{left_event, left_told, not_left}
 use Rattle.ns_word.proofs.Variables.{are_waiting}

@@ -80,7 +80,7 @@ pub record Follows {C : Type 0} (walk : Walk C) (found : Found) (next : Next C) 
   pub woken : was_woken (walk_after next) ≡ true → (was_woken (Some walk) ≡ true) ⊎ FoundCalled walk found
   pub ends : (is_over next && not (may_end walk found)) ≡ false
 
--- what most ways keep: what was asked, and what ends it early; then whether the place is of a wait that has come back, or of one that was woken
+-- What was asked, and what ends the wait early; whether the place is of a wait that has come back, and whether of one that was woken; and whether the call is over where it goes on. Most ways are told by these alone.
 abbrev Facts : Type 0 → Type 0
 Facts C = Request C × Option Cause × Bool × Bool × Bool
 
@@ -95,6 +95,7 @@ called_values v said = elim (cases_eq v 0) [
 ]
 
 module _ {C : Type 0} where
+  -- a way of which that is so, and what else has to be known of it
   tells_so : {walk : Walk C} {found : Found} {next : Next C} (back woken : Bool) → tells walk found next ≡ (asked_of walk, cause_kept walk, back, woken, false) → (has_come_back walk ≡ false → acquires walk found ≡ false → back ≡ false) →
       (woken ≡ true → (was_woken (Some walk) ≡ true) ⊎ FoundCalled walk found) → (FoundFits found → HasNumber (word_seen (Some walk)) → HasNumber (word_seen (walk_after next))) → Follows walk found next
   tells_so back woken e stays called word = record {
@@ -114,6 +115,7 @@ module _ {C : Type 0} where
   stays : (walk : Walk C) (found : Found) → Follows walk found (On walk)
   stays walk found = record { asked = refl; word = λ f p. p; cause = inl refl; back = λ out none. out; woken = λ was. inl was; ends = refl }
 
+  -- either of two ways
   either : {A : Type 0} {walk : Walk C} {found : Found} (go : A → Next C) (b : Bool) (one other : A) → Follows walk found (go one) → Follows walk found (go other) → Follows walk found (go (cond b one other))
   either go true one other p q = p
   either go false one other p q = q

@@ -315,6 +315,16 @@ module _ {C : Type 0} {N : ℕ} (truths : Truths C) (seats : ℕ) (h : List (Eve
         known = puts truths.holds front who walk held owed walk' held owed back mode None (tries_of arrival) (is_woken arrival) word (standing_after h).row lists.lock flags apart (calls word row held owed idle p.safe) q o p.known;
       }
 
+  -- one that leaves and stands somewhere stands there once, and isn't on its way: its flag is set, and no wake is owed to it
+  still_stands : (lists : Lists C) (flags : ℕ → ℕ) (owed : List Owed) → NoneIs who front → 1 ≤ counts_in who lists → WaitersPlaced lists flags (around walk None owed) → is_on_way walk 1 0 ≡ false →
+      (counts_in who lists ≡ 1) × (is_on_way walk (flags who) (called_to who (around walk None owed)) ≡ false)
+  still_stands lists flags owed apart stood p o =
+      let here = placed_here front who walk None owed walk' None owed back lists flags apart p in
+      let most = one_most (is_unwoken walk (flags who)) in
+      let flag : flags who ≡ 1 = due_flag walk (flags who) (omega (arith, here, most, stood)) in
+      let unowed : called_to who (around walk None owed) ≡ 0 = let few = called_most who (around walk None owed) in omega (arith, here, most, stood, few) in
+      (omega (arith, here, most, stood), (λ i. is_on_way walk (flag i) (unowed i)) ∙ o)
+
   -- a seat that leaves takes itself out of the lock list
   pub withdraws : (word : Word) (row : List ℕ) (lists : Lists C) (flags : ℕ → ℕ) (owed : List Owed) → pays walk ≡ false → 1 ≤ times_in who lists.lock →
       PlaceFits {C = C} {N = N} truths walk' None → pays walk' ≡ pays walk → has_queues walk ≡ true → has_queues walk' ≡ false → has_armed walk' ≡ false → is_queuing walk ≡ false → is_queuing walk' ≡ false → awaits walk' ≡ false → is_on_way walk 1 0 ≡ false → phase_by walk' ≡ phase_by walk →
@@ -325,13 +335,10 @@ module _ {C : Type 0} {N : ℕ} (truths : Truths C) (seats : ℕ) (h : List (Eve
       let apart = others word row None owed p.safe in
       let lock' = without_in who lists.lock in
       let gone : times_in who lock' ≡ 0 = times_without who lists.lock in
-      let here = placed_here front who walk None owed walk' None owed back lists flags apart p.placed in
-      let most = one_most (is_unwoken walk (flags who)) in
-      let flag : flags who ≡ 1 = due_flag walk (flags who) (omega (arith, here, most, stood)) in
-      let unowed : called_to who (around walk None owed) ≡ 0 = let few = called_most who (around walk None owed) in omega (arith, here, most, stood, few) in
+      let stands = still_stands lists flags owed apart (omega (arith, stood)) p.placed o in
       let placed = withdrawn front who walk None owed walk' None owed back lists (with_lock lists lock') (times_in who lists.lock) flags apart p.placed.four p.placed.once refl set'
       (omega (arith, counts_lock lists lock' who, gone)) (λ seat ne. let same = times_others seat who lists.lock ne in omega (arith, counts_lock lists lock' seat, same)) (λ some. a') (λ z. absurd (omega (arith, stood, z))) p.placed in
-      let nowhere_now : times who (with_lock lists lock') ≡ 0 = counts_none who (with_lock lists lock') (omega (arith, counts_lock lists lock' who, gone, here, most, stood)) in
+      let nowhere_now : times who (with_lock lists lock') ≡ 0 = counts_none who (with_lock lists lock') (omega (arith, counts_lock lists lock' who, gone, stands.0, stood)) in
       record {
         safe = unchanged truths seats h front who walk owed walk' owed back word (word_returned false (bits_of lock') word) row None None refl refl place (still_owes walk walk' owed idle pay fit.owes) (same_section walk walk' None (λ none. stays)) p.safe;
         homed = back_home front who walk None owed walk' None owed back word (word_returned false (bits_of lock') word) lists.lock lock' refl refl s s' p.homed;
@@ -343,7 +350,7 @@ module _ {C : Type 0} {N : ℕ} (truths : Truths C) (seats : ℕ) (h : List (Eve
             (left_stays front who walk None owed walk' None owed back (standing_after h).phases (standing_after h).phases apart (not_waiting (waits_in walk') a') (λ seat ne. refl))
             (λ due listed. due) (λ listed. listed_without (WaiterNames (standing_after h).phases (around walk' None owed)) who lists.lock listed) p.taken;
         known = known_withdraws truths.holds front who walk None owed walk' None owed back word (standing_after h).row lists.lock lock' flags apart (calls word row None owed idle p.safe) s q q'
-            (λ f. absurd (both_ways (is_on_way walk 1 0) o (subst (λ n. is_on_way walk 1 n ≡ true) unowed (subst (λ n. is_on_way walk n (called_to who (around walk None owed)) ≡ true) flag f))))
+            (λ f. absurd (both_ways (is_on_way walk (flags who) (called_to who (around walk None owed))) stands.1 f))
             (filter_eligible (meets_at truths (standing_after h).row) (λ w. not (is_of who w)) lists.lock) p.homed p.known;
       }
 
@@ -371,11 +378,8 @@ module _ {C : Type 0} {N : ℕ} (truths : Truths C) (seats : ℕ) (h : List (Eve
       let apart = others word row None owed p.safe in
       let lists' = cvs_left who lists in
       let four = p.placed.four in
-      let here = placed_here front who walk None owed walk' None owed back lists flags apart p.placed in
       let there = counts_somewhere who lists stood in
-      let most = one_most (is_unwoken walk (flags who)) in
-      let flag : flags who ≡ 1 = due_flag walk (flags who) (omega (arith, here, most, there)) in
-      let unowed : called_to who (around walk None owed) ≡ 0 = let less = called_most who (around walk None owed) in omega (arith, here, most, there, less) in
+      let stands = still_stands lists flags owed apart (omega (arith, there)) p.placed o in
       let stance = ap waits_in (walk_here front (view_of who walk None owed) back apart) ∙ wait in
       let was = stands_still (standing_after h).phases lists (around walk None owed) who mode variables p.told four stance stood in
       let row_same = left_same truths seats h who variables in
@@ -384,13 +388,13 @@ module _ {C : Type 0} {N : ℕ} (truths : Truths C) (seats : ℕ) (h : List (Eve
         homed = back_home front who walk None owed walk' None owed back word (word_returned false (bits_of lists.lock) word) lists.lock lists.lock refl refl s s' p.homed;
         placed = withdrawn front who walk None owed walk' None owed back lists lists' 1 flags apart (length-map lists.cvs (without_in who) ∙ four) (once_left who lists four p.placed.once) refl set'
             (omega (arith, counts_gone who lists, there)) (λ seat ne. counts_others seat who lists ne) (λ some. a') (λ z. absurd (omega (arith, z))) p.placed;
-        own = own_stays front who walk None owed walk' None owed back lists.lock (omega (arith, here, most, there)) p.own;
+        own = own_stays front who walk None owed walk' None owed back lists.lock (omega (arith, there, stands.0)) p.own;
         told = tell_leaves front who walk None owed walk' None owed back (standing_after h).phases (standing_after (h ++ left_event who variables ∷ [])).phases lists four
             (left_there truths seats h who variables) (λ j m e. let now_is : Left variables mode ≡ Waiting j m = sym (left_here truths seats h who variables mode was) ∙ e in absurd (cc)) p.told;
         taken = taken_gone None None owed (standing_after h).phases (standing_after (h ++ left_event who variables ∷ [])).phases flags lists.lock apart (not_waiting (waits_in walk') a') (left_there truths seats h who variables) p.taken;
         known = subst (λ r. Known truths.holds (word_returned false (bits_of lists.lock) word) r lists.lock flags (around walk' None owed)) (sym row_same)
             (known_withdraws truths.holds front who walk None owed walk' None owed back word (standing_after h).row lists.lock lists.lock flags apart (calls word row None owed idle p.safe) s q q'
-            (λ f. absurd (both_ways (is_on_way walk 1 0) o (subst (λ n. is_on_way walk 1 n ≡ true) unowed (subst (λ n. is_on_way walk n (called_to who (around walk None owed)) ≡ true) flag f)))) (λ e. e) p.homed p.known);
+            (λ f. absurd (both_ways (is_on_way walk (flags who) (called_to who (around walk None owed))) stands.1 f)) (λ e. e) p.homed p.known);
       }
 
   -- ---- with a scan
