@@ -113,7 +113,8 @@ IsVariable k = k < 4
 abbrev pub IsMoment : ℕ → Type 0
 IsMoment moment = moment < 2 ^ 54
 
--- the call's cell, if it names one, is one of n, its variable one of 4, its notes are of 64, its moments are below 2^54, and of several objects there are at most 16
+-- The call's cell, if it names one, is one of n, its variable one of 4, its notes are of 64, its moments are below 2^54, and of several objects there are at most 16. Those that name none of these are `lock`, `rlock`, `trylock`, `tryrlock`, `unlock`, `runlock`, `unlock_quiet`, `add`,
+-- `value`, `once` and `done`.
 abbrev pub CallInRange : {C : Type 0} → ℕ → Call C → Type 0
 CallInRange n (Get i) = i < n
 CallInRange n (Set i v) = i < n

@@ -1,7 +1,7 @@
 -- A run of a schedule, turn by turn.
 use Rattle.std.specs.Prelude.{◌≡◌, ℕ, ◌+◌, ◌<◌, ◌≤◌, ◌⊎◌, Bool, true, false, not, ◌==◌, if◌then◌else◌, List, [], ◌∷◌, ◌++◌, Option, Some, None, slice_get, slice_index, slice_set, length, replicate, unwrap_or, All}
 use Rattle.std.specs.List.{flat_map}
-use Rattle.ns_world.specs.Names.{Call, Fault, Finished, Line, Misuse, NoSuchSeat, Nothing, OutOfMemory, Reply, Started, Step, StepLimit, Turn, Went}
+use Rattle.ns_world.specs.Names.{Call, Fault, Finished, Idle, Line, Misuse, NoSuchSeat, Nothing, OutOfMemory, Reply, Started, Step, StepLimit, Turn, Went}
 use Rattle.ns_world.specs.Calls.{CallInRange}
 use Rattle.ns_world.specs.Whole.{Whole, WholeIsIdle, WholeIsBusy, WholeMoves, WholeBegins, WholeCommits, whole_busy}
 use Rattle.ns_world.specs.declared.reply.Reply.TheVariants as TheReply
@@ -46,7 +46,9 @@ finished p seat reply world = record {
 -- what a seat's step leaves of the progress
 abbrev pub progressed : {C : Type 0} {N : ℕ} → Progress C N → ℕ → Step → Whole C N → Progress C N
 progressed p seat (Finished reply) world = finished p seat reply world
-progressed p seat step world = record p { world = world }
+progressed p seat Went world = record p { world = world }
+progressed p seat Idle world = record p { world = world }
+progressed p seat Nothing world = record p { world = world }
 
 -- the same of the counts and the lines alone, in whatever world
 abbrev pub Counts : List ℕ → List Line → ℕ → Step → ℕ → List ℕ → List Line → Type 0
@@ -129,7 +131,9 @@ items_of schedule = flat_map word_items schedule
 -- an item ends with this turn of its seat: each does but a whole one whose call goes on and isn't idle
 abbrev pub is_end : Bool → Step → Bool
 is_end whole Went = not whole
-is_end whole step = true
+is_end whole Idle = true
+is_end whole (Finished reply) = true
+is_end whole Nothing = true
 
 -- the turn finished its call
 abbrev pub IsFinished : Step → Type 0

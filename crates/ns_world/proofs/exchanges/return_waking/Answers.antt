@@ -18,7 +18,7 @@ returns g c = (
 pub returns-in_err-commit_wake : goal.returns-in_err-commit_wake
 returns-in_err-commit_wake g c =
     let p = err_from_is_err_and c.from_residual.result c.from_residual.ensures.1 in
-    rw p.1 (c.requires.same, refl, refl, refl, c.in_err-commit_wake.ensures)
+    rw p.1 (refl, refl, refl, c.in_err-commit_wake.ensures)
 
 pub bits-requires : goal.bits-requires
 bits-requires g c = g.met.C.Seated.queues_fit
