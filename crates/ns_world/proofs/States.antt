@@ -1,44 +1,41 @@
 -- What a lawful world gives to those who show it.
 use Rattle.std.proofs.Common.{◌≡◌, ℕ, suc, ◌+◌, ◌<◌, ◌≤◌, true, List, [], ◌∷◌, ◌++◌, Some, None, length, map, take, drop, slice_get, Option, refl, ap, sym, ◌∙◌, arith, cond, inl, inr}
 use Rattle.std.specs.Prelude.{IfSome}
-use Rattle.ns_world.proofs.Below.{cases_eq, has_list, length-append, length-map, number_at, slice_get_within, split_at, stands_nowhere}
-use Rattle.ns_world.specs.Prelude.{Event, HasList, IsLawfulWorld, LockState, Owed, Read, Seat, SeatView, Truths, Waiter, Walk, counts_in, has_armed, is_unwoken, kept, now_of, owed_to, times, times_among, times_in, view_of, wakes_owed, walk_at}
+use Rattle.ns_world.proofs.Below.{cases_eq, has_list, length-append, length-map, slice_get_within, stands_nowhere}
+use Rattle.ns_world.specs.Prelude.{Event, HasList, IsLawfulWhole, LockState, Owed, Read, Seat, SeatView, Truths, Waiter, Walk, Whole, counts_in, has_armed, is_unwoken, kept, lock_of, whole_of, owed_to, times, times_among, times_in, view_of, wakes_owed, walk_at}
 use Rattle.ns_queue.proofs.Seats.{times_in-cons, few}
 use Rattle.ns_model.proofs.Tallies.{one_most}
 use Rattle.ns_word.specs.Lawful.{IsLawful}
 use Rattle.ns_word.proofs.Ranges.{placed_below}
 use Rattle.ns_word.proofs.Waits.{unqueued}
-use Rattle.ns_world.proofs.Mapped.{got-map}
+use Rattle.ns_world.proofs.SeatSet.{number_here, split_here}
 use Rattle.ns_world.specs.declared.world.World.TheInside.{Inside}
 
-module _ {C : Type 0} {N : ℕ} (truths : Truths C) (w : Inside C N) (lawful : IsLawfulWorld (now_of truths (kept w.word w.row w.queues w.flags w.env w.seats.items w.history.items w.objects))) where
-  abbrev state : LockState C N
-  state = (now_of truths (kept w.word w.row w.queues w.flags w.env w.seats.items w.history.items w.objects)).state
+module _ {C : Type 0} {N : ℕ} (truths : Truths C) (w : Inside C N) (lawful : IsLawfulWhole (whole_of truths (kept w.word w.row w.queues w.flags w.env w.seats.items w.history.items w.objects))) where
+  abbrev world : Whole C N
+  world = whole_of truths (kept w.word w.row w.queues w.flags w.env w.seats.items w.history.items w.objects)
 
   module _ (i : ℕ) (seat : Seat C N) (at : slice_get w.seats.items i ≡ Some seat) where
-    at_view : slice_get state.views i ≡ Some (view_of seat)
-    at_view = got-map view_of w.seats.items i seat at
+    abbrev views : List (SeatView C N)
+    views = map view_of w.seats.items
 
     -- a seat's number is one
     number_below : seat.number < 64
-    number_below = let is = number_at state.views i (view_of seat) at_view lawful.numbered in let low = slice_get_within state.views i (view_of seat) at_view in let few = lawful.few in omega (arith, is, low, few)
+    number_below = let is = number_here world lawful i seat at in let low = slice_get_within w.seats.items i seat at in let few = lawful.few in omega (arith, is, low, few)
 
     -- one that is about to queue stands nowhere
     nowhere : has_armed seat.walk ≡ true → times seat.number w.queues ≡ 0
-    nowhere armed = stands_nowhere truths (length state.views) lawful.few w.history.items state (take i state.views) (view_of seat) (drop (suc i) state.views) (split_at state.views i (view_of seat) at_view) lawful.lawful (unqueued seat.walk armed)
+    nowhere armed = stands_nowhere truths _ lawful.few w.history.items (lock_of world) (take i views) (view_of seat) (drop (suc i) views) (split_here world lawful i seat at) lawful.lawful (unqueued seat.walk armed)
 
     -- the list that its walk names is one that there is
     listed : (walk : Option (Walk C)) → seat.walk ≡ walk → IfSome walk HasList
     listed None e = tt
-    listed (Some walk) e = has_list truths (length state.views) lawful.few w.history.items state (take i state.views) (view_of seat) (drop (suc i) state.views) (split_at state.views i (view_of seat) at_view) lawful.lawful walk e
+    listed (Some walk) e = has_list truths _ lawful.few w.history.items (lock_of world) (take i views) (view_of seat) (drop (suc i) views) (split_here world lawful i seat at) lawful.lawful walk e
 
   -- what showing the queues needs of each seat
   pub shown_fit : ((i : ℕ) (seat : Seat C N) → slice_get w.seats.items i ≡ Some seat → IfSome seat.walk HasList) × ((i : ℕ) (seat : Seat C N) → slice_get w.seats.items i ≡ Some seat → seat.number < 64)
       × ((i : ℕ) (seat : Seat C N) → slice_get w.seats.items i ≡ Some seat → has_armed seat.walk ≡ true → times seat.number w.queues ≡ 0)
   shown_fit = (λ i seat at. listed i seat at seat.walk refl, number_below, nowhere)
-
-  pub few_seats : length w.seats.items ≤ 64
-  few_seats = omega (arith, lawful.few, length-map w.seats.items view_of)
 
 -- ---- the wakes that are owed
 

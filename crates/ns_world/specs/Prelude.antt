@@ -1,24 +1,24 @@
 -- The names that contracts and proofs cite, passed on from one place. Declares nothing.
-pub use Rattle.ns_world.specs.Among.{CanTell, HasTold, IsFew, ToldIf, asks_for_any, at_will, cause_of, is_for_lock, place_told, reply_told, round_due, shown_by, step_told, told_to, waited_after, waited_seat, waits_for_any, woken_by}
+pub use Rattle.ns_world.specs.Among.{CanTell, HasTold, IsFew, ToldIf, asks_for_any, at_will, cause_of, is_for_lock, place_told, reply_told, round_due, shown_by, step_told, told_to, waited_seat, waits_for_any, woken_by}
 pub use Rattle.ns_world.specs.Asks.{env_state, env_step_of, note_at, plain_of}
-pub use Rattle.ns_world.specs.Begins.{Misuses, Starts, begun_at, placed}
+pub use Rattle.ns_world.specs.Begins.{placed}
 pub use Rattle.ns_world.specs.Calls.{CallFits, CallInRange, NamesAll, finds, mode_of, mode_waited, object_start, start_of}
 pub use Rattle.ns_world.specs.Commits.{Commits}
 pub use Rattle.ns_world.specs.Looked.{EnvMoves, LookStep, MovesFrom, SeatLooks, Sees}
 pub use Rattle.ns_world.specs.Looks.{AsksFor, LookFits, came_back, is_for_any, look_of, look_place, looks_at, note_asked, note_in, waits_among}
-pub use Rattle.ns_world.specs.Meanings.{AnswersCall, AnswersOfLock, AnswersOfNotes, AnswersTo, Happens, HasLedTo, IsUnfinished, Meanwhile, PlaceBy, WasShown, asks_of, done_by, done_in, happened, held_at, held_in, limits_for, limits_of, nothing_done}
-pub use Rattle.ns_world.specs.Objects.{AreLedTo, HasOperated, Objects, SeatOperates, object_step_of, objects_begun, objects_of, objects_state, stood_at, wait_in}
+pub use Rattle.ns_world.specs.Meanings.{AnswersCall, AnswersOfLock, AnswersOfNotes, AnswersTo, Happens, IsUnfinished, Meanwhile, PlaceBy, WasShown, asks_of, done_by, done_in, happened, held_at, limits_for, limits_of, nothing_done}
+pub use Rattle.ns_world.specs.Objects.{SeatOperates, object_step_of}
 pub use Rattle.ns_world.specs.Performs.{Makes, Performs, flag_at, part, seat_part, step_of, tests_after, view_of}
 pub use Rattle.ns_world.specs.Replies.{told as reply_of_lock}
-pub use Rattle.ns_world.specs.Runs.{Advances, Counts, EndFinished, GoesOnOrBegins, IsCounted, IsFinished, ListFits, Progress, Stops, StopsFor, TurnFault, TurnOf, Turned, TurnsOf, TurnsWith, calls_of, is_end, progress, progressed, rest_of, word_items}
+pub use Rattle.ns_world.specs.Runs.{Advances, Counts, EndFinished, GoesOnOrBegins, IsCounted, IsFinished, ListFits, Progress, Stops, StopsFor, TurnFault, TurnOf, Turned, TurnsOf, TurnsWith, calls_of, is_end, progress, progressed, rest_of, tests_at, word_items}
 pub use Rattle.ns_world.specs.Shows.{hand_of, lists_by, wakes_by, wakes_owed}
-pub use Rattle.ns_world.specs.Whole.{AreObjectsBy, Awaits, BeginsToWait, EndsLook, HaveLedTo, IsLawfulWhole, LockSteps, LooksWhere, MayWait as MayWaitOnLock, Operates, StandsAlone, StandsBy, WaitSteps, WaitsOnLock, Whole, WholeBegins, WholeFault, WholeIsBusy, WholeIsIdle, WholeMoves, WholeStarts}
-pub use Rattle.ns_world.specs.Whole.{WholeStep, fresh_whole, is_alone, notes_done, objects_done, whole, whole_busy, whole_of}
-pub use Rattle.ns_world.specs.World.{Acts, AreEnvBy, Asks, Goes, IsBusy, IsIdle, IsLawfulWorld, IsWalking, LedTo, LookGoes, Looks, Moves, NotesMade, Now, StandRight, env_done, fresh, is_asking, is_busy, is_walking, kept, now_of}
+pub use Rattle.ns_world.specs.Whole.{HasLedTo, HaveLedTo, IsLawfulWhole, LedTo, LooksWhere, MayWait as MayWaitOnLock, NeedsSection, SeatStands, StandsAlone, StandsBy, WaitsOnLock, Whole, WholeIsBusy, WholeIsIdle, fresh_seat, fresh_seats, fresh_whole, in_call, is_alone, lock_of, notes_of, objects_of, part_in, whole_busy, whole_of}
+pub use Rattle.ns_world.specs.Moves.{AreEnvBy, AreObjectsBy, BeginFault, LockSteps, Misuses, NotesSteps, ObjectsSteps, WholeBegins, WholeCommits, WholeFault, WholeMoves, WholeStarts, WholeStep, notes_by, objects_by}
+pub use Rattle.ns_world.specs.World.{kept}
 pub use Rattle.ns_world.specs.Names.{Act, ActFits, Add, Advance, Advancing, Answer, Any, AnyAnswers, AnyMeans, AnyWait, AreAmong, AreBy, AreNumbered, AreThere, AreVariables, ArmFlag, Arrival, Ask, Asked, AtLock, AtSomePoint, AtVariables, Await, AwaitWakeInWait, BeginsWith, Bits, Broadcast}
 pub use Rattle.ns_world.specs.Names.{Broadcasting, Call, CallGoes, CanLeave, CanWait, Cause, Change, ChangeFits, ClockLoad, CounterWait, Course, Cv, CvWait, Cvs, Done, Effect, EnvAct, EnvActFits, EnvCourse, EnvEffect, EnvEvent, EnvFound, EnvGoes, EnvGoesOn, EnvNext, EnvPlain, EnvRequest, EnvSoFar}
 pub use Rattle.ns_world.specs.Names.{EnvWalk, Environment, Event, Every, Expired, Expiry, ExpiryLoad, Fault, Finished, FirstClock, ForIsNotified, ForLook, ForNoteWait, Found, Get, Go, GoesOn, HasList, HasMode, HaveShownNothing, Held, Home, Idle, IfMade, InAcquire, InCells, InHand, InLeaving}
-pub use Rattle.ns_world.specs.Names.{InQueuing, InRelease, InRound, InShow, InSignal, InTry, InWait, IsFirst, IsFirstAsk, IsForCondition, IsInRange, IsLater, IsLawful, IsLawfulEnv, IsLow, IsNotified, IsReady, IsSettled, IsUnmet, Item, Items, LeaveLoad, LeaveSelf, Left, Limits, Line, Lists, Load}
+pub use Rattle.ns_world.specs.Names.{InQueuing, InRelease, InRound, InShow, InSignal, InTry, InWait, IsFirst, IsFirstAsk, IsForCondition, IsInRange, IsLater, IsLawful, IsLawfulEnv, IsLawfulObjects, IsLow, IsNotified, IsReady, IsSettled, IsUnmet, Item, Items, LeaveLoad, LeaveSelf, Left, Limits, Line, Lists, Load}
 pub use Rattle.ns_world.specs.Names.{LoadFlag, Lock, LockState, Look, LookIn, LookMeans, LookOut, LookOver, Looked, Made, MayEnd, MayShow, MayWait, Means, Meets, Mode, NewNote, Next, NextLoad, NoSuchSeat, NoteLoad, NoteStanding, NoteWait, Nothing, Notify, Notifying, Number, ObjectEvent, ObjectFound}
 pub use Rattle.ns_world.specs.Names.{ObjectGoes, ObjectNext, ObjectSoFar, ObjectStanding, ObjectWalk, ObjectWords, OfLock, OfNotes, OfObjects, On, OnCondition, OnEntry, OnLock, OnObjects, OnVariable, OnVariables, Once, Only, OutOfMemory, Over, Owed, OwesOne, Part, Past, PayWake, PlaceFits, Plain}
 pub use Rattle.ns_world.specs.Names.{QueueSelf, QuietCells, QuietKeeps, QuietLast, RLock, RUnlock, Read, Reader, Release, ReleaseReturning, Releasing, Repeat, Reply, Request, ReturnQueues, Round, RoundGo, RoundNext, RoundOver, RoundPlace, RoundShows, RoundSoFar, Scanned, Seat, SeatView, Set, Setup}

@@ -1,9 +1,11 @@
 -- A run of a schedule, turn by turn.
 use Rattle.std.specs.Prelude.{◌≡◌, ℕ, ◌+◌, ◌<◌, ◌≤◌, ◌⊎◌, Bool, true, false, not, ◌==◌, if◌then◌else◌, List, [], ◌∷◌, ◌++◌, Option, Some, None, slice_get, slice_index, slice_set, length, replicate, unwrap_or, All}
 use Rattle.std.specs.List.{flat_map}
-use Rattle.ns_world.specs.Names.{Call, Fault, Finished, Idle, Line, Misuse, NoSuchSeat, Nothing, OutOfMemory, Reply, Started, Step, StepLimit, Turn, Went}
+use Rattle.ns_world.specs.Names.{Call, Fault, Finished, Idle, Line, Misuse, NoSuchSeat, Nothing, OutOfMemory, Reply, Seat, Started, Step, StepLimit, Turn, Went}
 use Rattle.ns_world.specs.Calls.{CallInRange}
-use Rattle.ns_world.specs.Whole.{Whole, WholeIsIdle, WholeIsBusy, WholeMoves, WholeBegins, WholeCommits, whole_busy}
+use Rattle.std.specs.Option.{option_map_or}
+use Rattle.ns_world.specs.Moves.{WholeBegins, WholeCommits, WholeMoves}
+use Rattle.ns_world.specs.Whole.{Whole, WholeIsIdle, WholeIsBusy, whole_busy}
 use Rattle.ns_world.specs.declared.reply.Reply.TheVariants as TheReply
 
 -- ---- one turn
@@ -35,12 +37,16 @@ abbrev pub tests_told : Reply → ℕ → ℕ
 tests_told TheReply.Misuse tests = 0
 tests_told reply tests = tests
 
+-- the count of a seat
+abbrev pub tests_at : {C : Type 0} {N : ℕ} → List (Seat C N) → ℕ → ℕ
+tests_at seats seat = option_map_or (λ s. s.tests) (slice_get seats seat) 0
+
 -- the seat's call is over, with this answer
 abbrev pub finished : {C : Type 0} {N : ℕ} → Progress C N → ℕ → Reply → Whole C N → Progress C N
 finished p seat reply world = record {
   world = world;
   over = slice_set p.over seat (slice_index p.over seat + 1);
-  lines = p.lines ++ record { thread = seat; call = slice_index p.over seat; reply = reply; tests = tests_told reply (slice_index world.lock.tests seat) } ∷ [];
+  lines = p.lines ++ record { thread = seat; call = slice_index p.over seat; reply = reply; tests = tests_told reply (tests_at world.seats seat) } ∷ [];
 }
 
 -- what a seat's step leaves of the progress
@@ -98,7 +104,7 @@ TurnsWith {C} {N} next old seat step new =
 -- why a turn is refused: the number is no seat's, or there was no memory for its event
 abbrev pub TurnFault : {C : Type 0} {N : ℕ} → Whole C N → ℕ → Fault → Type 0
 TurnFault world seat OutOfMemory = WholeCommits world seat
-TurnFault world seat NoSuchSeat = length world.lock.state.views ≤ seat
+TurnFault world seat NoSuchSeat = length world.seats ≤ seat
 TurnFault world seat fault = ⊥
 
 -- ---- many turns
@@ -172,8 +178,8 @@ CommitsFirst world (item ∷ left) = WholeCommits world item.seat
 -- Why a run stops in this world after these turns, so many, with these items left: the next item needs one turn more than the limit, or its thread is no seat, or memory was refused: for the event of the next turn, or for the line of the call that the last turn finished.
 abbrev pub StopsFor : {C : Type 0} {N : ℕ} → ℕ → Whole C N → ℕ → List Turned → List Item → Fault → Type 0
 StopsFor limit world made turns left OutOfMemory = CommitsFirst world left ⊎ EndFinished turns
-StopsFor limit world made turns (item ∷ left) StepLimit = (made ≡ limit) × (item.seat < length world.lock.state.views)
-StopsFor limit world made turns (item ∷ left) NoSuchSeat = length world.lock.state.views ≤ item.seat
+StopsFor limit world made turns (item ∷ left) StepLimit = (made ≡ limit) × (item.seat < length world.seats)
+StopsFor limit world made turns (item ∷ left) NoSuchSeat = length world.seats ≤ item.seat
 StopsFor limit world made turns left fault = ⊥
 
 -- Turns that follow a front of the items lead from the progress p, and then the run stops in this world.

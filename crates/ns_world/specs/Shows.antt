@@ -2,7 +2,8 @@
 use Rattle.std.specs.Prelude.{ℕ, if◌then◌else◌, List, [], ◌∷◌, map, Option, None, Some}
 use Rattle.std.specs.List.{flat_map}
 use Rattle.ns_world.specs.Names.{Lists, SeatView, Truths, Walk, has_queues, in_hand}
-use Rattle.ns_world.specs.World.{Now}
+use Rattle.ns_world.specs.Whole.{Whole}
+use Rattle.ns_world.specs.Performs.{view_of}
 
 -- the lists as a seat at this place has them in hand
 abbrev pub hand_of : {C : Type 0} → Truths C → ℕ → Option (Walk C) → List ℕ → Lists C → Lists C
@@ -15,8 +16,8 @@ lists_by truths row lists [] = lists
 lists_by truths row lists (view ∷ views) = if has_queues view.walk then hand_of truths view.seat view.walk row lists else lists_by truths row lists views
 
 -- the lists that a world shows
-abbrev pub lists_shown : {C : Type 0} {N : ℕ} → Now C N → Lists C
-lists_shown world = lists_by world.truths world.state.row world.state.lists world.state.views
+abbrev pub lists_shown : {C : Type 0} {N : ℕ} → Whole C N → Lists C
+lists_shown world = lists_by world.truths world.row world.queues (map view_of world.seats)
 
 -- the wakes that a seat owes, in the order in which it pays
 abbrev pub wakes_by : {C : Type 0} {N : ℕ} → SeatView C N → List (ℕ × ℕ)
