@@ -31,7 +31,6 @@ pub use Rattle.ns_word.specs.declared.view.SeatView.{SeatView}
 pub use Rattle.ns_word.specs.declared.word.Word.{Word}
 pub use Rattle.ns_world.specs.Calls.{CallInRange, IsMoment, IsNoteNumber, IsVariable, mode_of, start_of}
 pub use Rattle.ns_counters.specs.Items.{no_items, with_item}
-pub use Rattle.ns_world.specs.Performs.{view_of}
 pub use Rattle.ns_world.specs.Runs.{GoesOnOrBegins, ListFits, Progress, RunFault, Runs, StopsFor, TurnOf, Turned, TurnsOf, is_end, progressed, rest_of, start}
 pub use Rattle.ns_world.specs.Shows.{lists_shown, wakes_owed}
 pub use Rattle.ns_world.specs.Whole.{Whole, fresh_whole, whole_busy, whole_of}

@@ -20,4 +20,4 @@ unfoldable pub use Rattle.ns_replay.specs.Words.{change_of, number_of}
 pub use Rattle.ns_replay.specs.Names.{Add, Advance, Ask, BadScript, Broadcast, Call, CallInRange, CounterWait, CvWait, Data, Declared, Done, Expiry, Fault, Finished, Get, GoesOnOrBegins, Idle, IsMoment, IsNoteNumber, IsNotified, IsVariable, Item, Items, Limits, Line, ListFits, Lock, NewNote}
 pub use Rattle.ns_replay.specs.Names.{NotJson, NoteWait, Nothing, Notify, OnLock, OnObjects, Once, OutOfMemory, Progress, RLock, RUnlock, Read, RunFault, Runs, Script, ScriptCondition, ScriptPath, SeatView, Seats, Set, Signal, Start, Step, StepLimit, StopsFor, TooMany, TryLock, TryRLock}
 pub use Rattle.ns_replay.specs.Names.{Turn, TurnOf, Turned, TurnsOf, Unlock, UnlockQuiet, Value, Wait, WaitAny, Went, Whole, WorldFault, Write, as_array, as_number, as_str, as_u64, fresh_whole, get, is_end, is_in, items_of, lists_shown}
-pub use Rattle.ns_replay.specs.Names.{members_view, mode_of, no_items, progressed, read, rest_of, shown_of, start, start_of, view, view_of, wakes_owed, whole_busy, whole_of, with_item}
+pub use Rattle.ns_replay.specs.Names.{members_view, mode_of, no_items, progressed, read, rest_of, shown_of, start, start_of, view, wakes_owed, whole_busy, whole_of, with_item}

@@ -2,7 +2,7 @@
 use Rattle.std.specs.Prelude.{ℕ, List, [], ◌∷◌, ◌++◌, Bool, true, false, ◌&&◌, ◌==◌, if◌then◌else◌, Option, Some, None, option_and_then, codes, decimal, flat_map, map, filter, count_by, slice_get, length, nat_lt, ◌+◌}
 use Rattle.std.specs.List.{range_with_len}
 use Rattle.ns_replay.specs.Names.{AfterAny, AfterCv, AfterWait, Already, Answer, Answered, AnyWait, Busy, Call, Canceled, CondWait, CounterFault, Cvs, Entry, Event, Exit, Is, Leave, LeaveAny, Line, Met, Misuse, Mode, Noisy, NotesFull, Number, Options, Over, Plain, RUnlock, Ran, Refused, Reply}
-use Rattle.ns_replay.specs.Names.{ScriptCondition, Seats, Section, Shown, Succeeded, TimedOut, Under, Unlock, UnlockQuiet, Waited, Whole, Word, is_in, lists_shown, shown_of, view_of, wakes_owed, whole_busy}
+use Rattle.ns_replay.specs.Names.{ScriptCondition, Seats, Section, Shown, Succeeded, TimedOut, Under, Unlock, UnlockQuiet, Waited, Whole, Word, is_in, lists_shown, shown_of, wakes_owed, whole_busy}
 use Rattle.ns_model.specs.declared.event.Exit.TheVariants.{CvWait}
 use Rattle.ns_model.specs.declared.event.Event.TheVariants.{Signal, Broadcast}
 use Rattle.ns_world.specs.declared.reply.Reply.TheVariants.{Expiry}
@@ -241,4 +241,4 @@ text_of options cvs threads lines world =
     ++ lefts_text (whole_busy world) lines (length threads)
     ++ row_text world.row
     ++ history_text options.history world.history
-    ++ state_text options.state cvs world.word (map shown_of (lists_shown world).lock) (map (map shown_of) (lists_shown world).cvs) (wakes_owed (map view_of world.seats))
+    ++ state_text options.state cvs world.word (map shown_of (lists_shown world).lock) (map (map shown_of) (lists_shown world).cvs) (wakes_owed world.seats)

@@ -5,6 +5,7 @@ pub mod Exchanged
 pub mod Fresh
 pub mod HowFar
 pub mod Laws
+pub mod Led
 pub mod Looking
 pub mod Mapped
 pub mod OwnRounds

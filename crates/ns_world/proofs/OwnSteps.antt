@@ -3,7 +3,7 @@ use Rattle.std.proofs.Common.{List, None, Option, Some, [], ap, inl, inr, length
 use Rattle.std.specs.Option.{option_map_or}
 use Rattle.ns_world.proofs.Below.{append_assoc, env_own-append, env_own_all, same_Some}
 use Rattle.ns_world.proofs.HowFar.{HasCome, LockOutcome, LockUnderway, NotesOutcome, NotesUnderway, Outcome, lock_rests, no_own, no_own_notes}
-use Rattle.ns_world.proofs.Laws.{events_by}
+use Rattle.ns_world.proofs.Led.{events_by}
 use Rattle.ns_world.proofs.Looking.{first_if, noted}
 use Rattle.ns_world.proofs.Mapped.{got-map}
 use Rattle.ns_world.proofs.SeatSet.{here_then, number_here}

@@ -43,9 +43,9 @@ abbrev wake : {C : Type 0} → Owed → Waiter C
 wake owed = record { seat = owed.seat; mode = Read; cond = None; tries = 0; via = None }
 
 -- as many waiters as wakes
-owing : {C : Type 0} {N : ℕ} → List (SeatView C N) → List (Waiter C)
+owing : {C : Type 0} {N : ℕ} → List (Seat C N) → List (Waiter C)
 owing [] = []
-owing (view ∷ views) = map wake view.owed ++ owing views
+owing (seat ∷ seats) = map wake seat.owed.items ++ owing seats
 
 times_front : {C : Type 0} (seat : ℕ) (owed : List Owed) (rest : List (Waiter C)) → times_in seat (map wake owed ++ rest) ≡ times_among seat owed + times_in seat rest
 times_front seat [] rest = omega arith
@@ -55,18 +55,18 @@ times_front {C} seat (x ∷ xs) rest =
     omega (arith, more, others)
 
 module _ {C : Type 0} {N : ℕ} where
-  times_owing : (seat : ℕ) (views : List (SeatView C N)) → times_in seat (owing views) ≡ owed_to seat views
+  times_owing : (number : ℕ) (seats : List (Seat C N)) → times_in number (owing seats) ≡ owed_to number (map view_of seats)
   unfolding owing
-  times_owing seat [] = refl
-  times_owing seat (view ∷ views) = times_front seat view.owed (owing views) ∙ ap (λ n. times_among seat view.owed + n) (times_owing seat views)
+  times_owing number [] = refl
+  times_owing number (seat ∷ seats) = times_front number seat.owed.items (owing seats) ∙ ap (λ n. times_among number seat.owed.items + n) (times_owing number seats)
 
-  length_owing : (views : List (SeatView C N)) → length (owing views) ≡ length (wakes_owed views)
+  length_owing : (seats : List (Seat C N)) → length (owing seats) ≡ length (wakes_owed seats)
   unfolding owing
   length_owing [] = refl
-  length_owing (view ∷ views) =
-      length-append (map (wake {C = C}) view.owed) (owing views) ∙ ap (λ n. length (map (wake {C = C}) view.owed) + n) (length_owing views)
-      ∙ ap (λ n. n + length (wakes_owed views)) (length-map view.owed (wake {C = C}) ∙ sym (length-map view.owed (λ wake. (view.seat, wake.seat))))
-      ∙ sym (length-append (map (λ wake. (view.seat, wake.seat)) view.owed) (wakes_owed views))
+  length_owing (seat ∷ seats) =
+      length-append (map (wake {C = C}) seat.owed.items) (owing seats) ∙ ap (λ n. length (map (wake {C = C}) seat.owed.items) + n) (length_owing seats)
+      ∙ ap (λ n. n + length (wakes_owed seats)) (length-map seat.owed.items (wake {C = C}) ∙ sym (length-map seat.owed.items (λ wake. (seat.number, wake.seat))))
+      ∙ sym (length-append (map (λ wake. (seat.number, wake.seat)) seat.owed.items) (wakes_owed seats))
 
   -- a number that is no seat's is owed nothing
   none_owed : (truths : Truths C) (seats : ℕ) (h : List (Event C N)) (s : LockState C N) → IsLawful truths seats h s → (seat : ℕ) → seats ≤ seat → owed_to seat s.views ≡ 0
@@ -76,11 +76,14 @@ module _ {C : Type 0} {N : ℕ} where
   ]
 
   -- no more wakes are owed than there are seats
-  pub wakes_few : (truths : Truths C) (seats : ℕ) (h : List (Event C N)) (s : LockState C N) → seats ≤ 64 → IsLawful truths seats h s → length (wakes_owed s.views) ≤ 64
-  wakes_few truths seats h s most p =
-      let long = length_owing s.views in
-      let some = few seats (owing s.views)
-      (λ seat. let sum : counts_in seat s.lists + owed_to seat s.views ≡ cond (is_unwoken (walk_at seat s.views) (s.flags seat)) 1 0 = p.waiters_placed.placed seat in
-      omega (arith, times_owing seat s.views, sum, one_most (is_unwoken (walk_at seat s.views) (s.flags seat))))
-      (λ seat high. times_owing seat s.views ∙ none_owed truths seats h s p seat high) in
+  pub wakes_few : (world : Whole C N) → IsLawfulWhole world → length (wakes_owed world.seats) ≤ 64
+  wakes_few world lawful =
+      let p = lawful.lawful in
+      let views = map view_of world.seats in
+      let long = length_owing world.seats in
+      let most = lawful.few in
+      let some = few (length world.seats) (owing world.seats)
+      (λ seat. let sum : counts_in seat world.queues + owed_to seat views ≡ cond (is_unwoken (walk_at seat views) (world.flags seat)) 1 0 = p.waiters_placed.placed seat in
+      omega (arith, times_owing seat world.seats, sum, one_most (is_unwoken (walk_at seat views) (world.flags seat))))
+      (λ seat high. times_owing seat world.seats ∙ none_owed world.truths (length world.seats) world.history (lock_of world) p seat high) in
       omega (arith, long, some, most)

@@ -224,6 +224,12 @@ module _ {C : Type 0} {N : ℕ} (old new : Whole C N) (i : ℕ) (here next : Sea
   abbrev pub Kind : Type 0
   Kind = OnTheLock ⊎ (OnTheNotes ⊎ (OnALook ⊎ (Operates ⊎ (EndsLook ⊎ BeginsToWait))))
 
+-- what a step leaves of what the conditions mean, and of how the objects began
+pub makes_means : {C : Type 0} {N : ℕ} (old new : Whole C N) (here next : Seat C N) (step : Step) → LockSteps old new here next step ⊎ (NotesSteps old new here next step ⊎ ObjectsSteps old new here next step) → (new.truths ≡ old.truths) × (new.objects.setup ≡ old.objects.setup)
+makes_means {C} {N} old new here next step (inl p) = (ap (λ (w : Whole C N). w.truths) p.same, ap (λ (w : Whole C N). w.objects.setup) p.same)
+makes_means {C} {N} old new here next step (inr (inl p)) = (ap (λ (w : Whole C N). w.truths) p.same, ap (λ (w : Whole C N). w.objects.setup) p.same)
+makes_means {C} {N} old new here next step (inr (inr p)) = (ap (λ (w : Whole C N). w.truths) p.same, ap (λ o. o.setup) p.operates.becomes)
+
 -- ---- which of them a step is
 
 -- a look of a wait for any of a set of variables goes by what is for its caller to say

@@ -10,7 +10,7 @@ use Rattle.ns_world.proofs.Places.{IsFirstAt, IsNoLook, first_at}
 use Rattle.ns_world.proofs.SeatSet.{here_then, number_here, others_stay}
 use Rattle.ns_world.proofs.Shown.{LookSoFar, begins_on}
 use Rattle.ns_world.proofs.StepKinds.{awaits_not, kind_of, resting}
-use Rattle.ns_world.specs.Prelude.{Add, AnswersCall, AreEnvBy, AreObjectsBy, AreThere, Ask, Asked, Call, CallFits, CounterWait, Done, EnvEvent, Event, Finished, Happens, HasLedTo, IsLawfulWhole, IsUnfinished, LockSteps, Meanwhile, Mode, NotesSteps, ObjectEvent, ObjectSoFar, ObjectsSteps}
+use Rattle.ns_world.specs.Prelude.{Add, AnswersCall, AreEnvBy, AreObjectsBy, AreThere, Ask, Asked, Call, CallFits, CounterWait, Done, EnvEvent, Event, Finished, Happens, HasLedTo, IsLawfulWhole, IsUnfinished, Meanwhile, Mode, ObjectEvent, ObjectSoFar}
 use Rattle.ns_world.specs.Prelude.{OfLock, OfNotes, OfObjects, OnCondition, OnEntry, OnLock, OnObjects, Once, Past, Reply, Seat, Start, Started, Step, ToRelease, UnlockQuiet, Value, Wait, WaitAny, Whole, WholeBegins, WholeMoves, WholeStarts, WholeStep, asked_of, asks_of}
 use Rattle.ns_world.specs.Prelude.{course_from, done_by, done_in, env_after, env_asked_of, env_course_at, env_own, happened, held_at, in_call, mode_of, mode_waited, notes_by, nothing_done, object_asked, objects_by, objects_own, own, past_and, placed, start_of, view_of}
 use Rattle.ns_counters.proofs.Objects.{own-append, own_none}
@@ -18,7 +18,7 @@ use Rattle.ns_counters.proofs.Rounds.{later_itself}
 use Rattle.ns_env.proofs.Courses.{begins_course}
 use Rattle.ns_word.proofs.Courses.{begins_unchanged}
 use Rattle.ns_word.proofs.ToldAfter.{own_append as own_row_append, own_none as own_row_none, step_by}
-use Rattle.ns_world.proofs.StepKinds.{Goes, Kind, goes_steps}
+use Rattle.ns_world.proofs.StepKinds.{Goes, Kind, goes_steps, makes_means}
 
 -- what another's step adds to the row's history is none of the seat's
 module _ {C : Type 0} {N : ℕ} (old new : Whole C N) (lawful : IsLawfulWhole old) (other : ℕ) (here next : Seat C N) (at : slice_get old.seats other ≡ Some here) (seats : new.seats ≡ slice_set old.seats other next) (seat : ℕ) (ne : other ≢ seat) where
@@ -35,11 +35,6 @@ module _ {C : Type 0} {N : ℕ} (old new : Whole C N) (lawful : IsLawfulWhole ol
   kind_row step notes objects (inr (inr (inr (inr (inr k))))) = ap (λ (w : Whole C N). own w.history seat) k.on.same
 
 -- what a step leaves of what the conditions mean, and of how the objects began
-makes_means : {C : Type 0} {N : ℕ} (old new : Whole C N) (here next : Seat C N) (step : Step) → LockSteps old new here next step ⊎ (NotesSteps old new here next step ⊎ ObjectsSteps old new here next step) → (new.truths ≡ old.truths) × (new.objects.setup ≡ old.objects.setup)
-makes_means {C} {N} old new here next step (inl p) = (ap (λ (w : Whole C N). w.truths) p.same, ap (λ (w : Whole C N). w.objects.setup) p.same)
-makes_means {C} {N} old new here next step (inr (inl p)) = (ap (λ (w : Whole C N). w.truths) p.same, ap (λ (w : Whole C N). w.objects.setup) p.same)
-makes_means {C} {N} old new here next step (inr (inr p)) = (ap (λ (w : Whole C N). w.truths) p.same, ap (λ o. o.setup) p.operates.becomes)
-
 step_means : {C : Type 0} {N : ℕ} (old new : Whole C N) (seat : ℕ) (step : Step) → WholeStep old new seat step → (new.truths ≡ old.truths) × (new.objects.setup ≡ old.objects.setup)
 step_means {C} {N} old new seat step (inl p) = (ap (λ (w : Whole C N). w.truths) p.1, ap (λ (w : Whole C N). w.objects.setup) p.1)
 step_means old new seat step (inr p) = makes_means old new p.here p.next step p.makes

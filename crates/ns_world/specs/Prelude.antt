@@ -10,7 +10,7 @@ pub use Rattle.ns_world.specs.Meanings.{AnswersCall, AnswersOfLock, AnswersOfNot
 pub use Rattle.ns_world.specs.Objects.{SeatOperates, object_step_of}
 pub use Rattle.ns_world.specs.Performs.{Makes, Performs, flag_at, part, seat_part, step_of, tests_after, view_of}
 pub use Rattle.ns_world.specs.Replies.{told as reply_of_lock}
-pub use Rattle.ns_world.specs.Runs.{Advances, Counts, EndFinished, GoesOnOrBegins, IsCounted, IsFinished, ListFits, Progress, Stops, StopsFor, TurnFault, TurnOf, Turned, TurnsOf, TurnsWith, calls_of, is_end, progress, progressed, rest_of, tests_at, word_items}
+pub use Rattle.ns_world.specs.Runs.{Advances, Counts, CountsTurn, EndFinished, GoesOnOrBegins, IsCounted, IsFinished, ListFits, Progress, Stops, StopsFor, TurnFault, TurnOf, Turned, TurnsOf, TurnsWith, calls_of, is_end, progress, progressed, rest_of, tests_at, word_items}
 pub use Rattle.ns_world.specs.Shows.{hand_of, lists_by, wakes_by, wakes_owed}
 pub use Rattle.ns_world.specs.Whole.{HasLedTo, HaveLedTo, IsLawfulWhole, LedTo, LooksWhere, MayWait as MayWaitOnLock, NeedsSection, SeatStands, StandsAlone, StandsBy, WaitsOnLock, Whole, WholeIsBusy, WholeIsIdle, fresh_seat, fresh_seats, fresh_whole, in_call, is_alone, lock_of, notes_of, objects_of, part_in, whole_busy, whole_of}
 pub use Rattle.ns_world.specs.Moves.{AreEnvBy, AreObjectsBy, BeginFault, LockSteps, Misuses, NotesSteps, ObjectsSteps, WholeBegins, WholeCommits, WholeFault, WholeMoves, WholeStarts, WholeStep, notes_by, objects_by}

@@ -214,6 +214,12 @@ pub record IsCounted {C : Type 0} {N : ℕ} (world : Whole C N) (over : List ℕ
   pub many : length over ≡ 64
   pub most : (seat : ℕ) → slice_index over seat + (if whole_busy world seat then 1 else 0) ≤ 256
 
+-- One turn was made and counted: it takes the progress p to q, in which no seat is past its last call, and it is one turn more, of at most the limit.
+pub record CountsTurn {C : Type 0} {N : ℕ} (lists : List (List (Call C))) (limit : ℕ) (p : Progress C N) (before seat : ℕ) (step : Step) (q : Progress C N) (after : ℕ) : Type 0 where
+  pub turn : TurnOf lists p seat step q
+  pub counted : IsCounted q.world q.over
+  pub turns : (after ≡ before + 1) × (after ≤ limit)
+
 -- a list has at most 256 calls, and what each names is in range
 abbrev pub ListFits : {C : Type 0} → ℕ → List (Call C) → Type 0
 ListFits n calls = (length calls ≤ 256) × All (CallInRange n) calls

@@ -5,7 +5,6 @@ ghost use Rattle.std.specs.Prelude.{◌≡◌, ◌≤◌, ◌<◌, ℕ, length, 
 ghost use Rattle.ns_model.specs.Histories.{IsLegal, IsBySeats};
 ghost use Rattle.ns_model.specs.Seats.{is_in};
 ghost use Rattle.ns_queue.specs.Waiters.{shown_of};
-ghost use Rattle.ns_world.specs.Performs.{view_of};
 ghost use Rattle.ns_world.specs.Calls.{CallInRange};
 ghost use Rattle.ns_world.specs.Moves.{BeginFault, WholeBegins, WholeStep, WholeFault};
 ghost use Rattle.ns_world.specs.Runs.{tests_at};
@@ -184,7 +183,7 @@ impl<C: Seated<N>, const N: usize> World<C, N> {
         ensures word { result.word ≡ self.now.word }
         ensures lock { result.lock.items ≡ map shown_of (lists_shown (whole_of C.means self.now)).lock }
         ensures variables { map (λ list. list.items) result.cvs ≡ map (map shown_of) (lists_shown (whole_of C.means self.now)).cvs }
-        ensures owed { result.owed.items ≡ wakes_owed (map view_of self.now.seats) }
+        ensures owed { result.owed.items ≡ wakes_owed self.now.seats }
         ensures row { result.row ≡ self.now.row }
         ensures busy { (seat : ℕ) → is_in result.busy seat ≡ whole_busy (whole_of C.means self.now) seat }
         ensures lawful { IsLawfulWhole (whole_of C.means self.now) }

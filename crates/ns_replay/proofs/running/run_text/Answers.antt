@@ -1,6 +1,6 @@
 use Rattle.std.proofs.Common.{length, map, string_bytes}
 use Rattle.std.proofs.lemmas.List.{length-map}
-use Rattle.ns_replay.specs.Prelude.{history_text, is_in, lefts_text, lines_text, lists_shown, plan_of, row_text, script_truths, shown_of, state_text, text_of, view_of, wakes_owed, whole_busy, whole_of}
+use Rattle.ns_replay.specs.Prelude.{history_text, is_in, lefts_text, lines_text, lists_shown, plan_of, row_text, script_truths, shown_of, state_text, text_of, wakes_owed, whole_busy, whole_of}
 use Rattle.ns_replay.proofs.Texts.{five_parts, lefts_text-same}
 use Rattle.ns_replay.proofs.running.run_text.Goals as goal
 
@@ -14,7 +14,7 @@ returns c =
     five_parts (string_bytes c.push_lines.new.out) (string_bytes c.push_lefts.new.out) (string_bytes c.push_row.new.out) (string_bytes c.push_history.new.out) (string_bytes c.push_state.new.out)
     (lines_text options.tests threads lines) (lefts_text (whole_busy world) lines (length threads)) (row_text world.row) (history_text options.history world.history)
     (state_text options.state c.args.script.now.cvs world.word (map shown_of (lists_shown world).lock) (map (map shown_of) (lists_shown world).cvs)
-    (wakes_owed (map view_of world.seats)))
+    (wakes_owed world.seats))
     (rw (c.as_slice-threads.ensures.value, c.deref.ensures.value, c.new-out.ensures.bytes) at c.in_ok-push_lines.ensures)
     (rw (c.deref-2.ensures.value, lefts_text-same (is_in c.state-state.result.busy) (whole_busy world) lines (length c.as_slice-threads.result.now) c.state-state.ensures.busy, c.as_slice-threads.ensures.value, ← length-map c.args.script.now.threads.items (λ calls. calls.items)) at c.in_ok-push_lefts.ensures)
     (rw c.state-state.ensures.row at c.in_ok-push_row.ensures)

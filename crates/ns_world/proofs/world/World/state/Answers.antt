@@ -12,7 +12,7 @@ shown_queues-queues-requires g c =
     (g.met.C.Seated.queues_fit, (g.met.C.Seated.seat_fits, (search rules, rw c.deref.ensures.value ((λ i seat at. fit.0 i seat at), ((λ i seat at. fit.1 i seat at), (λ i seat at. fit.2 i seat at))))))
 
 pub owed_wakes-requires : goal.owed_wakes-requires
-owed_wakes-requires g c = (g.met.C.Seated.seat_fits, rw c.deref-2.ensures.value (wakes_few _ _ _ _ c.self.invariant.few c.self.invariant.lawful))
+owed_wakes-requires g c = (g.met.C.Seated.seat_fits, rw c.deref-2.ensures.value (wakes_few _ c.self.invariant))
 
 pub busy_seats-requires : goal.busy_seats-requires
 busy_seats-requires g c = (g.met.C.Seated.seat_fits, rw c.deref-3.ensures.value c.self.invariant.few)
