@@ -1,11 +1,12 @@
 -- No seat is past its last call.
-use Rattle.std.proofs.Common.{Bool, Global, List, None, Option, Some, Vec, [], ap, arith, cond, false, inl, inr, is_some, length, map, refl, replicate, slice_get, slice_index, slice_set, subst, suc, sym, true, zero, ℕ, ◌+◌, ◌<◌, ◌||◌, ◌∙◌, ◌∷◌, ◌≡◌, ◌≢◌, ◌≤◌, ◌⊎◌}
+use Rattle.std.proofs.Common.{Bool, Global, List, None, Option, Some, Vec, [], ap, arith, cond, false, inl, inr, is_some, length, map, refl, replicate, slice_get, slice_index, slice_set, subst, suc, sym, true, zero, ℕ, ◌+◌, ◌++◌, ◌<◌, ◌||◌, ◌∙◌, ◌∷◌, ◌≡◌, ◌≢◌, ◌≤◌, ◌⊎◌}
 use Rattle.std.specs.Prelude.{All, IfSome}
 use Rattle.ns_world.proofs.Below.{cases_eq, get_or-set_other, get_or-set_same, length-set, set_there, slice_get_within}
 use Rattle.std.proofs.lemmas.List.Elements.{All-head, All-nil, All-tail}
 use Rattle.ns_world.specs.Prelude.{AnyWait, Call, CallInRange, Counts, EnvNext, Finished, Go, GoesOnOrBegins, InRound, IsCounted, Line, ListFits, LockSteps, LookOver, MovesFrom, Next, NotesSteps, ObjectNext, ObjectWalk, ObjectsSteps, Progress, Reply, Seat, SeatLooks, SeatView, Sees, Step, ToldIf, TurnOf, Walk, Whole}
 use Rattle.ns_world.specs.Prelude.{WholeMoves, calls_of, env_got_of, env_step_of, env_walk_after, got_of, in_call, is_for_lock, look_of, object_after, object_got, object_step_of, progress, progressed, step_of, tests_at, told_to, walk_after}
 use Rattle.ns_world.specs.Prelude.{whole_busy}
+use Rattle.ns_world.specs.Runs.{tests_told}
 use Rattle.ns_word.specs.declared.walk.Next.TheVariants.{Done}
 use Rattle.ns_word.specs.declared.act.Found.TheVariants as TheFound
 use Rattle.ns_env.specs.declared.walk.EnvNext.TheVariants.{Over}
@@ -165,13 +166,9 @@ module _ {C : Type 0} {N : ℕ} where
   pub start_counted : (world : Whole C N) → ((seat : ℕ) → whole_busy world seat ≡ false) → IsCounted world (replicate 64 0)
   start_counted world idle = record { many = refl; most = λ seat. rw (idle seat, each_same {A = ℕ} 0 64 seat) (omega arith) }
 
-  counts_now : (world new : Whole C N) (over over' : List ℕ) (lines lines' : List Line) (seat : ℕ) (step : Step) → Counts over lines seat step (tests_at new.seats seat) over' lines' →
-      progress new over' lines' ≡ progressed (progress world over lines) seat step new
-  counts_now world new over over' lines lines' seat (Finished reply) e = ap (λ o. progress new o lines') e.0 ∙ ap (λ l. progress new (slice_set over seat (slice_index over seat + 1)) l) e.1
-  counts_now world new over over' lines lines' seat other e = ap (λ o. progress new o lines') e.0 ∙ ap (λ l. progress new over l) e.1
-
   -- what was counted, with the count of tests of the world after, is what the turn leaves
   pub counts_progress : (world new : Whole C N) (over over' : List ℕ) (lines lines' : List Line) (seat tests : ℕ) (step : Step) → tests ≡ tests_at new.seats seat → Counts over lines seat step tests over' lines' →
       progress new over' lines' ≡ progressed (progress world over lines) seat step new
-  counts_progress world new over over' lines lines' seat tests step same e =
-      counts_now world new over over' lines lines' seat step (subst (λ n. Counts over lines seat step n over' lines') same e)
+  counts_progress world new over over' lines lines' seat tests (Finished reply) same e = ap (λ o. progress new o lines') e.0
+      ∙ ap (progress new (slice_set over seat (slice_index over seat + 1))) (e.1 ∙ ap (λ n. lines ++ record { thread = seat; call = slice_index over seat; reply = reply; tests = tests_told reply n } ∷ []) same)
+  counts_progress world new over over' lines lines' seat tests other same e = ap (λ o. progress new o lines') e.0 ∙ ap (progress new over) e.1

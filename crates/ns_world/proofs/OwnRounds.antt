@@ -9,7 +9,7 @@ use Rattle.ns_world.proofs.Mapped.{got-map}
 use Rattle.ns_world.proofs.OwnSteps.{lock_looked, lock_quietly}
 use Rattle.ns_world.proofs.SeatSet.{here_then}
 use Rattle.ns_world.proofs.Shown.{LookSoFar, begins_on}
-use Rattle.ns_world.proofs.StepKinds.{BeginsToWait, EndsLook, Kind, OnTheLock, OnTheObjects, Operates, due, left, stands_alone, stands_waiting}
+use Rattle.ns_world.proofs.StepKinds.{BeginsToWait, EndsLook, Kind, OnTheLock, OnTheObjects, Operates, clash, due, left, stands_alone, stands_waiting}
 use Rattle.ns_world.specs.Prelude.{Answer, AnswersOfLock, AnswersTo, Any, AnyAnswers, AnyMeans, AnyWait, AreObjectsBy, BeginsWith, Cause, EnvEvent, Finished, FirstClock, Found, HasLedTo, Held, Idle, InHand, InRound, IsLater, IsLawful, IsLawfulWhole, IsReady, IsUnfinished}
 use Rattle.ns_world.specs.Prelude.{MayEnd, Means, Next, Number, ObjectEvent, ObjectGoes, ObjectNext, ObjectSoFar, ObjectWalk, OfObjects, On, OnVariables, Over, Past, PlaceBy, Repeat, Reply, Round, RoundGo, RoundNext, RoundOver, RoundPlace, RoundSoFar, Seat, SeatStands, SoFar}
 use Rattle.ns_world.specs.Prelude.{StandsAlone, Step, WaitMeans, Walk, WalkFits, WalkReply, WereThere, Whole, asked_of, at_will, by_round, cause_of, course_from, env_after, env_own, got_of, held_at, is_for_lock, items_of, looked_after, looks_at, mode_of, mode_waited, nothing_done, notes_of}
@@ -331,15 +331,15 @@ module _ {C : Type 0} {N : ℕ} (before : Whole C N) (earlier : Past) (seat : �
     no_notes none o = subst (λ es. Outcome before earlier seat (OfObjects asked) step (past_and past (record { notes = es; objects = events })) new next) (sym none) o
 
     pub objects_take_on : Kind old new seat here next step notes events → HasCome before earlier seat (OfObjects asked) past old.history here → AreObjectsBy seat events → HasLedTo now new → Outcome before earlier seat (OfObjects asked) step now new next
-    objects_take_on (inl k) (inl o) by led = let clash : None ≡ Some o.walk = sym k.nowhere ∙ o.walks in absurd (cc)
+    objects_take_on (inl k) (inl o) by led = clash k.nowhere o.walks
     objects_take_on (inl k) (inr o) by led = no_notes k.no_notes (subst (λ es. Outcome before earlier seat (OfObjects asked) step (past_and past (record { notes = []; objects = es })) new next) (sym k.no_objects) (wait_steps_here o k))
-    objects_take_on (inr (inl k)) (inl o) by led = let clash : None ≡ Some o.walk = sym k.nowhere ∙ o.walks in absurd (cc)
-    objects_take_on (inr (inl k)) (inr o) by led = let clash : None ≡ Some o.lock.walk = sym k.over ∙ o.lock.walks in absurd (cc)
-    objects_take_on (inr (inr (inl k))) (inl o) by led = let clash : None ≡ Some o.walk = sym k.nowhere ∙ o.walks in absurd (cc)
-    objects_take_on (inr (inr (inl k))) (inr o) by led = let clash : None ≡ Some k.place = sym (stands_waiting old.objects.setup old.env.notes here stands (waiting o) o.waits).unasked ∙ k.stands in absurd (cc)
+    objects_take_on (inr (inl k)) (inl o) by led = clash k.nowhere o.walks
+    objects_take_on (inr (inl k)) (inr o) by led = clash k.over o.lock.walks
+    objects_take_on (inr (inr (inl k))) (inl o) by led = clash k.nowhere o.walks
+    objects_take_on (inr (inr (inl k))) (inr o) by led = clash (stands_waiting old.objects.setup old.env.notes here stands (waiting o) o.waits).unasked k.stands
     objects_take_on (inr (inr (inr (inl k)))) (inl o) by led = no_notes k.on.no_notes (operates_here k o by)
     objects_take_on (inr (inr (inr (inl k)))) (inr o) by led = no_notes k.on.no_notes (round_goes_on o k)
-    objects_take_on (inr (inr (inr (inr (inl k))))) (inl o) by led = let clash : None ≡ Some k.wait = sym o.waits_not ∙ k.waits in absurd (cc)
+    objects_take_on (inr (inr (inr (inr (inl k))))) (inl o) by led = clash o.waits_not k.waits
     objects_take_on (inr (inr (inr (inr (inl k))))) (inr o) by led = no_notes k.on.no_notes (ends_look_here o k)
     objects_take_on (inr (inr (inr (inr (inr k))))) (inl o) by led = no_notes k.on.no_notes (begins_here k o (subst (λ es. HasLedTo (past_and past (record { notes = es; objects = events })) new) k.on.no_notes led))
-    objects_take_on (inr (inr (inr (inr (inr k))))) (inr o) by led = let clash : None ≡ Some (waiting o) = sym k.waits_not ∙ o.waits in absurd (cc)
+    objects_take_on (inr (inr (inr (inr (inr k))))) (inr o) by led = clash k.waits_not o.waits

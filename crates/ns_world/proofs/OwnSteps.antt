@@ -8,8 +8,8 @@ use Rattle.ns_world.proofs.Looking.{first_if, noted}
 use Rattle.ns_world.proofs.Mapped.{got-map}
 use Rattle.ns_world.proofs.SeatSet.{here_then, number_here}
 use Rattle.ns_world.proofs.Shown.{LookSoFar, Says, begins_on, limits_are, look_begins, look_means, means_no_look, place_asks, shown_none, shown_so}
-use Rattle.ns_world.proofs.StepKinds.{Goes, Kind, LookGoes, OnALook, OnTheNotes, due, goes_steps, left}
-use Rattle.ns_world.specs.Prelude.{Act, AreBy, BeginsWith, CallGoes, Cause, Course, Effect, EnvCourse, EnvEvent, EnvGoes, EnvGoesOn, EnvNext, EnvRequest, EnvSoFar, EnvWalk, Event, Finished, Found, Go, GoesOn, IfMade, IsLawfulWhole, LedTo, Limits, LookOver, Looked, Means, Next, ObjectEvent, ObjectWalk}
+use Rattle.ns_world.proofs.StepKinds.{Goes, Kind, LookGoes, OnALook, OnTheNotes, clash, due, goes_steps, left}
+use Rattle.ns_world.specs.Prelude.{Act, AreBy, BeginsWith, CallGoes, Cause, Course, Effect, EnvCourse, EnvEvent, EnvGoes, EnvGoesOn, EnvNext, EnvRequest, EnvSoFar, EnvWalk, Event, Finished, Found, Go, GoesOn, IfMade, IsLawfulWhole, LedTo, Limits, LookOver, Looked, Means, Next, ObjectEvent}
 use Rattle.ns_world.specs.Prelude.{OfLock, OfNotes, On, Part, Past, Request, Seat, SoFar, Step, Truths, Walk, WasShown, Went, Whole, asked_of, course_after, env_asked_of, env_course_after, env_got_of, env_own, env_state, env_step_of, env_walk_after, env_want_of, got_of, held_at, limits_of, lock_of, look_of}
 use Rattle.ns_world.specs.Prelude.{looked_after, looks_at, note_in, notes_of, objects_own, own, part_in, past_and, row_after, step_of, told_to, view_of, walk_after, want_of}
 use Rattle.ns_word.proofs.Courses.{takes_on}
@@ -145,14 +145,11 @@ module _ {C : Type 0} {N : ℕ} (before : Whole C N) (earlier : Past) (seat : �
       by (Finished reply) o = (o.0, untouched)
       by other o = (o.0, record { nowhere = nowhere; waits_not = waits_not; untouched = untouched })
 
-    nowhere_clash : {A : Type 0} {walk : ObjectWalk} → here.operating ≡ Some walk → A
-    nowhere_clash {walk = walk} is = let clash : None ≡ Some walk = sym u.1.nowhere ∙ is in absurd (cc)
-
     pub lock_takes_on : Kind old new seat here next step notes objects → Outcome before earlier seat (OfLock request) step now new next
     lock_takes_on (inl k) =
         let alone : (next.operating ≡ None) × (next.awaits ≡ None) × (step ≡ k.told) = (k.operating ∙ ap (λ w. due w next.walk) u.1.waits_not, k.awaits ∙ ap (λ w. left w next.walk) u.1.waits_not, k.answers ∙ ap (λ w. told_to w k.told) u.1.waits_not) in
         subst (λ s. Outcome before earlier seat (OfLock request) s now new next) (sym alone.2) (lock_so k.told u.0.course.looked k.no_notes k.no_objects alone.0 alone.1 (lock_quietly request past since u.0 k.goes k.looks_not))
-    lock_takes_on (inr (inl k)) = let clash : None ≡ Some u.0.walk = sym k.over ∙ u.0.walks in absurd (cc)
+    lock_takes_on (inr (inl k)) = clash k.over u.0.walks
     lock_takes_on (inr (inr (inl k))) =
         let on = look_takes_on request past since u.0 step notes objects led k in
         let there = by (env_got_of k.place k.found) k.leads in
@@ -161,9 +158,9 @@ module _ {C : Type 0} {N : ℕ} (before : Whole C N) (earlier : Past) (seat : �
           by (Go place) p = (ap (λ (s : Seat C N). s.operating) p.0 ∙ k.nowhere, ap (λ (s : Seat C N). s.awaits) p.0 ∙ u.1.waits_not)
           by (LookOver cause) p = (p.2, p.3)
           by n p = absurd p
-    lock_takes_on (inr (inr (inr (inl k)))) = nowhere_clash k.on.walks
-    lock_takes_on (inr (inr (inr (inr (inl k))))) = nowhere_clash k.on.walks
-    lock_takes_on (inr (inr (inr (inr (inr k))))) = nowhere_clash k.on.walks
+    lock_takes_on (inr (inr (inr (inl k)))) = clash u.1.nowhere k.on.walks
+    lock_takes_on (inr (inr (inr (inr (inl k))))) = clash u.1.nowhere k.on.walks
+    lock_takes_on (inr (inr (inr (inr (inr k))))) = clash u.1.nowhere k.on.walks
 
   -- ---- on the clock and the notes
 
@@ -215,11 +212,8 @@ module _ {C : Type 0} {N : ℕ} (before : Whole C N) (earlier : Past) (seat : �
           settle (Over reply) walks goes = record { course = course; began = u.0.began; added = added; answer = reply; tells = refl; means = goes; same = held_then ∙ held; silent = silent }
           settle (LookOver cause) walks goes = absurd (means_no_look (past.notes ++ notes) request course cause u.0.no_look goes)
 
-    elsewhere_clash : {A : Type 0} {walk : ObjectWalk} → here.operating ≡ Some walk → A
-    elsewhere_clash {walk = walk} is = let clash : None ≡ Some walk = sym u.1.nowhere ∙ is in absurd (cc)
-
     pub notes_take_on : Kind old new seat here next step notes objects → Outcome before earlier seat (OfNotes request) step after new next
-    notes_take_on (inl k) = let clash : None ≡ Some u.0.walk = sym k.unasked ∙ u.0.walks in absurd (cc)
+    notes_take_on (inl k) = clash k.unasked u.0.walks
     notes_take_on (inr (inl k)) = by step (asks_goes k) where
       untouched : objects_own after.objects seat ≡ objects_own earlier.objects seat
       untouched = no_own before earlier seat past.objects objects k.no_objects ∙ u.1.untouched
@@ -227,7 +221,7 @@ module _ {C : Type 0} {N : ℕ} (before : Whole C N) (earlier : Past) (seat : �
       by : (step : Step) → NotesOutcome before earlier seat request step after.notes new next → Outcome before earlier seat (OfNotes request) step after new next
       by (Finished reply) o = (o, untouched)
       by other o = (o, record { nowhere = ap (λ (s : Seat C N). s.operating) k.goes ∙ u.1.nowhere; waits_not = ap (λ (s : Seat C N). s.awaits) k.goes ∙ u.1.waits_not; untouched = untouched })
-    notes_take_on (inr (inr (inl k))) = let clash : None ≡ Some k.walk = sym u.0.over ∙ k.walks in absurd (cc)
-    notes_take_on (inr (inr (inr (inl k)))) = elsewhere_clash k.on.walks
-    notes_take_on (inr (inr (inr (inr (inl k))))) = elsewhere_clash k.on.walks
-    notes_take_on (inr (inr (inr (inr (inr k))))) = elsewhere_clash k.on.walks
+    notes_take_on (inr (inr (inl k))) = clash u.0.over k.walks
+    notes_take_on (inr (inr (inr (inl k)))) = clash u.1.nowhere k.on.walks
+    notes_take_on (inr (inr (inr (inr (inl k))))) = clash u.1.nowhere k.on.walks
+    notes_take_on (inr (inr (inr (inr (inr k))))) = clash u.1.nowhere k.on.walks

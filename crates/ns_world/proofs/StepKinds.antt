@@ -18,6 +18,10 @@ pub which : {A : Type 0} (o : Option A) → IsSome o → (x : A) × (o ≡ Some 
 which (Some x) some = (x, refl)
 which None some = absurd (cc)
 
+-- nothing is both
+pub clash : {A B : Type 0} {o : Option B} {x : B} → o ≡ None → o ≡ Some x → A
+clash none some = absurd (cc)
+
 -- ---- what a seat's place tells
 
 -- one that isn't busy stands in no call
@@ -55,8 +59,8 @@ module _ {C : Type 0} {N : ℕ} (setup : Setup) (notes : ℕ → NoteStanding) (
   awaits_not s p = by seat.awaits refl p s.by where
     by : (wait : Option AnyWait) → seat.awaits ≡ wait → (seat.walk ≡ None) ⊎ ((place : EnvWalk) × (seat.asking ≡ Some place)) → StandsBy setup notes seat wait → seat.awaits ≡ None
     by None is p t = is
-    by (Some wait) is (inl over) t = let clash : None ≡ Some t.walk = sym over ∙ t.walks in absurd (cc)
-    by (Some wait) is (inr asks) t = let clash : None ≡ Some asks.0 = sym t.unasked ∙ asks.1 in absurd (cc)
+    by (Some wait) is (inl over) t = clash over t.walks
+    by (Some wait) is (inr asks) t = clash t.unasked asks.1
 
 -- ---- a step on the lock
 
@@ -273,7 +277,7 @@ module _ {C : Type 0} {N : ℕ} (old new : Whole C N) (lawful : IsLawfulWhole ol
   number : here.number ≡ i
   number = number_here old lawful i here at
 
-  lock_kind : LockSteps old new here next step → OnTheLock old new i here next step [] []
+  pub lock_kind : LockSteps old new here next step → OnTheLock old new i here next step [] []
   lock_kind p =
       let then_waits : p.then.awaits ≡ here.awaits = ap (λ (s : Seat C N). s.awaits) p.performs.goes in
       let then_walks : p.then.walk ≡ walk_after (got_of N p.walk p.performs.found) = ap (λ (s : Seat C N). s.walk) p.performs.goes in

@@ -9,16 +9,16 @@ use Rattle.ns_world.proofs.OwnSteps.{lock_takes_on, notes_take_on}
 use Rattle.ns_world.proofs.Places.{IsFirstAt, IsNoLook, first_at}
 use Rattle.ns_world.proofs.SeatSet.{here_then, number_here, others_stay}
 use Rattle.ns_world.proofs.Shown.{LookSoFar, begins_on}
-use Rattle.ns_world.proofs.StepKinds.{awaits_not, kind_of, resting}
+use Rattle.ns_world.proofs.StepKinds.{awaits_not, clash, kind_of, resting}
 use Rattle.ns_world.specs.Prelude.{Add, AnswersCall, AreEnvBy, AreObjectsBy, AreThere, Ask, Asked, Call, CallFits, CounterWait, Done, EnvEvent, Event, Finished, Happens, HasLedTo, IsLawfulWhole, IsUnfinished, Meanwhile, Mode, ObjectEvent, ObjectSoFar}
-use Rattle.ns_world.specs.Prelude.{OfLock, OfNotes, OfObjects, OnCondition, OnEntry, OnLock, OnObjects, Once, Past, Reply, Seat, Start, Started, Step, ToRelease, UnlockQuiet, Value, Wait, WaitAny, Whole, WholeBegins, WholeMoves, WholeStarts, WholeStep, asked_of, asks_of}
+use Rattle.ns_world.specs.Prelude.{LockSteps, NotesSteps, ObjectsSteps, OfLock, OfNotes, OfObjects, OnCondition, OnEntry, OnLock, OnObjects, Once, Past, Reply, Seat, Start, Started, Step, ToRelease, UnlockQuiet, Value, Wait, WaitAny, Whole, WholeBegins, WholeMoves, WholeStarts, WholeStep, asked_of, asks_of}
 use Rattle.ns_world.specs.Prelude.{course_from, done_by, done_in, env_after, env_asked_of, env_course_at, env_own, happened, held_at, in_call, mode_of, mode_waited, notes_by, nothing_done, object_asked, objects_by, objects_own, own, past_and, placed, start_of, view_of}
 use Rattle.ns_counters.proofs.Objects.{own-append, own_none}
 use Rattle.ns_counters.proofs.Rounds.{later_itself}
 use Rattle.ns_env.proofs.Courses.{begins_course}
 use Rattle.ns_word.proofs.Courses.{begins_unchanged}
 use Rattle.ns_word.proofs.ToldAfter.{own_append as own_row_append, own_none as own_row_none, step_by}
-use Rattle.ns_world.proofs.StepKinds.{Goes, Kind, goes_steps, makes_means}
+use Rattle.ns_world.proofs.StepKinds.{Goes, Kind, goes_steps, lock_kind, makes_means}
 
 -- what another's step adds to the row's history is none of the seat's
 module _ {C : Type 0} {N : ℕ} (old new : Whole C N) (lawful : IsLawfulWhole old) (other : ℕ) (here next : Seat C N) (at : slice_get old.seats other ≡ Some here) (seats : new.seats ≡ slice_set old.seats other next) (seat : ℕ) (ne : other ≢ seat) where
@@ -26,13 +26,10 @@ module _ {C : Type 0} {N : ℕ} (old new : Whole C N) (lawful : IsLawfulWhole ol
   goes_row {told} g = ap (λ h. own h seat) g.grows ∙ own_row_append seat old.history g.commits
       ∙ ap (λ es. own old.history seat ++ es) (own_row_none here.number seat g.commits (λ e. ne (sym (number_here old lawful other here at) ∙ e)) (step_by old.truths _ (view_of here) g.found _ g.commits (goes_steps old new other here next told at seats g))) ∙ append-nil (own old.history seat)
 
-  kind_row : (step : Step) (notes : List EnvEvent) (objects : List ObjectEvent) → Kind old new other here next step notes objects → own new.history seat ≡ own old.history seat
-  kind_row step notes objects (inl k) = goes_row k.goes
-  kind_row step notes objects (inr (inl k)) = ap (λ (w : Whole C N). own w.history seat) k.same
-  kind_row step notes objects (inr (inr (inl k))) = ap (λ (w : Whole C N). own w.history seat) k.same
-  kind_row step notes objects (inr (inr (inr (inl k)))) = ap (λ (w : Whole C N). own w.history seat) k.on.same
-  kind_row step notes objects (inr (inr (inr (inr (inl k))))) = ap (λ (w : Whole C N). own w.history seat) k.on.same
-  kind_row step notes objects (inr (inr (inr (inr (inr k))))) = ap (λ (w : Whole C N). own w.history seat) k.on.same
+  makes_row : (step : Step) → LockSteps old new here next step ⊎ (NotesSteps old new here next step ⊎ ObjectsSteps old new here next step) → own new.history seat ≡ own old.history seat
+  makes_row step (inl p) = goes_row (lock_kind old new lawful other step here next at p).goes
+  makes_row step (inr (inl p)) = ap (λ (w : Whole C N). own w.history seat) p.same
+  makes_row step (inr (inr p)) = ap (λ (w : Whole C N). own w.history seat) p.same
 
 -- what a step leaves of what the conditions mean, and of how the objects began
 step_means : {C : Type 0} {N : ℕ} (old new : Whole C N) (seat : ℕ) (step : Step) → WholeStep old new seat step → (new.truths ≡ old.truths) × (new.objects.setup ≡ old.objects.setup)
@@ -85,7 +82,7 @@ module _ (C : Type 0) (N : ℕ) (before : Whole C N) (earlier : Past) (seat : �
 
       row : WholeStep old new other step → own new.history seat ≡ own old.history seat
       row (inl q) = ap (λ (w : Whole C N). own w.history seat) q.1
-      row (inr q) = kind_row old new lawful other q.here q.next q.at q.seats seat ne step (notes_by other q.makes) (objects_by q.makes) (kind_of old new lawful other step q.here q.next q.at q.makes)
+      row (inr q) = makes_row old new lawful other q.here q.next q.at q.seats seat ne step q.makes
 
     starts_there : (call : Call C) → WholeStarts old new other call → UnderwayIn before earlier seat asked (past_and past nothing_done) new
     starts_there call p =
@@ -193,10 +190,10 @@ module _ (C : Type 0) (N : ℕ) (before : Whole C N) (earlier : Past) (seat : �
 
   -- a seat whose call is under way isn't idle
   busy_in : (asked : Asked C) (past : Past) (history : List (Event C N)) (here : Seat C N) → HasCome before earlier seat asked past history here → in_call here ≡ false → ⊥
-  busy_in (OfLock request) past history here u idle = let clash : None ≡ Some u.0.walk = sym (resting here idle).0 ∙ u.0.walks in absurd (cc)
-  busy_in (OfNotes request) past history here u idle = let clash : None ≡ Some u.0.walk = sym (resting here idle).1 ∙ u.0.walks in absurd (cc)
-  busy_in (OfObjects asked) past history here (inl u) idle = let clash : None ≡ Some u.walk = sym (resting here idle).2 ∙ u.walks in absurd (cc)
-  busy_in (OfObjects asked) past history here (inr u) idle = let clash : None ≡ Some u.lock.walk = sym (resting here idle).0 ∙ u.lock.walks in absurd (cc)
+  busy_in (OfLock request) past history here u idle = clash (resting here idle).0 u.0.walks
+  busy_in (OfNotes request) past history here u idle = clash (resting here idle).1 u.0.walks
+  busy_in (OfObjects asked) past history here (inl u) idle = clash (resting here idle).2 u.walks
+  busy_in (OfObjects asked) past history here (inr u) idle = clash (resting here idle).0 u.lock.walks
 
   idle_not : (asked : Asked C) (past : Past) (world : Whole C N) (here : Seat C N) → UnderwayIn before earlier seat asked past world → slice_get world.seats seat ≡ Some here → in_call here ≡ false → ⊥
   idle_not asked past world here u at idle = busy_in asked past world.history u.here u.has (ap in_call (same_Some _ _ (sym u.at ∙ at)) ∙ idle)
