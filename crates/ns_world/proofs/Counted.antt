@@ -12,7 +12,7 @@ use Rattle.ns_word.specs.declared.act.Found.TheVariants as TheFound
 use Rattle.ns_env.specs.declared.walk.EnvNext.TheVariants.{Over}
 use Rattle.ns_world.proofs.Fresh.{each_same}
 use Rattle.ns_world.proofs.SeatSet.{here_then, others_stay}
-use Rattle.ns_world.proofs.StepKinds.{due, waited_operating, waited_view}
+use Rattle.ns_world.proofs.StepKinds.{look_due, waited_operating, waited_view}
 use Rattle.ns_world.proofs.Turns.{busy_at}
 use Rattle.std.specs.Option.{option_map_or}
 use Rattle.ns_counters.specs.declared.walk.ObjectNext.TheVariants as TheObject
@@ -57,9 +57,9 @@ waits_nowhere : (wait : Option AnyWait) (walk : ObjectWalk) (reply : Reply) → 
 waits_nowhere None walk reply not = refl
 waits_nowhere (Some wait) walk reply not = absurd (cc)
 
-due_none : (C : Type 0) (wait : Option AnyWait) → due {C = C} wait None ≡ None
-due_none C None = refl
-due_none C (Some wait) = refl
+look_due_none : (C : Type 0) (wait : Option AnyWait) → look_due {C = C} wait None ≡ None
+look_due_none C None = refl
+look_due_none C (Some wait) = refl
 
 told_over : (wait : Option AnyWait) (told : Step) (reply : Reply) → Finished reply ≡ told_to wait told → (answer : Reply) × (Finished answer ≡ told)
 told_over None told reply e = (reply, e)
@@ -105,7 +105,7 @@ module _ {C : Type 0} {N : ℕ} where
       let walk : p.then.walk ≡ None = ap (λ (s : Seat C N). s.walk) p.performs.goes ∙ over in
       let view = waited_view p.then.awaits p.then.walk p.then in
       nowhere_idle next (ap (λ (s : Seat C N). s.walk) p.goes ∙ ap (λ (v : SeatView C N). v.walk) view.0 ∙ walk) (ap (λ (s : Seat C N). s.asking) p.goes ∙ view.1 ∙ ap (λ (s : Seat C N). s.asking) p.performs.goes ∙ ap look_of over)
-      (ap (λ (s : Seat C N). s.operating) p.goes ∙ waited_operating p.then.awaits p.then.walk p.then (ap (λ (s : Seat C N). s.operating) p.performs.goes ∙ p.nowhere) ∙ ap (due p.then.awaits) walk ∙ due_none C p.then.awaits)
+      (ap (λ (s : Seat C N). s.operating) p.goes ∙ waited_operating p.then.awaits p.then.walk p.then (ap (λ (s : Seat C N). s.operating) p.performs.goes ∙ p.nowhere) ∙ ap (look_due p.then.awaits) walk ∙ look_due_none C p.then.awaits)
   makes_over old new here next reply (inr (inl p)) = by here.walk refl p.moves where
     by : (walk : Option (Walk C)) → here.walk ≡ walk → MovesFrom walk old.env new.env here p.place next (Finished reply) → in_call next ≡ false
     by None over q = nowhere_idle next (ap (λ (s : Seat C N). s.walk) q.goes ∙ over) (ap (λ (s : Seat C N). s.asking) q.goes ∙ over_unasked (env_got_of p.place q.found) reply q.answers) (ap (λ (s : Seat C N). s.operating) q.goes ∙ p.nowhere)

@@ -204,13 +204,10 @@ module _ {C : Type 0} {N : ℕ} (before : Whole C N) (earlier : Past) (seat : �
     untouched = own_same ∙ o.untouched;
   }
 
-  leaves_rest : (past more : Past) (here : Seat C N) → objects_own (past.objects ++ more.objects) seat ≡ objects_own past.objects seat → LeavesObjects past here → LeavesObjects (past_and past more) here
-  leaves_rest past more here own_same u = record { nowhere = u.nowhere; waits_not = u.waits_not; untouched = own_same ∙ u.untouched }
-
   -- where another has moved, the call has come as far
   pub has_rests : (asked : Asked C) (past more : Past) (history later : List (Event C N)) (here : Seat C N) → AddsNothing past more history later → HasCome asked past history here → HasCome asked (past_and past more) later here
   unfolding lock_rests
-  has_rests (OfLock request) past more history later here r u = (lock_rests request past.notes more.notes history later here r.row r.notes u.0, leaves_rest past more here r.objects u.1)
+  has_rests (OfLock request) past more history later here r u = (lock_rests request past.notes more.notes history later here r.row r.notes u.0, record { nowhere = u.1.nowhere; waits_not = u.1.waits_not; untouched = r.objects ∙ u.1.untouched })
   has_rests (OfNotes request) past more history later here r u = (
     record {
       over = u.0.over;
@@ -225,7 +222,7 @@ module _ {C : Type 0} {N : ℕ} (before : Whole C N) (earlier : Past) (seat : �
       silent = r.row ∙ u.0.silent;
       no_look = u.0.no_look;
     },
-    leaves_rest past more here r.objects u.1,
+    record { nowhere = u.1.nowhere; waits_not = u.1.waits_not; untouched = r.objects ∙ u.1.untouched },
   )
   has_rests (OfObjects asked) past more history later here r (inl u) = inl (record {
     same = u.same;

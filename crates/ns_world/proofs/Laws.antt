@@ -7,7 +7,7 @@ use Rattle.ns_world.proofs.Looking.{LookLeads, LooksOut, leads_on, look_leads, n
 use Rattle.ns_world.proofs.Mapped.{got-map}
 use Rattle.ns_world.proofs.Places.{StartFits, begins_alone, first_at, first_fits, place_of, section_fits, start_alone, start_fits, start_may}
 use Rattle.ns_world.proofs.SeatSet.{lawful_set, reads, settled_here, stands_more, stays, view_at}
-use Rattle.ns_world.proofs.StepKinds.{BeginsToWait, EndsLook, Goes, Kind, LockStays, LookGoes, OnALook, OnTheLock, Operates, due, goes_steps, kind_of, left, lock_stays, makes_means, resting, stands_alone, stands_waiting, awaits_not}
+use Rattle.ns_world.proofs.StepKinds.{BeginsToWait, EndsLook, Goes, Kind, LockStays, LookGoes, OnALook, OnTheLock, Operates, goes_steps, look_due, kind_of, lock_stays, makes_means, resting, stands_alone, stands_waiting, awaits_not, wait_left}
 use Rattle.ns_world.specs.Prelude.{Act, AnyWait, AreEnvBy, AreObjectsBy, AreThere, Ask, AsksFor, Call, CallInRange, EnvEvent, EnvNext, EnvPlain, FirstClock, Go, HasLedTo, HaveLedTo, IfMade, InRound, IsFirst}
 use Rattle.ns_world.specs.Prelude.{IsLawfulWhole, LedTo, LookOver, LooksWhere, MayWaitOnLock, NeedsSection, ObjectEvent, ObjectNext, ObjectWalk, OnLock, OnObjects, Over, Past, PlaceFits, QuietKeeps, Repeat}
 use Rattle.ns_world.specs.Prelude.{Seat, SeatStands, StandsAlone, StandsBy, Start, Step, Truths, WaitsOnLock, Walk, Whole, WholeMoves, WholeStarts, WholeStep, asked_of, asks_for_any, cause_of, done_in, env_got_of, env_walk_after}
@@ -95,11 +95,11 @@ module _ {C : Type 0} {N : ℕ} (old new : Whole C N) (lawful : IsLawfulWhole ol
   looks_next wait walk act looks next same not = absurd (cc)
 
   module _ (step : Step) (notes : List EnvEvent) (events : List ObjectEvent) where
-    lock_stands : (k : OnTheLock old new i here next step notes events) → (wait : Option AnyWait) → here.awaits ≡ wait → (walk : Option (Walk C)) → next.walk ≡ walk → StandsBy old.objects.setup old.env.notes next (left wait walk)
-    lock_stands k None waits walk is = goes_alone k.goes waits (k.operating ∙ ap (λ w. due w next.walk) waits)
-    lock_stands k (Some wait) waits None is = nowhere_alone next (k.operating ∙ (λ j. due (waits j) (is j))) (ap is_alone is)
+    lock_stands : (k : OnTheLock old new i here next step notes events) → (wait : Option AnyWait) → here.awaits ≡ wait → (walk : Option (Walk C)) → next.walk ≡ walk → StandsBy old.objects.setup old.env.notes next (wait_left wait walk)
+    lock_stands k None waits walk is = goes_alone k.goes waits (k.operating ∙ ap (λ w. look_due w next.walk) waits)
+    lock_stands k (Some wait) waits None is = nowhere_alone next (k.operating ∙ (λ j. look_due (waits j) (is j))) (ap is_alone is)
     lock_stands k (Some wait) waits (Some walk) is =
-        waits_then wait (stands_waiting old.objects.setup old.env.notes here stands wait waits) k.goes walk (sym k.goes.to ∙ is) wait.shown (subst (λ w. LooksWhere wait.round w (want_of walk)) (sym (k.operating ∙ (λ j. due (waits j) (is j)))) (looks_due wait walk (is_some (looks_at (want_of walk))) refl))
+        waits_then wait (stands_waiting old.objects.setup old.env.notes here stands wait waits) k.goes walk (sym k.goes.to ∙ is) wait.shown (subst (λ w. LooksWhere wait.round w (want_of walk)) (sym (k.operating ∙ (λ j. look_due (waits j) (is j)))) (looks_due wait walk (is_some (looks_at (want_of walk))) refl))
 
     objects_stand : (k : Operates old new i here next step notes events) → (wait : Option AnyWait) → here.awaits ≡ wait → StandsBy old.objects.setup old.env.notes (record here { operating = object_after (object_got k.on.walk k.on.found) }) wait
     objects_stand k None waits =
@@ -120,14 +120,14 @@ module _ {C : Type 0} {N : ℕ} (old new : Whole C N) (lawful : IsLawfulWhole ol
         }
 
     -- what a kind of step leaves: of the seat its number; the seat stands as it may, and the lock keeps its law
-    record Then : Type 0 where
+    record Leaves : Type 0 where
       number : next.number ≡ here.number
       seat : SeatStands old.objects.setup old.env.notes next
       lock : IsLawful new.truths (length old.seats) new.history (lock_of new)
 
     module _ (some : 0 < N) (quiet : QuietKeeps N old.truths) where
-      look_then : (k : OnALook old new i here next step notes events) (n : EnvNext) → LookLeads k.for.0 n → LookGoes old new i here next step notes events n → Then
-      look_then k (Go place) fits g = record {
+      look_leaves : (k : OnALook old new i here next step notes events) (n : EnvNext) → LookLeads k.for.0 n → LookGoes old new i here next step notes events n → Leaves
+      look_leaves k (Go place) fits g = record {
         number = ap (λ (s : Seat C N). s.number) g.0;
         seat = subst (SeatStands old.objects.setup old.env.notes) (sym g.0) (record {
           right = subst (λ w. AsksFor w (Some place)) (sym k.walks) (k.for.0, k.for.1, fits);
@@ -138,15 +138,15 @@ module _ {C : Type 0} {N : ℕ} (old new : Whole C N) (lawful : IsLawfulWhole ol
       } where
         waits_not : here.awaits ≡ None
         waits_not = awaits_not old.objects.setup old.env.notes here stands (inr (k.place, k.stands))
-      look_then k (LookOver cause) fits g = record {
+      look_leaves k (LookOver cause) fits g = record {
         number = g.0.number;
         seat = goes_stands g.0 (subst (StandsBy old.objects.setup old.env.notes next) (sym g.3) (goes_alone g.0 (awaits_not old.objects.setup old.env.notes here stands (inr (k.place, k.stands))) g.2));
         lock = goes_lawful some quiet g.0;
       }
-      look_then k n fits g = absurd g
+      look_leaves k n fits g = absurd g
 
-      begins_then : BeginsToWait old new i here next step notes events → Then
-      begins_then k = record {
+      begins_leaves : BeginsToWait old new i here next step notes events → Leaves
+      begins_leaves k = record {
         number = ap (λ (s : Seat C N). s.number) k.goes;
         seat = subst (SeatStands old.objects.setup old.env.notes) (sym k.goes) (record {
           right = subst (AsksFor (Some walk)) (sym rests.1) (λ not. fits.3);
@@ -173,8 +173,8 @@ module _ {C : Type 0} {N : ℕ} (old new : Whole C N) (lawful : IsLawfulWhole ol
         fits : StartFits old.truths old.env.notes (OnLock (wait_first N (waits_for_any (mode_waited (mode_of here.held)) k.cvs))) here.held
         fits = section_fits old.truths old.env.notes k.cvs here.held (subst (λ w. MayWaitOnLock w here.held) stood alone.may k.named) k.variables (settled_here old lawful i here at rests.0)
 
-      ends_then : EndsLook old new i here next step notes events → Then
-      ends_then k =
+      ends_leaves : EndsLook old new i here next step notes events → Leaves
+      ends_leaves k =
           let leads = leads_on N k.goes.walk (cause_of (shown_by k.on.told)) (subst LooksOut (sym (same_walk k.wait k.out.0 k.goes)) k.out.1) in
           let is = ap (λ f. walk_after (got_of N k.goes.walk f)) k.looked ∙ leads.is in
           record {
@@ -183,13 +183,13 @@ module _ {C : Type 0} {N : ℕ} (old new : Whole C N) (lawful : IsLawfulWhole ol
             lock = goes_lawful some quiet k.goes;
           }
 
-      then_of : Kind old new i here next step notes events → Then
-      then_of (inl k) = record {
+      leaves_of : Kind old new i here next step notes events → Leaves
+      leaves_of (inl k) = record {
         number = k.goes.number;
         seat = goes_stands k.goes (subst (StandsBy old.objects.setup old.env.notes next) (sym k.awaits) (lock_stands k here.awaits refl next.walk refl));
         lock = goes_lawful some quiet k.goes;
       }
-      then_of (inr (inl k)) =
+      leaves_of (inr (inl k)) =
           let after = env_walk_after (env_got_of k.walk k.found) in
           let waits_not = awaits_not old.objects.setup old.env.notes here stands (inl k.over) in
           record {
@@ -201,19 +201,19 @@ module _ {C : Type 0} {N : ℕ} (old new : Whole C N) (lawful : IsLawfulWhole ol
             });
             lock = stays_lawful (lock_stays old new new.env old.objects k.same) (ap view_of k.goes);
           }
-      then_of (inr (inr (inl k))) = look_then k (env_got_of k.place k.found) (look_leads k.for.0 k.place k.for.2 i old.env old.env k.found [] k.effect) k.leads
-      then_of (inr (inr (inr (inl k)))) = record {
+      leaves_of (inr (inr (inl k))) = look_leaves k (env_got_of k.place k.found) (look_leads k.for.0 k.place k.for.2 i old.env old.env k.found [] k.effect) k.leads
+      leaves_of (inr (inr (inr (inl k)))) = record {
         number = ap (λ (s : Seat C N). s.number) k.goes;
         seat = subst (SeatStands old.objects.setup old.env.notes) (sym k.goes) (record { right = stands.right; noted = stands.noted; by = objects_stand k here.awaits refl });
         lock = stays_lawful (lock_stays old new old.env (record old.objects { words = new.objects.words }) k.on.same) (ap view_of k.goes);
       }
-      then_of (inr (inr (inr (inr (inl k))))) = ends_then k
-      then_of (inr (inr (inr (inr (inr k))))) = begins_then k
+      leaves_of (inr (inr (inr (inr (inl k))))) = ends_leaves k
+      leaves_of (inr (inr (inr (inr (inr k))))) = begins_leaves k
 
       pub kind_keeps : Kind old new i here next step notes events → new.objects.setup ≡ old.objects.setup → IsLawfulWhole new
       kind_keeps k setup =
           let on = (kind_led old new lawful i here next at seats step lawful.past lawful.led notes events k).2 in
-          let t = then_of k in
+          let t = leaves_of k in
           let more = led_makes lawful.past.notes notes old new lawful.led.0 on.0 in
           lawful_set old new i here next lawful at seats t.number setup more (stands_more old.objects.setup old.env.notes new.env.notes more next t.seat) t.lock (past_and lawful.past (record { notes = notes; objects = events })) on
 

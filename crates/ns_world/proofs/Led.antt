@@ -6,7 +6,7 @@ use Rattle.ns_world.proofs.Looking.{FirstIf, first_if, noted}
 use Rattle.ns_world.proofs.Mapped.{got-map}
 use Rattle.ns_world.proofs.Places.{IsFirstAt, ask_of, place_of}
 use Rattle.ns_world.proofs.SeatSet.{reads, within}
-use Rattle.ns_world.proofs.StepKinds.{Goes, Kind, LookGoes, OnTheObjects, due}
+use Rattle.ns_world.proofs.StepKinds.{Goes, Kind, LookGoes, OnTheObjects, look_due}
 use Rattle.ns_world.specs.Prelude.{AnyWait, AreEnvBy, AreObjectsBy, Ask, EnvAct, EnvEffect, EnvEvent, EnvFound, EnvNext, EnvPlain, EnvWalk, FirstClock, Go, HasLedTo, IfMade, InRound, IsLawfulEnv, IsLawfulObjects}
 use Rattle.ns_world.specs.Prelude.{IsLawfulWhole, LedTo, LookOver, NoteStanding, ObjectEvent, ObjectStanding, ObjectWalk, OnLock, OnObjects, Past}
 use Rattle.ns_world.specs.Prelude.{Seat, SeatStands, Setup, StandsBy, Start, Step, Walk, Went, Whole, env_got_of, env_state, env_walk_after, env_want_of}
@@ -36,7 +36,7 @@ pub led_makes : {C : Type 0} {N : ℕ} (events more : List EnvEvent) (old new : 
 led_makes events more old new was now n made = subst (λ (notes : ℕ → NoteStanding). (notes n).made ≡ true) (sym now.lawful.meets.notes)
     (made_begins (events ++ more) events n now.lawful.meets.legal (more, refl) (subst (λ (notes : ℕ → NoteStanding). (notes n).made ≡ true) was.lawful.meets.notes made))
 
-due_fits : {C : Type 0} {N : ℕ} (setup : Setup) (now : ObjectStanding) (notes : ℕ → NoteStanding) (i : ℕ) (seat : Seat C N) (wait : Option AnyWait) → StandsBy setup notes seat wait → (walk : Option (Walk C)) → Fit setup now notes i (due wait walk)
+due_fits : {C : Type 0} {N : ℕ} (setup : Setup) (now : ObjectStanding) (notes : ℕ → NoteStanding) (i : ℕ) (seat : Seat C N) (wait : Option AnyWait) → StandsBy setup notes seat wait → (walk : Option (Walk C)) → Fit setup now notes i (look_due wait walk)
 due_fits setup now notes i seat None s walk = tt
 due_fits setup now notes i seat (Some wait) s None = tt
 due_fits setup now notes i seat (Some wait) s (Some walk) = by (is_some (looks_at (want_of walk))) where
@@ -146,7 +146,7 @@ module _ {C : Type 0} {N : ℕ} (old new : Whole C N) (lawful : IsLawfulWhole ol
               (put_keeps (past.objects ++ events) (record (objects_of old) { words = new.objects.words; walks = slice_set walks i after }) old.env.notes i None (subst (λ n. i < n) (sym (length-set walks i after)) inside) low tt p))
 
     objects_led : (notes : List EnvEvent) (events : List ObjectEvent) → Kind old new i here next step notes events → ObjectsLed events
-    objects_led notes events (inl k) = put_led events (due here.awaits next.walk) k.no_objects k.objects_stay k.operating (due_fits old.objects.setup (objects_after old.objects.setup past.objects) old.env.notes i here here.awaits stands.by next.walk)
+    objects_led notes events (inl k) = put_led events (look_due here.awaits next.walk) k.no_objects k.objects_stay k.operating (due_fits old.objects.setup (objects_after old.objects.setup past.objects) old.env.notes i here here.awaits stands.by next.walk)
     objects_led notes events (inr (inl k)) = put_led events None k.no_objects (ap (λ (w : Whole C N). w.objects) k.same) (ap (λ (s : Seat C N). s.operating) k.goes ∙ k.nowhere) tt
     objects_led notes events (inr (inr (inl k))) = put_led events None k.no_objects (ap (λ (w : Whole C N). w.objects) k.same) (by (env_got_of k.place k.found) k.leads) tt where
       by : (n : EnvNext) → LookGoes old new i here next step notes events n → next.operating ≡ None

@@ -9,7 +9,7 @@ use Rattle.ns_world.proofs.Mapped.{got-map}
 use Rattle.ns_world.proofs.OwnSteps.{lock_looked, lock_quietly}
 use Rattle.ns_world.proofs.SeatSet.{here_then}
 use Rattle.ns_world.proofs.Shown.{LookSoFar, begins_on}
-use Rattle.ns_world.proofs.StepKinds.{BeginsToWait, EndsLook, Kind, OnTheLock, OnTheObjects, Operates, clash, due, left, stands_alone, stands_waiting}
+use Rattle.ns_world.proofs.StepKinds.{BeginsToWait, EndsLook, Kind, OnTheLock, OnTheObjects, Operates, clash, look_due, stands_alone, stands_waiting, wait_left}
 use Rattle.ns_world.specs.Prelude.{Answer, AnswersOfLock, AnswersTo, Any, AnyAnswers, AnyMeans, AnyWait, AreObjectsBy, BeginsWith, Cause, EnvEvent, Finished, FirstClock, Found, HasLedTo, Held, Idle, InHand, InRound, IsLater, IsLawful, IsLawfulWhole, IsReady, IsUnfinished}
 use Rattle.ns_world.specs.Prelude.{MayEnd, Means, Next, Number, ObjectEvent, ObjectGoes, ObjectNext, ObjectSoFar, ObjectWalk, OfObjects, On, OnVariables, Over, Past, PlaceBy, Repeat, Reply, Round, RoundGo, RoundNext, RoundOver, RoundPlace, RoundSoFar, Seat, SeatStands, SoFar}
 use Rattle.ns_world.specs.Prelude.{StandsAlone, Step, WaitMeans, Walk, WalkFits, WalkReply, WereThere, Whole, asked_of, at_will, by_round, cause_of, course_from, env_after, env_own, got_of, held_at, is_for_lock, items_of, looked_after, looks_at, mode_of, mode_waited, nothing_done, notes_of}
@@ -274,8 +274,8 @@ module _ {C : Type 0} {N : ℕ} (before : Whole C N) (earlier : Past) (seat : �
             let after = goes_after (got_of N k.goes.walk k.goes.found) (subst IsUnfinished k.goes.answers goes) in
             let walk : next.walk ≡ Some after.0 = k.goes.to ∙ after.1 in
             let lock = lock_unfinished before earlier seat (wait_for before earlier seat o.cvs) k.told (past.notes ++ []) new next o.lock.course.looked goes outcome in
-            waits_on before earlier seat asked past nothing_done old.history new.history here next o o.shown (no_own before earlier seat past.objects [] refl) lock.0 (subst (AsShown o.shown) (sym lock.1) o.looked) (k.awaits ∙ (λ i. left (o.waits i) (walk i))) still_shown
-            (round_due waiting after.0) (k.operating ∙ (λ i. due (o.waits i) (walk i))) (looks (is_some (looks_at (want_of after.0)))) where
+            waits_on before earlier seat asked past nothing_done old.history new.history here next o o.shown (no_own before earlier seat past.objects [] refl) lock.0 (subst (AsShown o.shown) (sym lock.1) o.looked) (k.awaits ∙ (λ i. wait_left (o.waits i) (walk i))) still_shown
+            (round_due waiting after.0) (k.operating ∙ (λ i. look_due (o.waits i) (walk i))) (looks (is_some (looks_at (want_of after.0)))) where
               looks : (b : Bool) → RoundOn before earlier seat o.round mid here_now (cond b (Some (InRound o.round FirstClock)) None)
               looks true = (refl, rounds_before o.shown here_now still_until still_shown)
               looks false = tt

@@ -8,7 +8,7 @@ use Rattle.ns_world.proofs.Looking.{first_if, noted}
 use Rattle.ns_world.proofs.Mapped.{got-map}
 use Rattle.ns_world.proofs.SeatSet.{here_then, number_here}
 use Rattle.ns_world.proofs.Shown.{LookSoFar, Says, begins_on, limits_are, look_begins, look_means, means_no_look, place_asks, shown_none, shown_so}
-use Rattle.ns_world.proofs.StepKinds.{Goes, Kind, LookGoes, OnALook, OnTheNotes, clash, due, goes_steps, left}
+use Rattle.ns_world.proofs.StepKinds.{Goes, Kind, LookGoes, OnALook, OnTheNotes, clash, goes_steps, look_due, wait_left}
 use Rattle.ns_world.specs.Prelude.{Act, AreBy, BeginsWith, CallGoes, Cause, Course, Effect, EnvCourse, EnvEvent, EnvGoes, EnvGoesOn, EnvNext, EnvRequest, EnvSoFar, EnvWalk, Event, Finished, Found, Go, GoesOn, IfMade, IsLawfulWhole, LedTo, Limits, LookOver, Looked, Means, Next, ObjectEvent}
 use Rattle.ns_world.specs.Prelude.{OfLock, OfNotes, On, Part, Past, Request, Seat, SoFar, Step, Truths, Walk, WasShown, Went, Whole, asked_of, course_after, env_asked_of, env_course_after, env_got_of, env_own, env_state, env_step_of, env_walk_after, env_want_of, got_of, held_at, limits_of, lock_of, look_of}
 use Rattle.ns_world.specs.Prelude.{looked_after, looks_at, note_in, notes_of, objects_own, own, part_in, past_and, row_after, step_of, told_to, view_of, walk_after, want_of}
@@ -147,7 +147,7 @@ module _ {C : Type 0} {N : ℕ} (before : Whole C N) (earlier : Past) (seat : �
 
     pub lock_takes_on : Kind old new seat here next step notes objects → Outcome before earlier seat (OfLock request) step now new next
     lock_takes_on (inl k) =
-        let alone : (next.operating ≡ None) × (next.awaits ≡ None) × (step ≡ k.told) = (k.operating ∙ ap (λ w. due w next.walk) u.1.waits_not, k.awaits ∙ ap (λ w. left w next.walk) u.1.waits_not, k.answers ∙ ap (λ w. told_to w k.told) u.1.waits_not) in
+        let alone : (next.operating ≡ None) × (next.awaits ≡ None) × (step ≡ k.told) = (k.operating ∙ ap (λ w. look_due w next.walk) u.1.waits_not, k.awaits ∙ ap (λ w. wait_left w next.walk) u.1.waits_not, k.answers ∙ ap (λ w. told_to w k.told) u.1.waits_not) in
         subst (λ s. Outcome before earlier seat (OfLock request) s now new next) (sym alone.2) (lock_so k.told u.0.course.looked k.no_notes k.no_objects alone.0 alone.1 (lock_quietly request past since u.0 k.goes k.looks_not))
     lock_takes_on (inr (inl k)) = clash k.over u.0.walks
     lock_takes_on (inr (inr (inl k))) =

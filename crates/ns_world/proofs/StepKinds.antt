@@ -122,14 +122,14 @@ sees_goes {C} {N} old new here seat next walk limits cause step walks looks may 
 -- ---- the kinds
 
 -- where a wait on the lock for variables among objects is to look at these, after a step
-abbrev pub due : {C : Type 0} → Option AnyWait → Option (Walk C) → Option ObjectWalk
-due (Some wait) (Some walk) = round_due wait walk
-due wait walk = None
+abbrev pub look_due : {C : Type 0} → Option AnyWait → Option (Walk C) → Option ObjectWalk
+look_due (Some wait) (Some walk) = round_due wait walk
+look_due wait walk = None
 
 -- whether it goes on
-abbrev pub left : {C : Type 0} → Option AnyWait → Option (Walk C) → Option AnyWait
-left (Some wait) None = None
-left wait walk = wait
+abbrev pub wait_left : {C : Type 0} → Option AnyWait → Option (Walk C) → Option AnyWait
+wait_left (Some wait) None = None
+wait_left wait walk = wait
 
 module _ {C : Type 0} {N : ℕ} (old new : Whole C N) (i : ℕ) (here next : Seat C N) (step : Step) (notes : List EnvEvent) (objects : List ObjectEvent) where
   -- on the lock
@@ -139,8 +139,8 @@ module _ {C : Type 0} {N : ℕ} (old new : Whole C N) (i : ℕ) (here next : Sea
     pub told : Step
     pub goes : Goes old new here next told
     pub looks_not : looks_at (want_of goes.walk) ≡ None
-    pub operating : next.operating ≡ due here.awaits next.walk
-    pub awaits : next.awaits ≡ left here.awaits next.walk
+    pub operating : next.operating ≡ look_due here.awaits next.walk
+    pub awaits : next.awaits ≡ wait_left here.awaits next.walk
     pub answers : step ≡ told_to here.awaits told
     pub env : new.env ≡ old.env
     pub objects_stay : new.objects ≡ old.objects
@@ -254,12 +254,12 @@ module _ {C : Type 0} {N : ℕ} where
   waited_view (Some wait) None seat = (refl, refl)
   waited_view (Some wait) (Some walk) seat = (refl, refl)
 
-  pub waited_operating : (wait : Option AnyWait) (walk : Option (Walk C)) (seat : Seat C N) → seat.operating ≡ None → (waited_seat wait walk seat).operating ≡ due wait walk
+  pub waited_operating : (wait : Option AnyWait) (walk : Option (Walk C)) (seat : Seat C N) → seat.operating ≡ None → (waited_seat wait walk seat).operating ≡ look_due wait walk
   waited_operating None walk seat nowhere = nowhere
   waited_operating (Some wait) None seat nowhere = refl
   waited_operating (Some wait) (Some walk) seat nowhere = refl
 
-  waited_awaits : (wait : Option AnyWait) (walk : Option (Walk C)) (seat : Seat C N) → seat.awaits ≡ wait → (waited_seat wait walk seat).awaits ≡ left wait walk
+  waited_awaits : (wait : Option AnyWait) (walk : Option (Walk C)) (seat : Seat C N) → seat.awaits ≡ wait → (waited_seat wait walk seat).awaits ≡ wait_left wait walk
   waited_awaits None walk seat waits = waits
   waited_awaits (Some wait) None seat waits = refl
   waited_awaits (Some wait) (Some walk) seat waits = waits
@@ -302,8 +302,8 @@ module _ {C : Type 0} {N : ℕ} (old new : Whole C N) (lawful : IsLawfulWhole ol
           answers = p.performs.answers;
         };
         looks_not = p.is_no_look;
-        operating = ap (λ (s : Seat C N). s.operating) p.goes ∙ waited_operating p.then.awaits p.then.walk p.then (ap (λ (s : Seat C N). s.operating) p.performs.goes ∙ p.nowhere) ∙ (λ k. due (then_waits k) (walk_is k));
-        awaits = ap (λ (s : Seat C N). s.awaits) p.goes ∙ waited_awaits p.then.awaits p.then.walk p.then refl ∙ (λ k. left (then_waits k) (walk_is k));
+        operating = ap (λ (s : Seat C N). s.operating) p.goes ∙ waited_operating p.then.awaits p.then.walk p.then (ap (λ (s : Seat C N). s.operating) p.performs.goes ∙ p.nowhere) ∙ (λ k. look_due (then_waits k) (walk_is k));
+        awaits = ap (λ (s : Seat C N). s.awaits) p.goes ∙ waited_awaits p.then.awaits p.then.walk p.then refl ∙ (λ k. wait_left (then_waits k) (walk_is k));
         answers = p.answers ∙ ap (λ w. told_to w p.told) then_waits;
         env = ap (λ (w : Whole C N). w.env) p.same;
         objects_stay = ap (λ (w : Whole C N). w.objects) p.same;

@@ -7,7 +7,7 @@ use Rattle.ns_world.proofs.Mapped.{got-map}
 use Rattle.ns_world.proofs.Places.{fits_more}
 use Rattle.ns_world.proofs.SeatSet.{number_here, split_here}
 use Rattle.ns_world.proofs.StepKinds.{looks_not, stands_alone, stands_waiting}
-use Rattle.ns_world.specs.Prelude.{ActFits, AnyWait, AsksFor, CanTell, Commits, EnvActFits, EnvWalk, Every, Idle, InRound, IsFew, IsLawfulWhole, IsLow, Item, MayWaitOnLock, NoteStanding, ObjectStanding, ObjectWalk, OnVariable, OutOfMemory, Seat, SeatStands, SeatView, Setup, Step, StepFits, WalkFits, Walk, Whole}
+use Rattle.ns_world.specs.Prelude.{ActFits, AnyWait, CanTell, Commits, EnvActFits, EnvWalk, Every, Idle, InRound, IsFew, IsLawfulWhole, IsLow, Item, MayWaitOnLock, NoteStanding, ObjectStanding, ObjectWalk, OnVariable, OutOfMemory, Seat, SeatStands, SeatView, Setup, Step, StepFits, WalkFits, Walk, Whole}
 use Rattle.ns_world.specs.Prelude.{WholeFault, env_want_of, is_for_lock, is_there, items_of, lock_of, looks_at, notes_of, objects_after, objects_of, part_in, view_of, walk_in, want_of}
 use Rattle.ns_env.proofs.Ranges.{asks_in_range}
 use Rattle.ns_counters.proofs.Needs.{may_step}
@@ -38,10 +38,6 @@ module _ {C : Type 0} {N : ℕ} (world : Whole C N) (lawful : IsLawfulWhole worl
   -- the step that the seat's walk on the clock and the notes wants may be made
   pub ask_here : (walk : EnvWalk) → seat.asking ≡ Some walk → EnvActFits world.env.next (env_want_of walk)
   ask_here walk is = asks_in_range lawful.past.notes (notes_of world) i walk (subst (λ n. n ≤ 64) (sym (length-map world.seats (λ s. s.asking))) lawful.few) lawful.led.0 (got-map (λ s. s.asking) world.seats i seat at ∙ ap Some is)
-
-  -- where it stands there goes with its place in its call on the lock
-  pub asks_for : (asking : Option EnvWalk) → seat.asking ≡ asking → AsksFor seat.walk asking
-  asks_for asking is = subst (AsksFor seat.walk) is stands.right
 
   -- the step that the seat's walk on the lock wants may be made, and is no look
   pub act_here : (walk : Walk C) → seat.walk ≡ Some walk → ActFits world.truths 64 seat.number (want_of walk) (part_in world seat)

@@ -4,8 +4,8 @@ use Rattle.std.proofs.Common.{Some, ap, inl, inr, is_some, ◌||◌, refl, subst
 use Rattle.ns_world.proofs.Below.{err_from_is_err_and, set_same}
 use Rattle.ns_world.proofs.Laws.{step_keeps}
 use Rattle.ns_world.proofs.Mapped.{found_at}
-use Rattle.ns_world.specs.Prelude.{Seat, in_call, whole_of}
-use Rattle.ns_world.proofs.Tells.{act_here, alone_here, ask_here, asks_for, can_tell, few_there, no_look_here, operates_fit, refused_here}
+use Rattle.ns_world.specs.Prelude.{AsksFor, Seat, in_call, whole_of}
+use Rattle.ns_world.proofs.Tells.{act_here, alone_here, ask_here, can_tell, few_there, no_look_here, operates_fit, refused_here}
 use Rattle.ns_world.proofs.world.World.step.Goals as goal
 
 pub returns-then-at-len-clause-err : goal.returns-then-at-len-clause-err
@@ -43,7 +43,7 @@ returns-in-Some-clause-lawful g c = invariant_of-self g c
 pub step_env-requires : goal.step_env-requires
 step_env-requires g c =
     let at = found_at c.self.inside.seats.items c.args.seat c.index_mut-here.result.now c.if-at-len.false (c.len.ensures ∙ c.self.inside.seats.ok.0) c.index_mut-here.ensures.value in
-    let asks = asks_for _ c.self.invariant c.args.seat c.index_mut-here.result.now at (Some c.in-Some-asking.place) c.in-Some-asking.is in
+    let asks = subst (AsksFor c.index_mut-here.result.now.walk) c.in-Some-asking.is (c.self.invariant.stands c.args.seat c.index_mut-here.result.now at).right in
     let fits = ask_here _ c.self.invariant c.args.seat c.index_mut-here.result.now at c.in-Some-asking.place c.in-Some-asking.is in
     (g.met.C.Seated.seat_fits, (asks, fits))
 
