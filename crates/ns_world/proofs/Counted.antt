@@ -1,9 +1,11 @@
 -- No seat is past its last call.
-use Rattle.std.proofs.Common.{Bool, Global, List, None, Option, Some, Vec, [], ap, arith, cond, false, inl, inr, is_some, length, map, refl, replicate, slice_get, slice_index, slice_set, subst, suc, sym, true, zero, ℕ, ◌+◌, ◌++◌, ◌<◌, ◌||◌, ◌∙◌, ◌∷◌, ◌≡◌, ◌≢◌, ◌≤◌, ◌⊎◌}
+use Rattle.std.proofs.Common.{Bool, Global, List, None, Option, Some, Vec, [], ap, arith, cond, false, inl, inr, is_some, length, map, refl, replicate, slice_get, slice_index, slice_set, subst, suc, sym, true, zero, ℕ, ◌+◌, ◌++◌, ◌<◌, ◌||◌, ◌∙◌, ◌∷◌, ◌≡◌, ◌≢◌, ◌≤◌}
 use Rattle.std.specs.Prelude.{All, IfSome}
 use Rattle.ns_world.proofs.Below.{cases_eq, get_or-set_other, get_or-set_same, length-set, set_there, slice_get_within}
 use Rattle.std.proofs.lemmas.List.Elements.{All-head, All-nil, All-tail}
-use Rattle.ns_world.specs.Prelude.{AnyWait, Call, CallInRange, Counts, EnvNext, Finished, Go, GoesOnOrBegins, InRound, IsCounted, Line, ListFits, LockSteps, LookOver, MovesFrom, Next, NotesSteps, ObjectNext, ObjectWalk, ObjectsSteps, Progress, Reply, Seat, SeatLooks, SeatView, Sees, Step, ToldIf, TurnOf, Walk, Whole}
+use Rattle.ns_world.specs.Moves.{SeatMakes}
+use Rattle.ns_world.specs.Prelude.{AnyWait, Call, CallInRange, Counts, EnvNext, Finished, Go, GoesOnOrBegins, InRound, IsCounted, Line, ListFits, LookOver, MovesFrom}
+use Rattle.ns_world.specs.Prelude.{Next, ObjectNext, ObjectWalk, Progress, Reply, Seat, SeatLooks, SeatView, Sees, Step, ToldIf, TurnOf, Walk, Whole}
 use Rattle.ns_world.specs.Prelude.{WholeMoves, calls_of, env_got_of, env_step_of, env_walk_after, got_of, in_call, is_for_lock, look_of, object_after, object_got, object_step_of, progress, progressed, step_of, tests_at, told_to, walk_after}
 use Rattle.ns_world.specs.Prelude.{whole_busy}
 use Rattle.ns_world.specs.Runs.{tests_told}
@@ -98,7 +100,7 @@ module _ {C : Type 0} {N : ℕ} where
       let over = over_idle (got_of N walk (TheFound.Looked cause)) reply q.answers in
       nowhere_idle next (ap (λ (s : Seat C N). s.walk) q.goes ∙ over) (ap (λ (s : Seat C N). s.asking) q.goes ∙ ap look_of over) (ap (λ (s : Seat C N). s.operating) q.goes ∙ nowhere)
 
-  makes_over : (old new : Whole C N) (here next : Seat C N) (reply : Reply) → LockSteps old new here next (Finished reply) ⊎ (NotesSteps old new here next (Finished reply) ⊎ ObjectsSteps old new here next (Finished reply)) → in_call next ≡ false
+  makes_over : (old new : Whole C N) (here next : Seat C N) (reply : Reply) → SeatMakes old new here next (Finished reply) → in_call next ≡ false
   makes_over old new here next reply (inl p) =
       let told = told_over p.then.awaits p.told reply p.answers in
       let over = over_idle (got_of N p.walk p.performs.found) told.0 (told.1 ∙ p.performs.answers) in

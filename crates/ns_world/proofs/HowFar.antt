@@ -3,8 +3,10 @@ use Rattle.std.proofs.Common.{List, None, Option, Some, [], ap, inl, inr, refl, 
 use Rattle.ns_world.proofs.Below.{append-nil}
 use Rattle.ns_world.proofs.Places.{IsNoLook}
 use Rattle.ns_world.proofs.Shown.{LookSoFar, look_on, shown_on}
-use Rattle.ns_world.specs.Prelude.{AnswersOfLock, AnswersOfNotes, AnswersTo, AnyAnswers, AreAmong, Asked, BeginsWith, Cause, Course, Cvs, EnvCourse, EnvEvent, EnvRequest, EnvSoFar, EnvWalk, Event, Finished, FirstClock, HasLedTo, HaveShownNothing, InRound, IsLater, IsReady, IsUnfinished, ObjectEvent, ObjectSoFar}
-use Rattle.ns_world.specs.Prelude.{ObjectWalk, OfLock, OfNotes, OfObjects, Past, Request, Round, RoundShows, RoundSoFar, Seat, SoFar, Step, Walk, WasShown, WereThere, Whole, asked_of, cause_of, env_asked_of, env_own, held_at, is_among, items_of, limits_of, mode_of, mode_waited, object_asked, objects_own, own}
+use Rattle.ns_world.specs.Prelude.{AnswersOfLock, AnswersOfNotes, AnswersTo, AnyAnswers, AreAmong, Asked, BeginsWith, Cause, Course, Cvs, EnvCourse, EnvEvent, EnvRequest}
+use Rattle.ns_world.specs.Prelude.{EnvSoFar, EnvWalk, Event, Finished, FirstClock, HasLedTo, HaveShownNothing, InRound, IsLater, IsReady, IsUnfinished, ObjectEvent, ObjectSoFar}
+use Rattle.ns_world.specs.Prelude.{ObjectWalk, OfLock, OfNotes, OfObjects, Past, Request, Round, RoundShows, RoundSoFar, Seat, SoFar, Step, Walk, WasShown}
+use Rattle.ns_world.specs.Prelude.{WereThere, Whole, asked_of, cause_of, env_asked_of, env_own, held_at, is_among, items_of, limits_of, mode_of, mode_waited, object_asked, objects_own, own}
 use Rattle.ns_world.specs.Prelude.{past_and, waits_for_any}
 use Rattle.ns_counters.proofs.Courses.{any_on, later_and, nothing_on, round_on, so_far_on}
 use Rattle.ns_counters.proofs.Rounds.{later_through}
@@ -147,7 +149,8 @@ module _ {C : Type 0} {N : ℕ} (before : Whole C N) (earlier : Past) (seat : �
   goes_so asked (Finished reply) past world here goes o = absurd goes
   goes_so asked other past world here goes o = o
 
-  pub lock_unfinished : (request : Request C) (step : Step) (events : List EnvEvent) (world : Whole C N) (here : Seat C N) (looked : Option (Option Cause)) → IsUnfinished step → LockOutcome request step events world here looked → (u : LockUnderway request events world.history here) × (u.course.looked ≡ looked)
+  pub lock_unfinished : (request : Request C) (step : Step) (events : List EnvEvent) (world : Whole C N) (here : Seat C N) (looked : Option (Option Cause)) → IsUnfinished step → LockOutcome request step events world here looked →
+      (u : LockUnderway request events world.history here) × (u.course.looked ≡ looked)
   lock_unfinished request (Finished reply) events world here looked goes o = absurd goes
   lock_unfinished request other events world here looked goes o = o
 
@@ -159,7 +162,8 @@ module _ {C : Type 0} {N : ℕ} (before : Whole C N) (earlier : Past) (seat : �
     pub notes : env_own (past.notes ++ more.notes) seat ≡ env_own past.notes seat
     pub objects : objects_own (past.objects ++ more.objects) seat ≡ objects_own past.objects seat
 
-  unfoldable pub lock_rests : (request : Request C) (events more : List EnvEvent) (history later : List (Event C N)) (here : Seat C N) → own later seat ≡ own history seat → env_own (events ++ more) seat ≡ env_own events seat → LockUnderway request events history here → LockUnderway request (events ++ more) later here
+  unfoldable pub lock_rests : (request : Request C) (events more : List EnvEvent) (history later : List (Event C N)) (here : Seat C N) → own later seat ≡ own history seat → env_own (events ++ more) seat ≡ env_own events seat →
+      LockUnderway request events history here → LockUnderway request (events ++ more) later here
   lock_rests request events more history later here row own_same u = record {
     walk = u.walk;
     walks = u.walks;

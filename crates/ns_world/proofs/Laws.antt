@@ -99,7 +99,8 @@ module _ {C : Type 0} {N : ℕ} (old new : Whole C N) (lawful : IsLawfulWhole ol
     lock_stands k None waits walk is = goes_alone k.goes waits (k.operating ∙ ap (λ w. look_due w next.walk) waits)
     lock_stands k (Some wait) waits None is = nowhere_alone next (k.operating ∙ (λ j. look_due (waits j) (is j))) (ap is_alone is)
     lock_stands k (Some wait) waits (Some walk) is =
-        waits_then wait (stands_waiting old.objects.setup old.env.notes here stands wait waits) k.goes walk (sym k.goes.to ∙ is) wait.shown (subst (λ w. LooksWhere wait.round w (want_of walk)) (sym (k.operating ∙ (λ j. look_due (waits j) (is j)))) (looks_due wait walk (is_some (looks_at (want_of walk))) refl))
+        waits_then wait (stands_waiting old.objects.setup old.env.notes here stands wait waits) k.goes walk (sym k.goes.to ∙ is) wait.shown
+        (subst (λ w. LooksWhere wait.round w (want_of walk)) (sym (k.operating ∙ (λ j. look_due (waits j) (is j)))) (looks_due wait walk (is_some (looks_at (want_of walk))) refl))
 
     objects_stand : (k : Operates old new i here next step notes events) → (wait : Option AnyWait) → here.awaits ≡ wait → StandsBy old.objects.setup old.env.notes (record here { operating = object_after (object_got k.on.walk k.on.found) }) wait
     objects_stand k None waits =
@@ -116,7 +117,8 @@ module _ {C : Type 0} {N : ℕ} (old new : Whole C N) (lawful : IsLawfulWhole ol
           among = s.among;
           unasked = s.unasked;
           there = s.there;
-          looks = looks_next wait k.on.walk (want_of s.walk) (subst (λ w. LooksWhere wait.round w (want_of s.walk)) k.on.walks s.looks) (object_got k.on.walk k.on.found) (stays_asked k.on.walk k.on.found) (ap (is_for_lock (Some wait) k.on.walk) (sym k.on.tells) ∙ (ap (λ w. is_for_lock w k.on.walk k.on.told) (sym waits) ∙ k.not));
+          looks = looks_next wait k.on.walk (want_of s.walk) (subst (λ w. LooksWhere wait.round w (want_of s.walk)) k.on.walks s.looks) (object_got k.on.walk k.on.found) (stays_asked k.on.walk k.on.found)
+              (ap (is_for_lock (Some wait) k.on.walk) (sym k.on.tells) ∙ (ap (λ w. is_for_lock w k.on.walk k.on.told) (sym waits) ∙ k.not));
         }
 
     -- what a kind of step leaves: of the seat its number; the seat stands as it may, and the lock keeps its law

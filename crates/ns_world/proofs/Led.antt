@@ -124,7 +124,8 @@ module _ {C : Type 0} {N : ℕ} (old new : Whole C N) (lawful : IsLawfulWhole ol
 
     -- they stay, and the seat is put at a place that fits
     put_there : (walk : Option ObjectWalk) → new.objects ≡ old.objects → next.operating ≡ walk → Fit old.objects.setup (objects_after old.objects.setup past.objects) old.env.notes i walk → IsLawfulObjects past.objects (objects_of new) old.env.notes
-    put_there walk same is fits = subst (λ x. IsLawfulObjects past.objects x old.env.notes) (sym (λ k. record { setup = (same k).setup; words = (same k).words; walks = reads old new i here next at seats (λ s. s.operating) is k })) (put_keeps past.objects (objects_of old) old.env.notes i walk inside low fits led.1)
+    put_there walk same is fits =
+        subst (λ x. IsLawfulObjects past.objects x old.env.notes) (sym (λ k. record { setup = (same k).setup; words = (same k).words; walks = reads old new i here next at seats (λ s. s.operating) is k })) (put_keeps past.objects (objects_of old) old.env.notes i walk inside low fits led.1)
 
     put_led : (events : List ObjectEvent) (walk : Option ObjectWalk) → events ≡ [] → new.objects ≡ old.objects → next.operating ≡ walk → Fit old.objects.setup (objects_after old.objects.setup past.objects) old.env.notes i walk → ObjectsLed events
     put_led events walk none same is fits = subst ObjectsLed (sym none) (tt, subst (λ es. IsLawfulObjects es (objects_of new) old.env.notes) (sym (append-nil past.objects)) (put_there walk same is fits))

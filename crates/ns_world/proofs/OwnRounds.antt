@@ -10,6 +10,7 @@ use Rattle.ns_world.proofs.OwnSteps.{lock_looked, lock_quietly}
 use Rattle.ns_world.proofs.SeatSet.{here_then}
 use Rattle.ns_world.proofs.Shown.{LookSoFar, begins_on}
 use Rattle.ns_world.proofs.StepKinds.{BeginsToWait, EndsLook, Kind, OnTheLock, OnTheObjects, Operates, clash, look_due, stands_alone, stands_waiting, wait_left}
+use Rattle.ns_world.specs.Prelude.{Request}
 use Rattle.ns_world.specs.Prelude.{Answer, AnswersOfLock, AnswersTo, Any, AnyAnswers, AnyMeans, AnyWait, AreObjectsBy, BeginsWith, Cause, EnvEvent, Finished, FirstClock, Found, HasLedTo, Held, Idle, InHand, InRound, IsLater, IsLawful, IsLawfulWhole, IsReady, IsUnfinished}
 use Rattle.ns_world.specs.Prelude.{MayEnd, Means, Next, Number, ObjectEvent, ObjectGoes, ObjectNext, ObjectSoFar, ObjectWalk, OfObjects, On, OnVariables, Over, Past, PlaceBy, Repeat, Reply, Round, RoundGo, RoundNext, RoundOver, RoundPlace, RoundSoFar, Seat, SeatStands, SoFar}
 use Rattle.ns_world.specs.Prelude.{StandsAlone, Step, WaitMeans, Walk, WalkFits, WalkReply, WereThere, Whole, asked_of, at_will, by_round, cause_of, course_from, env_after, env_own, got_of, held_at, is_for_lock, items_of, looked_after, looks_at, mode_of, mode_waited, nothing_done, notes_of}
@@ -39,8 +40,8 @@ goes_after (On walk) goes = (walk, refl)
 goes_after (TheNext.Idle walk) goes = (walk, refl)
 goes_after (Done reply) goes = absurd goes
 
-module _ {C : Type 0} {N : ℕ} (before : Whole C N) (earlier : Past) (seat : ℕ) (past : Past) (old new : Whole C N) (lawful : IsLawfulWhole old) (setup : old.objects.setup ≡ before.objects.setup) (means : old.truths ≡ before.truths) (since : BeginsWith past.objects earlier.objects) (since_notes : BeginsWith past.notes earlier.notes)
-    (led : HasLedTo past old) (here next : Seat C N) (at : slice_get old.seats seat ≡ Some here) (seats : new.seats ≡ slice_set old.seats seat next) (step : Step) (notes : List EnvEvent) (events : List ObjectEvent) where
+module _ {C : Type 0} {N : ℕ} (before : Whole C N) (earlier : Past) (seat : ℕ) (past : Past) (old new : Whole C N) (lawful : IsLawfulWhole old) (setup : old.objects.setup ≡ before.objects.setup) (means : old.truths ≡ before.truths) (since : BeginsWith past.objects earlier.objects)
+    (since_notes : BeginsWith past.notes earlier.notes) (led : HasLedTo past old) (here next : Seat C N) (at : slice_get old.seats seat ≡ Some here) (seats : new.seats ≡ slice_set old.seats seat next) (step : Step) (notes : List EnvEvent) (events : List ObjectEvent) where
   stands : SeatStands old.objects.setup old.env.notes here
   stands = lawful.stands seat here at
 
@@ -69,14 +70,18 @@ module _ {C : Type 0} {N : ℕ} (before : Whole C N) (earlier : Past) (seat : �
       )
 
   module _ (asked : ObjectWalk) where
+    -- what a step of its own leads to
+    abbrev LeadsTo : Step → Past → Type 0
+    LeadsTo step past = Outcome before earlier seat (OfObjects asked) step past new next
+
     -- it goes on, or is over
-    operates_here : (k : Operates old new seat here next step notes events) → ObjectsUnderway before earlier seat asked past old.history here → AreObjectsBy seat events → Outcome before earlier seat (OfObjects asked) step on new next
+    operates_here : (k : Operates old new seat here next step notes events) → ObjectsUnderway before earlier seat asked past old.history here → AreObjectsBy seat events → LeadsTo step on
     operates_here k o by_seat =
         let walk_is : k.on.walk ≡ o.walk = same_Some _ _ (sym k.on.walks ∙ o.walks) in
         let so_far = subst (λ w. ObjectSoFar before.objects.setup earlier past seat o.events w) (sym walk_is) o.so_far in
         let goes = operates_on before.objects.setup earlier seat past old.objects.words law (notes_of old) led.0 since_notes since o.events o.added events k.on.walk k.on.found new.objects.words (fits_at k.on.walk k.on.walks) so_far k.on.effect in
         let goes_asked = subst (λ a. ObjectGoes before.objects.setup earlier on seat a (o.events ++ events) (object_got k.on.walk k.on.found)) (ap object_asked walk_is ∙ o.is_asked) goes in
-        subst (λ s. Outcome before earlier seat (OfObjects asked) s on new next) (sym (k.answers ∙ k.on.tells)) (by (object_got k.on.walk k.on.found) (ap (λ (s : Seat C N). s.operating) k.goes) goes_asked) where
+        subst (λ s. LeadsTo s on) (sym (k.answers ∙ k.on.tells)) (by (object_got k.on.walk k.on.found) (ap (λ (s : Seat C N). s.operating) k.goes) goes_asked) where
           held : next.held ≡ held_at before seat
           held = ap (λ (s : Seat C N). s.held) k.goes ∙ o.same
 
@@ -103,19 +108,19 @@ module _ {C : Type 0} {N : ℕ} (before : Whole C N) (earlier : Past) (seat : �
             so_far = goes.1;
           }
 
-          by : (n : ObjectNext) → next.operating ≡ object_after n → ObjectGoes before.objects.setup earlier on seat asked (o.events ++ events) n → Outcome before earlier seat (OfObjects asked) (object_step_of n) on new next
+          by : (n : ObjectNext) → next.operating ≡ object_after n → ObjectGoes before.objects.setup earlier on seat asked (o.events ++ events) n → LeadsTo (object_step_of n) on
           by (Go place) walks goes = inl (goes_on place walks goes)
           by (Repeat place) walks goes = inl (goes_on place walks goes)
           by (Over reply) walks goes = inl (record { events = o.events ++ events; added = added; answer = reply; tells = refl; means = goes; still = still; same = ap (λ q. option_map_or (λ (s : Seat C N). s.held) q None) (here_then old new seat here next at seats) ∙ held; silent = silent })
 
     -- where a round has found nothing it goes on to wait
-    begins_here : (k : BeginsToWait old new seat here next step notes events) → ObjectsUnderway before earlier seat asked past old.history here → HasLedTo on new → Outcome before earlier seat (OfObjects asked) step on new next
+    begins_here : (k : BeginsToWait old new seat here next step notes events) → ObjectsUnderway before earlier seat asked past old.history here → HasLedTo on new → LeadsTo step on
     begins_here k o on_led =
         let walk_is : o.walk ≡ InRound k.round k.place = same_Some _ _ (sym o.walks ∙ k.on.walks) ∙ k.is in
         let so_far : ObjectSoFar before.objects.setup earlier past seat o.events (InRound k.round k.place) = subst (λ w. ObjectSoFar before.objects.setup earlier past seat o.events w) walk_is o.so_far in
         let shows = round_shows earlier k.round k.place k.on k.is so_far.1 so_far.2 in
         let untouched = no_own before earlier seat past.objects events shows.1 ∙ o.added ∙ ap (λ es. objects_own earlier.objects seat ++ es) so_far.0 ∙ append-nil (objects_own earlier.objects seat) in
-        subst (λ s. Outcome before earlier seat (OfObjects asked) s on new next) (sym k.answers) (inr (by (round_got k.round k.place k.on.found) (sym k.idle ∙ shows.2) shows.0 so_far.1 untouched (ap object_asked (sym walk_is) ∙ o.is_asked))) where
+        subst (λ s. LeadsTo s on) (sym k.answers) (inr (by (round_got k.round k.place k.on.found) (sym k.idle ∙ shows.2) shows.0 so_far.1 untouched (ap object_asked (sym walk_is) ∙ o.is_asked))) where
           walk : Walk C
           walk = wait_first N (waits_for_any (mode_waited (mode_of here.held)) k.cvs)
 
@@ -176,6 +181,9 @@ module _ {C : Type 0} {N : ℕ} (before : Whole C N) (earlier : Past) (seat : �
       abbrev waiting : AnyWait
       waiting = record { round = o.round; shown = o.shown }
 
+      abbrev request : Request C
+      request = wait_for before earlier seat o.cvs
+
       abbrev mid : Past
       mid = o.left.mid
 
@@ -202,40 +210,41 @@ module _ {C : Type 0} {N : ℕ} (before : Whole C N) (earlier : Past) (seat : �
         by walk is goes = absurd goes
 
       -- the round goes on
-      round_goes_on : (k : Operates old new seat here next step notes events) → Outcome before earlier seat (OfObjects asked) step on new next
+      round_goes_on : (k : Operates old new seat here next step notes events) → LeadsTo step on
       unfolding lock_rests
       round_goes_on k =
           let shows = looks_by k.on in
-          subst (λ s. Outcome before earlier seat (OfObjects asked) s on new next) (sym (k.answers ∙ shows.1)) (by shows.0 (ap (is_for_lock (Some waiting) k.on.walk) (sym shows.1) ∙ not) (ap (λ (s : Seat C N). s.operating) k.goes ∙ shows.2) shows.3 shows.4) where
+          subst (λ s. LeadsTo s on) (sym (k.answers ∙ shows.1)) (by shows.0 (ap (is_for_lock (Some waiting) k.on.walk) (sym shows.1) ∙ not) (ap (λ (s : Seat C N). s.operating) k.goes ∙ shows.2) shows.3 shows.4) where
             not : is_for_lock (Some waiting) k.on.walk k.on.told ≡ false
             not = ap (λ x. is_for_lock x k.on.walk k.on.told) (sym o.waits) ∙ k.not
 
-            by : (n : RoundNext) → is_for_lock (Some waiting) k.on.walk (object_step_of (by_round o.round n)) ≡ false → next.operating ≡ object_after (by_round o.round n) → RoundGoes before.objects.setup mid on o.round n → events ≡ [] → Outcome before earlier seat (OfObjects asked) (object_step_of (by_round o.round n)) on new next
+            by : (n : RoundNext) → is_for_lock (Some waiting) k.on.walk (object_step_of (by_round o.round n)) ≡ false → next.operating ≡ object_after (by_round o.round n) → RoundGoes before.objects.setup mid on o.round n → events ≡ [] → LeadsTo (object_step_of (by_round o.round n)) on
             by (RoundGo place) stays walks goes none =
                 let more : Past = record { notes = []; objects = events } in
                 let row = same_row k.on in
                 let lock = lock_after row in
                 inr (waits_on before earlier seat asked past more old.history new.history here next o o.shown (no_own before earlier seat past.objects events none) lock.0 (subst (AsShown o.shown) (sym lock.1) o.looked) (ap (λ (s : Seat C N). s.awaits) k.goes ∙ o.waits)
                 (shown_rests before earlier seat o.round mid past more o.shown o.was_shown) (Some (InRound o.round place)) walks (refl, goes)) where
-                  lock_after : own new.history seat ≡ own old.history seat → (lock : LockUnderway before earlier seat (wait_for before earlier seat o.cvs) (past.notes ++ []) new.history next) × (lock.course.looked ≡ o.lock.course.looked)
+                  lock_after : own new.history seat ≡ own old.history seat → (lock : LockUnderway before earlier seat request (past.notes ++ []) new.history next) × (lock.course.looked ≡ o.lock.course.looked)
                   lock_after row =
-                      let v = lock_rests before earlier seat (wait_for before earlier seat o.cvs) past.notes [] old.history new.history here row (no_own_notes before earlier seat past.notes) o.lock in
-                      subst (λ (s : Seat C N). (lock : LockUnderway before earlier seat (wait_for before earlier seat o.cvs) (past.notes ++ []) new.history s) × (lock.course.looked ≡ o.lock.course.looked)) (sym k.goes)
+                      let v = lock_rests before earlier seat request past.notes [] old.history new.history here row (no_own_notes before earlier seat past.notes) o.lock in
+                      subst (λ (s : Seat C N). (lock : LockUnderway before earlier seat request (past.notes ++ []) new.history s) × (lock.course.looked ≡ o.lock.course.looked)) (sym k.goes)
                       (record { walk = v.walk; walks = v.walks; asked = v.asked; course = v.course; began = v.began; added = v.added; so_far = v.so_far; shown = v.shown; looking = v.looking; still = v.still }, refl)
             by (RoundOver None) stays walks goes none = absurd (cc)
             by (RoundOver (Some place)) stays walks goes none = absurd (cc)
 
       -- its look is over
-      ends_look_here : (k : EndsLook old new seat here next step notes events) → Outcome before earlier seat (OfObjects asked) step on new next
+      ends_look_here : (k : EndsLook old new seat here next step notes events) → LeadsTo step on
       ends_look_here k =
           let more : Past = record { notes = []; objects = events } in
           let same_walk : k.goes.walk ≡ k.out.0.walk = same_Some _ _ (sym k.goes.walks ∙ k.out.0.walks) in
           let leads = leads_on N k.goes.walk (cause_of (shown_by k.on.told)) (subst LooksOut (sym same_walk) k.out.1) in
           let goes : IsUnfinished step = subst IsUnfinished (sym (k.goes.answers ∙ ap (λ (f : Found). step_of (got_of N k.goes.walk f)) k.looked)) leads.unfinished in
-          let lock = lock_unfinished before earlier seat (wait_for before earlier seat o.cvs) step (past.notes ++ []) new next (looked_after k.goes.found o.lock.course.looked) goes (lock_looked before earlier seat old new lawful means here next at seats (wait_for before earlier seat o.cvs) past since_notes o.lock refl k.goes) in
+          let lock = lock_unfinished before earlier seat request step (past.notes ++ []) new next (looked_after k.goes.found o.lock.course.looked) goes (lock_looked before earlier seat old new lawful means here next at seats request past since_notes o.lock refl k.goes) in
           let looked : lock.0.course.looked ≡ Some (cause_of (shown_by k.on.told)) = lock.1 ∙ ap (λ (f : Found). looked_after f o.lock.course.looked) k.looked in
           let shows = looks_by k.on in
-          goes_so before earlier seat (OfObjects asked) step on new next goes (inr (waits_on before earlier seat asked past more old.history new.history here next o (shown_by k.on.told) (no_own before earlier seat past.objects events shows.4) lock.0 (subst (AsShown (shown_by k.on.told)) (sym looked) refl)
+          goes_so before earlier seat (OfObjects asked) step on new next goes (inr (waits_on before earlier seat asked past more old.history new.history here next o (shown_by k.on.told) (no_own before earlier seat past.objects events shows.4) lock.0
+          (subst (AsShown (shown_by k.on.told)) (sym looked) refl)
           (k.awaits ∙ ap (λ (x : AnyWait). Some (record { round = x.round; shown = shown_by k.on.told })) (same_wait k.wait k.waits))
           (subst (λ s. ShownOn before earlier seat o.round mid on (shown_by s)) (sym shows.1) (shown shows.0 shows.3)) None k.nowhere tt)) where
             shown : (n : RoundNext) → RoundGoes before.objects.setup mid on o.round n → ShownOn before earlier seat o.round mid on (shown_by (object_step_of (by_round o.round n)))
@@ -265,15 +274,15 @@ module _ {C : Type 0} {N : ℕ} (before : Whole C N) (earlier : Past) (seat : �
         still_shown : ShownOn before earlier seat o.round mid here_now o.shown
         still_shown = shown_rests before earlier seat o.round mid past nothing_done o.shown o.was_shown
 
-        outcome : LockOutcome before earlier seat (wait_for before earlier seat o.cvs) k.told (past.notes ++ []) new next o.lock.course.looked
-        outcome = lock_quietly before earlier seat old new lawful means here next at seats (wait_for before earlier seat o.cvs) past since_notes o.lock k.goes k.looks_not
+        outcome : LockOutcome before earlier seat request k.told (past.notes ++ []) new next o.lock.course.looked
+        outcome = lock_quietly before earlier seat old new lawful means here next at seats request past since_notes o.lock k.goes k.looks_not
 
         -- where it goes on
         goes_on_there : IsUnfinished k.told → Awaiting before earlier seat asked here_now new.history next
         goes_on_there goes =
             let after = goes_after (got_of N k.goes.walk k.goes.found) (subst IsUnfinished k.goes.answers goes) in
             let walk : next.walk ≡ Some after.0 = k.goes.to ∙ after.1 in
-            let lock = lock_unfinished before earlier seat (wait_for before earlier seat o.cvs) k.told (past.notes ++ []) new next o.lock.course.looked goes outcome in
+            let lock = lock_unfinished before earlier seat request k.told (past.notes ++ []) new next o.lock.course.looked goes outcome in
             waits_on before earlier seat asked past nothing_done old.history new.history here next o o.shown (no_own before earlier seat past.objects [] refl) lock.0 (subst (AsShown o.shown) (sym lock.1) o.looked) (k.awaits ∙ (λ i. wait_left (o.waits i) (walk i))) still_shown
             (round_due waiting after.0) (k.operating ∙ (λ i. look_due (o.waits i) (walk i))) (looks (is_some (looks_at (want_of after.0)))) where
               looks : (b : Bool) → RoundOn before earlier seat o.round mid here_now (cond b (Some (InRound o.round FirstClock)) None)
@@ -281,7 +290,7 @@ module _ {C : Type 0} {N : ℕ} (before : Whole C N) (earlier : Past) (seat : �
               looks false = tt
 
         -- what it answers
-        module _ (reply : Reply) (a : AnswersOfLock before earlier.notes seat (wait_for before earlier seat o.cvs) reply new (past.notes ++ [])) (looks : AsShown o.shown a.course.looked) where
+        module _ (reply : Reply) (a : AnswersOfLock before earlier.notes seat request reply new (past.notes ++ [])) (looks : AsShown o.shown a.course.looked) where
           placed : (by : Option ℕ) → MayEnd o.cvs at_will a.course.looked by → PlaceBy before.objects.setup mid here_now o.round by (place_told waiting by)
           placed (Some k) may = first_place o.round.items k (sym (o.left.among k) ∙ may)
           placed None may = ended_by o.shown a.course.looked may.0 looks may.2 here_now still_shown
@@ -294,7 +303,7 @@ module _ {C : Type 0} {N : ℕ} (before : Whole C N) (earlier : Past) (seat : �
           no_answer answer None means = means
           no_answer answer (Some back) means = means
 
-          answered : (answer : WalkReply) → reply ≡ reply_of_lock answer → Means new.truths seat (row_after new.history) (wait_for before earlier seat o.cvs) a.course answer (held_at new seat) → AnswersTo before earlier seat (OfObjects asked) (reply_told waiting reply) new here_now
+          answered : (answer : WalkReply) → reply ≡ reply_of_lock answer → Means new.truths seat (row_after new.history) request a.course answer (held_at new seat) → AnswersTo before earlier seat (OfObjects asked) (reply_told waiting reply) new here_now
           answered (TheWalk.WokenBy by) tells means = inr (record {
             round = o.round;
             is = sym o.is;
@@ -316,9 +325,9 @@ module _ {C : Type 0} {N : ℕ} (before : Whole C N) (earlier : Past) (seat : �
           answered (TheWalk.Answered answer) tells means = absurd (no_answer answer (held_at new seat) means)
           answered other tells means = absurd means
 
-        wait_steps_here : Outcome before earlier seat (OfObjects asked) step here_now new next
-        wait_steps_here = subst (λ s. Outcome before earlier seat (OfObjects asked) s here_now new next) (sym (k.answers ∙ ap (λ w. told_to w k.told) o.waits)) (by k.told goes_on_there outcome) where
-          by : (told : Step) → (IsUnfinished told → Awaiting before earlier seat asked here_now new.history next) → LockOutcome before earlier seat (wait_for before earlier seat o.cvs) told (past.notes ++ []) new next o.lock.course.looked → Outcome before earlier seat (OfObjects asked) (step_told waiting told) here_now new next
+        wait_steps_here : LeadsTo step here_now
+        wait_steps_here = subst (λ s. LeadsTo s here_now) (sym (k.answers ∙ ap (λ w. told_to w k.told) o.waits)) (by k.told goes_on_there outcome) where
+          by : (told : Step) → (IsUnfinished told → Awaiting before earlier seat asked here_now new.history next) → LockOutcome before earlier seat request told (past.notes ++ []) new next o.lock.course.looked → LeadsTo (step_told waiting told) here_now
           by (Finished reply) goes o' = answered reply o'.0 (subst (AsShown o.shown) (sym o'.1) o.looked) o'.0.answer o'.0.tells o'.0.means
           by other goes o' = inr (goes tt)
 
@@ -327,12 +336,12 @@ module _ {C : Type 0} {N : ℕ} (before : Whole C N) (earlier : Past) (seat : �
     abbrev now : Past
     now = past_and past (record { notes = notes; objects = events })
 
-    no_notes : notes ≡ [] → Outcome before earlier seat (OfObjects asked) step on new next → Outcome before earlier seat (OfObjects asked) step now new next
-    no_notes none o = subst (λ es. Outcome before earlier seat (OfObjects asked) step (past_and past (record { notes = es; objects = events })) new next) (sym none) o
+    no_notes : notes ≡ [] → LeadsTo step on → LeadsTo step now
+    no_notes none o = subst (λ es. LeadsTo step (past_and past (record { notes = es; objects = events }))) (sym none) o
 
-    pub objects_take_on : Kind old new seat here next step notes events → HasCome before earlier seat (OfObjects asked) past old.history here → AreObjectsBy seat events → HasLedTo now new → Outcome before earlier seat (OfObjects asked) step now new next
+    pub objects_take_on : Kind old new seat here next step notes events → HasCome before earlier seat (OfObjects asked) past old.history here → AreObjectsBy seat events → HasLedTo now new → LeadsTo step now
     objects_take_on (inl k) (inl o) by led = clash k.nowhere o.walks
-    objects_take_on (inl k) (inr o) by led = no_notes k.no_notes (subst (λ es. Outcome before earlier seat (OfObjects asked) step (past_and past (record { notes = []; objects = es })) new next) (sym k.no_objects) (wait_steps_here o k))
+    objects_take_on (inl k) (inr o) by led = no_notes k.no_notes (subst (λ es. LeadsTo step (past_and past (record { notes = []; objects = es }))) (sym k.no_objects) (wait_steps_here o k))
     objects_take_on (inr (inl k)) (inl o) by led = clash k.nowhere o.walks
     objects_take_on (inr (inl k)) (inr o) by led = clash k.over o.lock.walks
     objects_take_on (inr (inr (inl k))) (inl o) by led = clash k.nowhere o.walks

@@ -10,7 +10,8 @@ use Rattle.ns_world.proofs.SeatSet.{here_then, number_here}
 use Rattle.ns_world.proofs.Shown.{LookSoFar, Says, begins_on, limits_are, look_begins, look_means, means_no_look, place_asks, shown_none, shown_so}
 use Rattle.ns_world.proofs.StepKinds.{Goes, Kind, LookGoes, OnALook, OnTheNotes, clash, goes_steps, look_due, wait_left}
 use Rattle.ns_world.specs.Prelude.{Act, AreBy, BeginsWith, CallGoes, Cause, Course, Effect, EnvCourse, EnvEvent, EnvGoes, EnvGoesOn, EnvNext, EnvRequest, EnvSoFar, EnvWalk, Event, Finished, Found, Go, GoesOn, IfMade, IsLawfulWhole, LedTo, Limits, LookOver, Looked, Means, Next, ObjectEvent}
-use Rattle.ns_world.specs.Prelude.{OfLock, OfNotes, On, Part, Past, Request, Seat, SoFar, Step, Truths, Walk, WasShown, Went, Whole, asked_of, course_after, env_asked_of, env_course_after, env_got_of, env_own, env_state, env_step_of, env_walk_after, env_want_of, got_of, held_at, limits_of, lock_of, look_of}
+use Rattle.ns_world.specs.Prelude.{OfLock, OfNotes, On, Part, Past, Request, Seat, SoFar, Step, Truths, Walk, WasShown, Went, Whole}
+use Rattle.ns_world.specs.Prelude.{asked_of, course_after, env_asked_of, env_course_after, env_got_of, env_own, env_state, env_step_of, env_walk_after, env_want_of, got_of, held_at, limits_of, lock_of, look_of}
 use Rattle.ns_world.specs.Prelude.{looked_after, looks_at, note_in, notes_of, objects_own, own, part_in, past_and, row_after, step_of, told_to, view_of, walk_after, want_of}
 use Rattle.ns_word.proofs.Courses.{takes_on}
 use Rattle.ns_word.proofs.ToldAfter.{own_all, own_append, step_by}

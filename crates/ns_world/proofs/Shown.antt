@@ -3,7 +3,8 @@ use Rattle.std.proofs.Common.{Bool, List, None, Option, Some, ap, refl, subst, s
 use Rattle.ns_world.proofs.Below.{begins_through, looks_by_asked}
 use Rattle.ns_world.proofs.Looking.{FirstIf}
 use Rattle.ns_world.proofs.Places.{IsNoLook}
-use Rattle.ns_world.specs.Prelude.{Act, Any, AtSomePoint, BeginsWith, Cause, ClockLoad, EnvCourse, EnvEvent, EnvRequest, EnvSoFar, EnvWalk, ForLook, Limits, Look, LookFits, LookMeans, NoteLoad, NoteStanding, OnVariables, Request, Shows, Subject, Walk, WasShown, asked_of, env_asked_of, env_course_at, limits_for}
+use Rattle.ns_world.specs.Prelude.{Act, Any, AtSomePoint, BeginsWith, Cause, ClockLoad, EnvCourse, EnvEvent, EnvRequest, EnvSoFar, EnvWalk, ForLook, Limits, Look}
+use Rattle.ns_world.specs.Prelude.{LookFits, LookMeans, NoteLoad, NoteStanding, OnVariables, Request, Shows, Subject, Walk, WasShown, asked_of, env_asked_of, env_course_at, limits_for}
 use Rattle.ns_world.specs.Prelude.{limits_of, looks_at, want_of}
 use Rattle.ns_env.proofs.Chains.{looked_shows}
 use Rattle.ns_env.proofs.Courses.{begins_course, others_leave_course}

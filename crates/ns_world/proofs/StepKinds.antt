@@ -4,9 +4,12 @@ use Rattle.ns_world.proofs.Below.{append-nil, not-true, same_Some}
 use Rattle.ns_world.proofs.Looking.{LookLeads, LooksOut, look_leads, look_stays, looks_out, shown_effect}
 use Rattle.ns_world.proofs.Mapped.{got-map}
 use Rattle.ns_world.proofs.SeatSet.{number_here, place_here, reads}
-use Rattle.ns_world.specs.Prelude.{Any, AnyWait, AreAmong, AreVariables, AsksFor, Await, Cause, Cvs, Effect, EnvEffect, EnvEvent, EnvFound, EnvNext, EnvPlain, EnvWalk, Event, Found, Go, Idle, InRound, InWait, IsLawfulWhole, LockSteps, LookOver, LookStep, Looked, LooksWhere, MayShow, Mode, MovesFrom, NoteStanding}
+use Rattle.ns_world.specs.Moves.{SeatMakes}
+use Rattle.ns_world.specs.Prelude.{Any, AnyWait, AreAmong, AreVariables, AsksFor, Await, Cause, Cvs, Effect, EnvEffect, EnvEvent, EnvFound, EnvNext, EnvPlain, EnvWalk}
+use Rattle.ns_world.specs.Prelude.{Event, Found, Go, Idle, InRound, InWait, IsLawfulWhole, LockSteps, LookOver, LookStep, Looked, LooksWhere, MayShow, Mode, MovesFrom, NoteStanding}
 use Rattle.ns_world.specs.Prelude.{NotesSteps, ObjectEvent, ObjectFound, ObjectWalk, ObjectWords, ObjectsSteps, Part, PlaceFits, Round, RoundPlace, Seat, SeatLooks, SeatStands, SeatView, Sees, Setup, StandsAlone, StandsBy, Step, ToldIf, HasTold, WaitsOnLock, Walk, Went, Whole}
-use Rattle.ns_world.specs.Prelude.{asked_of, asks_for_any, at_will, came_back, cause_of, env_got_of, env_step_of, env_walk_after, env_want_of, got_of, have_variable, held_after, in_call, is_alone, is_for_lock, items_of, lock_of, look_of, looks_at, mode_of, mode_waited, notes_by, object_after, object_got}
+use Rattle.ns_world.specs.Prelude.{asked_of, asks_for_any, at_will, came_back, cause_of, env_got_of, env_step_of, env_walk_after, env_want_of, got_of, have_variable, held_after}
+use Rattle.ns_world.specs.Prelude.{in_call, is_alone, is_for_lock, items_of, lock_of, look_of, looks_at, mode_of, mode_waited, notes_by, object_after, object_got}
 use Rattle.ns_world.specs.Prelude.{object_place, object_step_of, objects_by, outcome, part_in, round_due, shown_by, step_of, told_to, view_of, wait_first, waited_seat, waits_among, waits_for_any, walk_after, want_of}
 use Rattle.ns_world.specs.Asks.{Asked}
 use Rattle.ns_world.specs.Names.{ObjectEffect, Steps, object_want}
@@ -79,7 +82,8 @@ pub record Goes {C : Type 0} {N : ℕ} (old new : Whole C N) (here next : Seat C
   pub answers : told ≡ step_of (got_of N walk found)
 
 -- as the machine has it
-abbrev pub goes_steps : {C : Type 0} {N : ℕ} (old new : Whole C N) (i : ℕ) (here next : Seat C N) (told : Step) → slice_get old.seats i ≡ Some here → new.seats ≡ slice_set old.seats i next → (g : Goes old new here next told) → Steps old.truths (lock_of old) (view_of here) g.found (lock_of new) g.commits
+abbrev pub goes_steps : {C : Type 0} {N : ℕ} (old new : Whole C N) (i : ℕ) (here next : Seat C N) (told : Step) → slice_get old.seats i ≡ Some here → new.seats ≡ slice_set old.seats i next → (g : Goes old new here next told) →
+    Steps old.truths (lock_of old) (view_of here) g.found (lock_of new) g.commits
 goes_steps {C} {N} old new i here next told at seats g =
     step_at old.truths (lock_of old) i (view_of here) (got-map view_of old.seats i here at) g.walk g.found (lock_of new) next.held next.owed.items g.commits g.walks
     (reads old new i here next at seats view_of (λ k. record { seat = g.number k; walk = g.to k; held = next.held; owed = next.owed.items })) g.effect
@@ -92,8 +96,8 @@ pub lock_stays : {C : Type 0} {N : ℕ} (old new : Whole C N) (env : EnvPlain) (
 lock_stays {C} {N} old new env objects same = same ∙ (λ k. record old { env = sym (ap (λ (w : Whole C N). w.env) same) k; seats = new.seats; objects = sym (ap (λ (w : Whole C N). w.objects) same) k })
 
 -- what a look shows is a step of the wait
-sees_goes : {C : Type 0} {N : ℕ} (old new : Whole C N) (here seat next : Seat C N) (walk : Walk C) (limits : _) (cause : Option Cause) (step : Step) → here.walk ≡ Some walk → looks_at (want_of walk) ≡ Some limits → MayShow limits cause → view_of seat ≡ view_of here → LockStays old new → Sees seat walk cause next step →
-    (g : Goes old new here next step) × (g.found ≡ Looked cause)
+sees_goes : {C : Type 0} {N : ℕ} (old new : Whole C N) (here seat next : Seat C N) (walk : Walk C) (limits : _) (cause : Option Cause) (step : Step) → here.walk ≡ Some walk → looks_at (want_of walk) ≡ Some limits → MayShow limits cause → view_of seat ≡ view_of here →
+    LockStays old new → Sees seat walk cause next step → (g : Goes old new here next step) × (g.found ≡ Looked cause)
 sees_goes {C} {N} old new here seat next walk limits cause step walks looks may same lock q = (
   record {
     walk = walk;
@@ -229,7 +233,7 @@ module _ {C : Type 0} {N : ℕ} (old new : Whole C N) (i : ℕ) (here next : Sea
   Kind = OnTheLock ⊎ (OnTheNotes ⊎ (OnALook ⊎ (Operates ⊎ (EndsLook ⊎ BeginsToWait))))
 
 -- what a step leaves of what the conditions mean, and of how the objects began
-pub makes_means : {C : Type 0} {N : ℕ} (old new : Whole C N) (here next : Seat C N) (step : Step) → LockSteps old new here next step ⊎ (NotesSteps old new here next step ⊎ ObjectsSteps old new here next step) → (new.truths ≡ old.truths) × (new.objects.setup ≡ old.objects.setup)
+pub makes_means : {C : Type 0} {N : ℕ} (old new : Whole C N) (here next : Seat C N) (step : Step) → SeatMakes old new here next step → (new.truths ≡ old.truths) × (new.objects.setup ≡ old.objects.setup)
 makes_means {C} {N} old new here next step (inl p) = (ap (λ (w : Whole C N). w.truths) p.same, ap (λ (w : Whole C N). w.objects.setup) p.same)
 makes_means {C} {N} old new here next step (inr (inl p)) = (ap (λ (w : Whole C N). w.truths) p.same, ap (λ (w : Whole C N). w.objects.setup) p.same)
 makes_means {C} {N} old new here next step (inr (inr p)) = (ap (λ (w : Whole C N). w.truths) p.same, ap (λ o. o.setup) p.operates.becomes)
@@ -311,7 +315,7 @@ module _ {C : Type 0} {N : ℕ} (old new : Whole C N) (lawful : IsLawfulWhole ol
         no_objects = refl;
       }
 
-  notes_kind : (p : NotesSteps old new here next step) → OnTheNotes old new i here next step (notes_by {old = old} {new = new} {here = here} {next = next} {step = step} i (inr (inl p))) [] ⊎ OnALook old new i here next step (notes_by {old = old} {new = new} {here = here} {next = next} {step = step} i (inr (inl p))) []
+  notes_kind : (p : NotesSteps old new here next step) → OnTheNotes old new i here next step (outcome i (env_want_of p.place) old.env).events [] ⊎ OnALook old new i here next step (outcome i (env_want_of p.place) old.env).events []
   notes_kind p = by here.walk refl p.moves where
     asked : here.walk ≡ None → Asked old.env new.env here p.place next step → OnTheNotes old new i here next step (outcome i (env_want_of p.place) old.env).events []
     asked over q = record {
@@ -390,8 +394,8 @@ module _ {C : Type 0} {N : ℕ} (old new : Whole C N) (lawful : IsLawfulWhole ol
         let out = looks_as_it_rests old here wait p.walk p.walks s (place_here old lawful i here at) in
         let walks : here.walk ≡ Some q.0 = sym (ap (λ (s : Seat C N). s.walk) p.operates.goes) ∙ q.1 in
         let same : s.walk ≡ q.0 = same_Some _ _ (sym s.walks ∙ walks) in
-        let on = sees_goes old new here (record p.then { operating = None; awaits = Some (record { round = wait.round; shown = shown_by told }) }) next q.0 at_will (cause_of (shown_by told)) step walks (subst (λ w. looks_at (want_of w) ≡ Some at_will) same (looks_will s.mode s.cvs s.walk s.asked out))
-        (may_show (shown_by told)) (ap view_of p.operates.goes) (lock_stays old new old.env new.objects p.same) q.2 in
+        let on = sees_goes old new here (record p.then { operating = None; awaits = Some (record { round = wait.round; shown = shown_by told }) }) next q.0 at_will (cause_of (shown_by told)) step walks
+        (subst (λ w. looks_at (want_of w) ≡ Some at_will) same (looks_will s.mode s.cvs s.walk s.asked out)) (may_show (shown_by told)) (ap view_of p.operates.goes) (lock_stays old new old.env new.objects p.same) q.2 in
         inl (record {
           on = on_objects;
           wait = wait;
@@ -418,12 +422,13 @@ module _ {C : Type 0} {N : ℕ} (old new : Whole C N) (lawful : IsLawfulWhole ol
     })
     told_kind None waits walk is told told_is for_lock q = absurd (cc)
 
-    objects_kind : (b : Bool) → is_for_lock here.awaits p.walk p.told ≡ b → ToldIf b here.awaits p.then p.walk p.told next step → Operates old new i here next step [] p.operates.events ⊎ (EndsLook old new i here next step [] p.operates.events ⊎ BeginsToWait old new i here next step [] p.operates.events)
+    objects_kind : (b : Bool) → is_for_lock here.awaits p.walk p.told ≡ b → ToldIf b here.awaits p.then p.walk p.told next step →
+        Operates old new i here next step [] p.operates.events ⊎ (EndsLook old new i here next step [] p.operates.events ⊎ BeginsToWait old new i here next step [] p.operates.events)
     unfolding on_objects
     objects_kind true for_lock q = inr (told_kind here.awaits refl p.walk refl p.told refl for_lock q)
     objects_kind false not q = inl (record { on = on_objects; not = not; goes = q.0 ∙ p.operates.goes; answers = q.1 })
 
-  pub kind_of : (makes : LockSteps old new here next step ⊎ (NotesSteps old new here next step ⊎ ObjectsSteps old new here next step)) → Kind old new i here next step (notes_by i makes) (objects_by makes)
+  pub kind_of : (makes : SeatMakes old new here next step) → Kind old new i here next step (notes_by i makes) (objects_by makes)
   kind_of (inl p) = inl (lock_kind p)
   kind_of (inr (inl p)) = elim (notes_kind p) [ inl k ↦ inr (inl k) | inr k ↦ inr (inr (inl k)) ]
   kind_of (inr (inr p)) = inr (inr (inr (objects_kind p (is_for_lock here.awaits p.walk p.told) refl p.tells)))

@@ -7,7 +7,8 @@ use Rattle.ns_world.proofs.Mapped.{got-map}
 use Rattle.ns_world.proofs.Places.{fits_more}
 use Rattle.ns_world.proofs.SeatSet.{number_here, split_here}
 use Rattle.ns_world.proofs.StepKinds.{looks_not, stands_alone, stands_waiting}
-use Rattle.ns_world.specs.Prelude.{ActFits, AnyWait, CanTell, Commits, EnvActFits, EnvWalk, Every, Idle, InRound, IsFew, IsLawfulWhole, IsLow, Item, MayWaitOnLock, NoteStanding, ObjectStanding, ObjectWalk, OnVariable, OutOfMemory, Seat, SeatStands, SeatView, Setup, Step, StepFits, WalkFits, Walk, Whole}
+use Rattle.ns_world.specs.Prelude.{ActFits, AnyWait, CanTell, Commits, EnvActFits, EnvWalk, Every, Idle, InRound, IsFew, IsLawfulWhole, IsLow, Item, MayWaitOnLock}
+use Rattle.ns_world.specs.Prelude.{NoteStanding, ObjectStanding, ObjectWalk, OnVariable, OutOfMemory, Seat, SeatStands, SeatView, Setup, Step, StepFits, WalkFits, Walk, Whole}
 use Rattle.ns_world.specs.Prelude.{WholeFault, env_want_of, is_for_lock, is_there, items_of, lock_of, looks_at, notes_of, objects_after, objects_of, part_in, view_of, walk_in, want_of}
 use Rattle.ns_env.proofs.Ranges.{asks_in_range}
 use Rattle.ns_counters.proofs.Needs.{may_step}

@@ -1,9 +1,10 @@
 -- A turn of a run, by what beginning a call and a step promise.
-use Rattle.std.proofs.Common.{Bool, Err, List, None, Ok, Option, Result, Some, [], ap, arith, cond, false, inl, inr, is_some, length, nat_lt, refl, slice_get, subst, sym, true, ℕ, ◌-◌, ◌||◌, ◌∙◌, ◌∷◌, ◌≡◌, ◌≢◌, ◌⊎◌}
+use Rattle.std.proofs.Common.{Bool, Err, List, None, Ok, Option, Result, Some, [], ap, arith, cond, false, inl, inr, is_some, length, nat_lt, refl, slice_get, subst, sym, true, ℕ, ◌-◌, ◌||◌, ◌∙◌, ◌∷◌, ◌≡◌, ◌≢◌}
 use Rattle.std.specs.Prelude.{IfErr, IfOk}
 use Rattle.std.specs.Option.{option_map_or}
 use Rattle.ns_world.proofs.Below.{or-true, length-set, same_Some, set_here, slice_get_within}
-use Rattle.ns_world.specs.Prelude.{AnyWait, Ask, Call, Commits, EnvNext, Fault, Go, GoesOnOrBegins, InCells, InRound, LockSteps, Lists, LookOver, Mode, MovesFrom, Next, NoSuchSeat, NotesSteps, Nothing, ObjectNext, ObjectWalk, ObjectsSteps, On, OnLock}
+use Rattle.ns_world.specs.Moves.{SeatMakes}
+use Rattle.ns_world.specs.Prelude.{AnyWait, Ask, Call, Commits, EnvNext, Fault, Go, GoesOnOrBegins, InCells, InRound, Lists, LookOver, Mode, MovesFrom, Next, NoSuchSeat, Nothing, ObjectNext, ObjectWalk, On, OnLock}
 use Rattle.ns_world.specs.Prelude.{OnObjects, OutOfMemory, Progress, Seat, SeatLooks, Sees, Start, Step, ToldIf, TurnOf, Turned, TurnsOf, TurnsWith, UnlockQuiet, Wait, Walk, Went, Whole, WholeFault, WholeIsBusy, WholeIsIdle, WholeMoves, WholeStarts, WholeStep}
 use Rattle.ns_world.specs.Prelude.{Word, env_got_of, env_step_of, got_of, in_call, is_for_lock, mode_of, object_got, object_step_of, placed, progress, progressed, start_of, step_of, told_to, want_of, whole_busy}
 use Rattle.ns_world.proofs.SeatSet.{as_many}
@@ -74,7 +75,7 @@ module _ {C : Type 0} {N : ℕ} where
   told_if_made true None then next (InRound round place) told step made q = subst IsMade (sym q.4) tt
   told_if_made true None then next walk told step made q = absurd q
 
-  makes_made : (old new : Whole C N) (here next : Seat C N) (step : Step) → LockSteps old new here next step ⊎ (NotesSteps old new here next step ⊎ ObjectsSteps old new here next step) → IsMade step
+  makes_made : (old new : Whole C N) (here next : Seat C N) (step : Step) → SeatMakes old new here next step → IsMade step
   makes_made old new here next step (inl p) = subst IsMade (sym p.answers) (told_made p.then.awaits p.told (subst IsMade (sym p.performs.answers) (step_made (got_of N p.walk p.performs.found))))
   makes_made old new here next step (inr (inl p)) = by here.walk p.moves where
     by : (walk : Option (Walk C)) → MovesFrom walk old.env new.env here p.place next step → IsMade step
@@ -92,7 +93,7 @@ module _ {C : Type 0} {N : ℕ} where
 
   -- ---- who is busy
 
-  makes_busy : (old new : Whole C N) (here next : Seat C N) (step : Step) → LockSteps old new here next step ⊎ (NotesSteps old new here next step ⊎ ObjectsSteps old new here next step) → in_call here ≡ true
+  makes_busy : (old new : Whole C N) (here next : Seat C N) (step : Step) → SeatMakes old new here next step → in_call here ≡ true
   makes_busy old new here next step (inl p) = λ i. (is_some (p.walks i) || is_some (p.unasked i)) || is_some (p.nowhere i)
   makes_busy old new here next step (inr (inl p)) = (λ i. (is_some here.walk || is_some (p.stands i)) || is_some (p.nowhere i)) ∙ ap (λ b. b || false) (or-true (is_some here.walk))
   makes_busy old new here next step (inr (inr p)) = ap (λ w. (is_some here.walk || is_some here.asking) || is_some w) p.walks ∙ or-true (is_some here.walk || is_some here.asking)

@@ -10,8 +10,10 @@ use Rattle.ns_world.proofs.Places.{IsFirstAt, IsNoLook, first_at}
 use Rattle.ns_world.proofs.SeatSet.{here_then, number_here, others_stay}
 use Rattle.ns_world.proofs.Shown.{LookSoFar, begins_on}
 use Rattle.ns_world.proofs.StepKinds.{awaits_not, clash, kind_of, resting}
+use Rattle.ns_world.specs.Moves.{SeatMakes}
 use Rattle.ns_world.specs.Prelude.{Add, AnswersCall, AreEnvBy, AreObjectsBy, AreThere, Ask, Asked, Call, CallFits, CounterWait, Done, EnvEvent, Event, Finished, Happens, HasLedTo, IsLawfulWhole, IsUnfinished, Meanwhile, Mode, ObjectEvent, ObjectSoFar}
-use Rattle.ns_world.specs.Prelude.{LockSteps, NotesSteps, ObjectsSteps, OfLock, OfNotes, OfObjects, OnCondition, OnEntry, OnLock, OnObjects, Once, Past, Reply, Seat, Start, Started, Step, ToRelease, UnlockQuiet, Value, Wait, WaitAny, Whole, WholeBegins, WholeMoves, WholeStarts, WholeStep, asked_of, asks_of}
+use Rattle.ns_world.specs.Prelude.{OfLock, OfNotes, OfObjects, OnCondition, OnEntry, OnLock, OnObjects, Once, Past, Reply, Seat}
+use Rattle.ns_world.specs.Prelude.{Start, Started, Step, ToRelease, UnlockQuiet, Value, Wait, WaitAny, Whole, WholeBegins, WholeMoves, WholeStarts, WholeStep, asked_of, asks_of}
 use Rattle.ns_world.specs.Prelude.{course_from, done_by, done_in, env_after, env_asked_of, env_course_at, env_own, happened, held_at, in_call, mode_of, mode_waited, notes_by, nothing_done, object_asked, objects_by, objects_own, own, past_and, placed, start_of, view_of}
 use Rattle.ns_counters.proofs.Objects.{own-append, own_none}
 use Rattle.ns_counters.proofs.Rounds.{later_itself}
@@ -26,7 +28,7 @@ module _ {C : Type 0} {N : ℕ} (old new : Whole C N) (lawful : IsLawfulWhole ol
   goes_row {told} g = ap (λ h. own h seat) g.grows ∙ own_row_append seat old.history g.commits
       ∙ ap (λ es. own old.history seat ++ es) (own_row_none here.number seat g.commits (λ e. ne (sym (number_here old lawful other here at) ∙ e)) (step_by old.truths _ (view_of here) g.found _ g.commits (goes_steps old new other here next told at seats g))) ∙ append-nil (own old.history seat)
 
-  makes_row : (step : Step) → LockSteps old new here next step ⊎ (NotesSteps old new here next step ⊎ ObjectsSteps old new here next step) → own new.history seat ≡ own old.history seat
+  makes_row : (step : Step) → SeatMakes old new here next step → own new.history seat ≡ own old.history seat
   makes_row step (inl p) = goes_row (lock_kind old new lawful other step here next at p).goes
   makes_row step (inr (inl p)) = ap (λ (w : Whole C N). own w.history seat) p.same
   makes_row step (inr (inr p)) = ap (λ (w : Whole C N). own w.history seat) p.same
@@ -55,8 +57,8 @@ module _ (C : Type 0) (N : ℕ) (before : Whole C N) (earlier : Past) (seat : �
   }
 
   -- so it is where its seat rests
-  rests_in : (asked : Asked C) (past more : Past) (old new : Whole C N) → slice_get new.seats seat ≡ slice_get old.seats seat → (new.truths ≡ old.truths) × (new.objects.setup ≡ old.objects.setup) → HasLedTo (past_and past more) new → AddsNothing before earlier seat past more old.history new.history →
-      UnderwayIn before earlier seat asked past old → UnderwayIn before earlier seat asked (past_and past more) new
+  rests_in : (asked : Asked C) (past more : Past) (old new : Whole C N) → slice_get new.seats seat ≡ slice_get old.seats seat → (new.truths ≡ old.truths) × (new.objects.setup ≡ old.objects.setup) → HasLedTo (past_and past more) new →
+      AddsNothing before earlier seat past more old.history new.history → UnderwayIn before earlier seat asked past old → UnderwayIn before earlier seat asked (past_and past more) new
   rests_in asked past more old new still same led r u = on_in asked past more old new u.here (still ∙ u.at) same led u (has_rests before earlier seat asked past more old.history new.history u.here r u.has)
 
   nothing_added : (past : Past) (old new : Whole C N) → own new.history seat ≡ own old.history seat → AddsNothing before earlier seat past nothing_done old.history new.history
@@ -202,7 +204,8 @@ module _ (C : Type 0) (N : ℕ) (before : Whole C N) (earlier : Past) (seat : �
   abbrev StepsTo : Asked C → Step → Past → Whole C N → Type 0
   StepsTo asked step past new = HasLedTo past new × ((next : Seat C N) × (slice_get new.seats seat ≡ Some next) × Outcome before earlier seat asked step past new next)
 
-  moves_here : (asked : Asked C) (past : Past) (old new : Whole C N) (step : Step) → IsLawfulWhole old → (p : WholeMoves old new seat step) → UnderwayIn before earlier seat asked past old → StepsTo asked step (past_and past (record { notes = notes_by seat p.makes; objects = objects_by p.makes })) new
+  moves_here : (asked : Asked C) (past : Past) (old new : Whole C N) (step : Step) → IsLawfulWhole old → (p : WholeMoves old new seat step) → UnderwayIn before earlier seat asked past old →
+      StepsTo asked step (past_and past (record { notes = notes_by seat p.makes; objects = objects_by p.makes })) new
   moves_here asked past old new step lawful p u = (led.2, (p.next, here_then old new seat p.here p.next p.at p.seats, by asked (subst (HasCome before earlier seat asked past old.history) (same_Some _ _ (sym u.at ∙ p.at)) u.has))) where
     notes : List EnvEvent
     notes = notes_by seat p.makes
@@ -225,7 +228,8 @@ module _ (C : Type 0) (N : ℕ) (before : Whole C N) (earlier : Past) (seat : �
   step_here asked past old new step lawful (inl p) u = absurd (idle_not asked past old p.2.0 u p.2.1 p.2.2)
   step_here asked past old new step lawful (inr p) u = moves_here asked past old new step lawful p u
 
-  step_by_itself : (asked : Asked C) (past : Past) (old new : Whole C N) (who : ℕ) (step : Step) → who ≡ seat → IsLawfulWhole old → (p : WholeStep old new who step) → IsUnfinished step → UnderwayIn before earlier seat asked past old → UnderwayIn before earlier seat asked (past_and past (done_in old new who step p)) new
+  step_by_itself : (asked : Asked C) (past : Past) (old new : Whole C N) (who : ℕ) (step : Step) → who ≡ seat → IsLawfulWhole old → (p : WholeStep old new who step) → IsUnfinished step → UnderwayIn before earlier seat asked past old →
+      UnderwayIn before earlier seat asked (past_and past (done_in old new who step p)) new
   step_by_itself asked past old new who step same lawful p goes u = subst (λ n. (q : WholeStep old new n step) → UnderwayIn before earlier seat asked (past_and past (done_in old new n step q)) new) (sym same) on p where
     on : (q : WholeStep old new seat step) → UnderwayIn before earlier seat asked (past_and past (done_in old new seat step q)) new
     on q =
@@ -241,7 +245,8 @@ module _ (C : Type 0) (N : ℕ) (before : Whole C N) (earlier : Past) (seat : �
     by_whom who (inr stepped) (inr ne) = step_there asked past old new who ne lawful u stepped.0 stepped.1
 
   -- a lawful world in which the call is under way
-  meanwhile_on : (asked : Asked C) (n : ℕ) (past : Past) (old new : Whole C N) → IsLawfulWhole old → (meanwhile : Meanwhile seat n old new) → UnderwayIn before earlier seat asked past old → IsLawfulWhole new × UnderwayIn before earlier seat asked (past_and past (happened seat n old new meanwhile)) new
+  meanwhile_on : (asked : Asked C) (n : ℕ) (past : Past) (old new : Whole C N) → IsLawfulWhole old → (meanwhile : Meanwhile seat n old new) → UnderwayIn before earlier seat asked past old →
+      IsLawfulWhole new × UnderwayIn before earlier seat asked (past_and past (happened seat n old new meanwhile)) new
   meanwhile_on asked zero past old new lawful p u =
       let same = subst (UnderwayIn before earlier seat asked past) (sym p) u in
       (subst IsLawfulWhole (sym p) lawful, rests_in asked past nothing_done new new refl (refl, refl) (no_more past new same.led) (nothing_added past new new refl) same)

@@ -42,7 +42,7 @@ BeginFault old seat fault = ⊥
 
 -- ---- a step
 
--- The seat makes one step on the lock, and it was this: no look of a wait, and the seat stands nowhere on the clock, the notes, the counters and once cells, which stay. Where it waits for variables among objects, it looks at these where the wait is to look, and answers a place where the wait is over.
+-- The seat makes one step on the lock, and it was this: no look of a wait, and the seat stands nowhere on the clock, the notes, the counters and once cells, which stay. In a wait for variables among objects it looks at these where that is to look, and answers a place where that is over.
 pub record LockSteps {C : Type 0} {N : ℕ} (old new : Whole C N) (here next : Seat C N) (step : Step) : Type 0 where
   pub nowhere : here.operating ≡ None
   pub unasked : here.asking ≡ None
@@ -75,25 +75,29 @@ pub record ObjectsSteps {C : Type 0} {N : ℕ} (old new : Whole C N) (here next 
   pub tells : ToldIf (is_for_lock here.awaits walk told) here.awaits then walk told next step
   pub same : new ≡ record old { seats = new.seats; objects = new.objects }
 
--- The seat makes one step of its call, and no other seat changes.
+-- the seat makes one step of its call, by one of the machines
+abbrev pub SeatMakes : {C : Type 0} {N : ℕ} → Whole C N → Whole C N → Seat C N → Seat C N → Step → Type 0
+SeatMakes old new here next step = LockSteps old new here next step ⊎ (NotesSteps old new here next step ⊎ ObjectsSteps old new here next step)
+
+-- The same in its world, where no other seat changes.
 pub record WholeMoves {C : Type 0} {N : ℕ} (old new : Whole C N) (seat : ℕ) (step : Step) : Type 0 where
   pub here : Seat C N
   pub next : Seat C N
   pub at : slice_get old.seats seat ≡ Some here
   pub seats : new.seats ≡ slice_set old.seats seat next
-  pub makes : LockSteps old new here next step ⊎ (NotesSteps old new here next step ⊎ ObjectsSteps old new here next step)
+  pub makes : SeatMakes old new here next step
 
 -- A seat with no call in progress makes no step, and another makes one, which answers something else.
 abbrev pub WholeStep : {C : Type 0} {N : ℕ} → Whole C N → Whole C N → ℕ → Step → Type 0
 WholeStep old new seat step = ((step ≡ Nothing) × (new ≡ old) × WholeIsIdle old seat) ⊎ WholeMoves old new seat step
 
 -- the events that a step of the seat is on the clock and the notes
-abbrev pub notes_by : {C : Type 0} {N : ℕ} {old new : Whole C N} {here next : Seat C N} {step : Step} → ℕ → LockSteps old new here next step ⊎ (NotesSteps old new here next step ⊎ ObjectsSteps old new here next step) → List EnvEvent
+abbrev pub notes_by : {C : Type 0} {N : ℕ} {old new : Whole C N} {here next : Seat C N} {step : Step} → ℕ → SeatMakes old new here next step → List EnvEvent
 notes_by {old = old} seat (inr (inl p)) = (outcome seat (env_want_of p.place) old.env).events
 notes_by seat p = []
 
 -- the events that it is on the counters and once cells
-abbrev pub objects_by : {C : Type 0} {N : ℕ} {old new : Whole C N} {here next : Seat C N} {step : Step} → LockSteps old new here next step ⊎ (NotesSteps old new here next step ⊎ ObjectsSteps old new here next step) → List ObjectEvent
+abbrev pub objects_by : {C : Type 0} {N : ℕ} {old new : Whole C N} {here next : Seat C N} {step : Step} → SeatMakes old new here next step → List ObjectEvent
 objects_by (inr (inr p)) = p.operates.events
 objects_by p = []
 

@@ -12,13 +12,15 @@ pub use Rattle.ns_world.specs.Performs.{Makes, Performs, flag_at, part, seat_par
 pub use Rattle.ns_world.specs.Replies.{told as reply_of_lock}
 pub use Rattle.ns_world.specs.Runs.{Advances, Counts, CountsTurn, EndFinished, GoesOnOrBegins, IsCounted, IsFinished, ListFits, Progress, Stops, StopsFor, TurnFault, TurnOf, Turned, TurnsOf, TurnsWith, calls_of, is_end, progress, progressed, rest_of, tests_at, word_items}
 pub use Rattle.ns_world.specs.Shows.{hand_of, lists_by, wakes_by, wakes_owed}
-pub use Rattle.ns_world.specs.Whole.{HasLedTo, HaveLedTo, IsLawfulWhole, LedTo, LooksWhere, MayWait as MayWaitOnLock, NeedsSection, SeatStands, StandsAlone, StandsBy, WaitsOnLock, Whole, WholeIsBusy, WholeIsIdle, fresh_seat, fresh_seats, fresh_whole, in_call, is_alone, lock_of, notes_of, objects_of, part_in, whole_busy, whole_of}
-pub use Rattle.ns_world.specs.Moves.{AreEnvBy, AreObjectsBy, BeginFault, LockSteps, Misuses, NotesSteps, ObjectsSteps, WholeBegins, WholeCommits, WholeFault, WholeMoves, WholeStarts, WholeStep, notes_by, objects_by}
+pub use Rattle.ns_world.specs.Whole.{HasLedTo, HaveLedTo, IsLawfulWhole, LedTo, LooksWhere, MayWait as MayWaitOnLock, NeedsSection, SeatStands, StandsAlone, StandsBy, WaitsOnLock, Whole}
+pub use Rattle.ns_world.specs.Whole.{WholeIsBusy, WholeIsIdle, fresh_seat, fresh_seats, fresh_whole, in_call, is_alone, lock_of, notes_of, objects_of, part_in, whole_busy, whole_of}
+pub use Rattle.ns_world.specs.Moves.{AreEnvBy, AreObjectsBy, BeginFault, LockSteps, Misuses, NotesSteps, ObjectsSteps, SeatMakes, WholeBegins, WholeCommits, WholeFault, WholeMoves, WholeStarts, WholeStep, notes_by, objects_by}
 pub use Rattle.ns_world.specs.World.{kept}
 pub use Rattle.ns_world.specs.Names.{Act, ActFits, Add, Advance, Advancing, Answer, Any, AnyAnswers, AnyMeans, AnyWait, AreAmong, AreBy, AreNumbered, AreThere, AreVariables, ArmFlag, Arrival, Ask, Asked, AtLock, AtSomePoint, AtVariables, Await, AwaitWakeInWait, BeginsWith, Bits, Broadcast}
 pub use Rattle.ns_world.specs.Names.{Broadcasting, Call, CallGoes, CanLeave, CanWait, Cause, Change, ChangeFits, ClockLoad, CounterWait, Course, Cv, CvWait, Cvs, Done, Effect, EnvAct, EnvActFits, EnvCourse, EnvEffect, EnvEvent, EnvFound, EnvGoes, EnvGoesOn, EnvNext, EnvPlain, EnvRequest, EnvSoFar}
 pub use Rattle.ns_world.specs.Names.{EnvWalk, Environment, Event, Every, Expired, Expiry, ExpiryLoad, Fault, Finished, FirstClock, ForIsNotified, ForLook, ForNoteWait, Found, Get, Go, GoesOn, HasList, HasMode, HaveShownNothing, Held, Home, Idle, IfMade, InAcquire, InCells, InHand, InLeaving}
-pub use Rattle.ns_world.specs.Names.{InQueuing, InRelease, InRound, InShow, InSignal, InTry, InWait, IsFirst, IsFirstAsk, IsForCondition, IsInRange, IsLater, IsLawful, IsLawfulEnv, IsLawfulObjects, IsLow, IsNotified, IsReady, IsSettled, IsUnmet, Item, Items, LeaveLoad, LeaveSelf, Left, Limits, Line, Lists, Load}
+pub use Rattle.ns_world.specs.Names.{InQueuing, InRelease, InRound, InShow, InSignal, InTry, InWait, IsFirst, IsFirstAsk, IsForCondition, IsInRange, IsLater, IsLawful, IsLawfulEnv}
+pub use Rattle.ns_world.specs.Names.{IsLawfulObjects, IsLow, IsNotified, IsReady, IsSettled, IsUnmet, Item, Items, LeaveLoad, LeaveSelf, Left, Limits, Line, Lists, Load}
 pub use Rattle.ns_world.specs.Names.{LoadFlag, Lock, LockState, Look, LookIn, LookMeans, LookOut, LookOver, Looked, Made, MayEnd, MayShow, MayWait, Means, Meets, Mode, NewNote, Next, NextLoad, NoSuchSeat, NoteLoad, NoteStanding, NoteWait, Nothing, Notify, Notifying, Number, ObjectEvent, ObjectFound}
 pub use Rattle.ns_world.specs.Names.{ObjectGoes, ObjectNext, ObjectSoFar, ObjectStanding, ObjectWalk, ObjectWords, OfLock, OfNotes, OfObjects, On, OnCondition, OnEntry, OnLock, OnObjects, OnVariable, OnVariables, Once, Only, OutOfMemory, Over, Owed, OwesOne, Part, Past, PayWake, PlaceFits, Plain}
 pub use Rattle.ns_world.specs.Names.{QueueSelf, QuietCells, QuietKeeps, QuietLast, RLock, RUnlock, Read, Reader, Release, ReleaseReturning, Releasing, Repeat, Reply, Request, ReturnQueues, Round, RoundGo, RoundNext, RoundOver, RoundPlace, RoundShows, RoundSoFar, Scanned, Seat, SeatView, Set, Setup}

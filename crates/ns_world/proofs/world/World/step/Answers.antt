@@ -1,6 +1,6 @@
 use Rattle.ns_queue.specs.Sizes.{row_fits}
 use denote.Param.{number}
-use Rattle.std.proofs.Common.{Some, ap, inl, inr, is_some, ◌||◌, refl, subst, false, ◌∙◌, ◌≡◌, ◌≤◌}
+use Rattle.std.proofs.Common.{ap, inl, inr, is_some, ◌||◌, refl, subst, false, ◌∙◌, ◌≡◌, ◌≤◌}
 use Rattle.ns_world.proofs.Below.{err_from_is_err_and, set_same}
 use Rattle.ns_world.proofs.Laws.{step_keeps}
 use Rattle.ns_world.proofs.Mapped.{found_at}
