@@ -3,6 +3,7 @@ use Rattle.std.proofs.Common.{List, None, Option, Some, [], ap, inl, inr, refl, 
 use Rattle.ns_world.proofs.Below.{append-nil}
 use Rattle.ns_world.proofs.Places.{IsNoLook}
 use Rattle.ns_world.proofs.Shown.{LookSoFar, look_on, shown_on}
+use Rattle.ns_world.specs.Prelude.{Reply}
 use Rattle.ns_world.specs.Prelude.{AnswersOfLock, AnswersOfNotes, AnswersTo, AnyAnswers, AreAmong, Asked, BeginsWith, Cause, Course, Cvs, EnvCourse, EnvEvent, EnvRequest}
 use Rattle.ns_world.specs.Prelude.{EnvSoFar, EnvWalk, Event, Finished, FirstClock, HasLedTo, HaveShownNothing, InRound, IsLater, IsReady, IsUnfinished, ObjectEvent, ObjectSoFar}
 use Rattle.ns_world.specs.Prelude.{ObjectWalk, OfLock, OfNotes, OfObjects, Past, Request, Round, RoundShows, RoundSoFar, Seat, SoFar, Step, Walk, WasShown}
@@ -17,6 +18,24 @@ use Rattle.ns_word.specs.declared.request.Request.TheVariants as TheRequest
 abbrev pub AsShown : Option ℕ → Option (Option Cause) → Type 0
 AsShown shown None = Unit {0}
 AsShown shown (Some cause) = cause ≡ cause_of shown
+
+-- what a step leads to that has finished a call with an answer, and another one
+abbrev pub StepLeads : (Reply → Type 0) → Type 0 → Step → Type 0
+StepLeads Ends Goes (Finished reply) = Ends reply
+StepLeads Ends Goes step = Goes
+
+-- what isn't finished has come so far
+pub unfinished : (Ends : Reply → Type 0) (Goes : Type 0) (step : Step) → IsUnfinished step → StepLeads Ends Goes step → Goes
+unfinished Ends Goes (Finished reply) goes o = absurd goes
+unfinished Ends Goes other goes o = o
+
+pub goes_so : (Ends : Reply → Type 0) (Goes : Type 0) (step : Step) → IsUnfinished step → Goes → StepLeads Ends Goes step
+goes_so Ends Goes (Finished reply) goes o = absurd goes
+goes_so Ends Goes other goes o = o
+
+pub leads_as : (Ends Ends' : Reply → Type 0) (Goes Goes' : Type 0) (step : Step) → ((reply : Reply) → Ends reply → Ends' reply) → (Goes → Goes') → StepLeads Ends Goes step → StepLeads Ends' Goes' step
+leads_as Ends Ends' Goes Goes' (Finished reply) ends goes o = ends reply o
+leads_as Ends Ends' Goes Goes' other ends goes o = goes o
 
 module _ {C : Type 0} {N : ℕ} (before : Whole C N) (earlier : Past) (seat : ℕ) where
   -- ---- how far a call has come
@@ -127,32 +146,16 @@ module _ {C : Type 0} {N : ℕ} (before : Whole C N) (earlier : Past) (seat : �
 
   -- it has come so far, or has its answer
   abbrev pub Outcome : Asked C → Step → Past → Whole C N → Seat C N → Type 0
-  Outcome asked (Finished reply) past world here = AnswersTo before earlier seat asked reply world past
-  Outcome asked step past world here = HasCome asked past world.history here
+  Outcome asked step past world here = StepLeads (λ reply. AnswersTo before earlier seat asked reply world past) (HasCome asked past world.history here) step
 
   -- the same of one on the lock, whose last look has shown this
   abbrev pub LockOutcome : Request C → Step → List EnvEvent → Whole C N → Seat C N → Option (Option Cause) → Type 0
-  LockOutcome request (Finished reply) events world here looked = (answers : AnswersOfLock before earlier.notes seat request reply world events) × (answers.course.looked ≡ looked)
-  LockOutcome request step events world here looked = (u : LockUnderway request events world.history here) × (u.course.looked ≡ looked)
+  LockOutcome request step events world here looked =
+      StepLeads (λ reply. (answers : AnswersOfLock before earlier.notes seat request reply world events) × (answers.course.looked ≡ looked)) ((u : LockUnderway request events world.history here) × (u.course.looked ≡ looked)) step
 
   -- and of one on the clock and the notes
   abbrev pub NotesOutcome : EnvRequest → Step → List EnvEvent → Whole C N → Seat C N → Type 0
-  NotesOutcome request (Finished reply) events world here = AnswersOfNotes before earlier.notes seat request reply world events
-  NotesOutcome request step events world here = NotesUnderway request events world.history here
-
-  -- what isn't finished has come so far
-  pub unfinished : (asked : Asked C) (step : Step) (past : Past) (world : Whole C N) (here : Seat C N) → IsUnfinished step → Outcome asked step past world here → HasCome asked past world.history here
-  unfinished asked (Finished reply) past world here goes o = absurd goes
-  unfinished asked other past world here goes o = o
-
-  pub goes_so : (asked : Asked C) (step : Step) (past : Past) (world : Whole C N) (here : Seat C N) → IsUnfinished step → HasCome asked past world.history here → Outcome asked step past world here
-  goes_so asked (Finished reply) past world here goes o = absurd goes
-  goes_so asked other past world here goes o = o
-
-  pub lock_unfinished : (request : Request C) (step : Step) (events : List EnvEvent) (world : Whole C N) (here : Seat C N) (looked : Option (Option Cause)) → IsUnfinished step → LockOutcome request step events world here looked →
-      (u : LockUnderway request events world.history here) × (u.course.looked ≡ looked)
-  lock_unfinished request (Finished reply) events world here looked goes o = absurd goes
-  lock_unfinished request other events world here looked goes o = o
+  NotesOutcome request step events world here = StepLeads (λ reply. AnswersOfNotes before earlier.notes seat request reply world events) (NotesUnderway request events world.history here) step
 
   -- ---- what others do
 

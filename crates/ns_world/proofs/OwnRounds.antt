@@ -3,7 +3,7 @@ use Rattle.std.proofs.Common.{Bool, List, None, Option, Some, [], ap, cond, fals
 use Rattle.std.specs.Option.{option_map_or}
 use Rattle.std.specs.Prelude.{IsSome, unwrap_or}
 use Rattle.ns_world.proofs.Below.{append-nil, append_assoc, first_place, made_begins, same_Some, some_among, there_more, wait_is_first}
-use Rattle.ns_world.proofs.HowFar.{AsShown, Awaiting, HasCome, LockOutcome, LockUnderway, ObjectsUnderway, Outcome, RoundOn, ShownOn, goes_so, lock_rests, lock_unfinished, no_own, no_own_notes, shown_rests, until_rests, wait_for, waits_on}
+use Rattle.ns_world.proofs.HowFar.{AsShown, Awaiting, HasCome, LockOutcome, LockUnderway, ObjectsUnderway, Outcome, RoundOn, ShownOn, goes_so, lock_rests, unfinished, no_own, no_own_notes, shown_rests, until_rests, wait_for, waits_on}
 use Rattle.ns_world.proofs.Looking.{LooksOut, leads_on}
 use Rattle.ns_world.proofs.Mapped.{got-map}
 use Rattle.ns_world.proofs.OwnSteps.{lock_looked, lock_quietly}
@@ -12,9 +12,9 @@ use Rattle.ns_world.proofs.Shown.{LookSoFar, begins_on}
 use Rattle.ns_world.proofs.StepKinds.{BeginsToWait, EndsLook, Kind, OnTheLock, OnTheObjects, Operates, clash, look_due, stands_alone, stands_waiting, wait_left}
 use Rattle.ns_world.specs.Prelude.{Request}
 use Rattle.ns_world.specs.Prelude.{Answer, AnswersOfLock, AnswersTo, Any, AnyAnswers, AnyMeans, AnyWait, AreObjectsBy, BeginsWith, Cause, EnvEvent, Finished, FirstClock, Found, HasLedTo, Held, Idle, InHand, InRound, IsLater, IsLawful, IsLawfulWhole, IsReady, IsUnfinished}
-use Rattle.ns_world.specs.Prelude.{MayEnd, Means, Next, Number, ObjectEvent, ObjectGoes, ObjectNext, ObjectSoFar, ObjectWalk, OfObjects, On, OnVariables, Over, Past, PlaceBy, Repeat, Reply, Round, RoundGo, RoundNext, RoundOver, RoundPlace, RoundSoFar, Seat, SeatStands, SoFar}
+use Rattle.ns_world.specs.Prelude.{MayEnd, Means, Number, ObjectEvent, ObjectGoes, ObjectNext, ObjectSoFar, ObjectWalk, OfObjects, OnVariables, Over, Past, PlaceBy, Repeat, Reply, Round, RoundGo, RoundNext, RoundOver, RoundPlace, RoundSoFar, Seat, SeatStands, SoFar}
 use Rattle.ns_world.specs.Prelude.{StandsAlone, Step, WaitMeans, Walk, WalkFits, WalkReply, WereThere, Whole, asked_of, at_will, by_round, cause_of, course_from, env_after, env_own, got_of, held_at, is_for_lock, items_of, looked_after, looks_at, mode_of, mode_waited, nothing_done, notes_of}
-use Rattle.ns_world.specs.Prelude.{object_after, object_asked, object_got, object_place, object_step_of, objects_after, objects_own, own, past_and, place_told, reply_of_lock, reply_told, round_due, round_got, row_after, shown_by, step_of, step_told, told_to, wait_first, waits_for_any, walk_after}
+use Rattle.ns_world.specs.Prelude.{object_after, object_asked, object_got, object_place, object_step_of, objects_after, objects_own, own, past_and, place_told, reply_of_lock, reply_told, round_due, round_got, row_after, shown_by, step_of, step_told, told_to, wait_first, waits_for_any}
 use Rattle.ns_world.specs.Prelude.{want_of, woken_by}
 use Rattle.ns_world.specs.Names.{ObjectEffect, object_want}
 use Rattle.ns_counters.specs.RoundWalks.{round_want}
@@ -24,8 +24,6 @@ use Rattle.ns_counters.proofs.Rounds.{last_nothing, later_itself}
 use Rattle.ns_counters.proofs.Courses.{RoundGoes, operates_on, round_by, round_makes_none}
 use Rattle.ns_counters.specs.declared.object.Place.TheVariants.{Free}
 use Rattle.ns_counters.specs.declared.walk.ObjectNext.TheVariants.{Go}
-use Rattle.ns_word.specs.declared.walk.Next.TheVariants.{Done}
-use Rattle.ns_word.specs.declared.walk.Next.TheVariants as TheNext
 use Rattle.ns_word.specs.declared.request.Request.TheVariants as TheRequest
 use Rattle.ns_word.specs.declared.walk.Reply.TheVariants as TheWalk
 
@@ -33,12 +31,6 @@ use Rattle.ns_word.specs.declared.walk.Reply.TheVariants as TheWalk
 woken_is : (by : Option ℕ) → woken_by (reply_of_lock (TheWalk.WokenBy by)) ≡ by
 woken_is None = refl
 woken_is (Some k) = refl
-
--- a place that goes on
-goes_after : {C : Type 0} (next : Next C) → IsUnfinished (step_of next) → (walk : Walk C) × (walk_after next ≡ Some walk)
-goes_after (On walk) goes = (walk, refl)
-goes_after (TheNext.Idle walk) goes = (walk, refl)
-goes_after (Done reply) goes = absurd goes
 
 module _ {C : Type 0} {N : ℕ} (before : Whole C N) (earlier : Past) (seat : ℕ) (past : Past) (old new : Whole C N) (lawful : IsLawfulWhole old) (setup : old.objects.setup ≡ before.objects.setup) (means : old.truths ≡ before.truths) (since : BeginsWith past.objects earlier.objects)
     (since_notes : BeginsWith past.notes earlier.notes) (led : HasLedTo past old) (here next : Seat C N) (at : slice_get old.seats seat ≡ Some here) (seats : new.seats ≡ slice_set old.seats seat next) (step : Step) (notes : List EnvEvent) (events : List ObjectEvent) where
@@ -240,10 +232,10 @@ module _ {C : Type 0} {N : ℕ} (before : Whole C N) (earlier : Past) (seat : �
           let same_walk : k.goes.walk ≡ k.out.0.walk = same_Some _ _ (sym k.goes.walks ∙ k.out.0.walks) in
           let leads = leads_on N k.goes.walk (cause_of (shown_by k.on.told)) (subst LooksOut (sym same_walk) k.out.1) in
           let goes : IsUnfinished step = subst IsUnfinished (sym (k.goes.answers ∙ ap (λ (f : Found). step_of (got_of N k.goes.walk f)) k.looked)) leads.unfinished in
-          let lock = lock_unfinished before earlier seat request step (past.notes ++ []) new next (looked_after k.goes.found o.lock.course.looked) goes (lock_looked before earlier seat old new lawful means here next at seats request past since_notes o.lock refl k.goes) in
+          let lock = unfinished _ _ step goes (lock_looked before earlier seat old new lawful means here next at seats request past since_notes o.lock refl k.goes) in
           let looked : lock.0.course.looked ≡ Some (cause_of (shown_by k.on.told)) = lock.1 ∙ ap (λ (f : Found). looked_after f o.lock.course.looked) k.looked in
           let shows = looks_by k.on in
-          goes_so before earlier seat (OfObjects asked) step on new next goes (inr (waits_on before earlier seat asked past more old.history new.history here next o (shown_by k.on.told) (no_own before earlier seat past.objects events shows.4) lock.0
+          goes_so _ _ step goes (inr (waits_on before earlier seat asked past more old.history new.history here next o (shown_by k.on.told) (no_own before earlier seat past.objects events shows.4) lock.0
           (subst (AsShown (shown_by k.on.told)) (sym looked) refl)
           (k.awaits ∙ ap (λ (x : AnyWait). Some (record { round = x.round; shown = shown_by k.on.told })) (same_wait k.wait k.waits))
           (subst (λ s. ShownOn before earlier seat o.round mid on (shown_by s)) (sym shows.1) (shown shows.0 shows.3)) None k.nowhere tt)) where
@@ -280,11 +272,9 @@ module _ {C : Type 0} {N : ℕ} (before : Whole C N) (earlier : Past) (seat : �
         -- where it goes on
         goes_on_there : IsUnfinished k.told → Awaiting before earlier seat asked here_now new.history next
         goes_on_there goes =
-            let after = goes_after (got_of N k.goes.walk k.goes.found) (subst IsUnfinished k.goes.answers goes) in
-            let walk : next.walk ≡ Some after.0 = k.goes.to ∙ after.1 in
-            let lock = lock_unfinished before earlier seat request k.told (past.notes ++ []) new next o.lock.course.looked goes outcome in
-            waits_on before earlier seat asked past nothing_done old.history new.history here next o o.shown (no_own before earlier seat past.objects [] refl) lock.0 (subst (AsShown o.shown) (sym lock.1) o.looked) (k.awaits ∙ (λ i. wait_left (o.waits i) (walk i))) still_shown
-            (round_due waiting after.0) (k.operating ∙ (λ i. look_due (o.waits i) (walk i))) (looks (is_some (looks_at (want_of after.0)))) where
+            let lock = unfinished _ _ k.told goes outcome in
+            waits_on before earlier seat asked past nothing_done old.history new.history here next o o.shown (no_own before earlier seat past.objects [] refl) lock.0 (subst (AsShown o.shown) (sym lock.1) o.looked) (k.awaits ∙ (λ i. wait_left (o.waits i) (lock.0.walks i))) still_shown
+            (round_due waiting lock.0.walk) (k.operating ∙ (λ i. look_due (o.waits i) (lock.0.walks i))) (looks (is_some (looks_at (want_of lock.0.walk)))) where
               looks : (b : Bool) → RoundOn before earlier seat o.round mid here_now (cond b (Some (InRound o.round FirstClock)) None)
               looks true = (refl, rounds_before o.shown here_now still_until still_shown)
               looks false = tt

@@ -2,17 +2,17 @@
 use Rattle.std.proofs.Common.{List, None, Option, Some, [], ap, inl, inr, length, map, refl, slice_get, slice_set, subst, sym, ℕ, ◌++◌, ◌∙◌, ◌≡◌}
 use Rattle.std.specs.Option.{option_map_or}
 use Rattle.ns_world.proofs.Below.{append_assoc, env_own-append, env_own_all, same_Some}
-use Rattle.ns_world.proofs.HowFar.{HasCome, LockOutcome, LockUnderway, NotesOutcome, NotesUnderway, Outcome, lock_rests, no_own, no_own_notes}
+use Rattle.ns_world.proofs.HowFar.{HasCome, LockOutcome, LockUnderway, NotesOutcome, NotesUnderway, Outcome, leads_as, lock_rests, no_own, no_own_notes}
 use Rattle.ns_world.proofs.Led.{events_by}
 use Rattle.ns_world.proofs.Looking.{first_if, noted}
 use Rattle.ns_world.proofs.Mapped.{got-map}
 use Rattle.ns_world.proofs.SeatSet.{here_then, number_here}
 use Rattle.ns_world.proofs.Shown.{LookSoFar, Says, begins_on, limits_are, look_begins, look_means, means_no_look, place_asks, shown_none, shown_so}
 use Rattle.ns_world.proofs.StepKinds.{Goes, Kind, LookGoes, OnALook, OnTheNotes, clash, goes_steps, look_due, wait_left}
-use Rattle.ns_world.specs.Prelude.{Act, AreBy, BeginsWith, CallGoes, Cause, Course, Effect, EnvCourse, EnvEvent, EnvGoes, EnvGoesOn, EnvNext, EnvRequest, EnvSoFar, EnvWalk, Event, Finished, Found, Go, GoesOn, IfMade, IsLawfulWhole, LedTo, Limits, LookOver, Looked, Means, Next, ObjectEvent}
+use Rattle.ns_world.specs.Prelude.{Act, AreBy, BeginsWith, CallGoes, Cause, Course, Effect, EnvCourse, EnvEvent, EnvGoes, EnvGoesOn, EnvNext, EnvRequest, EnvSoFar, EnvWalk, Event, Found, Go, GoesOn, IfMade, IsLawfulWhole, LedTo, Limits, LookOver, Looked, Means, Next, ObjectEvent}
 use Rattle.ns_world.specs.Prelude.{OfLock, OfNotes, On, Part, Past, Request, Seat, SoFar, Step, Truths, Walk, WasShown, Went, Whole}
 use Rattle.ns_world.specs.Prelude.{asked_of, course_after, env_asked_of, env_course_after, env_got_of, env_own, env_state, env_step_of, env_walk_after, env_want_of, got_of, held_at, limits_of, lock_of, look_of}
-use Rattle.ns_world.specs.Prelude.{looked_after, looks_at, note_in, notes_of, objects_own, own, part_in, past_and, row_after, step_of, told_to, view_of, walk_after, want_of}
+use Rattle.ns_world.specs.Prelude.{looked_after, looks_at, note_in, notes_of, own, part_in, past_and, row_after, step_of, told_to, view_of, walk_after, want_of}
 use Rattle.ns_word.proofs.Courses.{takes_on}
 use Rattle.ns_word.proofs.ToldAfter.{own_all, own_append, step_by}
 use Rattle.ns_env.proofs.Courses.{step_takes_on}
@@ -138,13 +138,9 @@ module _ {C : Type 0} {N : ℕ} (before : Whole C N) (earlier : Past) (seat : �
     now = past_and past (record { notes = notes; objects = objects })
 
     lock_so : (step : Step) (looked : Option (Option Cause)) → notes ≡ [] → objects ≡ [] → next.operating ≡ None → next.awaits ≡ None → LockOutcome before earlier seat request step (past.notes ++ []) new next looked → Outcome before earlier seat (OfLock request) step now new next
-    lock_so step looked no_notes no_objects nowhere waits_not o = by step (subst (λ es. LockOutcome before earlier seat request step (past.notes ++ es) new next looked) (sym no_notes) o) where
-      untouched : objects_own now.objects seat ≡ objects_own earlier.objects seat
-      untouched = no_own before earlier seat past.objects objects no_objects ∙ u.1.untouched
-
-      by : (step : Step) → LockOutcome before earlier seat request step now.notes new next looked → Outcome before earlier seat (OfLock request) step now new next
-      by (Finished reply) o = (o.0, untouched)
-      by other o = (o.0, record { nowhere = nowhere; waits_not = waits_not; untouched = untouched })
+    lock_so step looked no_notes no_objects nowhere waits_not o =
+        let untouched = no_own before earlier seat past.objects objects no_objects ∙ u.1.untouched in
+        leads_as _ _ _ _ step (λ reply o. (o.0, untouched)) (λ o. (o.0, record { nowhere = nowhere; waits_not = waits_not; untouched = untouched })) (subst (λ es. LockOutcome before earlier seat request step (past.notes ++ es) new next looked) (sym no_notes) o)
 
     pub lock_takes_on : Kind old new seat here next step notes objects → Outcome before earlier seat (OfLock request) step now new next
     lock_takes_on (inl k) =
@@ -215,13 +211,9 @@ module _ {C : Type 0} {N : ℕ} (before : Whole C N) (earlier : Past) (seat : �
 
     pub notes_take_on : Kind old new seat here next step notes objects → Outcome before earlier seat (OfNotes request) step after new next
     notes_take_on (inl k) = clash k.unasked u.0.walks
-    notes_take_on (inr (inl k)) = by step (asks_goes k) where
-      untouched : objects_own after.objects seat ≡ objects_own earlier.objects seat
-      untouched = no_own before earlier seat past.objects objects k.no_objects ∙ u.1.untouched
-
-      by : (step : Step) → NotesOutcome before earlier seat request step after.notes new next → Outcome before earlier seat (OfNotes request) step after new next
-      by (Finished reply) o = (o, untouched)
-      by other o = (o, record { nowhere = ap (λ (s : Seat C N). s.operating) k.goes ∙ u.1.nowhere; waits_not = ap (λ (s : Seat C N). s.awaits) k.goes ∙ u.1.waits_not; untouched = untouched })
+    notes_take_on (inr (inl k)) =
+        let untouched = no_own before earlier seat past.objects objects k.no_objects ∙ u.1.untouched in
+        leads_as _ _ _ _ step (λ reply o. (o, untouched)) (λ o. (o, record { nowhere = ap (λ (s : Seat C N). s.operating) k.goes ∙ u.1.nowhere; waits_not = ap (λ (s : Seat C N). s.awaits) k.goes ∙ u.1.waits_not; untouched = untouched })) (asks_goes k)
     notes_take_on (inr (inr (inl k))) = clash u.0.over k.walks
     notes_take_on (inr (inr (inr (inl k)))) = clash u.1.nowhere k.on.walks
     notes_take_on (inr (inr (inr (inr (inl k))))) = clash u.1.nowhere k.on.walks

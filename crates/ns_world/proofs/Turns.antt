@@ -98,9 +98,6 @@ module _ {C : Type 0} {N : ℕ} where
   makes_busy old new here next step (inr (inl p)) = (λ i. (is_some here.walk || is_some (p.stands i)) || is_some (p.nowhere i)) ∙ ap (λ b. b || false) (or-true (is_some here.walk))
   makes_busy old new here next step (inr (inr p)) = ap (λ w. (is_some here.walk || is_some here.asking) || is_some w) p.walks ∙ or-true (is_some here.walk || is_some here.asking)
 
-  moves_busy : (old new : Whole C N) (seat : ℕ) (step : Step) → WholeMoves old new seat step → WholeIsBusy old seat
-  moves_busy old new seat step p = (p.here, p.at, makes_busy old new p.here p.next step p.makes)
-
   -- what is so of a seat's calls is so of its number
   pub busy_at : (world : Whole C N) (i : ℕ) (seat : Seat C N) (b : Bool) → slice_get world.seats i ≡ Some seat → in_call seat ≡ b → whole_busy world i ≡ b
   busy_at world i seat b at is = ap (λ o. option_map_or in_call o false) at ∙ is
@@ -126,7 +123,7 @@ module _ {C : Type 0} {N : ℕ} where
   pub turns_going : (next : Option (Call C)) (old new : Whole C N) (seat : ℕ) (step : Step) → step ≢ Nothing → WholeStep old new seat step → TurnsWith next old seat step new
   turns_going next old new seat step not (inl p) = absurd (not p.0)
   turns_going next old new seat step not (inr p) = λ lists over lines e.
-      inl (record { begun = old; leads = inl (moves_busy old new seat step p, refl); world = new; moves = p; after = refl })
+      inl (record { begun = old; leads = inl ((p.here, p.at, makes_busy old new p.here p.next step p.makes), refl); world = new; moves = p; after = refl })
 
   -- no call is left: the step of the call in progress, or none
   pub turns_without : (old new : Whole C N) (seat : ℕ) (step : Step) → WholeStep old new seat step → TurnsWith None old seat step new

@@ -234,7 +234,7 @@ module _ (C : Type 0) (N : ℕ) (before : Whole C N) (earlier : Past) (seat : �
     on : (q : WholeStep old new seat step) → UnderwayIn before earlier seat asked (past_and past (done_in old new seat step q)) new
     on q =
         let made = step_here asked past old new step lawful q u in
-        on_in asked past (done_in old new seat step q) old new made.1.0 made.1.1 (step_means old new seat step q) made.0 u (unfinished before earlier seat asked step (past_and past (done_in old new seat step q)) new made.1.0 goes made.1.2)
+        on_in asked past (done_in old new seat step q) old new made.1.0 made.1.1 (step_means old new seat step q) made.0 u (unfinished _ _ step goes made.1.2)
 
   happens_on : (asked : Asked C) (past : Past) (old new : Whole C N) → IsLawfulWhole old → (h : Happens seat old new) → UnderwayIn before earlier seat asked past old → UnderwayIn before earlier seat asked (past_and past (done_by seat h.who old new h.what)) new
   happens_on asked past old new lawful h u = by_whom h.who h.what (cases_eq h.who seat) where
