@@ -37,11 +37,11 @@ use std::marker::Model;
 /// up to 16 once cells, up to 64 seats, and all that has happened to the row and the variables.
 ///
 /// Its contracts speak of the word, the row, the queues, the seats, the history, the clock, the notes, and the
-/// words of the counters and once cells. Between any two calls the law of the lock holds of them, which `ns_word` states: one writer or readers, as many
-/// as the word counts, the queues in one hand, each waiter placed, nobody forgotten, and one legal
-/// history by seats of this world. The clock and the notes are as a legal history by seats of this
-/// world leaves them, and so are the counters and once cells; who is to store a note has taken its
-/// number, and who is to say that a function has run has begun to run it.
+/// words of the counters and once cells. Between any two calls the law of the lock holds of them, which
+/// `ns_word` states: one writer or readers, as many as the word counts, the queues in one hand, each waiter
+/// placed, nobody forgotten, and one legal history by seats of this world. The clock and the notes are as a
+/// legal history by seats of this world leaves them, and so are the counters and once cells; who is to store a
+/// note has taken its number, and who is to say that a function has run has begun to run it.
 ///
 /// The queues are worked on in place, at the step that puts them back; only what is shown is a copy.
 #[derive(Drop)]
