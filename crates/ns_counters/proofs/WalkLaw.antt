@@ -10,7 +10,6 @@ use Rattle.ns_counters.proofs.Keeps.{step_keeps}
 use Rattle.ns_counters.proofs.Listed.{first_of_all, listed, rest_of_all}
 use Rattle.ns_counters.proofs.Placed.{put_here, put_there, stands_within}
 use Rattle.ns_counters.specs.declared.object.ObjectEvent.TheVariants as TheEvent
-use Rattle.ns_model.specs.declared.once.OnceState.TheVariants as TheOnce
 use Rattle.ns_counters.specs.declared.word.Stage.TheVariants as TheStage
 use Rattle.ns_env.specs.declared.walk.EnvNext.TheVariants as TheEnv
 

@@ -3,11 +3,11 @@ use Rattle.std.proofs.Common.{◌≡◌, ◌≢◌, ℕ, zero, suc, ◌+◌, ◌
 use Rattle.std.proofs.lemmas.Bool.{cases_eq}
 use Rattle.std.proofs.lemmas.List.{length-set}
 use Rattle.std.proofs.lemmas.Option.{slice_get_within}
-use Rattle.ns_env.specs.Prelude.{Advancing, AskFits, BeginsWith, CanAct, Chain, ClockLoad, EnvAct, EnvEffect, EnvEvent, EnvFound, EnvNext, EnvPlain, EnvState, EnvStep, EnvWalk, Expired, ExpiryLoad, ForIsNotified, ForLook, ForNoteWait, Go, IfMade, Is, IsLawful, IsLawfulEnv, IsLegalEnv, IsMade}
-use Rattle.ns_env.specs.Prelude.{LookOver, MakeNote, Making, MakingFits, Meets, NextLoad, NoteLoad, NoteStanding, NotesFull, Nothing, NotifyNote, Notifying, Over, ParentFits, Repeat, StoreNote, TakeNumber, adders, adds, chain_note, earlier, env_after, env_got_of, env_walk_after, env_want_of}
-use Rattle.ns_env.specs.Prelude.{expiry_of, is_due, is_over, lowered_to, made_note, making_after, making_at, making_of, notified_note, outcome, passed, stopped, up_to}
+use Rattle.ns_env.specs.Prelude.{Advancing, AskFits, BeginsWith, CanAct, Chain, ClockLoad, EnvEvent, EnvFound, EnvNext, EnvPlain, EnvState, EnvStep, EnvWalk, Expired, ExpiryLoad, ForIsNotified, ForLook, ForNoteWait, Go, IfMade, Is, IsLawful, IsLawfulEnv, IsLegalEnv, IsMade}
+use Rattle.ns_env.specs.Prelude.{LookOver, MakeNote, Making, MakingFits, Meets, NextLoad, NoteLoad, NoteStanding, NotesFull, Nothing, Notifying, Over, ParentFits, Repeat, TakeNumber, adders, adds, chain_note, earlier, env_after, env_got_of, env_walk_after, env_want_of}
+use Rattle.ns_env.specs.Prelude.{expiry_of, is_due, is_over, lowered_to, making_after, making_at, making_of, outcome, passed, stopped, up_to}
 use Rattle.ns_model.proofs.Beginnings.{begins_itself}
-use Rattle.ns_model.proofs.Environments.{but_cases, sound_after, grown_begins, made_begins, expiry_begins}
+use Rattle.ns_model.proofs.Environments.{sound_after, grown_begins, made_begins, expiry_begins}
 use Rattle.ns_model.proofs.Lines.{IsExpiryAt, expiry_goes_on}
 use Rattle.ns_env.proofs.Keeps.{StepKeeps, outcome_by, step_keeps, others_make, adds_most}
 
@@ -24,18 +24,6 @@ set_there (y ∷ xs) zero zero x ne = absurd (ne refl)
 set_there (y ∷ xs) zero (suc j) x ne = refl
 set_there (y ∷ xs) (suc i) zero x ne = refl
 set_there (y ∷ xs) (suc i) (suc j) x ne = set_there xs i j x (λ e. ne (ap suc e))
-
--- ---- an act
-
--- a note that is made stays made
-made_after : (seat : ℕ) (act : EnvAct) (old : EnvPlain) (n : ℕ) → (old.notes n).made ≡ true → ((outcome seat act old).plain.notes n).made ≡ true
-made_after seat (StoreNote note parent deadline) old n p = but_cases (λ (s : NoteStanding). s.made ≡ true) note n (made_note parent deadline) old.notes (λ _. refl) (λ _. p)
-made_after seat (NotifyNote note) old n p = but_cases (λ (s : NoteStanding). s.made ≡ true) note n (notified_note (old.notes note)) old.notes (λ here. ap (λ (k : ℕ). (old.notes k).made) (sym here) ∙ p) (λ _. p)
-made_after seat other old n p = p
-
-pub if_made_stays : (seat : ℕ) (act : EnvAct) (old new : EnvPlain) (found : EnvFound) (events : List EnvEvent) → EnvEffect seat act old found new events → (given : Option ℕ) → IfMade old.notes given → IfMade new.notes given
-if_made_stays seat act old new found events e None p = tt
-if_made_stays seat act old new found events e (Some n) p = subst (λ (plain : EnvPlain). (plain.notes n).made ≡ true) (sym e.leaves) (made_after seat act old n p)
 
 -- ---- how many of the other seats go to take a number
 

@@ -36,7 +36,6 @@ pub use Rattle.ns_seats.specs.Views.{ArePair, IsOne, Views as ViewsOf, first_of,
 pub use Rattle.ns_word.specs.Asked.{asked_of}
 pub use Rattle.ns_word.specs.Begins.{BeginsIf, IsFirst, SeatStep, fresh_state, fresh_views, view_in}
 pub use Rattle.ns_word.specs.Codec.{IsPackable, number_of}
-unfoldable pub use Rattle.ns_word.specs.Codec.{word_of}
 pub use Rattle.ns_word.specs.Courses.{CallGoes, SoFar, course_after}
 pub use Rattle.ns_word.specs.Encoded.{encoded}
 pub use Rattle.ns_word.specs.Finds.{IsLook, before_in, content_at, exchanged, found_of, owes_more, row_in, scanned}
@@ -55,7 +54,7 @@ pub use Rattle.ns_word.specs.declared.acquire_walk.AcquirePlace.TheVariants.{Que
 pub use Rattle.ns_word.specs.declared.act.Act.{Act}
 pub use Rattle.ns_word.specs.declared.act.Act.TheVariants.{Acquire, ArmFlag, JudgeMet, JudgeQuiet, LoadCell, LoadFlag, LoadWord, Look, PayWake, Release, ReleaseReturning, ReturnQueues, StoreCell, TakeQueues, WaitReturning}
 pub use Rattle.ns_word.specs.declared.act.Change.{Change}
-pub use Rattle.ns_word.specs.declared.act.Change.TheVariants.{LeaveSelf, Nothing, QueueSelf, WakeWaiters}
+pub use Rattle.ns_word.specs.declared.act.Change.TheVariants.{LeaveSelf, QueueSelf, WakeWaiters}
 pub use Rattle.ns_word.specs.declared.act.Found.{Found}
 pub use Rattle.ns_word.specs.declared.act.Found.TheVariants.{Cell, Flag, Left, Looked, Made, Paid, Quiet, Saw, Scanned, Tested, Woke}
 pub use Rattle.ns_word.specs.declared.act.Waking.{Waking}

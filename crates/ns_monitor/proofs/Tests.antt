@@ -1,6 +1,6 @@
 -- The cells of the row are loaded one after another, step by step, and the test of a wait tells.
-use Rattle.ns_monitor.proofs.Prelude.{Act, AreRead, Await, Bool, CanStep, Cell, Found, GateView, HasAnswered, HasGone, HasLoaded, HasMode, HasReached, HasSince, HasTested, HasUnchangedQueues, Held, InCells, InQueuing, InRelease, InWait, Is, IsAtPlace, IsQuiet, IsSettled, IsWide, JudgeMet}
-use Rattle.ns_monitor.proofs.Prelude.{JudgeQuiet, List, Lists, LoadCell, LoadToScan, LockState, Next, None, On, OnEntry, Option, Part, Performed, PlaceFits, QueueToWait, Quiet, QuietCells, QuietLast, ScanAndRelease, ScanCells, SeatOf, Some, StandsAt, TestCells, Tested, Tests, ToTell, Truths, Visit}
+use Rattle.ns_monitor.proofs.Prelude.{Act, AreRead, Await, Bool, CanStep, Cell, Found, GateView, HasAnswered, HasGone, HasLoaded, HasReached, HasSince, HasTested, HasUnchangedQueues, Held, InCells, InQueuing, InRelease, InWait, Is, IsAtPlace, IsQuiet, IsWide, JudgeMet}
+use Rattle.ns_monitor.proofs.Prelude.{JudgeQuiet, List, Lists, LoadCell, LoadToScan, LockState, Next, None, On, Option, Part, Performed, PlaceFits, QueueToWait, Quiet, QuietCells, QuietLast, ScanAndRelease, ScanCells, SeatOf, Some, StandsAt, TestCells, Tested, ToTell, Truths, Visit}
 use Rattle.ns_monitor.proofs.Prelude.{Wait, Walk, [], ap, arith, asked_of, before_in, begins, carried_by, cases_Bool, cases_eq, cell_in_hand, cond, cond-false, cond-true, cond_both, does, false, get_or, get_or-set_other, get_or-set_same, goes_on, got_of, has_queues, inl, inr, judging, le-ltb}
 use Rattle.ns_monitor.proofs.Prelude.{length, length-set, loading, loading_at, lt-ltb, nat_lt, refl, release_has_queues, row_in, same_number_lists, set, since, since_itself, since_then, slice_index, subst, sym, tested_by, the, true, view_in, wait_has_queues, walk_after, want_of, ℕ, ◌+◌, ◌-◌, ◌<◌}
 use Rattle.ns_monitor.proofs.Prelude.{◌∙◌, ◌∷◌, ◌≡◌, ◌≤◌}
@@ -155,10 +155,6 @@ module _ {C : Type 0} {N : ℕ} (truths : Truths C) where
       }
 
   -- ---- a wait tests its condition
-
-  tests_first : (wait : Wait C) (held : Option (Held C N)) → HasMode wait.mode held → IsSettled truths held → Tests truths wait OnEntry held
-  tests_first wait None mode settled = absurd mode
-  tests_first wait (Some section) mode settled = (mode, settled)
 
   pub is_tested : (b left : Option (Walk C)) (wait : Wait C) (visit : Visit) (c : C) (row : List ℕ) (value : ℕ) (met : Bool) (start me now : SeatOf C N) → 1 ≤ N → HasLoaded truths b left (InWait wait (TestCells visit 0)) (N - 1) row start me
       → value ≡ slice_index (row_in (the me.0).at.held) (N - 1) → Performed truths left (JudgeMet (N - 1) c) (Tested (truths.holds c (row_in (the me.0).at.held))) me now → met ≡ truths.holds c (set row (N - 1) value)

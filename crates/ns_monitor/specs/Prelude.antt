@@ -22,7 +22,7 @@ pub use Rattle.ns_monitor.specs.Names.{IsPackable, IsQuiet, IsSettled, IsTold, I
 pub use Rattle.ns_monitor.specs.Names.{Note, Notified, Number, On, OnCondition, OnEntry, OnReturn, OnVariables, Outcome, Owed, OwesBelow, Paid, Part, PayWake, Performed, PlaceFits, Queue, QueueSelf, QueueToWait, Quiet, QuietCells, QuietLast, QuietWriter, Read, Reader, Release, ReleaseLoad}
 pub use Rattle.ns_monitor.specs.Names.{ReleaseReturning, Released, Releasing, Request, ReturnQueues, ReturnShown, Returning, Saw, ScanAndRelease, ScanCells, SeatHasLearned, SeatOf, SeatView, SectionFits, Set, SetStore, ShowLoad, SignalLoad, Signaling, Sought, StoreCell, Subject, Succeeded}
 pub use Rattle.ns_monitor.specs.Names.{TableId, TakeQueues, TakeToShow, Taking, TestCells, TestLast, Tested, Tests, TimedOut, ToChange, ToQueue, ToTell, Told, Truths, TryAcquire, TryLock, Turned, Unchanged, VariableWaitMeans, Visit, Wait, WaitMeans, WaitReturning, Waited, Waiter, WakeAndReturn}
-pub use Rattle.ns_monitor.specs.Names.{IsForVariables, Pay, PayInWait, Scanning, StandsNowhere, ToRelease, ToWait}
+pub use Rattle.ns_monitor.specs.Names.{IsForVariables, Scanning, ToRelease, ToWait}
 pub use Rattle.ns_monitor.specs.Names.{WakeWaiters, Waking, Walk, WantsNext, Woke, Woken, WokenBy, Word, Write, Writer, act_returning, answer_of, answer_of_wait, armed_place, arrival_of, asked_of, awaits, back_with, before_in, begins_with_reader, bits_of, called_by, called_of, carried_by}
 pub use Rattle.ns_monitor.specs.Names.{change_found, changed, first_of, found_returned, fresh, fresh_seat, got_of, got_queuing, has_condition, has_queues, has_some, held_after, held_by, home_of, is_eligible, is_held, is_limited, is_met, is_satisfied, judge_of, leave_any_told, leave_told, left_of}
 pub use Rattle.ns_monitor.specs.Names.{lists_returned, lists_scanned, lists_woken, load_place, look_or_queue, may_acquire, meets_at, mode_released, moves, new_section, outcome_taken, owed_woken, owes_more, own_of, part_of, pay_releasing, pay_waiting, pay_woken, pays, quiet_place, reads}

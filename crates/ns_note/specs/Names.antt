@@ -17,7 +17,6 @@ pub use Rattle.ns_env.specs.declared.view.Making.{Making}
 pub use Rattle.ns_env.specs.declared.view.Making.TheVariants.{Adding, Nothing, Taken}
 pub use Rattle.ns_model.specs.Beginnings.{BeginsWith, IsBetween}
 pub use Rattle.ns_model.specs.Environments.{EnvStanding, IsEnvBySeats, IsLegalEnv, IsMade, IsNotified, NoteStanding, ParentFits, but_at, clock_of, earlier, env_after, env_own, is_due, is_over, made_note, notified_note, takes_in}
-unfoldable pub use Rattle.ns_model.specs.Environments.{is_notified}
 pub use Rattle.ns_model.specs.Lines.{IsLeftAt}
 pub use Rattle.ns_model.specs.Tallies.{Every, one_if, total}
 pub use Rattle.ns_model.specs.declared.environment.EnvEvent.{EnvEvent}

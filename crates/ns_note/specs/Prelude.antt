@@ -7,5 +7,5 @@ pub use Rattle.ns_note.specs.Told.{Adds, FoundFull, FoundWord, HasTakenNumber, H
 pub use Rattle.ns_note.specs.Words.{WordFits, deadline_at, deadline_code, flag, note_of, parent_at, parent_code, word_of}
 pub use Rattle.ns_note.specs.declared.note.Note.{Note}
 pub use Rattle.ns_note.specs.Names.{Adding, Allows, Answer, ArePair, BeginsWith, CanAct, Canceled, EnvAct, EnvEvent, EnvPlain, EnvStanding, EnvView, Every, HasSight, IsBetween, IsBySums, IsEnvBySeats, IsLawful, IsLeftAt, IsLegalEnv, IsMade, IsNotified, IsOne, IsUnnotified, LoadClock, LoadNext}
-pub use Rattle.ns_note.specs.Names.{LoadNote, Making, Me, Met, MoveClock, New, NoteStanding, NoteWord, Nothing, NotifyNote, ParentFits, StoreNote, TableId, Take, TakeNext, Taken, TimedOut, ViewFits, acted, adds, but_at, clock_of, earlier, env_after, env_own, events_of, first_of, fresh_plain}
+pub use Rattle.ns_note.specs.Names.{LoadNote, Making, Me, MoveClock, New, NoteStanding, NoteWord, Nothing, NotifyNote, ParentFits, StoreNote, TableId, Take, TakeNext, Taken, TimedOut, ViewFits, acted, adds, but_at, clock_of, earlier, env_after, env_own, events_of, first_of, fresh_plain}
 pub use Rattle.ns_note.specs.Names.{is_due, is_over, keeps, made_note, notified_note, one_if, outcome, rest_of, standing_of, state_of, takes_in, tally, total}

@@ -21,10 +21,9 @@ pub use Rattle.ns_counters.specs.declared.object.Place.{Place}
 pub use Rattle.ns_counters.specs.declared.object.Place.TheVariants.{Adding, Free, Running}
 pub use Rattle.ns_counters.specs.declared.object.Setup.{Setup}
 pub use Rattle.ns_model.specs.Beginnings.{BeginsWith, IsBetween}
-pub use Rattle.ns_model.specs.Counters.{is_ready, judged, most}
+pub use Rattle.ns_model.specs.Counters.{judged, most}
 pub use Rattle.ns_model.specs.Cvs.{is_in}
 pub use Rattle.ns_model.specs.Environments.{IsMade, clock_of, is_due}
-unfoldable pub use Rattle.ns_model.specs.Environments.{is_notified}
 pub use Rattle.ns_model.specs.Histories.{row_after}
 pub use Rattle.ns_model.specs.Onces.{is_done}
 pub use Rattle.ns_model.specs.Room.{room, room_enough}

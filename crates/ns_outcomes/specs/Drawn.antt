@@ -36,8 +36,8 @@ first_standings lists p = map (first_standing lists p) (range_with_len 0 (length
 -- What a turn was: its step, whether it changed the lock word, and whether a call of its thread is still to end.
 pub record IsMade (lists : Lists) (p : Progress ScriptCondition 8) (turned : Turned) (q : Progress ScriptCondition 8) (made : Made) : Type 0 where
   pub step : made.step ≡ turned.step
-  pub same : made.changed ≡ false → q.world.lock.state.word ≡ p.world.lock.state.word
-  pub other : made.changed ≡ true → q.world.lock.state.word ≢ p.world.lock.state.word
+  pub same : made.changed ≡ false → q.world.word ≡ p.world.word
+  pub other : made.changed ≡ true → q.world.word ≢ p.world.word
   pub more : made.more ≡ is_some (next_call lists q turned.seat)
 
 -- A turn takes a run from one stage to another: it is one of the thread's next call or of the one in progress, and by it the threads stand where they do after it.

@@ -22,7 +22,7 @@ thread_text is_busy lines thread = calls_text lines thread ++ left_text is_busy 
 
 -- The outcome of a run of so many threads: their lines, thread by thread, and the row. In what order calls of several threads ended is no part of it.
 unfoldable pub outcome_text : ℕ → Whole ScriptCondition 8 → List Line → List ℕ
-outcome_text threads world lines = flat_map (thread_text (whole_busy world) lines) (range_with_len 0 threads) ++ row_text world.lock.state.row
+outcome_text threads world lines = flat_map (thread_text (whole_busy world) lines) (range_with_len 0 threads) ++ row_text world.row
 
 -- ---- a run
 

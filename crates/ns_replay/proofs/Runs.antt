@@ -1,41 +1,9 @@
 -- Runs of scripts that were read: what they need, and why they fail.
-use Rattle.ns_replay.proofs.Prelude.{All, All-append, All-from_recursion, All-nil, All-replicate, AllByRecursion, Ask, Bool, Call, GoesOnOrBegins, IsRunFault, IsRunnable, IsShort, Line, List, ListFits, None, Now, ObjectWalk, OnLock, OnObjects, Option, Plan, Progress, RunFault, Runs, RunsTo, Script}
-use Rattle.ns_replay.proofs.Prelude.{ScriptCondition, SeatView, Some, Start, Step, StopsFor, Turn, TurnOf, Turned, TurnsOf, Vec, Went, Whole, WorldFault, [], ap, arith, begun_at, cond, false, fault_of_world, fresh_views, fresh_whole, inl, inr, is_asking, is_busy, is_end, is_some, is_walking}
-use Rattle.ns_replay.proofs.Prelude.{length, length-map, length-set, length_views, map, mode_of, none_stand, plan_of, progressed, recursion_from_All, refl, replicate, rest_of, script_truths, start, start_of, subst, suc, sym, true, whole_busy, whole_stays, world_for, zero, ℕ, ◌+◌, ◌<◌, ◌==◌, ◌||◌}
-use Rattle.ns_replay.proofs.Prelude.{◌∙◌, ◌∷◌, ◌≡◌, ◌≤◌, ◌⊎◌}
+use Rattle.ns_replay.proofs.Prelude.{All, All-append, All-from_recursion, All-nil, All-replicate, AllByRecursion, Bool, Call, IsRunFault, IsRunnable, IsShort, Line, List, ListFits, None, Option, Plan, RunFault, Runs, RunsTo, Script, ScriptCondition, Some, StopsFor, Turn, Turned, Vec, Whole}
+use Rattle.ns_replay.proofs.Prelude.{WorldFault, [], ap, arith, cond, false, fault_of_world, fresh_whole, inl, inr, is_end, length, length-map, length_seats, map, none_busy, plan_of, recursion_from_All, replicate, rest_of, script_truths, start, subst, sym, true}
+use Rattle.ns_replay.proofs.Prelude.{turns_stay, whole_busy, world_for, ℕ, ◌<◌, ◌==◌, ◌∙◌, ◌∷◌, ◌≡◌, ◌≤◌, ◌⊎◌}
 use Rattle.ns_world.specs.Runs.{Item, items_of}
 use Rattle.ns_world.specs.declared.fault.Fault.TheVariants as world
-
--- ---- a run keeps the number of seats
-
-module _ {C : Type 0} {N : ℕ} where
-  abbrev pub seats_of : Whole C N → ℕ
-  seats_of now = length now.lock.state.views
-
-  begun_keeps : (old : Now C N) (seat : ℕ) (view : SeatView C N) (start : Start C) → length (begun_at old seat view start).state.views ≡ length old.state.views
-  begun_keeps old seat view (OnLock walk) = length-set _ _ _
-  begun_keeps old seat view (Ask walk) = refl
-  begun_keeps old seat view (OnObjects walk) = refl
-
-  leads_keeps : (lists : List (List (Call C))) (p : Progress C N) (seat : ℕ) (now : Whole C N) → GoesOnOrBegins lists p seat now → seats_of now ≡ seats_of p.world
-  leads_keeps lists p seat now (inl (busy, e)) = rw e refl
-  leads_keeps lists p seat now (inr (call, next, begins)) =
-      let starts = begins.starts in
-      ap (λ (lock : Now C N). length lock.state.views) starts.begins ∙ begun_keeps p.world.lock seat starts.view (start_of N (mode_of starts.view.held) call)
-
-  progressed_world : (p : Progress C N) (seat : ℕ) (step : Step) (now : Whole C N) → (progressed p seat step now).world ≡ now
-  progressed_world p seat Went now = refl
-  progressed_world p seat other now = refl
-
-  turn_keeps : (lists : List (List (Call C))) (p : Progress C N) (seat : ℕ) (step : Step) (q : Progress C N) → TurnOf lists p seat step q → seats_of q.world ≡ seats_of p.world
-  turn_keeps lists p seat step q (inl m) =
-      ap (λ (r : Progress C N). seats_of r.world) m.after ∙ ap seats_of (progressed_world p seat step m.world) ∙ whole_stays m.begun m.world seat step m.moves ∙ leads_keeps lists p seat m.begun m.leads
-  turn_keeps lists p seat step q (inr (inl m)) = ap (λ (r : Progress C N). seats_of r.world) m.after
-  turn_keeps lists p seat step q (inr (inr r)) = ap (λ (r : Progress C N). seats_of r.world) r.after
-
-  turns_keep : (lists : List (List (Call C))) (p : Progress C N) (turns : List Turned) (q : Progress C N) → TurnsOf lists p turns q → seats_of q.world ≡ seats_of p.world
-  turns_keep lists p [] q e = ap (λ (r : Progress C N). seats_of r.world) e
-  turns_keep lists p (turned ∷ turns) q (r, first, more) = turns_keep lists r turns q more ∙ turn_keeps lists p turned.seat turned.step r first
 
 -- ---- the items that are left are the schedule's
 
@@ -60,7 +28,7 @@ items_in seats (turn ∷ turns) h =
 
 -- ---- why a run fails
 
-no_seat : {C : Type 0} {N : ℕ} (limit : ℕ) (now : Whole C N) (made seats : ℕ) (turns : List Turned) (left : List Item) → length now.lock.state.views ≡ seats → AllByRecursion (λ item. item.seat < seats) left → StopsFor limit now made turns left world.NoSuchSeat → ⊥
+no_seat : {C : Type 0} {N : ℕ} (limit : ℕ) (now : Whole C N) (made seats : ℕ) (turns : List Turned) (left : List Item) → length now.seats ≡ seats → AllByRecursion (λ item. item.seat < seats) left → StopsFor limit now made turns left world.NoSuchSeat → ⊥
 no_seat limit now made seats turns [] same each h = h
 no_seat limit now made seats turns (item ∷ left) same each h = absurd (omega (arith, same, each.0, h))
 
@@ -70,9 +38,9 @@ no_room limit now made turns (item ∷ left) h = h
 
 seat_there : (limit : ℕ) (plan : Plan) (now : Whole ScriptCondition 8) → IsRunnable plan → RunFault plan.threads plan.schedule limit (world_for plan) now world.NoSuchSeat → ⊥
 seat_there limit plan now runnable stops =
-    let first : length (world_for plan).lock.state.views ≡ length plan.threads = length_views ScriptCondition 8 0 (length plan.threads) in
-    let kept = turns_keep plan.threads (start (world_for plan)) stops.advances.turns stops.end stops.advances.made in
-    let same : length now.lock.state.views ≡ length plan.threads = ap (λ (w : Whole ScriptCondition 8). length w.lock.state.views) (sym stops.here) ∙ kept ∙ first in
+    let first : length (world_for plan).seats ≡ length plan.threads = length_seats ScriptCondition 8 0 (length plan.threads) in
+    let kept = turns_stay plan.threads (start (world_for plan)) stops.advances.turns stops.end stops.advances.made in
+    let same : length now.seats ≡ length plan.threads = ap (λ (w : Whole ScriptCondition 8). length w.seats) (sym stops.here) ∙ kept ∙ first in
     let items = items_in (length plan.threads) plan.schedule (recursion_from_All _ _ runnable.in_range) in
     no_seat limit now stops.after (length plan.threads) stops.advances.turns stops.left same (rest_each _ (items_of plan.schedule) stops.advances.turns stops.left stops.advances.rest (recursion_from_All _ _ items)) stops.why
 
@@ -109,21 +77,8 @@ world_is script n now count first =
     let same : length (map (λ (calls : Vec (Call ScriptCondition)). calls.items) script.threads.items) ≡ length script.threads.items = length-map script.threads.items (λ calls. calls.items) in
     first ∙ ap (λ (m : ℕ). fresh_whole script_truths m script.counters.items script.onces) (count ∙ sym same)
 
-unwalked : (first n seat : ℕ) → is_walking (fresh_views {C = ScriptCondition} {N = 8} first n) seat ≡ false
-unwalked first zero seat = refl
-unwalked first (suc n) zero = refl
-unwalked first (suc n) (suc seat) = unwalked (first + 1) n seat
-
-unasked : (n seat : ℕ) → is_asking (replicate n None) seat ≡ false
-unasked zero seat = refl
-unasked (suc n) zero = refl
-unasked (suc n) (suc seat) = unasked n seat
-
-idle_fresh : (n seat : ℕ) → is_busy (fresh_views {C = ScriptCondition} {N = 8} 0 n) (replicate n None) seat ≡ false
-idle_fresh n seat = rw (unwalked 0 n seat, unasked n seat) refl
-
 pub idle_world : (n seat : ℕ) (counters : List ℕ) (onces : ℕ) (now : Whole ScriptCondition 8) → now ≡ fresh_whole script_truths n counters onces → whole_busy now seat ≡ false
-idle_world n seat counters onces now first = rw first (λ i. idle_fresh n seat i || is_some (none_stand {A = ObjectWalk} n seat i))
+idle_world n seat counters onces now first = rw first (none_busy ScriptCondition 8 0 n seat)
 
 pub lists_fit : (lists : List (Vec (Call ScriptCondition))) → All IsShort (map (λ calls. calls.items) lists) → All (λ calls. ListFits 8 calls.items) lists
 lists_fit lists h = All-from_recursion _ lists (lists_by lists (recursion_from_All _ _ h))

@@ -27,20 +27,14 @@ pub use Rattle.ns_replay.specs.declared.path.ScriptPath.{ScriptPath}
 pub use Rattle.ns_replay.specs.declared.script.Script.{Script}
 pub use Rattle.ns_replay.specs.declared.streams.Got.{Got}
 pub use Rattle.ns_replay.specs.declared.streams.Got.TheVariants.{Bytes, Failed, Interrupted}
-pub use Rattle.ns_word.specs.Begins.{fresh_views}
-pub use Rattle.ns_word.specs.declared.view.SeatView.{SeatView}
 pub use Rattle.ns_word.specs.declared.word.Word.{Word}
-pub use Rattle.ns_world.specs.Begins.{begun_at}
-pub use Rattle.ns_world.specs.Calls.{CallInRange, IsMoment, IsNoteNumber, IsVariable, mode_of, start_of}
+pub use Rattle.ns_world.specs.Calls.{CallInRange, IsMoment, IsNoteNumber, IsVariable}
 pub use Rattle.ns_counters.specs.Items.{no_items, with_item}
-pub use Rattle.ns_world.specs.Runs.{GoesOnOrBegins, ListFits, Progress, RunFault, Runs, StopsFor, TurnOf, Turned, TurnsOf, is_end, progressed, rest_of, start}
+pub use Rattle.ns_world.specs.Runs.{ListFits, RunFault, Runs, StopsFor, Turned, is_end, rest_of, start}
 pub use Rattle.ns_world.specs.Shows.{lists_shown, wakes_owed}
 pub use Rattle.ns_world.specs.Whole.{Whole, fresh_whole, whole_busy, whole_of}
-pub use Rattle.ns_world.specs.World.{Now, is_asking, is_busy, is_walking}
 pub use Rattle.ns_world.specs.declared.call.Call.{Call}
 pub use Rattle.ns_world.specs.declared.call.Call.TheVariants.{Add, Advance, Broadcast, CounterWait, CvWait, Done, Expiry, Get, IsNotified, Lock, NewNote, NoteWait, Notify, Once, RLock, RUnlock, Set, Signal, TryLock, TryRLock, Unlock, UnlockQuiet, Value, Wait, WaitAny}
-pub use Rattle.ns_world.specs.declared.call.Start.{Start}
-pub use Rattle.ns_world.specs.declared.call.Start.TheVariants.{Ask, OnLock, OnObjects}
 pub use Rattle.ns_world.specs.declared.fault.Fault.{Fault as WorldFault}
 pub use Rattle.ns_counters.specs.declared.items.Item.{Item}
 pub use Rattle.ns_counters.specs.declared.items.Item.TheVariants.{OnCounter, OnNote, OnVariable}
@@ -49,8 +43,6 @@ pub use Rattle.ns_world.specs.declared.reply.Reply.{Reply}
 pub use Rattle.ns_world.specs.declared.reply.Reply.TheVariants.{Already, Answered, Busy, Is, Misuse, Noisy, NotesFull, Number, Ran, Refused, Succeeded}
 pub use Rattle.ns_world.specs.declared.schedule.Line.{Line}
 pub use Rattle.ns_world.specs.declared.schedule.Turn.{Turn}
-pub use Rattle.ns_world.specs.declared.step.Step.{Step}
-pub use Rattle.ns_world.specs.declared.step.Step.TheVariants.{Finished, Idle, Nothing, Went}
 pub use Rattle.serde_json.specs.Data.{Data, Members, item, member, no_members}
 pub use Rattle.serde_json.specs.Find.{as_array, as_number, as_object, as_str, as_u64, get}
 pub use Rattle.serde_json.specs.Read.{read}

@@ -17,7 +17,7 @@ pub use Rattle.ns_replay.specs.Transfer.{Collects, Gave, IsEnough, max_bytes, ma
 unfoldable pub use Rattle.ns_replay.specs.Waits.{condition_of, limits_of, note_limit_of, variable_wait_of, wait_of}
 pub use Rattle.ns_replay.specs.Words.{below, moment_of, moment_or_none_of, note_or_none_of, parts}
 unfoldable pub use Rattle.ns_replay.specs.Words.{change_of, number_of}
-pub use Rattle.ns_replay.specs.Names.{Add, Advance, Ask, BadScript, Broadcast, Call, CallInRange, CounterWait, CvWait, Data, Declared, Done, Expiry, Fault, Finished, Get, GoesOnOrBegins, Idle, IsMoment, IsNoteNumber, IsNotified, IsVariable, Item, Items, Limits, Line, ListFits, Lock, NewNote}
-pub use Rattle.ns_replay.specs.Names.{NotJson, NoteWait, Nothing, Notify, Now, OnLock, OnObjects, Once, OutOfMemory, Progress, RLock, RUnlock, Read, RunFault, Runs, Script, ScriptCondition, ScriptPath, SeatView, Seats, Set, Signal, Start, Step, StepLimit, StopsFor, TooMany, TryLock, TryRLock}
-pub use Rattle.ns_replay.specs.Names.{Turn, TurnOf, Turned, TurnsOf, Unlock, UnlockQuiet, Value, Wait, WaitAny, Went, Whole, WorldFault, Write, as_array, as_number, as_str, as_u64, begun_at, fresh_views, fresh_whole, get, is_asking, is_busy, is_end, is_in, is_walking, items_of, lists_shown}
-pub use Rattle.ns_replay.specs.Names.{members_view, mode_of, no_items, progressed, read, rest_of, shown_of, start, start_of, view, wakes_owed, whole_busy, whole_of, with_item}
+pub use Rattle.ns_replay.specs.Names.{Add, Advance, BadScript, Broadcast, Call, CallInRange, CounterWait, CvWait, Data, Declared, Done, Expiry, Fault, Get, IsMoment, IsNoteNumber, IsNotified, IsVariable, Item, Items, Limits, Line, ListFits, Lock, NewNote}
+pub use Rattle.ns_replay.specs.Names.{NotJson, NoteWait, Notify, Once, OutOfMemory, RLock, RUnlock, Read, RunFault, Runs, Script, ScriptCondition, ScriptPath, Seats, Set, Signal, StepLimit, StopsFor, TooMany, TryLock, TryRLock}
+pub use Rattle.ns_replay.specs.Names.{Turn, Turned, Unlock, UnlockQuiet, Value, Wait, WaitAny, Whole, WorldFault, as_array, as_number, as_str, as_u64, fresh_whole, get, is_end, is_in, items_of, lists_shown}
+pub use Rattle.ns_replay.specs.Names.{members_view, no_items, read, rest_of, shown_of, start, view, wakes_owed, whole_busy, whole_of, with_item}

@@ -238,6 +238,6 @@ unfoldable pub text_of : Options → ℕ → List (List (Call ScriptCondition)) 
 text_of options cvs threads lines world =
     lines_text options.tests threads lines
     ++ lefts_text (whole_busy world) lines (length threads)
-    ++ row_text world.lock.state.row
-    ++ history_text options.history world.lock.history
-    ++ state_text options.state cvs world.lock.state.word (map shown_of (lists_shown world.lock).lock) (map (map shown_of) (lists_shown world.lock).cvs) (wakes_owed world.lock.state.views)
+    ++ row_text world.row
+    ++ history_text options.history world.history
+    ++ state_text options.state cvs world.word (map shown_of (lists_shown world).lock) (map (map shown_of) (lists_shown world).cvs) (wakes_owed world.seats)

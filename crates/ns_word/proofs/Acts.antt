@@ -1,11 +1,10 @@
 -- The act that a lawful place wants may be made.
-use Rattle.ns_word.proofs.Prelude.{AcquireExchange, AcquireLoad, ActFits, AreApart, Arm, ArmToWait, AwaitWake, AwaitWakeInWait, AwaitWakeToLeave, Bool, CanWait, EachFits, Event, GetLoad, HasList, Held, InAcquire, InCells, InLeaving, InQueuing, InRelease, InShow, InSignal, InTry, InWait}
-use Rattle.ns_word.proofs.Prelude.{IsForCondition, IsInRange, IsLawful, IsSome, IsUnmet, Leave, LeaveLoad, List, Load, LoadToScan, LockState, LookIn, LookOut, None, OnCondition, OnVariables, Option, Owed, OwesOne, Pay, PayInWait, PayTheWoken, PlaceFits, Queue, QueueToWait, QuietCells, QuietLast}
-use Rattle.ns_word.proofs.Prelude.{ReleaseExchange, ReleaseLoad, ReturnShown, ScanAndRelease, ScanCells, SeatView, SetLoad, SetStore, ShowLoad, SignalLoad, Some, Subject, Take, TakeToLeave, TakeToQueue, TakeToScan, TakeToShow, TakeToWake, TestCells, TestLast, Truths, TryAcquire, TryLoad, ViewFits}
-use Rattle.ns_word.proofs.Prelude.{Wait, WaitFits, WaitPlace, WakeAndReturn, Walk, [], ap, arith, awaits, eq-eqb, false, has_some, judge_of, part_of, pays, refl, standing_after, subst, times, times_among, true, walk_at, want_of, want_waiting, ℕ, ◌++◌, ◌+◌, ◌<◌, ◌∙◌, ◌∷◌, ◌≡◌, ◌≤◌}
+use Rattle.ns_word.proofs.Prelude.{AcquireExchange, ActFits, AreApart, Arm, ArmToWait, AwaitWake, AwaitWakeInWait, AwaitWakeToLeave, Bool, CanWait, EachFits, Event, GetLoad, HasList, Held, InAcquire, InCells, InLeaving, InQueuing, InRelease, InShow, InSignal, InTry, InWait, IsForCondition}
+use Rattle.ns_word.proofs.Prelude.{IsInRange, IsLawful, IsSome, IsUnmet, Leave, List, LoadToScan, LockState, None, OnCondition, OnVariables, Option, Owed, OwesOne, Pay, PayInWait, PayTheWoken, PlaceFits, Queue, QueueToWait, QuietCells, QuietLast, ReleaseExchange, ReturnShown, ScanAndRelease}
+use Rattle.ns_word.proofs.Prelude.{ScanCells, SeatView, SetLoad, SetStore, Some, Subject, Take, TakeToLeave, TakeToQueue, TakeToScan, TakeToShow, TakeToWake, TestCells, TestLast, Tests, Truths, TryAcquire, ViewFits, Visit, Wait, WaitFits, WaitPlace, WakeAndReturn, Walk, [], ap, arith, awaits}
+use Rattle.ns_word.proofs.Prelude.{eq-eqb, false, has_some, judge_of, part_of, pays, refl, standing_after, subst, times, times_among, true, walk_at, want_of, want_waiting, ℕ, ◌++◌, ◌+◌, ◌<◌, ◌∙◌, ◌∷◌, ◌≡◌, ◌≤◌}
 use Rattle.ns_word.proofs.Views.{walk_here, apart_parts, each_parts}
-use Rattle.ns_word.proofs.Keeps.{none_of}
-use Rattle.ns_word.proofs.Leads.{tests_some}
+use Rattle.ns_word.proofs.Listed.{none_of}
 use Rattle.ns_word.proofs.Ranges.{else_not, owed_below, readers_fewer}
 
 -- ---- the list of a wait is one that there is
@@ -20,7 +19,7 @@ module _ {C : Type 0} where
   unmet_in_range truths (OnVariables variables) row p = p
 
 module _ {C : Type 0} {N : ℕ} (truths : Truths C) where
-  can_in_range : (wait : Wait C) (again : Bool) (held : Option (Held C N)) → CanWait truths wait again held → IsInRange wait.on
+  pub can_in_range : (wait : Wait C) (again : Bool) (held : Option (Held C N)) → CanWait truths wait again held → IsInRange wait.on
   can_in_range wait again None p = absurd p
   can_in_range wait again (Some held) p = unmet_in_range truths wait.on held.row p.unmet
 
@@ -57,31 +56,31 @@ module _ {C : Type 0} {N : ℕ} (truths : Truths C) (seats : ℕ) (few : seats �
       let one : times_among x.seat view.owed ≡ 1 + times_among x.seat xs = ap (times_among x.seat) e ∙ rw (eq-eqb x.seat x.seat refl) refl in
       owed_below truths seats h s p.waiters_placed p.one_history.each front view back split x.seat (omega (arith, one))
 
+  -- a section is in hand where a condition is tested
+  tests_some : (wait : Wait C) (visit : Visit) (held : Option (Held C N)) → Tests truths wait visit held → IsSome held
+  tests_some wait visit None p = absurd p
+  tests_some wait visit (Some held) p = refl
+
   judges : (on : Subject C) (i : ℕ) → IsSome view.held → i < N → ActFits truths seats view.seat (judge_of on i) (part_of s view.held view.owed)
   judges (OnCondition c) i some less = (some, less)
   judges (OnVariables variables) i some less = less
 
   waiting_at : (wait : Wait C) (at_place : WaitPlace) → view.walk ≡ Some (InWait wait at_place) → WaitFits truths wait at_place view.held → has_some view.owed ≡ pays (Some (InWait wait at_place)) → ActFits truths seats view.seat (want_waiting wait at_place) (part_of s view.held view.owed)
   waiting_at wait (TestCells visit i) e place owes = omega (arith, place.1)
-  waiting_at wait (TestLast visit i) e place owes = judges wait.on i (tests_some truths wait visit view.held place.0) (omega (arith, place.1))
-  waiting_at wait (InQueuing again LookIn) e place owes = tt
-  waiting_at wait (InQueuing again Load) e place owes = tt
+  waiting_at wait (TestLast visit i) e place owes = judges wait.on i (tests_some wait visit view.held place.0) (omega (arith, place.1))
   waiting_at wait (InQueuing again (Take last)) e place owes = place.1
   waiting_at wait (InQueuing again (ArmToWait last)) e place owes = view_fits.in_range
   waiting_at wait (InQueuing again (LoadToScan last i)) e place owes = place.1
   waiting_at wait (InQueuing again (QueueToWait last)) e place owes = (place.0, none_of view.owed owes, view_fits.in_range, stands_nowhere (ap awaits e))
   waiting_at wait PayInWait e place owes = owes_one view.owed refl owes
   waiting_at wait AwaitWakeInWait e place owes = view_fits.in_range
-  waiting_at wait LookOut e place owes = tt
-  waiting_at wait (InLeaving cause LeaveLoad) e place owes = tt
   waiting_at wait (InLeaving cause (TakeToLeave last)) e place owes = place.1
   waiting_at wait (InLeaving cause (Leave last)) e place owes = (view_fits.in_range, tt)
   waiting_at wait (InLeaving cause AwaitWakeToLeave) e place owes = view_fits.in_range
+  waiting_at wait other e place owes = tt
 
   fits_at : (walk : Walk C) → view.walk ≡ Some walk → PlaceFits truths (Some walk) view.held → has_some view.owed ≡ pays (Some walk) → ActFits truths seats view.seat (want_of walk) (part_of s view.held view.owed)
-  fits_at (InTry mode TryLoad) e place owes = tt
   fits_at (InTry mode (TryAcquire last)) e place owes = (place.0, place.1, omega (arith, readers_fewer truths seats h s p front view back split place.0, few))
-  fits_at (InAcquire aim (AcquireLoad arrival)) e place owes = tt
   fits_at (InAcquire aim (AcquireExchange arrival last)) e place owes = (place.0, place.1, omega (arith, readers_fewer truths seats h s p front view back split place.0, few))
   fits_at (InAcquire aim (TakeToQueue arrival last)) e place owes = place.1.0
   fits_at (InAcquire aim (Arm arrival last)) e place owes = view_fits.in_range
@@ -89,7 +88,6 @@ module _ {C : Type 0} {N : ℕ} (truths : Truths C) (seats : ℕ) (few : seats �
   fits_at (InAcquire aim (AwaitWake tries)) e place owes = view_fits.in_range
   fits_at (InCells (QuietCells judging i)) e place owes = omega (arith, place.0.1)
   fits_at (InCells (QuietLast judging i)) e place owes = (place.0.0, omega (arith, place.0.1))
-  fits_at (InRelease releasing ReleaseLoad) e place owes = tt
   fits_at (InRelease releasing (ReleaseExchange last)) e place owes = place.0
   fits_at (InRelease releasing (TakeToScan last)) e place owes = place.1
   fits_at (InRelease releasing (ScanCells last i)) e place owes = place.1
@@ -99,13 +97,12 @@ module _ {C : Type 0} {N : ℕ} (truths : Truths C) (seats : ℕ) (few : seats �
   fits_at (InCells (SetLoad i v)) e place owes = place.0.1
   fits_at (InCells (SetStore i v)) e place owes = place.0
   fits_at (InWait wait at_place) e place owes = waiting_at wait at_place e place.0 owes
-  fits_at (InSignal waking k SignalLoad) e place owes = tt
   fits_at (InSignal waking k (TakeToWake last)) e place owes = place.0
   fits_at (InSignal waking k (WakeAndReturn last)) e place owes = (view_fits.in_range, place.1)
   fits_at (InSignal waking k PayTheWoken) e place owes = owes_one view.owed refl owes
-  fits_at (InShow ShowLoad) e place owes = tt
   fits_at (InShow (TakeToShow last)) e place owes = place.0
   fits_at (InShow (ReturnShown last)) e place owes = (view_fits.in_range, tt)
+  fits_at walk e place owes = tt
 
   -- The act that the seat's walk wants may be made.
   pub act_fits : (walk : Walk C) → view.walk ≡ Some walk → ActFits truths seats view.seat (want_of walk) (part_of s view.held view.owed)

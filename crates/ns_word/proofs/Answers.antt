@@ -1,60 +1,27 @@
 -- What a wait answers is what its section is committed with.
-use Rattle.ns_word.proofs.Prelude.{Acquire, AcquireExchange, AcquireLoad, AcquirePlace, Act, Aim, Answer, Answered, Any, Arm, ArmFlag, ArmToWait, Arrival, AwaitWake, AwaitWakeInWait, AwaitWakeToLeave, Bool, CameBack, CanWait, Cause, Cell, CellPlace, ComesBack, Done, EachFits, Effect, Ended, Event}
-use Rattle.ns_word.proofs.Prelude.{Expired, Flag, ForWait, Found, GetLoad, Held, InAcquire, InCells, InLeaving, InQueuing, InRelease, InShow, InSignal, InTry, InWait, IsForCondition, IsLawful, IsSaidBy, IsUnmet, JudgeMet, JudgeQuiet, Leave, LeaveLoad, LeavePlace, Left, Limits, List, Load, LoadCell}
-use Rattle.ns_word.proofs.Prelude.{LoadFlag, LoadToScan, LoadWord, LockState, Look, LookIn, LookOut, Looked, Made, MayWait, Met, Mode, Next, None, Notified, On, OnCondition, OnEntry, OnReturn, OnVariables, Only, Option, Outcome, Paid, Part, PayInWait, PayWake, PlaceFits, Queue, QueueToWait, Quiet}
-use Rattle.ns_word.proofs.Prelude.{Release, ReleaseLoad, ReleasePlace, ReleaseReturning, Releasing, Reply, ReturnQueues, Saw, Scanned, SeatView, ShowLoad, ShowPlace, SignalLoad, SignalPlace, Some, Step, StoreCell, Subject, Take, TakeQueues, TakeToLeave, TakeToQueue, TestCells, TestLast, Tested}
-use Rattle.ns_word.proofs.Prelude.{Tests, Truths, TryAcquire, TryLoad, TryPlace, Variables, Visit, Wait, WaitFits, WaitPlace, WaitReturning, Waited, Waking, Walk, Woke, Woken, Word, acquire_by, answer_of, ap, back_with, comes_back, cond, entry_for, entry_of, eqb, false, got_acquiring, got_of}
-use Rattle.ns_word.proofs.Prelude.{got_waiting, has_come_back, held_after, is_limited, is_met, judge_of, look_or_queue, may_acquire, mode_for, newly_held, opening_by, part_of, place_has_come_back, refl, reply_for, reply_of, slice_set, standing_after, subst, sym, true, unmet_by, want_acquiring}
-use Rattle.ns_word.proofs.Prelude.{want_in_cells, want_leaving, want_of, want_releasing, want_showing, want_signaling, want_trying, want_waiting, ℕ, ◌∙◌, ◌≡◌, ◌≢◌}
-use Rattle.ns_word.proofs.Views.{each_parts}
+use Rattle.ns_word.proofs.Prelude.{AcquireExchange, AcquirePlace, Answer, Answered, Any, Bool, CameBack, CanWait, Cause, ComesBack, Done, Effect, Ended, Event, Expired, ForWait, Found, Held, InAcquire, InQueuing, InWait, IsForCondition, IsLawful, IsSaidBy, IsUnmet, JudgeMet, List, Load, LockState}
+use Rattle.ns_word.proofs.Prelude.{LookIn, Looked, Made, MayWait, Met, None, Notified, On, OnCondition, OnEntry, OnReturn, OnVariables, Only, Option, Outcome, Part, Reply, SeatView, Some, Step, Subject, TestLast, Tested, Tests, Truths, Variables, Visit, Wait, WaitFits, WaitPlace, Waited, Walk}
+use Rattle.ns_word.proofs.Prelude.{Woken, answer_of, ap, back_with, both_ways, comes_back, cond, entry_for, entry_of, false, got_acquiring, got_of, got_waiting, has_come_back, held_after, is_limited, is_met, judge_of, look_or_queue, newly_held, not, not-false, opening_by, part_of}
+use Rattle.ns_word.proofs.Prelude.{place_has_come_back, refl, reply_for, subst, sym, true, unmet_by, want_acquiring, want_of, want_waiting, ℕ, ◌∙◌, ◌≡◌, ◌≢◌}
+use Rattle.ns_word.proofs.Follows.{Follows, follows, may_end}
+use Rattle.ns_word.proofs.Effects.{BeganSo, makes}
+use Rattle.ns_word.proofs.Looks.{looks_by}
+use Rattle.ns_word.proofs.Stepping.{effect_at, place_at}
 
--- ---- where a wait answers nothing
+-- where a wait answers nothing, the call goes on
+ends_not : {C : Type 0} (N : ℕ) (walk : Walk C) (found : Found) (reply : Reply) → may_end walk found ≡ false → got_of N walk found ≢ Done reply
+ends_not N walk found reply e is = let ends : not (may_end walk found) ≡ false = (subst (λ next. Follows walk found next) is (follows N walk found)).ends in absurd (both_ways (may_end walk found) e (not-false (may_end walk found) ends))
 
--- the call goes on
-abbrev GoesOn : {C : Type 0} → Next C → Type 0
-GoesOn next = reply_of next ≡ None
-
-goes_on_not : {C : Type 0} (next : Next C) (reply : Reply) → GoesOn next → next ≡ Done reply → ⊥
-goes_on_not next reply on e = let same : None ≡ Some reply = sym on ∙ ap reply_of e in absurd (cc)
-
-either_on : {C : Type 0} (b : Bool) (one other : Next C) → GoesOn one → GoesOn other → GoesOn (cond b one other)
-either_on true one other p q = p
-either_on false one other p q = q
-
--- the place is one where a wait may answer
-abbrev may_answer : WaitPlace → Bool
-may_answer (TestLast visit i) = true
-may_answer (InQueuing again LookIn) = true
-may_answer place = false
-
-module _ {C : Type 0} (N : ℕ) (wait : Wait C) where
-  looks_on : (again : Bool) → GoesOn (look_or_queue wait again)
-  looks_on again = either_on (is_limited wait.limits) (On (InWait wait (InQueuing again LookIn))) (On (InWait wait (InQueuing again Load))) refl refl
-
-  -- at any other place the wait goes on
-  others_on : (place : WaitPlace) (found : Found) → may_answer place ≡ false → GoesOn (got_waiting N wait place found)
-  others_on (TestLast visit i) found e = absurd (cc)
-  others_on (InQueuing again LookIn) found e = absurd (cc)
-  others_on (TestCells visit i) (Cell v) e = refl
-  others_on (InQueuing again (ArmToWait last)) Made e = refl
-  others_on (InQueuing again Load) (Saw word) e = either_on word.spin _ _ refl refl
-  others_on (InQueuing again (Take last)) (Saw word) e = either_on word.spin _ _ refl refl
-  others_on (InQueuing again (LoadToScan last i)) (Cell v) e = refl
-  others_on (InQueuing again (QueueToWait last)) (Scanned owes tests) e = either_on owes _ _ refl refl
-  others_on PayInWait (Paid owes) e = either_on owes _ _ refl refl
-  others_on AwaitWakeInWait (Flag v) e = either_on (eqb v 1) _ _ (either_on (is_limited wait.limits) _ _ refl refl) refl
-  others_on (InLeaving cause LeaveLoad) (Saw word) e = either_on word.spin _ _ refl refl
-  others_on (InLeaving cause (TakeToLeave last)) (Saw word) e = either_on word.spin _ _ refl refl
-  others_on (InLeaving cause (Leave last)) (Left stood) e = either_on stood _ _ refl refl
-  others_on (InLeaving cause AwaitWakeToLeave) (Flag v) e = either_on (eqb v 1) _ _ refl refl
-  others_on LookOut (Looked None) e = refl
-  others_on LookOut (Looked (Some cause)) e = refl
-  others_on _ _ e = refl
+looks_on : {C : Type 0} (wait : Wait C) (again : Bool) (reply : Reply) → look_or_queue wait again ≢ Done reply
+looks_on wait again reply is = go (is_limited wait.limits) is where
+  go : (b : Bool) → cond b (On (InWait wait (InQueuing again LookIn))) (On (InWait wait (InQueuing again Load))) ≢ Done reply
+  go true e = absurd (cc)
+  go false e = absurd (cc)
 
 -- ---- what it answers, and what is left of the section
 
 -- a wait that was ended early wasn't met
-unmet_cause : (cause : Cause) → is_met (answer_of cause) ≡ false
+pub unmet_cause : (cause : Cause) → is_met (answer_of cause) ≡ false
 unmet_cause Expired = refl
 unmet_cause Notified = refl
 
@@ -89,8 +56,8 @@ module _ {C : Type 0} {N : ℕ} (truths : Truths C) (wait : Wait C) (c : C) wher
   -- and one that finds it false
   unmet_answers : (visit : Visit) (held : Held C N) (answer : Answer) → wait.on ≡ OnCondition c → Tests truths wait visit (Some held) → truths.holds c held.row ≡ false → unmet_by wait visit ≡ Done (Answered answer) →
       AnswersOf (comes_back visit) (Some held) answer
-  unmet_answers OnEntry held answer for p e is = absurd (goes_on_not (look_or_queue wait false) (Answered answer) (looks_on N wait false) is)
-  unmet_answers (OnReturn (Woken by)) held answer for p e is = absurd (goes_on_not (look_or_queue wait true) (Answered answer) (looks_on N wait true) is)
+  unmet_answers OnEntry held answer for p e is = absurd (looks_on wait false (Answered answer) is)
+  unmet_answers (OnReturn (Woken by)) held answer for p e is = absurd (looks_on wait true (Answered answer) is)
   unmet_answers (OnReturn (Ended cause)) held answer for p e is =
       let same : answer_of cause ≡ answer = cc in
       subst (AnswersOf true (Some held)) same (held, refl, p.0, unmet_cause cause ∙ sym e, λ _. begins_so cause held false for p.1 e)
@@ -128,41 +95,18 @@ module _ {C : Type 0} {N : ℕ} (truths : Truths C) (wait : Wait C) (c : C) wher
       let same : answer_of cause ≡ answer = cc in
       subst (λ left. AnswersOf again left answer) (sym (ap (λ (part : Part C N). part.held) e.1)) (subst (AnswersOf again (held_after again (Some cause) old.held)) same (looked_answers again cause old.held for p.0))
   answers_at seat (InQueuing again LookIn) old _ new commits answer for p e is = absurd e
-  answers_at seat place old found new commits answer for p e is = absurd (goes_on_not (got_waiting N wait place found) (Answered answer) (others_on N wait place found refl) is)
+  answers_at seat place old found new commits answer for p e is = absurd (ends_not N (InWait wait place) found (Answered answer) refl is)
 
 -- A wait for a condition answers what its section is committed with.
 pub answers_rightly : {C : Type 0} {N : ℕ} (truths : Truths C) (seats : ℕ) (h : List (Event C N)) (old new : LockState C N) (view : SeatView C N) (found : Found) (commits : List (Event C N)) (wait : Wait C) (c : C) (place : WaitPlace) (answer : Answer) →
     (step : Step truths old view found new commits) → IsLawful truths seats h old → step.walk ≡ InWait wait place → wait.on ≡ OnCondition c → got_of N step.walk found ≡ Done (Answered answer) → AnswersOf truths wait c (has_come_back step.walk) step.held answer
 answers_rightly {C} {N} truths seats h old new view found commits wait c place answer step lawful walks for is =
-    let fits = (each_parts truths seats (standing_after h) old.row step.front view step.back (subst (λ vs. EachFits truths seats (standing_after h) old.row vs) step.was lawful.one_history.each)).1 in
-    let here : PlaceFits truths (Some (InWait wait place)) view.held = subst (λ walk. PlaceFits truths walk view.held) (step.walks ∙ ap Some walks) fits.place in
+    let here = place_at step seats h (InWait wait place) walks lawful in
     subst (λ back. AnswersOf truths wait c back step.held answer) (ap has_come_back (sym walks))
     (answers_at truths wait c view.seat place (part_of old view.held view.owed) found (part_of new step.held step.owed) commits answer for here.0
-    (subst (λ walk. Effect truths view.seat (want_of walk) (part_of old view.held view.owed) found (part_of new step.held step.owed) commits) walks step.effect) (ap (λ walk. got_of N walk found) (sym walks) ∙ is))
+    (effect_at step (InWait wait place) walks) (ap (λ walk. got_of N walk found) (sym walks) ∙ is))
 
 -- ---- what a wait for variables answers
-
--- the step acquires the lock
-abbrev is_acquired : AcquirePlace → Found → Bool
-is_acquired (AcquireExchange arrival last) Made = true
-is_acquired place found = false
-
-module _ {C : Type 0} (N : ℕ) (aim : Aim C) where
-  decides_on : (arrival : Arrival) (word : Word) → GoesOn (acquire_by aim arrival word)
-  decides_on arrival word = either_on (may_acquire (mode_for aim) arrival word) _ _ refl (either_on word.spin _ _ refl refl)
-
-  -- at any other step the acquire goes on
-  acquires_on : (place : AcquirePlace) (found : Found) → is_acquired place found ≡ false → GoesOn (got_acquiring N aim place found)
-  acquires_on (AcquireExchange arrival last) Made e = absurd (cc)
-  acquires_on (AcquireLoad arrival) (Saw word) e = decides_on arrival word
-  acquires_on (AcquireExchange arrival last) (Saw word) e = decides_on arrival word
-  acquires_on (TakeToQueue arrival last) (Saw word) e = decides_on arrival word
-  acquires_on (TakeToQueue arrival last) Made e = refl
-  acquires_on (Arm arrival last) Made e = refl
-  acquires_on (Queue arrival last) (Saw word) e = refl
-  acquires_on (Queue arrival last) Made e = refl
-  acquires_on (AwaitWake tries) (Flag v) e = either_on (eqb v 1) _ _ refl refl
-  acquires_on _ _ e = refl
 
 -- a section says how it began just what the wait answers
 said : (C : Type 0) (outcome : Outcome) (variables : Variables) → IsSaidBy {C = C} variables (reply_for variables outcome) (entry_for variables outcome)
@@ -185,14 +129,14 @@ module _ {C : Type 0} {N : ℕ} (truths : Truths C) (wait : Wait C) (outcome : O
         refl,
         subst (IsSaidBy variables reply) (sym entry) (subst (λ r. IsSaidBy {C = C} variables r (entry_for variables outcome)) same (said C outcome variables)),
       )
-  after_at seat place old found new commits reply for e is = absurd (goes_on_not (got_acquiring N (ForWait wait outcome) place found) reply (acquires_on N (ForWait wait outcome) place found refl) is)
+  after_at seat place old found new commits reply for e is = absurd (ends_not N (InAcquire (ForWait wait outcome) place) found reply refl is)
 
 -- A wait for variables answers what its section says of how it began.
 pub variable_answers_rightly : {C : Type 0} {N : ℕ} (truths : Truths C) (old new : LockState C N) (view : SeatView C N) (found : Found) (commits : List (Event C N)) (wait : Wait C) (outcome : Outcome) (place : AcquirePlace) (variables : Variables) (reply : Reply) →
     (step : Step truths old view found new commits) → step.walk ≡ InAcquire (ForWait wait outcome) place → wait.on ≡ OnVariables variables → got_of N step.walk found ≡ Done reply → AnswersAfter truths wait outcome variables step.held reply
 variable_answers_rightly {C} {N} truths old new view found commits wait outcome place variables reply step walks for is =
     after_at truths wait outcome variables view.seat place (part_of old view.held view.owed) found (part_of new step.held step.owed) commits reply for
-    (subst (λ walk. Effect truths view.seat (want_of walk) (part_of old view.held view.owed) found (part_of new step.held step.owed) commits) walks step.effect) (ap (λ walk. got_of N walk found) (sym walks) ∙ is)
+    (effect_at step (InAcquire (ForWait wait outcome) place) walks) (ap (λ walk. got_of N walk found) (sym walks) ∙ is)
 
 -- ---- and where it answers nothing
 
@@ -200,139 +144,19 @@ module _ {C : Type 0} {N : ℕ} (truths : Truths C) (wait : Wait C) (variables :
   none_at : (place : WaitPlace) (held : Option (Held C N)) (found : Found) (reply : Reply) → wait.on ≡ OnVariables variables → WaitFits truths wait place held → got_waiting N wait place found ≢ Done reply
   none_at (TestLast visit i) held found reply for p is = subst IsForCondition for p.2
   none_at (InQueuing again LookIn) held found reply for p is = subst IsForCondition for p.1
-  none_at place held found reply for p is = goes_on_not (got_waiting N wait place found) reply (others_on N wait place found refl) is
+  none_at place held found reply for p is = ends_not N (InWait wait place) found reply refl is
 
 -- A wait for variables doesn't answer before it acquires again.
 pub variable_answers_back : {C : Type 0} {N : ℕ} (truths : Truths C) (seats : ℕ) (h : List (Event C N)) (old new : LockState C N) (view : SeatView C N) (found : Found) (commits : List (Event C N)) (wait : Wait C) (place : WaitPlace) (variables : Variables) (reply : Reply) →
     (step : Step truths old view found new commits) → IsLawful truths seats h old → step.walk ≡ InWait wait place → wait.on ≡ OnVariables variables → got_of N step.walk found ≢ Done reply
 variable_answers_back {C} {N} truths seats h old new view found commits wait place variables reply step lawful walks for is =
-    let fits = (each_parts truths seats (standing_after h) old.row step.front view step.back (subst (λ vs. EachFits truths seats (standing_after h) old.row vs) step.was lawful.one_history.each)).1 in
-    let here : PlaceFits truths (Some (InWait wait place)) view.held = subst (λ walk. PlaceFits truths walk view.held) (step.walks ∙ ap Some walks) fits.place in
+    let here = place_at step seats h (InWait wait place) walks lawful in
     none_at truths wait variables place view.held found reply for here.0 (ap (λ walk. got_of N walk found) (sym walks) ∙ is)
 
 -- ---- from the answer to the commit
-
--- what a look goes by, where the act is one, and whether its wait has come back
-abbrev pub look_of_act : {C : Type 0} → Act C → Option (Limits × Bool)
-look_of_act (Look limits again) = Some (limits, again)
-look_of_act act = None
-
--- a look with the section in hand of a wait that has come back
-abbrev looks_again : {C : Type 0} → Act C → Bool
-looks_again (Look limits again) = again
-looks_again act = false
-
--- only waits look
-pub try_looks_not : (C : Type 0) (mode : Mode) (place : TryPlace) → look_of_act {C = C} (want_trying mode place) ≡ None
-try_looks_not C mode TryLoad = refl
-try_looks_not C mode (TryAcquire last) = refl
-
-pub acquire_looks_not : {C : Type 0} (aim : Aim C) (place : AcquirePlace) → look_of_act (want_acquiring aim place) ≡ None
-acquire_looks_not aim (AcquireLoad arrival) = refl
-acquire_looks_not aim other = refl
-
-pub release_looks_not : (C : Type 0) (releasing : Releasing) (place : ReleasePlace) → look_of_act {C = C} (want_releasing releasing place) ≡ None
-release_looks_not C releasing ReleaseLoad = refl
-release_looks_not C releasing other = refl
-
-pub cells_look_not : (C : Type 0) (place : CellPlace) → look_of_act {C = C} (want_in_cells place) ≡ None
-cells_look_not C (GetLoad i) = refl
-cells_look_not C other = refl
-
-pub leaver_looks_not : {C : Type 0} (wait : Wait C) (place : LeavePlace) → look_of_act (want_leaving wait place) ≡ None
-leaver_looks_not wait LeaveLoad = refl
-leaver_looks_not wait other = refl
-
-pub judge_looks_not : {C : Type 0} (on : Subject C) (i : ℕ) → look_of_act (judge_of on i) ≡ None
-judge_looks_not (OnCondition c) i = refl
-judge_looks_not (OnVariables variables) i = refl
-
-pub signal_looks_not : (C : Type 0) (waking : Waking) (k : ℕ) (place : SignalPlace) → look_of_act {C = C} (want_signaling waking k place) ≡ None
-signal_looks_not C waking k SignalLoad = refl
-signal_looks_not C waking k other = refl
-
-pub show_looks_not : (C : Type 0) (place : ShowPlace) → look_of_act {C = C} (want_showing place) ≡ None
-show_looks_not C ShowLoad = refl
-show_looks_not C other = refl
-
-looks_none : {C : Type 0} (act : Act C) → look_of_act act ≡ None → looks_again act ≡ false
-looks_none (Look limits again) e = absurd (cc)
-looks_none act e = refl
-
-looks_at : {C : Type 0} (wait : Wait C) (place : WaitPlace) → place_has_come_back place ≡ false → looks_again (want_waiting wait place) ≡ false
-looks_at wait (TestLast visit i) e = looks_none (judge_of wait.on i) (judge_looks_not wait.on i)
-looks_at wait (InQueuing again LookIn) e = e
-looks_at wait (InQueuing again Load) e = refl
-looks_at wait (InQueuing again (Take last)) e = refl
-looks_at wait (InQueuing again (ArmToWait last)) e = refl
-looks_at wait (InQueuing again (LoadToScan last i)) e = refl
-looks_at wait (InQueuing again (QueueToWait last)) e = refl
-looks_at wait (InLeaving cause place) e = looks_none (want_leaving wait place) (leaver_looks_not wait place)
-looks_at wait other e = refl
-
-looks_by : {C : Type 0} (walk : Walk C) → has_come_back walk ≡ false → looks_again (want_of walk) ≡ false
-looks_by {C} (InTry mode place) e = looks_none (want_trying mode place) (try_looks_not C mode place)
-looks_by (InAcquire aim place) e = looks_none (want_acquiring aim place) (acquire_looks_not aim place)
-looks_by {C} (InRelease releasing place) e = looks_none (want_releasing releasing place) (release_looks_not C releasing place)
-looks_by {C} (InCells place) e = looks_none (want_in_cells place) (cells_look_not C place)
-looks_by (InWait wait place) e = looks_at wait place e
-looks_by {C} (InSignal waking k place) e = looks_none (want_signaling waking k place) (signal_looks_not C waking k place)
-looks_by {C} (InShow place) e = looks_none (want_showing place) (show_looks_not C place)
-
-module _ {C : Type 0} {N : ℕ} where
-  -- what a section says of how it began is the same
-  abbrev BeganSo : Held C N → Held C N → Type 0
-  BeganSo was held = (held.mode ≡ was.mode) × (held.before ≡ was.before) × (held.entry ≡ was.entry)
-
-  same_section : (was held : Held C N) → held ≡ was → BeganSo was held
-  same_section was held e = (ap (λ (x : Held C N). x.mode) e, ap (λ (x : Held C N). x.before) e, ap (λ (x : Held C N). x.entry) e)
-
-  stays_so : (was held : Held C N) (old new : Option (Held C N)) → old ≡ Some was → new ≡ Some held → new ≡ old → BeganSo was held
-  stays_so was held old new p q e = let same : Some held ≡ Some was = sym q ∙ e ∙ p in same_section was held cc
-
-  -- there is none before, or none after
-  none_so : (was held : Held C N) (some : Held C N) (one : Option (Held C N)) → one ≡ Some some → one ≡ None → BeganSo was held
-  none_so was held some one p e = let clash : None ≡ Some some = sym e ∙ p in absurd (cc)
-
-  -- a cell is stored
-  stored_so : (was held from : Held C N) (row : List ℕ) (old new : Option (Held C N)) → old ≡ Some was → new ≡ Some held → old ≡ Some from → new ≡ Some (record from { row = row }) → BeganSo was held
-  stored_so was held from row old new p q e f =
-      let one : Some from ≡ Some was = sym e ∙ p in let other : Some held ≡ Some (record from { row = row }) = sym q ∙ f in
-      let start : from ≡ was = cc in let end : held ≡ record from { row = row } = cc in
-      let b = same_section (record from { row = row }) held end in let a = same_section was from start in
-      (b.0 ∙ a.0, b.1 ∙ a.1, b.2 ∙ a.2)
-
-  effect_so : (truths : Truths C) (seat : ℕ) (act : Act C) (old : Part C N) (found : Found) (new : Part C N) (commits : List (Event C N)) (was held : Held C N) → looks_again act ≡ false →
-      Effect truths seat act old found new commits → old.held ≡ Some was → new.held ≡ Some held → BeganSo was held
-  effect_so truths seat LoadWord old (Saw word) new commits was held n e p q = stays_so was held old.held new.held p q (ap (λ (x : Part C N). x.held) e.1)
-  effect_so truths seat (Acquire aim arrival last) old (Saw word) new commits was held n e p q = stays_so was held old.held new.held p q (ap (λ (x : Part C N). x.held) e.2)
-  effect_so truths seat (TakeQueues taking last) old (Saw word) new commits was held n e p q = stays_so was held old.held new.held p q (ap (λ (x : Part C N). x.held) e.2)
-  effect_so truths seat (ReturnQueues change last) old (Saw word) new commits was held n e p q = stays_so was held old.held new.held p q (ap (λ (x : Part C N). x.held) e.2)
-  effect_so truths seat (Release releasing last) old (Saw word) new commits was held n e p q = stays_so was held old.held new.held p q (ap (λ (x : Part C N). x.held) e.2)
-  effect_so truths seat (ReleaseReturning releasing last) old (Saw word) new commits was held n e p q = stays_so was held old.held new.held p q (ap (λ (x : Part C N). x.held) e.2)
-  effect_so truths seat (WaitReturning wait again last) old (Saw word) new commits was held n e p q = stays_so was held old.held new.held p q (ap (λ (x : Part C N). x.held) e.2)
-  effect_so truths seat (Acquire aim arrival last) old Made new commits was held n e p q = none_so was held was old.held p e.2
-  effect_so truths seat (TakeQueues taking last) old Made new commits was held n e p q = stays_so was held old.held new.held p q (ap (λ (x : Part C N). x.held) e.2)
-  effect_so truths seat (ReturnQueues change last) old Made new commits was held n e p q = stays_so was held old.held new.held p q (ap (λ (x : Part C N). x.held) e.2)
-  effect_so truths seat (ReturnQueues change last) old (Left stood) new commits was held n e p q = stays_so was held old.held new.held p q (ap (λ (x : Part C N). x.held) e.2)
-  effect_so truths seat (ReturnQueues change last) old (Woke owes) new commits was held n e p q = stays_so was held old.held new.held p q (ap (λ (x : Part C N). x.held) e.2)
-  effect_so truths seat (Release releasing last) old Made new commits was held n e p q = none_so was held held new.held q (ap (λ (x : Part C N). x.held) e.4)
-  effect_so truths seat (ReleaseReturning releasing last) old (Scanned owes tests) new commits was held n e p q = none_so was held held new.held q (ap (λ (x : Part C N). x.held) e.4)
-  effect_so truths seat (WaitReturning wait again last) old (Scanned owes tests) new commits was held n e p q = none_so was held held new.held q (ap (λ (x : Part C N). x.held) e.4)
-  effect_so truths seat (LoadCell i) old (Cell v) new commits was held n e p q = stays_so was held old.held new.held p q (ap (λ (x : Part C N). x.held) e.1)
-  effect_so truths seat (JudgeQuiet i) old (Quiet is_quiet) new commits was held n e p q = stays_so was held old.held new.held p q (ap (λ (x : Part C N). x.held) e.3)
-  effect_so truths seat (JudgeMet i c) old (Tested met) new commits was held n e p q = stays_so was held old.held new.held p q (ap (λ (x : Part C N). x.held) e.3)
-  effect_so truths seat (StoreCell i v) old Made new commits was held n e p q = stored_so was held e.0 (slice_set e.0.row i v) old.held new.held p q e.1 (ap (λ (x : Part C N). x.held) e.3)
-  effect_so truths seat ArmFlag old Made new commits was held n e p q = stays_so was held old.held new.held p q (ap (λ (x : Part C N). x.held) e.0)
-  effect_so truths seat PayWake old (Paid owes) new commits was held n e p q = stays_so was held old.held new.held p q (ap (λ (x : Part C N). x.held) e.3)
-  effect_so truths seat LoadFlag old (Flag v) new commits was held n e p q = stays_so was held old.held new.held p q (ap (λ (x : Part C N). x.held) e.1)
-  effect_so truths seat (Look limits false) old (Looked None) new commits was held n e p q = stays_so was held old.held new.held p q (ap (λ (x : Part C N). x.held) e.1)
-  effect_so truths seat (Look limits false) old (Looked (Some cause)) new commits was held n e p q = stays_so was held old.held new.held p q (ap (λ (x : Part C N). x.held) e.1)
-  effect_so truths seat (Look limits true) old (Looked cause) new commits was held n e p q = absurd (cc)
-  effect_so truths seat _ old _ new commits was held n e p q = absurd e
 
 -- What a section says of how it began stays until it is left, but for the looks of a wait that has come back.
 pub keep_beginning : {C : Type 0} {N : ℕ} (truths : Truths C) (old new : LockState C N) (view : SeatView C N) (found : Found) (commits : List (Event C N)) (was held : Held C N) →
     (step : Step truths old view found new commits) → has_come_back step.walk ≡ false → view.held ≡ Some was → step.held ≡ Some held → BeganSo was held
 keep_beginning truths old new view found commits was held step n p q =
-    effect_so truths view.seat (want_of step.walk) (part_of old view.held view.owed) found (part_of new step.held step.owed) commits was held (looks_by step.walk n) step.effect p q
+    (makes truths view.seat (want_of step.walk) (part_of old view.held view.owed) found (part_of new step.held step.owed) commits step.effect).began was held (looks_by step.walk n) p q

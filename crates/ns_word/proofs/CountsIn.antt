@@ -1,6 +1,6 @@
 -- How often a seat counts in the lists, where these change.
-use Rattle.ns_word.proofs.Prelude.{Bool, Cv, List, Lists, Seats, Waiter, [], ap, arith, cases_eq, counts_in, cvs_without, eqb, false, get_or, get_or-le-sum_by, get_or-map, gone_each, in_list, inl, inr, is_in, length, lists_without, lt-ltb, ltb, map, ne_eqb, none_without, not_in_list, one_if}
-use Rattle.ns_word.proofs.Prelude.{outside, refl, suc, sum_by, sum_by-cons, sym, taken_set, times, times_in, times_in-cons, times_outside, true, waiters_of, with_lock, without, without_in, ℕ, ◌+◌, ◌<◌, ◌∙◌, ◌∷◌, ◌≡◌, ◌≢◌, ◌≤◌}
+use Rattle.ns_word.proofs.Prelude.{Bool, Cv, List, Lists, Seats, Waiter, [], ap, arith, cases_eq, counts_in, cvs_without, eqb, false, get_or, get_or-le-sum_by, get_or-map, gone_each, in_list, inl, inr, is_in, length, lists_without, lt-ltb, ltb, map, moved_to, ne_eqb, none_without, not_in_list}
+use Rattle.ns_word.proofs.Prelude.{one_if, outside, refl, suc, sum_by, sum_by-cons, sym, taken_set, times, times_in, times_in-cons, times_outside, true, waiters_of, with_lock, without, without_in, ℕ, ◌+◌, ◌<◌, ◌∙◌, ◌∷◌, ◌≡◌, ◌≢◌, ◌≤◌}
 use Rattle.ns_word.proofs.Scans.{times_others, times_without}
 
 -- ---- whether there is one
@@ -107,6 +107,11 @@ module _ {C : Type 0} where
 
   pub taken_at : (set : Seats) (k : ℕ) (lists : Lists C) → length lists.cvs ≡ 4 → k < 4 → waiters_of (cvs_without set lists) (Cv k) ≡ outside set (waiters_of lists (Cv k))
   taken_at set k lists four low = get_or-map (outside set) lists.cvs k [] [] (omega (arith, four, low))
+
+  -- who is moved to the lock list changes no variable's
+  pub moved_at : (held : Bool) (taken : List (Waiter C)) (lists : Lists C) (k : ℕ) → waiters_of (moved_to held taken lists) (Cv k) ≡ waiters_of lists (Cv k)
+  moved_at true taken lists k = refl
+  moved_at false taken lists k = refl
 
   pub once_taken : (set : Seats) (lists : Lists C) → length lists.cvs ≡ 4 → OnceInEach lists → OnceInEach (cvs_without set lists)
   once_taken set lists four once seat k low = omega (arith, ap (times_in seat) (taken_at set k lists four low), times_outside set (waiters_of lists (Cv k)) seat, once seat k low)

@@ -1,22 +1,27 @@
 -- Each step takes its call on: it goes on as it was asked, or its answer means what it says.
 use Rattle.ns_word.proofs.Prelude.{Acquire, AcquireExchange, AcquireLoad, AcquirePlace, AcquireSoFar, Aim, AimFits, Answer, Answered, Any, AnyWait, AnyWaitMeans, Arm, ArmToWait, Arrival, AsFresh, AtVariables, Await, AwaitWake, AwaitWakeInWait, AwaitWakeToLeave, Bool, Busy, CallGoes, CameBack}
-use Rattle.ns_word.proofs.Prelude.{CanLeave, CanWait, Cause, Cell, CellFits, CellPlace, ComesBack, ConditionWaitMeans, Course, Cv, CvWait, Cvs, Done, EachFits, Effect, Ended, Event, Expired, Flag, ForLock, ForWait, Found, Get, GetLoad, HasLeft, HasLocked, HasLookedFor, HasReleased, HasWoken, Held}
-use Rattle.ns_word.proofs.Prelude.{HeldFits, Idle, InAcquire, InCells, InHand, InLeaving, InQueuing, InRelease, InShow, InSignal, InTry, InWait, Is, IsComing, IsFirst, IsForCondition, IsForVariables, IsLawful, IsLeft, IsQuiet, IsQuietSection, IsSome, KeptFits, Leave, LeaveLoad, LeavePlace}
-use Rattle.ns_word.proofs.Prelude.{LeaveSelf, Left, Limits, List, Load, LoadToScan, LockState, Look, LookIn, LookOut, Looked, Made, MayAnswer, MayEnd, MayShow, MayWait, Means, Met, Mode, Next, Noisy, None, Notified, Number, On, OnCondition, OnEntry, OnReturn, OnVariables, Only, Option, Outcome}
-use Rattle.ns_word.proofs.Prelude.{OutcomeFits, Paid, Part, Pay, PayInWait, PayTheWoken, PlaceFits, Plain, Queue, QueueFits, QueuePlace, QueueToWait, QueuesAfter, QueuesSoFar, Quiet, QuietCells, QuietLast, QuietWriter, Read, Release, ReleaseExchange, ReleaseFits, ReleaseLoad, ReleasePlace}
-use Rattle.ns_word.proofs.Prelude.{ReleaseSoFar, Releasing, Request, ReturnQueues, ReturnShown, Saw, ScanAndRelease, ScanCells, Scanned, SeatView, SectionFits, Set, SetLoad, SetStore, Show, ShowLoad, ShowPlace, SignalLoad, SignalPlace, SignalSoFar, SoFar, Some, Step, Subject, Succeeded, Take}
-use Rattle.ns_word.proofs.Prelude.{TakeToLeave, TakeToQueue, TakeToScan, TakeToShow, TakeToWake, TestCells, TestLast, Tested, Tests, TestsSoFar, ToChange, ToQueue, ToRelease, ToTell, Truths, TryAcquire, TryLoad, TryLock, TryPlace, Unchanged, VariableWaitMeans, Variables, ViewFits, Visit, Wait}
-use Rattle.ns_word.proofs.Prelude.{WaitFits, WaitPlace, WaitReturning, WaitSoFar, Waited, Wake, WakeAndReturn, Waking, Walk, Woke, Woken, WokenBy, Word, Write, [], acquire_by, acquired_for, answer_of, answer_of_wait, ap, append-nil, armed_place, arrival_of, asked_in_cells, asked_of, asked_to_judge}
-use Rattle.ns_word.proofs.Prelude.{back_with, cause_by, cause_in, cond, course_after, course_from, entry_of, eqb, exit_for, false, got_acquiring, got_in_cells, got_leaving, got_of, got_queuing, got_releasing, got_showing, got_signaling, got_trying, got_waiting, has_some, held_after, held_by}
-use Rattle.ns_word.proofs.Prelude.{home_of, inl, inr, is_held, is_limited, is_met, is_woken, judge_of, leave_any_told, leave_by, leave_of, leave_told, left_by, load_place, look_or_queue, looked_after, ltb, may_acquire, mode_for, mode_released, needs_scan, new_section, newly_held, not, opening_by}
-use Rattle.ns_word.proofs.Prelude.{outcome_taken, part_of, pay_releasing, pay_waiting, pay_woken, place_cause_kept, queue_by, quiet_place, refl, release_by, rest_or_look, row_after, scan_place, section_of, show_by, signal_by, slice_index, standing_after, stands_at, subst, sym, taken_by, test_place}
-use Rattle.ns_word.proofs.Prelude.{tries_of, true, unmet_by, variable_in, waiters_of, wake_of, want_acquiring, want_in_cells, want_leaving, want_of, want_queuing, want_releasing, want_showing, want_signaling, want_trying, want_waiting, woken_by, word_taken, ℕ, ◌&&◌, ◌++◌, ◌+◌, ◌-◌, ◌||◌, ◌∙◌, ◌∷◌}
-use Rattle.ns_word.proofs.Prelude.{◌≡◌}
+use Rattle.ns_word.proofs.Prelude.{CanLeave, CanWait, Cause, Cell, CellFits, CellPlace, ComesBack, ConditionWaitMeans, Course, Cv, CvWait, Cvs, Done, Effect, Ended, Event, Expired, Flag, ForLock, ForWait, Found, Get, GetLoad, HasLeft, HasLocked, HasLookedFor, HasReleased, HasWoken, Held, HeldFits}
+use Rattle.ns_word.proofs.Prelude.{Idle, InAcquire, InCells, InHand, InLeaving, InQueuing, InRelease, InShow, InSignal, InTry, InWait, Is, IsComing, IsFirst, IsForCondition, IsForVariables, IsLawful, IsLeft, IsQuiet, IsQuietSection, IsSome, KeptFits, Leave, LeaveLoad, LeavePlace, LeaveSelf, Left}
+use Rattle.ns_word.proofs.Prelude.{Limits, List, Load, LoadToScan, LockState, Look, LookIn, LookOut, Looked, Made, MayAnswer, MayEnd, MayShow, MayWait, Means, Met, Mode, Next, Noisy, None, Notified, Number, On, OnCondition, OnEntry, OnReturn, OnVariables, Only, Option, Outcome, OutcomeFits, Paid}
+use Rattle.ns_word.proofs.Prelude.{Part, Pay, PayInWait, PayTheWoken, PlaceFits, Plain, Queue, QueueFits, QueuePlace, QueueToWait, QueuesAfter, QueuesSoFar, Quiet, QuietCells, QuietLast, QuietWriter, Release, ReleaseExchange, ReleaseFits, ReleaseLoad, ReleasePlace, ReleaseSoFar, Releasing, Request}
+use Rattle.ns_word.proofs.Prelude.{ReturnQueues, ReturnShown, Saw, ScanAndRelease, ScanCells, Scanned, SeatView, SectionFits, Set, SetLoad, SetStore, Show, ShowLoad, ShowPlace, SignalLoad, SignalPlace, SignalSoFar, SoFar, Some, Step, Subject, Succeeded, Take, TakeToLeave, TakeToQueue, TakeToScan}
+use Rattle.ns_word.proofs.Prelude.{TakeToShow, TakeToWake, TestCells, TestLast, Tested, Tests, TestsSoFar, ToChange, ToQueue, ToRelease, ToTell, Truths, TryAcquire, TryLoad, TryLock, TryPlace, Unchanged, VariableWaitMeans, Variables, ViewFits, Visit, Wait, WaitFits, WaitPlace, WaitReturning}
+use Rattle.ns_word.proofs.Prelude.{WaitSoFar, Waited, Wake, WakeAndReturn, Waking, Walk, Woke, Woken, WokenBy, Word, [], acquire_by, acquired_for, answer_of, answer_of_wait, ap, append-nil, armed_place, arrival_of, asked_in_cells, asked_of, asked_to_judge, back_with, cause_by, cause_in, cond}
+use Rattle.ns_word.proofs.Prelude.{course_after, course_from, entry_of, eqb, exit_for, false, got_acquiring, got_in_cells, got_leaving, got_of, got_queuing, got_releasing, got_showing, got_signaling, got_trying, got_waiting, has_some, held_after, held_by, home_of, inl, inr, is_held, is_limited}
+use Rattle.ns_word.proofs.Prelude.{is_met, judge_of, leave_any_told, leave_by, leave_of, leave_told, left_by, load_place, look_or_queue, looked_after, ltb, may_acquire, mode_for, mode_released, needs_scan, new_section, newly_held, not, opening_by, outcome_taken, part_of, pay_releasing, pay_waiting}
+use Rattle.ns_word.proofs.Prelude.{pay_woken, place_cause_kept, queue_by, quiet_place, refl, release_by, request_for, rest_or_look, row_after, scan_place, section_of, show_by, signal_by, slice_index, standing_after, stands_at, subst, sym, taken_by, test_place, tries_of, true, unmet_by, variable_in}
+use Rattle.ns_word.proofs.Prelude.{waiters_of, wake_of, want_acquiring, want_in_cells, want_leaving, want_of, want_queuing, want_releasing, want_showing, want_signaling, want_trying, want_waiting, woken_by, word_taken, ℕ, ◌&&◌, ◌++◌, ◌+◌, ◌-◌, ◌∙◌, ◌∷◌, ◌≡◌}
+use Rattle.ns_word.proofs.Keeps.{acquired_holders}
+use Rattle.ns_word.proofs.Answers.{unmet_cause}
 use Rattle.ns_word.proofs.Leaving.{not_left}
-use Rattle.ns_word.proofs.Asked.{Asks, asks_on}
+use Rattle.ns_word.proofs.Follows.{follows, next_asked}
 use Rattle.ns_word.specs.declared.request.Request.TheVariants.{Release}
-use Rattle.ns_word.proofs.Views.{each_parts}
+use Rattle.ns_word.proofs.Stepping.{place_at, step_fits}
 use Rattle.ns_model.specs.declared.event.Exit.TheVariants as TheExit
+
+-- a wait by its parts, so that what it is for may be known
+abbrev wait_for : {C : Type 0} → Mode → Subject C → Limits → Wait C
+wait_for mode on limits = record { mode = mode; on = on; limits = limits }
 
 module _ (C : Type 0) (N : ℕ) (truths : Truths C) (seat : ℕ) (row : List ℕ) where
   -- where a step leads, but for what was asked
@@ -26,15 +31,15 @@ module _ (C : Type 0) (N : ℕ) (truths : Truths C) (seat : ℕ) (row : List ℕ
   Comes request course (Done reply) held = Means truths seat row request course reply held
 
   -- with it, where the step leads
-  goes_as_asked : (request : Request C) (course : Course C N) (next : Next C) (held : Option (Held C N)) → Asks request next → Comes request course next held → CallGoes truths seat row request course next held
+  goes_as_asked : (request : Request C) (course : Course C N) (next : Next C) (held : Option (Held C N)) → next_asked request next ≡ request → Comes request course next held → CallGoes truths seat row request course next held
   goes_as_asked request course (On walk) held asked so_far = record { asked = asked; so_far = so_far }
   goes_as_asked request course (Idle walk) held asked so_far = record { asked = asked; so_far = so_far }
   goes_as_asked request course (Done reply) held asked means = means
 
   -- of two ways
-  either : (request : Request C) (course : Course C N) (held : Option (Held C N)) (b : Bool) (one other : Next C) → (b ≡ true → Comes request course one held) → (b ≡ false → Comes request course other held) → Comes request course (cond b one other) held
-  either request course held true one other p q = p refl
-  either request course held false one other p q = q refl
+  either : {A : Type 0} (request : Request C) (course : Course C N) (held : Option (Held C N)) (go : A → Next C) (b : Bool) (one other : A) → (b ≡ true → Comes request course (go one) held) → (b ≡ false → Comes request course (go other) held) → Comes request course (go (cond b one other)) held
+  either request course held go true one other p q = p refl
+  either request course held go false one other p q = q refl
 
   -- ---- what stays
 
@@ -77,77 +82,50 @@ module _ (C : Type 0) (N : ℕ) (truths : Truths C) (seat : ℕ) (row : List ℕ
   -- of an acquire, by the word last seen
   acquire_comes : (request : Request C) (course : Course C N) (held : Option (Held C N)) (aim : Aim C) (arrival : Arrival) (word : Word) → AcquireSoFar truths seat aim course held → Comes request course (acquire_by aim arrival word) held
   acquire_comes request course held aim arrival word so_far =
-      either request course held (may_acquire (mode_for aim) arrival word) (On (InAcquire aim (AcquireExchange arrival word))) _ (λ b. so_far)
-      (λ b. either request course held word.spin (Idle (InAcquire aim (AcquireLoad arrival))) (On (InAcquire aim (TakeToQueue arrival word))) (λ b. so_far) (λ b. so_far))
+      either request course held (λ n. n) (may_acquire (mode_for aim) arrival word) (On (InAcquire aim (AcquireExchange arrival word))) _ (λ b. so_far)
+      (λ b. either request course held (λ n. n) word.spin (Idle (InAcquire aim (AcquireLoad arrival))) (On (InAcquire aim (TakeToQueue arrival word))) (λ b. so_far) (λ b. so_far))
 
   -- of a release
   release_comes : (request : Request C) (course : Course C N) (held : Option (Held C N)) (releasing : Releasing) (word : Word) → Unchanged course held → Comes request course (release_by releasing word) held
   release_comes request course held releasing word so_far =
-      either request course held (not (needs_scan releasing word)) (On (InRelease releasing (ReleaseExchange word))) _ (λ b. so_far)
-      (λ b. either request course held word.spin (Idle (InRelease releasing ReleaseLoad)) (On (InRelease releasing (TakeToScan word))) (λ b. so_far) (λ b. so_far))
-
-  -- of a call that wakes
-  signal_comes : (request : Request C) (course : Course C N) (held : Option (Held C N)) (waking : Waking) (k : ℕ) (word : Word) → Unchanged course held → Comes request course (signal_by waking k word) held
-  signal_comes request course held waking k word so_far = either request course held word.spin (Idle (InSignal waking k SignalLoad)) (On (InSignal waking k (TakeToWake word))) (λ b. so_far) (λ b. so_far)
-
-  -- of a call that shows
-  show_comes : (request : Request C) (course : Course C N) (held : Option (Held C N)) (word : Word) → Unchanged course held → Comes request course (show_by word) held
-  show_comes request course held word so_far = either request course held word.spin (Idle (InShow ShowLoad)) (On (InShow (TakeToShow word))) (λ b. so_far) (λ b. so_far)
+      either request course held (λ n. n) (not (needs_scan releasing word)) (On (InRelease releasing (ReleaseExchange word))) _ (λ b. so_far)
+      (λ b. either request course held (λ n. n) word.spin (Idle (InRelease releasing ReleaseLoad)) (On (InRelease releasing (TakeToScan word))) (λ b. so_far) (λ b. so_far))
 
   -- of a release that has loaded cells
-  scan_so_far : (course : Course C N) (held : Option (Held C N)) (releasing : Releasing) (last : Word) (loaded : ℕ) → Unchanged course held → SoFar truths seat course (InRelease releasing (scan_place N last loaded)) held
-  scan_so_far course held releasing last loaded so_far = go (ltb loaded N) where
-    go : (b : Bool) → SoFar truths seat course (InRelease releasing (cond b (ScanCells last loaded) (ScanAndRelease last))) held
-    go true = so_far
-    go false = so_far
-
-  taken_so_far : (course : Course C N) (held : Option (Held C N)) (releasing : Releasing) (last : Word) (b : Bool) → Unchanged course held → SoFar truths seat course (InRelease releasing (cond b (scan_place N last 0) (ScanAndRelease last))) held
-  taken_so_far course held releasing last true so_far = scan_so_far course held releasing last 0 so_far
-  taken_so_far course held releasing last false so_far = so_far
+  scan_comes : (course : Course C N) (held : Option (Held C N)) (releasing : Releasing) (last : Word) (loaded : ℕ) → Unchanged course held → SoFar truths seat course (InRelease releasing (scan_place N last loaded)) held
+  scan_comes course held releasing last loaded so_far = either (Release releasing) course held (λ p. On (InRelease releasing p)) (ltb loaded N) (ScanCells last loaded) (ScanAndRelease last) (λ b. so_far) (λ b. so_far)
 
   -- of a wait that tests its condition
   test_so_far : (course : Course C N) (held : Option (Held C N)) (wait : Wait C) (visit : Visit) (loaded : ℕ) → TestsSoFar truths seat wait visit course held → SoFar truths seat course (test_place N wait visit loaded) held
-  test_so_far course held wait visit loaded so_far = go (ltb loaded (N - 1)) where
-    go : (b : Bool) → SoFar truths seat course (cond b (InWait wait (TestCells visit loaded)) (InWait wait (TestLast visit (N - 1)))) held
-    go true = so_far
-    go false = so_far
+  test_so_far course held wait visit loaded so_far = either (Await wait) course held On (ltb loaded (N - 1)) (InWait wait (TestCells visit loaded)) (InWait wait (TestLast visit (N - 1))) (λ b. so_far) (λ b. so_far)
 
   -- of one that has to go on waiting: it looks first where something may end it
   look_comes : (request : Request C) (course : Course C N) (held : Option (Held C N)) (wait : Wait C) (again : Bool) → QueuesSoFar truths seat wait again course held → Comes request course (look_or_queue wait again) held
   look_comes request course held wait again so_far =
-      either request course held (is_limited wait.limits) (On (InWait wait (InQueuing again LookIn))) (On (InWait wait (InQueuing again Load))) (λ b. (so_far, tt)) (λ b. (so_far, unlimited wait.on b))
+      either request course held (λ n. n) (is_limited wait.limits) (On (InWait wait (InQueuing again LookIn))) (On (InWait wait (InQueuing again Load))) (λ b. (so_far, tt)) (λ b. (so_far, unlimited wait.on b))
     where
       unlimited : (on : Subject C) → is_limited wait.limits ≡ false → HasLookedFor on wait.limits course.looked
       unlimited (OnCondition c) b = λ limited. absurd (cc)
       unlimited (OnVariables variables) b = tt
 
   -- of one that is about to queue
-  queue_comes : (request : Request C) (course : Course C N) (held : Option (Held C N)) (wait : Wait C) (again : Bool) (word : Word) → QueuesSoFar truths seat wait again course held × HasLookedFor wait.on wait.limits course.looked → Comes request course (queue_by wait again word) held
-  queue_comes request course held wait again word so_far = either request course held word.spin (Idle (InWait wait (InQueuing again Load))) (On (InWait wait (InQueuing again (Take word)))) (λ b. so_far) (λ b. so_far)
+  queue_comes : (course : Course C N) (held : Option (Held C N)) (wait : Wait C) (again : Bool) (word : Word) → QueuesSoFar truths seat wait again course held × HasLookedFor wait.on wait.limits course.looked → Comes (Await wait) course (queue_by wait again word) held
+  queue_comes course held wait again word so_far = either (Await wait) course held (λ n. n) word.spin (Idle (InWait wait (InQueuing again Load))) (On (InWait wait (InQueuing again (Take word)))) (λ b. so_far) (λ b. so_far)
 
   -- of one that loads cells for its scan
   load_so_far : (course : Course C N) (held : Option (Held C N)) (wait : Wait C) (again : Bool) (last : Word) (loaded : ℕ) →
       QueuesSoFar truths seat wait again course held × HasLookedFor wait.on wait.limits course.looked → SoFar truths seat course (InWait wait (InQueuing again (load_place N last loaded))) held
-  load_so_far course held wait again last loaded so_far = go (ltb loaded N) where
-    go : (b : Bool) → SoFar truths seat course (InWait wait (InQueuing again (cond b (LoadToScan last loaded) (QueueToWait last)))) held
-    go true = so_far
-    go false = so_far
+  load_so_far course held wait again last loaded so_far = either (Await wait) course held (λ p. On (InWait wait (InQueuing again p))) (ltb loaded N) (LoadToScan last loaded) (QueueToWait last) (λ b. so_far) (λ b. so_far)
 
   armed_so_far : (course : Course C N) (held : Option (Held C N)) (wait : Wait C) (again : Bool) (on : Subject C) (last : Word) →
       QueuesSoFar truths seat wait again course held × HasLookedFor wait.on wait.limits course.looked → SoFar truths seat course (InWait wait (InQueuing again (armed_place N on last))) held
   armed_so_far course held wait again (OnCondition c) last so_far = so_far
-  armed_so_far course held wait again (OnVariables variables) last so_far = go last.cond where
-    go : (b : Bool) → SoFar truths seat course (InWait wait (InQueuing again (cond b (load_place N last 0) (QueueToWait last)))) held
-    go true = load_so_far course held wait again last 0 so_far
-    go false = so_far
-
-  -- of one that has queued
-  pay_wait_comes : (request : Request C) (course : Course C N) (held : Option (Held C N)) (wait : Wait C) (owes : Bool) → HasLeft truths seat wait None course → Comes request course (pay_waiting wait owes) held
-  pay_wait_comes request course held wait owes left = either request course held owes (On (InWait wait PayInWait)) (On (InWait wait AwaitWakeInWait)) (λ b. left) (λ b. left)
+  armed_so_far course held wait again (OnVariables variables) last so_far =
+      either (Await wait) course held (λ p. On (InWait wait (InQueuing again p))) last.cond (load_place N last 0) (QueueToWait last) (λ b. load_so_far course held wait again last 0 so_far) (λ b. so_far)
 
   -- of one that leaves
-  leave_comes : (request : Request C) (course : Course C N) (held : Option (Held C N)) (wait : Wait C) (cause : Cause) (word : Word) → HasLeft truths seat wait None course × (course.looked ≡ Some (Some cause)) → Comes request course (leave_by wait cause word) held
-  leave_comes request course held wait cause word so_far = either request course held word.spin (Idle (InWait wait (InLeaving cause LeaveLoad))) (On (InWait wait (InLeaving cause (TakeToLeave word)))) (λ b. so_far) (λ b. so_far)
+  leave_comes : (course : Course C N) (held : Option (Held C N)) (wait : Wait C) (cause : Cause) (word : Word) → HasLeft truths seat wait None course × (course.looked ≡ Some (Some cause)) → Comes (Await wait) course (leave_by wait cause word) held
+  leave_comes course held wait cause word so_far = either (Await wait) course held (λ n. n) word.spin (Idle (InWait wait (InLeaving cause LeaveLoad))) (On (InWait wait (InLeaving cause (TakeToLeave word)))) (λ b. so_far) (λ b. so_far)
 
   -- ---- what is new
 
@@ -156,17 +134,6 @@ module _ (C : Type 0) (N : ℕ) (truths : Truths C) (seat : ℕ) (row : List ℕ
     free : commits ≡ [] → part.word.write ≡ false → part.row ≡ row
     cells : (held : Held C N) → part.held ≡ Some held → held.row ≡ part.row
     starts : commits ≡ [] → (held : Held C N) → part.held ≡ Some held → held.before ≡ row
-
-  -- who may acquire finds no writer
-  no_writer : (mode : Mode) (arrival : Arrival) (word : Word) → may_acquire mode arrival word ≡ true → word.write ≡ false
-  no_writer Write arrival word may = go word.write may where
-    go : (b : Bool) → (not b && (eqb word.readers 0 && (is_woken arrival || not word.long))) ≡ true → b ≡ false
-    go true e = absurd (cc)
-    go false e = refl
-  no_writer Read arrival word may = go word.write may where
-    go : (b : Bool) → (not b && (is_woken arrival || (not word.writer_waits && not word.long))) ≡ true → b ≡ false
-    go true e = absurd (cc)
-    go false e = refl
 
   -- the lock was acquired by a call that locks
   has_locked : (mode : Mode) (course : Course C N) (old new : Option (Held C N)) (commits : List (Event C N)) (cells : List ℕ) → cells ≡ row → new ≡ Some (newly_held (ForLock mode) cells) → commits ≡ [] → Unchanged course old →
@@ -200,9 +167,9 @@ module _ (C : Type 0) (N : ℕ) (truths : Truths C) (seat : ℕ) (row : List ℕ
   may_end cvs limits looked (Ended cause) given shown so = (cause, given, shown)
 
   -- a wait that came back has acquired
-  comes_back : (request : Request C) (course : Course C N) (mode : Mode) (on : Subject C) (limits : Limits) (outcome : Outcome) (held : Option (Held C N)) (cells : List ℕ) → let wait : Wait C = record { mode = mode; on = on; limits = limits } in
+  comes_back : (request : Request C) (course : Course C N) (mode : Mode) (on : Subject C) (limits : Limits) (outcome : Outcome) (held : Option (Held C N)) (cells : List ℕ) → let wait = wait_for mode on limits in
       request ≡ Await wait → cells ≡ row → held ≡ Some (newly_held (ForWait wait outcome) cells) → MayShow limits (cause_in outcome) → OutcomeFits on outcome → IsComing truths seat wait outcome course → Comes request course (back_with N on wait outcome) held
-  comes_back request course mode (OnCondition c) limits outcome held cells asked same e given so coming = test_so_far course held (record { mode = mode; on = OnCondition c; limits = limits }) (OnReturn outcome) 0 coming
+  comes_back request course mode (OnCondition c) limits outcome held cells asked same e given so coming = test_so_far course held (wait_for mode (OnCondition c) limits) (OnReturn outcome) 0 coming
   comes_back request course mode (OnVariables (Only k)) limits outcome held cells asked same e given so coming =
       subst (λ r. Means truths seat row r course (Answered (answer_of_wait outcome)) held) (sym asked) (subst (λ h. InHand h (λ back. VariableWaitMeans truths seat row mode k limits course (answer_of_wait outcome) back)) (sym e)
       (record {
@@ -239,10 +206,6 @@ module _ (C : Type 0) (N : ℕ) (truths : Truths C) (seat : ℕ) (row : List ℕ
   }
 
   -- ---- waits for a condition
-
-  not_met : (cause : Cause) → is_met (answer_of cause) ≡ false
-  not_met Expired = refl
-  not_met Notified = refl
 
   -- what a section says of how it began that came back, where the condition is true, and where it is false
   says_met : (c : C) (outcome : Outcome) (before : List ℕ) → truths.holds c before ≡ true → entry_of truths.holds before (CameBack (OnCondition c) outcome) ≡ Waited c Met
@@ -306,20 +269,20 @@ module _ (C : Type 0) (N : ℕ) (truths : Truths C) (seat : ℕ) (row : List ℕ
         let tested : (section.mode ≡ mode) × ComesBack asked (Ended cause) section = subst (λ h. Tests truths asked (OnReturn (Ended cause)) h) e tests in
         let cells : section.row ≡ section.before = tested.1.cells in
         let says : entry_of truths.holds section.before section.entry ≡ Waited c (answer_of cause) = ap (λ entry. entry_of truths.holds section.before entry) tested.1.entry ∙ says_ended c cause section.before (ap (truths.holds c) (sym cells) ∙ failing) in
-        answers_back course held section (Some cause) (answer_of cause) e tested.0 starts cells (not_met cause ∙ sym failing) (may_answer limits course.looked (Ended cause) given so_far.shown) says so_far.left
+        answers_back course held section (Some cause) (answer_of cause) e tested.0 starts cells (unmet_cause cause ∙ sym failing) (may_answer limits course.looked (Ended cause) given so_far.shown) says so_far.left
 
     -- a look has shown what ends it, before it queued
     shown_comes : (again : Bool) (cause : Cause) (course : Course C N) (old new : Option (Held C N)) (section : Held C N) → old ≡ Some section → new ≡ held_after again (Some cause) old →
         MayWait truths asked again section → MayShow limits (Some cause) → section.before ≡ row → course.looked ≡ Some (Some cause) →
         QueuesSoFar truths seat asked again course old → Means truths seat row (Await asked) course (Answered (answer_of cause)) new
     shown_comes false cause course old new section e same may given starts shown so_far =
-        answers_on_entry course new section (answer_of cause) (same ∙ e) may.mode (not_met cause ∙ sym may.unmet) (may_answer limits course.looked (Ended cause) given shown) (subst (λ h. Unchanged course h) (sym same) so_far)
+        answers_on_entry course new section (answer_of cause) (same ∙ e) may.mode (unmet_cause cause ∙ sym may.unmet) (may_answer limits course.looked (Ended cause) given shown) (subst (λ h. Unchanged course h) (sym same) so_far)
     shown_comes true cause course old new section e same may given starts shown so_far =
         let back : ComesBack asked (Woken None) section = (may.back refl).1 in
         let now : Held C N = record section { entry = opening_by cause section.entry } in
         let cells : section.row ≡ section.before = back.cells in
         let says : entry_of truths.holds section.before now.entry ≡ Waited c (answer_of cause) = ap (λ entry. entry_of truths.holds section.before (opening_by cause entry)) back.entry ∙ says_ended c cause section.before (ap (truths.holds c) (sym cells) ∙ may.unmet) in
-        answers_back course new now None (answer_of cause) (same ∙ ap (λ h. held_by cause h) e) may.mode starts cells (not_met cause ∙ sym may.unmet) (may_answer limits course.looked (Ended cause) given shown) says so_far
+        answers_back course new now None (answer_of cause) (same ∙ ap (λ h. held_by cause h) e) may.mode starts cells (unmet_cause cause ∙ sym may.unmet) (may_answer limits course.looked (Ended cause) given shown) says so_far
 
   -- ---- by group
 
@@ -333,37 +296,37 @@ module _ (C : Type 0) (N : ℕ) (truths : Truths C) (seat : ℕ) (row : List ℕ
     finds request found to looks same silent so_far = leaves_course request course found to part.held next.held commits looks same silent so_far
 
     tries_on : (mode : Mode) (place : TryPlace) (found : Found) → Effect truths seat (want_trying mode place) part found next commits → Unchanged course part.held → Comes (TryLock mode) (course_after found commits course) (got_trying mode place found) next.held
-    tries_on mode TryLoad (Saw word) e was = finds (TryLock mode) (Saw word) _ refl (held_in part e.1) e.2 (either (TryLock mode) course part.held (may_acquire mode AsFresh word) (On (InTry mode (TryAcquire word))) (Done Busy) (λ b. was) (λ b. was))
+    tries_on mode TryLoad (Saw word) e was = finds (TryLock mode) (Saw word) _ refl (held_in part e.1) e.2 (either (TryLock mode) course part.held (λ n. n) (may_acquire mode AsFresh word) (On (InTry mode (TryAcquire word))) (Done Busy) (λ b. was) (λ b. was))
     tries_on mode (TryAcquire last) (Saw word) e was = finds (TryLock mode) (Saw word) (Done Busy) refl (held_in part e.2) e.3 was
     tries_on mode (TryAcquire last) Made e was =
-        has_locked mode course part.held next.held commits part.row (stands.free e.4 (no_writer mode AsFresh part.word (subst (λ word. may_acquire mode AsFresh word ≡ true) e.0 e.1))) (ap (λ p. p.held) e.3) e.4 was
+        has_locked mode course part.held next.held commits part.row (stands.free e.4 (acquired_holders mode AsFresh part.word (subst (λ word. may_acquire mode AsFresh word ≡ true) e.0 e.1)).0) (ap (λ p. p.held) e.3) e.4 was
     tries_on mode _ _ e was = absurd e
 
     -- an acquire was made
     acquired_on : (aim : Aim C) (arrival : Arrival) (last : Word) → Effect truths seat (Acquire aim arrival last) part Made next commits → AimFits aim → AcquireSoFar truths seat aim course part.held →
-        Comes (asked_of (InAcquire aim (AcquireExchange arrival last))) (course_after Made commits course) (acquired_for N aim) next.held
+        Comes (request_for aim) (course_after Made commits course) (acquired_for N aim) next.held
     acquired_on (ForLock mode) arrival last e given so_far =
-        has_locked mode course part.held next.held commits part.row (stands.free e.4 (no_writer mode arrival part.word (subst (λ word. may_acquire mode arrival word ≡ true) e.0 e.1))) (ap (λ p. p.held) e.3) e.4 so_far
+        has_locked mode course part.held next.held commits part.row (stands.free e.4 (acquired_holders mode arrival part.word (subst (λ word. may_acquire mode arrival word ≡ true) e.0 e.1)).0) (ap (λ p. p.held) e.3) e.4 so_far
     acquired_on (ForWait wait outcome) arrival last e given so_far =
         subst (λ now. Comes (Await wait) now (back_with N wait.on wait outcome) next.held) (sym (same_course Made commits course refl e.4))
-        (comes_back (Await wait) course wait.mode wait.on wait.limits outcome next.held part.row refl (stands.free e.4 (no_writer wait.mode arrival part.word (subst (λ word. may_acquire wait.mode arrival word ≡ true) e.0 e.1))) (ap (λ p. p.held) e.3) given.1 given.0 so_far)
+        (comes_back (Await wait) course wait.mode wait.on wait.limits outcome next.held part.row refl (stands.free e.4 (acquired_holders wait.mode arrival part.word (subst (λ word. may_acquire wait.mode arrival word ≡ true) e.0 e.1)).0) (ap (λ p. p.held) e.3) given.1 given.0 so_far)
 
     acquires_on : (aim : Aim C) (place : AcquirePlace) (found : Found) → Effect truths seat (want_acquiring aim place) part found next commits → AimFits aim → AcquireSoFar truths seat aim course part.held →
         Comes (asked_of (InAcquire aim place)) (course_after found commits course) (got_acquiring N aim place found) next.held
-    acquires_on aim (AcquireLoad arrival) (Saw word) e given so_far = finds (asked_of (InAcquire aim (AcquireLoad arrival))) (Saw word) (acquire_by aim arrival word) refl (held_in part e.1) e.2 (acquire_comes (asked_of (InAcquire aim (AcquireLoad arrival))) course part.held aim arrival word so_far)
-    acquires_on aim (AcquireExchange arrival last) (Saw word) e given so_far = finds (asked_of (InAcquire aim (AcquireExchange arrival last))) (Saw word)
-        (acquire_by aim arrival word) refl (held_in part e.2) e.3 (acquire_comes (asked_of (InAcquire aim (AcquireExchange arrival last))) course part.held aim arrival word so_far)
+    acquires_on aim (AcquireLoad arrival) (Saw word) e given so_far = finds (request_for aim) (Saw word) (acquire_by aim arrival word) refl (held_in part e.1) e.2 (acquire_comes (request_for aim) course part.held aim arrival word so_far)
+    acquires_on aim (AcquireExchange arrival last) (Saw word) e given so_far = finds (request_for aim) (Saw word)
+        (acquire_by aim arrival word) refl (held_in part e.2) e.3 (acquire_comes (request_for aim) course part.held aim arrival word so_far)
     acquires_on aim (AcquireExchange arrival last) Made e given so_far = acquired_on aim arrival last e given so_far
-    acquires_on aim (TakeToQueue arrival last) (Saw word) e given so_far = finds (asked_of (InAcquire aim (TakeToQueue arrival last))) (Saw word) (acquire_by aim arrival word) refl
-        (held_in part e.2) e.3 (acquire_comes (asked_of (InAcquire aim (TakeToQueue arrival last))) course part.held aim arrival word so_far)
-    acquires_on aim (TakeToQueue arrival last) Made e given so_far = finds (asked_of (InAcquire aim (TakeToQueue arrival last))) Made (On (InAcquire aim (Arm arrival (word_taken (ToQueue (mode_for aim) arrival) last)))) refl (ap (λ p. p.held) e.2) e.3 so_far
-    acquires_on aim (Arm arrival last) Made e given so_far = finds (asked_of (InAcquire aim (Arm arrival last))) Made (On (InAcquire aim (Queue arrival last))) refl (ap (λ p. p.held) e.0) e.1 so_far
-    acquires_on aim (Queue arrival last) (Saw word) e given so_far = finds (asked_of (InAcquire aim (Queue arrival last))) (Saw word) (On (InAcquire aim (Queue arrival word))) refl (held_in part e.2) e.3 so_far
-    acquires_on aim (Queue arrival last) Made e given so_far = finds (asked_of (InAcquire aim (Queue arrival last))) Made (On (InAcquire aim (AwaitWake (tries_of arrival)))) refl (ap (λ p. p.held) e.2) e.3 so_far
+    acquires_on aim (TakeToQueue arrival last) (Saw word) e given so_far = finds (request_for aim) (Saw word) (acquire_by aim arrival word) refl
+        (held_in part e.2) e.3 (acquire_comes (request_for aim) course part.held aim arrival word so_far)
+    acquires_on aim (TakeToQueue arrival last) Made e given so_far = finds (request_for aim) Made (On (InAcquire aim (Arm arrival (word_taken (ToQueue (mode_for aim) arrival) last)))) refl (ap (λ p. p.held) e.2) e.3 so_far
+    acquires_on aim (Arm arrival last) Made e given so_far = finds (request_for aim) Made (On (InAcquire aim (Queue arrival last))) refl (ap (λ p. p.held) e.0) e.1 so_far
+    acquires_on aim (Queue arrival last) (Saw word) e given so_far = finds (request_for aim) (Saw word) (On (InAcquire aim (Queue arrival word))) refl (held_in part e.2) e.3 so_far
+    acquires_on aim (Queue arrival last) Made e given so_far = finds (request_for aim) Made (On (InAcquire aim (AwaitWake (tries_of arrival)))) refl (ap (λ p. p.held) e.2) e.3 so_far
     acquires_on aim (Queue arrival last) (Left stood) e given so_far = let other : Made ≡ Left stood = e.0 in absurd (cc)
     acquires_on aim (Queue arrival last) (Woke owes) e given so_far = let other : Made ≡ Woke owes = e.0 in absurd (cc)
     acquires_on aim (AwaitWake tries) (Flag v) e given so_far =
-        finds _ (Flag v) _ refl (held_in part e.1) e.2 (either _ course part.held (eqb v 1) (Idle (InAcquire aim (AwaitWake tries))) (On (InAcquire aim (AcquireLoad (arrival_of tries v)))) (λ b. so_far) (λ b. so_far))
+        finds _ (Flag v) _ refl (held_in part e.1) e.2 (either _ course part.held (λ n. n) (eqb v 1) (Idle (InAcquire aim (AwaitWake tries))) (On (InAcquire aim (AcquireLoad (arrival_of tries v)))) (λ b. so_far) (λ b. so_far))
     acquires_on aim _ _ e given so_far = absurd e
 
     releases_on : (releasing : Releasing) (place : ReleasePlace) (found : Found) → Effect truths seat (want_releasing releasing place) part found next commits → ReleaseFits truths releasing place part.held → ReleaseSoFar truths seat releasing place course part.held →
@@ -375,15 +338,17 @@ module _ (C : Type 0) (N : ℕ) (truths : Truths C) (seat : ℕ) (row : List ℕ
         has_released releasing Made course part.held next.held commits e.0 e.1 e.2 can.1 (ap (λ p. p.held) e.4) e.5 was
     releases_on releasing (TakeToScan last) (Saw word) e fits was = finds (Release releasing) (Saw word) (release_by releasing word) refl (held_in part e.2) e.3 (release_comes (Release releasing) course part.held releasing word was)
     releases_on releasing (TakeToScan last) Made e fits was =
-        finds (Release releasing) Made (On (InRelease releasing (cond last.cond (scan_place N (word_taken ToChange last) 0) (ScanAndRelease (word_taken ToChange last))))) refl (ap (λ p. p.held) e.2) e.3 (taken_so_far course part.held releasing (word_taken ToChange last) last.cond was)
-    releases_on releasing (ScanCells last i) (Cell v) e fits was = finds (Release releasing) (Cell v) (On (InRelease releasing (scan_place N last (i + 1)))) refl (held_in part e.1) e.2 (scan_so_far course part.held releasing last (i + 1) was)
+        let taken = word_taken ToChange last in
+        finds (Release releasing) Made (On (InRelease releasing (cond last.cond (scan_place N taken 0) (ScanAndRelease taken)))) refl (ap (λ p. p.held) e.2) e.3
+        (either (Release releasing) course part.held (λ p. On (InRelease releasing p)) last.cond (scan_place N taken 0) (ScanAndRelease taken) (λ b. scan_comes course part.held releasing taken 0 was) (λ b. was))
+    releases_on releasing (ScanCells last i) (Cell v) e fits was = finds (Release releasing) (Cell v) (On (InRelease releasing (scan_place N last (i + 1)))) refl (held_in part e.1) e.2 (scan_comes course part.held releasing last (i + 1) was)
     releases_on releasing (ScanAndRelease last) (Saw word) e fits was = finds (Release releasing) (Saw word) (On (InRelease releasing (ScanAndRelease word))) refl (held_in part e.2) e.3 was
     releases_on releasing (ScanAndRelease last) (Scanned owes tests) e fits was =
         let can = subst (λ held. CanLeave truths releasing held) e.1 fits in
         let released = has_released releasing (Scanned owes tests) course part.held next.held commits e.0 e.1 e.2 can.1 (ap (λ p. p.held) e.4) e.7 was in
-        either (Release releasing) _ next.held owes (On (InRelease releasing Pay)) (Done Succeeded) (λ b. released) (λ b. released)
+        either (Release releasing) _ next.held (λ n. n) owes (On (InRelease releasing Pay)) (Done Succeeded) (λ b. released) (λ b. released)
     releases_on releasing Pay (Paid owes) e fits was =
-        finds (Release releasing) (Paid owes) (pay_releasing releasing owes) refl (ap (λ p. p.held) e.3) e.5 (either (Release releasing) course part.held owes (On (InRelease releasing Pay)) (Done Succeeded) (λ b. was) (λ b. was))
+        finds (Release releasing) (Paid owes) (pay_releasing releasing owes) refl (ap (λ p. p.held) e.3) e.5 (either (Release releasing) course part.held (λ n. n) owes (On (InRelease releasing Pay)) (Done Succeeded) (λ b. was) (λ b. was))
     releases_on releasing _ _ e fits was = absurd e
 
     cells_on : (place : CellPlace) (found : Found) → Effect truths seat (want_in_cells place) part found next commits → CellFits place part.held → Unchanged course part.held →
@@ -403,62 +368,57 @@ module _ (C : Type 0) (N : ℕ) (truths : Truths C) (seat : ℕ) (row : List ℕ
     cells_on (QuietCells judging i) (Cell v) e fits was = finds (asked_to_judge judging) (Cell v) (On (InCells (quiet_place N judging (i + 1)))) refl (held_in part e.1) e.2 was
     cells_on (QuietLast ToTell i) (Quiet quiet) e fits was = finds IsQuiet (Quiet quiet) (Done (Is quiet)) refl (held_in part e.3) e.4 (was, subst (λ held. IsQuietSection truths quiet held) (sym e.1) e.2)
     cells_on (QuietLast ToRelease i) (Quiet quiet) e fits was =
-        finds (Release QuietWriter) (Quiet quiet) _ refl (held_in part e.3) e.4 (either (Release QuietWriter) course part.held quiet (On (InRelease QuietWriter ReleaseLoad)) (Done Noisy) (λ b. was)
+        finds (Release QuietWriter) (Quiet quiet) _ refl (held_in part e.3) e.4 (either (Release QuietWriter) course part.held (λ n. n) quiet (On (InRelease QuietWriter ReleaseLoad)) (Done Noisy) (λ b. was)
         (λ b. (was, subst (λ held. IsQuietSection truths false held) (sym e.1) (sym b ∙ e.2))))
     cells_on _ _ e fits was = absurd e
 
     -- a wait tests its condition
-    tested_on : (mode : Mode) (on : Subject C) (limits : Limits) (visit : Visit) (i : ℕ) (found : Found) → let wait : Wait C = record { mode = mode; on = on; limits = limits } in
+    tested_on : (mode : Mode) (on : Subject C) (limits : Limits) (visit : Visit) (i : ℕ) (found : Found) → let wait = wait_for mode on limits in
         Effect truths seat (judge_of on i) part found next commits → WaitFits truths wait (TestLast visit i) part.held → MayShow limits (cause_by visit) → TestsSoFar truths seat wait visit course part.held →
         Comes (Await wait) (course_after found commits course) (got_waiting N wait (TestLast visit i) found) next.held
     tested_on mode (OnCondition c) limits visit i (Tested is_met) e fits given so_far =
-        let wait : Wait C = record { mode = mode; on = OnCondition c; limits = limits } in
-        finds (Await wait) (Tested is_met) _ refl (held_in part e.3) e.4 (either (Await wait) course part.held is_met (Done (Answered Met)) (unmet_by wait visit)
+        let wait = wait_for mode (OnCondition c) limits in
+        finds (Await wait) (Tested is_met) _ refl (held_in part e.3) e.4 (either (Await wait) course part.held (λ n. n) is_met (Done (Answered Met)) (unmet_by wait visit)
         (λ b. met_comes mode c limits visit course part.held e.0 e.1 (sym e.2 ∙ b) fits.0 (stands.starts e.4 e.0 e.1) so_far)
         (λ b. unmet_comes mode c limits visit course part.held e.0 e.1 (sym e.2 ∙ b) fits.0 given (stands.starts e.4 e.0 e.1) so_far))
     tested_on mode (OnCondition c) limits visit i _ e fits given so_far = absurd e
     tested_on mode (OnVariables variables) limits visit i found e fits given so_far = absurd fits.2
 
+    looked_none : (on : Subject C) (limits : Limits) → HasLookedFor on limits (Some None)
+    looked_none (OnCondition c) limits = λ limited. refl
+    looked_none (OnVariables variables) limits = tt
+
+    untold : (on : Subject C) → [] ≡ left_by {C = C} {N = N} seat on None
+    untold (OnCondition c) = refl
+    untold (OnVariables (Only k)) = refl
+    untold (OnVariables (Any cvs)) = refl
+
     -- a wait looks before it queues
-    looks_on : (mode : Mode) (on : Subject C) (limits : Limits) (again : Bool) (shown : Option Cause) → let wait : Wait C = record { mode = mode; on = on; limits = limits } in
+    looks_on : (mode : Mode) (on : Subject C) (limits : Limits) (again : Bool) (shown : Option Cause) → let wait = wait_for mode on limits in
         Effect truths seat (Look limits again) part (Looked shown) next commits → CanWait truths wait again part.held → IsForCondition on → QueuesSoFar truths seat wait again course part.held →
         Comes (Await wait) (course_after (Looked shown) commits course) (got_queuing N wait again LookIn (Looked shown)) next.held
-    looks_on mode on limits false None e can for so_far = (still_unchanged (Looked None) commits course part.held next.held (ap (λ p. p.held) e.1) e.2 so_far, looked on)
-      where
-        looked : (on : Subject C) → HasLookedFor on limits (Some None)
-        looked (OnCondition c) = λ limited. refl
-        looked (OnVariables variables) = tt
-    looks_on mode on limits true None e can for so_far = (still_left (record { mode = mode; on = on; limits = limits }) None (Looked None) commits course e.2 so_far, looked on)
-      where
-        looked : (on : Subject C) → HasLookedFor on limits (Some None)
-        looked (OnCondition c) = λ limited. refl
-        looked (OnVariables variables) = tt
+    looks_on mode on limits false None e can for so_far = (still_unchanged (Looked None) commits course part.held next.held (ap (λ p. p.held) e.1) e.2 so_far, looked_none on limits)
+    looks_on mode on limits true None e can for so_far = (still_left (wait_for mode on limits) None (Looked None) commits course e.2 so_far, looked_none on limits)
     looks_on mode (OnVariables variables) limits again (Some cause) e can for so_far = absurd for
     looks_on mode (OnCondition c) limits again (Some cause) e can for so_far = go part.held refl can
       where
-        wait : Wait C
-        wait = record { mode = mode; on = OnCondition c; limits = limits }
-
-        now : Course C N
-        now = course_after (Looked (Some cause)) commits course
-
-        so : (b : Bool) → QueuesSoFar truths seat (record { mode = mode; on = OnCondition c; limits = limits }) b course part.held → QueuesSoFar truths seat (record { mode = mode; on = OnCondition c; limits = limits }) b (course_after (Looked (Some cause)) commits course) part.held
+        so : (b : Bool) → QueuesSoFar truths seat (wait_for mode (OnCondition c) limits) b course part.held → QueuesSoFar truths seat (wait_for mode (OnCondition c) limits) b (course_after (Looked (Some cause)) commits course) part.held
         so false was = still_unchanged (Looked (Some cause)) commits course part.held part.held refl e.2 was
-        so true left = still_left (record { mode = mode; on = OnCondition c; limits = limits }) None (Looked (Some cause)) commits course e.2 left
+        so true left = still_left (wait_for mode (OnCondition c) limits) None (Looked (Some cause)) commits course e.2 left
 
-        go : (held : Option (Held C N)) → part.held ≡ held → CanWait truths (record { mode = mode; on = OnCondition c; limits = limits }) again held →
-            Means truths seat row (Await (record { mode = mode; on = OnCondition c; limits = limits })) (course_after (Looked (Some cause)) commits course) (Answered (answer_of cause)) next.held
+        go : (held : Option (Held C N)) → part.held ≡ held → CanWait truths (wait_for mode (OnCondition c) limits) again held →
+            Means truths seat row (Await (wait_for mode (OnCondition c) limits)) (course_after (Looked (Some cause)) commits course) (Answered (answer_of cause)) next.held
         go None is may = absurd may
         go (Some section) is may =
             shown_comes mode c limits again cause (course_after (Looked (Some cause)) commits course) part.held next.held section is (ap (λ p. p.held) e.1) may e.0 (stands.starts e.2 section is) refl (so again so_far)
 
     -- a wait queues, and leaves its section; one that queues again says nothing of it
-    queued_on : (mode : Mode) (on : Subject C) (limits : Limits) (again : Bool) (last : Word) (owes : Bool) (tests : ℕ) → let wait : Wait C = record { mode = mode; on = on; limits = limits } in
+    queued_on : (mode : Mode) (on : Subject C) (limits : Limits) (again : Bool) (last : Word) (owes : Bool) (tests : ℕ) → let wait = wait_for mode on limits in
         Effect truths seat (WaitReturning wait again last) part (Scanned owes tests) next commits → CanWait truths wait again part.held → QueuesSoFar truths seat wait again course part.held →
         HasLeft truths seat wait None (course_after (Scanned owes tests) commits course)
-    queued_on mode on limits true last owes tests e can so_far = still_left (record { mode = mode; on = on; limits = limits }) None (Scanned owes tests) commits course e.7 so_far
+    queued_on mode on limits true last owes tests e can so_far = still_left (wait_for mode on limits) None (Scanned owes tests) commits course e.7 so_far
     queued_on mode on limits false last owes tests e can so_far =
-        let may : MayWait truths (record { mode = mode; on = on; limits = limits }) false e.0 = subst (λ held. CanWait truths (record { mode = mode; on = on; limits = limits }) false held) e.1 can in
+        let may : MayWait truths (wait_for mode on limits) false e.0 = subst (λ held. CanWait truths (wait_for mode on limits) false held) e.1 can in
         record {
           was = e.0;
           began = sym so_far.same ∙ e.1;
@@ -466,26 +426,23 @@ module _ (C : Type 0) (N : ℕ) (truths : Truths C) (seat : ℕ) (row : List ℕ
           unmet = may.unmet;
           committed = first_commits (Scanned owes tests) commits (section_of truths.holds seat e.0 (exit_for on) ∷ []) course part.held so_far e.7 ∙ ap (λ events. section_of truths.holds seat e.0 (exit_for on) ∷ events) (untold on);
         }
-      where
-        untold : (on : Subject C) → [] ≡ left_by {C = C} {N = N} seat on None
-        untold (OnCondition c) = refl
-        untold (OnVariables (Only k)) = refl
-        untold (OnVariables (Any cvs)) = refl
 
     queues_on : (wait : Wait C) (again : Bool) (place : QueuePlace) (found : Found) → Effect truths seat (want_queuing wait again place) part found next commits → CanWait truths wait again part.held → QueueFits N wait.on place →
         QueuesSoFar truths seat wait again course part.held × QueuesAfter wait place course.looked → Comes (Await wait) (course_after found commits course) (got_queuing N wait again place found) next.held
     queues_on wait again LookIn (Looked shown) e can fits so_far = looks_on wait.mode wait.on wait.limits again shown e can fits so_far.0
-    queues_on wait again Load (Saw word) e can fits so_far = finds (Await wait) (Saw word) (queue_by wait again word) refl (held_in part e.1) e.2 (queue_comes (Await wait) course part.held wait again word so_far)
-    queues_on wait again (Take last) (Saw word) e can fits so_far = finds (Await wait) (Saw word) (queue_by wait again word) refl (held_in part e.2) e.3 (queue_comes (Await wait) course part.held wait again word so_far)
+    queues_on wait again Load (Saw word) e can fits so_far = finds (Await wait) (Saw word) (queue_by wait again word) refl (held_in part e.1) e.2 (queue_comes course part.held wait again word so_far)
+    queues_on wait again (Take last) (Saw word) e can fits so_far = finds (Await wait) (Saw word) (queue_by wait again word) refl (held_in part e.2) e.3 (queue_comes course part.held wait again word so_far)
     queues_on wait again (Take last) Made e can fits so_far = finds (Await wait) Made (On (InWait wait (InQueuing again (ArmToWait (word_taken ToChange last))))) refl (ap (λ p. p.held) e.2) e.3 so_far
     queues_on wait again (ArmToWait last) Made e can fits so_far = finds (Await wait) Made (On (InWait wait (InQueuing again (armed_place N wait.on last)))) refl (ap (λ p. p.held) e.0) e.1 (armed_so_far course part.held wait again wait.on last so_far)
     queues_on wait again (LoadToScan last i) (Cell v) e can fits so_far = finds (Await wait) (Cell v) (On (InWait wait (InQueuing again (load_place N last (i + 1))))) refl (held_in part e.1) e.2 (load_so_far course part.held wait again last (i + 1) so_far)
     queues_on wait again (QueueToWait last) (Saw word) e can fits so_far = finds (Await wait) (Saw word) (On (InWait wait (InQueuing again (QueueToWait word)))) refl (held_in part e.2) e.3 so_far
-    queues_on wait again (QueueToWait last) (Scanned owes tests) e can fits so_far = pay_wait_comes (Await wait) _ next.held wait owes (queued_on wait.mode wait.on wait.limits again last owes tests e can so_far.0)
+    queues_on wait again (QueueToWait last) (Scanned owes tests) e can fits so_far =
+        let left = queued_on wait.mode wait.on wait.limits again last owes tests e can so_far.0 in
+        either (Await wait) _ next.held (λ n. n) owes (On (InWait wait PayInWait)) (On (InWait wait AwaitWakeInWait)) (λ b. left) (λ b. left)
     queues_on wait again _ _ e can fits so_far = absurd e
 
     -- a wait takes itself from its list, or was taken before
-    withdrawn_on : (mode : Mode) (on : Subject C) (limits : Limits) (cause : Cause) (last : Word) (stood : Bool) → let wait : Wait C = record { mode = mode; on = on; limits = limits } in
+    withdrawn_on : (mode : Mode) (on : Subject C) (limits : Limits) (cause : Cause) (last : Word) (stood : Bool) → let wait = wait_for mode on limits in
         Effect truths seat (ReturnQueues (LeaveSelf (home_of on)) last) part (Left stood) next commits → HasLeft truths seat wait None course × (course.looked ≡ Some (Some cause)) →
         Comes (Await wait) (course_after (Left stood) commits course) (got_leaving wait cause (Leave last) (Left stood)) next.held
     withdrawn_on mode on limits cause last stood e so_far = go stood on (e.3 ∙ ap (leave_of seat (home_of on)) same) so_far.0
@@ -493,17 +450,15 @@ module _ (C : Type 0) (N : ℕ) (truths : Truths C) (seat : ℕ) (row : List ℕ
         same : stands_at seat (home_of on) part.lists ≡ stood
         same = let found : Left (stands_at seat (home_of on) part.lists) ≡ Left stood = e.0 in cc
 
-        untold : (variables : Variables) → [] ≡ left_by {C = C} {N = N} seat (OnVariables variables) None
-        untold (Only k) = refl
-        untold (Any cvs) = refl
-
         left_of : (variables : Variables) → leave_of {C = C} {N = N} seat (AtVariables variables) true ≡ left_by seat (OnVariables variables) (Some cause)
         left_of (Only k) = refl
         left_of (Any cvs) = refl
 
-        go : (stood : Bool) (on : Subject C) → commits ≡ leave_of seat (home_of on) stood → HasLeft truths seat (record { mode = mode; on = on; limits = limits }) None course →
-            Comes (Await (record { mode = mode; on = on; limits = limits })) (course_after (Left stood) commits course) (got_leaving (record { mode = mode; on = on; limits = limits }) cause (Leave last) (Left stood)) next.held
-        go true (OnCondition c) silent left = record { left = still_left (record { mode = mode; on = OnCondition c; limits = limits }) (Some cause) (Left true) commits course silent (record { was = left.was; began = left.began; mode = left.mode; unmet = left.unmet; committed = left.committed }); shown = so_far.1 }
+        go : (stood : Bool) (on : Subject C) → commits ≡ leave_of seat (home_of on) stood → HasLeft truths seat (wait_for mode on limits) None course →
+            Comes (Await (wait_for mode on limits)) (course_after (Left stood) commits course) (got_leaving (wait_for mode on limits) cause (Leave last) (Left stood)) next.held
+        go true (OnCondition c) silent left =
+            let ended : HasLeft truths seat (wait_for mode (OnCondition c) limits) (Some cause) course = record { was = left.was; began = left.began; mode = left.mode; unmet = left.unmet; committed = left.committed } in
+            record { left = still_left (wait_for mode (OnCondition c) limits) (Some cause) (Left true) commits course silent ended; shown = so_far.1 }
         go true (OnVariables variables) told left = record {
           left = record {
             was = left.was;
@@ -511,30 +466,30 @@ module _ (C : Type 0) (N : ℕ) (truths : Truths C) (seat : ℕ) (row : List ℕ
             mode = left.mode;
             unmet = left.unmet;
             committed = ap (λ events. course.committed ++ events) (told ∙ left_of variables) ∙ ap (λ events. events ++ left_by {C = C} {N = N} seat (OnVariables variables) (Some cause))
-                (left.committed ∙ ap (λ events. section_of truths.holds seat left.was (exit_for {C = C} (OnVariables variables)) ∷ events) (sym (untold variables)));
+                (left.committed ∙ ap (λ events. section_of truths.holds seat left.was (exit_for {C = C} (OnVariables variables)) ∷ events) (sym (untold (OnVariables variables))));
           };
           shown = so_far.1;
         }
-        go false (OnCondition c) silent left = (still_left (record { mode = mode; on = OnCondition c; limits = limits }) None (Left false) commits course silent left, so_far.1)
-        go false (OnVariables variables) silent left = (still_left (record { mode = mode; on = OnVariables variables; limits = limits }) None (Left false) commits course (silent ∙ not_left C N seat (AtVariables variables)) left, so_far.1)
+        go false (OnCondition c) silent left = (still_left (wait_for mode (OnCondition c) limits) None (Left false) commits course silent left, so_far.1)
+        go false (OnVariables variables) silent left = (still_left (wait_for mode (OnVariables variables) limits) None (Left false) commits course (silent ∙ not_left C N seat (AtVariables variables)) left, so_far.1)
 
     -- one that was taken from its list before it could leave: a wait for a condition was ended all the same
-    taken_comes : (mode : Mode) (on : Subject C) (limits : Limits) (cause : Cause) (flag : ℕ) → let wait : Wait C = record { mode = mode; on = on; limits = limits } in
+    taken_comes : (mode : Mode) (on : Subject C) (limits : Limits) (cause : Cause) (flag : ℕ) → let wait = wait_for mode on limits in
         HasLeft truths seat wait None course × (course.looked ≡ Some (Some cause)) → IsComing truths seat wait (outcome_taken on cause flag) course
     taken_comes mode (OnCondition c) limits cause flag so_far = record { left = record { was = so_far.0.was; began = so_far.0.began; mode = so_far.0.mode; unmet = so_far.0.unmet; committed = so_far.0.committed }; shown = so_far.1 }
     taken_comes mode (OnVariables variables) limits cause flag so_far = record { left = so_far.0; shown = tt }
 
     leaves_on : (wait : Wait C) (cause : Cause) (place : LeavePlace) (found : Found) → Effect truths seat (want_leaving wait place) part found next commits → HasLeft truths seat wait None course × (course.looked ≡ Some (Some cause)) →
         Comes (Await wait) (course_after found commits course) (got_leaving wait cause place found) next.held
-    leaves_on wait cause LeaveLoad (Saw word) e so_far = finds (Await wait) (Saw word) (leave_by wait cause word) refl (held_in part e.1) e.2 (leave_comes (Await wait) course part.held wait cause word so_far)
-    leaves_on wait cause (TakeToLeave last) (Saw word) e so_far = finds (Await wait) (Saw word) (leave_by wait cause word) refl (held_in part e.2) e.3 (leave_comes (Await wait) course part.held wait cause word so_far)
+    leaves_on wait cause LeaveLoad (Saw word) e so_far = finds (Await wait) (Saw word) (leave_by wait cause word) refl (held_in part e.1) e.2 (leave_comes course part.held wait cause word so_far)
+    leaves_on wait cause (TakeToLeave last) (Saw word) e so_far = finds (Await wait) (Saw word) (leave_by wait cause word) refl (held_in part e.2) e.3 (leave_comes course part.held wait cause word so_far)
     leaves_on wait cause (TakeToLeave last) Made e so_far = finds (Await wait) Made (On (InWait wait (InLeaving cause (Leave (word_taken ToChange last))))) refl (ap (λ p. p.held) e.2) e.3 so_far
     leaves_on wait cause (Leave last) (Saw word) e so_far = finds (Await wait) (Saw word) (On (InWait wait (InLeaving cause (Leave word)))) refl (held_in part e.2) e.3 so_far
     leaves_on wait cause (Leave last) (Left stood) e so_far = withdrawn_on wait.mode wait.on wait.limits cause last stood e so_far
     leaves_on wait cause (Leave last) Made e so_far = let other : Left (stands_at seat (home_of wait.on) part.lists) ≡ Made = e.0 in absurd (cc)
     leaves_on wait cause (Leave last) (Woke owes) e so_far = let other : Left (stands_at seat (home_of wait.on) part.lists) ≡ Woke owes = e.0 in absurd (cc)
     leaves_on wait cause AwaitWakeToLeave (Flag v) e so_far =
-        finds (Await wait) (Flag v) _ refl (held_in part e.1) e.2 (either (Await wait) course part.held (eqb v 1) (Idle (InWait wait (InLeaving cause AwaitWakeToLeave))) (On (InAcquire (ForWait wait (outcome_taken wait.on cause v)) (AcquireLoad (arrival_of 0 v))))
+        finds (Await wait) (Flag v) _ refl (held_in part e.1) e.2 (either (Await wait) course part.held (λ n. n) (eqb v 1) (Idle (InWait wait (InLeaving cause AwaitWakeToLeave))) (On (InAcquire (ForWait wait (outcome_taken wait.on cause v)) (AcquireLoad (arrival_of 0 v))))
         (λ b. so_far) (λ b. taken_comes wait.mode wait.on wait.limits cause v so_far))
     leaves_on wait cause _ _ e so_far = absurd e
 
@@ -543,10 +498,10 @@ module _ (C : Type 0) (N : ℕ) (truths : Truths C) (seat : ℕ) (row : List ℕ
     waits_on wait (TestCells visit i) (Cell v) e fits given so_far = finds (Await wait) (Cell v) (On (test_place N wait visit (i + 1))) refl (held_in part e.1) e.2 (test_so_far course part.held wait visit (i + 1) so_far)
     waits_on wait (TestLast visit i) found e fits given so_far = tested_on wait.mode wait.on wait.limits visit i found e fits given so_far
     waits_on wait (InQueuing again place) found e fits given so_far = queues_on wait again place found e fits.0 fits.1 so_far
-    waits_on wait PayInWait (Paid owes) e fits given so_far = finds (Await wait) (Paid owes) (pay_waiting wait owes) refl (ap (λ p. p.held) e.3) e.5 (pay_wait_comes (Await wait) course part.held wait owes so_far)
+    waits_on wait PayInWait (Paid owes) e fits given so_far = finds (Await wait) (Paid owes) (pay_waiting wait owes) refl (ap (λ p. p.held) e.3) e.5 (either (Await wait) course part.held (λ n. n) owes (On (InWait wait PayInWait)) (On (InWait wait AwaitWakeInWait)) (λ b. so_far) (λ b. so_far))
     waits_on wait AwaitWakeInWait (Flag v) e fits given so_far =
-        finds (Await wait) (Flag v) _ refl (held_in part e.1) e.2 (either (Await wait) course part.held (eqb v 1) (rest_or_look wait) (On (InAcquire (ForWait wait (woken_by wait.on v)) (AcquireLoad (arrival_of 0 v))))
-        (λ b. either (Await wait) course part.held (is_limited wait.limits) (On (InWait wait LookOut)) (Idle (InWait wait AwaitWakeInWait)) (λ b. so_far) (λ b. so_far)) (λ b. record { left = so_far; shown = tt }))
+        finds (Await wait) (Flag v) _ refl (held_in part e.1) e.2 (either (Await wait) course part.held (λ n. n) (eqb v 1) (rest_or_look wait) (On (InAcquire (ForWait wait (woken_by wait.on v)) (AcquireLoad (arrival_of 0 v))))
+        (λ b. either (Await wait) course part.held (λ n. n) (is_limited wait.limits) (On (InWait wait LookOut)) (Idle (InWait wait AwaitWakeInWait)) (λ b. so_far) (λ b. so_far)) (λ b. record { left = so_far; shown = tt }))
     waits_on wait LookOut (Looked None) e fits given so_far = still_left wait None (Looked None) commits course e.2 so_far
     waits_on wait LookOut (Looked (Some cause)) e fits given so_far = (still_left wait None (Looked (Some cause)) commits course e.2 so_far, refl)
     waits_on wait (InLeaving cause place) found e fits given so_far = leaves_on wait cause place found e so_far
@@ -554,8 +509,12 @@ module _ (C : Type 0) (N : ℕ) (truths : Truths C) (seat : ℕ) (row : List ℕ
 
     signals_on : (waking : Waking) (k : ℕ) (place : SignalPlace) (found : Found) → Effect truths seat (want_signaling waking k place) part found next commits → SignalSoFar seat waking k place course part.held →
         Comes (Wake waking k) (course_after found commits course) (got_signaling waking k place found) next.held
-    signals_on waking k SignalLoad (Saw word) e was = finds (Wake waking k) (Saw word) (signal_by waking k word) refl (held_in part e.1) e.2 (signal_comes (Wake waking k) course part.held waking k word was)
-    signals_on waking k (TakeToWake last) (Saw word) e was = finds (Wake waking k) (Saw word) (signal_by waking k word) refl (held_in part e.2) e.3 (signal_comes (Wake waking k) course part.held waking k word was)
+    signals_on waking k SignalLoad (Saw word) e was =
+        finds (Wake waking k) (Saw word) (signal_by waking k word) refl (held_in part e.1) e.2
+        (either (Wake waking k) course part.held (λ n. n) word.spin (Idle (InSignal waking k SignalLoad)) (On (InSignal waking k (TakeToWake word))) (λ b. was) (λ b. was))
+    signals_on waking k (TakeToWake last) (Saw word) e was =
+        finds (Wake waking k) (Saw word) (signal_by waking k word) refl (held_in part e.2) e.3
+        (either (Wake waking k) course part.held (λ n. n) word.spin (Idle (InSignal waking k SignalLoad)) (On (InSignal waking k (TakeToWake word))) (λ b. was) (λ b. was))
     signals_on waking k (TakeToWake last) Made e was = finds (Wake waking k) Made (On (InSignal waking k (WakeAndReturn (word_taken ToChange last)))) refl (ap (λ p. p.held) e.2) e.3 was
     signals_on waking k (WakeAndReturn last) (Saw word) e was = finds (Wake waking k) (Saw word) (On (InSignal waking k (WakeAndReturn word))) refl (held_in part e.2) e.3 was
     signals_on waking k (WakeAndReturn last) (Woke owes) e was =
@@ -565,16 +524,16 @@ module _ (C : Type 0) (N : ℕ) (truths : Truths C) (seat : ℕ) (row : List ℕ
           waiters = waiters_of part.lists (Cv k);
           committed = first_commits (Woke owes) commits (wake_of seat waking k taken ∷ []) course part.held was e.3;
         } in
-        either (Wake waking k) _ next.held owes (On (InSignal waking k PayTheWoken)) (Done Succeeded) (λ b. woken) (λ b. woken)
+        either (Wake waking k) _ next.held (λ n. n) owes (On (InSignal waking k PayTheWoken)) (Done Succeeded) (λ b. woken) (λ b. woken)
     signals_on waking k (WakeAndReturn last) Made e was = let other : Woke (not (is_held last) && has_some (taken_by waking (waiters_of part.lists (Cv k)))) ≡ Made = e.0 in absurd (cc)
     signals_on waking k (WakeAndReturn last) (Left stood) e was = let other : Woke (not (is_held last) && has_some (taken_by waking (waiters_of part.lists (Cv k)))) ≡ Left stood = e.0 in absurd (cc)
     signals_on waking k PayTheWoken (Paid owes) e was =
-        finds (Wake waking k) (Paid owes) (pay_woken waking k owes) refl (ap (λ p. p.held) e.3) e.5 (either (Wake waking k) course part.held owes (On (InSignal waking k PayTheWoken)) (Done Succeeded) (λ b. was) (λ b. was))
+        finds (Wake waking k) (Paid owes) (pay_woken waking k owes) refl (ap (λ p. p.held) e.3) e.5 (either (Wake waking k) course part.held (λ n. n) owes (On (InSignal waking k PayTheWoken)) (Done Succeeded) (λ b. was) (λ b. was))
     signals_on waking k _ _ e was = absurd e
 
     shows_on : (place : ShowPlace) (found : Found) → Effect truths seat (want_showing place) part found next commits → Unchanged course part.held → Comes Show (course_after found commits course) (got_showing place found) next.held
-    shows_on ShowLoad (Saw word) e was = finds Show (Saw word) (show_by word) refl (held_in part e.1) e.2 (show_comes Show course part.held word was)
-    shows_on (TakeToShow last) (Saw word) e was = finds Show (Saw word) (show_by word) refl (held_in part e.2) e.3 (show_comes Show course part.held word was)
+    shows_on ShowLoad (Saw word) e was = finds Show (Saw word) (show_by word) refl (held_in part e.1) e.2 (either Show course part.held (λ n. n) word.spin (Idle (InShow ShowLoad)) (On (InShow (TakeToShow word))) (λ b. was) (λ b. was))
+    shows_on (TakeToShow last) (Saw word) e was = finds Show (Saw word) (show_by word) refl (held_in part e.2) e.3 (either Show course part.held (λ n. n) word.spin (Idle (InShow ShowLoad)) (On (InShow (TakeToShow word))) (λ b. was) (λ b. was))
     shows_on (TakeToShow last) Made e was = finds Show Made (On (InShow (ReturnShown (word_taken ToChange last)))) refl (ap (λ p. p.held) e.2) e.3 was
     shows_on (ReturnShown last) (Saw word) e was = finds Show (Saw word) (On (InShow (ReturnShown word))) refl (held_in part e.2) e.3 was
     shows_on (ReturnShown last) Made e was = finds Show Made (Done Succeeded) refl (ap (λ p. p.held) e.2) e.3 was
@@ -610,11 +569,11 @@ pub takes_on : (C : Type 0) (N : ℕ) (truths : Truths C) (seats : ℕ) (history
     CallGoes truths view.seat (row_after (history ++ commits)) (asked_of step.walk) (course_after found commits course) (got_of N step.walk found) step.held
 takes_on C N truths seats history old new view found commits course step lawful so_far =
     let row = row_after (history ++ commits) in
-    let fits = (each_parts truths seats (standing_after history) old.row step.front view step.back (subst (λ vs. EachFits truths seats (standing_after history) old.row vs) step.was lawful.one_history.each)).1 in
+    let fits = step_fits step seats history lawful in
     let same : commits ≡ [] → row_after history ≡ row = λ silent. ap (λ es. row_after es) (sym (ap (λ cs. history ++ cs) silent ∙ append-nil history)) in
     let stands = stands_by C N truths view.seat row seats history old view commits same lawful fits in
-    let place = subst (λ w. PlaceFits truths w view.held) step.walks fits.place in
-    goes_as_asked C N truths view.seat row (asked_of step.walk) (course_after found commits course) (got_of N step.walk found) step.held (asks_on C N step.walk found)
+    let place = place_at step seats history step.walk refl lawful in
+    goes_as_asked C N truths view.seat row (asked_of step.walk) (course_after found commits course) (got_of N step.walk found) step.held (follows N step.walk found).asked
     (comes_on C N truths view.seat row (part_of old view.held view.owed) (part_of new step.held step.owed) commits course stands step.walk found step.effect place so_far)
 
 -- A call that begins has changed nothing.

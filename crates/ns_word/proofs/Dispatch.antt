@@ -3,16 +3,17 @@ use Rattle.ns_word.proofs.Prelude.{AcquireExchange, AcquireLoad, Aim, AimFits, A
 use Rattle.ns_word.proofs.Prelude.{Flag, ForLock, ForWait, Found, GetLoad, HasMode, HasNumber, Held, Idle, InAcquire, InCells, InLeaving, InQueuing, InRelease, InShow, InSignal, InTry, InWait, IsExpected, IsInRange, IsLawful, IsLeft, IsLegalEvent, IsSettled, IsSettledBy, IsToldSo, Leave, LeaveLoad}
 use Rattle.ns_word.proofs.Prelude.{Left, Limits, List, Load, LoadToScan, LockState, LookIn, LookOut, Looked, Made, MayShow, MayWait, Mode, Next, None, NoneIs, On, OnCondition, OnVariables, Option, Outcome, OutcomeFits, Owed, Paid, Part, Pay, PayInWait, PayTheWoken, Phase, PlaceFits, Plain, Queue}
 use Rattle.ns_word.proofs.Prelude.{QueueToWait, Quiet, QuietCells, QuietKeeps, QuietLast, QuietWriter, Read, ReleaseExchange, ReleaseLoad, Releasing, ReturnQueues, ReturnShown, Saw, ScanAndRelease, ScanCells, Scanned, SeatView, SetLoad, SetStore, ShowLoad, ShowPlace, SignalLoad, SignalPlace}
-use Rattle.ns_word.proofs.Prelude.{Signaling, Some, Step, Subject, Take, TakeToLeave, TakeToQueue, TakeToScan, TakeToShow, TakeToWake, Taking, Tells, TestCells, TestLast, Tested, ToChange, ToQueue, ToldOn, Truths, TryAcquire, TryLoad, VariableWaiterFits, Visit, Wait, WaitPlace, WaitReturning}
-use Rattle.ns_word.proofs.Prelude.{Waiter, Waiting, WakeAndReturn, WakeWaiters, Waking, Walk, Woke, Word, Write, [], acquired_for, ap, append-nil, arith, armed_place, arrival_of, awaits, bits_of, both_ways, broadcast_legal, called_of, calls_from_lock, cause_in, change_found, changed, cond}
-use Rattle.ns_word.proofs.Prelude.{counts_in, cvs_without, eq-eqb, eqb, every_join, every_parts, every_signaled, exit_for, expected_for, false, flags_with, got_leaving, got_of, got_showing, got_signaling, got_waiting, has, has_armed, has_queues, has_some, held_after, home_of, inl, inr}
-use Rattle.ns_word.proofs.Prelude.{is_from_lock, is_held, is_on_way, is_queuing, is_some, is_woken, judge_of, kept_by, leave_of, left_of, ltb, ltb-true, may_acquire, meets_at, mode_for, mode_released, moved_to, moves, needs_scan, newly_held, not, opening_for, outcome_taken, owed_after}
-use Rattle.ns_word.proofs.Prelude.{pay_releasing, pay_waiting, pay_woken, pays, phase_before, phase_by, phase_for, phase_kept, place_awaits, queued, refl, releasing_of, rest_or_look, row_in, section_of, signal_legal, slice_set, standing_after, standing_next, stands_at, subst, suc, sum_by, sym}
-use Rattle.ns_word.proofs.Prelude.{taken_by, taken_set, times_among, times_in, times_signaled, tries_of, true, variable_told, wait_has_queues, waited_in, waiters_of, waits_in, wake_of, wakes_of, walk_after, want_of, want_showing, want_signaling, want_waiting, was_woken, who_of, with_lock, without}
-use Rattle.ns_word.proofs.Prelude.{without_in, woken_by, woken_of, woken_phases, word_acquired, word_released, word_released_returning, word_returned, word_seen, word_taken, zero, ℕ, ◌&&◌, ◌++◌, ◌+◌, ◌<◌, ◌||◌, ◌∙◌, ◌∷◌, ◌≡◌, ◌≢◌, ◌≤◌, ◌⊎◌}
+use Rattle.ns_word.proofs.Prelude.{Signaling, Some, Step, Subject, Take, TakeToLeave, TakeToQueue, TakeToScan, TakeToShow, TakeToWake, Taking, TestCells, TestLast, Tested, ToChange, ToQueue, ToldOn, Truths, TryAcquire, TryLoad, VariableWaiterFits, Visit, Wait, WaitPlace, WaitReturning, Waiter}
+use Rattle.ns_word.proofs.Prelude.{Waiting, WakeAndReturn, WakeWaiters, Waking, Walk, Woke, Word, Write, [], acquired_for, ap, append-nil, arith, armed_place, arrival_of, awaits, bits_of, both_ways, broadcast_legal, called_of, calls_from_lock, cause_in, change_found, changed, cond, counts_in}
+use Rattle.ns_word.proofs.Prelude.{cvs_without, eq-eqb, eqb, every_join, every_parts, every_signaled, exit_for, expected_for, false, flags_with, got_leaving, got_of, got_showing, got_signaling, got_waiting, has, has_armed, has_queues, has_some, held_after, home_of, inl, inr, is_from_lock, is_held}
+use Rattle.ns_word.proofs.Prelude.{is_on_way, is_queuing, is_some, is_woken, judge_of, kept_by, leave_of, left_of, ltb, ltb-true, may_acquire, meets_at, mode_for, mode_released, moved_to, moves, needs_scan, newly_held, not, opening_for, outcome_taken, owed_after, pay_releasing, pay_waiting}
+use Rattle.ns_word.proofs.Prelude.{pay_woken, pays, phase_before, phase_by, phase_for, phase_kept, place_awaits, queued, refl, releasing_of, rest_or_look, row_in, section_of, signal_legal, slice_set, standing_after, standing_next, stands_at, subst, suc, sum_by, sym, taken_by, taken_set, times_in}
+use Rattle.ns_word.proofs.Prelude.{times_signaled, tries_of, true, variable_told, wait_has_queues, waited_in, waiters_of, waits_in, wake_of, wakes_of, walk_after, want_of, want_showing, want_signaling, want_waiting, was_woken, who_of, with_lock, without, without_in, woken_by, woken_of}
+use Rattle.ns_word.proofs.Prelude.{woken_phases, word_acquired, word_released, word_released_returning, word_returned, word_seen, word_taken, zero, ℕ, ◌&&◌, ◌++◌, ◌+◌, ◌<◌, ◌||◌, ◌∙◌, ◌∷◌, ◌≡◌, ◌≢◌, ◌≤◌, ◌⊎◌}
 use Rattle.ns_model.specs.declared.phase.Phase.TheVariants.{Woken}
+use Rattle.ns_word.proofs.Listed.{none_of}
 use Rattle.ns_word.proofs.Groups.{Homed, Known, Groups, groups_of, lawful_by}
-use Rattle.ns_word.proofs.Knows.{nothing_called, rests as known_rests, takes as known_takes}
+use Rattle.ns_word.proofs.Knows.{rests as known_rests, takes as known_takes}
 use Rattle.ns_word.proofs.Views.{apart_parts, view_of, each_parts, walk_here}
 use Rattle.ns_word.proofs.Leaving.{left_event, left_told, not_left}
 use Rattle.ns_word.proofs.Variables.{are_waiting}
@@ -20,10 +21,12 @@ use Rattle.ns_word.proofs.Owns.{long_eligible}
 use Rattle.ns_word.proofs.CountsIn.{counts_somewhere, cvs_left, out_of_cvs, out_of_lock}
 use Rattle.ns_word.proofs.Ranges.{counts_once, lists_orderly}
 use Rattle.ns_word.proofs.Safes.{section, same_section}
-use Rattle.ns_word.proofs.Seen.{packable, found_fits, seen_next}
+use Rattle.ns_word.proofs.Follows.{follows}
+use Rattle.ns_word.proofs.Seen.{packable, found_fits}
 use Rattle.ns_word.proofs.Scans.{some_wakes}
-use Rattle.ns_word.proofs.Keeps.{Same, Stays, none_of, rests, acquires, stores, releases, takes, arms, enqueues, withdraws, returns, leaves as leaves_variable, scans, waits, waits_on, waits_for, wakes, sees, wakes_waiters}
-use Rattle.ns_word.proofs.Leads.{Leads, none_settled, shown_settled, try_leads, acquire_leads, acquired_leads, test_leads, met_leads, shown_section, queue_leads, leave_leads, rest_leads, pay_waiting_leads, release_leads, scan_leads, taken_leads, quiet_leads, judged_leads, pay_leads, calm_release}
+use Rattle.ns_word.proofs.Keeps.{PutsBack, Same, Stays, rests, acquires, stores, releases, takes, arms, enqueues, withdraws, returns, leaves as leaves_variable, scans, waits, waits_on, waits_for, wakes, sees, wakes_waiters}
+use Rattle.ns_word.proofs.Leads.{Leads, leads_to, none_settled, shown_settled, try_leads, acquire_leads, acquired_leads, test_leads, met_leads, shown_section, queue_leads, leave_leads, rest_leads}
+use Rattle.ns_word.proofs.Leads.{pay_waiting_leads, release_leads, scan_leads, taken_leads, quiet_leads, judged_leads, pay_leads, calm_release}
 use Rattle.ns_word.proofs.Leads.{load_leads, armed_leads, signal_leads, pay_woken_leads, show_leads}
 
 -- whether one that leaves found itself in the list
@@ -65,19 +68,6 @@ part_of_list waking ws seat = omega (arith, parts_of waking ws seat)
 from_by : (C : Type 0) (waking : Waking) (k : ℕ) (owes : Bool) (owed : List Owed) → owes ≡ has_some owed → (calls_from_lock {C = C} (walk_after (pay_woken waking k owes)) ≡ false) ⊎ (owed ≡ [])
 from_by C waking k true owed e = inl refl
 from_by C waking k false owed e = inr (none_of owed (sym e))
-
-from_others : (C : Type 0) (waking : Waking) (k : ℕ) (owes : Bool) (owed : List Owed) → owes ≡ has_some owed → (seat : ℕ) → ◌≡◌ {A = ℕ} (cond (calls_from_lock {C = C} (walk_after (pay_woken waking k owes))) (times_among seat owed) 0) 0
-from_others C waking k owes owed e seat = elim (from_by C waking k owes owed e) [
-  | inl other ↦ ap (λ b. cond b (times_among seat owed) 0) other
-  | inr none ↦ nothing_called (walk_after (pay_woken {C = C} waking k owes)) owed seat none
-]
-
--- and what they are owed still tells so
-told_on : (C : Type 0) (waking : Waking) (k : ℕ) (owes : Bool) (owed : List Owed) → owes ≡ has_some owed → Every (Tells false) owed → Every (Tells (calls_from_lock {C = C} (walk_after (pay_woken waking k owes)))) owed
-told_on C waking k owes owed e told = elim (from_by C waking k owes owed e) [
-  | inl other ↦ subst (λ b. Every (Tells b) owed) (sym other) told
-  | inr none ↦ subst (λ xs. Every (Tells (calls_from_lock {C = C} (walk_after (pay_woken waking k owes)))) xs) (sym none) tt
-]
 
 paid_phase : {C : Type 0} (releasing : Releasing) (b : Bool) → phase_by (walk_after (pay_releasing {C = C} releasing b)) ≡ phase_by {C = C} None
 paid_phase releasing true = refl
@@ -149,7 +139,7 @@ module _ {C : Type 0} {N : ℕ} (truths : Truths C) (seats : ℕ) (h : List (Eve
   finds : (walk : Walk C) (next : Option (Walk C)) (part part' : Part C N) (commits : List (Event C N)) → part' ≡ part → commits ≡ [] → pays (Some walk) ≡ false → Leads truths (Some walk) next part.held →
       Groups truths seats h (at part (Some walk)) → Kept commits part' next
   finds walk next part part' commits e f idle fits p =
-      moved next part part' [] commits e f (none_more (at part next) (rests truths seats h front who (Some walk) next back part.word part.row part.lists part.flags part.held part.held part.owed idle fits.0 fits.1 fits.2 fits.3 (same_section (Some walk) next part.held fits.4) p))
+      moved next part part' [] commits e f (none_more (at part next) (rests truths seats h front who (Some walk) next back part.word part.row part.lists part.flags part.held part.held part.owed idle fits.place fits.same fits.queuing fits.way (same_section (Some walk) next part.held fits.stays) p))
 
   -- the part with another section
   with_held : (walk : Walk C) (part : Part C N) (held : Option (Held C N)) → part.held ≡ held → Groups truths seats h (at part (Some walk)) → Groups truths seats h (at (record part { held = held }) (Some walk))
@@ -269,6 +259,10 @@ module _ {C : Type 0} {N : ℕ} (truths : Truths C) (seats : ℕ) (h : List (Eve
       let woken = woken_of (meets_at truths part.row) part.lists.lock in let lists = waited_in truths who wait again part.row part.lists in
       record part { word = word_released_returning (releasing_of wait.mode) (has_some woken) (bits_of lists.lock) word; lists = lists; held = None; owed = called_of woken }
 
+  puts_back : (wait : Wait C) (again : Bool) (last : Word) (owes : Bool) (took : List Owed) → owes ≡ has_some took → PutsBack (Some (InWait wait (InQueuing again (QueueToWait last)))) (walk_after (pay_waiting wait owes)) took
+  puts_back wait again last true took e = record { idle = refl; owes = e; from = refl; had = refl; gave = refl; still = refl; unarmed = refl; unqueued = refl; off_way = λ flag n. refl }
+  puts_back wait again last false took e = record { idle = refl; owes = e; from = refl; had = refl; gave = refl; still = refl; unarmed = refl; unqueued = refl; off_way = λ flag n. refl }
+
   -- a wait queues, and leaves its section; one that queues again says nothing of it
   queued_up : (mode : Mode) (on : Subject C) (limits : Limits) (again : Bool) (last : Word) (owes : Bool) (tests : ℕ) (part next : Part C N) (commits : List (Event C N)) → seats ≤ 64 → let wait : Wait C = record { mode = mode; on = on; limits = limits } in
       Effect truths who (WaitReturning wait again last) part (Scanned owes tests) next commits → Groups truths seats h (at part (Some (InWait wait (InQueuing again (QueueToWait last))))) → Kept commits next (walk_after (pay_waiting wait owes))
@@ -281,7 +275,7 @@ module _ {C : Type 0} {N : ℕ} (truths : Truths C) (seats : ℕ) (h : List (Eve
       moved (walk_after (pay_waiting wait owes)) (put_back wait false part part.word) next (section_of truths.holds who (section mode held.entry held.before held.row) (CondWait c) ∷ []) commits
       (e.4 ∙ ap (put_back wait false part) e.3) (said_of held mode (CondWait c) commits e.2 e.7)
       (waits truths seats h front who (Some walk) (walk_after (pay_waiting wait owes)) back (releasing_of mode) mode c false part.word part.row part.lists part.flags held.entry held.before held.row part.owed few (may.settled refl)
-      may.unmet (left_mode mode) (subst (λ x. IsExpected x (Cond c mode)) (sym to.7) refl) (to.0 refl tt) refl (to.1 ∙ e.5) to.6 refl to.2 refl to.3 refl to.4 to.5 (λ flag n. refl) (in_its_mode walk part held mode e.1 e.2 p))
+      may.unmet (left_mode mode) (subst (λ x. IsExpected x (Cond c mode)) (sym to.7) refl) (to.0 refl tt) (puts_back wait false last owes _ e.5) refl to.3 (in_its_mode walk part held mode e.1 e.2 p))
   queued_up mode (OnCondition c) limits true last owes tests part next commits few e p =
       let wait : Wait C = record { mode = mode; on = OnCondition c; limits = limits } in
       let held = e.0 in
@@ -291,7 +285,7 @@ module _ {C : Type 0} {N : ℕ} (truths : Truths C) (seats : ℕ) (h : List (Eve
       let back_from = (may.back refl).1 in
       moved (walk_after (pay_waiting wait owes)) (put_back wait true part part.word) next [] commits (e.4 ∙ ap (put_back wait true part) e.3) e.7
       (none_more _ (waits_on truths seats h front who (Some walk) (walk_after (pay_waiting wait owes)) back (releasing_of mode) mode c true part.word part.row part.lists part.flags held.entry held.before held.row part.owed
-      may.unmet (left_mode mode) back_from.cells (ap (λ entry. phase_before mode entry) back_from.entry) (subst (λ x. IsExpected x (Cond c mode)) (sym to.7) refl) (to.0 refl tt) refl (to.1 ∙ e.5) to.6 refl to.2 refl to.3 refl to.4 to.5 (λ flag n. refl)
+      may.unmet (left_mode mode) back_from.cells (ap (λ entry. phase_before mode entry) back_from.entry) (subst (λ x. IsExpected x (Cond c mode)) (sym to.7) refl) (to.0 refl tt) (puts_back wait true last owes _ e.5) refl to.3
       (in_its_mode walk part held mode e.1 e.2 p)))
   queued_up mode (OnVariables variables) limits false last owes tests part next commits few e p =
       let wait : Wait C = record { mode = mode; on = OnVariables variables; limits = limits } in
@@ -302,7 +296,7 @@ module _ {C : Type 0} {N : ℕ} (truths : Truths C) (seats : ℕ) (h : List (Eve
       moved (walk_after (pay_waiting wait owes)) (put_back wait false part part.word) next (section_of truths.holds who (section mode held.entry held.before held.row) (exit_for (OnVariables variables)) ∷ []) commits
       (e.4 ∙ ap (put_back wait false part) e.3) (said_of held mode (exit_for (OnVariables variables)) commits e.2 e.7)
       (waits_for truths seats h front who (Some walk) (walk_after (pay_waiting wait owes)) back (releasing_of mode) mode variables part.word part.row part.lists part.flags held.entry held.before held.row part.owed few may.unmet (may.settled refl)
-      (left_mode mode) (subst (λ x. IsExpected x (Waiting variables mode)) (sym to.7) (inl refl)) (to.0 refl may.unmet) refl (to.1 ∙ e.5) to.6 refl to.2 refl to.3 refl to.4 to.5 (λ flag n. refl) (in_its_mode walk part held mode e.1 e.2 p))
+      (left_mode mode) (subst (λ x. IsExpected x (Waiting variables mode)) (sym to.7) (inl refl)) (to.0 refl may.unmet) (puts_back wait false last owes _ e.5) refl to.3 (in_its_mode walk part held mode e.1 e.2 p))
   queued_up mode (OnVariables variables) limits true last owes tests part next commits few e p =
       let wait : Wait C = record { mode = mode; on = OnVariables variables; limits = limits } in
       let walk = InWait wait (InQueuing true (QueueToWait last)) in
@@ -375,80 +369,67 @@ module _ {C : Type 0} {N : ℕ} (truths : Truths C) (seats : ℕ) (h : List (Eve
       (woken_at waking k last owes part (is_held part.word) (has_some took) few refl refl (ap owes_in same.0) p)
 
   by_wait : (wait : Wait C) (at_place : WaitPlace) (found : Found) (part next : Part C N) (commits : List (Event C N)) → seats ≤ 64 → 0 < N →
-      Effect truths who (want_waiting wait at_place) part found next commits → Groups truths seats h (at part (Some (InWait wait at_place))) → Kept commits next (walk_after (got_waiting N wait at_place found))
+      Effect truths who (want_waiting wait at_place) part found next commits → PlaceFits truths (Some (InWait wait at_place)) part.held → Groups truths seats h (at part (Some (InWait wait at_place))) → Kept commits next (walk_after (got_waiting N wait at_place found))
   -- it tests its condition
-  by_wait wait (TestCells visit i) (Cell v) part next commits few some e p = finds (InWait wait (TestCells visit i)) _ part next commits e.1 e.2 refl
-      (test_leads truths wait visit part.held (i + 1) some (place (InWait wait (TestCells visit i)) part p).0.0 (place (InWait wait (TestCells visit i)) part p).1
-      (place (InWait wait (TestCells visit i)) part p).0.2) p
-  by_wait wait (TestLast visit i) found part next commits few some e p = tested wait.mode wait.on wait.limits visit i found part next commits e p
+  by_wait wait (TestCells visit i) (Cell v) part next commits few some e here p = finds (InWait wait (TestCells visit i)) _ part next commits e.1 e.2 refl (test_leads truths wait visit part.held (i + 1) some here.0.0 here.1
+      here.0.2) p
+  by_wait wait (TestLast visit i) found part next commits few some e here p = tested wait.mode wait.on wait.limits visit i found part next commits e p
   -- it looks
-  by_wait wait (InQueuing again LookIn) (Looked None) part next commits few some e p = finds (InWait wait (InQueuing again LookIn)) _ part next commits e.1 e.2 refl ((((place (InWait wait (InQueuing again LookIn)) part p).0.0, tt), tt), (refl, refl, refl, refl), refl, λ flag n f. f, λ none. refl) p
-  by_wait wait (InQueuing again LookIn) (Looked (Some cause)) part next commits few some e p =
+  by_wait wait (InQueuing again LookIn) (Looked None) part next commits few some e here p = finds (InWait wait (InQueuing again LookIn)) _ part next commits e.1 e.2 refl (leads_to truths refl ((here.0.0, tt), tt)) p
+  by_wait wait (InQueuing again LookIn) (Looked (Some cause)) part next commits few some e here p =
       moved None (record part { held = held_after again (Some cause) part.held }) next [] commits e.1 e.2
       (none_more _ (rests truths seats h front who (Some (InWait wait (InQueuing again LookIn))) None back part.word part.row part.lists part.flags part.held
-      (held_after again (Some cause) part.held) part.owed refl (shown_settled truths wait again cause part.held (place (InWait wait (InQueuing again LookIn)) part p).0.0)
-      (refl, refl, refl, refl) refl (λ flag n f. f)
-      (shown_section truths wait again cause part.held (place (InWait wait (InQueuing again LookIn)) part p).0.0) p))
-  by_wait wait LookOut (Looked None) part next commits few some e p = finds (InWait wait LookOut) _ part next commits e.1 e.2 refl (place (InWait wait LookOut) part p, (refl, refl, refl, refl), refl, λ flag n f. f, λ none. refl) p
-  by_wait wait LookOut (Looked (Some cause)) part next commits few some e p =
-      let here = (place (InWait wait LookOut) part p).0 in
-      finds (InWait wait LookOut) _ part next commits e.1 e.2 refl (((here.0, tt, here.1), e.0), (refl, refl, refl, refl), refl, λ flag n f. f, λ none. refl) p
+      (held_after again (Some cause) part.held) part.owed refl (shown_settled truths wait again cause part.held here.0.0) (refl, refl, refl, refl) refl (λ flag n f. f) (shown_section truths wait again cause part.held here.0.0) p))
+  by_wait wait LookOut (Looked None) part next commits few some e here p = finds (InWait wait LookOut) _ part next commits e.1 e.2 refl (leads_to truths refl here) p
+  by_wait wait LookOut (Looked (Some cause)) part next commits few some e here p =
+      finds (InWait wait LookOut) _ part next commits e.1 e.2 refl (leads_to truths refl ((here.0.0, tt, here.0.1), e.0)) p
   -- it sees the word
-  by_wait wait (InQueuing again Load) (Saw word) part next commits few some e p = finds (InWait wait (InQueuing again Load)) _ part next commits e.1 e.2 refl (queue_leads truths wait again word part.held (place (InWait wait (InQueuing again Load)) part p).0.0) p
-  by_wait wait (InQueuing again (Take last)) (Saw word) part next commits few some e p = finds (InWait wait (InQueuing again (Take last))) _ part next commits e.2 e.3 refl (queue_leads truths wait again word part.held (place (InWait wait (InQueuing again (Take last))) part p).0.0) p
-  by_wait wait (InQueuing again (QueueToWait last)) (Saw word) part next commits few some e p = finds (InWait wait (InQueuing again (QueueToWait last))) _ part next commits e.2 e.3 refl
-      (place (InWait wait (InQueuing again (QueueToWait last))) part p, (refl, refl, refl, refl), refl, λ flag n f. f, λ none. refl) p
-  by_wait wait (InLeaving cause LeaveLoad) (Saw word) part next commits few some e p = finds (InWait wait (InLeaving cause LeaveLoad)) _ part next commits e.1 e.2 refl
-      (leave_leads truths wait cause word part.held (place (InWait wait (InLeaving cause LeaveLoad)) part p).0.0 (place (InWait wait (InLeaving cause LeaveLoad)) part p).0.2
-      (place (InWait wait (InLeaving cause LeaveLoad)) part p).1) p
-  by_wait wait (InLeaving cause (TakeToLeave last)) (Saw word) part next commits few some e p = finds (InWait wait (InLeaving cause (TakeToLeave last))) _ part next commits e.2 e.3 refl
-      (leave_leads truths wait cause word part.held (place (InWait wait (InLeaving cause (TakeToLeave last))) part p).0.0
-      (place (InWait wait (InLeaving cause (TakeToLeave last))) part p).0.2 (place (InWait wait (InLeaving cause (TakeToLeave last))) part p).1) p
-  by_wait wait (InLeaving cause (Leave last)) (Saw word) part next commits few some e p = finds (InWait wait (InLeaving cause (Leave last))) _ part next commits e.2 e.3 refl (place (InWait wait (InLeaving cause (Leave last))) part p, (refl, refl, refl, refl), refl, λ flag n f. f, λ none. refl) p
+  by_wait wait (InQueuing again Load) (Saw word) part next commits few some e here p = finds (InWait wait (InQueuing again Load)) _ part next commits e.1 e.2 refl (queue_leads truths wait again word part.held here.0.0) p
+  by_wait wait (InQueuing again (Take last)) (Saw word) part next commits few some e here p = finds (InWait wait (InQueuing again (Take last))) _ part next commits e.2 e.3 refl (queue_leads truths wait again word part.held here.0.0) p
+  by_wait wait (InQueuing again (QueueToWait last)) (Saw word) part next commits few some e here p = finds (InWait wait (InQueuing again (QueueToWait last))) _ part next commits e.2 e.3 refl (leads_to truths refl here) p
+  by_wait wait (InLeaving cause LeaveLoad) (Saw word) part next commits few some e here p = finds (InWait wait (InLeaving cause LeaveLoad)) _ part next commits e.1 e.2 refl
+      (leave_leads truths wait cause word part.held here.0.0 here.0.2 here.1) p
+  by_wait wait (InLeaving cause (TakeToLeave last)) (Saw word) part next commits few some e here p = finds (InWait wait (InLeaving cause (TakeToLeave last))) _ part next commits e.2 e.3 refl
+      (leave_leads truths wait cause word part.held here.0.0 here.0.2 here.1) p
+  by_wait wait (InLeaving cause (Leave last)) (Saw word) part next commits few some e here p = finds (InWait wait (InLeaving cause (Leave last))) _ part next commits e.2 e.3 refl (leads_to truths refl here) p
   -- it takes the queues, and sets its flag
-  by_wait wait (InQueuing again (Take last)) Made part next commits few some e p = wait_took wait (InQueuing again (Take last))
-      (InQueuing again (ArmToWait (word_taken ToChange last))) last part next commits e.0 e.1 e.2 e.3 refl
-      (((place (InWait wait (InQueuing again (Take last))) part p).0.0, tt), tt) refl refl refl refl refl p
-  by_wait wait (InLeaving cause (TakeToLeave last)) Made part next commits few some e p = wait_took wait (InLeaving cause (TakeToLeave last))
-      (InLeaving cause (Leave (word_taken ToChange last))) last part next commits e.0 e.1 e.2 e.3 refl
-      (((place (InWait wait (InLeaving cause (TakeToLeave last))) part p).0.0, tt, (place (InWait wait (InLeaving cause (TakeToLeave last))) part p).0.2), (place (InWait wait (InLeaving cause (TakeToLeave last))) part p).1) refl refl refl refl refl p
-  by_wait wait (InQueuing again (ArmToWait last)) Made part next commits few some e p =
+  by_wait wait (InQueuing again (Take last)) Made part next commits few some e here p = wait_took wait (InQueuing again (Take last))
+      (InQueuing again (ArmToWait (word_taken ToChange last))) last part next commits e.0 e.1 e.2 e.3 refl ((here.0.0, tt), tt) refl refl refl refl refl p
+  by_wait wait (InLeaving cause (TakeToLeave last)) Made part next commits few some e here p = wait_took wait (InLeaving cause (TakeToLeave last))
+      (InLeaving cause (Leave (word_taken ToChange last))) last part next commits e.0 e.1 e.2 e.3 refl ((here.0.0, tt, here.0.2), here.1) refl refl refl refl refl p
+  by_wait wait (InQueuing again (ArmToWait last)) Made part next commits few some e here p =
       let walk = InWait wait (InQueuing again (ArmToWait last)) in
-      let to = armed_leads truths wait wait.on again last part.held (place walk part p).0.0 in
+      let to = armed_leads truths wait wait.on again last part.held here.0.0 in
       moved (Some (InWait wait (InQueuing again (armed_place N wait.on last)))) (record part { flags = flags_with part.flags who 1 }) next [] commits e.0 e.1
-      (none_more _ (arms truths seats h front who (Some walk) (Some (InWait wait (InQueuing again (armed_place N wait.on last)))) back part.word part.row part.lists part.flags part.held part.owed refl to.0 to.1.0 to.1.1 refl to.1.2 to.2 (λ flag n. refl) to.4 p))
-  by_wait wait (InQueuing again (LoadToScan last i)) (Cell v) part next commits few some e p =
-      finds (InWait wait (InQueuing again (LoadToScan last i))) _ part next commits e.1 e.2 refl (load_leads truths wait again last part.held (i + 1) (place (InWait wait (InQueuing again (LoadToScan last i))) part p).0.0) p
+      (none_more _ (arms truths seats h front who (Some walk) (Some (InWait wait (InQueuing again (armed_place N wait.on last)))) back part.word part.row part.lists part.flags part.held part.owed refl to.place to.same.0 to.same.1 refl to.same.2 to.queuing (λ flag n. refl) to.stays p))
+  by_wait wait (InQueuing again (LoadToScan last i)) (Cell v) part next commits few some e here p =
+      finds (InWait wait (InQueuing again (LoadToScan last i))) _ part next commits e.1 e.2 refl (load_leads truths wait again last part.held (i + 1) here.0.0) p
   -- it queues, and leaves its section
-  by_wait wait (InQueuing again (QueueToWait last)) (Scanned owes tests) part next commits few some e p = queued_up wait.mode wait.on wait.limits again last owes tests part next commits few e p
+  by_wait wait (InQueuing again (QueueToWait last)) (Scanned owes tests) part next commits few some e here p = queued_up wait.mode wait.on wait.limits again last owes tests part next commits few e p
   -- it pays a wake
-  by_wait wait PayInWait (Paid owes) part next commits few some e p =
+  by_wait wait PayInWait (Paid owes) part next commits few some e here p =
       let to = pay_waiting_leads truths wait part.held owes in
-      let here = (place (InWait wait PayInWait) part p).0 in
       moved (walk_after (pay_waiting wait owes)) (record part { flags = flags_with part.flags e.0.seat e.0.value; owed = e.1 }) next [] commits e.3 e.5
       (none_more _ (wakes truths seats h front who (Some (InWait wait PayInWait)) (walk_after (pay_waiting wait owes)) back part.word part.row part.lists part.flags part.held e.0 e.1
-      (λ seat. ap (λ b. cond b (times_among seat e.1) 0) to.6) (to.0 here.0 here.1) (to.1 ∙ e.4) (λ told. subst (λ b. Every (Tells b) e.1) (sym to.6) told) to.2 to.3 to.8 to.4 to.5 (λ n. to.7)
+      (inl to.6) (to.0 here.0.0 here.0.1) (to.1 ∙ e.4) to.2 to.3 to.8 to.4 to.5 (λ n. to.7)
       (subst (λ owed. Groups truths seats h (at (record part { owed = owed }) (Some (InWait wait PayInWait)))) e.2 p)))
   -- it looks at its flag
-  by_wait wait AwaitWakeInWait (Flag v) part next commits few some e p =
-      let here = (place (InWait wait AwaitWakeInWait) part p).0 in
-      checks (InWait wait AwaitWakeInWait) (ForWait wait (woken_by wait.on v)) 0 (rest_or_look wait) v (eqb v 1) part next commits refl e.0 e.1 e.2 here.0 refl refl refl refl
-      (λ ph told. let is = woken_so wait.on wait.mode v ph told in (is.0, (is.1, tt))) (rest_leads truths wait part.held here.0 here.1) p
-  by_wait wait (InLeaving cause AwaitWakeToLeave) (Flag v) part next commits few some e p =
-      let here = place (InWait wait (InLeaving cause AwaitWakeToLeave)) part p in
+  by_wait wait AwaitWakeInWait (Flag v) part next commits few some e here p =
+      checks (InWait wait AwaitWakeInWait) (ForWait wait (woken_by wait.on v)) 0 (rest_or_look wait) v (eqb v 1) part next commits refl e.0 e.1 e.2 here.0.0 refl refl refl refl
+      (λ ph told. let is = woken_so wait.on wait.mode v ph told in (is.0, (is.1, tt))) (rest_leads truths wait part.held here.0.0 here.0.1) p
+  by_wait wait (InLeaving cause AwaitWakeToLeave) (Flag v) part next commits few some e here p =
       checks (InWait wait (InLeaving cause AwaitWakeToLeave)) (ForWait wait (outcome_taken wait.on cause v)) 0 (Idle (InWait wait (InLeaving cause AwaitWakeToLeave))) v (eqb v 1) part next commits refl e.0 e.1 e.2 here.0.0 refl refl refl refl
-      (λ ph told. let is = taken_so wait.on wait.mode cause v ph told in (is.0, (is.1, taken_given wait.on wait.limits cause v here.1))) (here, (refl, refl, refl, refl), refl, λ flag n f. f, λ none. refl) p
+      (λ ph told. let is = taken_so wait.on wait.mode cause v ph told in (is.0, (is.1, taken_given wait.on wait.limits cause v here.1))) (leads_to truths refl here) p
   -- it leaves
-  by_wait wait (InLeaving cause (Leave last)) (Left stood) part next commits few some e p =
-      let here = place (InWait wait (InLeaving cause (Leave last))) part p in
+  by_wait wait (InLeaving cause (Leave last)) (Left stood) part next commits few some e here p =
       let whole = at part (Some (InWait wait (InLeaving cause (Leave last)))) in
       let stands = ap stood_in e.0 in
       withdrawn wait.mode wait.on wait.limits cause last stood part next commits stands e.1 (e.2 ∙ ap
       (λ b. record part { word = word_returned false (bits_of (cond b (without who part.lists) part.lists).lock) last; lists = cond b (without who part.lists) part.lists }) stands) e.3 here.0.0 here.1 here.0.2 few
       (counts_once truths seats h whole p.placed p.safe.one_history.each who) p
-  by_wait wait (InLeaving cause (Leave last)) Made part next commits few some e p = let never : Left (stands_at who (home_of wait.on) part.lists) ≡ Made = e.0 in absurd (cc)
-  by_wait wait (InLeaving cause (Leave last)) (Woke owes) part next commits few some e p = let never : Left (stands_at who (home_of wait.on) part.lists) ≡ Woke owes = e.0 in absurd (cc)
-  by_wait wait _ _ part next commits few some e p = absurd e
+  by_wait wait (InLeaving cause (Leave last)) Made part next commits few some e here p = let never : Left (stands_at who (home_of wait.on) part.lists) ≡ Made = e.0 in absurd (cc)
+  by_wait wait (InLeaving cause (Leave last)) (Woke owes) part next commits few some e here p = let never : Left (stands_at who (home_of wait.on) part.lists) ≡ Woke owes = e.0 in absurd (cc)
+  by_wait wait _ _ part next commits few some e here p = absurd e
 
   not_made : (waking : Waking) (k : ℕ) (last : Word) (part : Part C N) → change_found who (WakeWaiters waking k) last part.lists ≡ Made → ⊥
   not_made waking k last part e = let never : Woke (not (is_held last) && has_some (taken_by waking (waiters_of part.lists (Cv k)))) ≡ Made = e in absurd (cc)
@@ -459,171 +440,154 @@ module _ {C : Type 0} {N : ℕ} (truths : Truths C) (seats : ℕ) (h : List (Eve
   -- ---- calls that wake
 
   by_signal : (waking : Waking) (k : ℕ) (at_place : SignalPlace) (found : Found) (part next : Part C N) (commits : List (Event C N)) → seats ≤ 64 →
-      Effect truths who (want_signaling waking k at_place) part found next commits → Groups truths seats h (at part (Some (InSignal waking k at_place))) → Kept commits next (walk_after (got_signaling waking k at_place found))
-  by_signal waking k SignalLoad (Saw word) part next commits few e p =
-      let here = place (InSignal waking k SignalLoad) part p in
+      Effect truths who (want_signaling waking k at_place) part found next commits → PlaceFits truths (Some (InSignal waking k at_place)) part.held → Groups truths seats h (at part (Some (InSignal waking k at_place))) → Kept commits next (walk_after (got_signaling waking k at_place found))
+  by_signal waking k SignalLoad (Saw word) part next commits few e here p =
       finds (InSignal waking k SignalLoad) _ part next commits e.1 e.2 refl (signal_leads truths waking k word part.held here.1 here.2) p
-  by_signal waking k (TakeToWake last) (Saw word) part next commits few e p =
-      let here = place (InSignal waking k (TakeToWake last)) part p in
+  by_signal waking k (TakeToWake last) (Saw word) part next commits few e here p =
       finds (InSignal waking k (TakeToWake last)) _ part next commits e.2 e.3 refl (signal_leads truths waking k word part.held here.1 here.2) p
-  by_signal waking k (WakeAndReturn last) (Saw word) part next commits few e p =
-      finds (InSignal waking k (WakeAndReturn last)) _ part next commits e.2 e.3 refl (place (InSignal waking k (WakeAndReturn last)) part p, (refl, refl, refl, refl), refl, λ flag n f. f, λ none. refl) p
-  by_signal waking k (TakeToWake last) Made part next commits few e p =
+  by_signal waking k (WakeAndReturn last) (Saw word) part next commits few e here p =
+      finds (InSignal waking k (WakeAndReturn last)) _ part next commits e.2 e.3 refl (leads_to truths refl here) p
+  by_signal waking k (TakeToWake last) Made part next commits few e here p =
       let walk = InSignal waking k (TakeToWake last) in
       let to = InSignal waking k (WakeAndReturn (word_taken ToChange last)) in
-      let here = place walk part p in
       took walk to ToChange last part next commits e.0 e.1 e.2 e.3 refl (tt, here.1, here.2) refl refl refl refl refl (λ none. refl)
       (λ apart homed known. known_rests truths.holds front who (Some walk) part.held part.owed (Some to) part.held part.owed back part.word (word_taken ToChange part.word) (standing_after h).row part.lists.lock part.flags apart (λ seat. refl) refl refl refl refl refl refl (λ flag n f. f) known) p
-  by_signal waking k (WakeAndReturn last) (Woke owes) part next commits few e p = woken_up waking k last owes part next commits few e p
-  by_signal waking k (WakeAndReturn last) Made part next commits few e p = absurd (not_made waking k last part e.0)
-  by_signal waking k (WakeAndReturn last) (Left stood) part next commits few e p = absurd (not_left_so waking k last stood part e.0)
-  by_signal waking k PayTheWoken (Paid owes) part next commits few e p =
+  by_signal waking k (WakeAndReturn last) (Woke owes) part next commits few e here p = woken_up waking k last owes part next commits few e p
+  by_signal waking k (WakeAndReturn last) Made part next commits few e here p = absurd (not_made waking k last part e.0)
+  by_signal waking k (WakeAndReturn last) (Left stood) part next commits few e here p = absurd (not_left_so waking k last stood part e.0)
+  by_signal waking k PayTheWoken (Paid owes) part next commits few e here p =
       let walk = InSignal waking k PayTheWoken in
-      let here = place walk part p in
       let to = pay_woken_leads truths waking k part.held owes in
       moved (walk_after (pay_woken waking k owes)) (record part { flags = flags_with part.flags e.0.seat e.0.value; owed = e.1 }) next [] commits e.3 e.5
       (none_more _ (wakes truths seats h front who (Some walk) (walk_after (pay_woken waking k owes)) back part.word part.row part.lists part.flags part.held e.0 e.1
-      (λ seat. from_others C waking k owes e.1 e.4 seat) (to.0 here.1 here.2) (to.1 ∙ e.4) (told_on C waking k owes e.1 e.4) to.2 to.3 to.8 to.4 to.5 (λ n. to.7)
+      (from_by C waking k owes e.1 e.4) (to.0 here.1 here.2) (to.1 ∙ e.4) to.2 to.3 to.8 to.4 to.5 (λ n. to.7)
       (subst (λ owed. Groups truths seats h (at (record part { owed = owed }) (Some walk))) e.2 p)))
-  by_signal waking k _ _ part next commits few e p = absurd e
+  by_signal waking k _ _ part next commits few e here p = absurd e
 
   -- ---- calls that show
 
   by_show : (at_place : ShowPlace) (found : Found) (part next : Part C N) (commits : List (Event C N)) →
-      Effect truths who (want_showing at_place) part found next commits → Groups truths seats h (at part (Some (InShow at_place))) → Kept commits next (walk_after (got_showing at_place found))
-  by_show ShowLoad (Saw word) part next commits e p =
-      finds (InShow ShowLoad) _ part next commits e.1 e.2 refl (show_leads truths word part.held (place (InShow ShowLoad) part p).1) p
-  by_show (TakeToShow last) (Saw word) part next commits e p =
-      finds (InShow (TakeToShow last)) _ part next commits e.2 e.3 refl (show_leads truths word part.held (place (InShow (TakeToShow last)) part p).1) p
-  by_show (ReturnShown last) (Saw word) part next commits e p =
-      finds (InShow (ReturnShown last)) _ part next commits e.2 e.3 refl (place (InShow (ReturnShown last)) part p, (refl, refl, refl, refl), refl, λ flag n f. f, λ none. refl) p
-  by_show (TakeToShow last) Made part next commits e p =
+      Effect truths who (want_showing at_place) part found next commits → PlaceFits truths (Some (InShow at_place)) part.held → Groups truths seats h (at part (Some (InShow at_place))) → Kept commits next (walk_after (got_showing at_place found))
+  by_show ShowLoad (Saw word) part next commits e here p =
+      finds (InShow ShowLoad) _ part next commits e.1 e.2 refl (show_leads truths word part.held here.1) p
+  by_show (TakeToShow last) (Saw word) part next commits e here p =
+      finds (InShow (TakeToShow last)) _ part next commits e.2 e.3 refl (show_leads truths word part.held here.1) p
+  by_show (ReturnShown last) (Saw word) part next commits e here p =
+      finds (InShow (ReturnShown last)) _ part next commits e.2 e.3 refl (leads_to truths refl here) p
+  by_show (TakeToShow last) Made part next commits e here p =
       let walk = InShow (TakeToShow last) in
       let to = InShow (ReturnShown (word_taken ToChange last)) in
-      took walk to ToChange last part next commits e.0 e.1 e.2 e.3 refl (tt, (place walk part p).1) refl refl refl refl refl (λ none. refl)
+      took walk to ToChange last part next commits e.0 e.1 e.2 e.3 refl (tt, here.1) refl refl refl refl refl (λ none. refl)
       (λ apart homed known. known_rests truths.holds front who (Some walk) part.held part.owed (Some to) part.held part.owed back part.word (word_taken ToChange part.word) (standing_after h).row part.lists.lock part.flags apart (λ seat. refl) refl refl refl refl refl refl (λ flag n f. f) known) p
-  by_show (ReturnShown last) Made part next commits e p =
+  by_show (ReturnShown last) Made part next commits e here p =
       moved None (record part { word = word_returned false (bits_of part.lists.lock) part.word }) next [] commits (e.2 ∙ ap (λ word. record part { word = word_returned false (bits_of part.lists.lock) word }) e.1) e.3
       (none_more _ (returns truths seats h front who (Some (InShow (ReturnShown last))) None back part.word part.row part.lists part.flags part.held part.owed refl
-      (place (InShow (ReturnShown last)) part p).1 refl refl refl refl refl refl refl (λ flag n f. f) (λ none. refl) p))
-  by_show (ReturnShown last) (Left stood) part next commits e p = let never : Made ≡ Left stood = e.0 in absurd (cc)
-  by_show (ReturnShown last) (Woke owes) part next commits e p = let never : Made ≡ Woke owes = e.0 in absurd (cc)
-  by_show _ _ part next commits e p = absurd e
+      here.1 refl refl refl refl refl refl refl (λ flag n f. f) (λ none. refl) p))
+  by_show (ReturnShown last) (Left stood) part next commits e here p = let never : Made ≡ Left stood = e.0 in absurd (cc)
+  by_show (ReturnShown last) (Woke owes) part next commits e here p = let never : Made ≡ Woke owes = e.0 in absurd (cc)
+  by_show _ _ part next commits e here p = absurd e
 
   by_walk : (walk : Walk C) (found : Found) (part next : Part C N) (commits : List (Event C N)) → seats ≤ 64 → 0 < N → QuietKeeps N truths →
-      Effect truths who (want_of walk) part found next commits → Groups truths seats h (at part (Some walk)) → Kept commits next (walk_after (got_of N walk found))
+      Effect truths who (want_of walk) part found next commits → PlaceFits truths (Some walk) part.held → Groups truths seats h (at part (Some walk)) → Kept commits next (walk_after (got_of N walk found))
   -- found and no more
-  by_walk (InTry mode TryLoad) (Saw word) part next commits few some quiet e p = finds (InTry mode TryLoad) _ part next commits e.1 e.2 refl (try_leads truths mode word part.held (may_acquire mode AsFresh word) refl (place (InTry mode TryLoad) part p).0) p
-  by_walk (InTry mode (TryAcquire last)) (Saw word) part next commits few some quiet e p = finds (InTry mode (TryAcquire last)) _ part next commits e.2 e.3 refl
-      (none_settled truths part.held (place (InTry mode (TryAcquire last)) part p).0, (refl, refl, refl, refl), refl, λ flag n f. f, λ none. refl) p
-  by_walk (InAcquire aim (AcquireLoad arrival)) (Saw word) part next commits few some quiet e p = finds (InAcquire aim (AcquireLoad arrival)) _ part next commits e.1 e.2 refl
-      (acquire_leads truths aim arrival word part.held (place (InAcquire aim (AcquireLoad arrival)) part p).0 (place (InAcquire aim (AcquireLoad arrival)) part p).2) p
-  by_walk (InAcquire aim (AcquireExchange arrival last)) (Saw word) part next commits few some quiet e p = finds
-      (InAcquire aim (AcquireExchange arrival last)) _ part next commits e.2 e.3 refl (acquire_leads truths aim arrival word part.held
-      (place (InAcquire aim (AcquireExchange arrival last)) part p).0 (place (InAcquire aim (AcquireExchange arrival last)) part p).2) p
-  by_walk (InAcquire aim (TakeToQueue arrival last)) (Saw word) part next commits few some quiet e p = finds (InAcquire aim (TakeToQueue arrival last)) _ part next commits e.2 e.3 refl
-      (acquire_leads truths aim arrival word part.held (place (InAcquire aim (TakeToQueue arrival last)) part p).0 (place (InAcquire aim (TakeToQueue arrival last)) part p).2) p
-  by_walk (InAcquire aim (Queue arrival last)) (Saw word) part next commits few some quiet e p = finds (InAcquire aim (Queue arrival last)) _ part next commits e.2 e.3 refl (place (InAcquire aim (Queue arrival last)) part p, (refl, refl, refl, refl), refl, λ flag n f. f, λ none. refl) p
-  by_walk (InRelease releasing ReleaseLoad) (Saw word) part next commits few some quiet e p = finds (InRelease releasing ReleaseLoad) _ part next commits e.1 e.2 refl (release_leads truths releasing word part.held (place (InRelease releasing ReleaseLoad) part p)) p
-  by_walk (InRelease releasing (ReleaseExchange last)) (Saw word) part next commits few some quiet e p = finds (InRelease releasing (ReleaseExchange last)) _ part next commits e.2 e.3 refl (release_leads truths releasing word part.held (place (InRelease releasing (ReleaseExchange last)) part p).0) p
-  by_walk (InRelease releasing (TakeToScan last)) (Saw word) part next commits few some quiet e p = finds (InRelease releasing (TakeToScan last)) _ part next commits e.2 e.3 refl (release_leads truths releasing word part.held (place (InRelease releasing (TakeToScan last)) part p).0) p
-  by_walk (InRelease releasing (ScanAndRelease last)) (Saw word) part next commits few some quiet e p = finds (InRelease releasing (ScanAndRelease last)) _ part next commits e.2 e.3 refl
-      (place (InRelease releasing (ScanAndRelease last)) part p, (refl, refl, refl, refl), refl, λ flag n f. f, λ none. refl) p
-  by_walk (InCells (GetLoad i)) (Cell v) part next commits few some quiet e p = finds (InCells (GetLoad i)) _ part next commits e.1 e.2 refl ((place (InCells (GetLoad i)) part p).1, (refl, refl, refl, refl), refl, λ flag n f. f, λ none. refl) p
-  by_walk (InCells (SetLoad i v)) (Cell w) part next commits few some quiet e p = finds (InCells (SetLoad i v)) _ part next commits e.1 e.2 refl (place (InCells (SetLoad i v)) part p, (refl, refl, refl, refl), refl, λ flag n f. f, λ none. refl) p
-  by_walk (InRelease releasing (ScanCells last i)) (Cell v) part next commits few some quiet e p = finds (InRelease releasing (ScanCells last i)) _ part next commits e.1 e.2 refl (scan_leads truths releasing last part.held (i + 1) (place (InRelease releasing (ScanCells last i)) part p).0) p
-  by_walk (InCells (QuietCells judging i)) (Cell v) part next commits few some quiet e p =
-      let at_cell = place (InCells (QuietCells judging i)) part p in
-      finds (InCells (QuietCells judging i)) _ part next commits e.1 e.2 refl (quiet_leads truths judging part.held (i + 1) (omega (arith, at_cell.0.1)) at_cell.0.0 at_cell.1) p
-  by_walk (InCells (QuietLast judging i)) (Quiet is_quiet) part next commits few some quiet e p =
-      let at_cell = place (InCells (QuietLast judging i)) part p in
-      let writes : HasMode Write (Some e.0) = subst (λ x. HasMode Write x) e.1 at_cell.0.0 in
-      let settled : IsSettled truths (Some e.0) = subst (λ x. IsSettled truths x) e.1 at_cell.1 in
-      finds (InCells (QuietLast judging i)) _ part next commits e.3 e.4 refl (judged_leads truths judging part.held is_quiet (λ f. subst (λ x. CanLeave truths QuietWriter x) (sym e.1) (writes, sym e.2 ∙ f, settled)) at_cell.1) p
+  by_walk (InTry mode TryLoad) (Saw word) part next commits few some quiet e here p = finds (InTry mode TryLoad) _ part next commits e.1 e.2 refl (try_leads truths mode word part.held here.0) p
+  by_walk (InTry mode (TryAcquire last)) (Saw word) part next commits few some quiet e here p = finds (InTry mode (TryAcquire last)) _ part next commits e.2 e.3 refl (leads_to truths refl (none_settled truths part.held here.0)) p
+  by_walk (InAcquire aim (AcquireLoad arrival)) (Saw word) part next commits few some quiet e here p = finds (InAcquire aim (AcquireLoad arrival)) _ part next commits e.1 e.2 refl
+      (acquire_leads truths aim arrival word part.held here.0 here.2) p
+  by_walk (InAcquire aim (AcquireExchange arrival last)) (Saw word) part next commits few some quiet e here p = finds
+      (InAcquire aim (AcquireExchange arrival last)) _ part next commits e.2 e.3 refl (acquire_leads truths aim arrival word part.held here.0 here.2) p
+  by_walk (InAcquire aim (TakeToQueue arrival last)) (Saw word) part next commits few some quiet e here p = finds (InAcquire aim (TakeToQueue arrival last)) _ part next commits e.2 e.3 refl
+      (acquire_leads truths aim arrival word part.held here.0 here.2) p
+  by_walk (InAcquire aim (Queue arrival last)) (Saw word) part next commits few some quiet e here p = finds (InAcquire aim (Queue arrival last)) _ part next commits e.2 e.3 refl (leads_to truths refl here) p
+  by_walk (InRelease releasing ReleaseLoad) (Saw word) part next commits few some quiet e here p = finds (InRelease releasing ReleaseLoad) _ part next commits e.1 e.2 refl (release_leads truths releasing word part.held here) p
+  by_walk (InRelease releasing (ReleaseExchange last)) (Saw word) part next commits few some quiet e here p = finds (InRelease releasing (ReleaseExchange last)) _ part next commits e.2 e.3 refl (release_leads truths releasing word part.held here.0) p
+  by_walk (InRelease releasing (TakeToScan last)) (Saw word) part next commits few some quiet e here p = finds (InRelease releasing (TakeToScan last)) _ part next commits e.2 e.3 refl (release_leads truths releasing word part.held here.0) p
+  by_walk (InRelease releasing (ScanAndRelease last)) (Saw word) part next commits few some quiet e here p = finds (InRelease releasing (ScanAndRelease last)) _ part next commits e.2 e.3 refl (leads_to truths refl here) p
+  by_walk (InCells (GetLoad i)) (Cell v) part next commits few some quiet e here p = finds (InCells (GetLoad i)) _ part next commits e.1 e.2 refl (leads_to truths refl (here.1)) p
+  by_walk (InCells (SetLoad i v)) (Cell w) part next commits few some quiet e here p = finds (InCells (SetLoad i v)) _ part next commits e.1 e.2 refl (leads_to truths refl here) p
+  by_walk (InRelease releasing (ScanCells last i)) (Cell v) part next commits few some quiet e here p = finds (InRelease releasing (ScanCells last i)) _ part next commits e.1 e.2 refl (scan_leads truths releasing last part.held (i + 1) here.0) p
+  by_walk (InCells (QuietCells judging i)) (Cell v) part next commits few some quiet e here p =
+      finds (InCells (QuietCells judging i)) _ part next commits e.1 e.2 refl (quiet_leads truths judging part.held (i + 1) (omega (arith, here.0.1)) here.0.0 here.1) p
+  by_walk (InCells (QuietLast judging i)) (Quiet is_quiet) part next commits few some quiet e here p =
+      let writes : HasMode Write (Some e.0) = subst (λ x. HasMode Write x) e.1 here.0.0 in
+      let settled : IsSettled truths (Some e.0) = subst (λ x. IsSettled truths x) e.1 here.1 in
+      finds (InCells (QuietLast judging i)) _ part next commits e.3 e.4 refl (judged_leads truths judging part.held is_quiet (λ f. subst (λ x. CanLeave truths QuietWriter x) (sym e.1) (writes, sym e.2 ∙ f, settled)) here.1) p
   -- acquires
-  by_walk (InTry mode (TryAcquire last)) Made part next commits few some quiet e p = acquired (InTry mode (TryAcquire last)) None (ForLock mode) AsFresh last part next commits e.0 e.1 e.2 e.3 e.4 refl (λ ph is. is) tt (refl, refl, refl, refl) refl (λ flag n w f. f) p
-  by_walk (InAcquire aim (AcquireExchange arrival last)) Made part next commits few some quiet e p =
-      let to = acquired_leads truths aim part.row some (place (InAcquire aim (AcquireExchange arrival last)) part p).2 in
+  by_walk (InTry mode (TryAcquire last)) Made part next commits few some quiet e here p = acquired (InTry mode (TryAcquire last)) None (ForLock mode) AsFresh last part next commits e.0 e.1 e.2 e.3 e.4 refl (λ ph is. is) tt (refl, refl, refl, refl) refl (λ flag n w f. f) p
+  by_walk (InAcquire aim (AcquireExchange arrival last)) Made part next commits few some quiet e here p =
+      let to = acquired_leads truths aim part.row some here.2 in
       acquired (InAcquire aim (AcquireExchange arrival last)) (walk_after (acquired_for N aim)) aim arrival last part next commits e.0 e.1 e.2 e.3 e.4 refl (λ ph is. is) to.0 to.1 to.2 (λ flag n w f. absurd (not_way (is_woken arrival) false false w refl f)) p
   -- a store
-  by_walk (InCells (SetStore i v)) Made part next commits few some quiet e p =
+  by_walk (InCells (SetStore i v)) Made part next commits few some quiet e here p =
       let held = e.0 in
       let as_writer = subst (λ m. Groups truths seats h (at (record part { held = Some (section m held.entry held.before held.row) }) (Some (InCells (SetStore i v))))) e.2 (with_held (InCells (SetStore i v)) part (Some held) e.1 p) in
       moved None (record part { row = slice_set part.row i v; held = Some (section Write held.entry held.before (slice_set held.row i v)) }) next [] commits
       (e.3 ∙ ap (λ m. record part { row = slice_set part.row i v; held = Some (section m held.entry held.before (slice_set held.row i v)) }) e.2) e.4
       (none_more _ (stores truths seats h front who (Some (InCells (SetStore i v))) None back part.word part.row part.lists part.flags held.entry held.before held.row part.owed i v refl
-      (subst (λ x. IsSettled truths x) e.1 (place (InCells (SetStore i v)) part p).1) (refl, refl, refl, refl) refl (λ flag n f. f) as_writer))
+      (subst (λ x. IsSettled truths x) e.1 here.1) (refl, refl, refl, refl) refl (λ flag n f. f) as_writer))
   -- a release without a scan
-  by_walk (InRelease releasing (ReleaseExchange last)) Made part next commits few some quiet e p =
+  by_walk (InRelease releasing (ReleaseExchange last)) Made part next commits few some quiet e here p =
       let held = e.0 in
-      let fits = place (InRelease releasing (ReleaseExchange last)) part p in
-      let start = leaves (InRelease releasing (ReleaseExchange last)) releasing part held e.1 e.2 fits.0 p in
+      let start = leaves (InRelease releasing (ReleaseExchange last)) releasing part held e.1 e.2 here.0 p in
       moved None (record part { word = word_released releasing part.word; held = None }) next (section_of truths.holds who (section (mode_released releasing) held.entry held.before held.row) Plain ∷ []) commits
-      (e.4 ∙ ap (λ word. record part { word = word_released releasing word; held = None }) e.3)
-      (said_of held (mode_released releasing) Plain commits e.2 e.5)
+      (e.4 ∙ ap (λ word. record part { word = word_released releasing word; held = None }) e.3) (said_of held (mode_released releasing) Plain commits e.2 e.5)
       (releases truths seats h front who (Some (InRelease releasing (ReleaseExchange last))) None back releasing part.word part.row part.lists part.flags held.entry held.before held.row part.owed refl refl few start.2 refl tt (refl, refl, refl, refl)
-      (subst (λ word. needs_scan releasing word ≡ false) e.3 fits.1) refl (λ flag n f. f)
-      (calm_release truths quiet releasing held.mode held.entry held.before held.row start.1) start.0)
+      (subst (λ word. needs_scan releasing word ≡ false) e.3 here.1) refl (λ flag n f. f) (calm_release truths quiet releasing held.mode held.entry held.before held.row start.1) start.0)
   -- the queues are taken
-  by_walk (InAcquire aim (TakeToQueue arrival last)) Made part next commits few some quiet e p =
-      took (InAcquire aim (TakeToQueue arrival last)) _ (ToQueue (mode_for aim) arrival) last part next commits e.0 e.1 e.2 e.3 refl ((place (InAcquire aim (TakeToQueue arrival last)) part p).0, tt, (place (InAcquire aim (TakeToQueue arrival last)) part p).2) refl refl refl refl refl (λ none. refl)
+  by_walk (InAcquire aim (TakeToQueue arrival last)) Made part next commits few some quiet e here p =
+      took (InAcquire aim (TakeToQueue arrival last)) _ (ToQueue (mode_for aim) arrival) last part next commits e.0 e.1 e.2 e.3 refl (here.0, tt, here.2) refl refl refl refl refl (λ none. refl)
       (λ apart homed known. known_takes truths.holds front who (Some (InAcquire aim (TakeToQueue arrival last))) part.held part.owed
-      (Some (InAcquire aim (Arm arrival (word_taken (ToQueue (mode_for aim) arrival) last)))) part.held part.owed back (mode_for aim) arrival part.word
-      (standing_after h).row part.lists.lock part.flags apart (λ seat. refl)
-      (subst (λ word. may_acquire (mode_for aim) arrival word ≡ false) e.0 (place (InAcquire aim (TakeToQueue arrival last)) part p).1.1) (ap (λ word. word.spin) (sym e.0) ∙ e.1) homed
+      (Some (InAcquire aim (Arm arrival (word_taken (ToQueue (mode_for aim) arrival) last)))) part.held part.owed back (mode_for aim) arrival part.word (standing_after h).row part.lists.lock part.flags apart (λ seat. refl)
+      (subst (λ word. may_acquire (mode_for aim) arrival word ≡ false) e.0 here.1.1) (ap (λ word. word.spin) (sym e.0) ∙ e.1) homed
       (long_eligible (λ c. truths.holds c (standing_after h).row) part.lists.lock _ p.own) (λ flag n w f. absurd (not_way (is_woken arrival) false false w refl f)) known) p
-  by_walk (InRelease releasing (TakeToScan last)) Made part next commits few some quiet e p =
-      let fits = taken_leads truths releasing (word_taken ToChange last) part.held last.cond (place (InRelease releasing (TakeToScan last)) part p).0 in
-      took (InRelease releasing (TakeToScan last)) _ ToChange last part next commits e.0 e.1 e.2 e.3 refl fits.0 fits.1.0 refl fits.1.1 fits.1.2 fits.1.3 fits.4
+  by_walk (InRelease releasing (TakeToScan last)) Made part next commits few some quiet e here p =
+      let fits = taken_leads truths releasing (word_taken ToChange last) part.held last.cond here.0 in
+      took (InRelease releasing (TakeToScan last)) _ ToChange last part next commits e.0 e.1 e.2 e.3 refl fits.place fits.same.0 refl fits.same.1 fits.same.2 fits.same.3 fits.stays
       (λ apart homed known. known_rests truths.holds front who (Some (InRelease releasing (TakeToScan last))) part.held part.owed
       (walk_after (got_of N (InRelease releasing (TakeToScan last)) Made)) part.held part.owed back part.word (word_taken ToChange part.word)
-      (standing_after h).row part.lists.lock part.flags apart (λ seat. refl) refl refl refl refl refl fits.2 fits.3 known) p
+      (standing_after h).row part.lists.lock part.flags apart (λ seat. refl) refl refl refl refl refl fits.queuing fits.way known) p
   -- a flag is set, a seat queues
-  by_walk (InAcquire aim (Arm arrival last)) Made part next commits few some quiet e p =
+  by_walk (InAcquire aim (Arm arrival last)) Made part next commits few some quiet e here p =
       moved (Some (InAcquire aim (Queue arrival last))) (record part { flags = flags_with part.flags who 1 }) next [] commits e.0 e.1
       (none_more _ (arms truths seats h front who (Some (InAcquire aim (Arm arrival last))) (Some (InAcquire aim
-      (Queue arrival last))) back part.word part.row part.lists part.flags part.held part.owed refl (place (InAcquire aim (Arm arrival last)) part p) refl refl refl refl refl
-      (λ flag n. refl) (λ none. refl) p))
-  by_walk (InAcquire aim (Queue arrival last)) Made part next commits few some quiet e p =
+      (Queue arrival last))) back part.word part.row part.lists part.flags part.held part.owed refl here refl refl refl refl refl (λ flag n. refl) (λ none. refl) p))
+  by_walk (InAcquire aim (Queue arrival last)) Made part next commits few some quiet e here p =
       let lock = queued who (mode_for aim) None (tries_of arrival) (is_woken arrival) part.lists.lock in
-      let here = place (InAcquire aim (Queue arrival last)) part p in
       moved (Some (InAcquire aim (AwaitWake (tries_of arrival)))) (record part { word = word_returned false (bits_of lock) part.word; lists = with_lock part.lists lock }) next [] commits
       (e.2 ∙ ap (λ word. record part { word = word_returned false (bits_of lock) word; lists = with_lock part.lists lock }) e.1) e.3
       (none_more _ (enqueues truths seats h front who (Some (InAcquire aim (Queue arrival last))) (Some (InAcquire aim (AwaitWake (tries_of arrival)))) back
-      (mode_for aim) arrival part.word part.row part.lists part.flags part.held part.owed refl (here.0, tries_most arrival, here.2) refl refl refl refl refl refl refl refl
-      (λ flag n. refl) (λ none. refl) p))
-  by_walk (InAcquire aim (Queue arrival last)) (Left stood) part next commits few some quiet e p = let never : Made ≡ Left stood = e.0 in absurd (cc)
-  by_walk (InAcquire aim (Queue arrival last)) (Woke owes) part next commits few some quiet e p = let never : Made ≡ Woke owes = e.0 in absurd (cc)
-  by_walk (InAcquire aim (AwaitWake tries)) (Flag v) part next commits few some quiet e p =
-      let here = place (InAcquire aim (AwaitWake tries)) part p in
-      checks (InAcquire aim (AwaitWake tries)) aim tries (Idle (InAcquire aim (AwaitWake tries))) v (eqb v 1) part next commits refl e.0 e.1 e.2 here.0 refl refl refl refl (λ ph told. (λ is. is, here.2)) (here, (refl, refl, refl, refl), refl, λ flag n f. f, λ none. refl) p
+      (mode_for aim) arrival part.word part.row part.lists part.flags part.held part.owed refl (here.0, tries_most arrival, here.2) refl refl refl refl refl refl refl refl (λ flag n. refl) (λ none. refl) p))
+  by_walk (InAcquire aim (Queue arrival last)) (Left stood) part next commits few some quiet e here p = let never : Made ≡ Left stood = e.0 in absurd (cc)
+  by_walk (InAcquire aim (Queue arrival last)) (Woke owes) part next commits few some quiet e here p = let never : Made ≡ Woke owes = e.0 in absurd (cc)
+  by_walk (InAcquire aim (AwaitWake tries)) (Flag v) part next commits few some quiet e here p =
+      checks (InAcquire aim (AwaitWake tries)) aim tries (Idle (InAcquire aim (AwaitWake tries))) v (eqb v 1) part next commits refl e.0 e.1 e.2 here.0 refl refl refl refl (λ ph told. (λ is. is, here.2)) (leads_to truths refl here) p
   -- a release with a scan
-  by_walk (InRelease releasing (ScanAndRelease last)) (Scanned owes tests) part next commits few some quiet e p =
+  by_walk (InRelease releasing (ScanAndRelease last)) (Scanned owes tests) part next commits few some quiet e here p =
       let held = e.0 in
       let meets : C → Bool = meets_at truths part.row in
       let some = has_some (woken_of meets part.lists.lock) in
       let stay = left_of meets part.lists.lock in
       let owed = called_of (woken_of meets part.lists.lock) in
       let to = pay_leads {C = C} {N = N} truths releasing None owes in
-      let start = leaves (InRelease releasing (ScanAndRelease last)) releasing part held e.1 e.2 (place (InRelease releasing (ScanAndRelease last)) part p) p in
+      let start = leaves (InRelease releasing (ScanAndRelease last)) releasing part held e.1 e.2 here p in
       moved (walk_after (got_of N (InRelease releasing (ScanAndRelease last)) (Scanned owes tests))) (record part { word = word_released_returning releasing some (bits_of stay) part.word; lists = with_lock part.lists stay; held = None; owed = owed }) next
       (section_of truths.holds who (section (mode_released releasing) held.entry held.before held.row) Plain ∷ []) commits
       (e.4 ∙ ap (λ word. record part { word = word_released_returning releasing some (bits_of stay) word; lists = with_lock part.lists stay; held = None; owed = owed }) e.3)
       (said_of held (mode_released releasing) Plain commits e.2 e.7)
-      (scans truths seats h front who (Some (InRelease releasing (ScanAndRelease last))) (walk_after (got_of N (InRelease releasing (ScanAndRelease last)) (Scanned owes tests))) back releasing part.word part.row part.lists part.flags held.entry held.before held.row part.owed few start.2 to.8 to.7
-      (to.0 refl) refl (to.1 ∙ e.5) refl to.2 refl (ap is_some to.3) to.4 to.5 (λ flag n. refl) start.0)
+      (scans truths seats h front who (Some (InRelease releasing (ScanAndRelease last))) (walk_after (got_of N (InRelease releasing (ScanAndRelease last)) (Scanned owes tests))) back releasing part.word part.row part.lists part.flags held.entry held.before held.row part.owed
+      few start.2 to.8 (to.0 refl) (record { idle = refl; owes = to.1 ∙ e.5; from = to.7; had = refl; gave = to.2; still = refl; unarmed = to.4; unqueued = to.5; off_way = λ flag n. refl }) (ap is_some to.3) start.0)
   -- a wake
-  by_walk (InRelease releasing Pay) (Paid owes) part next commits few some quiet e p =
+  by_walk (InRelease releasing Pay) (Paid owes) part next commits few some quiet e here p =
       let to = pay_leads truths releasing part.held owes in
-      let none : part.held ≡ None = place (InRelease releasing Pay) part p in
+      let none : part.held ≡ None = here in
       moved (walk_after (got_of N (InRelease releasing Pay) (Paid owes))) (record part { flags = flags_with part.flags e.0.seat e.0.value; owed = e.1 }) next [] commits e.3 e.5
       (none_more _ (wakes truths seats h front who (Some (InRelease releasing Pay)) (walk_after (got_of N (InRelease releasing Pay) (Paid owes))) back part.word part.row part.lists part.flags part.held e.0 e.1
-      (λ seat. ap (λ b. cond b (times_among seat e.1) 0) to.7) (to.0 none) (to.1 ∙ e.4) (λ told. subst (λ b. Every (Tells b) e.1) (sym to.7) told) to.2 to.3 to.9 to.4 to.5 (λ n. paid_phase releasing owes)
+      (inl to.7) (to.0 none) (to.1 ∙ e.4) to.2 to.3 to.9 to.4 to.5 (λ n. paid_phase releasing owes)
       (subst (λ owed. Groups truths seats h (at (record part { owed = owed }) (Some (InRelease releasing Pay)))) e.2 p)))
-  by_walk (InWait wait at_place) found part next commits few some quiet e p = by_wait wait at_place found part next commits few some e p
-  by_walk (InSignal waking k at_place) found part next commits few some quiet e p = by_signal waking k at_place found part next commits few e p
-  by_walk (InShow at_place) found part next commits few some quiet e p = by_show at_place found part next commits e p
-  by_walk _ _ part next commits few some quiet e p = absurd e
+  by_walk (InWait wait at_place) found part next commits few some quiet e here p = by_wait wait at_place found part next commits few some e here p
+  by_walk (InSignal waking k at_place) found part next commits few some quiet e here p = by_signal waking k at_place found part next commits few e here p
+  by_walk (InShow at_place) found part next commits few some quiet e here p = by_show at_place found part next commits e here p
+  by_walk _ _ part next commits few some quiet e here p = absurd e
 
 pub keeps : {C : Type 0} {N : ℕ} (truths : Truths C) → 0 < N → QuietKeeps N truths → (seats : ℕ) (h : List (Event C N)) (old : LockState C N) (view : SeatView C N) (found : Found) (new : LockState C N) (commits : List (Event C N)) → seats ≤ 64 →
     Step truths old view found new commits → IsLawful truths seats h old → IsLawful truths seats (h ++ commits) new
@@ -632,8 +596,8 @@ keeps {C} {N} truths some quiet seats h old view found new commits few step p =
     let here = subst (λ walk. IsLawful truths seats h (record { word = old.word; row = old.row; lists = old.lists; flags = old.flags; views = step.front ++ view_of view.seat walk view.held view.owed ∷ step.back })) step.walks start in
     let after_all = by_walk truths seats h step.front view.seat step.back step.walk found
     (record { word = old.word; row = old.row; lists = old.lists; flags = old.flags; held = view.held; owed = view.owed })
-    (record { word = new.word; row = new.row; lists = new.lists; flags = new.flags; held = step.held; owed = step.owed }) commits few some quiet step.effect (groups_of truths seats h _ here) in
+    (record { word = new.word; row = new.row; lists = new.lists; flags = new.flags; held = step.held; owed = step.owed }) commits few some quiet step.effect (place truths seats h step.front view.seat step.back step.walk _ (groups_of truths seats h _ here)) (groups_of truths seats h _ here) in
     let seen = every_parts (λ (v : SeatView C N). HasNumber (word_seen v.walk)) step.front (view_of view.seat (Some step.walk) view.held view.owed) step.back here.words_seen in
     let found_has = found_fits truths view.seat (want_of step.walk) _ found _ commits (packable truths seats h old few p) step.effect in
-    let seen_after = every_join (λ (v : SeatView C N). HasNumber (word_seen v.walk)) step.front (view_of view.seat (walk_after (got_of N step.walk found)) step.held step.owed) step.back seen.0 (seen_next C N step.walk found found_has seen.1) seen.2 in
+    let seen_after = every_join (λ (v : SeatView C N). HasNumber (word_seen v.walk)) step.front (view_of view.seat (walk_after (got_of N step.walk found)) step.held step.owed) step.back seen.0 ((follows N step.walk found).word found_has seen.1) seen.2 in
     subst (λ views. IsLawful truths seats (h ++ commits) (record { word = new.word; row = new.row; lists = new.lists; flags = new.flags; views = views })) (sym step.becomes) (lawful_by truths seats (h ++ commits) _ after_all seen_after)

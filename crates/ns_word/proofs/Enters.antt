@@ -227,11 +227,7 @@ module _ {C : Type 0} where
           (times_in seat (waiters_of (record { lock = lock; cvs = cvs }) (Cv 1)) + (times_in seat (waiters_of (record { lock = lock; cvs = cvs }) (Cv 2)) + times_in seat
           (waiters_of (record { lock = lock; cvs = cvs }) (Cv 3))))
       four_sum seat (a ∷ b ∷ c ∷ d ∷ []) lock four = omega (arith, sum_by-cons (times_in seat) a (b ∷ c ∷ d ∷ []), sum_by-cons (times_in seat) b (c ∷ d ∷ []), sum_by-cons (times_in seat) c (d ∷ []), sum_by-cons (times_in seat) d [])
-      four_sum seat [] lock four = absurd (omega (arith, four))
-      four_sum seat (a ∷ []) lock four = absurd (omega (arith, four))
-      four_sum seat (a ∷ b ∷ []) lock four = absurd (omega (arith, four))
-      four_sum seat (a ∷ b ∷ c ∷ []) lock four = absurd (omega (arith, four))
-      four_sum seat (a ∷ b ∷ c ∷ d ∷ e ∷ cvs) lock four = absurd (omega (arith, four))
+      four_sum seat _ lock four = absurd (omega (arith, four))
 
       sums_same : (seat : ℕ) (cvs cvs' : List (List (Waiter C))) → length cvs ≡ 4 → length cvs' ≡ 4 →
           ((k : ℕ) → k < 4 → times_in seat (waiters_of (record { lock = []; cvs = cvs' }) (Cv k)) ≡ times_in seat (waiters_of (record { lock = []; cvs = cvs }) (Cv k))) → sum_by (times_in seat) cvs' ≡ sum_by (times_in seat) cvs

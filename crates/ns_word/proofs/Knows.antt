@@ -1,7 +1,7 @@
 -- What the steps leave of the designated waker and the idle list.
 use Rattle.ns_word.proofs.Prelude.{Arrival, Bool, Held, InAcquire, List, Lists, Mode, NobodyCouldGoOn, NoneIs, Option, Owed, QuietWriter, Read, Reader, Releasing, SeatView, Some, ToQueue, Waiter, WaitersPlaced, Walk, Word, Write, Writer, [], and_cases, and_parts, ap, arith, awaits, bits_of}
-use Rattle.ns_word.proofs.Prelude.{both_ways, called_of, called_to, calls_from_lock, cases_eq, cond, counts_in, eq-eqb, eqb, eqb-true, false, flags_with, has_eligible, has_queues, has_some, inl, inr, is_armed, is_from_lock, is_held, is_long, is_on_way, is_queuing, is_unwoken, is_woken, left_of}
-use Rattle.ns_word.proofs.Prelude.{list_any, lt-ltb, ltb, ltb-true, may_acquire, ne_eqb, needs_scan, not, not-false, not-true, one_if, one_most, or_cases, or_parts, owed_to, queued, queuers, refl, subst, sym, takers, times_among, times_in, true, walk_at, was_woken, woken_of, word_acquired}
+use Rattle.ns_word.proofs.Prelude.{both_ways, called_of, called_to, calls_from_lock, cases_Bool, cases_eq, cond, counts_in, eq-eqb, eqb, eqb-true, false, flags_with, has_eligible, has_queues, has_some, inl, inr, is_armed, is_from_lock, is_held, is_long, is_on_way, is_queuing, is_unwoken, is_woken}
+use Rattle.ns_word.proofs.Prelude.{left_of, list_any, lt-ltb, ltb, ltb-true, may_acquire, ne_eqb, needs_scan, not, not-false, not-true, one_if, one_most, or_cases, or_parts, owed_to, queued, queuers, refl, subst, sym, takers, times_among, times_in, true, walk_at, was_woken, woken_of, word_acquired}
 use Rattle.ns_word.proofs.Prelude.{word_released, word_released_returning, word_returned, word_taken, ℕ, ◌&&◌, ◌++◌, ◌+◌, ◌||◌, ◌∙◌, ◌∷◌, ◌≡◌, ◌≢◌, ◌≤◌, ◌⊎◌}
 use Rattle.ns_word.proofs.Groups.{Homed, Known}
 use Rattle.ns_word.proofs.Scans.{times_scan, times_seats, some_queued, writer_eligible, none_eligible, woken_none, woken_some}
@@ -83,10 +83,6 @@ refused Write arrival word e w r =
 refused Read arrival word e w r =
     let parts = or_parts (is_woken arrival) (not word.writer_waits && not word.long) (subst (λ b. (not b && (is_woken arrival || (not word.writer_waits && not word.long))) ≡ false) w e) in
     (parts.0, elim (and_cases (not word.writer_waits) (not word.long) parts.1) [ inl f ↦ inl (not-false word.writer_waits f) | inr f ↦ inr (not-false word.long f) ])
-
-pub bool_cases : (b : Bool) → (b ≡ true) ⊎ (b ≡ false)
-bool_cases true = inl refl
-bool_cases false = inr refl
 
 -- one that owes no wake owes none of one taken from the lock list
 pub nothing_called : {C : Type 0} (at : Option (Walk C)) (owing : List Owed) (seat : ℕ) → owing ≡ [] → ◌≡◌ {A = ℕ} (cond (calls_from_lock at) (times_among seat owing) 0) 0
@@ -350,7 +346,7 @@ module _ {C : Type 0} {N : ℕ} (holds : C → List ℕ → Bool) (front : List 
       let due : (seat : ℕ) → target ≡ seat → flags seat ≡ 1 = λ seat e. due_flag (walk_at seat olds) (flags seat) (due_of front who walk held owed walk' held' owed' back wake seat lists flags owes e placed) in
       let goes : (seat : ℕ) (at : Option (Walk C)) → is_on_way at (flags seat) (called_to seat olds) ≡ true → is_on_way at (flags_with flags target value seat) (called_to seat news) ≡ true = λ seat at f.
       elim (cases_eq target seat) [
-        | inl e ↦ subst (λ n. is_on_way at n (called_to seat news) ≡ true) (sym (ap (λ b. cond b value (flags seat)) (eq-eqb target seat e))) (elim (bool_cases (is_from_lock value)) [
+        | inl e ↦ subst (λ n. is_on_way at n (called_to seat news) ≡ true) (sym (ap (λ b. cond b value (flags seat)) (eq-eqb target seat e))) (elim (cases_Bool (is_from_lock value)) [
           | inl said ↦ cleared_on_way at (flags seat) value (called_to seat olds) (called_to seat news) said f
           | inr other ↦
               let here : called walk owed seat ≡ 0 = ap (λ b. cond b (times_among seat owed) 0) (calls ∙ other) in

@@ -1,13 +1,14 @@
 -- Where a decision leads: the place goes with the section in hand, and tells the same as the place before.
-use Rattle.ns_word.proofs.Prelude.{AcquireExchange, AcquireLoad, Aim, AimFits, Answered, Arrival, AsFresh, AwaitWakeInWait, Bool, Busy, CameBack, CanLeave, CanWait, Cause, ComesBack, Done, Ended, ForLock, ForWait, HasMode, Held, Idle, InAcquire, InCells, InLeaving, InQueuing, InRelease, InShow}
-use Rattle.ns_word.proofs.Prelude.{InSignal, InTry, InWait, IsExpected, IsForCondition, IsInRange, IsLeft, IsSettled, IsSettledBy, IsSome, IsUnmet, IsWokenBy, Judging, LeaveLoad, List, Load, LoadToScan, LookIn, LookOut, MayShow, Met, Mode, None, On, OnCondition, OnEntry, OnReturn, OnVariables}
-use Rattle.ns_word.proofs.Prelude.{Opening, Option, Outcome, OutcomeFits, PlaceFits, QueueToWait, QuietCells, QuietKeeps, QuietLast, QuietWriter, Read, Reader, ReleaseExchange, ReleaseLoad, Releasing, ScanAndRelease, ScanCells, ShowLoad, SignalLoad, Some, Subject, Take, TakeToLeave, TakeToQueue}
-use Rattle.ns_word.proofs.Prelude.{TakeToScan, TakeToShow, TakeToWake, TestCells, TestLast, Tests, ToRelease, ToTell, Truths, TryAcquire, Visit, Wait, Waiter, Waking, Walk, Woken, Word, Write, Writer, acquire_by, acquired_for, after_judging, ap, arith, armed_place, back_with, calls_from_lock}
-use Rattle.ns_word.proofs.Prelude.{cause_by, cond, expected_for, false, has_armed, has_eligible, has_queues, held_after, is_limited, is_queuing, leave_by, length, load_place, ltb, ltb-true, may_acquire, meets_at, mode_for, mode_released, needs_scan, newly_held, not, opening_by, pay_releasing}
-use Rattle.ns_word.proofs.Prelude.{pay_waiting, pay_woken, pays, phase_before, phase_by, phase_kept, queue_by, quiet_place, refl, release_by, rest_or_look, row_in, scan_place, show_by, signal_by, subst, sym, test_place, true, unmet_by, waits_in, walk_after, was_woken, ℕ, ◌-◌, ◌<◌, ◌∙◌, ◌≡◌}
+use Rattle.ns_word.proofs.Prelude.{AcquireExchange, AcquireLoad, Aim, AimFits, Answered, Arrival, AsFresh, AwaitWakeInWait, Bool, Busy, CameBack, CanLeave, CanWait, Cause, ComesBack, Done, Ended, Expected, ForLock, ForWait, HasMode, Held, Idle, InAcquire, InCells, InLeaving, InQueuing, InRelease}
+use Rattle.ns_word.proofs.Prelude.{InShow, InSignal, InTry, InWait, IsExpected, IsForCondition, IsInRange, IsLeft, IsSettled, IsSettledBy, IsUnmet, IsWokenBy, Judging, LeaveLoad, List, Load, LoadToScan, LookIn, LookOut, MayShow, MayWait, Met, Mode, None, On, OnCondition, OnEntry, OnReturn}
+use Rattle.ns_word.proofs.Prelude.{OnVariables, Opening, Option, Outcome, OutcomeFits, PlaceFits, QueueToWait, QuietCells, QuietKeeps, QuietLast, QuietWriter, Read, Reader, ReleaseExchange, ReleaseLoad, Releasing, Saw, ScanAndRelease, ScanCells, ShowLoad, SignalLoad, Some, Stance, Subject, Take}
+use Rattle.ns_word.proofs.Prelude.{TakeToLeave, TakeToQueue, TakeToScan, TakeToShow, TakeToWake, TestCells, TestLast, Tests, ToRelease, ToTell, Truths, TryAcquire, TryLoad, Visit, Wait, Waiter, Waking, Walk, Woken, Word, Write, Writer, acquire_by, acquired_for, after_judging, ap, arith}
+use Rattle.ns_word.proofs.Prelude.{armed_place, back_with, calls_from_lock, cause_by, cond, expected_for, false, got_trying, has_armed, has_eligible, has_queues, held_after, is_from_lock, is_limited, is_on_way, is_queuing, is_some, leave_by, length, load_place, look_or_queue, ltb, ltb-true}
+use Rattle.ns_word.proofs.Prelude.{may_acquire, meets_at, mode_for, mode_released, needs_scan, newly_held, not, not-false, not-true, opening_by, pay_releasing, pay_waiting, pay_woken, pays, phase_before, phase_by, phase_kept, queue_by, quiet_place, refl, release_by, rest_or_look, row_in}
+use Rattle.ns_word.proofs.Prelude.{scan_place, show_by, signal_by, subst, sym, test_place, true, unmet_by, waits_in, walk_after, was_woken, ℕ, ◌&&◌, ◌-◌, ◌<◌, ◌||◌, ◌∙◌, ◌≡◌}
 use Rattle.ns_word.proofs.Scans.{quiet_eligible}
 use Rattle.ns_word.proofs.Knows.{is_loud}
-use Rattle.ns_word.proofs.Keeps.{Same, Way, Stays}
+use Rattle.ns_word.proofs.Keeps.{Same, Way}
 use Rattle.ns_word.proofs.Safes.{section, SameSection}
 use Rattle.ns_model.specs.declared.phase.Phase.TheVariants as ThePhase
 
@@ -33,65 +34,81 @@ woken_by_none : {C : Type 0} (on : Subject C) (by : Option ℕ) → IsForConditi
 woken_by_none (OnCondition c) by for is = is
 woken_by_none (OnVariables variables) by for is = absurd for
 
+-- what a place tells of its seat
+abbrev Tags : Type 0 → Type 0
+Tags C = Bool × Bool × Option (Stance C) × Bool × Bool × Bool × Expected C
+
+abbrev pub tags_of : {C : Type 0} → Option (Walk C) → Tags C
+tags_of walk = (pays walk, has_queues walk, waits_in walk, has_armed walk, is_queuing walk, was_woken walk, phase_by walk)
+
+-- a seat at such a place is on its way, as `is_on_way` says of the place
+abbrev is_tag_on_way : {C : Type 0} → Tags C → ℕ → ℕ → Bool
+is_tag_on_way tags flag n = tags.5 || (is_some tags.2 && (is_from_lock flag || ltb 0 n))
+
 module _ {C : Type 0} {N : ℕ} (truths : Truths C) where
-  -- The step changes the place in the call alone.
+  -- The step changes the place in the call alone: the new place fits, and tells what the old one told.
+  pub record LeadsBy (tags : Tags C) (next : Option (Walk C)) (held : Option (Held C N)) : Type 0 where
+    pub place : PlaceFits truths next held
+    pub same : (pays next ≡ tags.0) × (has_queues next ≡ tags.1) × (waits_in next ≡ tags.2) × (has_armed next ≡ tags.3)
+    pub queuing : is_queuing next ≡ tags.4
+    pub way : (flag n : ℕ) → is_tag_on_way tags flag n ≡ true → is_on_way next flag n ≡ true
+    pub stays : held ≡ None → phase_by next ≡ tags.6
+
   abbrev pub Leads : Option (Walk C) → Option (Walk C) → Option (Held C N) → Type 0
-  Leads walk next held = PlaceFits truths next held × Same walk next × (is_queuing next ≡ is_queuing walk) × Way walk next × Stays walk next held
+  Leads walk next held = LeadsBy (tags_of walk) next held
+
+  -- another phase only where a section is in hand
+  pub leads_as : {tags : Tags C} {next : Option (Walk C)} {held : Option (Held C N)} (phase : Expected C) → tags_of next ≡ (tags.0, tags.1, tags.2, tags.3, tags.4, tags.5, phase) → (held ≡ None → phase ≡ tags.6) → PlaceFits truths next held → LeadsBy tags next held
+  leads_as phase e stays p = record {
+    place = p;
+    same = (ap (λ (t : Tags C). t.0) e, ap (λ (t : Tags C). t.1) e, ap (λ (t : Tags C). t.2) e, ap (λ (t : Tags C). t.3) e);
+    queuing = ap (λ (t : Tags C). t.4) e;
+    way = λ flag n on. subst (λ t. is_tag_on_way t flag n ≡ true) (sym e) on;
+    stays = λ none. ap (λ (t : Tags C). t.6) e ∙ stays none;
+  }
+
+  pub leads_to : {tags : Tags C} {next : Option (Walk C)} {held : Option (Held C N)} → tags_of next ≡ tags → PlaceFits truths next held → LeadsBy tags next held
+  leads_to {tags} e p = leads_as tags.6 e (λ none. refl) p
+
+  either : {A : Type 0} {tags : Tags C} {held : Option (Held C N)} (go : A → Option (Walk C)) (b : Bool) (one other : A) → (b ≡ true → LeadsBy tags (go one) held) → (b ≡ false → LeadsBy tags (go other) held) → LeadsBy tags (go (cond b one other)) held
+  either go true one other p q = p refl
+  either go false one other p q = q refl
 
   -- where nothing is in hand, nothing is open
   pub none_settled : (held : Option (Held C N)) → held ≡ None → IsSettled truths held
   none_settled held e = subst (λ x. IsSettled truths x) (sym e) tt
 
-  pub try_leads : (mode : Mode) (word : Word) (held : Option (Held C N)) (b : Bool) → may_acquire mode AsFresh word ≡ b → held ≡ None →
-      Leads None (walk_after (cond b (On (InTry mode (TryAcquire word))) (Done Busy))) held
-  try_leads mode word held true e p = ((p, e), (refl, refl, refl, refl), refl, λ flag n f. f, λ none. refl)
-  try_leads mode word held false e p = (none_settled held p, (refl, refl, refl, refl), refl, λ flag n f. f, λ none. refl)
-
-  acquire_place : (aim : Aim C) (arrival : Arrival) (word : Word) (held : Option (Held C N)) (b c : Bool) → may_acquire (mode_for aim) arrival word ≡ b → word.spin ≡ c → held ≡ None → AimFits aim →
-      Leads (Some (InAcquire aim (AcquireLoad arrival))) (walk_after (cond b (On (InAcquire aim (AcquireExchange arrival word))) (cond c (Idle (InAcquire aim (AcquireLoad arrival))) (On (InAcquire aim (TakeToQueue arrival word)))))) held
-  acquire_place aim arrival word held true c e f p kept = ((p, e, kept), (refl, refl, refl, refl), refl, λ flag n f. f, λ none. refl)
-  acquire_place aim arrival word held false true e f p kept = ((p, tt, kept), (refl, refl, refl, refl), refl, λ flag n f. f, λ none. refl)
-  acquire_place aim arrival word held false false e f p kept = ((p, (f, e), kept), (refl, refl, refl, refl), refl, λ flag n f. f, λ none. refl)
+  pub try_leads : (mode : Mode) (word : Word) (held : Option (Held C N)) → held ≡ None → Leads None (walk_after (got_trying mode TryLoad (Saw word))) held
+  try_leads mode word held p = either walk_after (may_acquire mode AsFresh word) (On (InTry mode (TryAcquire word))) (Done Busy) (λ e. leads_to refl (p, e)) (λ e. leads_to refl (none_settled held p))
 
   pub acquire_leads : (aim : Aim C) (arrival : Arrival) (word : Word) (held : Option (Held C N)) → held ≡ None → AimFits aim → Leads (Some (InAcquire aim (AcquireLoad arrival))) (walk_after (acquire_by aim arrival word)) held
-  acquire_leads aim arrival word held p kept = acquire_place aim arrival word held (may_acquire (mode_for aim) arrival word) word.spin refl refl p kept
-
-  release_place : (releasing : Releasing) (word : Word) (held : Option (Held C N)) (b c : Bool) → needs_scan releasing word ≡ b → word.spin ≡ c → CanLeave truths releasing held →
-      Leads None (walk_after (cond (not b) (On (InRelease releasing (ReleaseExchange word))) (cond c (Idle (InRelease releasing ReleaseLoad)) (On (InRelease releasing (TakeToScan word)))))) held
-  release_place releasing word held false c e f p = ((p, e), (refl, refl, refl, refl), refl, λ flag n f. f, λ none. refl)
-  release_place releasing word held true true e f p = (p, (refl, refl, refl, refl), refl, λ flag n f. f, λ none. refl)
-  release_place releasing word held true false e f p = ((p, f, e), (refl, refl, refl, refl), refl, λ flag n f. f, λ none. refl)
+  acquire_leads aim arrival word held p kept =
+      either walk_after (may_acquire (mode_for aim) arrival word) (On (InAcquire aim (AcquireExchange arrival word))) _ (λ e. leads_to refl (p, e, kept))
+      (λ e. either walk_after word.spin (Idle (InAcquire aim (AcquireLoad arrival))) (On (InAcquire aim (TakeToQueue arrival word))) (λ f. leads_to refl (p, tt, kept)) (λ f. leads_to refl (p, (f, e), kept)))
 
   pub release_leads : (releasing : Releasing) (word : Word) (held : Option (Held C N)) → CanLeave truths releasing held → Leads None (walk_after (release_by releasing word)) held
-  release_leads releasing word held p = release_place releasing word held (needs_scan releasing word) word.spin refl refl p
-
-  scan_place_at : (releasing : Releasing) (last : Word) (held : Option (Held C N)) (loaded : ℕ) (b : Bool) → ltb loaded N ≡ b → CanLeave truths releasing held →
-      Leads (Some (InRelease releasing (ScanAndRelease last))) (Some (InRelease releasing (cond b (ScanCells last loaded) (ScanAndRelease last)))) held
-  scan_place_at releasing last held loaded true e p = ((p, ltb-true loaded N e), (refl, refl, refl, refl), refl, λ flag n f. f, λ none. refl)
-  scan_place_at releasing last held loaded false e p = (p, (refl, refl, refl, refl), refl, λ flag n f. f, λ none. refl)
+  release_leads releasing word held p =
+      either walk_after (not (needs_scan releasing word)) (On (InRelease releasing (ReleaseExchange word))) _ (λ e. leads_to refl (p, not-true (needs_scan releasing word) e))
+      (λ e. either walk_after word.spin (Idle (InRelease releasing ReleaseLoad)) (On (InRelease releasing (TakeToScan word))) (λ f. leads_to refl p) (λ f. leads_to refl (p, f, not-false (needs_scan releasing word) e)))
 
   pub scan_leads : (releasing : Releasing) (last : Word) (held : Option (Held C N)) (loaded : ℕ) → CanLeave truths releasing held →
       Leads (Some (InRelease releasing (ScanAndRelease last))) (Some (InRelease releasing (scan_place N last loaded))) held
-  scan_leads releasing last held loaded p = scan_place_at releasing last held loaded (ltb loaded N) refl p
+  scan_leads releasing last held loaded p = either (λ x. Some (InRelease releasing x)) (ltb loaded N) (ScanCells last loaded) (ScanAndRelease last) (λ e. leads_to refl (p, ltb-true loaded N e)) (λ e. leads_to refl p)
 
   -- after the queues were taken to scan
   pub taken_leads : (releasing : Releasing) (last : Word) (held : Option (Held C N)) (b : Bool) → CanLeave truths releasing held →
       Leads (Some (InRelease releasing (ScanAndRelease last))) (Some (InRelease releasing (cond b (scan_place N last 0) (ScanAndRelease last)))) held
-  taken_leads releasing last held true p = scan_leads releasing last held 0 p
-  taken_leads releasing last held false p = (p, (refl, refl, refl, refl), refl, λ flag n f. f, λ none. refl)
-
-  quiet_place_at : (judging : Judging) (held : Option (Held C N)) (loaded : ℕ) (b : Bool) → ltb loaded (N - 1) ≡ b → 0 < N → HasMode Write held → IsSettled truths held →
-      Leads None (Some (InCells (cond b (QuietCells judging loaded) (QuietLast judging (N - 1))))) held
-  quiet_place_at judging held loaded true e some p settled = let less = ltb-true loaded (N - 1) e in (((p, omega (arith, less)), settled), (refl, refl, refl, refl), refl, λ flag n f. f, λ none. refl)
-  quiet_place_at judging held loaded false e some p settled = (((p, omega (arith, some)), settled), (refl, refl, refl, refl), refl, λ flag n f. f, λ none. refl)
+  taken_leads releasing last held b p = either (λ x. Some (InRelease releasing x)) b _ _ (λ e. scan_leads releasing last held 0 p) (λ e. leads_to refl p)
 
   pub quiet_leads : (judging : Judging) (held : Option (Held C N)) (loaded : ℕ) → 0 < N → HasMode Write held → IsSettled truths held → Leads None (Some (InCells (quiet_place N judging loaded))) held
-  quiet_leads judging held loaded some p settled = quiet_place_at judging held loaded (ltb loaded (N - 1)) refl some p settled
+  quiet_leads judging held loaded some p settled =
+      either (λ x. Some (InCells x)) (ltb loaded (N - 1)) (QuietCells judging loaded) (QuietLast judging (N - 1)) (λ e. let less = ltb-true loaded (N - 1) e in leads_to refl ((p, omega (arith, less)), settled))
+      (λ e. leads_to refl ((p, omega (arith, some)), settled))
 
   pub judged_leads : (judging : Judging) (held : Option (Held C N)) (b : Bool) → (b ≡ true → CanLeave truths QuietWriter held) → IsSettled truths held → Leads None (walk_after (after_judging judging b)) held
-  judged_leads ToTell held b p settled = (settled, (refl, refl, refl, refl), refl, λ flag n f. f, λ none. refl)
-  judged_leads ToRelease held true p settled = (p refl, (refl, refl, refl, refl), refl, λ flag n f. f, λ none. refl)
-  judged_leads ToRelease held false p settled = (settled, (refl, refl, refl, refl), refl, λ flag n f. f, λ none. refl)
+  judged_leads ToTell held b p settled = leads_to refl settled
+  judged_leads ToRelease held true p settled = leads_to refl (p refl)
+  judged_leads ToRelease held false p settled = leads_to refl settled
 
   pub pay_leads : (releasing : Releasing) (held : Option (Held C N)) (b : Bool) → let next = walk_after (pay_releasing releasing b) in
       (held ≡ None → PlaceFits truths next held) × (pays next ≡ b) × (has_queues next ≡ false) × (waits_in next ≡ None) × (has_armed next ≡ false) × (is_queuing next ≡ false) × Way None next × (calls_from_lock next ≡ true) × IsExpected (phase_by next) ThePhase.Idle × (was_woken next ≡ false)
@@ -100,19 +117,16 @@ module _ {C : Type 0} {N : ℕ} (truths : Truths C) where
 
   -- ---- waits
 
-  test_place_at : (wait : Wait C) (visit : Visit) (held : Option (Held C N)) (loaded : ℕ) (b : Bool) → ltb loaded (N - 1) ≡ b → 0 < N → Tests truths wait visit held → MayShow wait.limits (cause_by visit) → IsForCondition wait.on →
-      Leads (inside wait) (Some (cond b (InWait wait (TestCells visit loaded)) (InWait wait (TestLast visit (N - 1))))) held
-  test_place_at wait visit held loaded true e some p kept on = let less = ltb-true loaded (N - 1) e in (((p, omega (arith, less), on), kept), (refl, refl, refl, refl), refl, λ flag n f. f, λ none. refl)
-  test_place_at wait visit held loaded false e some p kept on = (((p, omega (arith, some), on), kept), (refl, refl, refl, refl), refl, λ flag n f. f, λ none. refl)
-
   pub test_leads : (wait : Wait C) (visit : Visit) (held : Option (Held C N)) (loaded : ℕ) → 0 < N → Tests truths wait visit held → MayShow wait.limits (cause_by visit) → IsForCondition wait.on → Leads (inside wait) (Some (test_place N wait visit loaded)) held
-  test_leads wait visit held loaded some p kept on = test_place_at wait visit held loaded (ltb loaded (N - 1)) refl some p kept on
+  test_leads wait visit held loaded some p kept on =
+      either Some (ltb loaded (N - 1)) (InWait wait (TestCells visit loaded)) (InWait wait (TestLast visit (N - 1))) (λ e. let less = ltb-true loaded (N - 1) e in leads_to refl ((p, omega (arith, less), on), kept))
+      (λ e. leads_to refl ((p, omega (arith, some), on), kept))
 
   -- after an acquire
   back_leads : (on : Subject C) (wait : Wait C) (outcome : Outcome) (row : List ℕ) → wait.on ≡ on → 0 < N → AimFits (ForWait wait outcome) → let next = walk_after (back_with N on wait outcome) in
       PlaceFits truths next (Some (newly_held {C = C} {N = N} (ForWait wait outcome) row)) × Same None next × (is_queuing next ≡ false)
   back_leads (OnCondition c) wait outcome row is some fits =
-      let to = test_leads wait (OnReturn outcome) (Some (newly_held {C = C} {N = N} (ForWait wait outcome) row)) 0 some (refl, record { entry = refl; cells = refl; fits = fits.0 }) fits.1 (subst IsForCondition (sym is) tt) in (to.0, to.1, to.2)
+      let to = test_leads wait (OnReturn outcome) (Some (newly_held {C = C} {N = N} (ForWait wait outcome) row)) 0 some (refl, record { entry = refl; cells = refl; fits = fits.0 }) fits.1 (subst IsForCondition (sym is) tt) in (to.place, to.same, to.queuing)
   back_leads (OnVariables variables) wait outcome row is some fits = (subst (λ on. IsSettledBy truths.holds row (CameBack on outcome)) (sym is) (subst (λ on. OutcomeFits on outcome) is fits.0), (refl, refl, refl, refl), refl)
 
   pub acquired_leads : (aim : Aim C) (row : List ℕ) → 0 < N → AimFits aim → let next = walk_after (acquired_for N aim) in
@@ -120,23 +134,16 @@ module _ {C : Type 0} {N : ℕ} (truths : Truths C) where
   acquired_leads (ForLock mode) row some fits = (tt, (refl, refl, refl, refl), refl)
   acquired_leads (ForWait wait outcome) row some fits = back_leads wait.on wait outcome row refl some fits
 
-  -- a section is in hand where a condition is tested
-  pub tests_some : (wait : Wait C) (visit : Visit) (held : Option (Held C N)) → Tests truths wait visit held → IsSome held
-  tests_some wait visit None p = absurd p
-  tests_some wait visit (Some held) p = refl
-
-  look_place : (wait : Wait C) (again : Bool) (held : Option (Held C N)) (b : Bool) → IsForCondition wait.on → CanWait truths wait again held →
-      Leads (inside wait) (walk_after (cond b (On (InWait wait (InQueuing again LookIn))) (On (InWait wait (InQueuing again Load))))) held
-  look_place wait again held true on p = (((p, on), tt), (refl, refl, refl, refl), refl, λ flag n f. f, λ none. refl)
-  look_place wait again held false on p = (((p, tt), tt), (refl, refl, refl, refl), refl, λ flag n f. f, λ none. refl)
+  look_leads : (wait : Wait C) (again : Bool) (held : Held C N) → IsForCondition wait.on → MayWait truths wait again held → Leads (inside wait) (walk_after (look_or_queue wait again)) (Some held)
+  look_leads wait again held on p = either walk_after (is_limited wait.limits) (On (InWait wait (InQueuing again LookIn))) (On (InWait wait (InQueuing again Load))) (λ e. leads_to refl ((p, on), tt)) (λ e. leads_to refl ((p, tt), tt))
 
   unmet_leads : (wait : Wait C) (visit : Visit) (held : Option (Held C N)) → Tests truths wait visit held → IsForCondition wait.on → IsUnmet truths wait.on (row_in held) → Leads (inside wait) (walk_after (unmet_by wait visit)) held
   unmet_leads wait visit None p on e = absurd p
-  unmet_leads wait OnEntry (Some held) p on e = look_place wait false (Some held) (is_limited wait.limits) on (record { mode = p.0; unmet = e; settled = λ first. p.1; back = λ again. absurd (cc) })
+  unmet_leads wait OnEntry (Some held) p on e = look_leads wait false held on (record { mode = p.0; unmet = e; settled = λ first. p.1; back = λ again. absurd (cc) })
   unmet_leads wait (OnReturn (Woken by)) (Some held) p on e =
       let back : ComesBack wait (Woken None) held = subst (λ one. ComesBack wait (Woken one) held) (woken_by_none wait.on by on p.1.fits) p.1 in
-      look_place wait true (Some held) (is_limited wait.limits) on (record { mode = p.0; unmet = e; settled = λ first. absurd (cc); back = λ again. (on, back) })
-  unmet_leads wait (OnReturn (Ended cause)) (Some held) p on e = (subst (λ x. IsSettledBy truths.holds held.before x) (sym p.1.entry) (ended_settled truths.holds held.before wait.on cause), (refl, refl, refl, refl), refl, λ flag n f. f, λ none. absurd (cc))
+      look_leads wait true held on (record { mode = p.0; unmet = e; settled = λ first. absurd (cc); back = λ again. (on, back) })
+  unmet_leads wait (OnReturn (Ended cause)) (Some held) p on e = leads_as _ refl (λ none. absurd (cc)) (subst (λ x. IsSettledBy truths.holds held.before x) (sym p.1.entry) (ended_settled truths.holds held.before wait.on cause))
 
   -- a section whose wait has met its condition is settled
   met_settled : (wait : Wait C) (c : C) (visit : Visit) (held : Option (Held C N)) → wait.on ≡ OnCondition c → Tests truths wait visit held → truths.holds c (row_in held) ≡ true → IsSettled truths held
@@ -148,31 +155,18 @@ module _ {C : Type 0} {N : ℕ} (truths : Truths C) where
   -- the condition was tested
   pub met_leads : (wait : Wait C) (c : C) (visit : Visit) (held : Option (Held C N)) (b : Bool) → wait.on ≡ OnCondition c → Tests truths wait visit held → truths.holds c (row_in held) ≡ b →
       Leads (inside wait) (walk_after (cond b (Done (Answered Met)) (unmet_by wait visit))) held
-  met_leads wait c visit held true is p e = (met_settled wait c visit held is p e, (refl, refl, refl, refl), refl, λ flag n f. f, λ none. absurd (subst (λ x. Tests truths wait visit x) none p))
+  met_leads wait c visit held true is p e = leads_as _ refl (λ none. absurd (subst (λ x. Tests truths wait visit x) none p)) (met_settled wait c visit held is p e)
   met_leads wait c visit held false is p e = unmet_leads wait visit held p (subst IsForCondition (sym is) tt) (subst (λ on. IsUnmet truths on (row_in held)) (sym is) e)
 
-  queue_place : (wait : Wait C) (again : Bool) (word : Word) (held : Option (Held C N)) (b : Bool) → word.spin ≡ b → CanWait truths wait again held →
-      Leads (inside wait) (walk_after (cond b (Idle (InWait wait (InQueuing again Load))) (On (InWait wait (InQueuing again (Take word)))))) held
-  queue_place wait again word held true e p = (((p, tt), tt), (refl, refl, refl, refl), refl, λ flag n f. f, λ none. refl)
-  queue_place wait again word held false e p = (((p, e), tt), (refl, refl, refl, refl), refl, λ flag n f. f, λ none. refl)
-
   pub queue_leads : (wait : Wait C) (again : Bool) (word : Word) (held : Option (Held C N)) → CanWait truths wait again held → Leads (inside wait) (walk_after (queue_by wait again word)) held
-  queue_leads wait again word held p = queue_place wait again word held word.spin refl p
-
-  leave_place : (wait : Wait C) (cause : Cause) (word : Word) (held : Option (Held C N)) (b : Bool) → word.spin ≡ b → held ≡ None → IsInRange wait.on → MayShow wait.limits (Some cause) →
-      Leads (outside wait) (walk_after (cond b (Idle (InWait wait (InLeaving cause LeaveLoad))) (On (InWait wait (InLeaving cause (TakeToLeave word)))))) held
-  leave_place wait cause word held true e p range given = (((p, tt, range), given), (refl, refl, refl, refl), refl, λ flag n f. f, λ none. refl)
-  leave_place wait cause word held false e p range given = (((p, e, range), given), (refl, refl, refl, refl), refl, λ flag n f. f, λ none. refl)
+  queue_leads wait again word held p = either walk_after word.spin (Idle (InWait wait (InQueuing again Load))) (On (InWait wait (InQueuing again (Take word)))) (λ e. leads_to refl ((p, tt), tt)) (λ e. leads_to refl ((p, e), tt))
 
   pub leave_leads : (wait : Wait C) (cause : Cause) (word : Word) (held : Option (Held C N)) → held ≡ None → IsInRange wait.on → MayShow wait.limits (Some cause) → Leads (outside wait) (walk_after (leave_by wait cause word)) held
-  leave_leads wait cause word held p range given = leave_place wait cause word held word.spin refl p range given
-
-  rest_place : (wait : Wait C) (held : Option (Held C N)) (b : Bool) → held ≡ None → IsInRange wait.on → Leads (outside wait) (walk_after (cond b (On (InWait wait LookOut)) (Idle (InWait wait AwaitWakeInWait)))) held
-  rest_place wait held true p range = (((p, range), tt), (refl, refl, refl, refl), refl, λ flag n f. f, λ none. refl)
-  rest_place wait held false p range = (((p, range), tt), (refl, refl, refl, refl), refl, λ flag n f. f, λ none. refl)
+  leave_leads wait cause word held p range given =
+      either walk_after word.spin (Idle (InWait wait (InLeaving cause LeaveLoad))) (On (InWait wait (InLeaving cause (TakeToLeave word)))) (λ e. leads_to refl ((p, tt, range), given)) (λ e. leads_to refl ((p, e, range), given))
 
   pub rest_leads : (wait : Wait C) (held : Option (Held C N)) → held ≡ None → IsInRange wait.on → Leads (outside wait) (walk_after (rest_or_look wait)) held
-  rest_leads wait held p range = rest_place wait held (is_limited wait.limits) p range
+  rest_leads wait held p range = either walk_after (is_limited wait.limits) (On (InWait wait LookOut)) (Idle (InWait wait AwaitWakeInWait)) (λ e. leads_to refl ((p, range), tt)) (λ e. leads_to refl ((p, range), tt))
 
   pub pay_waiting_leads : (wait : Wait C) (held : Option (Held C N)) (b : Bool) → let next = walk_after (pay_waiting wait b) in
       (held ≡ None → IsInRange wait.on → PlaceFits truths next held) × (pays next ≡ b) × (has_queues next ≡ false) × (waits_in next ≡ waits_in (outside wait))
@@ -182,33 +176,21 @@ module _ {C : Type 0} {N : ℕ} (truths : Truths C) where
 
   -- ---- a wait for a variable loads the row for its scan
 
-  load_leads_at : (wait : Wait C) (again : Bool) (last : Word) (held : Option (Held C N)) (loaded : ℕ) (b : Bool) → ltb loaded N ≡ b → CanWait truths wait again held →
-      Leads (Some (InWait wait (InQueuing again (QueueToWait last)))) (Some (InWait wait (InQueuing again (cond b (LoadToScan last loaded) (QueueToWait last))))) held
-  load_leads_at wait again last held loaded true e p = (((p, ltb-true loaded N e), tt), (refl, refl, refl, refl), refl, λ flag n f. f, λ none. refl)
-  load_leads_at wait again last held loaded false e p = (((p, tt), tt), (refl, refl, refl, refl), refl, λ flag n f. f, λ none. refl)
-
   pub load_leads : (wait : Wait C) (again : Bool) (last : Word) (held : Option (Held C N)) (loaded : ℕ) → CanWait truths wait again held →
       Leads (Some (InWait wait (InQueuing again (QueueToWait last)))) (Some (InWait wait (InQueuing again (load_place N last loaded)))) held
-  load_leads wait again last held loaded p = load_leads_at wait again last held loaded (ltb loaded N) refl p
+  load_leads wait again last held loaded p =
+      either (λ x. Some (InWait wait (InQueuing again x))) (ltb loaded N) (LoadToScan last loaded) (QueueToWait last) (λ e. leads_to refl ((p, ltb-true loaded N e), tt)) (λ e. leads_to refl ((p, tt), tt))
 
   -- after its flag was set
   pub armed_leads : (wait : Wait C) (on : Subject C) (again : Bool) (last : Word) (held : Option (Held C N)) → CanWait truths wait again held →
       Leads (Some (InWait wait (InQueuing again (QueueToWait last)))) (Some (InWait wait (InQueuing again (armed_place N on last)))) held
-  armed_leads wait (OnCondition c) again last held p = (((p, tt), tt), (refl, refl, refl, refl), refl, λ flag n f. f, λ none. refl)
-  armed_leads wait (OnVariables variables) again last held p = by_bit last.cond where
-    by_bit : (b : Bool) → Leads (Some (InWait wait (InQueuing again (QueueToWait last)))) (Some (InWait wait (InQueuing again (cond b (load_place N last 0) (QueueToWait last))))) held
-    by_bit true = load_leads wait again last held 0 p
-    by_bit false = (((p, tt), tt), (refl, refl, refl, refl), refl, λ flag n f. f, λ none. refl)
+  armed_leads wait (OnCondition c) again last held p = leads_to refl ((p, tt), tt)
+  armed_leads wait (OnVariables variables) again last held p = either (λ x. Some (InWait wait (InQueuing again x))) last.cond (load_place N last 0) (QueueToWait last) (λ e. load_leads wait again last held 0 p) (λ e. leads_to refl ((p, tt), tt))
 
   -- ---- calls that wake
 
-  signal_place : (waking : Waking) (k : ℕ) (word : Word) (held : Option (Held C N)) (b : Bool) → word.spin ≡ b → k < 4 → IsSettled truths held →
-      Leads None (walk_after (cond b (Idle (InSignal waking k SignalLoad)) (On (InSignal waking k (TakeToWake word))))) held
-  signal_place waking k word held true e low p = ((tt, low, p), (refl, refl, refl, refl), refl, λ flag n f. f, λ none. refl)
-  signal_place waking k word held false e low p = ((e, low, p), (refl, refl, refl, refl), refl, λ flag n f. f, λ none. refl)
-
   pub signal_leads : (waking : Waking) (k : ℕ) (word : Word) (held : Option (Held C N)) → k < 4 → IsSettled truths held → Leads None (walk_after (signal_by waking k word)) held
-  signal_leads waking k word held low p = signal_place waking k word held word.spin refl low p
+  signal_leads waking k word held low p = either walk_after word.spin (Idle (InSignal waking k SignalLoad)) (On (InSignal waking k (TakeToWake word))) (λ e. leads_to refl (tt, low, p)) (λ e. leads_to refl (e, low, p))
 
   pub pay_woken_leads : (waking : Waking) (k : ℕ) (held : Option (Held C N)) (b : Bool) → let next = walk_after (pay_woken waking k b) in
       (k < 4 → IsSettled truths held → PlaceFits truths next held) × (pays next ≡ b) × (has_queues next ≡ false) × (waits_in next ≡ None) × (has_armed next ≡ false) × (is_queuing next ≡ false) × Way None next × (phase_by next ≡ phase_by {C = C} None) × (was_woken next ≡ false)
@@ -217,12 +199,8 @@ module _ {C : Type 0} {N : ℕ} (truths : Truths C) where
 
   -- ---- calls that show
 
-  show_place : (word : Word) (held : Option (Held C N)) (b : Bool) → word.spin ≡ b → IsSettled truths held → Leads None (walk_after (cond b (Idle (InShow ShowLoad)) (On (InShow (TakeToShow word))))) held
-  show_place word held true e p = ((tt, p), (refl, refl, refl, refl), refl, λ flag n f. f, λ none. refl)
-  show_place word held false e p = ((e, p), (refl, refl, refl, refl), refl, λ flag n f. f, λ none. refl)
-
   pub show_leads : (word : Word) (held : Option (Held C N)) → IsSettled truths held → Leads None (walk_after (show_by word)) held
-  show_leads word held p = show_place word held word.spin refl p
+  show_leads word held p = either walk_after word.spin (Idle (InShow ShowLoad)) (On (InShow (TakeToShow word))) (λ e. leads_to refl (tt, p)) (λ e. leads_to refl (e, p))
 
   -- a section whose wait a look has ended is settled
   pub shown_settled : (wait : Wait C) (again : Bool) (cause : Cause) (held : Option (Held C N)) → CanWait truths wait again held → IsSettled truths (held_after again (Some cause) held)

@@ -1,27 +1,15 @@
 -- Whether a wait that leaves still stands where it waits.
-use Rattle.ns_word.proofs.Prelude.{AreApart, Bool, Cause, Cv, EachFits, Event, InLeaving, InWait, IsExpected, IsFoundLeaving, IsLawful, Leave, Left, List, Lists, LockState, Mode, None, OnCondition, OnVariables, Phase, PlaceFits, SeatView, SectionFits, Some, Step, Truths, VariableWaiterFits}
-use Rattle.ns_word.proofs.Prelude.{Variables, VariablesTell, ViewFits, Wait, Waiting, Word, [], ap, arith, cond, expected_for, false, get_or-le-sum_by, home_of, inl, inr, length, ltb, ltb-false, ltb-true, phase_by, refl, standing_after, stands_at, subst, sum_by, sym, times, times_in, true}
-use Rattle.ns_word.proofs.Prelude.{waiters_of, waits_in, walk_at, without, without_in, ℕ, ◌<◌, ◌∙◌, ◌≡◌, ◌≤◌}
-use Rattle.ns_word.proofs.CountsIn.{gone_from, left_at, some_list}
-use Rattle.ns_word.proofs.Keeps.{stance_mode, stance_variables}
+use Rattle.ns_word.proofs.Prelude.{AreApart, Bool, Cause, Cv, Event, InLeaving, InWait, IsExpected, IsFoundLeaving, IsLawful, Leave, Left, List, Lists, LockState, Mode, None, OnCondition, OnVariables, Phase, SeatView, SectionFits, Some, Step, Truths, Variables, VariablesTell, ViewFits, Wait, Word}
+use Rattle.ns_word.proofs.Prelude.{[], ap, arith, cond, expected_for, false, get_or-le-sum_by, home_of, inl, inr, length, ltb, ltb-false, ltb-true, phase_by, refl, standing_after, stands_at, subst, sum_by, sym, times, times_in, true, waiters_of, waits_in, walk_at, without, without_in, ℕ, ◌<◌, ◌∙◌}
+use Rattle.ns_word.proofs.Prelude.{◌≡◌}
+use Rattle.ns_word.proofs.CountsIn.{gone_from, left_at}
+use Rattle.ns_word.proofs.Variables.{stands_still}
 use Rattle.ns_word.proofs.Scans.{times_without}
-use Rattle.ns_word.proofs.Stands.{effect_at}
-use Rattle.ns_word.proofs.Variables.{one_of}
-use Rattle.ns_word.proofs.Views.{apart_parts, each_parts, walk_here}
+use Rattle.ns_word.proofs.Stepping.{effect_at, place_at, step_fits}
+use Rattle.ns_word.proofs.Views.{apart_parts, walk_here}
 
 module _ {C : Type 0} {N : ℕ} (phases : ℕ → Phase C) (lists : Lists C) (views : List (SeatView C N)) (seat : ℕ) (mode : Mode) (variables : Variables) where
-  -- one that waits for variables, by its place, and stands in some list, waits for them by the history
-  stands_still : VariablesTell phases lists views → length lists.cvs ≡ 4 → waits_in (walk_at seat views) ≡ Some (record { mode = mode; on = Some (OnVariables variables); tries = 0 }) → 1 ≤ sum_by (times_in seat) lists.cvs → phases seat ≡ Waiting variables mode
-  stands_still p four stance some =
-      let list = some_list seat lists four some in
-      let waiter = one_of (VariableWaiterFits phases views list.0) seat (waiters_of lists (Cv list.0)) list.2 (p.own list.0 list.1) in
-      let both : Some (record { mode = waiter.0.mode; on = Some (OnVariables waiter.2.among); tries = 0 }) ≡ Some (record { mode = mode; on = Some (OnVariables variables); tries = 0 }) =
-      sym waiter.2.stands ∙ ap (λ s. waits_in (walk_at s views)) waiter.1 ∙ stance in
-      let same_mode : waiter.0.mode ≡ mode = ap stance_mode both in
-      let same_among : waiter.2.among ≡ variables = ap stance_variables both in
-      subst (λ s. phases s ≡ Waiting waiter.2.among waiter.0.mode) waiter.1 waiter.2.waits ∙ (λ i. Waiting (same_among i) (same_mode i))
-
-  -- and who stands in none has been woken by one of them
+  -- who waits for variables, by its place, and stands in none of their lists, has been woken by one of them
   stands_no_more : VariablesTell phases lists views → length lists.cvs ≡ 4 → IsExpected (expected_for (OnVariables variables) mode) (phases seat) → sum_by (times_in seat) lists.cvs ≡ 0 → IsFoundLeaving false variables mode (phases seat)
   stands_no_more p four (inl waits) none =
       let one = p.some variables seat mode waits in
@@ -34,7 +22,7 @@ module _ {C : Type 0} {N : ℕ} (truths : Truths C) (old new : LockState C N) (v
     (stood : Bool) (step : Step truths old view (Left stood) new commits) (walks : step.walk ≡ InWait wait (InLeaving cause (Leave last))) where
   -- it finds whether it stands there
   found_so : stands_at view.seat (home_of wait.on) old.lists ≡ stood
-  found_so = let e = effect_at truths old new view (Left stood) commits (InWait wait (InLeaving cause (Leave last))) step walks in let found : Left (stands_at view.seat (home_of wait.on) old.lists) ≡ Left stood = e.0 in cc
+  found_so = let e = effect_at step (InWait wait (InLeaving cause (Leave last))) walks in let found : Left (stands_at view.seat (home_of wait.on) old.lists) ≡ Left stood = e.0 in cc
 
   pub leaves_variables : (seats : ℕ) (h : List (Event C N)) (variables : Variables) → IsLawful truths seats h old → wait.on ≡ OnVariables variables → IsFoundLeaving stood variables wait.mode ((standing_after h).phases view.seat)
   leaves_variables seats h variables lawful on = go stood (ap (λ on. stands_at view.seat (home_of on) old.lists) (sym on) ∙ found_so) where
@@ -42,7 +30,7 @@ module _ {C : Type 0} {N : ℕ} (truths : Truths C) (old new : LockState C N) (v
     place = step.walks ∙ ap Some walks
 
     fits : ViewFits truths seats (standing_after h) old.row view
-    fits = (each_parts truths seats (standing_after h) old.row step.front view step.back (subst (λ vs. EachFits truths seats (standing_after h) old.row vs) step.was lawful.one_history.each)).1
+    fits = step_fits step seats h lawful
 
     stance : waits_in (walk_at view.seat old.views) ≡ Some (record { mode = wait.mode; on = Some (OnVariables variables); tries = 0 })
     stance =
@@ -50,7 +38,7 @@ module _ {C : Type 0} {N : ℕ} (truths : Truths C) (old new : LockState C N) (v
         ∙ ap waits_in place ∙ ap (λ on. Some (record { mode = wait.mode; on = Some on; tries = 0 })) on
 
     free : view.held ≡ None
-    free = (subst (λ w. PlaceFits truths w view.held) place fits.place).0.0
+    free = (place_at step seats h (InWait wait (InLeaving cause (Leave last))) walks lawful).0.0
 
     expected : IsExpected (expected_for (OnVariables variables) wait.mode) ((standing_after h).phases view.seat)
     expected = subst (λ on. IsExpected (expected_for on wait.mode) ((standing_after h).phases view.seat)) on
@@ -66,7 +54,7 @@ module _ {C : Type 0} {N : ℕ} (truths : Truths C) (old new : LockState C N) (v
   -- the lists without it
   lists_left : stood ≡ true → new.lists ≡ without view.seat old.lists
   lists_left is =
-      let e = effect_at truths old new view (Left stood) commits (InWait wait (InLeaving cause (Leave last))) step walks in
+      let e = effect_at step (InWait wait (InLeaving cause (Leave last))) walks in
       ap (λ p. p.lists) e.2 ∙ ap (λ b. cond b (without view.seat old.lists) old.lists) (found_so ∙ is)
 
   -- and then it stands nowhere

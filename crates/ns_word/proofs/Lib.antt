@@ -8,9 +8,11 @@ pub mod Codes
 pub mod CountsIn
 pub mod Courses
 pub mod Dispatch
+pub mod Effects
 pub mod Enters
 pub mod Finds
 pub mod Firsts
+pub mod Follows
 pub mod Groups
 pub mod Hands
 pub mod Homes
@@ -20,7 +22,9 @@ pub mod Knows
 pub mod Leads
 pub mod Leavers
 pub mod Leaving
+pub mod Listed
 pub mod Longs
+pub mod Looks
 pub mod Mapped
 pub mod Numbers
 pub mod Owns
@@ -34,8 +38,8 @@ pub mod Same
 pub mod Scans
 pub mod Seen
 pub mod Stands
-pub mod StandsOnce
 pub mod Starts
+pub mod Stepping
 pub mod TakenTold
 pub mod ToldAfter
 pub mod Variables

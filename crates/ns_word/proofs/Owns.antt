@@ -1,29 +1,12 @@
 -- What the steps leave of the waiters: each is its seat's own.
-use Rattle.ns_word.proofs.Prelude.{AwaitWake, Bool, Every, Held, InAcquire, InWait, List, Lists, Mode, None, NoneIs, Option, Owed, Phase, SeatView, Some, VariableWaiterFits, Waiter, WaiterFits, WaitersOwn, WaitersPlaced, Walk, [], ap, arith, cases_eq, cond, counts_in, eq-eqb, eqb, eqb-true, false}
-use Rattle.ns_word.proofs.Prelude.{filter, has_eligible, inl, inr, is_eligible, is_long, is_of, is_unwoken, left_of, list_any, lock_stance, not, one_if, or_right, owed_to, place_awaits, queued, reads, refl, subst, suc, sym, times, times_in, times_in-cons, true, waits_in, walk_at, without_in}
-use Rattle.ns_word.proofs.Prelude.{writes, ℕ, ◌&&◌, ◌++◌, ◌+◌, ◌||◌, ◌∙◌, ◌∷◌, ◌≡◌, ◌≢◌}
+use Rattle.ns_word.proofs.Prelude.{AwaitWake, Bool, Every, Held, InAcquire, InWait, List, Lists, Mode, None, NoneIs, Option, Owed, Phase, SeatView, Some, VariableWaiterFits, Waiter, WaiterFits, WaitersOwn, WaitersPlaced, Walk, [], ap, arith, cases_eq, cond, counts_in, eq-eqb, eqb, eqb-true}
+use Rattle.ns_word.proofs.Prelude.{every-append, false, has_eligible, inl, inr, is_eligible, is_long, is_unwoken, left_of, list_any, lock_stance, one_if, or_right, owed_to, place_awaits, queued, refl, subst, suc, sym, times, times_in, times_in-cons, true, waits_in, walk_at, without_in, ℕ, ◌++◌}
+use Rattle.ns_word.proofs.Prelude.{◌+◌, ◌||◌, ◌∙◌, ◌∷◌, ◌≡◌, ◌≢◌}
+use Rattle.ns_word.proofs.Listed.{listed_left, listed_queued, listed_without}
 use Rattle.ns_word.proofs.CountsIn.{counts_none}
 use Rattle.ns_word.proofs.Views.{view_of, walk_here, walk_there}
 use Rattle.ns_word.proofs.Phases.{cond_in, tries_in}
 use Rattle.ns_word.proofs.Scans.{times_scan, times_without}
-
-module _ {C : Type 0} {N : ℕ} where
-  own_filter : (test : Waiter C → Bool) (ws : List (Waiter C)) (views : List (SeatView C N)) → WaitersOwn ws views → WaitersOwn (filter test ws) views
-  own_filter test [] views p = tt
-  own_filter test (w ∷ ws) views p =
-      elim (test w) as (λ b. WaitersOwn (cond b (w ∷ filter test ws) (filter test ws)) views) [ true ↦ (p.0, own_filter test ws views p.1) | false ↦ own_filter test ws views p.1 ]
-
-  own_left : (meets : C → Bool) (ws : List (Waiter C)) (views : List (SeatView C N)) → WaitersOwn ws views → WaitersOwn (left_of meets ws) views
-  own_left meets [] views p = tt
-  own_left meets (w ∷ ws) views p =
-      elim (is_eligible meets w) as (λ b. WaitersOwn (cond b (cond (writes w) ws (filter (λ v. not (reads v && is_eligible meets v)) ws)) (w ∷ left_of meets ws)) views) [
-        | true ↦ elim (writes w) as (λ c. WaitersOwn (cond c ws (filter (λ v. not (reads v && is_eligible meets v)) ws)) views) [ true ↦ p.1 | false ↦ own_filter (λ v. not (reads v && is_eligible meets v)) ws views p.1 ]
-        | false ↦ (p.0, own_left meets ws views p.1)
-      ]
-
-  own_append : (ws vs : List (Waiter C)) (views : List (SeatView C N)) → WaitersOwn ws views → WaitersOwn vs views → WaitersOwn (ws ++ vs) views
-  own_append [] vs views p q = q
-  own_append (w ∷ ws) vs views p q = (p.0, own_append ws vs views p.1 q)
 
 module _ {C : Type 0} {N : ℕ} (front : List (SeatView C N)) (who : ℕ) (walk : Option (Walk C)) (held : Option (Held C N)) (owed : List Owed) (walk' : Option (Walk C)) (held' : Option (Held C N)) (owed' : List Owed) (back : List (SeatView C N)) where
   abbrev olds : List (SeatView C N)
@@ -67,25 +50,25 @@ module _ {C : Type 0} {N : ℕ} (front : List (SeatView C N)) (who : ℕ) (walk 
   own_queued mode c tries first ws apart none waits p =
       let self : WaiterFits news (record { seat = who; mode = mode; cond = c; tries = tries; via = None }) = ap (λ w. lock_stance (waits_in w)) (walk_here front (view_of who walk' held' owed') back apart) ∙ waits in
       let rest = own_stays ws none p in
-      elim first as (λ b. WaitersOwn (queued who mode c tries b ws) news) [ true ↦ (self, rest) | false ↦ own_append ws (record { seat = who; mode = mode; cond = c; tries = tries; via = None } ∷ []) news rest (self, tt) ]
+      listed_queued (WaiterFits news) who mode c tries first ws self rest
 
   -- a scan takes some, and the seat stands nowhere
   pub own_scanned : (meets : C → Bool) (ws : List (Waiter C)) → times_in who ws ≡ 0 → WaitersOwn ws olds → WaitersOwn (left_of meets ws) news
-  own_scanned meets ws none p = let parts = times_scan who meets ws in own_stays (left_of meets ws) (omega (arith, parts, none)) (own_left meets ws olds p)
+  own_scanned meets ws none p = let parts = times_scan who meets ws in own_stays (left_of meets ws) (omega (arith, parts, none)) (listed_left (WaiterFits olds) meets ws p)
 
   -- and puts itself in as it does
   pub own_waited : (meets : C → Bool) (mode : Mode) (c : Option C) (tries : ℕ) (again : Bool) (ws : List (Waiter C)) → NoneIs who front → times_in who ws ≡ 0 → lock_stance (waits_in walk') ≡ Some (mode, c, tries) →
       WaitersOwn ws olds → WaitersOwn (queued who mode c tries again (left_of meets ws)) news
   own_waited meets mode c tries again ws apart none waits p =
-      let parts = times_scan who meets ws in own_queued mode c tries again (left_of meets ws) apart (omega (arith, parts, none)) waits (own_left meets ws olds p)
+      let parts = times_scan who meets ws in own_queued mode c tries again (left_of meets ws) apart (omega (arith, parts, none)) waits (listed_left (WaiterFits olds) meets ws p)
 
   -- the seat stands there no more
   pub own_without : (ws : List (Waiter C)) → WaitersOwn ws olds → WaitersOwn (without_in who ws) news
-  own_without ws p = own_stays (without_in who ws) (times_without who ws) (own_filter (λ w. not (is_of who w)) ws olds p)
+  own_without ws p = own_stays (without_in who ws) (times_without who ws) (listed_without (WaiterFits olds) who ws p)
 
 -- those who wait for a variable may stand in the lock list, where they have no condition
 pub own_moved : {C : Type 0} {N : ℕ} (phases : ℕ → Phase C) (views : List (SeatView C N)) (k : ℕ) (ws taken : List (Waiter C)) → WaitersOwn ws views → Every (VariableWaiterFits phases views k) taken → WaitersOwn (ws ++ taken) views
-own_moved phases views k ws taken p q = own_append ws taken views p (plain taken q) where
+own_moved phases views k ws taken p q = every-append (WaiterFits views) ws taken p (plain taken q) where
   plain : (vs : List (Waiter _)) → Every (VariableWaiterFits phases views k) vs → WaitersOwn vs views
   plain [] f = tt
   plain (v ∷ vs) f = (ap lock_stance f.0.stands ∙ (λ i. Some (v.mode, sym f.0.plain i, sym f.0.untried i)), plain vs f.1)

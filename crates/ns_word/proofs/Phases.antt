@@ -1,7 +1,7 @@
 -- A waiter that has a condition is in the wait for it, by the history.
-use Rattle.ns_word.proofs.Prelude.{AwaitWake, AwaitWakeInWait, Bool, Cond, EachFits, Event, Held, InAcquire, InLeaving, InWait, IsExpected, IsLawful, List, LockState, LookOut, Mode, None, OnCondition, OnVariables, Option, PayInWait, Phase, PlaceFits, SeatView, SectionFits, Some, Stance, Standing}
-use Rattle.ns_word.proofs.Prelude.{Subject, Truths, Wait, WaitFits, WaitPlace, Waiter, WaiterFits, WaitersOwn, Walk, [], ap, arith, cases_eq, cond, cond_on, eq-eqb, expected_for, false, inl, inr, lock_stance, ne_eqb, phase_of, place_awaits, refl, slice_get, standing_after, subst, suc, true}
-use Rattle.ns_word.proofs.Prelude.{waits_in, walk_at, zero, ℕ, ◌∙◌, ◌∷◌, ◌≡◌, ◌≤◌}
+use Rattle.ns_word.proofs.Prelude.{AwaitWake, AwaitWakeInWait, Bool, Cond, Event, Held, InAcquire, InLeaving, InWait, IsExpected, IsLawful, List, LockState, LookOut, Mode, None, OnCondition, OnVariables, Option, PayInWait, Phase, PlaceFits, SeatView, SectionFits, Some, Stance, Standing, Subject}
+use Rattle.ns_word.proofs.Prelude.{Truths, Wait, WaitFits, WaitPlace, Waiter, WaiterFits, WaitersOwn, Walk, [], ap, arith, cond, cond_on, expected_for, false, lock_stance, phase_of, place_awaits, refl, slice_get, standing_after, subst, suc, true, waits_in, walk_at, zero, ℕ, ◌∙◌, ◌∷◌, ◌≡◌, ◌≤◌}
+use Rattle.ns_word.proofs.Views.{view_with}
 
 -- how one waits that waits for this condition in this mode
 abbrev pub waiting_for : {C : Type 0} → Mode → C → ℕ → Option (Stance C)
@@ -64,14 +64,6 @@ module _ {C : Type 0} {N : ℕ} (truths : Truths C) where
       go false a f = absurd (cc)
     phase_by_place seat _ held mode c tries e place section = absurd (cc)
 
-    phase_at : (seats seat : ℕ) (views : List (SeatView C N)) (mode : Mode) (c : C) (tries : ℕ) → EachFits truths seats now row views → waits_in (walk_at seat views) ≡ waiting_for mode c tries → now.phases seat ≡ Cond c mode
-    phase_at seats seat [] mode c tries p e = absurd (cc)
-    phase_at seats seat (u ∷ views) mode c tries p e = elim (cases_eq u.seat seat) [
-      | inl same ↦ subst (λ s. now.phases s ≡ Cond c mode) same
-          (phase_by_place u.seat u.walk u.held mode c tries (subst (λ b. waits_in (cond b u.walk (walk_at seat views)) ≡ waiting_for mode c tries) (eq-eqb u.seat seat same) e) p.0.place p.0.section)
-      | inr other ↦ phase_at seats seat views mode c tries p.1 (subst (λ b. waits_in (cond b u.walk (walk_at seat views)) ≡ waiting_for mode c tries) (ne_eqb u.seat seat other) e)
-    ]
-
 module _ {C : Type 0} {N : ℕ} where
   abbrev FitsIf : List (SeatView C N) → Option (Waiter C) → Type 0
   FitsIf views None = Unit {0}
@@ -91,19 +83,15 @@ module _ {C : Type 0} {N : ℕ} where
     go false f = absurd (cc)
   few_tries truths _ held mode c tries place e = absurd (cc)
 
-  few_at : (truths : Truths C) (seats : ℕ) (now : Standing C) (row : List ℕ) (seat : ℕ) (views : List (SeatView C N)) (mode : Mode) (c : Option C) (tries : ℕ) → EachFits truths seats now row views → lock_stance (waits_in (walk_at seat views)) ≡ Some (mode, c, tries) → tries ≤ 30
-  few_at truths seats now row seat [] mode c tries p e = absurd (cc)
-  few_at truths seats now row seat (u ∷ views) mode c tries p e = elim (cases_eq u.seat seat) [
-    | inl same ↦ few_tries truths u.walk u.held mode c tries p.0.place (subst (λ b. lock_stance (waits_in (cond b u.walk (walk_at seat views))) ≡ Some (mode, c, tries)) (eq-eqb u.seat seat same) e)
-    | inr other ↦ few_at truths seats now row seat views mode c tries p.1 (subst (λ b. lock_stance (waits_in (cond b u.walk (walk_at seat views))) ≡ Some (mode, c, tries)) (ne_eqb u.seat seat other) e)
-  ]
-
   pub waiter_tries : (truths : Truths C) (seats : ℕ) (h : List (Event C N)) (s : LockState C N) (at : ℕ) (w : Waiter C) → IsLawful truths seats h s → slice_get s.lists.lock at ≡ Some w → w.tries ≤ 30
   waiter_tries truths seats h s at w p found =
       let own : WaiterFits s.views w = subst (λ x. FitsIf s.views x) found (own_at s.lists.lock s.views at p.waiters_own) in
-      few_at truths seats (standing_after h) s.row w.seat s.views w.mode w.cond w.tries p.one_history.each own
+      let view = view_with truths seats (standing_after h) s.row (λ walk. lock_stance (waits_in walk) ≡ Some (w.mode, w.cond, w.tries)) w.seat s.views (λ e. absurd (cc)) p.one_history.each own in
+      few_tries truths view.0.walk view.0.held w.mode w.cond w.tries view.3.place view.2
 
   pub waiter_phase : (truths : Truths C) (seats : ℕ) (h : List (Event C N)) (s : LockState C N) (at : ℕ) (w : Waiter C) (c : C) → IsLawful truths seats h s → slice_get s.lists.lock at ≡ Some w → w.cond ≡ Some c → phase_of h w.seat ≡ Cond c w.mode
   waiter_phase truths seats h s at w c p found e =
       let own : WaiterFits s.views w = subst (λ x. FitsIf s.views x) found (own_at s.lists.lock s.views at p.waiters_own) in
-      phase_at truths (standing_after h) s.row seats w.seat s.views w.mode c w.tries p.one_history.each (stance_of (waits_in (walk_at w.seat s.views)) w.mode c w.tries (own ∙ ap (λ x. Some (w.mode, x, w.tries)) e))
+      let stance = stance_of (waits_in (walk_at w.seat s.views)) w.mode c w.tries (own ∙ ap (λ x. Some (w.mode, x, w.tries)) e) in
+      let view = view_with truths seats (standing_after h) s.row (λ walk. waits_in walk ≡ waiting_for w.mode c w.tries) w.seat s.views (λ e. absurd (cc)) p.one_history.each stance in
+      subst (λ seat. phase_of h seat ≡ Cond c w.mode) view.1 (phase_by_place truths (standing_after h) s.row view.0.seat view.0.walk view.0.held w.mode c w.tries view.2 view.3.place view.3.section)

@@ -2,18 +2,14 @@
 use Rattle.ns_word.proofs.Prelude.{AreApart, Cv, EachFits, Event, IsLawful, IsOrderly, List, Lists, LockState, None, NoneIs, Read, SeatView, Standing, Truths, Waiter, WaitersPlaced, [], ap, arith, awaits, beside, cases_eq, cond, counts_in, eqb, false, few, inl, inr, is_reading, is_unwoken, length}
 use Rattle.ns_word.proofs.Prelude.{ne_eqb, one_if, one_most, owed_to, readers, refl, room_for, standing_after, subst, sym, times, times_among, times_in, times_in-cons, true, waiters_of, walk_at, ℕ, ◌++◌, ◌+◌, ◌<◌, ◌∙◌, ◌∷◌, ◌≡◌, ◌≤◌}
 use Rattle.ns_word.proofs.CountsIn.{counts_none, counts_there}
-use Rattle.ns_word.proofs.Views.{owed_at, none_parts, each_parts}
+use Rattle.ns_word.proofs.Views.{view_with, owed_at, none_parts, each_parts}
 use Rattle.ns_word.proofs.Knows.{due_awaits}
 
 -- ---- seats that wait
 
 module _ {C : Type 0} {N : ℕ} (truths : Truths C) (seats : ℕ) (now : Standing C) (row : List ℕ) where
   pub waiting_below : (seat : ℕ) (views : List (SeatView C N)) → EachFits truths seats now row views → awaits (walk_at seat views) ≡ true → seat < seats
-  waiting_below seat [] p a = absurd (cc)
-  waiting_below seat (u ∷ views) p a = elim (cases_eq u.seat seat) [
-    | inl e ↦ subst (λ s. s < seats) e p.0.in_range
-    | inr ne ↦ waiting_below seat views p.1 (subst (λ b. awaits (cond b u.walk (walk_at seat views)) ≡ true) (ne_eqb u.seat seat ne) a)
-  ]
+  waiting_below seat views p a = let view = view_with truths seats now row (λ walk. awaits walk ≡ true) seat views (λ e. absurd (cc)) p a in subst (λ s. s < seats) view.1 view.3.in_range
 
 module _ {C : Type 0} {N : ℕ} (lists : Lists C) (flags : ℕ → ℕ) (views : List (SeatView C N)) where
   -- any other stands nowhere, and is owed nothing
@@ -50,7 +46,7 @@ module _ {C : Type 0} {N : ℕ} (truths : Truths C) (seats : ℕ) (h : List (Eve
   ])
 
   -- nor does one stand in the lock list and in that of a variable
-  beside_once : (seat k : ℕ) → k < 4 → beside s.lists seat k ≤ 1
+  pub beside_once : (seat k : ℕ) → k < 4 → beside s.lists seat k ≤ 1
   beside_once seat k low = elim (cases_eq (times_in seat (waiters_of s.lists (Cv k))) 0) [
     | inl none ↦ omega (arith, none, once_in_lock seat)
     | inr some ↦ let there = counts_there seat k s.lists placed.four low (omega (arith, some)) in omega (arith, there, counts_once seat, placed.once seat k low)
@@ -140,5 +136,3 @@ module _ {C : Type 0} {N : ℕ} (truths : Truths C) (seats : ℕ) (h : List (Eve
       let here = (each_parts truths seats (standing_after h) s.row front view back each).1 in
       let room = room_for seats (reading views) (reader view) (λ seat. reading_once seat views apart) (λ seat high. reading_below truths seats (standing_after h) s.row seat views each high) here.in_range (reading_not front view back apart none) in
       omega (arith, count, reading_length views, room)
-
--- ---- flags in an array

@@ -1,8 +1,8 @@
 -- What the steps leave of the sections.
-use Rattle.ns_word.proofs.Prelude.{Any, Bool, CameBack, Cause, Ended, EntryFits, Event, Exit, ExitFits, Expired, Held, HeldFits, IsBySeats, IsExpected, IsLegal, IsLegalEvent, IsSettledBy, List, Locked, Met, Mode, ModeFits, None, Notified, OnCondition, OnVariables, Only, Opening, Option, Owed}
-use Rattle.ns_word.proofs.Prelude.{OwesAs, Phase, PlaceFits, Read, SeatView, SectionFits, Some, Standing, Truths, Variables, Waiting, Walk, Woken, Word, Write, [], answer_of, ap, arith, both_ways, cond, entry_of, eq-eqb, eqb-true, false, first_standing, inl, inr, is_met, is_reading, is_writing}
-use Rattle.ns_word.proofs.Prelude.{left_phase, legal_append, length, length-set, ne_eqb, phase_after, phase_before, phase_by, readers, refl, section_of, slice_set, standing_after, standing_from-append, standing_next, subst, sym, true, who_of, writers, ℕ, ◌++◌, ◌+◌, ◌-◌, ◌<◌, ◌∙◌, ◌∷◌, ◌≡◌, ◌≢◌}
-use Rattle.ns_word.proofs.Prelude.{◌≤◌}
+use Rattle.ns_word.proofs.Prelude.{Any, Bool, CameBack, Cause, Ended, EntryFits, Event, Exit, ExitFits, Expired, Held, HeldFits, IsBySeats, IsExpected, IsLegal, IsLegalEvent, IsSettledBy, List, Locked, Met, Mode, ModeFits, None, Notified, OnCondition, OnVariables, OneWriter, Only, Opening, Option}
+use Rattle.ns_word.proofs.Prelude.{Owed, OwesAs, Phase, PlaceFits, Read, ReadersCounted, SeatView, SectionFits, Some, Standing, Truths, Variables, ViewFits, Waiting, Walk, Woken, Word, Write, [], answer_of, ap, arith, both_ways, cond, entry_of, eq-eqb, eqb-true, false, first_standing, inl, inr}
+use Rattle.ns_word.proofs.Prelude.{is_met, is_reading, is_writing, left_phase, legal_append, length, length-set, ne_eqb, phase_after, phase_before, phase_by, readers, refl, section_of, slice_set, standing_after, standing_from-append, standing_next, subst, sym, true, who_of, writers, ℕ, ◌++◌, ◌+◌}
+use Rattle.ns_word.proofs.Prelude.{◌-◌, ◌<◌, ◌∙◌, ◌∷◌, ◌≡◌, ◌≢◌, ◌≤◌, ◌⊎◌}
 use Rattle.ns_model.specs.declared.phase.Phase.TheVariants.{Left}
 use Rattle.ns_word.proofs.Leaving.{left_event, left_is_legal, left_next_here, left_next_there, left_row, left_who}
 use Rattle.ns_word.proofs.Groups.{Safe}
@@ -69,208 +69,44 @@ after_wake {C} {N} truths seats h e k word row views low legal same phases p =
       apart = p.apart;
     }
 
+-- the word counts the sections in hand
+abbrev Counted : {C : Type 0} {N : ℕ} → Word → List (SeatView C N) → Type 0
+Counted word views = OneWriter word views × ReadersCounted word views
+
+-- what an acquire makes of a free word, and what giving a section up makes of one: its write bit, and its readers
+abbrev pub Acquires : Mode → Word → Bool → ℕ → Type 0
+Acquires Write word write' readers' = (word.readers ≡ 0) × (write' ≡ true) × (readers' ≡ word.readers)
+Acquires Read word write' readers' = (write' ≡ false) × (readers' ≡ word.readers + 1)
+
+abbrev pub GivesUp : Mode → Word → Bool → ℕ → Type 0
+GivesUp Write word write' readers' = (write' ≡ false) × (readers' ≡ word.readers)
+GivesUp Read word write' readers' = (write' ≡ word.write) × (readers' ≡ word.readers - 1)
+
 module _ {C : Type 0} {N : ℕ} (truths : Truths C) (seats : ℕ) (h : List (Event C N)) where
-  module _ (front : List (SeatView C N)) (who : ℕ) (walk : Option (Walk C)) (owed : List Owed) (walk' : Option (Walk C)) (owed' : List Owed) (back : List (SeatView C N)) where
-    -- a step that leaves the sections, but for what is shown of the seat's own
-    pub unchanged_by : (word word' : Word) (row : List ℕ) (held held' : Option (Held C N)) → word'.write ≡ word.write → word'.readers ≡ word.readers →
-        PlaceFits truths walk' held' → OwesAs walk' owed' → is_writing held' ≡ is_writing held → is_reading held' ≡ is_reading held →
-        (SectionFits (standing_after h) row who walk held → SectionFits (standing_after h) row who walk' held') →
-        Safe truths seats h word row (front ++ view_of who walk held owed ∷ back) → Safe truths seats h word' row (front ++ view_of who walk' held' owed' ∷ back)
-    unchanged_by word word' row held held' same_write same_readers place owes writing reading fits p =
-        let view = view_of who walk held owed in
-        let view' = view_of who walk' held' owed' in
-        let parts = each_parts truths seats (standing_after h) row front view back p.one_history.each in
-        let w : writers (front ++ view' ∷ back) ≡ writers (front ++ view ∷ back) = writers_at front view' back ∙ ap (λ b. writers front + (cond b 1 0 + writers back)) writing ∙ sym (writers_at front view back) in
-        let r : readers (front ++ view' ∷ back) ≡ readers (front ++ view ∷ back) = readers_at front view' back ∙ ap (λ b. readers front + (cond b 1 0 + readers back)) reading ∙ sym (readers_at front view back) in
-        record {
-          one_writer = record { bit = w ∙ p.one_writer.bit ∙ ap (λ b. cond b 1 0) (sym same_write); alone = λ e. r ∙ p.one_writer.alone (sym same_write ∙ e) };
-          count = same_readers ∙ p.count ∙ sym r;
-          one_history = record {
-            legal = p.one_history.legal;
-            by_seats = p.one_history.by_seats;
-            each = each_join truths seats (standing_after h) row front view' back parts.0
-                (record { in_range = parts.1.in_range; place = place; owes = owes; section = fits parts.1.section }) parts.2;
-            free = λ e. p.one_history.free (sym same_write ∙ e);
-            cells = p.one_history.cells;
-            cells_after = p.one_history.cells_after;
-          };
-          apart = apart_moves front view view' back refl p.apart;
-        }
+  -- ---- what the history has after an event of the seat
 
-    -- a step that leaves the sections, but for how one is said to have begun
-    pub unchanged : (word word' : Word) (row : List ℕ) (held held' : Option (Held C N)) → word'.write ≡ word.write → word'.readers ≡ word.readers →
-        PlaceFits truths walk' held' → OwesAs walk' owed' → SameSection walk held walk' held' →
-        Safe truths seats h word row (front ++ view_of who walk held owed ∷ back) → Safe truths seats h word' row (front ++ view_of who walk' held' owed' ∷ back)
-    unchanged word word' row held held' same_write same_readers place owes same p =
-        unchanged_by word word' row held held' same_write same_readers place owes same.writing same.reading (same.fits (standing_after h) row who) p
+  after : (e : Event C N) → standing_after (h ++ e ∷ []) ≡ standing_next (standing_after h) e
+  after e = standing_from-append (first_standing N) h (e ∷ [])
 
-    -- a wake of those who wait for a variable: beside its event, the seat's place changes, and what it owes
-    pub woken : (e : Event C N) (k : ℕ) (word word' : Word) (row : List ℕ) (held : Option (Held C N)) → who_of e ≡ who → IsLegalEvent truths.holds (standing_after h) e →
-        (standing_next (standing_after h) e).row ≡ (standing_after h).row →
-        ((seat : ℕ) → IsWokenBy k ((standing_after h).phases seat) ((standing_next (standing_after h) e).phases seat)) →
-        word'.write ≡ word.write → word'.readers ≡ word.readers →
-        PlaceFits truths walk' held → OwesAs walk' owed' →
-        (SectionFits (standing_after h) row who walk held → SectionFits (standing_after h) row who walk' held) →
-        Safe truths seats h word row (front ++ view_of who walk held owed ∷ back) →
-        Safe truths seats (h ++ e ∷ []) word' row (front ++ view_of who walk' held owed' ∷ back)
-    woken e k word word' row held by legal same phases same_write same_readers place owes fits p =
-        let moved = unchanged_by word word' row held held same_write same_readers place owes refl refl fits p in
-        let here = (each_parts truths seats (standing_after h) row front (view_of who walk held owed) back p.one_history.each).1 in
-        after_wake truths seats h e k word' row (front ++ view_of who walk' held owed' ∷ back) (subst (λ seat. seat < seats) (sym by) here.in_range) legal same phases moved
+  -- after a section
+  pub row_left : (who : ℕ) (held : Held C N) (exit : Exit C) → (standing_after (h ++ section_of truths.holds who held exit ∷ [])).row ≡ held.row
+  row_left who held exit = ap (λ (s : Standing C). s.row) (after (section_of truths.holds who held exit))
 
-    -- a wait for variables takes itself out of its lists
-    pub left_variables : (variables : Variables) (mode : Mode) (word word' : Word) (row : List ℕ) → seats ≤ 64 → (standing_after h).phases who ≡ Waiting variables mode → IsExpected (phase_by walk') (Left variables mode) →
-        word'.write ≡ word.write → word'.readers ≡ word.readers →
-        PlaceFits {C = C} {N = N} truths walk' None → OwesAs walk' owed' →
-        Safe truths seats h word row (front ++ view_of who walk None owed ∷ back) →
-        Safe truths seats (h ++ left_event who variables ∷ []) word' row (front ++ view_of who walk' None owed' ∷ back)
-    left_variables variables mode word word' row few phase is same_write same_readers place owes p =
-        let view = view_of {C = C} {N = N} who walk None owed in
-        let view' = view_of {C = C} {N = N} who walk' None owed' in
-        let e : Event C N = left_event who variables in
-        let now = standing_after h in
-        let next = standing_next now e in
-        let left : standing_after (h ++ e ∷ []) ≡ next = standing_from-append (first_standing N) h (e ∷ []) in
-        let parts = each_parts truths seats now row front view back p.one_history.each in
-        let apart = apart_parts front view back p.apart in
-        let others : (seat : ℕ) → seat ≢ who → next.phases seat ≡ now.phases seat = λ seat ne. left_next_there C N who variables now seat (λ f. ne (sym f)) in
-        let here : next.phases who ≡ Left variables mode = left_next_here C N who variables now ∙ ap left_phase phase in
-        record {
-          one_writer = record { bit = writers_at front view' back ∙ sym (writers_at front view back) ∙ p.one_writer.bit ∙ ap (λ b. cond b 1 0) (sym same_write); alone = λ f. readers_at front view' back ∙ sym (readers_at front view back) ∙ p.one_writer.alone (sym same_write ∙ f) };
-          count = same_readers ∙ p.count ∙ readers_at front view back ∙ sym (readers_at front view' back);
-          one_history = record {
-            legal = legal_append truths.holds (first_standing N) h (e ∷ []) p.one_history.legal (left_is_legal C N who truths.holds variables mode now (omega (arith, few, parts.1.in_range)) phase, tt);
-            by_seats = by_seats_more seats h e p.one_history.by_seats (subst (λ s. s < seats) (sym (left_who C N who variables)) parts.1.in_range);
-            each = rw left (each_join truths seats next row front view' back
-                (each_moves truths seats now next row row who front apart.0 others (inl (left_row C N who variables now, refl)) parts.0)
-                (record { in_range = parts.1.in_range; place = place; owes = owes; section = subst (λ ph. IsExpected (phase_by walk') ph) (sym here) is })
-                (each_moves truths seats now next row row who back apart.1 others (inl (left_row C N who variables now, refl)) parts.2));
-            free = λ f. p.one_history.free (sym same_write ∙ f) ∙ sym (left_row C N who variables now) ∙ sym (ap (λ s. s.row) left);
-            cells = p.one_history.cells;
-            cells_after = ap (λ s. length s.row) left ∙ ap length (left_row C N who variables now) ∙ p.one_history.cells_after;
-          };
-          apart = apart_moves front view view' back refl p.apart;
-        }
+  pub phases_there : (who : ℕ) (held : Held C N) (exit : Exit C) (seat : ℕ) → who ≢ seat → (standing_after (h ++ section_of truths.holds who held exit ∷ [])).phases seat ≡ (standing_after h).phases seat
+  phases_there who held exit seat ne = ap (λ (s : Standing C). s.phases seat) (after (section_of truths.holds who held exit)) ∙ rw (ne_eqb who seat ne) refl
 
-    -- a write acquire
-    pub acquired_write : (word word' : Word) (row : List ℕ) (entry : Opening C) → ((p : Phase C) → IsExpected (phase_by walk) p → p ≡ phase_before Write entry) → word.write ≡ false → word.readers ≡ 0 → word'.write ≡ true → word'.readers ≡ word.readers →
-        PlaceFits truths walk' (Some (section {C = C} {N = N} Write entry row row)) → OwesAs walk' owed' →
-        Safe truths seats h word row (front ++ view_of who walk None owed ∷ back) →
-        Safe truths seats h word' row (front ++ view_of who walk' (Some (section Write entry row row)) owed' ∷ back)
-    acquired_write word word' row entry phase no_writer no_reader write' readers' place owes p =
-        let view = view_of {C = C} {N = N} who walk None owed in
-        let view' = view_of {C = C} {N = N} who walk' (Some (section Write entry row row)) owed' in
-        let parts = each_parts truths seats (standing_after h) row front view back p.one_history.each in
-        let none : writers (front ++ view ∷ back) ≡ 0 = p.one_writer.bit ∙ ap (λ b. cond b 1 0) no_writer in
-        let unit : ◌≡◌ {A = ℕ} (cond word'.write 1 0) 1 = rw write' refl in
-        let w = writers_at front view back in
-        let w' = writers_at front view' back in
-        let r = readers_at front view back in
-        let r' = readers_at front view' back in
-        let count : word.readers ≡ readers (front ++ view ∷ back) = p.count in
-        record {
-          one_writer = record { bit = omega (arith, none, unit, w, w'); alone = λ e. omega (arith, r, r', count, no_reader) };
-          count = omega (arith, r, r', count, no_reader, readers');
-          one_history = record {
-            legal = p.one_history.legal;
-            by_seats = p.one_history.by_seats;
-            each = each_join truths seats (standing_after h) row front view' back parts.0
-                (record {
-                  in_range = parts.1.in_range;
-                  place = place;
-                  owes = owes;
-                  section = record { starts = p.one_history.free no_writer; enters = phase ((standing_after h).phases who) parts.1.section; cells = refl; reads = λ e. refl };
-                }) parts.2;
-            free = λ e. absurd (cc);
-            cells = p.one_history.cells;
-            cells_after = p.one_history.cells_after;
-          };
-          apart = apart_moves front view view' back refl p.apart;
-        }
+  pub phases_here : (who : ℕ) (held : Held C N) (exit : Exit C) → (standing_after (h ++ section_of truths.holds who held exit ∷ [])).phases who ≡ phase_after held.mode exit
+  phases_here who held exit = ap (λ (s : Standing C). s.phases who) (after (section_of truths.holds who held exit)) ∙ rw (eq-eqb who who refl) refl
 
-    -- a read acquire
-    pub acquired_read : (word word' : Word) (row : List ℕ) (entry : Opening C) → ((p : Phase C) → IsExpected (phase_by walk) p → p ≡ phase_before Read entry) → word.write ≡ false → word'.write ≡ false → word'.readers ≡ word.readers + 1 →
-        PlaceFits truths walk' (Some (section {C = C} {N = N} Read entry row row)) → OwesAs walk' owed' →
-        Safe truths seats h word row (front ++ view_of who walk None owed ∷ back) →
-        Safe truths seats h word' row (front ++ view_of who walk' (Some (section Read entry row row)) owed' ∷ back)
-    acquired_read word word' row entry phase no_writer write' readers' place owes p =
-        let view = view_of {C = C} {N = N} who walk None owed in
-        let view' = view_of {C = C} {N = N} who walk' (Some (section Read entry row row)) owed' in
-        let parts = each_parts truths seats (standing_after h) row front view back p.one_history.each in
-        let r = readers_at front view back in
-        let r' = readers_at front view' back in
-        let count : word.readers ≡ readers (front ++ view ∷ back) = p.count in
-        record {
-          one_writer = record { bit = writers_at front view' back ∙ sym (writers_at front view back) ∙ p.one_writer.bit ∙ ap (λ b. cond b 1 0) (no_writer ∙ sym write'); alone = λ e. absurd (cc) };
-          count = omega (arith, r, r', count, readers');
-          one_history = record {
-            legal = p.one_history.legal;
-            by_seats = p.one_history.by_seats;
-            each = each_join truths seats (standing_after h) row front view' back parts.0
-                (record {
-                  in_range = parts.1.in_range;
-                  place = place;
-                  owes = owes;
-                  section = record { starts = p.one_history.free no_writer; enters = phase ((standing_after h).phases who) parts.1.section; cells = refl; reads = λ e. refl };
-                }) parts.2;
-            free = λ e. p.one_history.free no_writer;
-            cells = p.one_history.cells;
-            cells_after = p.one_history.cells_after;
-          };
-          apart = apart_moves front view view' back refl p.apart;
-        }
+  -- after the seat has left its variables
+  pub left_same : (who : ℕ) (variables : Variables) → (standing_after (h ++ left_event who variables ∷ [])).row ≡ (standing_after h).row
+  left_same who variables = ap (λ (s : Standing C). s.row) (after (left_event who variables)) ∙ left_row C N who variables (standing_after h)
 
-    -- a store into a cell, by the writer
-    pub stored : (word : Word) (row : List ℕ) (entry : Opening C) (before cells : List ℕ) (i v : ℕ) →
-        PlaceFits truths walk' (Some (section {C = C} {N = N} Write entry before (slice_set cells i v))) → OwesAs walk' owed' →
-        Safe truths seats h word row (front ++ view_of who walk (Some (section Write entry before cells)) owed ∷ back) →
-        Safe truths seats h word (slice_set row i v) (front ++ view_of who walk' (Some (section Write entry before (slice_set cells i v))) owed' ∷ back)
-    stored word row entry before cells i v place owes p =
-        let view = view_of {C = C} {N = N} who walk (Some (section Write entry before cells)) owed in
-        let view' = view_of {C = C} {N = N} who walk' (Some (section Write entry before (slice_set cells i v))) owed' in
-        let now = standing_after h in
-        let parts = each_parts truths seats now row front view back p.one_history.each in
-        let apart = apart_parts front view back p.apart in
-        let w = writers_at front view back in
-        let r = readers_at front view back in
-        let write : word.write ≡ true = bit_set word.write (omega (arith, p.one_writer.bit)) in
-        let unit : ◌≡◌ {A = ℕ} (cond word.write 1 0) 1 = rw write refl in
-        let nobody : readers (front ++ view ∷ back) ≡ 0 = p.one_writer.alone write in
-        let set : writers (front ++ view ∷ back) ≡ cond word.write 1 0 = p.one_writer.bit in
-        let others_front : writers front + readers front ≡ 0 = omega (arith, w, r, set, unit, nobody) in
-        let others_back : writers back + readers back ≡ 0 = omega (arith, w, r, set, unit, nobody) in
-        record {
-          one_writer = record { bit = writers_at front view' back ∙ sym w ∙ p.one_writer.bit; alone = λ e. readers_at front view' back ∙ sym r ∙ nobody };
-          count = p.count ∙ r ∙ sym (readers_at front view' back);
-          one_history = record {
-            legal = p.one_history.legal;
-            by_seats = p.one_history.by_seats;
-            each = each_join truths seats now (slice_set row i v) front view' back
-                (each_moves truths seats now now row (slice_set row i v) who front apart.0 (λ seat ne. refl) (inr others_front) parts.0)
-                (record {
-                  in_range = parts.1.in_range;
-                  place = place;
-                  owes = owes;
-                  section = record { starts = parts.1.section.starts; enters = parts.1.section.enters; cells = ap (λ xs. slice_set xs i v) parts.1.section.cells; reads = λ e. absurd (cc) };
-                })
-                (each_moves truths seats now now row (slice_set row i v) who back apart.1 (λ seat ne. refl) (inr others_back) parts.2);
-            free = λ e. absurd (cc);
-            cells = length-set row i v ∙ p.one_history.cells;
-            cells_after = p.one_history.cells_after;
-          };
-          apart = apart_moves front view view' back refl p.apart;
-        }
+  pub left_there : (who : ℕ) (variables : Variables) (seat : ℕ) → who ≢ seat → (standing_after (h ++ left_event who variables ∷ [])).phases seat ≡ (standing_after h).phases seat
+  left_there who variables seat ne = ap (λ (s : Standing C). s.phases seat) (after (left_event who variables)) ∙ left_next_there C N who variables (standing_after h) seat ne
 
-  -- what the end of a section leaves of the seats
-  phases_left : (who : ℕ) (held : Held C N) (exit : Exit C) (seat : ℕ) → seat ≢ who →
-      (standing_next (standing_after h) (section_of truths.holds who held exit)).phases seat ≡ (standing_after h).phases seat
-  phases_left who held exit seat ne = rw (ne_eqb who seat (λ e. ne (sym e))) refl
-
-  phase_left : (who : ℕ) (held : Held C N) (exit : Exit C) → (standing_next (standing_after h) (section_of truths.holds who held exit)).phases who ≡ phase_after held.mode exit
-  phase_left who held exit = rw (eq-eqb who who refl) refl
-
-  pub left_by : (who : ℕ) (held : Held C N) (exit : Exit C) → standing_after (h ++ section_of truths.holds who held exit ∷ []) ≡ standing_next (standing_after h) (section_of truths.holds who held exit)
-  left_by who held exit = standing_from-append (first_standing N) h (section_of truths.holds who held exit ∷ [])
+  pub left_here : (who : ℕ) (variables : Variables) (mode : Mode) → (standing_after h).phases who ≡ Waiting variables mode → (standing_after (h ++ left_event who variables ∷ [])).phases who ≡ Left variables mode
+  left_here who variables mode was = ap (λ (s : Standing C). s.phases who) (after (left_event who variables)) ∙ left_next_here C N who variables (standing_after h) ∙ ap left_phase was
 
   keeps_row : (mode : Mode) (before row : List ℕ) → (mode ≡ Read → row ≡ before) → ModeFits mode before row
   keeps_row Write before row e = tt
@@ -293,142 +129,198 @@ module _ {C : Type 0} {N : ℕ} (truths : Truths C) (seats : ℕ) (h : List (Eve
       )
 
   module _ (front : List (SeatView C N)) (who : ℕ) (walk : Option (Walk C)) (owed : List Owed) (walk' : Option (Walk C)) (owed' : List Owed) (back : List (SeatView C N)) where
-    -- a release
-    pub released : (mode : Mode) (exit : Exit C) (word word' : Word) (row : List ℕ) (entry : Opening C) (before cells : List ℕ) → seats ≤ 64 → IsSettledBy truths.holds before entry → ExitFits truths.holds cells exit → IsExpected (phase_by walk') (phase_after mode exit) →
-        (mode ≡ Write → word'.write ≡ false) → (mode ≡ Read → word'.write ≡ word.write) → (mode ≡ Write → word'.readers ≡ word.readers) → (mode ≡ Read → word'.readers ≡ word.readers - 1) →
-        PlaceFits {C = C} {N = N} truths walk' None → OwesAs walk' owed' →
-        Safe truths seats h word row (front ++ view_of who walk (Some (section mode entry before cells)) owed ∷ back) →
-        Safe truths seats (h ++ section_of truths.holds who (section mode entry before cells) exit ∷ []) word' row (front ++ view_of who walk' None owed' ∷ back)
-    released Write exit word word' row entry before cells few settled leaves phase ww rw' wr rr place owes p =
-        let held = section Write entry before cells in
-        let view = view_of who walk (Some held) owed in
-        let view' = view_of {C = C} {N = N} who walk' None owed' in
-        let now = standing_after h in
-        let next = standing_next now (section_of truths.holds who held exit) in
-        let left = left_by who held exit in
-        let parts = each_parts truths seats now row front view back p.one_history.each in
-        let apart = apart_parts front view back p.apart in
-        let w = writers_at front view back in
-        let r = readers_at front view back in
-        let w' = writers_at front view' back in
-        let r' = readers_at front view' back in
-        let write : word.write ≡ true = bit_set word.write (omega (arith, p.one_writer.bit)) in
+    abbrev olds : Option (Held C N) → List (SeatView C N)
+    olds held = front ++ view_of who walk held owed ∷ back
+
+    abbrev news : Option (Held C N) → List (SeatView C N)
+    news held = front ++ view_of who walk' held owed' ∷ back
+
+    -- ---- what is counted
+
+    writers_old : (held : Option (Held C N)) → writers (olds held) ≡ writers front + (cond (is_writing held) 1 0 + writers back)
+    writers_old held = writers_at front (view_of who walk held owed) back
+
+    readers_old : (held : Option (Held C N)) → readers (olds held) ≡ readers front + (cond (is_reading held) 1 0 + readers back)
+    readers_old held = readers_at front (view_of who walk held owed) back
+
+    writers_new : (held : Option (Held C N)) → writers (news held) ≡ writers front + (cond (is_writing held) 1 0 + writers back)
+    writers_new held = writers_at front (view_of who walk' held owed') back
+
+    readers_new : (held : Option (Held C N)) → readers (news held) ≡ readers front + (cond (is_reading held) 1 0 + readers back)
+    readers_new held = readers_at front (view_of who walk' held owed') back
+
+    counted_same : (word word' : Word) (held held' : Option (Held C N)) → word'.write ≡ word.write → word'.readers ≡ word.readers → is_writing held' ≡ is_writing held → is_reading held' ≡ is_reading held → Counted word (olds held) → Counted word' (news held')
+    counted_same word word' held held' same_write same_readers writing reading p =
+        let w : writers (news held') ≡ writers (olds held) = writers_new held' ∙ ap (λ b. writers front + (cond b 1 0 + writers back)) writing ∙ sym (writers_old held) in
+        let r : readers (news held') ≡ readers (olds held) = readers_new held' ∙ ap (λ b. readers front + (cond b 1 0 + readers back)) reading ∙ sym (readers_old held) in
+        (record { bit = w ∙ p.0.bit ∙ ap (λ b. cond b 1 0) (sym same_write); alone = λ e. r ∙ p.0.alone (sym same_write ∙ e) }, same_readers ∙ p.1 ∙ sym r)
+
+    counted_more : (mode : Mode) (entry : Opening C) (word word' : Word) (row : List ℕ) → word.write ≡ false → Acquires mode word word'.write word'.readers → Counted word (olds None) → Counted word' (news (Some (section mode entry row row)))
+    counted_more Write entry word word' row free is p =
+        let held = Some (section {C = C} {N = N} Write entry row row) in
+        let none : writers (olds None) ≡ 0 = p.0.bit ∙ ap (λ b. cond b 1 0) free in
+        let unit : ◌≡◌ {A = ℕ} (cond word'.write 1 0) 1 = rw is.1 refl in
+        (record { bit = omega (arith, none, unit, writers_old None, writers_new held); alone = λ e. omega (arith, readers_old None, readers_new held, p.1, is.0) }, omega (arith, readers_old None, readers_new held, p.1, is.2))
+    counted_more Read entry word word' row free is p =
+        let held = Some (section {C = C} {N = N} Read entry row row) in
+        let none : writers (olds None) ≡ 0 = p.0.bit ∙ ap (λ b. cond b 1 0) free in
+        let unit : ◌≡◌ {A = ℕ} (cond word'.write 1 0) 0 = rw is.0 refl in
+        (record { bit = omega (arith, none, unit, writers_old None, writers_new held); alone = λ e. absurd (both_ways word'.write is.0 e) }, omega (arith, readers_old None, readers_new held, p.1, is.1))
+
+    -- beside a writer nobody else has a section
+    writes : (word : Word) (entry : Opening C) (before cells : List ℕ) → Counted word (olds (Some (section Write entry before cells))) → word.write ≡ true
+    writes word entry before cells p = bit_set word.write (omega (arith, p.0.bit, writers_old (Some (section {C = C} {N = N} Write entry before cells))))
+
+    alone : (word : Word) (entry : Opening C) (before cells : List ℕ) → Counted word (olds (Some (section Write entry before cells))) → (writers front + readers front ≡ 0) × (writers back + readers back ≡ 0)
+    alone word entry before cells p =
+        let held = Some (section {C = C} {N = N} Write entry before cells) in
+        let write = writes word entry before cells p in
         let unit : ◌≡◌ {A = ℕ} (cond word.write 1 0) 1 = rw write refl in
-        let unit' : ◌≡◌ {A = ℕ} (cond word'.write 1 0) 0 = rw (ww refl) refl in
-        let nobody : readers (front ++ view ∷ back) ≡ 0 = p.one_writer.alone write in
-        let set : writers (front ++ view ∷ back) ≡ cond word.write 1 0 = p.one_writer.bit in
-        let count : word.readers ≡ readers (front ++ view ∷ back) = p.count in
-        let count' : word'.readers ≡ word.readers = wr refl in
-        let others_front : writers front + readers front ≡ 0 = omega (arith, w, r, set, unit, nobody) in
-        let others_back : writers back + readers back ≡ 0 = omega (arith, w, r, set, unit, nobody) in
-        record {
-          one_writer = record { bit = omega (arith, w', unit', others_front, others_back); alone = λ e. absurd (both_ways word'.write (ww refl) e) };
-          count = omega (arith, r, r', count, count');
-          one_history = record {
-            legal = commits who row held exit (omega (arith, parts.1.in_range)) settled leaves parts.1.section p.one_history.legal;
-            by_seats = by_seats_more seats h (section_of truths.holds who held exit) p.one_history.by_seats parts.1.in_range;
-            each = rw left (each_join truths seats next row front view' back
-                (each_moves truths seats now next row row who front apart.0 (phases_left who held exit) (inr others_front) parts.0)
-                (record { in_range = parts.1.in_range; place = place; owes = owes; section = subst (λ ph. IsExpected (phase_by walk') ph) (sym (phase_left who held exit)) phase })
-                (each_moves truths seats now next row row who back apart.1 (phases_left who held exit) (inr others_back) parts.2));
-            free = λ e. sym parts.1.section.cells ∙ sym (ap (λ s. s.row) left);
-            cells = p.one_history.cells;
-            cells_after = ap (λ s. length s.row) left ∙ ap length parts.1.section.cells ∙ p.one_history.cells;
-          };
-          apart = apart_moves front view view' back refl p.apart;
-        }
-    released Read exit word word' row entry before cells few settled leaves phase ww rw' wr rr place owes p =
-        let held = section Read entry before cells in
-        let view = view_of who walk (Some held) owed in
-        let view' = view_of {C = C} {N = N} who walk' None owed' in
+        let nobody : readers (olds held) ≡ 0 = p.0.alone write in
+        (omega (arith, writers_old held, readers_old held, p.0.bit, unit, nobody), omega (arith, writers_old held, readers_old held, p.0.bit, unit, nobody))
+
+    counted_less : (mode : Mode) (entry : Opening C) (word word' : Word) (before cells : List ℕ) → GivesUp mode word word'.write word'.readers → Counted word (olds (Some (section mode entry before cells))) → Counted word' (news None)
+    counted_less Write entry word word' before cells is p =
+        let held = Some (section {C = C} {N = N} Write entry before cells) in
+        let unit' : ◌≡◌ {A = ℕ} (cond word'.write 1 0) 0 = rw is.0 refl in
+        let others = alone word entry before cells p in
+        (record { bit = omega (arith, writers_new None, unit', others.0, others.1); alone = λ e. absurd (both_ways word'.write is.0 e) }, omega (arith, readers_old held, readers_new None, p.1, is.1))
+    counted_less Read entry word word' before cells is p =
+        let held = Some (section {C = C} {N = N} Read entry before cells) in
+        let same : ◌≡◌ {A = ℕ} (cond word'.write 1 0) (cond word.write 1 0) = ap (λ b. cond b 1 0) is.0 in (
+          record {
+            bit = omega (arith, writers_old held, writers_new None, p.0.bit, same);
+            alone = λ e. let nobody : readers (olds held) ≡ 0 = p.0.alone (sym is.0 ∙ e) in omega (arith, readers_old held, nobody);
+          },
+          omega (arith, readers_old held, readers_new None, p.1, is.1),
+        )
+
+    -- ---- what holds of the sections
+
+    here : (word : Word) (row : List ℕ) (held : Option (Held C N)) → Safe truths seats h word row (olds held) → ViewFits truths seats (standing_after h) row (view_of who walk held owed)
+    here word row held p = (each_parts truths seats (standing_after h) row front (view_of who walk held owed) back p.one_history.each).1
+
+    -- The seat's own section may change. The history leaves the others' phases, and the row too, or nobody else has a section.
+    moved : (h' : List (Event C N)) (word word' : Word) (row row' : List ℕ) (held held' : Option (Held C N)) → Counted word' (news held') → IsLegal truths.holds h' → IsBySeats seats h' →
+        ((seat : ℕ) → who ≢ seat → (standing_after h').phases seat ≡ (standing_after h).phases seat) →
+        (((standing_after h').row ≡ (standing_after h).row) × (row' ≡ row)) ⊎ ((writers front + readers front ≡ 0) × (writers back + readers back ≡ 0)) →
+        PlaceFits truths walk' held' → OwesAs walk' owed' → SectionFits (standing_after h') row' who walk' held' → (word'.write ≡ false → row' ≡ (standing_after h').row) → length row' ≡ N → length (standing_after h').row ≡ N →
+        Safe truths seats h word row (olds held) → Safe truths seats h' word' row' (news held')
+    moved h' word word' row row' held held' counted legal by_seats others same place owes section free cells cells_after p =
+        let view = view_of who walk held owed in
+        let view' = view_of who walk' held' owed' in
         let now = standing_after h in
-        let next = standing_next now (section_of truths.holds who held exit) in
-        let left = left_by who held exit in
+        let next = standing_after h' in
         let parts = each_parts truths seats now row front view back p.one_history.each in
         let apart = apart_parts front view back p.apart in
-        let w = writers_at front view back in
-        let r = readers_at front view back in
-        let w' = writers_at front view' back in
-        let r' = readers_at front view' back in
-        let count : word.readers ≡ readers (front ++ view ∷ back) = p.count in
-        let count' : word'.readers ≡ word.readers - 1 = rr refl in
-        let set : writers (front ++ view ∷ back) ≡ cond word.write 1 0 = p.one_writer.bit in
-        let set' : ◌≡◌ {A = ℕ} (cond word'.write 1 0) (cond word.write 1 0) = ap (λ b. cond b 1 0) (rw' refl) in
-        let same : next.row ≡ now.row = parts.1.section.reads refl ∙ parts.1.section.starts in
+        let there : (seat : ℕ) → seat ≢ who → next.phases seat ≡ now.phases seat = λ seat ne. others seat (λ e. ne (sym e)) in
         record {
-          one_writer = record { bit = omega (arith, w, w', set, set'); alone = λ e. let nobody : readers (front ++ view ∷ back) ≡ 0 = p.one_writer.alone (sym (rw' refl) ∙ e) in omega (arith, r, nobody) };
-          count = omega (arith, r, r', count, count');
+          one_writer = counted.0;
+          count = counted.1;
           one_history = record {
-            legal = commits who row held exit (omega (arith, parts.1.in_range)) settled leaves parts.1.section p.one_history.legal;
-            by_seats = by_seats_more seats h (section_of truths.holds who held exit) p.one_history.by_seats parts.1.in_range;
-            each = rw left (each_join truths seats next row front view' back
-                (each_moves truths seats now next row row who front apart.0 (phases_left who held exit) (inl (same, refl)) parts.0)
-                (record { in_range = parts.1.in_range; place = place; owes = owes; section = subst (λ ph. IsExpected (phase_by walk') ph) (sym (phase_left who held exit)) phase })
-                (each_moves truths seats now next row row who back apart.1 (phases_left who held exit) (inl (same, refl)) parts.2));
-            free = λ e. sym parts.1.section.cells ∙ sym (ap (λ s. s.row) left);
-            cells = p.one_history.cells;
-            cells_after = ap (λ s. length s.row) left ∙ ap length parts.1.section.cells ∙ p.one_history.cells;
+            legal = legal;
+            by_seats = by_seats;
+            each = each_join truths seats next row' front view' back (each_moves truths seats now next row row' who front apart.0 there (elim same [ inl s ↦ inl s | inr none ↦ inr none.0 ]) parts.0)
+                (record { in_range = parts.1.in_range; place = place; owes = owes; section = section }) (each_moves truths seats now next row row' who back apart.1 there (elim same [ inl s ↦ inl s | inr none ↦ inr none.1 ]) parts.2);
+            free = free;
+            cells = cells;
+            cells_after = cells_after;
           };
           apart = apart_moves front view view' back refl p.apart;
         }
 
+    -- without an event, and with the same cells
+    stays : (word word' : Word) (row : List ℕ) (held held' : Option (Held C N)) → Counted word' (news held') → PlaceFits truths walk' held' → OwesAs walk' owed' → SectionFits (standing_after h) row who walk' held' → (word'.write ≡ false → row ≡ (standing_after h).row) →
+        Safe truths seats h word row (olds held) → Safe truths seats h word' row (news held')
+    stays word word' row held held' counted place owes section free p =
+        moved h word word' row row held held' counted p.one_history.legal p.one_history.by_seats (λ seat ne. refl) (inl (refl, refl)) place owes section free p.one_history.cells p.one_history.cells_after p
+
+    -- ---- each kind of step
+
+    -- a step that leaves the sections, but for what is shown of the seat's own
+    pub unchanged_by : (word word' : Word) (row : List ℕ) (held held' : Option (Held C N)) → word'.write ≡ word.write → word'.readers ≡ word.readers →
+        PlaceFits truths walk' held' → OwesAs walk' owed' → is_writing held' ≡ is_writing held → is_reading held' ≡ is_reading held →
+        (SectionFits (standing_after h) row who walk held → SectionFits (standing_after h) row who walk' held') →
+        Safe truths seats h word row (olds held) → Safe truths seats h word' row (news held')
+    unchanged_by word word' row held held' same_write same_readers place owes writing reading fits p =
+        stays word word' row held held' (counted_same word word' held held' same_write same_readers writing reading (p.one_writer, p.count)) place owes (fits (here word row held p).section) (λ e. p.one_history.free (sym same_write ∙ e)) p
+
+    -- a step that leaves the sections, but for how one is said to have begun
+    pub unchanged : (word word' : Word) (row : List ℕ) (held held' : Option (Held C N)) → word'.write ≡ word.write → word'.readers ≡ word.readers →
+        PlaceFits truths walk' held' → OwesAs walk' owed' → SameSection walk held walk' held' → Safe truths seats h word row (olds held) → Safe truths seats h word' row (news held')
+    unchanged word word' row held held' same_write same_readers place owes same p =
+        unchanged_by word word' row held held' same_write same_readers place owes same.writing same.reading (same.fits (standing_after h) row who) p
+
+    -- a wake of those who wait for a variable: beside its event, the seat's place changes, and what it owes
+    pub woken : (e : Event C N) (k : ℕ) (word word' : Word) (row : List ℕ) (held : Option (Held C N)) → who_of e ≡ who → IsLegalEvent truths.holds (standing_after h) e →
+        (standing_next (standing_after h) e).row ≡ (standing_after h).row →
+        ((seat : ℕ) → IsWokenBy k ((standing_after h).phases seat) ((standing_next (standing_after h) e).phases seat)) →
+        word'.write ≡ word.write → word'.readers ≡ word.readers → PlaceFits truths walk' held → OwesAs walk' owed' →
+        (SectionFits (standing_after h) row who walk held → SectionFits (standing_after h) row who walk' held) →
+        Safe truths seats h word row (olds held) → Safe truths seats (h ++ e ∷ []) word' row (news held)
+    woken e k word word' row held by legal same phases same_write same_readers place owes fits p =
+        after_wake truths seats h e k word' row (news held) (subst (λ seat. seat < seats) (sym by) (here word row held p).in_range) legal same phases
+        (unchanged_by word word' row held held same_write same_readers place owes refl refl fits p)
+
+    -- a wait for variables takes itself out of its lists
+    pub left_variables : (variables : Variables) (mode : Mode) (word word' : Word) (row : List ℕ) → seats ≤ 64 → (standing_after h).phases who ≡ Waiting variables mode → IsExpected (phase_by walk') (Left variables mode) →
+        word'.write ≡ word.write → word'.readers ≡ word.readers → PlaceFits {C = C} {N = N} truths walk' None → OwesAs walk' owed' →
+        Safe truths seats h word row (olds None) → Safe truths seats (h ++ left_event who variables ∷ []) word' row (news None)
+    left_variables variables mode word word' row few phase is same_write same_readers place owes p =
+        let in_range = (here word row None p).in_range in
+        moved (h ++ left_event who variables ∷ []) word word' row row None None (counted_same word word' None None same_write same_readers refl refl (p.one_writer, p.count))
+        (legal_append truths.holds (first_standing N) h (left_event who variables ∷ []) p.one_history.legal (left_is_legal C N who truths.holds variables mode (standing_after h) (omega (arith, few, in_range)) phase, tt))
+        (by_seats_more seats h (left_event who variables) p.one_history.by_seats (subst (λ s. s < seats) (sym (left_who C N who variables)) in_range))
+        (left_there who variables) (inl (left_same who variables, refl)) place owes (subst (λ ph. IsExpected (phase_by walk') ph) (sym (left_here who variables mode phase)) is)
+        (λ f. p.one_history.free (sym same_write ∙ f) ∙ sym (left_same who variables)) p.one_history.cells (ap length (left_same who variables) ∙ p.one_history.cells_after) p
+
+    -- an acquire
+    pub acquired : (mode : Mode) (word word' : Word) (row : List ℕ) (entry : Opening C) → ((p : Phase C) → IsExpected (phase_by walk) p → p ≡ phase_before mode entry) → word.write ≡ false → Acquires mode word word'.write word'.readers →
+        PlaceFits truths walk' (Some (section {C = C} {N = N} mode entry row row)) → OwesAs walk' owed' →
+        Safe truths seats h word row (olds None) → Safe truths seats h word' row (news (Some (section mode entry row row)))
+    acquired mode word word' row entry phase free is place owes p =
+        stays word word' row None (Some (section mode entry row row)) (counted_more mode entry word word' row free is (p.one_writer, p.count)) place owes
+        (record { starts = p.one_history.free free; enters = phase ((standing_after h).phases who) (here word row None p).section; cells = refl; reads = λ e. refl }) (λ e. p.one_history.free free) p
+
+    -- a store into a cell, by the writer
+    pub stored : (word : Word) (row : List ℕ) (entry : Opening C) (before cells : List ℕ) (i v : ℕ) →
+        PlaceFits truths walk' (Some (section {C = C} {N = N} Write entry before (slice_set cells i v))) → OwesAs walk' owed' →
+        Safe truths seats h word row (olds (Some (section Write entry before cells))) → Safe truths seats h word (slice_set row i v) (news (Some (section Write entry before (slice_set cells i v))))
+    stored word row entry before cells i v place owes p =
+        let held = Some (section {C = C} {N = N} Write entry before cells) in
+        let fit = (here word row held p).section in
+        let write = writes word entry before cells (p.one_writer, p.count) in
+        moved h word word row (slice_set row i v) held (Some (section Write entry before (slice_set cells i v)))
+        (counted_same word word held (Some (section Write entry before (slice_set cells i v))) refl refl refl refl (p.one_writer, p.count)) p.one_history.legal p.one_history.by_seats (λ seat ne. refl)
+        (inr (alone word entry before cells (p.one_writer, p.count))) place owes (record { starts = fit.starts; enters = fit.enters; cells = ap (λ xs. slice_set xs i v) fit.cells; reads = λ e. absurd (cc) })
+        (λ e. absurd (both_ways word.write e write)) (length-set row i v ∙ p.one_history.cells) p.one_history.cells_after p
+
+    -- the others, beside one that leaves its section: a reader leaves the row as it was
+    others_left : (mode : Mode) (exit : Exit C) (word : Word) (row : List ℕ) (entry : Opening C) (before cells : List ℕ) → Safe truths seats h word row (olds (Some (section mode entry before cells))) →
+        (((standing_after (h ++ section_of truths.holds who (section mode entry before cells) exit ∷ [])).row ≡ (standing_after h).row) × (row ≡ row)) ⊎ ((writers front + readers front ≡ 0) × (writers back + readers back ≡ 0))
+    others_left Write exit word row entry before cells p = inr (alone word entry before cells (p.one_writer, p.count))
+    others_left Read exit word row entry before cells p =
+        let held = section {C = C} {N = N} Read entry before cells in
+        let fit = (here word row (Some held) p).section in
+        inl (row_left who held exit ∙ fit.reads refl ∙ fit.starts, refl)
+
+    -- a release
+    pub released : (mode : Mode) (exit : Exit C) (word word' : Word) (row : List ℕ) (entry : Opening C) (before cells : List ℕ) → seats ≤ 64 → IsSettledBy truths.holds before entry → ExitFits truths.holds cells exit → IsExpected (phase_by walk') (phase_after mode exit) →
+        GivesUp mode word word'.write word'.readers → PlaceFits {C = C} {N = N} truths walk' None → OwesAs walk' owed' →
+        Safe truths seats h word row (olds (Some (section mode entry before cells))) → Safe truths seats (h ++ section_of truths.holds who (section mode entry before cells) exit ∷ []) word' row (news None)
+    released mode exit word word' row entry before cells few settled leaves phase gives place owes p =
+        let held = section {C = C} {N = N} mode entry before cells in
+        let fit = here word row (Some held) p in
+        moved (h ++ section_of truths.holds who held exit ∷ []) word word' row row (Some held) None (counted_less mode entry word word' before cells gives (p.one_writer, p.count))
+        (commits who row held exit (omega (arith, few, fit.in_range)) settled leaves fit.section p.one_history.legal) (by_seats_more seats h (section_of truths.holds who held exit) p.one_history.by_seats fit.in_range)
+        (phases_there who held exit) (others_left mode exit word row entry before cells p) place owes (subst (λ ph. IsExpected (phase_by walk') ph) (sym (phases_here who held exit)) phase)
+        (λ e. sym fit.section.cells ∙ sym (row_left who held exit)) p.one_history.cells (ap length (row_left who held exit ∙ fit.section.cells) ∙ p.one_history.cells) p
+
     -- a section is given up without an event: nothing has changed in it, and its seat goes back to where it came from
     pub dropped : (mode : Mode) (word word' : Word) (row : List ℕ) (entry : Opening C) (before cells : List ℕ) → cells ≡ before → IsExpected (phase_by walk') (phase_before mode entry) →
-        (mode ≡ Write → word'.write ≡ false) → (mode ≡ Read → word'.write ≡ word.write) → (mode ≡ Write → word'.readers ≡ word.readers) → (mode ≡ Read → word'.readers ≡ word.readers - 1) →
-        PlaceFits {C = C} {N = N} truths walk' None → OwesAs walk' owed' →
-        Safe truths seats h word row (front ++ view_of who walk (Some (section mode entry before cells)) owed ∷ back) →
-        Safe truths seats h word' row (front ++ view_of who walk' None owed' ∷ back)
-    dropped Write word word' row entry before cells stays phase ww rw' wr rr place owes p =
-        let view = view_of who walk (Some (section Write entry before cells)) owed in
-        let view' = view_of {C = C} {N = N} who walk' None owed' in
-        let now = standing_after h in
-        let parts = each_parts truths seats now row front view back p.one_history.each in
-        let w = writers_at front view back in
-        let r = readers_at front view back in
-        let w' = writers_at front view' back in
-        let r' = readers_at front view' back in
-        let write : word.write ≡ true = bit_set word.write (omega (arith, p.one_writer.bit)) in
-        let unit : ◌≡◌ {A = ℕ} (cond word.write 1 0) 1 = rw write refl in
-        let unit' : ◌≡◌ {A = ℕ} (cond word'.write 1 0) 0 = rw (ww refl) refl in
-        let set : writers (front ++ view ∷ back) ≡ cond word.write 1 0 = p.one_writer.bit in
-        let count : word.readers ≡ readers (front ++ view ∷ back) = p.count in
-        let count' : word'.readers ≡ word.readers = wr refl in
-        record {
-          one_writer = record { bit = omega (arith, w, w', set, unit, unit'); alone = λ e. absurd (both_ways word'.write (ww refl) e) };
-          count = omega (arith, r, r', count, count');
-          one_history = record {
-            legal = p.one_history.legal;
-            by_seats = p.one_history.by_seats;
-            each = each_join truths seats now row front view' back parts.0 (record { in_range = parts.1.in_range; place = place; owes = owes; section = subst (λ ph. IsExpected (phase_by walk') ph) (sym parts.1.section.enters) phase }) parts.2;
-            free = λ e. sym parts.1.section.cells ∙ stays ∙ parts.1.section.starts;
-            cells = p.one_history.cells;
-            cells_after = p.one_history.cells_after;
-          };
-          apart = apart_moves front view view' back refl p.apart;
-        }
-    dropped Read word word' row entry before cells stays phase ww rw' wr rr place owes p =
-        let view = view_of who walk (Some (section Read entry before cells)) owed in
-        let view' = view_of {C = C} {N = N} who walk' None owed' in
-        let now = standing_after h in
-        let parts = each_parts truths seats now row front view back p.one_history.each in
-        let w = writers_at front view back in
-        let r = readers_at front view back in
-        let w' = writers_at front view' back in
-        let r' = readers_at front view' back in
-        let count : word.readers ≡ readers (front ++ view ∷ back) = p.count in
-        let count' : word'.readers ≡ word.readers - 1 = rr refl in
-        let set : writers (front ++ view ∷ back) ≡ cond word.write 1 0 = p.one_writer.bit in
-        let set' : ◌≡◌ {A = ℕ} (cond word'.write 1 0) (cond word.write 1 0) = ap (λ b. cond b 1 0) (rw' refl) in
-        record {
-          one_writer = record { bit = omega (arith, w, w', set, set'); alone = λ e. let nobody : readers (front ++ view ∷ back) ≡ 0 = p.one_writer.alone (sym (rw' refl) ∙ e) in omega (arith, r, nobody) };
-          count = omega (arith, r, r', count, count');
-          one_history = record {
-            legal = p.one_history.legal;
-            by_seats = p.one_history.by_seats;
-            each = each_join truths seats now row front view' back parts.0 (record { in_range = parts.1.in_range; place = place; owes = owes; section = subst (λ ph. IsExpected (phase_by walk') ph) (sym parts.1.section.enters) phase }) parts.2;
-            free = λ e. sym parts.1.section.cells ∙ stays ∙ parts.1.section.starts;
-            cells = p.one_history.cells;
-            cells_after = p.one_history.cells_after;
-          };
-          apart = apart_moves front view view' back refl p.apart;
-        }
+        GivesUp mode word word'.write word'.readers → PlaceFits {C = C} {N = N} truths walk' None → OwesAs walk' owed' →
+        Safe truths seats h word row (olds (Some (section mode entry before cells))) → Safe truths seats h word' row (news None)
+    dropped mode word word' row entry before cells same phase gives place owes p =
+        let fit = (here word row (Some (section mode entry before cells)) p).section in
+        stays word word' row (Some (section mode entry before cells)) None (counted_less mode entry word word' before cells gives (p.one_writer, p.count)) place owes
+        (subst (λ ph. IsExpected (phase_by walk') ph) (sym fit.enters) phase) (λ e. sym fit.cells ∙ same ∙ fit.starts) p

@@ -1,11 +1,11 @@
 -- Where a seat stands that queues, and where those go that a call wakes.
-use Rattle.ns_word.proofs.Prelude.{Aim, AreCalled, Arrival, AsFresh, AsWoken, Bool, CanWait, Cv, EachFits, Effect, Event, Found, Held, InAcquire, InQueuing, InSignal, InWait, IsInRange, IsLawful, IsUnmet, List, Lists, LockState, Made, Mode, None, OnCondition, OnVariables, Option, PlaceFits, Queue}
-use Rattle.ns_word.proofs.Prelude.{QueueSelf, QueueToWait, QueuesFor, Scanned, SeatView, Some, Step, Subject, Truths, Wait, Waiter, WaitsFor, WakeAndReturn, WakeWaiters, Waking, Walk, Woke, Word, [], ap, arith, cases_Bool, changed, cond, cvs_without, false, has, inl, inr, is_held, is_woken}
-use Rattle.ns_word.proofs.Prelude.{left_of, length, ltb, ltb-false, ltb-true, meets_at, min, mode_for, moved_to, outside, part_of, queued, refl, standing_after, subst, sym, taken_by, taken_set, tries_of, true, waiter, waiters_of, waits_at, wakes_of, want_of, with_lock, ℕ, ◌++◌, ◌+◌, ◌<◌, ◌∙◌, ◌∷◌}
-use Rattle.ns_word.proofs.Prelude.{◌≡◌}
+use Rattle.ns_word.proofs.Prelude.{Aim, AreCalled, Arrival, AsFresh, AsWoken, Bool, Cv, Event, InAcquire, InQueuing, InSignal, InWait, IsInRange, IsLawful, List, Lists, LockState, Made, Mode, None, OnCondition, OnVariables, Queue, QueueSelf, QueueToWait, QueuesFor, Scanned, SeatView, Some, Step}
+use Rattle.ns_word.proofs.Prelude.{Subject, Truths, Wait, Waiter, WaitsFor, WakeAndReturn, WakeWaiters, Waking, Woke, Word, [], ap, arith, cases_Bool, changed, cond, cvs_without, false, has, inl, inr, is_held, is_woken, left_of, length, ltb, ltb-false, ltb-true, meets_at, min, mode_for, moved_to}
+use Rattle.ns_word.proofs.Prelude.{outside, queued, refl, subst, sym, taken_by, taken_set, tries_of, true, waiter, waiters_of, waits_at, wakes_of, with_lock, ℕ, ◌++◌, ◌+◌, ◌<◌, ◌∙◌, ◌∷◌, ◌≡◌}
+use Rattle.ns_word.proofs.Acts.{can_in_range}
 use Rattle.ns_word.proofs.Enters.{entered_at}
-use Rattle.ns_word.proofs.CountsIn.{taken_at}
-use Rattle.ns_word.proofs.Views.{each_parts}
+use Rattle.ns_word.proofs.CountsIn.{moved_at, taken_at}
+use Rattle.ns_word.proofs.Stepping.{effect_at, place_at}
 
 -- one try more, and none above 30
 one_more : (tries : ℕ) (b : Bool) → ltb tries 30 ≡ b → cond b (tries + 1) 30 ≡ min (tries + 1) 30
@@ -36,53 +36,35 @@ module _ (C : Type 0) (N : ℕ) (truths : Truths C) (seat : ℕ) where
   are_called waking k true lists = (refl, refl)
   are_called waking k false lists = (refl, refl)
 
--- the effect of a step whose walk is known
-pub effect_at : {C : Type 0} {N : ℕ} (truths : Truths C) (old new : LockState C N) (view : SeatView C N) (found : Found) (commits : List (Event C N)) (walk : Walk C) → (step : Step truths old view found new commits) →
-    step.walk ≡ walk → Effect truths view.seat (want_of walk) (part_of old view.held view.owed) found (part_of new step.held step.owed) commits
-effect_at truths old new view found commits walk step e = subst (λ w. Effect truths view.seat (want_of w) (part_of old view.held view.owed) found (part_of new step.held step.owed) commits) e step.effect
-
 pub queues_in_place : {C : Type 0} {N : ℕ} (truths : Truths C) (old new : LockState C N) (view : SeatView C N) (commits : List (Event C N)) (aim : Aim C) (arrival : Arrival) (last : Word) → (step : Step truths old view Made new commits) → step.walk ≡ InAcquire aim (Queue arrival last) →
     QueuesFor view.seat (mode_for aim) arrival old.lists.lock new.lists.lock × (new.lists.cvs ≡ old.lists.cvs)
 queues_in_place {C} {N} truths old new view commits aim arrival last step walks =
-    let e = effect_at truths old new view Made commits (InAcquire aim (Queue arrival last)) step walks in
+    let e = effect_at step (InAcquire aim (Queue arrival last)) walks in
     let lists : new.lists ≡ changed view.seat (QueueSelf (mode_for aim) arrival) last old.lists = ap (λ p. p.lists) e.2 in
     (subst (λ lock. QueuesFor view.seat (mode_for aim) arrival old.lists.lock lock) (sym (ap (λ l. l.lock) lists)) (queues_for C N truths view.seat (mode_for aim) arrival old.lists.lock), ap (λ l. l.cvs) lists)
 
 pub waits_in_place : {C : Type 0} {N : ℕ} (truths : Truths C) (seats : ℕ) (h : List (Event C N)) (old new : LockState C N) (view : SeatView C N) (commits : List (Event C N)) (wait : Wait C) (again : Bool) (last : Word) (owes : Bool) (tests : ℕ) →
     (step : Step truths old view (Scanned owes tests) new commits) → IsLawful truths seats h old → step.walk ≡ InWait wait (InQueuing again (QueueToWait last)) → WaitsFor truths view.seat wait.mode wait.on again old.row old.lists new.lists
 waits_in_place {C} {N} truths seats h old new view commits wait again last owes tests step lawful walks =
-    let e = effect_at truths old new view (Scanned owes tests) commits (InWait wait (InQueuing again (QueueToWait last))) step walks in
-    let fits = (each_parts truths seats (standing_after h) old.row step.front view step.back (subst (λ vs. EachFits truths seats (standing_after h) old.row vs) step.was lawful.one_history.each)).1 in
-    let place = subst (λ w. PlaceFits truths w view.held) (step.walks ∙ ap Some walks) fits.place in
-    let range = can_range wait again view.held place.0.0 in
+    let e = effect_at step (InWait wait (InQueuing again (QueueToWait last))) walks in
+    let place = place_at step seats h (InWait wait (InQueuing again (QueueToWait last))) walks lawful in
+    let range = can_in_range truths wait again view.held place.0.0 in
     subst (λ lists. WaitsFor truths view.seat wait.mode wait.on again old.row old.lists lists) (sym (ap (λ p. p.lists) e.4)) (waits_for C N truths view.seat wait.mode wait.on again old.row old.lists lawful.waiters_placed.four range)
-  where
-    in_range : (on : Subject C) (row : List ℕ) → IsUnmet truths on row → IsInRange on
-    in_range (OnCondition c) row p = tt
-    in_range (OnVariables variables) row p = p
-
-    can_range : (wait : Wait C) (again : Bool) (held : Option (Held C N)) → CanWait truths wait again held → IsInRange wait.on
-    can_range wait again None p = absurd p
-    can_range wait again (Some held) p = in_range wait.on held.row p.unmet
 
 -- who stays in a variable's list behind a wake
 pub stays_behind_wake : {C : Type 0} {N : ℕ} (truths : Truths C) (seats : ℕ) (h : List (Event C N)) (old new : LockState C N) (view : SeatView C N) (commits : List (Event C N)) (waking : Waking) (k : ℕ) (last : Word) (owes : Bool) (j : ℕ) →
     (step : Step truths old view (Woke owes) new commits) → step.walk ≡ InSignal waking k (WakeAndReturn last) →
     IsLawful truths seats h old → j < 4 → waiters_of new.lists (Cv j) ≡ outside (taken_set (taken_by waking (waiters_of old.lists (Cv k)))) (waiters_of old.lists (Cv j))
 stays_behind_wake {C} {N} truths seats h old new view commits waking k last owes j step walks lawful low =
-    let e = effect_at truths old new view (Woke owes) commits (InSignal waking k (WakeAndReturn last)) step walks in
+    let e = effect_at step (InSignal waking k (WakeAndReturn last)) walks in
     let taken = taken_by waking (waiters_of old.lists (Cv k)) in
-    ap (λ p. waiters_of p.lists (Cv j)) e.2 ∙ (moved_at (is_held last) taken (cvs_without (taken_set taken) old.lists) ∙ taken_at (taken_set taken) j old.lists lawful.waiters_placed.four low)
-  where
-    moved_at : (held : Bool) (taken : List (Waiter C)) (lists : Lists C) → waiters_of (moved_to held taken lists) (Cv j) ≡ waiters_of lists (Cv j)
-    moved_at true taken lists = refl
-    moved_at false taken lists = refl
+    ap (λ p. waiters_of p.lists (Cv j)) e.2 ∙ (moved_at (is_held last) taken (cvs_without (taken_set taken) old.lists) j ∙ taken_at (taken_set taken) j old.lists lawful.waiters_placed.four low)
 
 pub taken_called : {C : Type 0} {N : ℕ} (truths : Truths C) (old new : LockState C N) (view : SeatView C N) (commits : List (Event C N)) (waking : Waking) (k : ℕ) (last : Word) (owes : Bool) →
     (step : Step truths old view (Woke owes) new commits) → step.walk ≡ InSignal waking k (WakeAndReturn last) →
     AreCalled (is_held last) k (taken_by waking (waiters_of old.lists (Cv k))) old.lists.lock new.lists.lock step.owed
 taken_called {C} {N} truths old new view commits waking k last owes step walks =
-    let e = effect_at truths old new view (Woke owes) commits (InSignal waking k (WakeAndReturn last)) step walks in
+    let e = effect_at step (InSignal waking k (WakeAndReturn last)) walks in
     let taken = taken_by waking (waiters_of old.lists (Cv k)) in
     subst (λ lock. AreCalled (is_held last) k taken old.lists.lock lock step.owed) (sym (ap (λ p. p.lists.lock) e.2)) (subst (λ owed. AreCalled (is_held last) k taken old.lists.lock (changed view.seat (WakeWaiters waking k) last old.lists).lock owed) (sym (ap (λ p. p.owed) e.2))
     (are_called C N truths view.seat waking k (is_held last) old.lists))

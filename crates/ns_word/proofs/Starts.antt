@@ -1,39 +1,33 @@
 -- A fresh lock is lawful, and so is one where a call begins.
 use Rattle.ns_word.proofs.Prelude.{AcquireLoad, AreApart, Begins, Bool, CanWait, Cv, EachFits, Event, Every, ForLock, HasNumber, Held, InAcquire, InCells, InQueuing, InRelease, InShow, InSignal, InTry, InWait, IsFirst, IsForVariables, IsLawful, Judging, List, Load, LockState, None, NoneIs}
-use Rattle.ns_word.proofs.Prelude.{OnCondition, OnEntry, OnVariables, Option, PlaceFits, QuietCells, QuietLast, ReleaseLoad, SeatView, ShowLoad, SignalLoad, Some, Subject, TestCells, TestLast, Tests, Truths, TryLoad, VariableWaiterFits, Wait, Waiter, WakeTells, Walk, WordsSeen, [], arith}
-use Rattle.ns_word.proofs.Prelude.{both_ways, cond, eqb, every_join, every_parts, false, first_for, first_row, first_standing, fresh_state, fresh_views, has_armed, length-replicate, ltb, ltb-false, owed_in, owed_to, queuers, quiet_first, readers, refl, replicate, subst, suc, sym, takers, times_in}
-use Rattle.ns_word.proofs.Prelude.{true, wait_first, waiters_of, walk_at, word_seen, writers, zero, ℕ, ◌++◌, ◌+◌, ◌-◌, ◌<◌, ◌∷◌, ◌≡◌, ◌≤◌}
+use Rattle.ns_word.proofs.Prelude.{OnCondition, OnEntry, OnVariables, Option, PlaceFits, QuietCells, QuietLast, ReleaseLoad, SeatView, ShowLoad, SignalLoad, Some, Subject, TestCells, TestLast, Tests, Truths, TryLoad, Wait, WakeTells, Walk, WordsSeen, [], ap, arith, both_ways, cond, eqb, every_join}
+use Rattle.ns_word.proofs.Prelude.{every_parts, false, first_for, first_row, first_standing, fresh_state, fresh_views, has_armed, has_queues, is_queuing, is_reading, is_writing, length-replicate, ltb, ltb-false, one_if, owed_in, queuers, quiet_first, readers, refl, replicate, subst, suc, sym}
+use Rattle.ns_word.proofs.Prelude.{times_among, total, true, wait_first, waiters_of, walk_at, word_seen, writers, zero, ℕ, ◌++◌, ◌+◌, ◌-◌, ◌<◌, ◌∷◌, ◌≡◌, ◌≤◌}
 use Rattle.ns_model.specs.declared.phase.Phase.TheVariants.{Idle}
 use Rattle.ns_word.proofs.Firsts.{first_is_bare}
 use Rattle.ns_word.proofs.Groups.{groups_of, lawful_by}
 use Rattle.ns_word.proofs.Views.{view_of}
 use Rattle.ns_word.proofs.Safes.{same_section}
 use Rattle.ns_word.proofs.Keeps.{rests}
-use Rattle.ns_word.proofs.Leads.{Leads}
+use Rattle.ns_word.proofs.Leads.{Leads, leads_as, leads_to, tags_of}
 
 module _ (C : Type 0) (N : ℕ) where
   abbrev fresh : ℕ → ℕ → List (SeatView C N)
   fresh first n = fresh_views first n
 
-  no_writers : (first n : ℕ) → writers (fresh first n) ≡ 0
-  no_writers first zero = refl
-  no_writers first (suc n) = let rest = no_writers (first + 1) n in omega arith
+  -- nobody counts who has no section and no call
+  none_counted : (count : SeatView C N → ℕ) → ((seat : ℕ) → count (record { seat = seat; walk = None; held = None; owed = [] }) ≡ 0) → (first n : ℕ) → total count (fresh first n) ≡ 0
+  none_counted count none first zero = refl
+  none_counted count none first (suc n) = omega (arith, none first, none_counted count none (first + 1) n)
 
-  no_readers : (first n : ℕ) → readers (fresh first n) ≡ 0
-  no_readers first zero = refl
-  no_readers first (suc n) = let rest = no_readers (first + 1) n in omega arith
+  no_writers : (n : ℕ) → writers (fresh 0 n) ≡ 0
+  no_writers n = none_counted (λ view. one_if (is_writing view.held)) (λ seat. refl) 0 n
 
-  no_takers : (first n : ℕ) → takers (fresh first n) ≡ 0
-  no_takers first zero = refl
-  no_takers first (suc n) = let rest = no_takers (first + 1) n in omega arith
+  no_readers : (n : ℕ) → readers (fresh 0 n) ≡ 0
+  no_readers n = none_counted (λ view. one_if (is_reading view.held)) (λ seat. refl) 0 n
 
-  no_queuers : (first n : ℕ) → queuers (fresh first n) ≡ 0
-  no_queuers first zero = refl
-  no_queuers first (suc n) = let rest = no_queuers (first + 1) n in omega arith
-
-  none_owed : (seat first n : ℕ) → owed_to seat (fresh first n) ≡ 0
-  none_owed seat first zero = refl
-  none_owed seat first (suc n) = let rest = none_owed seat (first + 1) n in omega arith
+  no_queuers : (n : ℕ) → queuers (fresh 0 n) ≡ 0
+  no_queuers n = none_counted (λ view. one_if (is_queuing view.walk)) (λ seat. refl) 0 n
 
   no_walk : (seat first n : ℕ) → walk_at seat (fresh first n) ≡ None
   no_walk seat first zero = refl
@@ -52,19 +46,12 @@ module _ (C : Type 0) (N : ℕ) where
   each truths seats first (suc n) row few = (record { in_range = omega arith; place = tt; owes = (refl, tt); section = refl }, each truths seats (first + 1) n row (omega arith))
 
   -- nobody stands in the list of a variable
-  nobody_waits : (P : Waiter C → Type 0) (k : ℕ) → Every P (waiters_of {C = C} (record { lock = []; cvs = replicate 4 [] }) (Cv k))
-  nobody_waits P zero = tt
-  nobody_waits P (suc zero) = tt
-  nobody_waits P (suc (suc zero)) = tt
-  nobody_waits P (suc (suc (suc zero))) = tt
-  nobody_waits P (suc (suc (suc (suc k)))) = tt
-
-  none_listed : (seat k : ℕ) → times_in seat (waiters_of {C = C} (record { lock = []; cvs = replicate 4 [] }) (Cv k)) ≤ 1
-  none_listed seat zero = omega arith
-  none_listed seat (suc zero) = omega arith
-  none_listed seat (suc (suc zero)) = omega arith
-  none_listed seat (suc (suc (suc zero))) = omega arith
-  none_listed seat (suc (suc (suc (suc k)))) = omega arith
+  none_at : (k : ℕ) → waiters_of {C = C} (record { lock = []; cvs = replicate 4 [] }) (Cv k) ≡ []
+  none_at zero = refl
+  none_at (suc zero) = refl
+  none_at (suc (suc zero)) = refl
+  none_at (suc (suc (suc zero))) = refl
+  none_at (suc (suc (suc (suc k)))) = refl
 
   none_seen : (first n : ℕ) → WordsSeen (fresh first n)
   none_seen first zero = tt
@@ -76,8 +63,8 @@ module _ (C : Type 0) (N : ℕ) where
 
   pub lawful_fresh : (truths : Truths C) (seats : ℕ) → seats ≤ 64 → IsLawful truths seats [] (fresh_state {C = C} {N = N} seats)
   lawful_fresh truths seats few = record {
-    one_writer = record { bit = no_writers 0 seats; alone = λ e. absurd (cc) };
-    readers_counted = sym (no_readers 0 seats);
+    one_writer = record { bit = no_writers seats; alone = λ e. absurd (cc) };
+    readers_counted = sym (no_readers seats);
     one_history = record {
       legal = tt;
       by_seats = tt;
@@ -86,20 +73,20 @@ module _ (C : Type 0) (N : ℕ) where
       cells = length-replicate N 0;
       cells_after = length-replicate N 0;
     };
-    spin_held_once = no_takers 0 seats;
-    bits_tell = record { at_home = λ e. refl; nobody = λ e. (refl, no_queuers 0 seats) };
+    spin_held_once = none_counted (λ view. one_if (has_queues view.walk)) (λ seat. refl) 0 seats;
+    bits_tell = record { at_home = λ e. refl; nobody = λ e. (refl, no_queuers seats) };
     waiters_placed = record {
       four = refl;
-      once = λ seat k low. none_listed seat k;
-      placed = λ seat. let none = none_owed seat 0 seats in rw (no_walk seat 0 seats) (omega (arith, none));
+      once = λ seat k low. rw (none_at k) (omega arith);
+      placed = λ seat. let none = none_counted (λ view. times_among seat view.owed) (λ other. refl) 0 seats in rw (no_walk seat 0 seats) (omega (arith, none));
       armed = λ seat e. absurd (both_ways (has_armed (walk_at seat (fresh 0 seats))) (rw (no_walk seat 0 seats) refl) e);
       flag = λ seat. omega arith;
     };
     waiters_own = tt;
-    variables_tell = record { own = λ k low. nobody_waits (VariableWaiterFits (λ seat. Idle) (fresh 0 seats) k) k; all = λ vs k seat mode e is. absurd (cc); some = λ vs seat mode e. absurd (cc) };
+    variables_tell = record { own = λ k low. rw (none_at k) tt; all = λ vs k seat mode e is. absurd (cc); some = λ vs seat mode e. absurd (cc) };
     taken_told = record { flag = λ seat clear. rw (no_walk seat 0 seats) tt; owed = subst (Every (WakeTells (λ seat. Idle) (fresh 0 seats))) (sym (none_owed_in 0 seats)) tt; listed = tt };
     desig_on_its_way = λ e. absurd (cc);
-    idle_waiters_false = λ e f g. (refl, no_queuers 0 seats);
+    idle_waiters_false = λ e f g. (refl, no_queuers seats);
     all_false_true = λ e. absurd (cc);
     apart = apart 0 seats;
     words_seen = none_seen 0 seats;
@@ -128,16 +115,16 @@ wait_is_first N wait = first_is_for N wait.on wait refl
 module _ {C : Type 0} {N : ℕ} (truths : Truths C) (seats : ℕ) (h : List (Event C N)) where
   -- A first place tells nothing that no place doesn't, but that a wait begins with its section in hand.
   first_place : (walk : Walk C) (held : Option (Held C N)) → IsFirst N walk → PlaceFits truths (Some walk) held → Leads truths None (Some walk) held
-  first_place (InTry mode TryLoad) held e p = (p, (refl, refl, refl, refl), refl, λ flag n f. absurd (cc), λ none. refl)
-  first_place (InAcquire (ForLock mode) (AcquireLoad arrival)) held e p = (p, (refl, refl, refl, refl), refl, λ flag n f. absurd (cc), λ none. refl)
-  first_place (InRelease releasing ReleaseLoad) held e p = (p, (refl, refl, refl, refl), refl, λ flag n f. absurd (cc), λ none. refl)
-  first_place (InCells place) held e p = (p, (refl, refl, refl, refl), refl, λ flag n f. absurd (cc), λ none. refl)
-  first_place (InWait wait (TestCells OnEntry i)) held e p = (p, (refl, refl, refl, refl), refl, λ flag n f. absurd (cc), λ none. absurd (subst (λ x. Tests truths wait OnEntry x) none p.0.0))
-  first_place (InWait wait (TestLast OnEntry i)) held e p = (p, (refl, refl, refl, refl), refl, λ flag n f. absurd (cc), λ none. absurd (subst (λ x. Tests truths wait OnEntry x) none p.0.0))
-  first_place (InWait wait (InQueuing false Load)) held e p = (p, (refl, refl, refl, refl), refl, λ flag n f. absurd (cc), λ none. absurd (subst (λ x. CanWait truths wait false x) none p.0.0))
+  first_place (InTry mode TryLoad) held e p = leads_to truths refl p
+  first_place (InAcquire (ForLock mode) (AcquireLoad arrival)) held e p = leads_to truths (ap (λ a. tags_of (Some (InAcquire (ForLock mode) (AcquireLoad a)))) e) p
+  first_place (InRelease releasing ReleaseLoad) held e p = leads_to truths refl p
+  first_place (InCells place) held e p = leads_to truths refl p
+  first_place (InWait wait (TestCells OnEntry i)) held e p = leads_as truths _ refl (λ none. absurd (subst (λ x. Tests truths wait OnEntry x) none p.0.0)) p
+  first_place (InWait wait (TestLast OnEntry i)) held e p = leads_as truths _ refl (λ none. absurd (subst (λ x. Tests truths wait OnEntry x) none p.0.0)) p
+  first_place (InWait wait (InQueuing false Load)) held e p = leads_as truths _ refl (λ none. absurd (subst (λ x. CanWait truths wait false x) none p.0.0)) p
   first_place (InWait wait (InQueuing true Load)) held e p = let never : true ≡ false = e.0 in absurd (cc)
-  first_place (InSignal waking k SignalLoad) held e p = (p, (refl, refl, refl, refl), refl, λ flag n f. absurd (cc), λ none. refl)
-  first_place (InShow ShowLoad) held e p = (p, (refl, refl, refl, refl), refl, λ flag n f. absurd (cc), λ none. refl)
+  first_place (InSignal waking k SignalLoad) held e p = leads_to truths refl p
+  first_place (InShow ShowLoad) held e p = leads_to truths refl p
   first_place _ held e p = absurd e
 
   pub begins : (old : LockState C N) (view : SeatView C N) (walk : Walk C) (new : LockState C N) → Begins truths old view walk new → IsLawful truths seats h old → IsLawful truths seats h new
@@ -145,7 +132,7 @@ module _ {C : Type 0} {N : ℕ} (truths : Truths C) (seats : ℕ) (h : List (Eve
       let start = subst (λ views. IsLawful truths seats h (record { word = old.word; row = old.row; lists = old.lists; flags = old.flags; views = views })) b.was p in
       let here = subst (λ w. IsLawful truths seats h (record { word = old.word; row = old.row; lists = old.lists; flags = old.flags; views = b.front ++ view_of view.seat w view.held view.owed ∷ b.back })) b.over start in
       let leads = first_place walk view.held b.first b.fits in
-      let moved = rests truths seats h b.front view.seat None (Some walk) b.back old.word old.row old.lists old.flags view.held view.held view.owed refl leads.0 leads.1 leads.2 leads.3 (same_section None (Some walk) view.held leads.4) (groups_of truths seats h _ here) in
+      let moved = rests truths seats h b.front view.seat None (Some walk) b.back old.word old.row old.lists old.flags view.held view.held view.owed refl leads.place leads.same leads.queuing leads.way (same_section None (Some walk) view.held leads.stays) (groups_of truths seats h _ here) in
       let parts = every_parts (λ (v : SeatView C N). HasNumber (word_seen v.walk)) b.front (view_of view.seat None view.held view.owed) b.back here.words_seen in
       let seen = every_join (λ (v : SeatView C N). HasNumber (word_seen v.walk)) b.front (view_of view.seat (Some walk) view.held view.owed) b.back parts.0 (subst HasNumber (sym (first_is_bare N walk b.first).unseen) tt) parts.2 in
       subst (λ s. IsLawful truths seats h s) (sym b.becomes) (lawful_by truths seats h _ moved seen)

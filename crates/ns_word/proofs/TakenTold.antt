@@ -1,45 +1,11 @@
 -- What the taken are told stays so, by each kind of step.
 use Rattle.ns_word.proofs.Prelude.{Bool, Every, Held, IsNamed, IsToldSo, List, Mode, NamesOn, None, NoneIs, OnCondition, OnVariables, Option, Owed, Phase, SeatView, Some, Stance, Subject, TakenTold, ToldOn, VariableWaiterFits, Variables, Waiter, WaiterNames, Waiting, WaitsAmong, WakeTells, Walk}
-use Rattle.ns_word.proofs.Prelude.{[], ap, append_assoc, arith, called_of, cases_Bool, cases_eq, cond, eq-eqb, eqb, every_filter, every_map, every_woken, false, flags_with, goes_along, has, in_list, in_stands, inl, inr, is_eligible, is_in, is_of, left_of, lt-ltb, ne_eqb, not, one_if, owed_in}
-use Rattle.ns_word.proofs.Prelude.{owed_to, own_times, queued, refl, stands_waiting, subst, sym, taken_set, times_among, times_in, times_in-cons, true, value_of, waits_in, wakes_of, walk_at, without_in, woken_of, woken_phase, woken_phases, writes, ℕ, ◌++◌, ◌+◌, ◌<◌, ◌∙◌, ◌∷◌, ◌≡◌, ◌≢◌, ◌≤◌, ◌⊎◌}
+use Rattle.ns_word.proofs.Prelude.{[], ap, append_assoc, arith, called_of, cases_Bool, cases_eq, cond, eq-eqb, eqb, every-append, every_map, every_woken, flags_with, has, in_list, in_stands, inl, inr, is_in, lt-ltb, ne_eqb, one_if, owed_in, owed_to, own_times, refl, stands_waiting, subst, sym}
+use Rattle.ns_word.proofs.Prelude.{taken_set, times_among, times_in, times_in-cons, true, value_of, waits_in, wakes_of, walk_at, woken_of, woken_phase, woken_phases, ℕ, ◌++◌, ◌+◌, ◌<◌, ◌∙◌, ◌∷◌, ◌≡◌, ◌≢◌, ◌≤◌, ◌⊎◌}
 use Rattle.ns_model.specs.declared.phase.Phase.TheVariants.{Woken}
+use Rattle.ns_word.proofs.Listed.{every_cut}
 use Rattle.ns_word.proofs.Variables.{waits_of}
 use Rattle.ns_word.proofs.Views.{view_of, walk_here, walk_there}
-
--- ---- lists of wakes
-
-module _ (P : Owed → Type 0) where
-  pub every_cut : (xs ys : List Owed) → Every P (xs ++ ys) → Every P xs × Every P ys
-  every_cut [] ys p = (tt, p)
-  every_cut (x ∷ xs) ys p = let rest = every_cut xs ys p.1 in ((p.0, rest.0), rest.1)
-
-  pub every_both_parts : (xs ys : List Owed) → Every P xs → Every P ys → Every P (xs ++ ys)
-  every_both_parts [] ys p q = q
-  every_both_parts (x ∷ xs) ys p q = (p.0, every_both_parts xs ys p.1 q)
-
-module _ {C : Type 0} (Q : Waiter C → Type 0) where
-  -- of those who stay where a scan takes some, of all but one, and of more
-  pub listed_left : (meets : C → Bool) (ws : List (Waiter C)) → Every Q ws → Every Q (left_of meets ws)
-  listed_left meets [] p = tt
-  listed_left meets (w ∷ ws) p = elim (cases_Bool (is_eligible meets w)) [
-    | inl goes ↦ elim (cases_Bool (writes w)) [
-      | inl alone ↦ rw (goes, alone) p.1
-      | inr reader ↦ rw (goes, reader) (every_filter Q (λ v. not (goes_along meets v)) ws p.1)
-    ]
-    | inr stays ↦ rw stays (p.0, listed_left meets ws p.1)
-  ]
-
-  pub listed_without : (who : ℕ) (ws : List (Waiter C)) → Every Q ws → Every Q (without_in who ws)
-  listed_without who ws p = every_filter Q (λ w. not (is_of who w)) ws p
-
-  pub listed_moved : (ws took : List (Waiter C)) → Every Q ws → Every Q took → Every Q (ws ++ took)
-  listed_moved [] took p q = q
-  listed_moved (w ∷ ws) took p q = (p.0, listed_moved ws took p.1 q)
-
-  -- of one more, who was moved by nobody
-  pub listed_queued : (who : ℕ) (mode : Mode) (c : Option C) (tries : ℕ) (front : Bool) (ws : List (Waiter C)) → Q (record { seat = who; mode = mode; cond = c; tries = tries; via = None }) → Every Q ws → Every Q (queued who mode c tries front ws)
-  listed_queued who mode c tries true ws own p = (own, p)
-  listed_queued who mode c tries false ws own p = listed_moved ws (record { seat = who; mode = mode; cond = c; tries = tries; via = None } ∷ []) p (own, tt)
 
 -- waiters of other seats
 every_apart : {C : Type 0} (Q R : Waiter C → Type 0) (who : ℕ) (ws : List (Waiter C)) → times_in who ws ≡ 0 → ((w : Waiter C) → who ≢ w.seat → Q w → R w) → Every Q ws → Every R ws
@@ -146,7 +112,7 @@ module _ {C : Type 0} {N : ℕ} where
           let cut = every_cut Is (owed_in front) (owed ++ owed_in back) (subst (Every Is) (owed_at front (view_of who walk held owed) back) kept) in
           let behind = every_cut Is owed (owed_in back) cut.1 in record {
             flag = flag;
-            owed = subst (Every Is) (sym (owed_at front (view_of who walk' held' owed') back)) (every_both_parts Is (owed_in front) (owed' ++ owed_in back) cut.0 (every_both_parts Is owed' (owed_in back) (due behind.0) behind.1));
+            owed = subst (Every Is) (sym (owed_at front (view_of who walk' held' owed') back)) (every-append Is (owed_in front) (owed' ++ owed_in back) cut.0 (every-append Is owed' (owed_in back) (due behind.0) behind.1));
             listed = listed;
           }
 
@@ -268,6 +234,6 @@ module _ {C : Type 0} {N : ℕ} where
           told_stays phases woken flags lock lock' stay
           (λ own listed. elim ways [ inl move ↦ subst (Every (WakeTells woken news)) (sym move.1) tt | inr owe ↦ subst (Every (WakeTells woken news)) (sym owe.1) (owed_told took each) ])
           (λ listed. elim ways [
-            | inl move ↦ subst (Every (WaiterNames woken news)) (sym move.0) (listed_moved (WaiterNames woken news) lock took listed (moved_named took each))
+            | inl move ↦ subst (Every (WaiterNames woken news)) (sym move.0) (every-append (WaiterNames woken news) lock took listed (moved_named took each))
             | inr owe ↦ subst (Every (WaiterNames woken news)) (sym owe.0) listed
           ]) p

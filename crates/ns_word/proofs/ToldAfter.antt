@@ -1,10 +1,9 @@
 -- What a step leaves of what the seats were told.
-use Rattle.ns_word.proofs.Prelude.{Acquire, Act, All, All-append, All-nil, All-push, Any, AreBy, ArmFlag, AtLock, AtVariables, BeginsIf, BeginsWith, Bool, Broadcasting, Cell, Change, Effect, Event, Flag, Found, Home, IsBySeats, IsFirst, IsLawful, IsLed, IsLegal, IsTold, JudgeMet, JudgeQuiet}
-use Rattle.ns_word.proofs.Prelude.{LeaveSelf, LedBy, Left, List, Lists, LoadCell, LoadFlag, LoadWord, LockState, Look, Looked, Made, None, Nothing, Only, Option, Paid, Part, PayWake, QueueSelf, Quiet, QuietKeeps, Release, ReleaseReturning, ReturnQueues, Saw, Scanned, SeatStep, SeatView, Signaling}
-use Rattle.ns_word.proofs.Prelude.{Some, Step, StoreCell, TakeQueues, Tested, Told, Truths, WaitReturning, Waiter, WakeWaiters, Waking, Walk, Woke, [], ap, append-nil, append_assoc, calls_of, change_commits, eq-eqb, eqb, false, filter-append, got_of, leave_of, ne_eqb, nothing_told, own, refl}
-use Rattle.ns_word.proofs.Prelude.{subst, sym, told_after, true, view_in, wake_of, walk_after, walk_over, want_of, who_of, ℕ, ◌++◌, ◌<◌, ◌∙◌, ◌∷◌, ◌≡◌, ◌≢◌, ◌≤◌}
+use Rattle.ns_word.proofs.Prelude.{All, All-append, All-nil, All-push, AreBy, BeginsIf, BeginsWith, Bool, Event, Found, IsBySeats, IsFirst, IsLawful, IsLed, IsLegal, IsTold, LedBy, List, LockState, None, Option, QuietKeeps, SeatStep, SeatView, Some, Step, Told, Truths, Walk, [], ap, append-nil}
+use Rattle.ns_word.proofs.Prelude.{append_assoc, calls_of, eq-eqb, eqb, filter-append, got_of, ne_eqb, nothing_told, own, refl, subst, sym, told_after, view_in, walk_after, walk_over, want_of, who_of, ℕ, ◌++◌, ◌<◌, ◌∙◌, ◌∷◌, ◌≡◌, ◌≢◌, ◌≤◌}
 use Rattle.ns_word.proofs.Starts.{begins}
 use Rattle.ns_word.proofs.Dispatch.{keeps}
+use Rattle.ns_word.proofs.Effects.{makes}
 
 -- what was found leads on from where what was found before it led
 over_more : {C : Type 0} (N : ℕ) (founds : List Found) (found : Found) (from : Option (Walk C)) (walk : Walk C) → walk_over N founds from ≡ Some walk → walk_over N (founds ++ found ∷ []) from ≡ walk_after (got_of N walk found)
@@ -22,64 +21,10 @@ led_on N begun walk found led = led_at N begun (walk_after (got_of N walk found)
 led_from : {C : Type 0} (N : ℕ) (earlier : List (Walk C)) (first : Walk C) (found : Found) (next : Option (Walk C)) → walk_after (got_of N first found) ≡ next → IsLed N (earlier ++ first ∷ []) next
 led_from N earlier first found next e = led_at N (earlier ++ first ∷ []) next earlier first (found ∷ []) refl e
 
--- what is committed as the queues are put back is the seat's
-left_by : (C : Type 0) (N : ℕ) (seat : ℕ) (home : Home) (stood : Bool) → AreBy seat (leave_of {C = C} {N = N} seat home stood)
-left_by C N seat AtLock stood = tt
-left_by C N seat (AtVariables (Only k)) true = (refl, tt)
-left_by C N seat (AtVariables (Any cvs)) true = (refl, tt)
-left_by C N seat (AtVariables (Only k)) false = tt
-left_by C N seat (AtVariables (Any cvs)) false = tt
-
-woken_by : {C : Type 0} (N : ℕ) (seat : ℕ) (waking : Waking) (k : ℕ) (taken : List (Waiter C)) → who_of (wake_of {C = C} {N = N} seat waking k taken) ≡ seat
-woken_by N seat Signaling k taken = refl
-woken_by N seat Broadcasting k taken = refl
-
-change_by : {C : Type 0} (N : ℕ) (seat : ℕ) (change : Change) (lists : Lists C) → AreBy seat (change_commits {C = C} {N = N} seat change lists)
-change_by N seat (QueueSelf mode arrival) lists = tt
-change_by {C} N seat (LeaveSelf home) lists = left_by C N seat home _
-change_by N seat (WakeWaiters waking k) lists = (woken_by N seat waking k _, tt)
-change_by N seat Nothing lists = tt
-
 module _ {C : Type 0} {N : ℕ} where
-  none_by : (seat : ℕ) (commits : List (Event C N)) → commits ≡ [] → AreBy seat commits
-  none_by seat commits e = subst (λ xs. AreBy seat xs) (sym e) tt
-
-  one_by : (seat : ℕ) (event : Event C N) (commits : List (Event C N)) → who_of event ≡ seat → commits ≡ event ∷ [] → AreBy seat commits
-  one_by seat event commits same e = subst (λ xs. AreBy seat xs) (sym e) (same, tt)
-
-  returned_by : (seat : ℕ) (change : Change) (lists : Lists C) (commits : List (Event C N)) → commits ≡ change_commits seat change lists → AreBy seat commits
-  returned_by seat change lists commits e = subst (λ xs. AreBy seat xs) (sym e) (change_by N seat change lists)
-
   -- what a step commits is its seat's
-  effect_by : (truths : Truths C) (seat : ℕ) (act : Act C) (old : Part C N) (found : Found) (new : Part C N) (commits : List (Event C N)) → Effect truths seat act old found new commits → AreBy seat commits
-  effect_by truths seat LoadWord old (Saw word) new commits e = none_by seat commits e.2
-  effect_by truths seat (Acquire aim arrival last) old (Saw word) new commits e = none_by seat commits e.3
-  effect_by truths seat (TakeQueues taking last) old (Saw word) new commits e = none_by seat commits e.3
-  effect_by truths seat (ReturnQueues change last) old (Saw word) new commits e = none_by seat commits e.3
-  effect_by truths seat (Release releasing last) old (Saw word) new commits e = none_by seat commits e.3
-  effect_by truths seat (ReleaseReturning releasing last) old (Saw word) new commits e = none_by seat commits e.3
-  effect_by truths seat (WaitReturning wait again last) old (Saw word) new commits e = none_by seat commits e.3
-  effect_by truths seat (Acquire aim arrival last) old Made new commits e = none_by seat commits e.4
-  effect_by truths seat (TakeQueues taking last) old Made new commits e = none_by seat commits e.3
-  effect_by truths seat (ReturnQueues change last) old Made new commits e = returned_by seat change old.lists commits e.3
-  effect_by truths seat (ReturnQueues change last) old (Left stood) new commits e = returned_by seat change old.lists commits e.3
-  effect_by truths seat (ReturnQueues change last) old (Woke owes) new commits e = returned_by seat change old.lists commits e.3
-  effect_by truths seat (Release releasing last) old Made new commits e = one_by seat _ commits refl e.5
-  effect_by truths seat (ReleaseReturning releasing last) old (Scanned owes tests) new commits e = one_by seat _ commits refl e.7
-  effect_by truths seat (WaitReturning wait false last) old (Scanned owes tests) new commits e = one_by seat _ commits refl e.7
-  effect_by truths seat (WaitReturning wait true last) old (Scanned owes tests) new commits e = none_by seat commits e.7
-  effect_by truths seat (LoadCell i) old (Cell v) new commits e = none_by seat commits e.2
-  effect_by truths seat (JudgeQuiet i) old (Quiet is_quiet) new commits e = none_by seat commits e.4
-  effect_by truths seat (JudgeMet i c) old (Tested is_met) new commits e = none_by seat commits e.4
-  effect_by truths seat (StoreCell i v) old Made new commits e = none_by seat commits e.4
-  effect_by truths seat ArmFlag old Made new commits e = none_by seat commits e.1
-  effect_by truths seat PayWake old (Paid owes) new commits e = none_by seat commits e.5
-  effect_by truths seat LoadFlag old (Flag v) new commits e = none_by seat commits e.2
-  effect_by truths seat (Look limits again) old (Looked cause) new commits e = none_by seat commits e.2
-  effect_by truths seat _ old _ new commits e = absurd e
-
   pub step_by : (truths : Truths C) (old : LockState C N) (view : SeatView C N) (found : Found) (new : LockState C N) (commits : List (Event C N)) → Step truths old view found new commits → AreBy view.seat commits
-  step_by truths old view found new commits step = effect_by truths view.seat (want_of step.walk) _ found _ commits step.effect
+  step_by truths old view found new commits step = (makes truths view.seat (want_of step.walk) _ found _ commits step.effect).by
 
   -- of a seat's own events all are its own, of another's none
   pub own_all : (seat : ℕ) (commits : List (Event C N)) → AreBy seat commits → own commits seat ≡ commits
@@ -164,5 +109,8 @@ module _ {C : Type 0} {N : ℕ} (truths : Truths C) (cells : 0 < N) (quiet : Qui
       IsTold truths.holds seats (h ++ commits) view.seat (walk_after (got_of N made.step.walk found)) (told_after h commits (calls_of begun) told) × BeginsWith (h ++ commits) told.seen
   seat_step_tells old view begun found new commits made p told was =
       let after_all = seat_steps_keep old view begun found new commits made p in
-      let led = led_if truths view begun made.between found new commits old made.begins made.step told.begun was.led in
-      (told_here truths.holds seats h view.seat view.walk (walk_after (got_of N made.step.walk found)) commits (calls_of begun) told (seat_step_by truths old view begun found new commits made) after_all.one_history.legal after_all.one_history.by_seats led.0 led.1 was, seen_grows h told.seen commits was.seen_of)
+      let led = led_if truths view begun made.between found new commits old made.begins made.step told.begun was.led in (
+        told_here truths.holds seats h view.seat view.walk (walk_after (got_of N made.step.walk found)) commits (calls_of begun) told
+            (seat_step_by truths old view begun found new commits made) after_all.one_history.legal after_all.one_history.by_seats led.0 led.1 was,
+        seen_grows h told.seen commits was.seen_of,
+      )

@@ -1,10 +1,12 @@
 -- What the steps leave of the lists of the variables.
-use Rattle.ns_word.proofs.Prelude.{AreVariables, AreWaiting, Bool, Cond, Cv, Every, Held, IsOrderly, List, Lists, Mode, NoneIs, OnVariables, Option, Owed, Phase, SeatView, Seats, Some, VariableWaiterFits, Variables, VariablesTell, WaitFor, Waiter, Waiting, Walk, [], ap, arith, below_in, cases_Bool}
-use Rattle.ns_word.proofs.Prelude.{cases_eq, cond, cvs_without, eq-eqb, eqb, every_filter, false, gone_outside, has, inl, inr, is_in, is_of, is_waiting, length, ne_eqb, not, once_in, one_if, outside, refl, subst, sym, taken_set, times, times_at_most, times_in, times_in-append, times_in-cons}
-use Rattle.ns_word.proofs.Prelude.{times_outside, true, waiters_of, waits_in, walk_at, without_in, woken_phase, woken_phases, ℕ, ◌++◌, ◌<◌, ◌∙◌, ◌∷◌, ◌≡◌, ◌≢◌, ◌≤◌}
-use Rattle.ns_model.specs.declared.phase.Phase.TheVariants.{Idle, Woken, Left}
+use Rattle.ns_word.proofs.Prelude.{AreVariables, AreWaiting, Bool, Cv, Every, Held, IsOrderly, List, Lists, Mode, None, NoneIs, OnVariables, Only, Option, Owed, Phase, SeatView, Seats, Some, Stance, Subject, VariableWaiterFits, Variables, VariablesTell, WaitFor, Waiter, Waiting, Walk, Write, []}
+use Rattle.ns_word.proofs.Prelude.{ap, arith, below_in, cases_Bool, cases_eq, cond, cvs_without, eq-eqb, eqb, every_filter, every_join, false, gone_outside, has, inl, inr, is_in, is_waiting, length, ne_eqb, not, once_in, one_if, outside, refl, subst, sym, taken_set, times, times_at_most, times_in}
+use Rattle.ns_word.proofs.Prelude.{times_in-append, times_in-cons, times_outside, true, waiters_of, waits_in, walk_at, without_in, woken_phase, woken_phases, ℕ, ◌++◌, ◌<◌, ◌∙◌, ◌∷◌, ◌≡◌, ◌≢◌, ◌≤◌}
+use Rattle.std.proofs.Common.{sum_by}
+use Rattle.ns_model.specs.declared.phase.Phase.TheVariants.{Idle}
 use Rattle.ns_word.proofs.Enters.{HasEntered, one_has, stander, times_other, variable_low}
-use Rattle.ns_word.proofs.CountsIn.{cvs_left, left_at, outside_same, taken_at}
+use Rattle.ns_word.proofs.Listed.{listed_without}
+use Rattle.ns_word.proofs.CountsIn.{some_list, cvs_left, left_at, outside_same, taken_at}
 use Rattle.ns_word.proofs.Scans.{times_without, times_others}
 use Rattle.ns_word.proofs.Views.{view_of, walk_here, walk_there}
 
@@ -12,14 +14,6 @@ abbrev CvOf : {C : Type 0} → Lists C → ℕ → List (Waiter C)
 CvOf lists k = waiters_of lists (Cv k)
 
 module _ {C : Type 0} where
-  every_without : (P : Waiter C → Type 0) (who : ℕ) (ws : List (Waiter C)) → Every P ws → Every P (without_in who ws)
-  every_without P who [] p = tt
-  every_without P who (w ∷ ws) p = elim (is_of who w) as (λ b. Every P (cond (not b) (w ∷ without_in who ws) (without_in who ws))) [ true ↦ every_without P who ws p.1 | false ↦ (p.0, every_without P who ws p.1) ]
-
-  every_push : (P : Waiter C → Type 0) (ws : List (Waiter C)) (w : Waiter C) → Every P ws → P w → Every P (ws ++ w ∷ [])
-  every_push P [] w p q = (q, tt)
-  every_push P (v ∷ ws) w p q = (p.0, every_push P ws w p.1 q)
-
   -- a waiter that stands in a list is one of it
   pub one_of : (P : Waiter C → Type 0) (seat : ℕ) (ws : List (Waiter C)) → 1 ≤ times_in seat ws → Every P ws → (w : Waiter C) × (w.seat ≡ seat) × P w
   one_of P seat [] some p = absurd (omega (arith, some))
@@ -93,8 +87,8 @@ module _ {C : Type 0} {N : ℕ} where
         (λ seat some. let other : who ≢ seat = λ e. let most = times_at_most lists (Cv k) seat four few in let zero : times seat lists ≡ 0 = subst (λ s. times s lists ≡ 0) e none in absurd (omega (arith, most, zero, some)) in (there seat other, others seat other)) (p.own k few) in
         record {
           own = λ k few. elim (cases_Bool (has variables k)) [
-            | inl is ↦ subst (λ ws. Every (VariableWaiterFits phases' news k) ws) (sym (entered.into k few is)) (every_push (VariableWaiterFits phases' news k) (CvOf lists k) (stander who mode k) (moved k few)
-                (record { among = variables; stands = ap waits_in (walk_here front (view_of who walk' held' owed') back apart) ∙ stance; waits = phase; is_among = is; plain = refl; untried = refl; names = refl }))
+            | inl is ↦ subst (λ ws. Every (VariableWaiterFits phases' news k) ws) (sym (entered.into k few is)) (every_join (VariableWaiterFits phases' news k) (CvOf lists k) (stander who mode k) [] (moved k few)
+                (record { among = variables; stands = ap waits_in (walk_here front (view_of who walk' held' owed') back apart) ∙ stance; waits = phase; is_among = is; plain = refl; untried = refl; names = refl }) tt)
             | inr lacks ↦ subst (λ ws. Every (VariableWaiterFits phases' news k) ws) (sym (entered.others k few lacks)) (moved k few)
           ];
           all = λ vs k seat m e has_k. elim (cases_eq who seat) [
@@ -118,7 +112,7 @@ module _ {C : Type 0} {N : ℕ} where
       own = λ k few. subst (λ ws. Every (VariableWaiterFits phases' news k) ws) (sym (left_at who k lists four few))
           (every_moves phases phases' olds news k (without_in who (CvOf lists k))
           (λ seat some. let other : who ≢ seat = λ same. let zero : times_in seat (without_in who (CvOf lists k)) ≡ 0 = subst (λ s. times_in s (without_in who (CvOf lists k)) ≡ 0) same (times_without who (CvOf lists k)) in absurd (omega (arith, zero, some)) in (there seat other, others seat other))
-          (every_without (VariableWaiterFits phases olds k) who (CvOf lists k) (p.own k few)));
+          (listed_without (VariableWaiterFits phases olds k) who (CvOf lists k) (p.own k few)));
       all = λ vs k seat m e is. elim (cases_eq who seat) [
         | inl same ↦ absurd (idle vs m (subst (λ s. phases' s ≡ Waiting vs m) (sym same) e))
         | inr ne ↦ let was = p.all vs k seat m (sym (others seat ne) ∙ e) is in (was.0, subst (λ ws. 1 ≤ times_in seat ws) (sym (left_at who k lists four was.0)) (rw (times_others seat who (CvOf lists k) ne) was.1))
@@ -129,6 +123,32 @@ module _ {C : Type 0} {N : ℕ} where
       ];
     }
 
+-- the mode in which one waits
+abbrev stance_mode : {C : Type 0} → Option (Stance C) → Mode
+stance_mode None = Write
+stance_mode (Some stance) = stance.mode
+
+-- and for which variables, if it is for any
+abbrev variables_on : {C : Type 0} → Option (Subject C) → Variables
+variables_on (Some (OnVariables variables)) = variables
+variables_on on = Only 0
+
+abbrev stance_variables : {C : Type 0} → Option (Stance C) → Variables
+stance_variables None = Only 0
+stance_variables (Some stance) = variables_on stance.on
+
+module _ {C : Type 0} {N : ℕ} (phases : ℕ → Phase C) (lists : Lists C) (views : List (SeatView C N)) (seat : ℕ) (mode : Mode) (variables : Variables) where
+  -- one that waits for variables, by its place, and stands in some list, waits for them by the history
+  pub stands_still : VariablesTell phases lists views → length lists.cvs ≡ 4 → waits_in (walk_at seat views) ≡ Some (record { mode = mode; on = Some (OnVariables variables); tries = 0 }) → 1 ≤ sum_by (times_in seat) lists.cvs → phases seat ≡ Waiting variables mode
+  stands_still p four stance some =
+      let list = some_list seat lists four some in
+      let waiter = one_of (VariableWaiterFits phases views list.0) seat (waiters_of lists (Cv list.0)) list.2 (p.own list.0 list.1) in
+      let both : Some (record { mode = waiter.0.mode; on = Some (OnVariables waiter.2.among); tries = 0 }) ≡ Some (record { mode = mode; on = Some (OnVariables variables); tries = 0 }) =
+      sym waiter.2.stands ∙ ap (λ s. waits_in (walk_at s views)) waiter.1 ∙ stance in
+      let same_mode : waiter.0.mode ≡ mode = ap stance_mode both in
+      let same_among : waiter.2.among ≡ variables = ap stance_variables both in
+      subst (λ s. phases s ≡ Waiting waiter.2.among waiter.0.mode) waiter.1 waiter.2.waits ∙ (λ i. Waiting (same_among i) (same_mode i))
+
 -- ---- a call wakes some of a variable's waiters
 
 module _ {C : Type 0} where
@@ -136,10 +156,7 @@ module _ {C : Type 0} where
   still_waiting : (b : Bool) (k : ℕ) (phase : Phase C) (vs : Variables) (mode : Mode) → cond b (woken_phase k phase) phase ≡ Waiting vs mode → (b ≡ false) × (phase ≡ Waiting vs mode)
   still_waiting false k phase vs mode e = (refl, e)
   still_waiting true k Idle vs mode e = absurd (cc)
-  still_waiting true k (Cond c m) vs mode e = absurd (cc)
-  still_waiting true k (Waiting j m) vs mode e = absurd (cc)
-  still_waiting true k (Woken j m) vs mode e = absurd (cc)
-  still_waiting true k (Left j m) vs mode e = absurd (cc)
+  still_waiting true k other vs mode e = absurd (cc)
 
 module _ {C : Type 0} {N : ℕ} where
   -- other lists
@@ -166,10 +183,7 @@ module _ {C : Type 0} {N : ℕ} where
   } where
     waiting_for : (phase : Phase C) (k : ℕ) → is_waiting k phase ≡ true → (vs : Variables) × (mode : Mode) × (phase ≡ Waiting vs mode) × (has vs k ≡ true)
     waiting_for (Waiting vs mode) k e = (vs, mode, refl, e)
-    waiting_for Idle k e = absurd (cc)
-    waiting_for (Cond c mode) k e = absurd (cc)
-    waiting_for (Woken j mode) k e = absurd (cc)
-    waiting_for (Left j mode) k e = absurd (cc)
+    waiting_for other k e = absurd (cc)
 
   module _ (front : List (SeatView C N)) (who : ℕ) (walk : Option (Walk C)) (held : Option (Held C N)) (owed : List Owed) (walk' : Option (Walk C)) (held' : Option (Held C N)) (owed' : List Owed) (back : List (SeatView C N)) where
     -- those who are taken from the list of k are out of all variables' lists, and woken, and the others stay

@@ -1,8 +1,7 @@
 -- A view among the views: what holds of all of them, by the views before it, itself, and those behind it.
-use Rattle.ns_word.proofs.Prelude.{Aim, AreApart, Bool, CameBack, Cond, EachFits, ForLock, ForWait, Held, InAcquire, InCells, InRelease, InShow, InSignal, InTry, InWait, IsEither, IsExpected, List, Locked, Mode, None, NoneIs, OnCondition, OnVariables, Opening, Option, Outcome, Owed, Phase}
-use Rattle.ns_word.proofs.Prelude.{SeatView, SectionFits, Some, Standing, Subject, Truths, Variables, ViewFits, Waiting, Walk, [], ap, arith, called_to, calls_from_lock, cond, eq-eqb, eqb, every_join, every_parts, expected_for, false, has_queues, inl, inr, is_queuing, is_reading, is_waiting}
-use Rattle.ns_word.proofs.Prelude.{is_write, is_writing, ne_eqb, not, one_if, owed_to, phase_before, phase_by, phase_by_wake, phase_for, phase_kept, queuers, readers, refl, subst, sym, takers, times_among, total_amid, true, variable_in, walk_at, woken_phase, writers, ℕ, ◌++◌, ◌+◌, ◌∙◌, ◌∷◌, ◌≡◌}
-use Rattle.ns_word.proofs.Prelude.{◌≢◌, ◌≤◌, ◌⊎◌}
+use Rattle.ns_word.proofs.Prelude.{Aim, AreApart, Bool, CameBack, Cond, EachFits, ForLock, ForWait, Held, InAcquire, InWait, IsEither, IsExpected, List, Locked, Mode, None, NoneIs, OnCondition, OnVariables, Opening, Option, Outcome, Owed, Phase, SeatView, SectionFits, Some, Standing, Subject}
+use Rattle.ns_word.proofs.Prelude.{Truths, Variables, ViewFits, Waiting, Walk, [], ap, arith, called_to, calls_from_lock, cases_eq, cond, eq-eqb, eqb, every_join, every_parts, expected_for, false, has_queues, inl, inr, is_queuing, is_reading, is_waiting, is_write, is_writing, ne_eqb, not, one_if}
+use Rattle.ns_word.proofs.Prelude.{owed_to, phase_before, phase_by, phase_by_wake, phase_for, phase_kept, queuers, readers, refl, subst, sym, takers, times_among, total_amid, true, variable_in, walk_at, woken_phase, writers, ℕ, ◌++◌, ◌+◌, ◌∙◌, ◌∷◌, ◌≡◌, ◌≢◌, ◌≤◌, ◌⊎◌}
 use Rattle.ns_model.specs.declared.phase.Phase.TheVariants.{Idle}
 
 -- a seat with this place, this section and these wakes to pay
@@ -132,6 +131,15 @@ module _ {C : Type 0} {N : ℕ} where
       each_moves now next row cells who views apart.1 phases (inr (omega arith)) p.1,
     )
 
+    -- a seat with such a place, where no seat has none such, is one with a view
+    pub view_with : (now : Standing C) (row : List ℕ) (Q : Option (Walk C) → Type 0) (seat : ℕ) (views : List (SeatView C N)) → (Q None → ⊥) → EachFits truths seats now row views → Q (walk_at seat views) →
+        (view : SeatView C N) × (view.seat ≡ seat) × Q view.walk × ViewFits truths seats now row view
+    view_with now row Q seat [] never p q = absurd (never q)
+    view_with now row Q seat (u ∷ views) never p q = elim (cases_eq u.seat seat) [
+      | inl e ↦ (u, e, subst (λ b. Q (cond b u.walk (walk_at seat views))) (eq-eqb u.seat seat e) q, p.0)
+      | inr ne ↦ view_with now row Q seat views never p.1 (subst (λ b. Q (cond b u.walk (walk_at seat views))) (ne_eqb u.seat seat ne) q)
+    ]
+
 -- ---- what a wake leaves of the phases
 
 -- a phase after a wake by the variable k: it is as it was, or it waited for that and was woken
@@ -170,14 +178,9 @@ module _ {C : Type 0} (k : ℕ) where
   subject_woken (OnVariables variables) mode now waits p = either_woken true (Waiting variables mode) now (λ e. absurd (cc)) waits p
 
   pub expected_woken : (walk : Option (Walk C)) (now : Phase C) → is_waiting k now ≡ true → IsExpected (phase_by walk) now → IsExpected (phase_by walk) (woken_phase k now)
-  expected_woken None now waits p = either_woken false Idle now (λ e. refl) waits p
-  expected_woken (Some (InTry mode place)) now waits p = either_woken false Idle now (λ e. refl) waits p
   expected_woken (Some (InAcquire aim place)) now waits p = either_woken false (phase_for aim) now (λ e. for_steady aim) waits p
-  expected_woken (Some (InRelease releasing place)) now waits p = either_woken false Idle now (λ e. refl) waits p
-  expected_woken (Some (InCells place)) now waits p = either_woken false Idle now (λ e. refl) waits p
   expected_woken (Some (InWait wait place)) now waits p = subject_woken wait.on wait.mode now waits p
-  expected_woken (Some (InSignal waking j place)) now waits p = either_woken false Idle now (λ e. refl) waits p
-  expected_woken (Some (InShow place)) now waits p = either_woken false Idle now (λ e. refl) waits p
+  expected_woken walk now waits p = either_woken false Idle now (λ e. refl) waits p
 
 module _ {C : Type 0} {N : ℕ} (truths : Truths C) (seats : ℕ) where
   section_woken : (k : ℕ) (now next : Standing C) (row : List ℕ) (who : ℕ) (walk : Option (Walk C)) (held : Option (Held C N)) →

@@ -1,15 +1,12 @@
 -- What the lock word tells of the lock list, in words on the list; and who stands back where a writer waits.
+use Rattle.ns_word.proofs.Listed.{none_of}
 use Rattle.ns_word.proofs.Prelude.{Bool, Every, HasOne, IsPlainWriter, IsSome, IsSomeAnd, List, Mode, None, Option, Read, Some, Waiter, Write, [], ap, false, has_condition, has_eligible, has_some, inl, inr, is_satisfied, is_some, is_write, list_any, not, or_cases, or_parts, refl, sym, true, writes}
 use Rattle.ns_word.proofs.Prelude.{◌&&◌, ◌||◌, ◌↔◌, ◌∙◌, ◌∷◌, ◌≡◌}
 
 module _ {C : Type 0} where
-  nobody_there : (ws : List (Waiter C)) → has_some ws ≡ false → ws ≡ []
-  nobody_there [] e = refl
-  nobody_there (w ∷ ws) e = absurd (cc)
-
   -- nobody stands in a list that has nobody
   pub is_empty : (b : Bool) (ws : List (Waiter C)) → b ≡ has_some ws → (b ≡ false ↔ ws ≡ [])
-  is_empty b ws is = (λ no. nobody_there ws (sym is ∙ no), λ none. is ∙ ap has_some none)
+  is_empty b ws is = (λ no. none_of ws (sym is ∙ no), λ none. is ∙ ap has_some none)
 
   one_passes : (test : Waiter C → Bool) (P : Waiter C → Type 0) → ((w : Waiter C) → test w ≡ true → P w) → (ws : List (Waiter C)) → list_any test ws ≡ true → HasOne P ws
   one_passes test P means [] e = absurd (cc)

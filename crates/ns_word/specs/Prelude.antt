@@ -1,5 +1,5 @@
 -- The names that contracts and proofs cite, passed on from one place. Declares nothing.
-pub use Rattle.ns_word.specs.Answers.{cause_by, cause_for, cause_kept, comes_back, has_come_back, is_back, place_cause_kept, place_has_come_back}
+pub use Rattle.ns_word.specs.Answers.{cause_by, cause_kept, comes_back, has_come_back, is_back, place_cause_kept, place_has_come_back}
 pub use Rattle.ns_word.specs.Asked.{asked_in_cells, asked_of, asked_to_judge}
 pub use Rattle.ns_word.specs.Begins.{Begins, BeginsIf, IsFirst, IsForVariables, SeatStep, fresh_state, fresh_views, view_in}
 pub use Rattle.ns_word.specs.Bits.{value_of_bit, word_with}
@@ -22,14 +22,14 @@ pub use Rattle.ns_word.specs.Told.{AreBy, IsLed, IsTold, LedBy, Told, calls_of, 
 pub use Rattle.ns_word.specs.Views.{AreApart, AreNumbered, NoneIs, called_to, is_reading, is_writing, owed_in, owed_to, queuers, readers, takers, walk_at, writers}
 pub use Rattle.ns_word.specs.Waits.{IsWokenBy, OutcomeFits, answer_of, answer_of_wait, arrival_of, cause_in, home_of, mode_for, outcome_taken, phase_by_wake, phase_for, phase_kept, variable_in, woken_by}
 pub use Rattle.ns_word.specs.Walks.{Stance, acquire_by, acquired_for, after_judging, armed_place, awaits, back_with, calls_from_lock, expected_for, first_for, got_acquiring, got_in_cells, got_leaving, got_of, got_queuing, got_releasing, got_showing, got_signaling, got_trying, got_waiting}
-pub use Rattle.ns_word.specs.Walks.{has_armed, has_queues, is_arrival_woken, is_on_way, is_queuing, judge_of, leave_by, load_place, look_or_queue, pay_releasing, pay_waiting, pay_woken, pays, phase_by, place_awaits, queue_by, quiet_first, quiet_place, release_by, reply_for, reply_of, rest_or_look}
+pub use Rattle.ns_word.specs.Walks.{has_armed, has_queues, is_arrival_woken, is_on_way, is_queuing, judge_of, leave_by, load_place, look_or_queue, pay_releasing, pay_waiting, pay_woken, pays, phase_by, place_awaits, queue_by, quiet_first, quiet_place, release_by, reply_for, rest_or_look}
 pub use Rattle.ns_word.specs.Walks.{scan_place, show_by, signal_by, test_place, unmet_by, wait_first, wait_has_queues, waits_in, walk_after, want_acquiring, want_in_cells, want_leaving, want_of, want_queuing, want_releasing, want_showing, want_signaling, want_trying, want_waiting, was_woken}
 pub use Rattle.ns_word.specs.Words.{is_held, is_woken, may_acquire, mode_released, needs_scan, releasing_of, tries_of, word_acquired, word_released, word_released_returning, word_returned, word_taken}
 pub use Rattle.ns_word.specs.declared.number.Bit.{Bit}
 pub use Rattle.ns_word.specs.Names.{Acquire, AcquireExchange, AcquireLoad, AcquirePlace, Act, Aim, Answer, Answered, Any, AnyWait, AreWaiting, Arm, ArmFlag, ArmToWait, Arrival, AsFresh, AsWoken, AtLock, AtVariables, Await, AwaitWake, AwaitWakeInWait, AwaitWakeToLeave, BeginsWith, Broadcasting}
 pub use Rattle.ns_word.specs.Names.{Busy, CameBack, Canceled, Cause, Cell, CellPlace, Change, Cond, CondWait, Cv, CvWait, Cvs, Done, Ended, EntryFits, Event, Every, Exit, ExitFits, Expired, Flag, ForLock, ForWait, Found, Get, GetLoad, HaveSeats, Held, Home, Idle, InAcquire, InCells, InLeaving}
 pub use Rattle.ns_word.specs.Names.{InQueuing, InRelease, InShow, InSignal, InTry, InWait, Is, IsBySeats, IsLegal, IsLegalEvent, IsLegalLeave, IsLegalLeaveAny, IsOrderly, IsQuiet, JudgeMet, JudgeQuiet, Judging, Leave, LeaveAny, LeaveLoad, LeavePlace, LeaveSelf, Left, Limits, Lists, Load, LoadCell}
-pub use Rattle.ns_word.specs.Names.{LoadFlag, LoadToScan, LoadWord, Lock, Locked, Look, LookIn, LookOut, Looked, Made, Met, Mode, ModeFits, Next, Noisy, Nothing, Notified, Number, On, OnCondition, OnEntry, OnReturn, OnVariables, Only, Opening, Outcome, Owed, Paid, Pay, PayInWait, PayTheWoken}
+pub use Rattle.ns_word.specs.Names.{LoadFlag, LoadToScan, LoadWord, Lock, Locked, Look, LookIn, LookOut, Looked, Made, Met, Mode, ModeFits, Next, Noisy, Notified, Number, On, OnCondition, OnEntry, OnReturn, OnVariables, Only, Opening, Outcome, Owed, Paid, Pay, PayInWait, PayTheWoken}
 pub use Rattle.ns_word.specs.Names.{PayWake, Phase, Plain, Queue, QueuePlace, QueueSelf, QueueToWait, Quiet, QuietCells, QuietKeeps, QuietLast, QuietWriter, Read, Reader, Release, ReleaseExchange, ReleaseLoad, ReleasePlace, ReleaseReturning, Releasing, Reply, Request, ReturnQueues, ReturnShown}
 pub use Rattle.ns_word.specs.Names.{Saw, ScanAndRelease, ScanCells, Scanned, SeatView, Seats, Set, SetLoad, SetStore, Show, ShowLoad, ShowPlace, SignalLoad, SignalPlace, Signaling, Standing, StoreCell, Subject, Succeeded, Take, TakeQueues, TakeToLeave, TakeToQueue, TakeToScan, TakeToShow}
 pub use Rattle.ns_word.specs.Names.{TakeToWake, Taking, TestCells, TestLast, Tested, TimedOut, ToChange, ToQueue, ToRelease, ToTell, Truths, TryAcquire, TryLoad, TryLock, TryPlace, Variables, Visit, Wait, WaitFor, WaitPlace, WaitReturning, Waited, Waiter, Waiting, WaitsAmong, Wake, WakeAndReturn}

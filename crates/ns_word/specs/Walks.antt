@@ -326,12 +326,6 @@ walk_after (On walk) = Some walk
 walk_after (Idle walk) = Some walk
 walk_after (Done reply) = None
 
--- the answer, if the call is over
-abbrev pub reply_of : {C : Type 0} → Next C → Option Reply
-reply_of (On walk) = None
-reply_of (Idle walk) = None
-reply_of (Done reply) = Some reply
-
 -- ---- what a place in a call tells of its seat
 
 -- how a seat waits: in which mode, what for, unless it is for the lock alone, and how often it has failed

@@ -1,18 +1,14 @@
 -- No seat is past its last call.
-use Rattle.std.proofs.Common.{Bool, Global, List, None, Option, Some, Vec, [], ap, arith, cond, false, inl, inr, is_some, length, map, refl, replicate, slice_get, slice_index, slice_set, subst, suc, sym, true, zero, ℕ, ◌+◌, ◌<◌, ◌||◌, ◌∙◌, ◌∷◌, ◌≡◌, ◌≢◌, ◌≤◌}
-use Rattle.std.specs.Prelude.{All, IfSome}
-use Rattle.ns_world.proofs.Below.{cases_eq, get_or-set_other, get_or-set_same, length-set, put_none, slice_get_within}
-use Rattle.std.proofs.lemmas.List.Elements.{All-head, All-nil, All-tail}
-use Rattle.ns_world.specs.Prelude.{Acts, AnyWait, Awaits, Call, CallInRange, Counts, EnvNext, EnvWalk, Finished, Go, Goes, GoesOnOrBegins, IsCounted, Line, ListFits, LookGoes, LookOver, Moves, Next, Now, ObjectNext, ObjectWalk, Objects, Progress, Reply, SeatView, Step, TurnOf, Went, Whole}
-use Rattle.ns_world.specs.Prelude.{WholeMoves, calls_of, env_got_of, env_step_of, env_walk_after, got_of, is_asking, is_busy, is_for_lock, is_walking, look_of, object_after, object_got, object_step_of, progress, progressed, shown_by, step_of, step_told, stood_at, wait_in, waited_after, walk_after}
-use Rattle.ns_world.specs.Prelude.{walk_in, whole_busy}
+use Rattle.ns_world.proofs.Prelude.{All, All-head, All-nil, All-tail, AnyWait, Bool, Call, CallInRange, Counts, EnvNext, Finished, Global, Go, GoesOnOrBegins, IfSome, InRound, IsCounted, Line, List, ListFits, LookOver, MovesFrom, Next, None, ObjectNext, ObjectWalk, Option, Over, Progress, Reply}
+use Rattle.ns_world.proofs.Prelude.{Seat, SeatLooks, SeatMakes, SeatView, Sees, Some, Step, ToldIf, TurnOf, Vec, Walk, Whole, WholeMoves, [], ap, arith, calls_of, cases_eq, cond, env_got_of, env_step_of, env_walk_after, false, get_or-set_other, get_or-set_same, got_of, in_call, inl, inr}
+use Rattle.ns_world.proofs.Prelude.{is_for_lock, is_some, length, length-set, look_of, map, object_after, object_got, object_step_of, option_map_or, progress, progressed, refl, replicate, set_there, slice_get, slice_get_within, slice_index, slice_set, step_of, subst, suc, sym, tests_at, tests_told}
+use Rattle.ns_world.proofs.Prelude.{told_to, true, walk_after, whole_busy, zero, ℕ, ◌++◌, ◌+◌, ◌<◌, ◌||◌, ◌∙◌, ◌∷◌, ◌≡◌, ◌≢◌, ◌≤◌}
 use Rattle.ns_word.specs.declared.walk.Next.TheVariants.{Done}
-use Rattle.ns_env.specs.declared.walk.EnvNext.TheVariants.{Over}
-use Rattle.ns_world.proofs.Busy.{asking_set_none, asking_set_same, both, walking_at, walking_set_same}
-use Rattle.ns_world.proofs.Turns.{is_idle_of, is_whole_busy, is_whole_idle}
+use Rattle.ns_word.specs.declared.act.Found.TheVariants as TheFound
 use Rattle.ns_world.proofs.Fresh.{each_same}
-use Rattle.ns_world.proofs.Others.{Still, moves_still, starts_still}
-use Rattle.std.specs.Option.{option_map_or}
+use Rattle.ns_world.proofs.SeatSet.{here_then, others_stay}
+use Rattle.ns_world.proofs.StepKinds.{look_due, waited_operating, waited_view}
+use Rattle.ns_world.proofs.Turns.{busy_at}
 use Rattle.ns_counters.specs.declared.walk.ObjectNext.TheVariants as TheObject
 
 -- ---- the lists
@@ -40,7 +36,7 @@ over_idle : {C : Type 0} (next : Next C) (reply : Reply) → Finished reply ≡ 
 over_idle (Done answer) reply e = refl
 over_idle next reply e = absurd (cc)
 
-over_unasked : (next : EnvNext) (reply : Reply) → Finished reply ≡ env_step_of next → is_some (env_walk_after next) ≡ false
+over_unasked : (next : EnvNext) (reply : Reply) → Finished reply ≡ env_step_of next → env_walk_after next ≡ None
 over_unasked (Over answer) reply e = refl
 over_unasked (LookOver cause) reply e = refl
 over_unasked next reply e = absurd (cc)
@@ -54,6 +50,15 @@ over_nowhere next reply e = absurd (cc)
 waits_nowhere : (wait : Option AnyWait) (walk : ObjectWalk) (reply : Reply) → is_for_lock wait walk (Finished reply) ≡ false → wait ≡ None
 waits_nowhere None walk reply not = refl
 waits_nowhere (Some wait) walk reply not = absurd (cc)
+
+look_due_none : (C : Type 0) (wait : Option AnyWait) → look_due {C = C} wait None ≡ None
+look_due_none C None = refl
+look_due_none C (Some wait) = refl
+
+told_over : (wait : Option AnyWait) (told : Step) (reply : Reply) → Finished reply ≡ told_to wait told → (answer : Reply) × (Finished answer ≡ told)
+told_over None told reply e = (reply, e)
+told_over (Some wait) (Finished answer) reply e = (answer, refl)
+told_over (Some wait) told reply e = absurd (cc)
 
 module _ {C : Type 0} {N : ℕ} where
   -- a seat and its count change, and no other's
@@ -74,61 +79,53 @@ module _ {C : Type 0} {N : ℕ} where
       (rw (idle, get_or-set_same over seat (slice_index over seat + 1) 0 (omega (arith, c.many, low))) (omega (arith, below))) c
 
   -- a seat of which nothing has changed is as busy as it was
-  busy_still : (old new : Whole C N) (other : ℕ) → Still other old new → whole_busy new other ≡ whole_busy old other
-  busy_still old new other still = λ i. (option_map_or (λ (v : SeatView C N). is_some v.walk) (still.lock.views i) false || option_map_or (λ (w : Option EnvWalk). is_some w) (still.lock.asking i) false) || is_some (still.walks i)
+  busy_still : (old new : Whole C N) (other : ℕ) → slice_get new.seats other ≡ slice_get old.seats other → whole_busy new other ≡ whole_busy old other
+  busy_still old new other same = ap (λ o. option_map_or in_call o false) same
 
-  -- what the last step of a call leaves of who is busy
-  goes_over : (old new : Now C N) (seat : ℕ) (reply : Reply) → Goes old new seat (Finished reply) → is_busy new.state.views new.asking seat ≡ false
-  goes_over old new seat reply goes =
-      let over = over_idle (got_of N goes.makes.walk goes.found) reply goes.answers in
-      both new.state.views new.asking seat false false
-      (ap (λ views. is_walking views seat) goes.others ∙ walking_set_same old.state.views seat _ (slice_get_within old.state.views seat goes.view goes.at) ∙ ap is_some over)
-      (ap (λ askings. is_asking askings seat) (goes.asking ∙ ap (λ w. slice_set old.asking seat (look_of w)) over) ∙ asking_set_none old.asking seat)
+  -- ---- what the last step of a call leaves of its seat
 
-  look_over : (old new : Now C N) (seat : ℕ) (reply : Reply) (next : EnvNext) → LookGoes next old new seat (Finished reply) → is_busy new.state.views new.asking seat ≡ false
-  look_over old new seat reply (Go walk) p = let e = p.1 in absurd (cc)
-  look_over old new seat reply (LookOver cause) p = goes_over old new seat reply p.0
-  look_over old new seat reply next p = absurd p
+  nowhere_idle : (seat : Seat C N) → seat.walk ≡ None → seat.asking ≡ None → seat.operating ≡ None → in_call seat ≡ false
+  nowhere_idle seat over unasked nowhere = λ i. (is_some (over i) || is_some (unasked i)) || is_some (nowhere i)
 
-  moves_over : (old new : Now C N) (seat : ℕ) (reply : Reply) → Moves old new seat (Finished reply) → is_busy new.state.views new.asking seat ≡ false
-  moves_over old new seat reply (inl acts) = goes_over old new seat reply acts.goes
-  moves_over old new seat reply (inr (inr looks)) = look_over old new seat reply (env_got_of looks.place looks.found) looks.goes
-  moves_over old new seat reply (inr (inl asks)) =
-      both new.state.views new.asking seat false false
-      (ap (λ (world : Now C N). is_walking world.state.views seat) asks.others ∙ walking_at old.state.views seat asks.view asks.at ∙ ap is_some asks.idle)
-      (ap (λ askings. is_asking askings seat) asks.makes.becomes ∙ asking_set_same old.asking seat _ (slice_get_within old.asking seat (Some asks.makes.walk) asks.makes.walks) ∙ over_unasked (env_got_of asks.makes.walk asks.found) reply asks.answers)
+  sees_over : (seat next : Seat C N) (walk : Walk C) (cause : _) (reply : Reply) → Sees seat walk cause next (Finished reply) → seat.operating ≡ None → in_call next ≡ false
+  sees_over seat next walk cause reply q nowhere =
+      let over = over_idle (got_of N walk (TheFound.Looked cause)) reply q.answers in
+      nowhere_idle next (ap (λ (s : Seat C N). s.walk) q.goes ∙ over) (ap (λ (s : Seat C N). s.asking) q.goes ∙ ap look_of over) (ap (λ (s : Seat C N). s.operating) q.goes ∙ nowhere)
 
-  -- where a round tells the lock what it has shown, its seat stands nowhere
-  told_nowhere : (old new : Whole C N) (seat : ℕ) (then : Objects) (wait : Option AnyWait) → new.objects ≡ stood_at then seat None wait → walk_in new.objects.walks seat ≡ None
-  told_nowhere old new seat then wait becomes = ap (λ (o : Objects). walk_in o.walks seat) becomes ∙ put_none then.walks seat
-
-  -- a wait on the lock that is over
-  waited_over : (old new : Whole C N) (seat : ℕ) (reply : Reply) (wait : AnyWait) (told : Step) (acts : Acts old.lock new.lock seat told) →
-      new.objects ≡ waited_after old.objects seat wait (walk_after (got_of N acts.goes.makes.walk acts.goes.found)) → Finished reply ≡ step_told wait told → whole_busy new seat ≡ false
-  waited_over old new seat reply wait (Finished answer) acts becomes told =
-      let over = over_idle (got_of N acts.goes.makes.walk acts.goes.found) answer acts.goes.answers in
-      (λ i. goes_over old.lock new.lock seat answer acts.goes i || is_some ((ap (λ (o : Objects). walk_in o.walks seat) (becomes ∙ ap (waited_after old.objects seat wait) over) ∙ put_none old.objects.walks seat) i))
-  waited_over old new seat reply wait other acts becomes told = absurd (cc)
-
-  awaits_over : (old new : Whole C N) (seat : ℕ) (reply : Reply) → Awaits old new seat (Finished reply) → whole_busy new seat ≡ false
-  awaits_over old new seat reply (inl p) = let no : Finished reply ≡ Went = p.answer in absurd (cc)
-  awaits_over old new seat reply (inr (inl p)) =
-      (λ i. goes_over old.lock new.lock seat reply p.acts.goes i || is_some (told_nowhere old new seat p.then (Some (record { round = p.wait.round; shown = shown_by p.told })) p.becomes i))
-  awaits_over old new seat reply (inr (inr p)) = waited_over old new seat reply p.wait p.told p.acts p.becomes p.answer
+  makes_over : (old new : Whole C N) (here next : Seat C N) (reply : Reply) → SeatMakes old new here next (Finished reply) → in_call next ≡ false
+  makes_over old new here next reply (inl p) =
+      let told = told_over p.then.awaits p.told reply p.answers in
+      let over = over_idle (got_of N p.walk p.performs.found) told.0 (told.1 ∙ p.performs.answers) in
+      let walk : p.then.walk ≡ None = ap (λ (s : Seat C N). s.walk) p.performs.goes ∙ over in
+      let view = waited_view p.then.awaits p.then.walk p.then in
+      nowhere_idle next (ap (λ (s : Seat C N). s.walk) p.goes ∙ ap (λ (v : SeatView C N). v.walk) view.0 ∙ walk) (ap (λ (s : Seat C N). s.asking) p.goes ∙ view.1 ∙ ap (λ (s : Seat C N). s.asking) p.performs.goes ∙ ap look_of over)
+      (ap (λ (s : Seat C N). s.operating) p.goes ∙ waited_operating p.then.awaits p.then.walk p.then (ap (λ (s : Seat C N). s.operating) p.performs.goes ∙ p.nowhere) ∙ ap (look_due p.then.awaits) walk ∙ look_due_none C p.then.awaits)
+  makes_over old new here next reply (inr (inl p)) = by here.walk refl p.moves where
+    by : (walk : Option (Walk C)) → here.walk ≡ walk → MovesFrom walk old.env new.env here p.place next (Finished reply) → in_call next ≡ false
+    by None over q = nowhere_idle next (ap (λ (s : Seat C N). s.walk) q.goes ∙ over) (ap (λ (s : Seat C N). s.asking) q.goes ∙ over_unasked (env_got_of p.place q.found) reply q.answers) (ap (λ (s : Seat C N). s.operating) q.goes ∙ p.nowhere)
+    by (Some walk) walks q = looked (env_got_of p.place q.found) q.goes where
+      looked : (n : EnvNext) → SeatLooks n here walk next (Finished reply) → in_call next ≡ false
+      looked (Go place) g = let e = g.1 in absurd (cc)
+      looked (LookOver cause) g = sees_over here next walk cause reply g p.nowhere
+      looked n g = absurd g
+  makes_over old new here next reply (inr (inr p)) = by (is_for_lock here.awaits p.walk p.told) refl here.awaits refl p.walk p.tells where
+    by : (b : Bool) → is_for_lock here.awaits p.walk p.told ≡ b → (wait : Option AnyWait) → here.awaits ≡ wait → (walk : ObjectWalk) → ToldIf b wait p.then walk p.told next (Finished reply) → in_call next ≡ false
+    by false not wait is walk q =
+        let rests = p.alone (waits_nowhere here.awaits p.walk reply (ap (is_for_lock here.awaits p.walk) q.1 ∙ not)) in
+        nowhere_idle next (ap (λ (s : Seat C N). s.walk) (q.0 ∙ p.operates.goes) ∙ rests.0) (ap (λ (s : Seat C N). s.asking) (q.0 ∙ p.operates.goes) ∙ rests.1)
+        (ap (λ (s : Seat C N). s.operating) (q.0 ∙ p.operates.goes) ∙ over_nowhere (object_got p.walk p.operates.found) reply (q.1 ∙ p.operates.answers))
+    by true for_lock (Some wait) is walk q = sees_over _ next q.0 _ reply q.2 refl
+    by true for_lock None is (InRound round place) q = let e = q.4 in absurd (cc)
+    by true for_lock None is walk q = absurd q
 
   whole_over : (old new : Whole C N) (seat : ℕ) (reply : Reply) → WholeMoves old new seat (Finished reply) → whole_busy new seat ≡ false
-  whole_over old new seat reply (inl p) = (λ i. moves_over old.lock new.lock seat reply p.moves i || is_some ((ap (λ (o : Objects). walk_in o.walks seat) p.same ∙ p.elsewhere) i))
-  whole_over old new seat reply (inr (inl p)) =
-      let idle = p.idle (waits_nowhere (wait_in old.objects.waits seat) p.walk reply p.not_for_lock) in
-      (λ i. (ap (λ (world : Now C N). is_busy world.state.views world.asking seat) p.same ∙ is_idle_of old.lock seat idle) i
-      || is_some ((ap (λ (o : Objects). walk_in o.walks seat) p.operated.becomes ∙ ap (λ w. walk_in (slice_set old.objects.walks seat w) seat) (over_nowhere (object_got p.walk p.operated.found) reply p.operated.answers) ∙ put_none old.objects.walks seat) i))
-  whole_over old new seat reply (inr (inr p)) = awaits_over old new seat reply p
+  whole_over old new seat reply p = busy_at new seat p.next false (here_then old new seat p.here p.next p.at p.seats) (makes_over old new p.here p.next reply p.makes)
 
   -- a call that goes on or begins is one of the seat's, so it is not past its last
   leads_below : (lists : List (List (Call C))) (p : Progress C N) (seat : ℕ) (begun : Whole C N) → length (calls_of lists seat) ≤ 256 → GoesOnOrBegins lists p seat begun →
       slice_index p.over seat + cond (whole_busy p.world seat) 1 0 ≤ 256 → slice_index p.over seat + 1 ≤ 256
   leads_below lists p seat begun few (inl busy) most =
-      let yes = is_whole_busy p.world seat busy.0 in
+      let yes = busy_at p.world seat busy.0.0 true busy.0.1 busy.0.2 in
       omega (arith, rw yes at most)
   leads_below lists p seat begun few (inr called) most =
       let within = slice_get_within (calls_of lists seat) (slice_index p.over seat) called.0 called.1 in
@@ -137,7 +134,7 @@ module _ {C : Type 0} {N : ℕ} where
   leads_others : (lists : List (List (Call C))) (p : Progress C N) (seat : ℕ) (begun : Whole C N) → GoesOnOrBegins lists p seat begun →
       (other : ℕ) → other ≢ seat → whole_busy begun other ≡ whole_busy p.world other
   leads_others lists p seat begun (inl busy) other ne = ap (λ (world : Whole C N). whole_busy world other) busy.1
-  leads_others lists p seat begun (inr called) other ne = busy_still p.world begun other (starts_still p.world begun seat called.0 called.2 other ne)
+  leads_others lists p seat begun (inr called) other ne = busy_still p.world begun other (ap (λ (w : Whole C N). slice_get w.seats other) called.2.begins ∙ set_there p.world.seats seat other _ ne)
 
   -- a turn keeps the count
   pub turn_counted : (lists : List (List (Call C))) (p q : Progress C N) (seat : ℕ) (step : Step) → length (calls_of lists seat) ≤ 256 → seat < 64 → TurnOf lists p seat step q →
@@ -147,7 +144,7 @@ module _ {C : Type 0} {N : ℕ} where
     below = leads_below lists p seat t.begun few t.leads (c.most seat)
 
     others : (step : Step) → WholeMoves t.begun t.world seat step → (other : ℕ) → other ≢ seat → whole_busy t.world other ≡ whole_busy p.world other
-    others step moves other ne = busy_still t.begun t.world other (moves_still t.begun t.world seat step moves other ne) ∙ leads_others lists p seat t.begun t.leads other ne
+    others step moves other ne = busy_still t.begun t.world other (others_stay t.begun t.world seat moves.here moves.next moves.at moves.seats other ne) ∙ leads_others lists p seat t.begun t.leads other ne
 
     by : (step : Step) → WholeMoves t.begun t.world seat step → IsCounted (progressed p seat step t.world).world (progressed p seat step t.world).over
     by (Finished reply) moves = one_over p.world t.world p.over seat low (others (Finished reply) moves) (whole_over t.begun t.world seat reply moves) below c
@@ -155,7 +152,7 @@ module _ {C : Type 0} {N : ℕ} where
   turn_counted lists p q seat step few low (inr (inl t)) c =
       let within = slice_get_within (calls_of lists seat) (slice_index p.over seat) t.call t.next in
       let r = t.refused.1 in
-      let idle = is_whole_idle p.world seat (record { view = r.view; at = r.at; idle = r.idle; unasked = r.unasked }, t.refused.2) in
+      let idle = busy_at p.world seat r.here false r.at r.idle in
       subst (λ (x : Progress C N). IsCounted x.world x.over) (sym t.after) (one_over p.world p.world p.over seat low (λ other ne. refl) idle (omega (arith, within, few)) c)
   turn_counted lists p q seat step few low (inr (inr t)) c = subst (λ (x : Progress C N). IsCounted x.world x.over) (sym t.after) c
 
@@ -163,13 +160,9 @@ module _ {C : Type 0} {N : ℕ} where
   pub start_counted : (world : Whole C N) → ((seat : ℕ) → whole_busy world seat ≡ false) → IsCounted world (replicate 64 0)
   start_counted world idle = record { many = refl; most = λ seat. rw (idle seat, each_same {A = ℕ} 0 64 seat) (omega arith) }
 
-  counts_now : (world new : Whole C N) (over over' : List ℕ) (lines lines' : List Line) (seat : ℕ) (step : Step) → Counts over lines seat step (slice_index new.lock.tests seat) over' lines' →
-      progress new over' lines' ≡ progressed (progress world over lines) seat step new
-  counts_now world new over over' lines lines' seat (Finished reply) e = ap (λ o. progress new o lines') e.0 ∙ ap (λ l. progress new (slice_set over seat (slice_index over seat + 1)) l) e.1
-  counts_now world new over over' lines lines' seat other e = ap (λ o. progress new o lines') e.0 ∙ ap (λ l. progress new over l) e.1
-
   -- what was counted, with the count of tests of the world after, is what the turn leaves
-  pub counts_progress : (world new : Whole C N) (over over' : List ℕ) (lines lines' : List Line) (seat tests : ℕ) (step : Step) → tests ≡ slice_index new.lock.tests seat → Counts over lines seat step tests over' lines' →
+  pub counts_progress : (world new : Whole C N) (over over' : List ℕ) (lines lines' : List Line) (seat tests : ℕ) (step : Step) → tests ≡ tests_at new.seats seat → Counts over lines seat step tests over' lines' →
       progress new over' lines' ≡ progressed (progress world over lines) seat step new
-  counts_progress world new over over' lines lines' seat tests step same e =
-      counts_now world new over over' lines lines' seat step (subst (λ n. Counts over lines seat step n over' lines') same e)
+  counts_progress world new over over' lines lines' seat tests (Finished reply) same e = ap (λ o. progress new o lines') e.0
+      ∙ ap (progress new (slice_set over seat (slice_index over seat + 1))) (e.1 ∙ ap (λ n. lines ++ record { thread = seat; call = slice_index over seat; reply = reply; tests = tests_told reply n } ∷ []) same)
+  counts_progress world new over over' lines lines' seat tests other same e = ap (λ o. progress new o lines') e.0 ∙ ap (progress new over) e.1

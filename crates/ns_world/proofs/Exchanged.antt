@@ -1,15 +1,8 @@
 -- What the exchanges that were made do, over plain data.
-use Rattle.std.proofs.Common.{Bool, List, None, Option, Some, [], ap, arith, false, is_some, length, not, refl, sym, true, ℕ, ◌&&◌, ◌++◌, ◌∙◌, ◌∷◌, ◌≡◌}
-use Rattle.std.specs.Prelude.{IfSome, MatchResult, if◌then◌else◌, ◌==◌}
-use Rattle.ns_world.proofs.Below.{append-nil, ne_eqb, some_seats}
-use Rattle.ns_world.specs.Prelude.{Act, Any, Arrival, AtLock, AtVariables, Bits, Broadcasting, CanLeave, CanWait, Change, ChangeFits, Cv, Effect, Event, Found, Held, Home, IsInRange, IsUnmet, LeaveSelf, Left, Lists, Made, Makes, Mode, OnCondition, OnVariables, Only, Owed, Part, Plain, QueueSelf}
-use Rattle.ns_world.specs.Prelude.{Release, ReleaseReturning, Releasing, ReturnQueues, Scanned, Signaling, Subject, Truths, WaitReturning, Waiter, WakeWaiters, Waking, Woke, Word, bits_of, called_of, change_commits, changed, cvs_without, exit_for, has_some, is_held, leave_of, left_of, meets_at}
-use Rattle.ns_world.specs.Prelude.{moved_to, part, releasing_of, section_of, stands_at, taken_by, taken_set, tests_of, waited_in, waiters_of, wakes_of, with_waiters, woken_of, word_released, word_released_returning, word_returned}
-use Rattle.ns_queue.specs.declared.waiter.Which.TheVariants.{Lock}
-use Rattle.std.specs.declared.result.Result.{Result}
-use Rattle.std.specs.declared.result.Result.TheVariants.{Err, Ok}
-use Rattle.ns_word.specs.declared.wait.Wait.{Wait}
-use Rattle.ns_word.specs.declared.act.Change.TheVariants.{Nothing}
+use Rattle.ns_world.proofs.Prelude.{Act, Any, Arrival, AtLock, AtVariables, Bits, Bool, Broadcasting, CanLeave, CanWait, Change, ChangeFits, Cv, Effect, Err, Event, Found, Held, Home, IfSome, IsInRange, IsUnmet, LeaveSelf, Left, List, Lists, Lock, Made, Makes, MatchResult, Mode, None, Nothing, Ok}
+use Rattle.ns_world.proofs.Prelude.{OnCondition, OnVariables, Only, Option, Owed, Part, Plain, QueueSelf, Release, ReleaseReturning, Releasing, Result, ReturnQueues, Scanned, Signaling, Some, Subject, Truths, Wait, WaitReturning, Waiter, WakeWaiters, Waking, Woke, Word, [], ap, append-nil, arith}
+use Rattle.ns_world.proofs.Prelude.{bits_of, called_of, change_commits, changed, cvs_without, exit_for, false, has_some, if◌then◌else◌, is_held, is_some, leave_of, left_of, length, meets_at, moved_to, ne_eqb, not, part, refl, releasing_of, section_of, some_seats, stands_at, sym, taken_by}
+use Rattle.ns_world.proofs.Prelude.{taken_set, tests_of, true, waited_in, waiters_of, wakes_of, with_waiters, woken_of, word_released, word_released_returning, word_returned, ℕ, ◌&&◌, ◌++◌, ◌==◌, ◌∙◌, ◌∷◌, ◌≡◌}
 
 -- a list that isn't empty has somebody
 pub some_left : {A : Type 0} (xs : List A) → not (length xs == 0) ≡ has_some xs

@@ -1,25 +1,6 @@
--- A new world's seats, one after another.
-use Rattle.ns_world.proofs.Below.{append_assoc, fresh_lawful, lawful_fresh, length-replicate, map-append, same_Some}
-use Rattle.std.proofs.Common.{◌≡◌, ℕ, zero, suc, ◌+◌, ◌-◌, ◌<◌, List, [], ◌∷◌, ◌++◌, Option, None, Some, slice_get, subst, map, replicate, refl, sym, ap, ◌∙◌, arith, sub-one, get_or, length, ◌≤◌}
-use Rattle.ns_world.specs.Prelude.{AreNumbered, AsksFor, EnvWalk, IfMade, IsLawfulWorld, NoteStanding, Seat, SeatView, Truths, flag_at, fresh, fresh_views, no_note, note_at, note_in, standing_of, state_of, view_of}
-
-pub views_next : {C : Type 0} {N : ℕ} (first n : ℕ) → 0 < n → fresh_views {C = C} {N = N} first n ≡ record { seat = first; walk = None; held = None; owed = [] } ∷ fresh_views (first + 1) (n - 1)
-views_next first zero some = absurd (omega arith)
-views_next first (suc n) some = rw sub-one refl
-
-pub copies_next : {A : Type 0} (x : A) (n : ℕ) → 0 < n → replicate n x ≡ x ∷ replicate (n - 1) x
-copies_next x zero some = absurd (omega arith)
-copies_next x (suc n) some = rw sub-one refl
-
--- one more is made of those to come
-pub moved : {A B : Type 0} (f : A → B) (made : List A) (x : A) (left rest all : List B) → left ≡ f x ∷ rest → map f made ++ left ≡ all → map f (made ++ x ∷ []) ++ rest ≡ all
-moved f made x left rest all next p = rw (map-append f made (x ∷ [])) (append_assoc (map f made) (f x ∷ []) rest ∙ ap (λ ys. map f made ++ ys) (sym next) ∙ p)
-
-pub seat_moved : {C : Type 0} {N : ℕ} (made : List (Seat C N)) (x : Seat C N) (first n : ℕ) (all : List (SeatView C N)) → x.number ≡ first → x.walk ≡ None → x.held ≡ None → x.owed.items ≡ [] → 0 < n →
-    map view_of made ++ fresh_views first n ≡ all → map view_of (made ++ x ∷ []) ++ fresh_views (first + 1) (n - 1) ≡ all
-seat_moved {C} {N} made x first n all number walk held owed some p =
-    let is : view_of x ≡ record { seat = first; walk = None; held = None; owed = [] } = rw (number, walk, held, owed) refl in
-    moved view_of made x (fresh_views first n) (fresh_views (first + 1) (n - 1)) all (views_next first n some ∙ ap (λ v. v ∷ fresh_views {C = C} {N = N} (first + 1) (n - 1)) (sym is)) p
+-- A new world: its seats, one after another, and its law.
+use Rattle.ns_world.proofs.Prelude.{AreNumbered, IsLawfulWhole, List, None, NoteStanding, ObjectWalk, Option, Seat, Some, Truths, [], ap, append_assoc, arith, false, flag_at, fresh_lawful, fresh_seat, fresh_seats, fresh_views, fresh_whole, get_or, in_call, lawful_fresh, length, map, most}
+use Rattle.ns_world.proofs.Prelude.{new_lawful, no_note, note_at, option_map_or, refl, replicate, same_Some, slice_get, slice_index, standing_of, state_of, sub-one, suc, sym, view_of, walk_in, zero, ℕ, ◌++◌, ◌+◌, ◌-◌, ◌<◌, ◌∙◌, ◌∷◌, ◌≡◌, ◌≤◌}
 
 -- where all are the same, so is each
 pub each_same : {A : Type 0} (x : A) (n i : ℕ) → get_or (replicate n x) i x ≡ x
@@ -35,32 +16,58 @@ no_flags i seat = each_same 0 64 seat i
 pub no_notes : ◌≡◌ {A = ℕ → NoteStanding} (note_at (replicate 64 (state_of no_note))) (λ note. no_note)
 no_notes i note = standing_of (each_same (state_of no_note) 64 note i)
 
-module _ (C : Type 0) (N : ℕ) where
-  pub length_views : (first n : ℕ) → length (fresh_views {C = C} {N = N} first n) ≡ n
-  length_views first zero = refl
-  length_views first (suc n) = ap suc (length_views (first + 1) n)
+module _ {C : Type 0} {N : ℕ} where
+  -- one more is made of those to come
+  pub one_more : (made : List (Seat C N)) (seat : Seat C N) (first n : ℕ) (all : List (Seat C N)) → seat ≡ fresh_seat first → 0 < n → made ++ fresh_seats first n ≡ all → (made ++ seat ∷ []) ++ fresh_seats (first + 1) (n - 1) ≡ all
+  one_more made seat first zero all is some p = absurd (omega arith)
+  one_more made seat first (suc n) all is some p = rw (sub-one, append_assoc made (seat ∷ []) (fresh_seats (first + 1) n)) (ap (λ s. made ++ s ∷ fresh_seats (first + 1) n) is ∙ p)
 
-  numbered : (first n : ℕ) → AreNumbered first (fresh_views {C = C} {N = N} first n)
+  views_are : (first n : ℕ) → map view_of (fresh_seats {C = C} {N = N} first n) ≡ fresh_views first n
+  views_are first zero = refl
+  views_are first (suc n) = ap (λ vs. view_of (fresh_seat {C = C} {N = N} first) ∷ vs) (views_are (first + 1) n)
+
+  places_are : {A : Type 0} (f : Seat C N → Option A) → ((number : ℕ) → f (fresh_seat number) ≡ None) → (first n : ℕ) → map f (fresh_seats first n) ≡ replicate n None
+  places_are f none first zero = refl
+  places_are f none first (suc n) = λ i. none first i ∷ places_are f none (first + 1) n i
+
+  -- each of them is new
+  pub each_fresh : (first n i : ℕ) (seat : Seat C N) → slice_get (fresh_seats first n) i ≡ Some seat → seat ≡ fresh_seat (first + i)
+  each_fresh first zero i seat at = absurd (cc)
+  each_fresh first (suc n) zero seat at = let is : fresh_seat first ≡ seat = same_Some _ _ at in sym is ∙ ap fresh_seat (omega arith)
+  each_fresh first (suc n) (suc i) seat at = each_fresh (first + 1) n i seat at ∙ ap fresh_seat (omega arith)
+
+module _ (C : Type 0) (N : ℕ) where
+  pub length_seats : (first n : ℕ) → length (fresh_seats {C = C} {N = N} first n) ≡ n
+  length_seats first zero = refl
+  length_seats first (suc n) = ap suc (length_seats (first + 1) n)
+
+  numbered : (first n : ℕ) → AreNumbered first (map view_of (fresh_seats {C = C} {N = N} first n))
   numbered first zero = tt
   numbered first (suc n) = (refl, numbered (first + 1) n)
 
-  -- and in no call
-  pub no_walk : (first n seat : ℕ) (view : SeatView C N) → slice_get (fresh_views {C = C} {N = N} first n) seat ≡ Some view → view.walk ≡ None
-  no_walk first zero seat view at = absurd (cc)
-  no_walk first (suc n) zero view at =
-      let fresh_view : SeatView C N = record { seat = first; walk = None; held = None; owed = [] } in
-      let is : fresh_view ≡ view = same_Some _ _ (at) in
-      sym (ap (λ (v : SeatView C N). v.walk) is)
-  no_walk first (suc n) (suc seat) view at = no_walk (first + 1) n seat view at
+none_stand : (n i : ℕ) (walk : ObjectWalk) → walk_in (replicate n None) i ≡ Some walk → ⊥
+none_stand zero i walk at = absurd (cc)
+none_stand (suc n) zero walk at = absurd (cc)
+none_stand (suc n) (suc i) walk at = none_stand n i walk at
 
-  pub lawful_new : (truths : Truths C) (n : ℕ) → n ≤ 64 → IsLawfulWorld (fresh {C = C} {N = N} truths n)
-  lawful_new truths n few = record {
-    few = rw (length_views 0 n) few;
-    numbered = numbered 0 n;
-    lawful = rw (length_views 0 n) (lawful_fresh C N truths n few);
-    as_many = length-replicate {A = Option EnvWalk} n None ∙ sym (length_views 0 n);
-    right = λ seat view asking at asks. subst (λ w. AsksFor w asking) (sym (no_walk 0 n seat view at)) tt;
-    noted = λ seat view at. subst (λ w. IfMade (fresh {C = C} {N = N} truths n).env.notes (note_in w)) (sym (no_walk 0 n seat view at)) tt;
-    events = [];
-    env_lawful = fresh_lawful n;
-  }
+pub whole_new : (C : Type 0) (N : ℕ) (truths : Truths C) (seats : ℕ) (counters : List ℕ) (onces : ℕ) → seats ≤ 64 → length counters ≤ 16 → onces ≤ 16 → ((k : ℕ) → slice_index counters k ≤ most) → IsLawfulWhole (fresh_whole {C = C} {N = N} truths seats counters onces)
+whole_new C N truths seats counters onces few short cells values = record {
+  few = rw (length_seats C N 0 seats) few;
+  numbered = numbered C N 0 seats;
+  counted = sym (length_seats C N 0 seats);
+  lawful = rw (length_seats C N 0 seats, views_are {C = C} {N = N} 0 seats) (lawful_fresh C N truths seats few);
+  stands = λ i seat at. rw (each_fresh 0 seats i seat at) (record { right = tt; noted = tt; by = record { alone = refl; apart = λ some. absurd (cc); may = tt } });
+  past = record { notes = []; objects = [] };
+  led = (
+    rw (places_are {C = C} {N = N} (λ s. s.asking) (λ number. refl) 0 seats) (fresh_lawful seats),
+    record { lawful = new_lawful seats counters onces few short cells values; within = λ i walk at. absurd (none i walk at); each = λ i walk at. absurd (none i walk at) },
+  );
+} where
+  none : (i : ℕ) (walk : ObjectWalk) → walk_in (map (λ s. s.operating) (fresh_seats {C = C} {N = N} 0 seats)) i ≡ Some walk → ⊥
+  none i walk at = none_stand seats i walk (ap (λ ws. walk_in ws i) (sym (places_are {C = C} {N = N} (λ s. s.operating) (λ number. refl) 0 seats)) ∙ at)
+
+-- none of its seats is in a call
+pub none_busy : (C : Type 0) (N first n seat : ℕ) → option_map_or in_call (slice_get (fresh_seats {C = C} {N = N} first n) seat) false ≡ false
+none_busy C N first zero seat = refl
+none_busy C N first (suc n) zero = refl
+none_busy C N first (suc n) (suc seat) = none_busy C N (first + 1) n seat

@@ -1,12 +1,8 @@
 -- The looks of a wait, over plain data: where a wait goes that looks, and what it needs of the notes. A wait for any of a set of variables looks as it rests, and nowhere else; and while it does, its seat stands nowhere on the clock and the notes.
-use Rattle.ns_world.proofs.Below.{asked_stays, looks_by_asked, same_Some}
-use Rattle.std.proofs.Common.{Bool, IsSome, List, None, Option, Some, [], ap, cond, false, refl, subst, sym, true, ℕ, ◌∙◌, ◌≡◌}
-use Rattle.ns_world.specs.Prelude.{Act, AsksFor, Await, AwaitWakeInWait, Cause, ClockLoad, Cvs, Effect, EnvEffect, EnvEvent, EnvFound, EnvNext, EnvPlain, EnvWalk, Expired, ForLook, Found, Go, Held, IfMade, InAcquire, InCells, InLeaving, InQueuing, InRelease, InShow, InSignal, InTry, InWait}
-use Rattle.ns_world.specs.Prelude.{IsFirstAsk, IsForCondition, IsUnfinished, LeaveLoad, Limits, Look, LookFits, LookIn, LookOut, LookOver, Looked, MayShow, Mode, NoteLoad, NoteStanding, Part, PlaceFits, TestLast, Truths, Walk, asked_of, asks_for_any, came_back, env_got_of, env_want_of, got_of}
-use Rattle.ns_world.specs.Prelude.{held_after, is_due, is_over, judge_of, look_of, look_place, looks_at, note_asked, note_in, outcome, passed, step_of, stopped, up_to, waits_among, waits_for_any, walk_after, want_acquiring, want_in_cells, want_leaving, want_of, want_releasing, want_showing}
-use Rattle.ns_world.specs.Prelude.{want_signaling, want_trying}
-use Rattle.ns_word.specs.declared.wait.Wait.{Wait}
-use Rattle.ns_word.proofs.Answers.{acquire_looks_not, cells_look_not, judge_looks_not, leaver_looks_not, look_of_act, release_looks_not, show_looks_not, signal_looks_not, try_looks_not}
+use Rattle.ns_world.proofs.Prelude.{Act, AsksFor, Await, AwaitWakeInWait, Bool, Cause, ClockLoad, Cvs, Effect, EnvEffect, EnvEvent, EnvFound, EnvNext, EnvPlain, EnvWalk, Expired, ForLook, Found, Go, Held, IfMade, InLeaving, InQueuing, InWait}
+use Rattle.ns_world.proofs.Prelude.{IsFirstAsk, IsForCondition, IsSome, IsUnfinished, LeaveLoad, Limits, List, Look, LookFits, LookIn, LookOut, LookOver, Looked, MayShow, Mode, None, NoteLoad, NoteStanding, Option, Part, PlaceFits, Some, Truths, Wait, Walk, [], ap, asked_of, asked_stays}
+use Rattle.ns_world.proofs.Prelude.{asks_for_any, came_back, cond, env_got_of, env_want_of, false, got_of, held_after, is_due, is_over, look_of, look_place, looks_at, looks_by_asked, marks_at, marks_of, note_asked, note_in, outcome, passed, refl, same_Some, step_of, stopped, subst, sym}
+use Rattle.ns_world.proofs.Prelude.{true, up_to, waits_among, waits_for_any, walk_after, want_of, ℕ, ◌∙◌, ◌≡◌}
 
 -- ---- the note that may end a wait
 
@@ -113,7 +109,7 @@ nowhere false place is = is
 module _ {C : Type 0} where
   -- ---- where a wait looks
 
-  no_look : (act : Act C) (limits : Limits) → look_of_act act ≡ None → looks_at act ≡ Some limits → ⊥
+  no_look : (act : Act C) (limits : Limits) → (marks_of act).0 ≡ None → looks_at act ≡ Some limits → ⊥
   no_look (Look by again) limits e f = absurd (cc)
   no_look act limits e f = absurd (cc)
 
@@ -121,15 +117,7 @@ module _ {C : Type 0} where
   where_looks : (P : Walk C → Type 0) → ((wait : Wait C) (again : Bool) → P (InWait wait (InQueuing again LookIn))) → ((wait : Wait C) → P (InWait wait LookOut)) → (walk : Walk C) (limits : Limits) → looks_at (want_of walk) ≡ Some limits → P walk
   where_looks P queues rests (InWait wait (InQueuing again LookIn)) limits e = queues wait again
   where_looks P queues rests (InWait wait LookOut) limits e = rests wait
-  where_looks P queues rests (InWait wait (TestLast visit i)) limits e = absurd (no_look (judge_of wait.on i) limits (judge_looks_not wait.on i) e)
-  where_looks P queues rests (InWait wait (InLeaving cause place)) limits e = absurd (no_look (want_leaving wait place) limits (leaver_looks_not wait place) e)
-  where_looks P queues rests (InWait wait place) limits e = absurd (cc)
-  where_looks P queues rests (InTry mode place) limits e = absurd (no_look (want_trying mode place) limits (try_looks_not C mode place) e)
-  where_looks P queues rests (InAcquire aim place) limits e = absurd (no_look (want_acquiring aim place) limits (acquire_looks_not aim place) e)
-  where_looks P queues rests (InRelease releasing place) limits e = absurd (no_look (want_releasing releasing place) limits (release_looks_not C releasing place) e)
-  where_looks P queues rests (InCells place) limits e = absurd (no_look (want_in_cells place) limits (cells_look_not C place) e)
-  where_looks P queues rests (InSignal waking k place) limits e = absurd (no_look (want_signaling waking k place) limits (signal_looks_not C waking k place) e)
-  where_looks P queues rests (InShow place) limits e = absurd (no_look (want_showing place) limits (show_looks_not C place) e)
+  where_looks P queues rests walk limits e = absurd (no_look (want_of walk) limits (ap (λ marks. marks.0) (marks_at walk)) e)
 
   -- the walk is a wait that looks as it rests
   pub record LooksOut (walk : Walk C) : Type 0 where

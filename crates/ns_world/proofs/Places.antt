@@ -1,10 +1,12 @@
 -- Where calls begin, and what acts may be made.
-use Rattle.std.proofs.Common.{subst, sym, ◌≡◌, ℕ, ◌-◌, ◌<◌, ◌≤◌, Bool, true, false, cond, Option, Some, None, List, [], ◌∷◌, refl, arith, nat_lt}
-use Rattle.std.proofs.lemmas.Bool.Decides.{nat_tests}
-use Rattle.std.specs.Prelude.{MatchOption}
-use Rattle.ns_world.specs.Prelude.{Act, ActFits, ArmFlag, Ask, Broadcast, Call, CallFits, CallInRange, CanLeave, CvWait, Expiry, Get, HasMode, Held, IfMade, InCells, InQueuing, InWait, IsFirst, IsFirstAsk, IsNotified, IsSettled, Limits, Load, LoadFlag, Lock, MayWait, Mode, NewNote, NoteStanding}
-use Rattle.ns_world.specs.Prelude.{NoteWait, Notify, OnCondition, OnEntry, OnLock, OnObjects, OnVariables, Only, Owed, OwesOne, Part, PayWake, PlaceFits, QuietCells, QuietLast, RLock, RUnlock, Read, Reader, ReturnQueues, Set, Setup, Signal, Start, Subject, TestCells, TestLast, ToRelease, Truths}
-use Rattle.ns_world.specs.Prelude.{TryLock, TryRLock, Unlock, UnlockQuiet, Wait, WaitFor, WaitReturning, Write, Writer, looks_at, mode_of, note_in, start_of, want_of}
+use Rattle.ns_world.proofs.Prelude.{Act, ActFits, Add, Advance, Any, AreVariables, ArmFlag, Ask, Bool, Broadcast, Call, CallFits, CallInRange, CanLeave, CounterWait, CvWait, Cvs, Done, EnvRequest, EnvWalk, Expiry, Fit, Get, HasMode, Held, IfMade, InCells, InQueuing, InWait, IsFirst, IsFirstAsk}
+use Rattle.ns_world.proofs.Prelude.{IsNotified, IsSettled, IsSome, Limits, List, Load, LoadFlag, MatchOption, MayWait, MayWaitOnLock, Mode, NewNote, None, NoteStanding, NoteWait, Notify, ObjectStanding, ObjectWalk, OnCondition, OnEntry, OnLock, OnObjects, OnVariables, Once, Only, Option, Owed}
+use Rattle.ns_world.proofs.Prelude.{OwesOne, Part, PayWake, PlaceFits, QuietCells, QuietLast, RLock, RUnlock, Read, Reader, ReturnQueues, Set, Setup, Signal, Some, Start, Subject, TestCells, TestLast, ToRelease, Truths, TryLock, TryRLock, Unlock, UnlockQuiet, Value, WaitAny, WaitFor, WaitReturning}
+use Rattle.ns_world.proofs.Prelude.{Write, Writer, [], ap, arith, asks_for_any, cond, env_asked_of, false, is_alone, items_of, looks_at, mode_of, mode_waited, nat_lt, nat_tests, not, note_in, quiet_asks, quiet_is_first, refl, some_among, start_of, subst, sym, test_asks, true, wait_first}
+use Rattle.ns_world.proofs.Prelude.{wait_is_first, waits_for_any, want_of, ℕ, ◌-◌, ◌<◌, ◌∷◌, ◌≡◌, ◌≤◌}
+use Rattle.ns_env.specs.declared.request.EnvRequest.TheVariants as TheEnvRequest
+use Rattle.ns_world.specs.Prelude.{Lock}
+use Rattle.ns_world.specs.Prelude.{Wait}
 
 -- a call that begins where a test says that its need is met
 pub begins_where : {C : Type 0} (n : ℕ) (setup : Setup) (notes : ℕ → NoteStanding) (call : Call C) (mode : Option Mode) (met : Bool) (start : Start C) (r : Option (Start C)) → r ≡ cond met (Some start) None →
@@ -94,3 +96,77 @@ module _ {C : Type 0} {N : ℕ} (truths : Truths C) where
   fits_more few many seat PayWake part le p = owes_more few many part.owed le p
   fits_more few many seat LoadFlag part le p = omega (arith, le, p)
   fits_more few many seat other part le p = p
+
+-- ---- what the first place of a call is to its seat
+
+-- the place on counters and once cells at which a call begins, if it is one on them
+abbrev pub place_of : {C : Type 0} → Start C → Option ObjectWalk
+place_of (OnObjects walk) = Some walk
+place_of start = None
+
+-- the same on the clock and the notes
+abbrev pub ask_of : {C : Type 0} → Start C → Option EnvWalk
+ask_of (Ask walk) = Some walk
+ask_of start = None
+
+-- only a wait looks; a call of its own on the clock and the notes doesn't
+abbrev pub IsNoLook : EnvRequest → Type 0
+IsNoLook (TheEnvRequest.Look limits) = ⊥
+IsNoLook request = Unit {0}
+
+-- it is a first place
+abbrev pub IsFirstAt : {C : Type 0} → ℕ → (ℕ → NoteStanding) → Start C → Type 0
+IsFirstAt N notes (OnLock walk) = IsFirst N walk
+IsFirstAt N notes (Ask walk) = IsFirstAsk notes walk × IsNoLook (env_asked_of walk)
+IsFirstAt N notes (OnObjects walk) = Unit {0}
+
+pub first_at : {C : Type 0} (N : ℕ) (setup : Setup) (notes : ℕ → NoteStanding) (mode : Option Mode) (call : Call C) → CallFits setup notes call mode → IsFirstAt N notes (start_of N mode call)
+first_at {C} N setup notes mode Lock fits = refl
+first_at {C} N setup notes mode RLock fits = refl
+first_at {C} N setup notes mode UnlockQuiet fits = quiet_is_first C N ToRelease
+first_at {C} N setup notes mode (Wait c limits) fits = wait_is_first N (record { mode = mode_waited mode; on = OnCondition c; limits = limits })
+first_at {C} N setup notes mode (CvWait k limits) fits = wait_is_first {C = C} N (record { mode = mode_waited mode; on = OnVariables (Only k); limits = limits })
+first_at {C} N setup notes mode (NewNote parent deadline) fits = (fits, tt)
+first_at {C} N setup notes mode (Notify note) fits = (fits, tt)
+first_at {C} N setup notes mode (Advance moment) fits = (tt, tt)
+first_at {C} N setup notes mode (IsNotified note) fits = (fits, tt)
+first_at {C} N setup notes mode (Expiry note) fits = ((refl, refl, fits), tt)
+first_at {C} N setup notes mode (NoteWait note deadline) fits = (fits, tt)
+first_at {C} N setup notes mode other fits = tt
+
+-- a call begins at no wait for a set of variables
+abbrev pub begins_alone : {C : Type 0} → Start C → Bool
+begins_alone (OnLock walk) = is_alone (Some walk)
+begins_alone start = true
+
+pub start_alone : {C : Type 0} (N : ℕ) (mode : Option Mode) (call : Call C) → begins_alone (start_of N mode call) ≡ true
+start_alone {C} N mode UnlockQuiet = ap (λ r. not (asks_for_any r)) (quiet_asks C N ToRelease 0)
+start_alone {C} N mode (Wait c limits) = ap (λ r. not (asks_for_any r)) (test_asks C N (record { mode = mode_waited mode; on = OnCondition c; limits = limits }) OnEntry 0)
+start_alone N mode other = refl
+
+some_held : {C : Type 0} {N : ℕ} (held : Option (Held C N)) → IsSome (mode_of held) → IsSome held
+some_held None some = some
+some_held (Some section) some = refl
+
+-- a call that may go on to wait for condition variables begins with a section in hand
+pub start_may : {C : Type 0} {N : ℕ} (setup : Setup) (notes : ℕ → NoteStanding) (call : Call C) (held : Option (Held C N)) → CallFits setup notes call (mode_of held) → MayWaitOnLock (place_of (start_of N (mode_of held) call)) held
+start_may setup notes (WaitAny items deadline) held fits = λ named. let one = some_among (items_of items) named in some_held held (fits.1 one.0 one.1)
+start_may setup notes Lock held fits = tt
+start_may setup notes other held fits = tt
+
+-- the objects that a call names are there
+pub first_fits : {C : Type 0} (N : ℕ) (setup : Setup) (now : ObjectStanding) (notes : ℕ → NoteStanding) (mode : Option Mode) (seat : ℕ) (call : Call C) → CallFits setup notes call mode → Fit setup now notes seat (place_of (start_of N mode call))
+first_fits N setup now notes mode seat (Add counter delta) fits = fits
+first_fits N setup now notes mode seat (Value counter) fits = fits
+first_fits N setup now notes mode seat (CounterWait counter deadline) fits = fits
+first_fits N setup now notes mode seat (Once once) fits = fits
+first_fits N setup now notes mode seat (Done once) fits = fits
+first_fits N setup now notes mode seat (WaitAny items deadline) fits = (fits.0, tt)
+first_fits N setup now notes mode seat other fits = tt
+
+-- a wait for variables begins where there is a section in hand
+pub section_fits : {C : Type 0} {N : ℕ} (truths : Truths C) (notes : ℕ → NoteStanding) (cvs : Cvs) (held : Option (Held C N)) → IsSome held → AreVariables (Any cvs) → IsSettled truths held → StartFits truths notes (OnLock (wait_first N (waits_for_any (mode_waited (mode_of held)) cvs))) held
+section_fits truths notes cvs None some there settled = absurd (cc)
+section_fits truths notes cvs (Some section) some there settled =
+    let may : MayWait truths (waits_for_any section.mode cvs) false section = record { mode = refl; unmet = there; settled = λ e. settled; back = λ e. absurd (cc) } in
+    ((refl, tt), ((may, tt), tt), tt, refl)

@@ -1,42 +1,30 @@
 -- Turns that follow a schedule, piece by piece.
-use Rattle.std.proofs.Common.{◌≡◌, ℕ, inl, inr, append_assoc, suc, ◌+◌, ◌<◌, ◌≤◌, Bool, true, false, cond, eqb, List, [], ◌∷◌, ◌++◌, None, Some, length, refl, ap, sym, ◌∙◌, subst, arith, add-zero, length-append, eq-eqb, ◌-◌, replicate, get_or, take, drop, drop-cons}
-use Rattle.ns_world.proofs.Below.{append-nil, flat_map-append, replicate-append-replicate, replicate_more, take-append-drop, take_more}
-use Rattle.ns_world.specs.Prelude.{Advances, Call, EndFinished, Fault, Finished, IsFinished, NoSuchSeat, OutOfMemory, Progress, Step, Stops, StopsFor, Turn, TurnFault, TurnOf, Turned, TurnsOf, Whole, is_end, rest_of, word_items}
-use Rattle.ns_world.specs.Runs.{Item, items_of}
+use Rattle.ns_world.proofs.Prelude.{Advances, Bool, Call, EndFinished, Fault, Finished, IsFinished, Item, List, NoSuchSeat, None, Option, OutOfMemory, Progress, Some, Step, Stops, StopsFor, Turn, TurnFault, TurnOf, Turned, TurnsOf, Whole, [], add-zero, ap, append-nil, append_assoc, arith, cond}
+use Rattle.ns_world.proofs.Prelude.{drop, drop-cons, eq-eqb, eqb, false, flat_map-append, get_or, inl, inr, is_end, length, length-append, refl, replicate, replicate-append-replicate, replicate_more, rest_of, subst, suc, sym, take, take-append-drop, take_more, true, word_items, ℕ, ◌++◌, ◌+◌, ◌-◌}
+use Rattle.ns_world.proofs.Prelude.{◌<◌, ◌∙◌, ◌∷◌, ◌≡◌, ◌≤◌}
+use Rattle.ns_world.specs.Runs.{items_of}
 
 -- ---- what is left of the items
 
-more_by : (same ends : Bool) (turns : List Turned) (item : Item) (items left more : List Item) →
-    (rest_of items turns ≡ Some left → rest_of (items ++ more) turns ≡ Some (left ++ more)) →
-    (rest_of (item ∷ items) turns ≡ Some left → rest_of (item ∷ items ++ more) turns ≡ Some (left ++ more)) →
-    cond same (cond ends (rest_of items turns) (rest_of (item ∷ items) turns)) None ≡ Some left →
-    cond same (cond ends (rest_of (items ++ more) turns) (rest_of (item ∷ items ++ more) turns)) None ≡ Some (left ++ more)
-more_by true true turns item items left more f g e = f e
-more_by true false turns item items left more f g e = g e
-more_by false ends turns item items left more f g e = absurd (cc)
+-- what follows from what is left of the items, by whether the first item was ended
+carry : {A B : Type 0} (same ends : Bool) (x y : Option A) (x' y' r : Option B) (left : A) → (x ≡ Some left → x' ≡ r) → (y ≡ Some left → y' ≡ r) → cond same (cond ends x y) None ≡ Some left → cond same (cond ends x' y') None ≡ r
+carry true true x y x' y' r left f g e = f e
+carry true false x y x' y' r left f g e = g e
+carry false ends x y x' y' r left f g e = absurd (cc)
 
 -- items more at the end are left too
 rest_more : (turns : List Turned) (items left more : List Item) → rest_of items turns ≡ Some left → rest_of (items ++ more) turns ≡ Some (left ++ more)
 rest_more [] items left more e = let same : items ≡ left = cc in ap (λ xs. Some (xs ++ more)) same
 rest_more (turned ∷ turns) [] left more e = absurd (cc)
 rest_more (turned ∷ turns) (item ∷ items) left more e =
-    more_by (eqb turned.seat item.seat) (is_end item.whole turned.step) turns item items left more (rest_more turns items left more) (rest_more turns (item ∷ items) left more) e
-
-join_by : (same ends : Bool) (a b : List Turned) (item : Item) (items left : List Item) →
-    (rest_of items a ≡ Some left → rest_of items (a ++ b) ≡ rest_of left b) →
-    (rest_of (item ∷ items) a ≡ Some left → rest_of (item ∷ items) (a ++ b) ≡ rest_of left b) →
-    cond same (cond ends (rest_of items a) (rest_of (item ∷ items) a)) None ≡ Some left →
-    cond same (cond ends (rest_of items (a ++ b)) (rest_of (item ∷ items) (a ++ b))) None ≡ rest_of left b
-join_by true true a b item items left f g e = f e
-join_by true false a b item items left f g e = g e
-join_by false ends a b item items left f g e = absurd (cc)
+    carry (eqb turned.seat item.seat) (is_end item.whole turned.step) _ _ _ _ (Some (left ++ more)) left (rest_more turns items left more) (rest_more turns (item ∷ items) left more) e
 
 -- turns after others follow what those have left
 rest_join : (a b : List Turned) (items left : List Item) → rest_of items a ≡ Some left → rest_of items (a ++ b) ≡ rest_of left b
 rest_join [] b items left e = let same : items ≡ left = cc in ap (λ xs. rest_of xs b) same
 rest_join (turned ∷ a) b [] left e = absurd (cc)
 rest_join (turned ∷ a) b (item ∷ items) left e =
-    join_by (eqb turned.seat item.seat) (is_end item.whole turned.step) a b item items left (rest_join a b items left) (rest_join a b (item ∷ items) left) e
+    carry (eqb turned.seat item.seat) (is_end item.whole turned.step) _ _ _ _ (rest_of left b) left (rest_join a b items left) (rest_join a b (item ∷ items) left) e
 
 one_by : (ends : Bool) (item : Item) → cond ends (Some []) (Some (item ∷ [])) ≡ Some (cond ends [] (item ∷ []))
 one_by true item = refl

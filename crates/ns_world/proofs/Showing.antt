@@ -1,40 +1,31 @@
 -- What is shown of a front of the seats, and of the rest.
-use Rattle.std.proofs.Common.{◌≡◌, ℕ, suc, ◌+◌, ◌<◌, ◌≤◌, Bool, true, false, cond, List, [], ◌∷◌, ◌++◌, length, map, take, drop, get_or, refl, ap, sym, ◌∙◌, arith, drop-cons}
-use Rattle.ns_world.proofs.Below.{append-nil, drop_all, flat_map-append, length-append, map-append, take-append-drop, take_more}
-use Rattle.ns_world.specs.Prelude.{Lists, Seat, Truths, hand_of, has_queues, lists_by, view_of, wakes_by, wakes_owed}
+use Rattle.ns_world.proofs.Prelude.{Bool, List, Lists, Seat, Truths, [], ap, append-nil, arith, cond, drop, drop-cons, drop_all, false, flat_map-append, get_or, hand_of, has_queues, length, length-append, lists_by, map, refl, suc, sym, take, take-append-drop, take_more, true, wakes_by, wakes_owed}
+use Rattle.ns_world.proofs.Prelude.{ℕ, ◌++◌, ◌+◌, ◌<◌, ◌∙◌, ◌∷◌, ◌≡◌, ◌≤◌}
 
 module _ {C : Type 0} {N : ℕ} (seats : List (Seat C N)) (i : ℕ) (seat : Seat C N) (within : i < length seats) (is : seat ≡ get_or seats i seat) where
-  pub wakes_more : wakes_owed (map view_of (take (i + 1) seats)) ≡ wakes_owed (map view_of (take i seats)) ++ map (λ wake. (seat.number, wake.seat)) seat.owed.items
+  pub wakes_more : wakes_owed (take (i + 1) seats) ≡ wakes_owed (take i seats) ++ map (λ wake. (seat.number, wake.seat)) seat.owed.items
   wakes_more =
-      ap (λ xs. wakes_owed (map view_of xs)) (take_more seats i seat within ∙ ap (λ s. take i seats ++ s ∷ []) (sym is))
-      ∙ ap wakes_owed (map-append view_of (take i seats) (seat ∷ []))
-      ∙ flat_map-append wakes_by (map view_of (take i seats)) (view_of seat ∷ [])
-      ∙ ap (λ ws. wakes_owed (map view_of (take i seats)) ++ ws) (append-nil (wakes_by (view_of seat)))
+      ap wakes_owed (take_more seats i seat within ∙ ap (λ s. take i seats ++ s ∷ []) (sym is)) ∙ flat_map-append wakes_by (take i seats) (seat ∷ []) ∙ ap (λ ws. wakes_owed (take i seats) ++ ws) (append-nil (wakes_by seat))
 
   module _ (truths : Truths C) (row : List ℕ) (lists : Lists C) where
-    apart : drop i seats ≡ seat ∷ drop (suc i) seats
-    apart = drop-cons seats i seat within ∙ ap (λ s. s ∷ drop (suc i) seats) (sym is)
-
-    by_bit : (b : Bool) → has_queues seat.walk ≡ b → lists_by truths row lists (map view_of (drop i seats)) ≡ cond b (hand_of truths seat.number seat.walk row lists) (lists_by truths row lists (map view_of (drop (suc i) seats)))
-    by_bit b e = ap (λ xs. lists_by truths row lists (map view_of xs)) apart ∙ ap (λ b. cond b (hand_of truths seat.number seat.walk row lists) (lists_by truths row lists (map view_of (drop (suc i) seats)))) e
+    by_bit : (b : Bool) → has_queues seat.walk ≡ b → lists_by truths row lists (drop i seats) ≡ cond b (hand_of truths seat.number seat.walk row lists) (lists_by truths row lists (drop (suc i) seats))
+    by_bit b e = ap (lists_by truths row lists) (drop-cons seats i seat within ∙ ap (λ s. s ∷ drop (suc i) seats) (sym is)) ∙ ap (λ b. cond b (hand_of truths seat.number seat.walk row lists) (lists_by truths row lists (drop (suc i) seats))) e
 
     -- the lists as this seat has them, where it has them
-    pub queues_here : has_queues seat.walk ≡ true → lists_by truths row lists (map view_of (drop i seats)) ≡ hand_of truths seat.number seat.walk row lists
+    pub queues_here : has_queues seat.walk ≡ true → lists_by truths row lists (drop i seats) ≡ hand_of truths seat.number seat.walk row lists
     queues_here e = by_bit true e
 
     -- and as a later one has them, where it has not
-    pub queues_later : has_queues seat.walk ≡ false → lists_by truths row lists (map view_of (drop i seats)) ≡ lists_by truths row lists (map view_of (drop (suc i) seats))
+    pub queues_later : has_queues seat.walk ≡ false → lists_by truths row lists (drop i seats) ≡ lists_by truths row lists (drop (suc i) seats)
     queues_later e = by_bit false e
 
 -- a front of the seats owes no more than all
-pub wakes_front : {C : Type 0} {N : ℕ} (seats : List (Seat C N)) (i : ℕ) → length (wakes_owed (map view_of (take i seats))) ≤ length (wakes_owed (map view_of seats))
+pub wakes_front : {C : Type 0} {N : ℕ} (seats : List (Seat C N)) (i : ℕ) → length (wakes_owed (take i seats)) ≤ length (wakes_owed seats)
 wakes_front seats i =
-    let all : wakes_owed (map view_of seats) ≡ wakes_owed (map view_of (take i seats)) ++ wakes_owed (map view_of (drop i seats)) =
-    ap (λ xs. wakes_owed (map view_of xs)) (sym (take-append-drop i seats)) ∙ ap wakes_owed (map-append view_of (take i seats) (drop i seats))
-    ∙ flat_map-append wakes_by (map view_of (take i seats)) (map view_of (drop i seats)) in
-    let long : length (wakes_owed (map view_of seats)) ≡ length (wakes_owed (map view_of (take i seats))) + length (wakes_owed (map view_of (drop i seats))) = ap length all ∙ length-append _ _ in
+    let all : wakes_owed seats ≡ wakes_owed (take i seats) ++ wakes_owed (drop i seats) = ap wakes_owed (sym (take-append-drop i seats)) ∙ flat_map-append wakes_by (take i seats) (drop i seats) in
+    let long : length (wakes_owed seats) ≡ length (wakes_owed (take i seats)) + length (wakes_owed (drop i seats)) = ap length all ∙ length-append _ _ in
     omega (arith, long)
 
 -- where no seat is left, the lists stand at home
-pub none_left : {C : Type 0} {N : ℕ} (seats : List (Seat C N)) (i : ℕ) → length seats ≤ i → (truths : Truths C) (row : List ℕ) (lists : Lists C) → lists ≡ lists_by truths row lists (map view_of (drop i seats))
+pub none_left : {C : Type 0} {N : ℕ} (seats : List (Seat C N)) (i : ℕ) → length seats ≤ i → (truths : Truths C) (row : List ℕ) (lists : Lists C) → lists ≡ lists_by truths row lists (drop i seats)
 none_left seats i past truths row lists = rw (drop_all i seats past) refl

@@ -1,14 +1,5 @@
 -- A world fits in memory, over any condition.
-use Rattle.std.specs.Prelude.{◌≡◌, ℕ, ◌+◌, ◌-◌, ◌*◌, ◌<◌, ◌^◌}
-use Rattle.std.proofs.Common.{arith}
-use Rattle.std.specs.Mem.{FitsInMemory}
-use Rattle.ns_world.specs.Names.{HasRoom, room, small_by}
-use Rattle.ns_model.specs.declared.condition.Condition.{Ghosts}
-use Rattle.ns_queue.specs.Sizes.{queues_room}
-use Rattle.ns_queue.specs.contracts.queues.Queues.{the_row as queues_row}
-use denote.RattleType.{RattleType}
-use denote.Param.{layout, copied, param, value_of}
-use Rattle.ns_world.specs.contracts.world.World.{the_row as world_row}
+use Rattle.ns_world.proofs.Prelude.{FitsInMemory, Ghosts, HasRoom, RattleType, arith, copied, layout, param, queues_room, queues_row, room, small_by, value_of, world_row, ℕ, ◌*◌, ◌+◌, ◌-◌, ◌<◌, ◌^◌, ◌≡◌}
 
 -- what stands beside the lists in a world takes little; of any sizes, so that none is worked out
 beside_small : (word row queues rest : ℕ) → word < 2 ^ 20 → row < 2 ^ 32 → queues < 2 ^ 56 → rest < 2 ^ 22 → 2 + 3 * (word + (row + (queues + rest))) < 2 ^ 63

@@ -1,44 +1,34 @@
 -- What a lawful world gives to those who show it.
-use Rattle.std.proofs.Common.{◌≡◌, ℕ, suc, ◌+◌, ◌<◌, ◌≤◌, true, List, [], ◌∷◌, ◌++◌, Some, None, length, map, take, drop, slice_get, Option, refl, ap, sym, ◌∙◌, arith, cond, inl, inr}
-use Rattle.std.specs.Prelude.{IfSome}
-use Rattle.ns_world.proofs.Below.{cases_eq, has_list, length-append, length-map, number_at, slice_get_within, split_at, stands_nowhere}
-use Rattle.ns_world.specs.Prelude.{Event, HasList, IsLawfulWorld, LockState, Owed, Read, Seat, SeatView, Truths, Waiter, Walk, counts_in, has_armed, is_unwoken, kept, now_of, owed_to, times, times_among, times_in, view_of, wakes_owed, walk_at}
-use Rattle.ns_queue.proofs.Seats.{times_in-cons, few}
-use Rattle.ns_model.proofs.Tallies.{one_most}
-use Rattle.ns_word.specs.Lawful.{IsLawful}
-use Rattle.ns_word.proofs.Ranges.{placed_below}
-use Rattle.ns_word.proofs.Waits.{unqueued}
-use Rattle.ns_world.proofs.Mapped.{got-map}
-use Rattle.ns_world.specs.declared.world.World.TheInside.{Inside}
+use Rattle.ns_world.proofs.Prelude.{Event, HasList, IfSome, Inside, IsLawful, IsLawfulWhole, List, LockState, None, Option, Owed, Read, Seat, SeatView, Some, Truths, Waiter, Walk, Whole, [], ap, arith, cases_eq, cond, counts_in, drop, few, has_armed, has_list, inl, inr, is_unwoken, kept, length}
+use Rattle.ns_world.proofs.Prelude.{length-append, length-map, lock_of, map, one_most, owed_to, placed_below, refl, slice_get, slice_get_within, stands_nowhere, suc, sym, take, times, times_among, times_in, times_in-cons, true, unqueued, view_of, wakes_owed, walk_at, whole_of, ℕ, ◌++◌, ◌+◌, ◌<◌}
+use Rattle.ns_world.proofs.Prelude.{◌∙◌, ◌∷◌, ◌≡◌, ◌≤◌}
+use Rattle.ns_world.proofs.SeatSet.{number_here, split_here}
 
-module _ {C : Type 0} {N : ℕ} (truths : Truths C) (w : Inside C N) (lawful : IsLawfulWorld (now_of truths (kept w.word w.row w.queues w.flags w.env w.seats.items w.history.items w.objects))) where
-  abbrev state : LockState C N
-  state = (now_of truths (kept w.word w.row w.queues w.flags w.env w.seats.items w.history.items w.objects)).state
+module _ {C : Type 0} {N : ℕ} (truths : Truths C) (w : Inside C N) (lawful : IsLawfulWhole (whole_of truths (kept w.word w.row w.queues w.flags w.env w.seats.items w.history.items w.objects))) where
+  abbrev world : Whole C N
+  world = whole_of truths (kept w.word w.row w.queues w.flags w.env w.seats.items w.history.items w.objects)
 
   module _ (i : ℕ) (seat : Seat C N) (at : slice_get w.seats.items i ≡ Some seat) where
-    at_view : slice_get state.views i ≡ Some (view_of seat)
-    at_view = got-map view_of w.seats.items i seat at
+    abbrev views : List (SeatView C N)
+    views = map view_of w.seats.items
 
     -- a seat's number is one
     number_below : seat.number < 64
-    number_below = let is = number_at state.views i (view_of seat) at_view lawful.numbered in let low = slice_get_within state.views i (view_of seat) at_view in let few = lawful.few in omega (arith, is, low, few)
+    number_below = let is = number_here world lawful i seat at in let low = slice_get_within w.seats.items i seat at in let few = lawful.few in omega (arith, is, low, few)
 
     -- one that is about to queue stands nowhere
     nowhere : has_armed seat.walk ≡ true → times seat.number w.queues ≡ 0
-    nowhere armed = stands_nowhere truths (length state.views) lawful.few w.history.items state (take i state.views) (view_of seat) (drop (suc i) state.views) (split_at state.views i (view_of seat) at_view) lawful.lawful (unqueued seat.walk armed)
+    nowhere armed = stands_nowhere truths _ lawful.few w.history.items (lock_of world) (take i views) (view_of seat) (drop (suc i) views) (split_here world lawful i seat at) lawful.lawful (unqueued seat.walk armed)
 
     -- the list that its walk names is one that there is
     listed : (walk : Option (Walk C)) → seat.walk ≡ walk → IfSome walk HasList
     listed None e = tt
-    listed (Some walk) e = has_list truths (length state.views) lawful.few w.history.items state (take i state.views) (view_of seat) (drop (suc i) state.views) (split_at state.views i (view_of seat) at_view) lawful.lawful walk e
+    listed (Some walk) e = has_list truths _ lawful.few w.history.items (lock_of world) (take i views) (view_of seat) (drop (suc i) views) (split_here world lawful i seat at) lawful.lawful walk e
 
   -- what showing the queues needs of each seat
   pub shown_fit : ((i : ℕ) (seat : Seat C N) → slice_get w.seats.items i ≡ Some seat → IfSome seat.walk HasList) × ((i : ℕ) (seat : Seat C N) → slice_get w.seats.items i ≡ Some seat → seat.number < 64)
       × ((i : ℕ) (seat : Seat C N) → slice_get w.seats.items i ≡ Some seat → has_armed seat.walk ≡ true → times seat.number w.queues ≡ 0)
   shown_fit = (λ i seat at. listed i seat at seat.walk refl, number_below, nowhere)
-
-  pub few_seats : length w.seats.items ≤ 64
-  few_seats = omega (arith, lawful.few, length-map w.seats.items view_of)
 
 -- ---- the wakes that are owed
 
@@ -46,9 +36,9 @@ abbrev wake : {C : Type 0} → Owed → Waiter C
 wake owed = record { seat = owed.seat; mode = Read; cond = None; tries = 0; via = None }
 
 -- as many waiters as wakes
-owing : {C : Type 0} {N : ℕ} → List (SeatView C N) → List (Waiter C)
+owing : {C : Type 0} {N : ℕ} → List (Seat C N) → List (Waiter C)
 owing [] = []
-owing (view ∷ views) = map wake view.owed ++ owing views
+owing (seat ∷ seats) = map wake seat.owed.items ++ owing seats
 
 times_front : {C : Type 0} (seat : ℕ) (owed : List Owed) (rest : List (Waiter C)) → times_in seat (map wake owed ++ rest) ≡ times_among seat owed + times_in seat rest
 times_front seat [] rest = omega arith
@@ -58,18 +48,18 @@ times_front {C} seat (x ∷ xs) rest =
     omega (arith, more, others)
 
 module _ {C : Type 0} {N : ℕ} where
-  times_owing : (seat : ℕ) (views : List (SeatView C N)) → times_in seat (owing views) ≡ owed_to seat views
+  times_owing : (number : ℕ) (seats : List (Seat C N)) → times_in number (owing seats) ≡ owed_to number (map view_of seats)
   unfolding owing
-  times_owing seat [] = refl
-  times_owing seat (view ∷ views) = times_front seat view.owed (owing views) ∙ ap (λ n. times_among seat view.owed + n) (times_owing seat views)
+  times_owing number [] = refl
+  times_owing number (seat ∷ seats) = times_front number seat.owed.items (owing seats) ∙ ap (λ n. times_among number seat.owed.items + n) (times_owing number seats)
 
-  length_owing : (views : List (SeatView C N)) → length (owing views) ≡ length (wakes_owed views)
+  length_owing : (seats : List (Seat C N)) → length (owing seats) ≡ length (wakes_owed seats)
   unfolding owing
   length_owing [] = refl
-  length_owing (view ∷ views) =
-      length-append (map (wake {C = C}) view.owed) (owing views) ∙ ap (λ n. length (map (wake {C = C}) view.owed) + n) (length_owing views)
-      ∙ ap (λ n. n + length (wakes_owed views)) (length-map view.owed (wake {C = C}) ∙ sym (length-map view.owed (λ wake. (view.seat, wake.seat))))
-      ∙ sym (length-append (map (λ wake. (view.seat, wake.seat)) view.owed) (wakes_owed views))
+  length_owing (seat ∷ seats) =
+      length-append (map (wake {C = C}) seat.owed.items) (owing seats) ∙ ap (λ n. length (map (wake {C = C}) seat.owed.items) + n) (length_owing seats)
+      ∙ ap (λ n. n + length (wakes_owed seats)) (length-map seat.owed.items (wake {C = C}) ∙ sym (length-map seat.owed.items (λ wake. (seat.number, wake.seat))))
+      ∙ sym (length-append (map (λ wake. (seat.number, wake.seat)) seat.owed.items) (wakes_owed seats))
 
   -- a number that is no seat's is owed nothing
   none_owed : (truths : Truths C) (seats : ℕ) (h : List (Event C N)) (s : LockState C N) → IsLawful truths seats h s → (seat : ℕ) → seats ≤ seat → owed_to seat s.views ≡ 0
@@ -79,11 +69,14 @@ module _ {C : Type 0} {N : ℕ} where
   ]
 
   -- no more wakes are owed than there are seats
-  pub wakes_few : (truths : Truths C) (seats : ℕ) (h : List (Event C N)) (s : LockState C N) → seats ≤ 64 → IsLawful truths seats h s → length (wakes_owed s.views) ≤ 64
-  wakes_few truths seats h s most p =
-      let long = length_owing s.views in
-      let some = few seats (owing s.views)
-      (λ seat. let sum : counts_in seat s.lists + owed_to seat s.views ≡ cond (is_unwoken (walk_at seat s.views) (s.flags seat)) 1 0 = p.waiters_placed.placed seat in
-      omega (arith, times_owing seat s.views, sum, one_most (is_unwoken (walk_at seat s.views) (s.flags seat))))
-      (λ seat high. times_owing seat s.views ∙ none_owed truths seats h s p seat high) in
+  pub wakes_few : (world : Whole C N) → IsLawfulWhole world → length (wakes_owed world.seats) ≤ 64
+  wakes_few world lawful =
+      let p = lawful.lawful in
+      let views = map view_of world.seats in
+      let long = length_owing world.seats in
+      let most = lawful.few in
+      let some = few (length world.seats) (owing world.seats)
+      (λ seat. let sum : counts_in seat world.queues + owed_to seat views ≡ cond (is_unwoken (walk_at seat views) (world.flags seat)) 1 0 = p.waiters_placed.placed seat in
+      omega (arith, times_owing seat world.seats, sum, one_most (is_unwoken (walk_at seat views) (world.flags seat))))
+      (λ seat high. times_owing seat world.seats ∙ none_owed world.truths (length world.seats) world.history (lock_of world) p seat high) in
       omega (arith, long, some, most)

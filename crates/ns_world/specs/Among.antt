@@ -1,12 +1,11 @@
 -- Waits for condition variables among notes and counters. As such a call begins, a round looks at the notes and counters; where that shows nothing, the call leaves its section and waits on the lock for the variables; and whenever that wait looks, another round does so.
-use Rattle.std.specs.Prelude.{Bool, IsSome, None, Option, Some, false, if◌then◌else◌, is_some, true, unwrap_or, ℕ, ◌≡◌, ◌≤◌}
-use Rattle.ns_world.specs.Names.{Any, AnyWait, AreAmong, AreVariables, Cause, Cvs, Every, Expired, Finished, FirstClock, Idle, InRound, IsLow, Limits, Mode, Number, ObjectWalk, OnLock, OnVariables, Reply, Request, Seat, Step, Walk, Went, have_variable, items_of, place_in, wait_first, want_of}
+use Rattle.ns_world.specs.Names.{Any, AnyWait, AreAmong, AreVariables, Bool, Cause, Cvs, Every, Expired, Finished, FirstClock, Idle, InRound, IsLow, IsSome, Limits, Mode, None, Number, ObjectWalk, OnLock, OnVariables, Option, Reply, Request, Seat, Some, Step, Walk, Went, false, have_variable}
+use Rattle.ns_world.specs.Names.{if◌then◌else◌, is_some, items_of, place_in, true, unwrap_or, wait_first, want_of, ℕ, ◌≡◌, ◌≤◌}
 use Rattle.ns_word.specs.declared.wait.Wait.{Wait}
 use Rattle.ns_world.specs.Begins.{placed}
 use Rattle.ns_world.specs.Calls.{mode_of, mode_waited}
 use Rattle.ns_world.specs.Looked.{Sees}
 use Rattle.ns_world.specs.Looks.{is_for_any, looks_at}
-use Rattle.ns_world.specs.Objects.{Objects, stood_at}
 use Rattle.ns_word.specs.declared.request.Request.TheVariants as TheRequest
 
 -- What ends such a wait early is for its caller to say: a deadline that has always come lets each of its looks end it.
@@ -47,11 +46,6 @@ shown_by told = None
 -- where a seat is to look at the objects, whose wait on the lock has come to this place
 abbrev pub round_due : {C : Type 0} → AnyWait → Walk C → Option ObjectWalk
 round_due wait walk = if is_some (looks_at (want_of walk)) then Some (InRound wait.round FirstClock) else None
-
--- what a step on the lock leaves of a wait: nothing, where the call is over; else the seat looks where it is to
-abbrev pub waited_after : {C : Type 0} → Objects → ℕ → AnyWait → Option (Walk C) → Objects
-waited_after objects seat wait None = stood_at objects seat None None
-waited_after objects seat wait (Some walk) = stood_at objects seat (round_due wait walk) (Some wait)
 
 -- the place that is answered: where a variable has woken the wait, that of the first item that is this one; else what its last round has shown
 abbrev pub place_told : AnyWait → Option ℕ → ℕ

@@ -1,9 +1,8 @@
 -- Where a call begins, and the section that it needs.
-use Rattle.std.specs.Prelude.{◌≡◌, ℕ, nat_lt, ◌<◌, ◌≤◌, ◌^◌, Bool, true, not, ◌&&◌, ◌||◌, Option, Some, None, IsSome, IfSome, is_some, length}
-use Rattle.std.specs.List.{list_all}
-use Rattle.ns_world.specs.Names.{AcquireLoad, Add, AddLoad, Advance, Advancing, AsFresh, Ask, Broadcast, Broadcasting, Call, ClockLoad, CounterWait, CvWait, Done, DoneLoad, Expiry, ExpiryLoad, FirstClock, ForIsNotified, ForLock, ForNoteWait, Get, GetLoad, Held, IfMade, InAcquire, InCells}
-use Rattle.ns_world.specs.Names.{InRelease, InRound, InSignal, InTry, IsNotified, Lock, Mode, NewNote, NextLoad, NoteStanding, NoteWait, Notify, Notifying, ObjectWalk, OnCondition, OnLock, OnObjects, OnVariables, Once, OnceLoad, Only, RLock, RUnlock, Read, Reader, ReleaseLoad, Set, SetLoad, Setup}
-use Rattle.ns_world.specs.Names.{Signal, SignalLoad, Signaling, Start, ToRelease, TryLoad, TryLock, TryRLock, Unlock, UnlockQuiet, Value, ValueLoad, Wait, WaitAny, WaitMark, Write, Writer, quiet_first, wait_first, have_variable, is_among, items_of, AreThere, is_there}
+use Rattle.ns_world.specs.Names.{AcquireLoad, Add, AddLoad, Advance, Advancing, AreThere, AsFresh, Ask, Bool, Broadcast, Broadcasting, Call, ClockLoad, CounterWait, CvWait, Done, DoneLoad, Expiry, ExpiryLoad, FirstClock, ForIsNotified, ForLock, ForNoteWait, Get, GetLoad, Held, IfMade, IfSome}
+use Rattle.ns_world.specs.Names.{InAcquire, InCells, InRelease, InRound, InSignal, InTry, IsNotified, IsSome, Lock, Mode, NewNote, NextLoad, None, NoteStanding, NoteWait, Notify, Notifying, ObjectWalk, OnCondition, OnLock, OnObjects, OnVariables, Once, OnceLoad, Only, Option, RLock, RUnlock, Read}
+use Rattle.ns_world.specs.Names.{Reader, ReleaseLoad, Set, SetLoad, Setup, Signal, SignalLoad, Signaling, Some, Start, ToRelease, TryLoad, TryLock, TryRLock, Unlock, UnlockQuiet, Value, ValueLoad, Wait, WaitAny, WaitMark, Write, Writer, have_variable, is_among, is_some, is_there, items_of, length}
+use Rattle.ns_world.specs.Names.{list_all, nat_lt, not, quiet_first, true, wait_first, ℕ, ◌&&◌, ◌<◌, ◌^◌, ◌||◌, ◌≡◌, ◌≤◌}
 
 -- the mode of the section that a wait leaves
 abbrev pub mode_waited : Option Mode → Mode
@@ -113,7 +112,8 @@ IsVariable k = k < 4
 abbrev pub IsMoment : ℕ → Type 0
 IsMoment moment = moment < 2 ^ 54
 
--- the call's cell, if it names one, is one of n, its variable one of 4, its notes are of 64, its moments are below 2^54, and of several objects there are at most 16
+-- The call's cell, if it names one, is one of n, its variable one of 4, its notes are of 64, its moments are below 2^54, and of several objects there are at most 16. Those that name none of these are `lock`, `rlock`, `trylock`, `tryrlock`, `unlock`, `runlock`, `unlock_quiet`, `add`,
+-- `value`, `once` and `done`.
 abbrev pub CallInRange : {C : Type 0} → ℕ → Call C → Type 0
 CallInRange n (Get i) = i < n
 CallInRange n (Set i v) = i < n

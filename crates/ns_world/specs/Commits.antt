@@ -1,6 +1,5 @@
 -- Which acts commit an event.
-use Rattle.std.specs.Prelude.{◌≡◌, ℕ, false, true}
-use Rattle.ns_world.specs.Names.{Act, AtVariables, Change, LeaveSelf, Lists, Release, ReleaseReturning, ReturnQueues, WaitReturning, WakeWaiters, Word, stands_at}
+use Rattle.ns_world.specs.Names.{Act, AtVariables, Change, LeaveSelf, Lists, Release, ReleaseReturning, ReturnQueues, WaitReturning, WakeWaiters, Word, false, stands_at, true, ℕ, ◌≡◌}
 
 -- the change of the lists by this seat is an event: a signal, a broadcast, or that a wait for variables is left in some list of which the seat still stands
 abbrev pub IsEvent : {C : Type 0} → ℕ → Change → Lists C → Type 0

@@ -6,6 +6,7 @@ pub mod Commits
 pub mod Looked
 pub mod Looks
 pub mod Meanings
+pub mod Moves
 pub mod Names
 pub mod Objects
 pub mod Performs

@@ -1,15 +1,13 @@
 -- What the answer of a call in a world means, whatever others do while it is in progress.
-use Rattle.std.specs.Prelude.{◌≡◌, ℕ, zero, suc, ◌<◌, ◌⊎◌, true, List, ◌++◌, Option, None, Some, slice_get}
-use Rattle.std.proofs.Common.{inl, inr, []}
-use Rattle.ns_world.specs.Names.{Add, AddLoad, Advance, Any, Asked, AtSomePoint, Broadcast, Broadcasting, Call, Cause, CounterWait, Course, CvWait, Cvs, Done, DoneLoad, EnvCourse, EnvEvent, EnvMeans, EnvReply, EnvRequest, Expiry, Finished, FirstClock, Get, Held, InRound, IsLater, IsNotified}
-use Rattle.ns_world.specs.Names.{Limits, Lock, Means, Mode, NewNote, NoteWait, Notify, Number, ObjectEvent, ObjectReply, ObjectWalk, OfLock, OfNotes, OfObjects, OnCondition, OnVariable, OnVariables, Once, OnceLoad, Only, Past, QuietWriter, RLock, RUnlock, Read, Reader, Reply, Request, Round}
-use Rattle.ns_world.specs.Names.{RoundShows, SeatView, Set, Setup, Shows, Signal, Signaling, Started, Step, Subject, TryLock, TryRLock, Unlock, UnlockQuiet, Value, ValueLoad, Wait, WaitAny, WaitMark, WalkReply, WokenBy, Write, Writer, env_own, objects_own, own, row_after}
+use Rattle.ns_world.specs.Names.{Add, AddLoad, Advance, Any, AnyAnswers, AreAmong, Asked, AtSomePoint, Broadcast, Broadcasting, Call, Cause, CounterWait, Course, CvWait, Cvs, Done, DoneLoad, EnvCourse, EnvEvent, EnvMeans, EnvReply, EnvRequest, Expiry, Finished, FirstClock, Get, Held, InRound}
+use Rattle.ns_world.specs.Names.{IsLater, IsNotified, IsReady, Limits, List, Lock, Means, Mode, NewNote, None, NoteWait, Notify, Number, ObjectEvent, ObjectMeans, ObjectReply, ObjectWalk, OfLock, OfNotes, OfObjects, OnCondition, OnVariable, OnVariables, Once, OnceLoad, Only, Option, Past}
+use Rattle.ns_world.specs.Names.{QuietWriter, RLock, RUnlock, Read, Reader, Reply, Request, Round, RoundShows, Set, Setup, Shows, Signal, Signaling, Some, Started, Step, Subject, TryLock, TryRLock, Unlock, UnlockQuiet, Value, ValueLoad, Wait, WaitAny, WaitMark, WalkReply, WokenBy, Write, Writer}
+use Rattle.ns_world.specs.Names.{[], env_own, inl, inr, is_among, item_at, items_of, objects_own, option_map_or, own, past_and, row_after, slice_get, suc, true, zero, ℕ, ◌++◌, ◌<◌, ◌≡◌, ◌⊎◌}
 use Rattle.ns_world.specs.Calls.{mode_of, mode_waited}
 use Rattle.ns_world.specs.Among.{waits_for_any}
-use Rattle.ns_world.specs.Names.{AreAmong, is_among, item_at, items_of, AnyAnswers, IsReady, ObjectMeans, past_and}
 use Rattle.ns_world.specs.Replies.{told, env_told, object_told}
-use Rattle.ns_world.specs.Whole.{Whole, HaveLedTo, IsLawfulWhole, WholeBegins, WholeStep, notes_done, objects_done}
-use Rattle.ns_world.specs.World.{Now, LedTo}
+use Rattle.ns_world.specs.Moves.{WholeBegins, WholeStep, notes_by, objects_by}
+use Rattle.ns_world.specs.Whole.{Whole, IsLawfulWhole}
 use Rattle.ns_env.specs.declared.request.EnvRequest.TheVariants as TheEnvRequest
 use Rattle.ns_word.specs.declared.request.Request.TheVariants as TheRequest
 
@@ -55,14 +53,9 @@ limits_of request = None
 
 -- ---- what is answered
 
--- the section of a view, if there is one
-abbrev pub held_in : {C : Type 0} {N : ℕ} → Option (SeatView C N) → Option (Held C N)
-held_in None = None
-held_in (Some view) = view.held
-
 -- the section that a seat of a world has in hand, if it has one
-abbrev pub held_at : {C : Type 0} {N : ℕ} → Now C N → ℕ → Option (Held C N)
-held_at world seat = held_in (slice_get world.state.views seat)
+abbrev pub held_at : {C : Type 0} {N : ℕ} → Whole C N → ℕ → Option (Held C N)
+held_at world seat = option_map_or (λ s. s.held) (slice_get world.seats seat) None
 
 -- what the last look of a call has shown, by these limits, was so at some point between these
 abbrev pub WasShown : List EnvEvent → List EnvEvent → Option Limits → Option (Option Cause) → Type 0
@@ -72,7 +65,7 @@ WasShown earlier now (Some limits) (Some shown) = AtSomePoint earlier now (Shows
 
 -- A call on the lock has this answer: it means what it says, where the call began with the section that the seat had in hand before; what the call has committed is just what the seat has added to the history; and what its looks have shown of the clock and the notes
 -- was so meanwhile, to which the seat has done nothing itself.
-pub record AnswersOfLock {C : Type 0} {N : ℕ} (before : Now C N) (earlier : List EnvEvent) (seat : ℕ) (request : Request C) (reply : Reply) (after : Now C N) (later : List EnvEvent) : Type 0 where
+pub record AnswersOfLock {C : Type 0} {N : ℕ} (before : Whole C N) (earlier : List EnvEvent) (seat : ℕ) (request : Request C) (reply : Reply) (after : Whole C N) (later : List EnvEvent) : Type 0 where
   pub course : Course C N
   pub began : course.began ≡ held_at before seat
   pub added : own after.history seat ≡ own before.history seat ++ course.committed
@@ -83,7 +76,7 @@ pub record AnswersOfLock {C : Type 0} {N : ℕ} (before : Now C N) (earlier : Li
   pub means : Means after.truths seat (row_after after.history) request course answer (held_at after seat)
 
 -- A call on the clock and the notes has this answer: it means what it says of what happened to them since the call began; what the call has done to them is just what the seat has; and the section in hand and the history of the row are as they were.
-pub record AnswersOfNotes {C : Type 0} {N : ℕ} (before : Now C N) (earlier : List EnvEvent) (seat : ℕ) (request : EnvRequest) (reply : Reply) (after : Now C N) (later : List EnvEvent) : Type 0 where
+pub record AnswersOfNotes {C : Type 0} {N : ℕ} (before : Whole C N) (earlier : List EnvEvent) (seat : ℕ) (request : EnvRequest) (reply : Reply) (after : Whole C N) (later : List EnvEvent) : Type 0 where
   pub course : EnvCourse
   pub began : course.before ≡ earlier
   pub added : env_own later seat ≡ env_own earlier seat ++ course.events
@@ -94,12 +87,12 @@ pub record AnswersOfNotes {C : Type 0} {N : ℕ} (before : Now C N) (earlier : L
   pub silent : own after.history seat ≡ own before.history seat
 
 -- A call on counters and once cells has this answer: it means what it says; what the call has done to them is just what the seat has; and the clock and the notes, the section in hand and the history of the row are as they were, but for what others did.
-pub record AnswersOfObjects {C : Type 0} {N : ℕ} (before : Now C N) (earlier : Past) (setup : Setup) (seat : ℕ) (asked : ObjectWalk) (reply : Reply) (after : Now C N) (later : Past) : Type 0 where
+pub record AnswersOfObjects {C : Type 0} {N : ℕ} (before : Whole C N) (earlier : Past) (seat : ℕ) (asked : ObjectWalk) (reply : Reply) (after : Whole C N) (later : Past) : Type 0 where
   pub events : List ObjectEvent
   pub added : objects_own later.objects seat ≡ objects_own earlier.objects seat ++ events
   pub answer : ObjectReply
   pub tells : reply ≡ object_told answer
-  pub means : ObjectMeans setup earlier later seat asked events answer
+  pub means : ObjectMeans before.objects.setup earlier later seat asked events answer
   pub still : env_own later.notes seat ≡ env_own earlier.notes seat
   pub same : held_at after seat ≡ held_at before seat
   pub silent : own after.history seat ≡ own before.history seat
@@ -112,11 +105,11 @@ PlaceBy setup mid now round None place = AnyAnswers setup mid now round.items ro
 
 -- A wait for condition variables among notes and counters has this answer, and has left its section: there is one among its items. Up to a point since the call began a round has shown nothing; the section was left to wait for just the variables, as the set whose
 -- number is below 16, and another has come back, as a wait on the lock for these means it; where no variable has woken the call, rounds from that point on have shown the place; and the call has done nothing to the counters and once cells.
-pub record AnswersOfWaiting {C : Type 0} {N : ℕ} (before : Now C N) (earlier : Past) (setup : Setup) (seat : ℕ) (asked : ObjectWalk) (reply : Reply) (after : Now C N) (later : Past) : Type 0 where
+pub record AnswersOfWaiting {C : Type 0} {N : ℕ} (before : Whole C N) (earlier : Past) (seat : ℕ) (asked : ObjectWalk) (reply : Reply) (after : Whole C N) (later : Past) : Type 0 where
   pub round : Round
   pub is : asked ≡ InRound round FirstClock
   pub mid : Past
-  pub first : RoundShows (IsReady setup) (items_of round.items) round.deadline earlier mid None
+  pub first : RoundShows (IsReady before.objects.setup) (items_of round.items) round.deadline earlier mid None
   pub until : IsLater mid later
   pub some : (k : ℕ) × (is_among k (items_of round.items) ≡ true)
   pub cvs : Cvs
@@ -126,27 +119,21 @@ pub record AnswersOfWaiting {C : Type 0} {N : ℕ} (before : Now C N) (earlier :
   pub waited : AnswersOfLock before earlier.notes seat (TheRequest.Await (waits_for_any (mode_waited (mode_of (held_at before seat))) cvs)) (told (WokenBy by)) after later.notes
   pub woken : waited.answer ≡ WokenBy by
   pub place : ℕ
-  pub placed : PlaceBy setup mid later round by place
+  pub placed : PlaceBy before.objects.setup mid later round by place
   pub tells : reply ≡ Number place
   pub untouched : objects_own later.objects seat ≡ objects_own earlier.objects seat
 
 -- The call that asks this has the answer. One of the lock, the clock and the notes has done nothing to the counters and once cells; and one on these has left the section in hand as it was, or it was a wait for condition variables among notes and counters.
 abbrev pub AnswersTo : {C : Type 0} {N : ℕ} → Whole C N → Past → ℕ → Asked C → Reply → Whole C N → Past → Type 0
-AnswersTo before earlier seat (OfLock request) reply after later = AnswersOfLock before.lock earlier.notes seat request reply after.lock later.notes × (objects_own later.objects seat ≡ objects_own earlier.objects seat)
-AnswersTo before earlier seat (OfNotes request) reply after later = AnswersOfNotes before.lock earlier.notes seat request reply after.lock later.notes × (objects_own later.objects seat ≡ objects_own earlier.objects seat)
-AnswersTo before earlier seat (OfObjects asked) reply after later =
-    AnswersOfObjects before.lock earlier before.objects.setup seat asked reply after.lock later
-    ⊎ AnswersOfWaiting before.lock earlier before.objects.setup seat asked reply after.lock later
+AnswersTo before earlier seat (OfLock request) reply after later = AnswersOfLock before earlier.notes seat request reply after later.notes × (objects_own later.objects seat ≡ objects_own earlier.objects seat)
+AnswersTo before earlier seat (OfNotes request) reply after later = AnswersOfNotes before earlier.notes seat request reply after later.notes × (objects_own later.objects seat ≡ objects_own earlier.objects seat)
+AnswersTo before earlier seat (OfObjects asked) reply after later = AnswersOfObjects before earlier seat asked reply after later ⊎ AnswersOfWaiting before earlier seat asked reply after later
 
 -- A call that the seat began in the world `before`, to which this had led, has this answer in the world `after`.
 abbrev pub AnswersCall : {C : Type 0} {N : ℕ} → Whole C N → Past → ℕ → Call C → Reply → Whole C N → Past → Type 0
-AnswersCall before earlier seat call reply after later = AnswersTo before earlier seat (asks_of (mode_of (held_at before.lock seat)) call) reply after later
+AnswersCall before earlier seat call reply after later = AnswersTo before earlier seat (asks_of (mode_of (held_at before seat)) call) reply after later
 
 -- ---- while a call is in progress
-
--- this has led to the world
-abbrev pub HasLedTo : {C : Type 0} {N : ℕ} → Past → Whole C N → Type 0
-HasLedTo past world = LedTo past.notes world.lock × HaveLedTo past.objects world
 
 -- nothing at all
 abbrev pub nothing_done : Past
@@ -155,7 +142,7 @@ nothing_done = record { notes = []; objects = [] }
 -- what a seat's step is to the clock and the notes, and to the counters and once cells
 abbrev pub done_in : {C : Type 0} {N : ℕ} (old new : Whole C N) (seat : ℕ) (step : Step) → WholeStep old new seat step → Past
 done_in old new seat step (inl rests) = nothing_done
-done_in old new seat step (inr moves) = record { notes = notes_done moves; objects = objects_done moves }
+done_in old new seat step (inr moves) = record { notes = notes_by seat moves.makes; objects = objects_by moves.makes }
 
 -- the step finished no call
 abbrev pub IsUnfinished : Step → Type 0

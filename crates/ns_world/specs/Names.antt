@@ -1,5 +1,5 @@
 -- The names of crates below and of this crate's own types, passed on from one place. Declares nothing.
-pub use Rattle.ns_counters.specs.Prelude.{AnyAnswers, AreThere, AtSomePoint, EnvPlain, EnvState, HaveShownNothing, IsLater, IsLawful, IsLawfulEnv, IsLawfulObjects, IsLow, IsReady, Meets, NoteStanding, ObjectEffect, ObjectGoes, ObjectSoFar, ObjectStanding, ObjectState, Past, RoundShows, RoundSoFar}
+pub use Rattle.ns_counters.specs.Prelude.{AnyAnswers, AreThere, AtSomePoint, EnvPlain, EnvState, HaveShownNothing, IsLater, IsLawful, IsLawfulEnv, IsLawfulObjects, IsLow, IsReady, NoteStanding, ObjectEffect, ObjectGoes, ObjectSoFar, ObjectStanding, ObjectState, Past, RoundShows, RoundSoFar}
 pub use Rattle.ns_counters.specs.Prelude.{StepFits, WalkFits, WereThere, by_round, env_after, env_got_of, first_words, is_among, is_due, is_there, item_at, items_of, most, object_after, object_asked, object_got, object_place, object_want, object_who, objects_after, objects_own, padded, past_and}
 pub use Rattle.ns_counters.specs.Prelude.{place_in, round_got, setup_of, standing_of, state_of, walk_in, word_at}
 pub use Rattle.ns_counters.specs.Items.{AreAmong, have_variable}
@@ -20,7 +20,7 @@ pub use Rattle.ns_counters.specs.declared.walk.ObjectNext.{ObjectNext}
 pub use Rattle.ns_counters.specs.declared.walk.ObjectNext.TheVariants.{Over, Repeat}
 pub use Rattle.ns_counters.specs.declared.walk.ObjectWalk.{ObjectWalk}
 pub use Rattle.ns_counters.specs.declared.walk.ObjectWalk.TheVariants.{AddLoad, DoneLoad, InRound, OnceLoad, ValueLoad, WaitMark}
-pub use Rattle.ns_env.specs.Prelude.{EnvActFits, EnvCourse, EnvEffect, EnvGoes, EnvSoFar, EnvStep, IfMade, IsFirstAsk, Shows, env_asked_of, env_course_after, env_course_at, env_own, env_walk_after, env_want_of, env_who, fresh_plain, is_over, outcome, passed, stopped, up_to}
+pub use Rattle.ns_env.specs.Prelude.{EnvActFits, EnvCourse, EnvEffect, EnvGoes, EnvSoFar, IfMade, IsFirstAsk, Shows, env_asked_of, env_course_after, env_course_at, env_own, env_walk_after, env_want_of, env_who, fresh_plain, is_over, outcome, passed, stopped, up_to}
 pub use Rattle.ns_env.specs.Meanings.{EnvGoesOn, EnvMeans, LookMeans}
 pub use Rattle.ns_env.specs.declared.act.EnvAct.{EnvAct}
 pub use Rattle.ns_env.specs.declared.act.EnvFound.{EnvFound}
@@ -37,7 +37,7 @@ pub use Rattle.ns_env.specs.declared.walk.EnvWalk.{EnvWalk}
 pub use Rattle.ns_env.specs.declared.walk.EnvWalk.TheVariants.{Advancing, ClockLoad, ExpiryLoad, NextLoad, NoteLoad, Notifying}
 pub use Rattle.ns_word.specs.Prelude.{ActFits, AreBy, AreNumbered, AreVariables, BeginsWith, CallGoes, CanLeave, CanWait, Course, Effect, Every, HasList, HasMode, InHand, IsFirst, IsForCondition, IsInRange, IsSettled, IsUnmet, Lists, LockState, MayEnd, MayShow, MayWait, Means, OwesOne, Part}
 pub use Rattle.ns_word.specs.Prelude.{PlaceFits, QuietKeeps, SoFar, Step as Steps, Truths, asked_of, bits_of, called_by, called_of, change_commits, changed, counts_in, course_after, course_from, cvs_without, exit_for, fresh_state, fresh_views, got_of, has_armed, has_queues, has_some, held_after}
-pub use Rattle.ns_word.specs.Prelude.{is_held, is_in, is_unwoken, judge_of, leave_of, left_of, looked_after, meets_at, moved_to, owed_to, own, part_of, quiet_first, releasing_of, row_after, section_of, stands_at, taken_by, taken_set, times, times_among, times_in, wait_first, waited_in, waiters_of}
+pub use Rattle.ns_word.specs.Prelude.{is_held, is_in, is_unwoken, judge_of, leave_of, left_of, looked_after, meets_at, moved_to, owed_to, own, quiet_first, releasing_of, row_after, section_of, stands_at, taken_by, taken_set, times, times_among, times_in, wait_first, waited_in, waiters_of}
 pub use Rattle.ns_word.specs.Prelude.{wakes_of, walk_after, walk_at, want_acquiring, want_in_cells, want_leaving, want_of, want_releasing, want_showing, want_signaling, want_trying, with_waiters, woken_of, word_released, word_released_returning, word_returned}
 pub use Rattle.ns_model.specs.Environments.{no_note}
 pub use Rattle.ns_model.specs.Room.{HasRoom, room, small_by}
@@ -119,3 +119,10 @@ pub use Rattle.ns_world.specs.declared.step.Begun.TheVariants.{Busy, Misuse, Sta
 pub use Rattle.ns_world.specs.declared.step.Step.{Step}
 pub use Rattle.ns_world.specs.declared.step.Step.TheVariants.{Finished, Idle, Nothing, Went}
 pub use Rattle.ns_world.specs.declared.wanted.Look.{Look as LookBy}
+pub use Rattle.std.proofs.Common.{arith, inl, inr}
+pub use Rattle.std.specs.List.{flat_map, list_all}
+pub use Rattle.std.specs.Mem.{FitsInMemory}
+pub use Rattle.std.specs.Option.{option_map_or}
+pub use Rattle.std.specs.Prelude.{All, Bool, IfSome, IsSome, List, None, Option, Some, [], false, get_or, if◌then◌else◌, is_some, length, map, nat_lt, not, replicate, slice_get, slice_index, slice_set, suc, true, unwrap_or, zero, ℕ, ◌&&◌, ◌++◌, ◌+◌, ◌<◌, ◌==◌, ◌^◌, ◌||◌, ◌∷◌, ◌≡◌, ◌≤◌, ◌⊎◌}
+pub use denote.Param.{copied, layout, param}
+pub use denote.RattleType.{RattleType}

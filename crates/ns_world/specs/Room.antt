@@ -1,10 +1,5 @@
 -- A world's seat fits in memory, over any condition.
-use Rattle.std.specs.Prelude.{◌<◌, ◌^◌}
-use Rattle.std.proofs.Common.{arith}
-use Rattle.std.specs.Mem.{FitsInMemory}
-use Rattle.ns_world.specs.Names.{HasRoom, room, small_by}
-use denote.RattleType.{RattleType}
-use denote.Param.{layout, copied, param}
+use Rattle.ns_world.specs.Names.{FitsInMemory, HasRoom, RattleType, arith, copied, layout, param, room, small_by, ◌<◌, ◌^◌}
 use Rattle.ns_world.specs.contracts.seat.Seat.{the_row as seat_row}
 
 -- a seat of a world fits in memory

@@ -1,9 +1,9 @@
 -- A run of a schedule, turn by turn.
-use Rattle.std.specs.Prelude.{◌≡◌, ℕ, ◌+◌, ◌<◌, ◌≤◌, ◌⊎◌, Bool, true, false, not, ◌==◌, if◌then◌else◌, List, [], ◌∷◌, ◌++◌, Option, Some, None, slice_get, slice_index, slice_set, length, replicate, unwrap_or, All}
-use Rattle.std.specs.List.{flat_map}
-use Rattle.ns_world.specs.Names.{Call, Fault, Finished, Line, Misuse, NoSuchSeat, Nothing, OutOfMemory, Reply, Started, Step, StepLimit, Turn, Went}
+use Rattle.ns_world.specs.Names.{All, Bool, Call, Fault, Finished, Idle, Line, List, Misuse, NoSuchSeat, None, Nothing, Option, OutOfMemory, Reply, Seat, Some, Started, Step, StepLimit, Turn, Went, [], false, flat_map, if◌then◌else◌, length, not, option_map_or, replicate, slice_get, slice_index}
+use Rattle.ns_world.specs.Names.{slice_set, true, unwrap_or, ℕ, ◌++◌, ◌+◌, ◌<◌, ◌==◌, ◌∷◌, ◌≡◌, ◌≤◌, ◌⊎◌}
 use Rattle.ns_world.specs.Calls.{CallInRange}
-use Rattle.ns_world.specs.Whole.{Whole, WholeIsIdle, WholeIsBusy, WholeMoves, WholeBegins, WholeCommits, whole_busy}
+use Rattle.ns_world.specs.Moves.{WholeBegins, WholeCommits, WholeMoves}
+use Rattle.ns_world.specs.Whole.{Whole, WholeIsIdle, WholeIsBusy, whole_busy}
 use Rattle.ns_world.specs.declared.reply.Reply.TheVariants as TheReply
 
 -- ---- one turn
@@ -35,18 +35,24 @@ abbrev pub tests_told : Reply → ℕ → ℕ
 tests_told TheReply.Misuse tests = 0
 tests_told reply tests = tests
 
+-- the count of a seat
+abbrev pub tests_at : {C : Type 0} {N : ℕ} → List (Seat C N) → ℕ → ℕ
+tests_at seats seat = option_map_or (λ s. s.tests) (slice_get seats seat) 0
+
 -- the seat's call is over, with this answer
 abbrev pub finished : {C : Type 0} {N : ℕ} → Progress C N → ℕ → Reply → Whole C N → Progress C N
 finished p seat reply world = record {
   world = world;
   over = slice_set p.over seat (slice_index p.over seat + 1);
-  lines = p.lines ++ record { thread = seat; call = slice_index p.over seat; reply = reply; tests = tests_told reply (slice_index world.lock.tests seat) } ∷ [];
+  lines = p.lines ++ record { thread = seat; call = slice_index p.over seat; reply = reply; tests = tests_told reply (tests_at world.seats seat) } ∷ [];
 }
 
 -- what a seat's step leaves of the progress
 abbrev pub progressed : {C : Type 0} {N : ℕ} → Progress C N → ℕ → Step → Whole C N → Progress C N
 progressed p seat (Finished reply) world = finished p seat reply world
-progressed p seat step world = record p { world = world }
+progressed p seat Went world = record p { world = world }
+progressed p seat Idle world = record p { world = world }
+progressed p seat Nothing world = record p { world = world }
 
 -- the same of the counts and the lines alone, in whatever world
 abbrev pub Counts : List ℕ → List Line → ℕ → Step → ℕ → List ℕ → List Line → Type 0
@@ -96,7 +102,7 @@ TurnsWith {C} {N} next old seat step new =
 -- why a turn is refused: the number is no seat's, or there was no memory for its event
 abbrev pub TurnFault : {C : Type 0} {N : ℕ} → Whole C N → ℕ → Fault → Type 0
 TurnFault world seat OutOfMemory = WholeCommits world seat
-TurnFault world seat NoSuchSeat = length world.lock.state.views ≤ seat
+TurnFault world seat NoSuchSeat = length world.seats ≤ seat
 TurnFault world seat fault = ⊥
 
 -- ---- many turns
@@ -129,7 +135,9 @@ items_of schedule = flat_map word_items schedule
 -- an item ends with this turn of its seat: each does but a whole one whose call goes on and isn't idle
 abbrev pub is_end : Bool → Step → Bool
 is_end whole Went = not whole
-is_end whole step = true
+is_end whole Idle = true
+is_end whole (Finished reply) = true
+is_end whole Nothing = true
 
 -- the turn finished its call
 abbrev pub IsFinished : Step → Type 0
@@ -168,8 +176,8 @@ CommitsFirst world (item ∷ left) = WholeCommits world item.seat
 -- Why a run stops in this world after these turns, so many, with these items left: the next item needs one turn more than the limit, or its thread is no seat, or memory was refused: for the event of the next turn, or for the line of the call that the last turn finished.
 abbrev pub StopsFor : {C : Type 0} {N : ℕ} → ℕ → Whole C N → ℕ → List Turned → List Item → Fault → Type 0
 StopsFor limit world made turns left OutOfMemory = CommitsFirst world left ⊎ EndFinished turns
-StopsFor limit world made turns (item ∷ left) StepLimit = (made ≡ limit) × (item.seat < length world.lock.state.views)
-StopsFor limit world made turns (item ∷ left) NoSuchSeat = length world.lock.state.views ≤ item.seat
+StopsFor limit world made turns (item ∷ left) StepLimit = (made ≡ limit) × (item.seat < length world.seats)
+StopsFor limit world made turns (item ∷ left) NoSuchSeat = length world.seats ≤ item.seat
 StopsFor limit world made turns left fault = ⊥
 
 -- Turns that follow a front of the items lead from the progress p, and then the run stops in this world.
@@ -203,6 +211,12 @@ AllIdle world = (seat : ℕ) → whole_busy world seat ≡ false
 pub record IsCounted {C : Type 0} {N : ℕ} (world : Whole C N) (over : List ℕ) : Type 0 where
   pub many : length over ≡ 64
   pub most : (seat : ℕ) → slice_index over seat + (if whole_busy world seat then 1 else 0) ≤ 256
+
+-- One turn was made and counted: it takes the progress p to q, in which no seat is past its last call, and it is one turn more, of at most the limit.
+pub record CountsTurn {C : Type 0} {N : ℕ} (lists : List (List (Call C))) (limit : ℕ) (p : Progress C N) (before seat : ℕ) (step : Step) (q : Progress C N) (after : ℕ) : Type 0 where
+  pub turn : TurnOf lists p seat step q
+  pub counted : IsCounted q.world q.over
+  pub turns : (after ≡ before + 1) × (after ≤ limit)
 
 -- a list has at most 256 calls, and what each names is in range
 abbrev pub ListFits : {C : Type 0} → ℕ → List (Call C) → Type 0

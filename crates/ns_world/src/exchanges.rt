@@ -80,8 +80,7 @@ pub(crate) fn take_queues<C: Seated<N>, const N: usize>(
     Found::Made
 }
 
-/// Puts the seat into the lock list, and puts the queues back, which clears the spinlock bit. The word is the
-/// one that the seat has last seen, as its caller has found, here and in the next ones.
+/// Puts the seat into the lock list, and puts the queues back, which clears the spinlock bit.
 fn return_queued<C: Seated<N>, const N: usize>(
     word: &mut Word,
     queues: &mut Queues<C, N>,
@@ -141,7 +140,7 @@ fn return_left<C: Seated<N>, const N: usize>(
     last: Word,
 ) -> Result<Found, AllocError>
     requires { last ≡ word.old }
-    ensures { MatchResult result (λ found. (row flags : List ℕ) (owed : List Owed) (held : _) → Makes C.means seat (Act.ReturnQueues (Change.LeaveSelf home) last) (part word.old row queues.old flags held owed) history.old.items found (part word.new row queues.new flags held owed) history.new.items) (λ fault. IsEvent seat (Change.LeaveSelf home) queues.old × (last ≡ word.old) × (word.new ≡ word.old) × (queues.new ≡ queues.old) × (history.new.items ≡ history.old.items)) }
+    ensures { MatchResult result (λ found. (row flags : List ℕ) (owed : List Owed) (held : _) → Makes C.means seat (Act.ReturnQueues (Change.LeaveSelf home) last) (part word.old row queues.old flags held owed) history.old.items found (part word.new row queues.new flags held owed) history.new.items) (λ fault. IsEvent seat (Change.LeaveSelf home) queues.old × (word.new ≡ word.old) × (queues.new ≡ queues.old) × (history.new.items ≡ history.old.items)) }
 {
     commit_leave(queues, seat, history, home)?;
     let stood = leave_self(queues, seat, home);
@@ -192,7 +191,7 @@ fn return_waking<C: Seated<N>, const N: usize>(
 ) -> Result<Found, AllocError>
     requires there { k < 4 }
     requires same { last ≡ word.old }
-    ensures { MatchResult result (λ found. ((row flags : List ℕ) → Makes C.means seat.old.number (Act.ReturnQueues (Change.WakeWaiters waking k) last) (part word.old row queues.old flags seat.old.held seat.old.owed.items) history.old.items found (part word.new row queues.new flags seat.new.held seat.new.owed.items) history.new.items) × StaysThere seat.old seat.new) (λ fault. (last ≡ word.old) × (word.new ≡ word.old) × (queues.new ≡ queues.old) × (seat.new ≡ seat.old) × (history.new.items ≡ history.old.items)) }
+    ensures { MatchResult result (λ found. ((row flags : List ℕ) → Makes C.means seat.old.number (Act.ReturnQueues (Change.WakeWaiters waking k) last) (part word.old row queues.old flags seat.old.held seat.old.owed.items) history.old.items found (part word.new row queues.new flags seat.new.held seat.new.owed.items) history.new.items) × StaysThere seat.old seat.new) (λ fault. (word.new ≡ word.old) × (queues.new ≡ queues.old) × (seat.new ≡ seat.old) × (history.new.items ≡ history.old.items)) }
 {
     commit_wake(queues, seat.number, history, waking, k)?;
     let some = !queues.waiters(Which::Cv(k)).is_empty();

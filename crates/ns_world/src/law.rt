@@ -6,11 +6,11 @@ ghost use Rattle.ns_world.specs.declared.reply.Reply.{Reply};
 ghost use Rattle.ns_world.specs.declared.step.Begun.TheVariants.{Started};
 ghost use Rattle.ns_world.specs.declared.step.Step.{Step};
 ghost use Rattle.ns_world.specs.declared.step.Step.TheVariants.{Finished};
-ghost use Rattle.ns_world.specs.Meanings.{AnswersCall, HasLedTo, Meanwhile, done_in, happened};
+ghost use Rattle.ns_world.specs.Meanings.{AnswersCall, Meanwhile, done_in, happened};
 ghost use Rattle.ns_counters.specs.Rounds.{Past};
 ghost use Rattle.ns_counters.specs.Meanings.{past_and};
-ghost use Rattle.ns_world.specs.Whole.{Whole, AreObjectsBy, IsLawfulWhole, WholeBegins, WholeStep};
-ghost use Rattle.ns_world.specs.World.{AreEnvBy};
+ghost use Rattle.ns_world.specs.Moves.{AreEnvBy, AreObjectsBy, WholeBegins, WholeStep};
+ghost use Rattle.ns_world.specs.Whole.{HasLedTo, IsLawfulWhole, Whole};
 
 use ns_model::condition::Condition;
 

@@ -4,7 +4,7 @@
 ghost use Rattle.std.specs.Prelude.{◌≡◌, ◌≤◌, ◌<◌, ◌+◌, ◌∷◌, [], Some, IfSome, IfOk, IfErr, OnOk, OnErr, All, map, replicate, slice_get, slice_index, MatchResult, ◌^◌, ◌++◌};
 ghost use Rattle.ns_world.specs.Calls.{CallInRange};
 ghost use Rattle.ns_world.specs.Whole.{whole_of};
-ghost use Rattle.ns_world.specs.Runs.{calls_of, Counts, progress, is_end, TurnsWith, tests_told, TurnFault, TurnOf, Advances, IsFinished, Stops, Runs, RunFault, AllIdle, IsCounted, ListFits, items_of};
+ghost use Rattle.ns_world.specs.Runs.{calls_of, Counts, CountsTurn, progress, is_end, TurnsWith, tests_told, TurnFault, Advances, IsFinished, Stops, Runs, RunFault, AllIdle, IsCounted, ListFits, items_of};
 
 use crate::call::Call;
 use crate::fault::Fault;
@@ -158,9 +158,7 @@ pub fn counted_turn<C: Seated<N>, const N: usize>(
     requires counted { IsCounted (whole_of C.means world.old) tally.old.over }
     requires turns { tally.old.turns ≤ limit }
     ensures ok { IfOk result (λ step. let calls = map (λ calls. calls.items) lists.now in
-        TurnOf calls (progress (whole_of C.means world.old) tally.old.over tally.old.lines.items) seat step (progress (whole_of C.means world.new) tally.new.over tally.new.lines.items)) }
-    ensures counted { OnOk result (IsCounted (whole_of C.means world.new) tally.new.over) }
-    ensures turns { OnOk result ((tally.new.turns ≡ tally.old.turns + 1) × (tally.new.turns ≤ limit)) }
+        CountsTurn calls limit (progress (whole_of C.means world.old) tally.old.over tally.old.lines.items) tally.old.turns seat step (progress (whole_of C.means world.new) tally.new.over tally.new.lines.items) tally.new.turns) }
     ensures err { IfErr result (λ fault. let calls = map (λ calls. calls.items) lists.now in
         (whole : _) → Stops calls limit (progress (whole_of C.means world.old) tally.old.over tally.old.lines.items) tally.old.turns (record { seat = seat; whole = whole } ∷ []) (whole_of C.means world.new) fault) }
 {

@@ -1,11 +1,9 @@
 //! The seats of a new world, and which of a world's seats have a call in progress.
 
-ghost use Rattle.std.specs.Prelude.{◌≡◌, ◌≤◌, ℕ, length, map, replicate, is_some, ◌||◌, None, IfOk};
-ghost use Rattle.ns_counters.specs.Asks.{walk_in};
+ghost use Rattle.std.specs.Prelude.{◌≡◌, ◌≤◌, ℕ, length, slice_get, false, IfOk};
+ghost use Rattle.std.specs.Option.{option_map_or};
 ghost use Rattle.ns_model.specs.Seats.{is_in};
-ghost use Rattle.ns_word.specs.Begins.{fresh_views};
-ghost use Rattle.ns_world.specs.Performs.{view_of};
-ghost use Rattle.ns_world.specs.World.{is_busy as is_busy_at};
+ghost use Rattle.ns_world.specs.Whole.{fresh_seats, in_call};
 
 use crate::room::Seated;
 use crate::seat::Seat;
@@ -18,11 +16,7 @@ pub(crate) fn new_seats<C: Seated<N>, const N: usize>(
     alloc: Global,
     seats: u8,
 ) -> Result<Vec<Seat<C, N>>, AllocError>
-    ensures views { IfOk result (λ made. map view_of made.items ≡ fresh_views 0 seats) }
-    ensures tests { IfOk result (λ made. map (λ seat. seat.tests) made.items ≡ replicate seats 0) }
-    ensures asking { IfOk result (λ made. map (λ seat. seat.asking) made.items ≡ replicate seats None) }
-    ensures operating { IfOk result (λ made. map (λ seat. seat.operating) made.items ≡ replicate seats None) }
-    ensures awaits { IfOk result (λ made. map (λ seat. seat.awaits) made.items ≡ replicate seats None) }
+    ensures { IfOk result (λ made. made.items ≡ fresh_seats 0 seats) }
 {
     let mut made = Vec::new(alloc);
     for number in 0..seats {
@@ -42,7 +36,7 @@ pub(crate) fn new_seats<C: Seated<N>, const N: usize>(
 
 /// Whether a call of the seat is in progress.
 pub(crate) fn is_busy<C: Seated<N>, const N: usize>(seat: &Seat<C, N>) -> bool
-    ensures { result ≡ ((is_some seat.now.walk || is_some seat.now.asking) || is_some seat.now.operating) }
+    ensures { result ≡ in_call seat.now }
 {
     seat.walk.is_some() | seat.asking.is_some() | seat.operating.is_some()
 }
@@ -50,7 +44,7 @@ pub(crate) fn is_busy<C: Seated<N>, const N: usize>(seat: &Seat<C, N>) -> bool
 /// The seats with a call in progress.
 pub(crate) fn busy_seats<C: Seated<N>, const N: usize>(seats: &[Seat<C, N>]) -> Seats
     requires { length seats.now ≤ 64 }
-    ensures { (seat : ℕ) → is_in result seat ≡ (is_busy_at (map view_of seats.now) (map (λ seat. seat.asking) seats.now) seat || is_some (walk_in (map (λ seat. seat.operating) seats.now) seat)) }
+    ensures { (seat : ℕ) → is_in result seat ≡ option_map_or in_call (slice_get seats.now seat) false }
 {
     let mut busy = Seats::none();
     for (at, seat) in seats.iter().enumerate() {

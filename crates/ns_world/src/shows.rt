@@ -5,7 +5,6 @@ ghost use Rattle.ns_queue.specs.Queues.{times};
 ghost use Rattle.ns_word.specs.Places.{HasList};
 ghost use Rattle.ns_word.specs.Steps.{in_hand};
 ghost use Rattle.ns_word.specs.Walks.{has_queues, has_armed};
-ghost use Rattle.ns_world.specs.Performs.{view_of};
 ghost use Rattle.ns_world.specs.Shows.{hand_of, lists_by, wakes_owed};
 
 use crate::room::Seated;
@@ -44,7 +43,7 @@ pub(crate) fn shown_queues<C: Seated<N>, const N: usize>(
     requires lists { (i : ℕ) (seat : _) → slice_get seats.now i ≡ Some seat → IfSome seat.walk HasList }
     requires below { (i : ℕ) (seat : _) → slice_get seats.now i ≡ Some seat → seat.number < 64 }
     requires free { (i : ℕ) (seat : _) → slice_get seats.now i ≡ Some seat → has_armed seat.walk ≡ true → times seat.number queues.now ≡ 0 }
-    ensures { result ≡ lists_by C.means row.now queues.now (map view_of seats.now) }
+    ensures { result ≡ lists_by C.means row.now queues.now seats.now }
 {
     for seat in seats {
         if has_queues::<C, N>(seat.walk) {
@@ -68,8 +67,8 @@ fn push_wakes(all: &mut ArrayVec<(u8, u8), 64>, seat: u8, owed: &[Owed])
 pub(crate) fn owed_wakes<C: Seated<N>, const N: usize>(
     seats: &[Seat<C, N>],
 ) -> ArrayVec<(u8, u8), 64>
-    requires { length (wakes_owed (map view_of seats.now)) ≤ 64 }
-    ensures { result.items ≡ wakes_owed (map view_of seats.now) }
+    requires { length (wakes_owed seats.now) ≤ 64 }
+    ensures { result.items ≡ wakes_owed seats.now }
 {
     let mut all = ArrayVec::new();
     for seat in seats {

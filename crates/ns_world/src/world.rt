@@ -1,16 +1,16 @@
 //! The world: the lock with its row, a clock and notes, and beside it counters and once cells, one
 //! step at a time.
 
-ghost use Rattle.std.specs.Prelude.{◌≡◌, ◌≤◌, ◌<◌, ℕ, length, map, slice_index, MatchResult, IfOk, IfErr};
+ghost use Rattle.std.specs.Prelude.{◌≡◌, ◌≤◌, ◌<◌, ℕ, length, map, MatchResult, IfOk, IfErr};
 ghost use Rattle.ns_model.specs.Histories.{IsLegal, IsBySeats};
 ghost use Rattle.ns_model.specs.Seats.{is_in};
 ghost use Rattle.ns_queue.specs.Waiters.{shown_of};
-ghost use Rattle.ns_world.specs.Begins.{BeginFault};
-ghost use Rattle.ns_world.specs.Performs.{view_of};
 ghost use Rattle.ns_world.specs.Calls.{CallInRange};
+ghost use Rattle.ns_world.specs.Moves.{BeginFault, WholeBegins, WholeStep, WholeFault};
+ghost use Rattle.ns_world.specs.Runs.{tests_at};
 ghost use Rattle.ns_world.specs.Shows.{lists_shown, wakes_owed};
-ghost use Rattle.ns_world.specs.Whole.{fresh_whole, whole_of, whole_busy, IsLawfulWhole, WholeBegins, WholeStep, WholeFault};
-ghost use Rattle.ns_world.specs.World.{now_of, RefusesWorld};
+ghost use Rattle.ns_world.specs.Whole.{fresh_whole, whole_of, whole_busy, IsLawfulWhole};
+ghost use Rattle.ns_world.specs.World.{RefusesWorld};
 
 use crate::among::{step_objects, told_by_lock};
 use crate::call::Call;
@@ -36,13 +36,12 @@ use std::marker::Model;
 /// A lock with a row of `N` cells, four condition variables, a clock, up to 64 notes, up to 16 counters,
 /// up to 16 once cells, up to 64 seats, and all that has happened to the row and the variables.
 ///
-/// Its contracts speak of the word, the row, each seat's view, the history, the clock, the notes,
-/// the words of the counters and once cells, and each seat's place in a call on these. Between any two
-/// calls the law of the lock holds of them, which `ns_word` states: one writer or readers, as many
-/// as the word counts, the queues in one hand, each waiter placed, nobody forgotten, and one legal
-/// history by seats of this world. The clock and the notes are as a legal history by seats of this
-/// world leaves them, and so are the counters and once cells; who is to store a note has taken its
-/// number, and who is to say that a function has run has begun to run it.
+/// Its contracts speak of the word, the row, the queues, the seats, the history, the clock, the notes, and the
+/// words of the counters and once cells. Between any two calls the law of the lock holds of them, which
+/// `ns_word` states: one writer or readers, as many as the word counts, the queues in one hand, each waiter
+/// placed, nobody forgotten, and one legal history by seats of this world. The clock and the notes are as a
+/// legal history by seats of this world leaves them, and so are the counters and once cells; who is to store a
+/// note has taken its number, and who is to say that a function has run has begun to run it.
 ///
 /// The queues are worked on in place, at the step that puts them back; only what is shown is a copy.
 #[derive(Drop)]
@@ -106,7 +105,7 @@ impl<C: Seated<N>, const N: usize> World<C, N> {
         requires { CallInRange N call }
         ensures lawful { IsLawfulWhole (whole_of C.means self.new) }
         ensures ok { IfOk result (λ begun. WholeBegins (whole_of C.means self.old) (whole_of C.means self.new) seat call begun) }
-        ensures err { IfErr result (λ fault. (whole_of C.means self.new ≡ whole_of C.means self.old) × BeginFault (now_of C.means self.old) seat fault) }
+        ensures err { IfErr result (λ fault. (whole_of C.means self.new ≡ whole_of C.means self.old) × BeginFault (whole_of C.means self.old) seat fault) }
     {
         let at = seat as usize;
         if at >= self.seats.len() {
@@ -165,7 +164,7 @@ impl<C: Seated<N>, const N: usize> World<C, N> {
     pub fn history(&self) -> &[Event<C, N>]
         ensures all { result.now ≡ self.now.history }
         ensures legal { IsLegal C.means.holds result.now }
-        ensures by_seats { IsBySeats (length (map view_of self.now.seats)) result.now }
+        ensures by_seats { IsBySeats (length self.now.seats) result.now }
     {
         self.history.as_slice()
     }
@@ -182,9 +181,9 @@ impl<C: Seated<N>, const N: usize> World<C, N> {
     /// notes, and of the counters and once cells.
     pub fn state(&self) -> State<N>
         ensures word { result.word ≡ self.now.word }
-        ensures lock { result.lock.items ≡ map shown_of (lists_shown (now_of C.means self.now)).lock }
-        ensures variables { map (λ list. list.items) result.cvs ≡ map (map shown_of) (lists_shown (now_of C.means self.now)).cvs }
-        ensures owed { result.owed.items ≡ wakes_owed (map view_of self.now.seats) }
+        ensures lock { result.lock.items ≡ map shown_of (lists_shown (whole_of C.means self.now)).lock }
+        ensures variables { map (λ list. list.items) result.cvs ≡ map (map shown_of) (lists_shown (whole_of C.means self.now)).cvs }
+        ensures owed { result.owed.items ≡ wakes_owed self.now.seats }
         ensures row { result.row ≡ self.now.row }
         ensures busy { (seat : ℕ) → is_in result.busy seat ≡ whole_busy (whole_of C.means self.now) seat }
         ensures lawful { IsLawfulWhole (whole_of C.means self.now) }
@@ -207,7 +206,7 @@ impl<C: Seated<N>, const N: usize> World<C, N> {
 
     /// How many seats there are.
     pub(crate) fn seats(&self) -> usize
-        ensures count { result ≡ length (map view_of self.now.seats) }
+        ensures count { result ≡ length self.now.seats }
         ensures few { result ≤ 64 }
     {
         self.seats.len()
@@ -216,8 +215,8 @@ impl<C: Seated<N>, const N: usize> World<C, N> {
     /// How many conditions the scan of the seat's call tested, of its last one where none is in
     /// progress.
     pub(crate) fn tests(&self, seat: u8) -> u32
-        requires { seat < length (map view_of self.now.seats) }
-        ensures { result ≡ slice_index (map (λ seat. seat.tests) self.now.seats) seat }
+        requires { seat < length self.now.seats }
+        ensures { result ≡ tests_at self.now.seats seat }
     {
         self.seats[seat as usize].tests
     }

@@ -1,4 +1,4 @@
-use Rattle.ns_counters.proofs.Prelude.{IsLow, Item, OnVariable, ap, arith, subst, sym, ◌∙◌}
+use Rattle.ns_counters.proofs.Prelude.{IsLow, OnVariable, ap, arith, subst, sym, ◌∙◌}
 use Rattle.ns_counters.proofs.Listed.{low_at}
 use Rattle.ns_counters.proofs.items.variables_in.Goals as goal
 

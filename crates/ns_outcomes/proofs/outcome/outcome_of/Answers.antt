@@ -7,7 +7,7 @@ unfolding outcome_text
 returns c =
     let world = whole_of script_truths c.args.world.now in
     let lines = c.args.lines.now in
-    two_parts (string_bytes c.new-out.result) (string_bytes c.push_threads.new.out) (string_bytes c.push_row.new.out) (flat_map (thread_text (whole_busy world) lines) (range_with_len 0 c.args.threads)) (row_text world.lock.state.row)
+    two_parts (string_bytes c.new-out.result) (string_bytes c.push_threads.new.out) (string_bytes c.push_row.new.out) (flat_map (thread_text (whole_busy world) lines) (range_with_len 0 c.args.threads)) (row_text world.row)
     c.new-out.ensures.bytes
     (rw (threads_same (is_in c.state-state.result.busy) (whole_busy world) lines c.args.threads c.state-state.ensures.busy) at c.in_ok-push_threads.ensures)
     (rw c.state-state.ensures.row at c.in_ok-push_row.ensures)

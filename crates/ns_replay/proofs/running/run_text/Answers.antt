@@ -11,9 +11,9 @@ returns c =
     let options = c.args.options in
     let lefts = lefts_text-same (is_in c.state-state.result.busy) (whole_busy world) lines (length c.as_slice-threads.result.now) c.state-state.ensures.busy in
     five_parts (string_bytes c.push_lines.new.out) (string_bytes c.push_lefts.new.out) (string_bytes c.push_row.new.out) (string_bytes c.push_history.new.out) (string_bytes c.push_state.new.out)
-    (lines_text options.tests threads lines) (lefts_text (whole_busy world) lines (length threads)) (row_text world.lock.state.row) (history_text options.history world.lock.history)
-    (state_text options.state c.args.script.now.cvs world.lock.state.word (map shown_of (lists_shown world.lock).lock) (map (map shown_of) (lists_shown world.lock).cvs)
-    (wakes_owed world.lock.state.views))
+    (lines_text options.tests threads lines) (lefts_text (whole_busy world) lines (length threads)) (row_text world.row) (history_text options.history world.history)
+    (state_text options.state c.args.script.now.cvs world.word (map shown_of (lists_shown world).lock) (map (map shown_of) (lists_shown world).cvs)
+    (wakes_owed world.seats))
     (rw (c.as_slice-threads.ensures.value, c.deref.ensures.value, c.new-out.ensures.bytes) at c.in_ok-push_lines.ensures)
     (rw (c.deref-2.ensures.value, lefts, c.as_slice-threads.ensures.value, ← length-map c.args.script.now.threads.items (λ calls. calls.items)) at c.in_ok-push_lefts.ensures)
     (rw c.state-state.ensures.row at c.in_ok-push_row.ensures)

@@ -1,4 +1,4 @@
-use Rattle.ns_word.proofs.Prelude.{Bool, Cause, InLeaving, InQueuing, Leave, LeavePlace, List, Lists, QueuePlace, Truths, Wait, WaitPlace, [], number, queues_fit, refl, row_fits, wait_hand, ℕ, ◌∙◌, ◌≡◌}
+use Rattle.ns_word.proofs.Prelude.{Bool, Cause, InLeaving, InQueuing, Leave, LeavePlace, List, Lists, QueuePlace, Truths, Wait, WaitPlace, [], number, queues_fit, refl, row_fits, wait_hand, ℕ, ◌≡◌}
 use Rattle.ns_word.proofs.hand.change_waiting.Goals as goal
 
 pub change_queuing-requires : goal.change_queuing-requires
@@ -8,13 +8,14 @@ pub returns-in-InQueuing : goal.returns-in-InQueuing
 returns-in-InQueuing g c = rw c.in-InQueuing.is c.change_queuing.ensures
 
 -- who leaves needs no row
-at_any_row : {C : Type 0} (truths : Truths C) (seat : ℕ) (wait : Wait C) (cause : Cause) (place : LeavePlace) (row : List ℕ) (lists : Lists C) → wait_hand truths seat wait (InLeaving cause place) [] lists ≡ wait_hand truths seat wait (InLeaving cause place) row lists
-at_any_row truths seat wait cause (Leave last) row lists = refl
-at_any_row truths seat wait cause other row lists = refl
+at_any_row : {C : Type 0} (truths : Truths C) (seat : ℕ) (wait : Wait C) (cause : Cause) (place : LeavePlace) (row : List ℕ) (lists left : Lists C) →
+    left ≡ wait_hand truths seat wait (InLeaving cause place) [] lists → left ≡ wait_hand truths seat wait (InLeaving cause place) row lists
+at_any_row truths seat wait cause (Leave last) row lists left e = e
+at_any_row truths seat wait cause other row lists left e = e
 
 pub returns-in-InLeaving : goal.returns-in-InLeaving
 returns-in-InLeaving g c = let here = c.in-InLeaving in
-    rw here.is (c.change_leaving.ensures ∙ at_any_row g.C.Condition.means c.args.seat c.args.wait here.cause here.place c.args.row.now c.args.queues.now)
+    rw here.is (at_any_row g.C.Condition.means c.args.seat c.args.wait here.cause here.place c.args.row.now c.args.queues.now _ c.change_leaving.ensures)
 
 pub change_leaving-requires : goal.change_leaving-requires
 change_leaving-requires g c = queues_fit g.row.C (number g.row.N) g.met.C.Condition.has_room g.C.Condition

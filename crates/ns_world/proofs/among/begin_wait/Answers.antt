@@ -1,9 +1,5 @@
-use Rattle.std.proofs.lemmas.Bool.{false≢true}
-use Rattle.std.proofs.Common.{sym, ap, ◌∙◌}
-use Rattle.ns_world.specs.Prelude.{OnLock, items_of, mode_of, mode_waited, placed, wait_first, waits_for_any}
-use Rattle.ns_word.proofs.Enters.{are_some}
+use Rattle.ns_world.proofs.Prelude.{OnLock, ap, are_some, false≢true, items_of, low_if_among, mode_of, mode_waited, placed, some_among, sym, wait_first, waits_for_any, ◌∙◌}
 use Rattle.ns_world.proofs.among.begin_wait.Goals as goal
-use Rattle.ns_world.proofs.Below.{low_if_among, some_among}
 
 pub returns : goal.returns
 returns g c =

@@ -1,4 +1,4 @@
-use Rattle.std.proofs.lemmas.Bool.{false≢true}
+use Rattle.ns_world.proofs.Prelude.{false≢true}
 use Rattle.ns_world.proofs.among.end_look.Goals as goal
 
 pub cause_of-requires : goal.cause_of-requires

@@ -1,5 +1,4 @@
-use Rattle.std.proofs.Common.{◌≡◌, ℕ, None, refl}
-use Rattle.ns_world.specs.Prelude.{CanTell, InRound, ObjectWalk, Round, RoundPlace, Seat}
+use Rattle.ns_world.proofs.Prelude.{CanTell, InRound, None, ObjectWalk, Round, RoundPlace, Seat, refl, ℕ, ◌≡◌}
 use Rattle.ns_world.proofs.among.go_to_lock.Goals as goal
 
 -- what goes to the lock is a round

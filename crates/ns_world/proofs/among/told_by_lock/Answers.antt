@@ -1,6 +1,4 @@
-use Rattle.std.proofs.Common.{◌≡◌, refl, ap, sym, ◌∙◌}
-use Rattle.ns_world.specs.Prelude.{AnyWait, Finished, Reply, Step, step_told, waited_seat}
-use Rattle.ns_world.specs.declared.step.Step.TheVariants.{Went}
+use Rattle.ns_world.proofs.Prelude.{AnyWait, Finished, Reply, Step, Went, ap, refl, step_told, sym, waited_seat, ◌∙◌, ◌≡◌}
 use Rattle.ns_world.proofs.among.told_by_lock.Goals.{in-None, in-Some-walk}
 use Rattle.ns_world.proofs.among.told_by_lock.Goals as goal
 

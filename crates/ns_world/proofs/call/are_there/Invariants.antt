@@ -1,6 +1,4 @@
-use Rattle.std.proofs.Common.{◌≡◌, true, take}
-use Rattle.std.specs.List.{list_all}
-use Rattle.ns_world.specs.Prelude.{is_there, items_of, note_at}
+use Rattle.ns_world.proofs.Prelude.{is_there, items_of, list_all, note_at, take, true, ◌≡◌}
 use Rattle.ns_world.proofs.call.are_there.Given as goal
 
 -- there is each of those so far

@@ -1,4 +1,4 @@
-use Rattle.std.proofs.Common.{refl, sym}
+use Rattle.ns_world.proofs.Prelude.{refl, sym}
 use Rattle.ns_world.proofs.exchanges.acquire.Goals as goal
 
 pub returns-then-not-unchanged : goal.returns-then-not-unchanged

@@ -1,5 +1,4 @@
-use Rattle.std.proofs.lemmas.Bool.{false≢true}
-use Rattle.std.proofs.Common.{refl}
+use Rattle.ns_world.proofs.Prelude.{false≢true, refl}
 use Rattle.ns_world.proofs.exchanges.commit.Goals as goal
 
 pub entry-requires : goal.entry-requires

@@ -1,7 +1,4 @@
-use Rattle.std.proofs.Common.{◌≡◌, ℕ, List, ◌++◌, false, rules, ap, sym, ◌∙◌, nat_lt, sum_by}
-use Rattle.ns_world.proofs.Below.{append-nil}
-use Rattle.ns_word.specs.Names.{Variables}
-use Rattle.ns_world.specs.Prelude.{AtVariables, Event, Home, Lists, leave_of, stands_at, times_in}
+use Rattle.ns_world.proofs.Prelude.{AtVariables, Event, Home, List, Lists, Variables, ap, append-nil, false, leave_of, nat_lt, rules, stands_at, sum_by, sym, times_in, ℕ, ◌++◌, ◌∙◌, ◌≡◌}
 use Rattle.ns_world.proofs.Exchanged.{not_leaving}
 use Rattle.ns_world.proofs.exchanges.commit_leave.Goals as goal
 

@@ -1,4 +1,4 @@
-use Rattle.std.proofs.Common.{refl}
+use Rattle.ns_world.proofs.Prelude.{refl}
 use Rattle.ns_world.proofs.Exchanged.{none_more, on_both}
 use Rattle.ns_world.proofs.exchanges.leave_section.Goals as goal
 

@@ -1,4 +1,4 @@
-use Rattle.std.proofs.Common.{refl}
+use Rattle.ns_world.proofs.Prelude.{refl}
 use Rattle.ns_world.proofs.Exchanged.{can_some, made, released}
 use Rattle.ns_world.proofs.exchanges.release.Goals as goal
 

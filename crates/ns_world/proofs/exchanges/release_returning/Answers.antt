@@ -1,6 +1,4 @@
-use Rattle.std.proofs.Common.{ap, arith, not, refl, rules, sym, ◌∙◌}
-use Rattle.ns_world.proofs.Below.{are_called, as_many, err_from_is_err_and, some_called}
-use Rattle.ns_world.specs.Prelude.{called_by}
+use Rattle.ns_world.proofs.Prelude.{ap, are_called, arith, as_many, called_by, err_from_is_err_and, not, refl, rules, some_called, sym, ◌∙◌}
 use Rattle.ns_world.proofs.Exchanged.{can_some, made, scanned, some_left}
 use Rattle.ns_world.proofs.exchanges.release_returning.Goals as goal
 

@@ -1,5 +1,4 @@
-use Rattle.std.proofs.Common.{refl}
-use Rattle.ns_world.proofs.Below.{err_from_is_err_and}
+use Rattle.ns_world.proofs.Prelude.{err_from_is_err_and, refl}
 use Rattle.ns_world.proofs.Exchanged.{left_back}
 use Rattle.ns_world.proofs.exchanges.return_left.Goals as goal
 
@@ -12,7 +11,7 @@ pub returns-in_err-commit_leave : goal.returns-in_err-commit_leave
 returns-in_err-commit_leave g c =
     let p = err_from_is_err_and c.from_residual.result c.from_residual.ensures.1 in
     let err = c.in_err-commit_leave.ensures in
-    rw p.1 (err.0, c.requires, refl, refl, err.1)
+    rw p.1 (err.0, refl, refl, err.1)
 
 pub commit_leave-requires : goal.commit_leave-requires
 commit_leave-requires g c = (g.met.C.Seated.queues_fit, g.met.C.Fits.event_fits)

@@ -1,4 +1,4 @@
-use Rattle.std.proofs.Common.{[], refl, sym}
+use Rattle.ns_world.proofs.Prelude.{[], refl, sym}
 use Rattle.ns_world.proofs.Exchanged.{made, on_both}
 use Rattle.ns_world.proofs.exchanges.return_queues.Goals as goal
 
@@ -21,10 +21,10 @@ pub returns-in-QueueSelf : goal.returns-in-QueueSelf
 returns-in-QueueSelf g c = rw c.in-QueueSelf.is (λ row flags. made _ (c.return_queued.ensures row flags c.args.seat.now.owed.items c.args.seat.now.held), refl)
 
 pub returns-in-LeaveSelf : goal.returns-in-LeaveSelf
-returns-in-LeaveSelf g c = rw c.in-LeaveSelf.is (on_both c.return_left.result (λ found p. (λ row flags. p row flags c.args.seat.now.owed.items c.args.seat.now.held, refl)) (λ p. (p.0, p.1, p.2, p.3, refl, p.4)) c.return_left.ensures)
+returns-in-LeaveSelf g c = rw c.in-LeaveSelf.is (on_both c.return_left.result (λ found p. (λ row flags. p row flags c.args.seat.now.owed.items c.args.seat.now.held, refl)) (λ p. (p.0, sym (c.if-not-is_same.ensures.same refl), p.1, p.2, refl, p.3)) c.return_left.ensures)
 
 pub returns-in-WakeWaiters : goal.returns-in-WakeWaiters
-returns-in-WakeWaiters g c = rw c.in-WakeWaiters.is (on_both c.return_waking.result (λ found p. p) (λ p. (tt, p.0, p.1, p.2, p.3, p.4)) c.return_waking.ensures)
+returns-in-WakeWaiters g c = rw c.in-WakeWaiters.is (on_both c.return_waking.result (λ found p. p) (λ p. (tt, sym (c.if-not-is_same.ensures.same refl), p.0, p.1, p.2, p.3)) c.return_waking.ensures)
 
 pub returns-in-Nothing : goal.returns-in-Nothing
 returns-in-Nothing g c = rw c.in-Nothing.is (λ row flags. made _ (c.return_unchanged.ensures c.args.seat.now.number row flags c.args.seat.now.owed.items c.args.seat.now.held), refl)

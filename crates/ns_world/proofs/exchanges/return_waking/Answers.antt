@@ -1,8 +1,5 @@
-use Rattle.std.proofs.Common.{ap, not, refl, ◌∙◌}
-use Rattle.ns_world.proofs.Below.{err_from_is_err_and}
-use Rattle.ns_world.specs.Prelude.{has_some}
+use Rattle.ns_world.proofs.Prelude.{ap, err_from_is_err_and, has_some, list_small, not, refl, ◌∙◌}
 use Rattle.ns_world.proofs.Exchanged.{some_left, woken_back}
-use Rattle.ns_queue.proofs.Orders.{list_small}
 use Rattle.ns_world.proofs.exchanges.return_waking.Goals as goal
 
 pub returns : goal.returns
@@ -18,7 +15,7 @@ returns g c = (
 pub returns-in_err-commit_wake : goal.returns-in_err-commit_wake
 returns-in_err-commit_wake g c =
     let p = err_from_is_err_and c.from_residual.result c.from_residual.ensures.1 in
-    rw p.1 (c.requires.same, refl, refl, refl, c.in_err-commit_wake.ensures)
+    rw p.1 (refl, refl, refl, c.in_err-commit_wake.ensures)
 
 pub bits-requires : goal.bits-requires
 bits-requires g c = g.met.C.Seated.queues_fit

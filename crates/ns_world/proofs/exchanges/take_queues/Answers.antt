@@ -1,4 +1,4 @@
-use Rattle.std.proofs.Common.{refl, sym}
+use Rattle.ns_world.proofs.Prelude.{refl, sym}
 use Rattle.ns_world.proofs.exchanges.take_queues.Goals as goal
 
 pub returns-then-not-is_same : goal.returns-then-not-is_same

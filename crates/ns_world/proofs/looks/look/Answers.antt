@@ -1,5 +1,4 @@
-use Rattle.std.proofs.Common.{Some, refl, sym, ◌∙◌, subst}
-use Rattle.ns_world.specs.Prelude.{SeatLooks, Went, env_want_of, outcome, plain_of}
+use Rattle.ns_world.proofs.Prelude.{SeatLooks, Some, Went, env_want_of, outcome, plain_of, refl, subst, sym, ◌∙◌}
 use Rattle.ns_world.proofs.Looking.{look_effect, look_leads, LookLeads}
 use Rattle.ns_world.proofs.looks.look.Goals as goal
 

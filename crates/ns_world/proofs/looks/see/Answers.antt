@@ -1,5 +1,4 @@
-use Rattle.std.proofs.Common.{ap, ◌∙◌}
-use Rattle.ns_world.specs.Prelude.{step_of}
+use Rattle.ns_world.proofs.Prelude.{ap, step_of, ◌∙◌}
 use Rattle.ns_world.proofs.looks.see.Goals as goal
 
 pub settle-requires : goal.settle-requires

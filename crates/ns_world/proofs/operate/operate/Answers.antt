@@ -1,5 +1,4 @@
-use Rattle.std.proofs.Common.{Some, refl, ap, ◌∙◌}
-use Rattle.ns_world.specs.Prelude.{object_place, object_step_of}
+use Rattle.ns_world.proofs.Prelude.{Some, ap, object_place, object_step_of, refl, ◌∙◌}
 use Rattle.ns_world.proofs.operate.operate.Goals as goal
 
 pub returns : goal.returns

@@ -1,8 +1,6 @@
-use Rattle.std.proofs.Common.{[], refl, ap, sym, ◌∙◌, slice_set}
-use Rattle.ns_world.specs.Prelude.{word_at}
+use Rattle.ns_world.proofs.Prelude.{[], ap, left_is, refl, slice_set, sym, word_at, ◌∙◌}
 use Rattle.ns_counters.specs.Steps.{outcome}
 use Rattle.ns_world.proofs.operate.perform.Goals as goal
-use Rattle.ns_world.proofs.Below.{left_is}
 
 pub returns-in-OnWord-clause-effect : goal.returns-in-OnWord-clause-effect
 returns-in-OnWord-clause-effect c = rw c.in-OnWord.is (λ seat place.

@@ -1,4 +1,4 @@
-use Rattle.std.proofs.Common.{refl}
+use Rattle.ns_world.proofs.Prelude.{refl}
 use Rattle.ns_world.proofs.perform.go_to.Goals as goal
 use Rattle.ns_world.proofs.perform.go_to.Goals.{then-waits_among, else-waits_among}
 

@@ -1,4 +1,4 @@
-use Rattle.std.proofs.Common.{refl}
+use Rattle.ns_world.proofs.Prelude.{refl}
 use Rattle.ns_world.proofs.perform.judge.Goals as goal
 
 pub returns : goal.returns

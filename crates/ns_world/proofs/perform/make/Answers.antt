@@ -1,6 +1,4 @@
-use Rattle.ns_queue.specs.Sizes.{row_fits}
-use denote.Param.{number}
-use Rattle.std.proofs.Common.{refl}
+use Rattle.ns_world.proofs.Prelude.{number, refl, row_fits}
 use Rattle.ns_world.proofs.Exchanged.{can_in_range, fits_there, made, on_both}
 use Rattle.ns_world.proofs.perform.make.Goals as goal
 

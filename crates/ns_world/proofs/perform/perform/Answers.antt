@@ -1,5 +1,4 @@
-use Rattle.std.proofs.Common.{arith, ap, ◌∙◌}
-use Rattle.ns_world.specs.Prelude.{Seat, look_of, step_of, tests_after, walk_after}
+use Rattle.ns_world.proofs.Prelude.{Seat, ap, arith, look_of, step_of, tests_after, walk_after, ◌∙◌}
 use Rattle.ns_world.proofs.perform.perform.Goals as goal
 
 pub make-requires : goal.make-requires

@@ -1,4 +1,4 @@
-use Rattle.std.proofs.Common.{refl}
+use Rattle.ns_world.proofs.Prelude.{refl}
 use Rattle.ns_world.proofs.perform.settle.Goals as goal
 
 pub go_to-requires : goal.go_to-requires

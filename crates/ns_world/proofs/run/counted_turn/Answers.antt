@@ -1,9 +1,5 @@
-use Rattle.std.specs.Prelude.{◌<◌, ◌≤◌}
-use denote.Param.{number}
+use Rattle.ns_world.proofs.Prelude.{Call, Global, IsCounted, Progress, Vec, arith, err_from_is_err_and, map, number, progress, progressed, refl, subst, sym, whole_of, ◌<◌, ◌≤◌}
 use Rattle.ns_world.proofs.Sizes.{among_as_many, world_fits}
-use Rattle.std.proofs.Common.{arith, refl, sym, map, subst, Vec, Global}
-use Rattle.ns_world.proofs.Below.{err_from_is_err_and}
-use Rattle.ns_world.specs.Prelude.{Call, IsCounted, Progress, progress, progressed, whole_of}
 use Rattle.ns_world.proofs.Schedules.{stops_now, turn_stops, untold_stops}
 use Rattle.ns_world.proofs.Counted.{turn_counted, calls_fit, counts_progress}
 use Rattle.ns_world.proofs.Turns.{seats_stay, progressed_world}
@@ -38,20 +34,18 @@ returns-in_err-count-clause-err g c =
 
 pub returns-clause-ok : goal.returns-clause-ok
 returns-clause-ok g c =
-    let counted = counts_progress (whole_of g.C.Condition.means c.args.world.now) (whole_of g.C.Condition.means c.next_turn.new.world) c.args.tally.now.over c.count.new.tally.over c.args.tally.now.lines.items c.count.new.tally.lines.items c.args.seat c.tests.result c.in_ok-step.step
-    c.tests.ensures c.in_ok-count.ensures.ok in
-    rw counted (c.in_ok-step.ensures.ok _ c.args.tally.now.over c.args.tally.now.lines.items refl)
-
-pub returns-clause-counted : goal.returns-clause-counted
-returns-clause-counted g c =
     let before = progress (whole_of g.C.Condition.means c.args.world.now) c.args.tally.now.over c.args.tally.now.lines.items in
     let counted = counts_progress (whole_of g.C.Condition.means c.args.world.now) (whole_of g.C.Condition.means c.next_turn.new.world) c.args.tally.now.over c.count.new.tally.over c.args.tally.now.lines.items c.count.new.tally.lines.items c.args.seat c.tests.result c.in_ok-step.step
     c.tests.ensures c.in_ok-count.ensures.ok in
     let calls = map (λ (calls : Vec (Call _) Global). calls.items) c.args.lists.now in
     let turn = c.in_ok-step.ensures.ok calls c.args.tally.now.over c.args.tally.now.lines.items refl in
     let few = (calls_fit g.row.N c.args.lists.now c.args.seat c.requires.lists).0 in
-    subst (λ (q : Progress _ _). IsCounted q.world q.over) (sym counted)
-    (turn_counted calls before (progressed before c.args.seat c.in_ok-step.step (whole_of g.C.Condition.means c.next_turn.new.world)) c.args.seat c.in_ok-step.step few (omega arith) turn c.requires.counted)
+    record {
+      turn = rw counted turn;
+      counted = subst (λ (q : Progress _ _). IsCounted q.world q.over) (sym counted)
+          (turn_counted calls before (progressed before c.args.seat c.in_ok-step.step (whole_of g.C.Condition.means c.next_turn.new.world)) c.args.seat c.in_ok-step.step few (omega arith) turn c.requires.counted);
+      turns = (let turns = c.count.ensures.turns in let within = c.requires.turns in let other = c.if-tally-limit.false in (turns, omega (arith, turns, within, other)));
+    }
 
 pub count-requires-clause-over : goal.count-requires-clause-over
 count-requires-clause-over g c = let most = c.requires.counted.most c.args.seat in omega (arith, most)
@@ -62,29 +56,14 @@ count-requires-clause-seat g c = let few = c.seats.ensures.few in let below = c.
 pub count-requires-clause-turns : goal.count-requires-clause-turns
 count-requires-clause-turns g c = let within = c.requires.turns in let other = c.if-tally-limit.false in let fits = c.ranges.limit.fits in omega (arith, within, other, fits)
 
-pub returns-clause-turns : goal.returns-clause-turns
-returns-clause-turns g c = let turns = c.count.ensures.turns in let within = c.requires.turns in let other = c.if-tally-limit.false in (turns, omega (arith, turns, within, other))
-
 pub returns-clause-err : goal.returns-clause-err
 returns-clause-err g c = tt
 
 pub returns-in_err-step-clause-ok : goal.returns-in_err-step-clause-ok
 returns-in_err-step-clause-ok g c = let p = err_from_is_err_and c.from_residual.result c.from_residual.ensures.1 in rw p.1 tt
 
-pub returns-in_err-step-clause-counted : goal.returns-in_err-step-clause-counted
-returns-in_err-step-clause-counted g c = let p = err_from_is_err_and c.from_residual.result c.from_residual.ensures.1 in rw p.1 tt
-
-pub returns-in_err-step-clause-turns : goal.returns-in_err-step-clause-turns
-returns-in_err-step-clause-turns g c = let p = err_from_is_err_and c.from_residual.result c.from_residual.ensures.1 in rw p.1 tt
-
 pub returns-in_err-count-clause-ok : goal.returns-in_err-count-clause-ok
 returns-in_err-count-clause-ok g c = let p = err_from_is_err_and c.from_residual-in_err-count.result c.from_residual-in_err-count.ensures.1 in rw p.1 tt
-
-pub returns-in_err-count-clause-counted : goal.returns-in_err-count-clause-counted
-returns-in_err-count-clause-counted g c = let p = err_from_is_err_and c.from_residual-in_err-count.result c.from_residual-in_err-count.ensures.1 in rw p.1 tt
-
-pub returns-in_err-count-clause-turns : goal.returns-in_err-count-clause-turns
-returns-in_err-count-clause-turns g c = let p = err_from_is_err_and c.from_residual-in_err-count.result c.from_residual-in_err-count.ensures.1 in rw p.1 tt
 
 pub seats-requires : goal.seats-requires
 seats-requires g c = world_fits g.row.C (number g.row.N) g.met.C.Condition.has_room g.C.Condition
@@ -92,20 +71,8 @@ seats-requires g c = world_fits g.row.C (number g.row.N) g.met.C.Condition.has_r
 pub returns-then-seat-seats-clause-ok : goal.returns-then-seat-seats-clause-ok
 returns-then-seat-seats-clause-ok g c = tt
 
-pub returns-then-seat-seats-clause-counted : goal.returns-then-seat-seats-clause-counted
-returns-then-seat-seats-clause-counted g c = tt
-
-pub returns-then-seat-seats-clause-turns : goal.returns-then-seat-seats-clause-turns
-returns-then-seat-seats-clause-turns g c = tt
-
 pub returns-then-tally-limit-clause-ok : goal.returns-then-tally-limit-clause-ok
 returns-then-tally-limit-clause-ok g c = tt
-
-pub returns-then-tally-limit-clause-counted : goal.returns-then-tally-limit-clause-counted
-returns-then-tally-limit-clause-counted g c = tt
-
-pub returns-then-tally-limit-clause-turns : goal.returns-then-tally-limit-clause-turns
-returns-then-tally-limit-clause-turns g c = tt
 
 pub bounds-tally-seat : goal.bounds-tally-seat
 bounds-tally-seat g c = let few = c.seats.ensures.few in let below = c.if-seat-seats.false in omega (arith, few, below)

@@ -1,5 +1,4 @@
-use Rattle.std.proofs.Common.{[], map, take}
-use Rattle.ns_world.specs.Prelude.{Advances, IsCounted, progress, whole_of}
+use Rattle.ns_world.proofs.Prelude.{Advances, IsCounted, [], map, progress, take, whole_of}
 use Rattle.ns_world.specs.Runs.{items_of}
 use Rattle.ns_world.proofs.run.follow.Given as goal
 

@@ -1,7 +1,5 @@
-use denote.Param.{number}
+use Rattle.ns_world.proofs.Prelude.{err_from_is_err_and, number, sym, ◌∙◌}
 use Rattle.ns_world.proofs.Sizes.{world_fits}
-use Rattle.std.proofs.Common.{sym, ◌∙◌}
-use Rattle.ns_world.proofs.Below.{err_from_is_err_and}
 use Rattle.ns_world.proofs.Schedules.{advance_none, advance_item, stops_behind}
 use Rattle.ns_world.proofs.run.item.Goals as goal
 
@@ -19,13 +17,13 @@ returns-in_err-step-clause-err g c =
 
 pub returns-then-is_end-clause-ok : goal.returns-then-is_end-clause-ok
 returns-then-is_end-clause-ok g c =
-    advance_item c.in_ok-step.step c.loop-step.invariant.advances c.in_ok-step.ensures.ok (sym c.if-is_end.true ∙ c.is_end.ensures) c.in_ok-step.ensures.turns
+    advance_item c.in_ok-step.step c.loop-step.invariant.advances c.in_ok-step.ensures.ok.turn (sym c.if-is_end.true ∙ c.is_end.ensures) c.in_ok-step.ensures.ok.turns
 
 pub loop-step-preserved : goal.loop-step-preserved
 loop-step-preserved g c =
     record {
-      advances = advance_item c.in_ok-step.step c.loop-step.invariant.advances c.in_ok-step.ensures.ok (sym c.if-is_end.false ∙ c.is_end.ensures) c.in_ok-step.ensures.turns;
-      counted = c.in_ok-step.ensures.counted;
+      advances = advance_item c.in_ok-step.step c.loop-step.invariant.advances c.in_ok-step.ensures.ok.turn (sym c.if-is_end.false ∙ c.is_end.ensures) c.in_ok-step.ensures.ok.turns;
+      counted = c.in_ok-step.ensures.ok.counted;
     }
 
 pub counted_turn-requires : goal.counted_turn-requires
@@ -41,7 +39,7 @@ pub returns-in_err-step-clause-ok : goal.returns-in_err-step-clause-ok
 returns-in_err-step-clause-ok g c = let p = err_from_is_err_and c.from_residual.result c.from_residual.ensures.1 in rw p.1 tt
 
 pub returns-then-is_end-clause-counted : goal.returns-then-is_end-clause-counted
-returns-then-is_end-clause-counted g c = c.in_ok-step.ensures.counted
+returns-then-is_end-clause-counted g c = c.in_ok-step.ensures.ok.counted
 
 pub returns-then-is_end-clause-err : goal.returns-then-is_end-clause-err
 returns-then-is_end-clause-err g c = tt

@@ -1,9 +1,5 @@
-use Rattle.ns_world.proofs.Below.{err_from_is_err_and}
-use denote.Param.{number}
+use Rattle.ns_world.proofs.Prelude.{CallInRange, IfSome, err_from_is_err_and, number, subst, sym, whole_of, ◌∙◌}
 use Rattle.ns_world.proofs.Sizes.{world_fits}
-use Rattle.std.proofs.Common.{subst, sym, ◌∙◌}
-use Rattle.std.specs.Prelude.{IfSome}
-use Rattle.ns_world.specs.Prelude.{CallInRange, whole_of}
 use Rattle.ns_world.proofs.Counted.{calls_fit, next_fits}
 use Rattle.ns_world.proofs.Turns.{nothing_moved, turns_going, turns_without}
 use Rattle.ns_world.proofs.run.next_turn.Goals as goal

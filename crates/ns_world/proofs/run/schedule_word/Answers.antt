@@ -1,7 +1,5 @@
-use denote.Param.{number}
+use Rattle.ns_world.proofs.Prelude.{append-nil, arith, err_from_is_err_and, number, ◌≡◌}
 use Rattle.ns_world.proofs.Sizes.{world_fits}
-use Rattle.std.proofs.Common.{arith, ◌≡◌}
-use Rattle.ns_world.proofs.Below.{append-nil, err_from_is_err_and}
 use Rattle.ns_world.proofs.Schedules.{advance_none, advance_again, stops_again}
 use Rattle.ns_world.proofs.run.schedule_word.Goals as goal
 

@@ -1,5 +1,4 @@
-use Rattle.std.proofs.Common.{[], map, replicate}
-use Rattle.ns_world.specs.Prelude.{Advances, IsCounted, progress, whole_of}
+use Rattle.ns_world.proofs.Prelude.{Advances, IsCounted, [], map, progress, replicate, whole_of}
 use Rattle.ns_world.proofs.run.schedule_word.Given as goal
 
 -- the items so far

@@ -1,7 +1,5 @@
-use denote.Param.{number}
+use Rattle.ns_world.proofs.Prelude.{err_from_is_err_and, number, whole_of}
 use Rattle.ns_world.proofs.Sizes.{world_fits}
-use Rattle.ns_world.proofs.Below.{err_from_is_err_and}
-use Rattle.ns_world.specs.Prelude.{whole_of}
 use Rattle.ns_world.proofs.Turns.{map_ok, map_err, turns_without, turns_started, turns_busy, started_steps}
 use Rattle.ns_world.proofs.run.turn.Goals as goal
 

@@ -1,25 +1,26 @@
 use Rattle.ns_world.proofs.Sizes.{less_left}
-use Rattle.std.proofs.Common.{◌≤◌, length, refl, sym, ◌∙◌, arith}
-use Rattle.ns_world.specs.Prelude.{is_in}
+use Rattle.ns_world.proofs.Prelude.{ap, arith, false, in_call, is_in, length, option_map_or, refl, slice_get, slice_get_past, sym, ℕ, ◌∙◌, ◌≤◌}
 use Rattle.ns_world.proofs.Mapped.{found_at}
-use Rattle.ns_world.proofs.Busy.{first_all, first_with, first_without, in_call, in_call_here, in_no_call}
+use Rattle.ns_world.proofs.Busy.{first_all, first_with, first_without}
 use Rattle.ns_world.proofs.seats.busy_seats.Goals.{then-is_busy, else-is_busy}
 use Rattle.ns_world.proofs.seats.busy_seats.Goals as goal
 
 pub loop-at-preserved : goal.loop-at-preserved
 loop-at-preserved g c =
-    let here = in_call_here c.args.seats.now c.loop-at.at c.index-seats-at.result (found_at c.args.seats.now c.loop-at.at c.index-seats-at.result c.loop-at-test.true refl c.index-seats-at.is) in
+    let seats = c.args.seats.now in
+    let here = ap (λ o. option_map_or in_call o false) (found_at seats c.loop-at.at c.index-seats-at.result c.loop-at-test.true refl c.index-seats-at.is) in
+    let so = λ (n : ℕ). option_map_or in_call (slice_get seats n) false in
     elim c.if-is_busy.branch [
-      | then-is_busy w ↦ rw w.busy-is (first_with (in_call c.args.seats.now) (λ n. is_in c.loop-at.busy n) (λ n. is_in w.with-busy.result n) c.loop-at.at w.with-busy.ensures
+      | then-is_busy w ↦ rw w.busy-is (first_with so (λ n. is_in c.loop-at.busy n) (λ n. is_in w.with-busy.result n) c.loop-at.at w.with-busy.ensures
           (here ∙ sym c.is_busy.ensures ∙ w.if-is_busy.true) c.loop-at.invariant)
-      | else-is_busy w ↦ rw w.busy-is (first_without (in_call c.args.seats.now) (λ n. is_in c.loop-at.busy n) c.loop-at.at (here ∙ sym c.is_busy.ensures ∙ w.if-is_busy.false) c.loop-at.invariant)
+      | else-is_busy w ↦ rw w.busy-is (first_without so (λ n. is_in c.loop-at.busy n) c.loop-at.at (here ∙ sym c.is_busy.ensures ∙ w.if-is_busy.false) c.loop-at.invariant)
     ]
 
 pub returns : goal.returns
 returns g c = λ number.
     let seats = c.args.seats.now in
     let all : length seats ≤ c.loop-at.at = omega arith in
-    first_all (in_call seats) (λ n. is_in c.loop-at.busy n) c.loop-at.at (length seats) number all c.loop-at.invariant (in_no_call seats number)
+    first_all (λ n. option_map_or in_call (slice_get seats n) false) (λ n. is_in c.loop-at.busy n) c.loop-at.at (length seats) number all c.loop-at.invariant (λ past. ap (λ o. option_map_or in_call o false) (slice_get_past seats number past))
 
 pub loop-at-init : goal.loop-at-init
 loop-at-init g c = λ number. (λ below. absurd (omega (arith, below)), λ past. c.none-busy.ensures number)

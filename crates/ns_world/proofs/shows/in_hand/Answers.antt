@@ -1,4 +1,4 @@
-use Rattle.std.proofs.Common.{arith}
+use Rattle.ns_world.proofs.Prelude.{arith}
 use Rattle.ns_world.proofs.shows.in_hand.Goals as goal
 
 pub change_in_hand-requires : goal.change_in_hand-requires

@@ -1,6 +1,4 @@
-use Rattle.std.proofs.Common.{◌≡◌, ◌+◌, suc, Some, ap, sym, ◌∙◌, arith}
-use Rattle.std.specs.Prelude.{slice_get}
-use Rattle.ns_world.proofs.Below.{slice_get-get_or}
+use Rattle.ns_world.proofs.Prelude.{Some, ap, arith, slice_get, slice_get-get_or, suc, sym, ◌+◌, ◌∙◌, ◌≡◌}
 use Rattle.ns_world.proofs.Showing.{queues_here, queues_later, none_left}
 use Rattle.ns_world.proofs.shows.shown_queues.Goals as goal
 

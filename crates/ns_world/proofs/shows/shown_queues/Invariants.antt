@@ -1,9 +1,8 @@
-use Rattle.std.proofs.Common.{◌≡◌, drop, map}
-use Rattle.ns_world.specs.Prelude.{lists_by, view_of}
+use Rattle.ns_world.proofs.Prelude.{drop, lists_by, ◌≡◌}
 use Rattle.ns_world.proofs.shows.shown_queues.Given as goal
 
 -- none of those before has the queues
 abbrev pub invariant-loop-seat : goal.invariant-loop-seat
 invariant-loop-seat g l =
-    lists_by g.C.Condition.means l.row l.queues (map view_of (drop l.seat-index l.seats))
-    ≡ lists_by g.C.Condition.means l.row l.queues (map view_of l.seats)
+    lists_by g.C.Condition.means l.row l.queues (drop l.seat-index l.seats)
+    ≡ lists_by g.C.Condition.means l.row l.queues l.seats

@@ -11,7 +11,8 @@ loop-init g c = (tt, tt, refl, since_itself (the c.args.seat.now.me.0), g.W.Watc
 pub queue_to_wait-requires : goal.queue_to_wait-requires
 queue_to_wait-requires g c = let inv = c.loop.invariant in
     let number = same_number g.C.Condition.means None c.args.number c.args.seat.now.me c.loop.seat.me c.requires.number inv.3 in
-    (omega arith, (omega arith, (omega arith, (omega (arith, g.met.C.Condition.has_cells), (◌∙◌ {A = TableId} inv.2 c.requires.of, (number, (in_range c.args.wait.on c.in-OnCondition.condition c.in-OnCondition.is, (inv.5, has_row c.args.wait.on c.in-OnCondition.condition c.loop.row _ c.in-OnCondition.is inv.6))))))))
+    let range = in_range c.args.wait.on c.in-OnCondition.condition c.in-OnCondition.is in
+    (omega arith, (omega arith, (omega arith, (omega (arith, g.met.C.Condition.has_cells), (◌∙◌ {A = TableId} inv.2 c.requires.of, (number, (range, (inv.5, has_row c.args.wait.on c.in-OnCondition.condition c.loop.row _ c.in-OnCondition.is inv.6))))))))
 
 pub come_back-outcome-requires : goal.come_back-outcome-requires
 come_back-outcome-requires g c = let inv = c.loop.invariant in let me = c.queue_to_wait.new.seat.me in

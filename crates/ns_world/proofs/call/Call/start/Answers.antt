@@ -1,7 +1,5 @@
-use Rattle.std.proofs.Common.{◌≡◌, ℕ, ◌<◌, nat_lt, Bool, true, false, not, ◌||◌, ◌&&◌, Option, Some, None, IsSome, is_some, refl, ap, sym, ◌∙◌, subst}
-use Rattle.std.specs.List.{list_all}
-use Rattle.ns_world.proofs.Below.{first_of_all, lower, ltb-true, none_among, rest_of_all, some_among}
-use Rattle.ns_world.specs.Prelude.{Add, Call, CallFits, CallInRange, CounterWait, Done, Items, Mode, NamesAll, NoteStanding, ObjectWalk, OnObjects, Once, Setup, Value, WaitAny, finds, have_variable, is_among, is_there, items_of, note_at, object_start, start_of}
+use Rattle.ns_world.proofs.Prelude.{Add, Bool, Call, CallFits, CallInRange, CounterWait, Done, IsSome, Items, Mode, NamesAll, None, NoteStanding, ObjectWalk, OnObjects, Once, Option, Setup, Some, Value, WaitAny, ap, false, finds, first_of_all, have_variable, is_among, is_some, is_there, items_of}
+use Rattle.ns_world.proofs.Prelude.{list_all, lower, ltb-true, nat_lt, none_among, not, note_at, object_start, refl, rest_of_all, some_among, start_of, subst, sym, true, ℕ, ◌&&◌, ◌<◌, ◌||◌, ◌∙◌, ◌≡◌}
 use Rattle.ns_world.proofs.Places.{begins_where}
 use Rattle.ns_world.proofs.call.Call.start.Goals as goal
 

@@ -1,4 +1,4 @@
-use Rattle.std.proofs.Common.{ap}
+use Rattle.ns_world.proofs.Prelude.{ap}
 use Rattle.ns_world.proofs.Fresh.{no_notes}
 use Rattle.ns_world.proofs.environment.Environment.new.Goals as goal
 

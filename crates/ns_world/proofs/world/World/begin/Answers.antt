@@ -1,13 +1,10 @@
-use Rattle.std.proofs.Common.{refl, sym, ◌∙◌}
-use Rattle.ns_world.specs.Prelude.{whole_of}
-use Rattle.ns_world.proofs.Below.{set_same}
+use Rattle.ns_world.proofs.Prelude.{refl, set_same, subst, sym, whole_of, ◌∙◌, ◌≤◌}
 use Rattle.ns_world.proofs.Mapped.{found_at}
-use Rattle.ns_world.proofs.Tells.{begins_here, busy_here, idle_by, misused_here, past_views}
-use Rattle.ns_world.proofs.Wholes.{start_keeps}
+use Rattle.ns_world.proofs.Laws.{start_keeps}
 use Rattle.ns_world.proofs.world.World.begin.Goals as goal
 
 pub returns-then-at-len-clause-err : goal.returns-then-at-len-clause-err
-returns-then-at-len-clause-err g c = rw (← c.self.view_is) (refl, past_views c.self.inside.seats.items c.args.seat c.if-at-len.true (c.len.ensures ∙ c.self.inside.seats.ok.0))
+returns-then-at-len-clause-err g c = rw (← c.self.view_is) (refl, subst (λ n. n ≤ c.args.seat) (c.len.ensures ∙ c.self.inside.seats.ok.0) c.if-at-len.true)
 
 pub invariant_of-self : goal.invariant_of-self
 invariant_of-self g c =
@@ -20,7 +17,7 @@ returns-then-is_busy-clause-lawful g c = invariant_of-self g c
 pub returns-then-is_busy-clause-ok : goal.returns-then-is_busy-clause-ok
 returns-then-is_busy-clause-ok g c =
     let at = found_at c.self.inside.seats.items c.args.seat c.index_mut-here.result.now c.if-at-len.false (c.len.ensures ∙ c.self.inside.seats.ok.0) c.index_mut-here.ensures.value in
-    rw (← c.self.view_is, set_same c.self.inside.seats.items c.args.seat c.index_mut-here.result.now at) (refl, busy_here g.C.Condition.means c.self.inside c.self.invariant c.args.seat c.index_mut-here.result.now at (sym c.is_busy.ensures ∙ c.if-is_busy.true))
+    rw (← c.self.view_is, set_same c.self.inside.seats.items c.args.seat c.index_mut-here.result.now at) (refl, (c.index_mut-here.result.now, at, sym c.is_busy.ensures ∙ c.if-is_busy.true))
 
 pub invariant_of-self-in_default : goal.invariant_of-self-in_default
 invariant_of-self-in_default g c =
@@ -33,21 +30,22 @@ returns-in_default-clause-lawful g c = invariant_of-self-in_default g c
 pub returns-in_default-clause-ok : goal.returns-in_default-clause-ok
 returns-in_default-clause-ok g c =
     let at = found_at c.self.inside.seats.items c.args.seat c.index_mut-here.result.now c.if-at-len.false (c.len.ensures ∙ c.self.inside.seats.ok.0) c.index_mut-here.ensures.value in
-    let here = c.index_mut-here.result.now in
-    let idle = idle_by here.walk here.asking here.operating (sym c.is_busy.ensures ∙ c.if-is_busy.false) in
-    let misused = misused_here g.C.Condition.means c.self.inside c.self.invariant c.args.seat c.index_mut-here.result.now at c.args.call idle.0 idle.1 idle.2 (rw (c.in_default.is, c.mode_of-mode.ensures) at c.start.ensures) in
-    rw (← c.self.view_is, set_same c.self.inside.seats.items c.args.seat c.index_mut-here.result.now at) (refl, misused.0, misused.1)
+    rw (← c.self.view_is, set_same c.self.inside.seats.items c.args.seat c.index_mut-here.result.now at)
+    (refl, record { here = c.index_mut-here.result.now; at = at; idle = sym c.is_busy.ensures ∙ c.if-is_busy.false; unfit = rw (c.in_default.is, c.mode_of-mode.ensures) at c.start.ensures })
 
 pub returns-clause-ok : goal.returns-clause-ok
 returns-clause-ok g c =
     let at = found_at c.self.inside.seats.items c.args.seat c.index_mut-here.result.now c.if-at-len.false (c.len.ensures ∙ c.self.inside.seats.ok.0) c.index_mut-here.ensures.value in
-    let here = c.index_mut-here.result.now in
-    let idle = idle_by here.walk here.asking here.operating (sym c.is_busy.ensures ∙ c.if-is_busy.false) in
-    let begun = begins_here g.C.Condition.means c.self.inside c.self.invariant c.args.seat c.index_mut-here.result.now at c.args.call idle.0 idle.1 idle.2 c.in-Some.start (rw c.mode_of-mode.ensures at c.in-Some.ensures.0) (rw c.mode_of-mode.ensures at c.in-Some.ensures.1) in
-    rw (← c.self.view_is) (rw c.place.ensures begun)
+    rw (← c.self.view_is) (record {
+      here = c.index_mut-here.result.now;
+      at = at;
+      idle = sym c.is_busy.ensures ∙ c.if-is_busy.false;
+      fits = rw c.mode_of-mode.ensures at c.in-Some.ensures.1;
+      begins = rw (c.place.ensures, rw c.mode_of-mode.ensures at c.in-Some.ensures.0) refl;
+    })
 
 pub invariant_of-self-2 : goal.invariant_of-self-2
-invariant_of-self-2 g c = start_keeps (whole_of g.C.Condition.means c.args.self.now) _ c.args.seat c.args.call (rw (← c.self.view_is) c.self.invariant) (returns-clause-ok g c) g.met.C.Condition.has_cells.0 c.requires
+invariant_of-self-2 g c = start_keeps (whole_of g.C.Condition.means c.args.self.now) _ (rw (← c.self.view_is) c.self.invariant) c.args.seat c.args.call (returns-clause-ok g c) g.met.C.Condition.has_cells.0 c.requires
 
 pub returns-clause-lawful : goal.returns-clause-lawful
 returns-clause-lawful g c = invariant_of-self-2 g c

@@ -1,8 +1,5 @@
-use Rattle.std.specs.Prelude.{ℕ, ◌<◌, ◌≤◌, ◌^◌}
-use Rattle.ns_world.proofs.Below.{err_from_is_err_and}
-use Rattle.std.proofs.Common.{arith, refl}
-use Rattle.ns_world.proofs.Fresh.{no_flags}
-use Rattle.ns_world.proofs.Wholes.{whole_new}
+use Rattle.ns_world.proofs.Prelude.{arith, err_from_is_err_and, refl, ℕ, ◌<◌, ◌^◌, ◌≤◌}
+use Rattle.ns_world.proofs.Fresh.{no_flags, whole_new}
 use Rattle.ns_world.proofs.world.World.new.Goals as goal
 
 -- what fits a word is at most its greatest
@@ -10,12 +7,12 @@ at_most : {n : ℕ} → n < 2 ^ 32 → n ≤ 4294967295
 at_most few = omega (arith, few)
 
 pub invariant_of-result : goal.invariant_of-result
-invariant_of-result g c = rw (c.in_ok-seats.ensures.views, c.in_ok-seats.ensures.tests, c.in_ok-seats.ensures.asking, c.in_ok-seats.ensures.operating, c.in_ok-seats.ensures.awaits, c.new.ensures, c.new-2.ensures, c.new-3.ensures.items, no_flags, c.new-objects.ensures)
+invariant_of-result g c = rw (c.in_ok-seats.ensures, c.new.ensures, c.new-2.ensures, c.new-3.ensures.items, no_flags, c.new-objects.ensures)
     (whole_new g.row.C.Denot g.row.N g.C.Condition.means c.args.seats
     c.args.counters.now c.args.onces (omega arith) c.requires.counters c.requires.onces (λ k. at_most (c.type_inv.counters k).fits))
 
 pub returns-clause-made : goal.returns-clause-made
-returns-clause-made g c = (rw (c.in_ok-seats.ensures.views, c.in_ok-seats.ensures.tests, c.in_ok-seats.ensures.asking, c.in_ok-seats.ensures.operating, c.in_ok-seats.ensures.awaits, c.new.ensures, c.new-2.ensures, c.new-3.ensures.items, no_flags, c.new-objects.ensures) refl, omega arith)
+returns-clause-made g c = (rw (c.in_ok-seats.ensures, c.new.ensures, c.new-2.ensures, c.new-3.ensures.items, no_flags, c.new-objects.ensures) refl, omega arith)
 
 pub returns-clause-lawful : goal.returns-clause-lawful
 returns-clause-lawful g c = invariant_of-result g c

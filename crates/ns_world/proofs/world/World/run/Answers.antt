@@ -1,8 +1,5 @@
-use denote.Param.{number}
+use Rattle.ns_world.proofs.Prelude.{arith, err_from_is_err_and, number, progress, refl, whole_of}
 use Rattle.ns_world.proofs.Sizes.{world_fits}
-use Rattle.std.proofs.Common.{arith, refl}
-use Rattle.ns_world.proofs.Below.{err_from_is_err_and}
-use Rattle.ns_world.specs.Prelude.{progress, whole_of}
 use Rattle.ns_world.proofs.Counted.{start_counted}
 use Rattle.ns_world.proofs.world.World.run.Goals as goal
 

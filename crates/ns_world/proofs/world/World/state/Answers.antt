@@ -1,21 +1,18 @@
-use denote.Param.{number}
+use Rattle.ns_world.proofs.Prelude.{Lists, ap, arith, each_shown, map, number, refl, rules, shown_of, ◌∙◌}
 use Rattle.ns_world.proofs.Sizes.{world_fits}
-use Rattle.std.proofs.Common.{arith, map, rules, refl, ap, ◌∙◌}
-use Rattle.ns_world.specs.Prelude.{Lists, shown_of}
-use Rattle.ns_queue.proofs.Shown.{each_shown}
-use Rattle.ns_world.proofs.States.{few_seats, shown_fit, wakes_few}
+use Rattle.ns_world.proofs.States.{shown_fit, wakes_few}
 use Rattle.ns_world.proofs.world.World.state.Goals as goal
 
 pub shown_queues-queues-requires : goal.shown_queues-queues-requires
 shown_queues-queues-requires g c =
-    let fit = shown_fit g.C.Condition.means c.self.inside c.self.invariant.lock in
+    let fit = shown_fit g.C.Condition.means c.self.inside c.self.invariant in
     (g.met.C.Seated.queues_fit, (g.met.C.Seated.seat_fits, (search rules, rw c.deref.ensures.value ((λ i seat at. fit.0 i seat at), ((λ i seat at. fit.1 i seat at), (λ i seat at. fit.2 i seat at))))))
 
 pub owed_wakes-requires : goal.owed_wakes-requires
-owed_wakes-requires g c = (g.met.C.Seated.seat_fits, rw c.deref-2.ensures.value (wakes_few _ _ _ _ c.self.invariant.lock.few c.self.invariant.lock.lawful))
+owed_wakes-requires g c = (g.met.C.Seated.seat_fits, rw c.deref-2.ensures.value (wakes_few _ c.self.invariant))
 
 pub busy_seats-requires : goal.busy_seats-requires
-busy_seats-requires g c = (g.met.C.Seated.seat_fits, rw c.deref-3.ensures.value (few_seats g.C.Condition.means c.self.inside c.self.invariant.lock))
+busy_seats-requires g c = (g.met.C.Seated.seat_fits, rw c.deref-3.ensures.value c.self.invariant.few)
 
 pub returns-clause-busy : goal.returns-clause-busy
 returns-clause-busy g c = λ seat. rw (← c.self.view_is) (rw c.deref-3.ensures.value at (c.busy_seats.ensures seat))

@@ -1,4 +1,4 @@
-use Rattle.std.proofs.Common.{refl}
+use Rattle.ns_world.proofs.Prelude.{refl}
 use Rattle.ns_world.proofs.world.World.word.Goals as goal
 
 pub returns : goal.returns

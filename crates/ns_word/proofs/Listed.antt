@@ -1,0 +1,31 @@
+-- What holds of each of a list, where some leave it or one more comes.
+use Rattle.ns_word.proofs.Prelude.{Bool, Every, List, Mode, None, Option, Waiter, [], cases_Bool, every_filter, every_join, false, goes_along, has_some, inl, inr, is_eligible, is_of, left_of, not, queued, refl, true, without_in, writes, ℕ, ◌++◌, ◌∷◌, ◌≡◌}
+
+pub none_of : {A : Type 0} (xs : List A) → has_some xs ≡ false → xs ≡ []
+none_of [] e = refl
+none_of (x ∷ xs) e = absurd (cc)
+
+pub every_cut : {A : Type 0} (P : A → Type 0) (xs ys : List A) → Every P (xs ++ ys) → Every P xs × Every P ys
+every_cut P [] ys p = (tt, p)
+every_cut P (x ∷ xs) ys p = let rest = every_cut P xs ys p.1 in ((p.0, rest.0), rest.1)
+
+module _ {C : Type 0} (Q : Waiter C → Type 0) where
+  -- of those who stay where a scan takes some
+  pub listed_left : (meets : C → Bool) (ws : List (Waiter C)) → Every Q ws → Every Q (left_of meets ws)
+  listed_left meets [] p = tt
+  listed_left meets (w ∷ ws) p = elim (cases_Bool (is_eligible meets w)) [
+    | inl goes ↦ elim (cases_Bool (writes w)) [
+      | inl alone ↦ rw (goes, alone) p.1
+      | inr reader ↦ rw (goes, reader) (every_filter Q (λ v. not (goes_along meets v)) ws p.1)
+    ]
+    | inr stays ↦ rw stays (p.0, listed_left meets ws p.1)
+  ]
+
+  -- of all but one
+  pub listed_without : (who : ℕ) (ws : List (Waiter C)) → Every Q ws → Every Q (without_in who ws)
+  listed_without who ws p = every_filter Q (λ w. not (is_of who w)) ws p
+
+  -- of one more, who was moved by nobody
+  pub listed_queued : (who : ℕ) (mode : Mode) (c : Option C) (tries : ℕ) (front : Bool) (ws : List (Waiter C)) → Q (record { seat = who; mode = mode; cond = c; tries = tries; via = None }) → Every Q ws → Every Q (queued who mode c tries front ws)
+  listed_queued who mode c tries true ws own p = (own, p)
+  listed_queued who mode c tries false ws own p = every_join Q ws (record { seat = who; mode = mode; cond = c; tries = tries; via = None }) [] p own tt

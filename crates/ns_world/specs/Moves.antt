@@ -1,0 +1,123 @@
+-- How a call begins in a world, and what one step of a seat is.
+use Rattle.ns_world.specs.Names.{Begun, Busy, Call, EnvEvent, EnvWalk, Every, Fault, List, Misuse, NoSuchSeat, None, Nothing, ObjectEvent, ObjectWalk, OutOfMemory, Seat, Some, Started, Step, Walk, [], env_want_of, env_who, false, inl, inr, length, object_who, outcome, slice_get, slice_set, want_of}
+use Rattle.ns_world.specs.Names.{ℕ, ◌≡◌, ◌≤◌, ◌⊎◌}
+use Rattle.ns_world.specs.Among.{ToldIf, is_for_lock, told_to, waited_seat}
+use Rattle.ns_world.specs.Begins.{placed}
+use Rattle.ns_world.specs.Calls.{CallFits, mode_of, start_of}
+use Rattle.ns_world.specs.Commits.{Commits}
+use Rattle.ns_world.specs.Looked.{EnvMoves}
+use Rattle.ns_world.specs.Looks.{looks_at}
+use Rattle.ns_world.specs.Objects.{SeatOperates}
+use Rattle.ns_world.specs.Performs.{Performs}
+use Rattle.ns_world.specs.Whole.{Whole, WholeIsBusy, WholeIsIdle, in_call, part_in}
+
+-- ---- how a call begins
+
+-- the seat has no call in progress and meets the call's need, and then stands at the first place of the call's walk
+pub record WholeStarts {C : Type 0} {N : ℕ} (old new : Whole C N) (seat : ℕ) (call : Call C) : Type 0 where
+  pub here : Seat C N
+  pub at : slice_get old.seats seat ≡ Some here
+  pub idle : in_call here ≡ false
+  pub fits : CallFits old.objects.setup old.env.notes call (mode_of here.held)
+  pub begins : new ≡ record old { seats = slice_set old.seats seat (placed here (start_of N (mode_of here.held) call)) }
+
+-- the seat has no call in progress, and doesn't meet the call's need
+pub record Misuses {C : Type 0} {N : ℕ} (old : Whole C N) (seat : ℕ) (call : Call C) : Type 0 where
+  pub here : Seat C N
+  pub at : slice_get old.seats seat ≡ Some here
+  pub idle : in_call here ≡ false
+  pub unfit : CallFits old.objects.setup old.env.notes call (mode_of here.held) → ⊥
+
+-- what the answer says of the call
+abbrev pub WholeBegins : {C : Type 0} {N : ℕ} → Whole C N → Whole C N → ℕ → Call C → Begun → Type 0
+WholeBegins old new seat call Started = WholeStarts old new seat call
+WholeBegins old new seat call Misuse = (new ≡ old) × Misuses old seat call
+WholeBegins old new seat call Busy = (new ≡ old) × WholeIsBusy old seat
+
+-- a call is refused only where the number is no seat's
+abbrev pub BeginFault : {C : Type 0} {N : ℕ} → Whole C N → ℕ → Fault → Type 0
+BeginFault old seat NoSuchSeat = length old.seats ≤ seat
+BeginFault old seat fault = ⊥
+
+-- ---- a step
+
+-- The seat makes one step on the lock, and it was this: no look of a wait, and the seat stands nowhere on the clock, the notes, the counters and once cells, which stay. In a wait for variables among objects it looks at these where that is to look, and answers a place where that is over.
+pub record LockSteps {C : Type 0} {N : ℕ} (old new : Whole C N) (here next : Seat C N) (step : Step) : Type 0 where
+  pub nowhere : here.operating ≡ None
+  pub unasked : here.asking ≡ None
+  pub walk : Walk C
+  pub walks : here.walk ≡ Some walk
+  pub is_no_look : looks_at (want_of walk) ≡ None
+  pub then : Seat C N
+  pub told : Step
+  pub performs : Performs old.truths (part_in old here) here old.history walk (part_in new then) then new.history told
+  pub goes : next ≡ waited_seat then.awaits then.walk then
+  pub answers : step ≡ told_to then.awaits told
+  pub same : new ≡ record old { word = new.word; row = new.row; queues = new.queues; flags = new.flags; seats = new.seats; history = new.history }
+
+-- The seat makes one step on the clock and the notes, and it was this: one of a call of its own, or of the look of its wait, after which the wait goes on. Nothing else changes.
+pub record NotesSteps {C : Type 0} {N : ℕ} (old new : Whole C N) (here next : Seat C N) (step : Step) : Type 0 where
+  pub nowhere : here.operating ≡ None
+  pub place : EnvWalk
+  pub stands : here.asking ≡ Some place
+  pub moves : EnvMoves old.env new.env here place next step
+  pub same : new ≡ record old { env = new.env; seats = new.seats }
+
+-- The seat makes one step on the counters and once cells, and it was this. Unless its call waits on the lock, it is in no other. Where it is the last one of a round, whose call waits on the lock or goes on to wait there, that is told what the round has shown. Nothing else changes.
+pub record ObjectsSteps {C : Type 0} {N : ℕ} (old new : Whole C N) (here next : Seat C N) (step : Step) : Type 0 where
+  pub walk : ObjectWalk
+  pub walks : here.operating ≡ Some walk
+  pub alone : here.awaits ≡ None → (here.walk ≡ None) × (here.asking ≡ None)
+  pub then : Seat C N
+  pub told : Step
+  pub operates : SeatOperates old.env old.objects here walk new.objects then told
+  pub tells : ToldIf (is_for_lock here.awaits walk told) here.awaits then walk told next step
+  pub same : new ≡ record old { seats = new.seats; objects = new.objects }
+
+-- the seat makes one step of its call, by one of the machines
+abbrev pub SeatMakes : {C : Type 0} {N : ℕ} → Whole C N → Whole C N → Seat C N → Seat C N → Step → Type 0
+SeatMakes old new here next step = LockSteps old new here next step ⊎ (NotesSteps old new here next step ⊎ ObjectsSteps old new here next step)
+
+-- The same in its world, where no other seat changes.
+pub record WholeMoves {C : Type 0} {N : ℕ} (old new : Whole C N) (seat : ℕ) (step : Step) : Type 0 where
+  pub here : Seat C N
+  pub next : Seat C N
+  pub at : slice_get old.seats seat ≡ Some here
+  pub seats : new.seats ≡ slice_set old.seats seat next
+  pub makes : SeatMakes old new here next step
+
+-- A seat with no call in progress makes no step, and another makes one, which answers something else.
+abbrev pub WholeStep : {C : Type 0} {N : ℕ} → Whole C N → Whole C N → ℕ → Step → Type 0
+WholeStep old new seat step = ((step ≡ Nothing) × (new ≡ old) × WholeIsIdle old seat) ⊎ WholeMoves old new seat step
+
+-- the events that a step of the seat is on the clock and the notes
+abbrev pub notes_by : {C : Type 0} {N : ℕ} {old new : Whole C N} {here next : Seat C N} {step : Step} → ℕ → SeatMakes old new here next step → List EnvEvent
+notes_by {old = old} seat (inr (inl p)) = (outcome seat (env_want_of p.place) old.env).events
+notes_by seat p = []
+
+-- the events that it is on the counters and once cells
+abbrev pub objects_by : {C : Type 0} {N : ℕ} {old new : Whole C N} {here next : Seat C N} {step : Step} → SeatMakes old new here next step → List ObjectEvent
+objects_by (inr (inr p)) = p.operates.events
+objects_by p = []
+
+-- all these events of the clock and the notes are the seat's
+abbrev pub AreEnvBy : ℕ → List EnvEvent → Type 0
+AreEnvBy seat events = Every (λ event. env_who event ≡ seat) events
+
+-- all these events of the counters and once cells are the seat's
+abbrev pub AreObjectsBy : ℕ → List ObjectEvent → Type 0
+AreObjectsBy seat events = Every (λ event. object_who event ≡ seat) events
+
+-- The seat's next step finds the word that it has seen, and so commits an event: a release, a call that wakes, or that a wait for variables is left in whose lists it still stands.
+pub record WholeCommits {C : Type 0} {N : ℕ} (world : Whole C N) (i : ℕ) : Type 0 where
+  pub seat : Seat C N
+  pub at : slice_get world.seats i ≡ Some seat
+  pub walk : Walk C
+  pub walks : seat.walk ≡ Some walk
+  pub commits : Commits i (want_of walk) world.word world.queues
+
+-- why a step is refused: the number is no seat's, or there was no memory for the event that it commits
+abbrev pub WholeFault : {C : Type 0} {N : ℕ} → Whole C N → ℕ → Fault → Type 0
+WholeFault old seat NoSuchSeat = length old.seats ≤ seat
+WholeFault old seat OutOfMemory = WholeCommits old seat
+WholeFault old seat fault = ⊥
