@@ -8,7 +8,7 @@ pub use Rattle.ns_replay.specs.Prelude.{read, rest_of, row_text, script_truths, 
 unfoldable pub use Rattle.ns_replay.specs.Prelude.{actor_of, add_of, any_wait_of, brief_call_of, call_at, call_of, calls_at, change_of, condition_of, counter_at, counters_of, item_of, json_of, limits_of, list_in, members_of, note_limit_of, number_of, onces_of, plan_from, plan_in, schedule_of}
 unfoldable pub use Rattle.ns_replay.specs.Prelude.{script_of, seats_below, text_of, threads_of, turn_at, turn_of, variable_wait_of, variables_of, version_of, wait_of}
 pub use Rattle.serde_json.specs.declared.value.Value.{Value}
-pub use Rattle.std.proofs.Common.{All, Bool, Err, IfSome, IsUtf8, List, None, Ok, Option, Result, Some, String, [], ap, append-nil, append_assoc, arith, bytes_eq, codes, cond, decimal, drop, false, filter, flat_map, get_or, inl, inr, is_some, length, length-append, length-set, length-take-le, map}
+pub use Rattle.std.proofs.Common.{All, Bool, Err, IfSome, IsUtf8, List, None, Ok, Option, Result, Some, String, [], ap, append-nil, append_assoc, arith, bytes_eq, codes, cond, decimal, drop, false, filter, flat_map, get_or, inl, inr, length, length-append, length-take-le, map}
 pub use Rattle.std.proofs.Common.{nat_le, nat_lt, not, option_and_then, option_map, refl, replicate, rules, string_bytes, subst, suc, sym, take, take-append-drop, true, zero, ℕ, ◌&&◌, ◌++◌, ◌+◌, ◌-◌, ◌<◌, ◌==◌, ◌^◌, ◌||◌, ◌∙◌, ◌∷◌, ◌≡◌, ◌≢◌, ◌≤◌, ◌⊎◌}
 pub use Rattle.std.proofs.KnownBytes.{Appends-trans, Consumes-trans, Keeps-refl}
 pub use Rattle.std.proofs.lemmas.Bool.Decides.{nat_tests}

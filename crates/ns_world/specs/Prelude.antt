@@ -18,15 +18,15 @@ pub use Rattle.ns_world.specs.Moves.{AreEnvBy, AreObjectsBy, LockSteps, NotesSte
 pub use Rattle.ns_world.specs.World.{kept}
 pub use Rattle.ns_world.specs.Names.{Act, ActFits, Add, Advance, Advancing, Answer, Any, AnyAnswers, AnyMeans, AnyWait, AreAmong, AreBy, AreNumbered, AreThere, AreVariables, ArmFlag, Arrival, Ask, Asked, AtLock, AtSomePoint, AtVariables, Await, AwaitWakeInWait, BeginsWith, Bits, Broadcast}
 pub use Rattle.ns_world.specs.Names.{Broadcasting, Call, CallGoes, CanLeave, CanWait, Cause, Change, ChangeFits, ClockLoad, CounterWait, Course, Cv, CvWait, Cvs, Done, Effect, EnvAct, EnvActFits, EnvCourse, EnvEffect, EnvEvent, EnvFound, EnvGoes, EnvGoesOn, EnvNext, EnvPlain, EnvRequest, EnvSoFar}
-pub use Rattle.ns_world.specs.Names.{EnvWalk, Event, Every, Expired, Expiry, ExpiryLoad, Fault, Finished, FirstClock, ForIsNotified, ForLook, ForNoteWait, Found, Get, Go, GoesOn, HasList, HasMode, HaveShownNothing, Held, Home, Idle, IfMade, InAcquire, InCells, InHand, InLeaving}
-pub use Rattle.ns_world.specs.Names.{InQueuing, InRelease, InRound, InShow, InSignal, InTry, InWait, IsFirst, IsFirstAsk, IsForCondition, IsInRange, IsLater, IsLawful, IsLawfulEnv}
+pub use Rattle.ns_world.specs.Names.{EnvWalk, Event, Every, Expired, Expiry, ExpiryLoad, Fault, Finished, FirstClock, ForIsNotified, ForLook, ForNoteWait, Found, Get, Go, GoesOn, HasList, HasMode, HaveShownNothing, Held, Home, Idle, IfMade, InCells, InHand, InLeaving}
+pub use Rattle.ns_world.specs.Names.{InQueuing, InRound, InWait, IsFirst, IsFirstAsk, IsForCondition, IsInRange, IsLater, IsLawful, IsLawfulEnv}
 pub use Rattle.ns_world.specs.Names.{IsLawfulObjects, IsLow, IsNotified, IsReady, IsSettled, IsUnmet, Item, Items, LeaveLoad, LeaveSelf, Left, Limits, Line, Lists, Load}
 pub use Rattle.ns_world.specs.Names.{LoadFlag, Lock, LockState, Look, LookIn, LookMeans, LookOut, LookOver, Looked, Made, MayEnd, MayShow, MayWait, Means, Mode, NewNote, Next, NextLoad, NoSuchSeat, NoteLoad, NoteStanding, NoteWait, Nothing, Notify, Notifying, Number, ObjectEvent, ObjectFound}
 pub use Rattle.ns_world.specs.Names.{ObjectGoes, ObjectNext, ObjectSoFar, ObjectStanding, ObjectWalk, ObjectWords, OfLock, OfNotes, OfObjects, On, OnCondition, OnEntry, OnLock, OnObjects, OnVariable, OnVariables, Once, Only, OutOfMemory, Over, Owed, OwesOne, Part, Past, PayWake, PlaceFits, Plain}
 pub use Rattle.ns_world.specs.Names.{QueueSelf, QuietCells, QuietKeeps, QuietLast, RLock, RUnlock, Read, Reader, Release, ReleaseReturning, Releasing, Repeat, Reply, Request, ReturnQueues, Round, RoundGo, RoundNext, RoundOver, RoundPlace, RoundShows, RoundSoFar, Scanned, Seat, SeatView, Set, Setup}
 pub use Rattle.ns_world.specs.Names.{Shows, Signal, Signaling, SoFar, Start, Started, Step, StepFits, Subject, TestCells, TestLast, ToRelease, Truths, TryLock, TryRLock, Turn, Unlock, UnlockQuiet, Value, Wait, WaitAny, WaitFor, WaitMeans, WaitReturning, Waiter, WakeWaiters, Waking, Walk, WalkFits}
 pub use Rattle.ns_world.specs.Names.{WalkReply, Went, WereThere, Woke, Word, Write, Writer, asked_of, bits_of, by_round, called_by, called_of, change_commits, changed, counts_in, course_after, course_from, cvs_without, env_after, env_asked_of, env_course_after, env_course_at, env_got_of, env_own}
-pub use Rattle.ns_world.specs.Names.{env_walk_after, env_want_of, exit_for, fresh_views, got_of, has_armed, has_queues, has_some, have_variable, held_after, is_among, is_due, is_held, is_in, is_over, is_there, is_unwoken, items_of, judge_of, leave_of, left_of, looked_after, meets_at, most, moved_to}
+pub use Rattle.ns_world.specs.Names.{env_walk_after, env_want_of, exit_for, fresh_views, got_of, has_armed, has_queues, has_some, have_variable, held_after, is_among, is_due, is_held, is_in, is_over, is_there, is_unwoken, items_of, leave_of, left_of, looked_after, meets_at, most, moved_to}
 pub use Rattle.ns_world.specs.Names.{no_note, object_after, object_asked, object_got, object_place, objects_after, objects_own, outcome, owed_to, own, passed, past_and, releasing_of, round_got, row_after, section_of, shown_of, standing_of, stands_at, state_of, stopped, taken_by}
-pub use Rattle.ns_world.specs.Names.{taken_set, tests_of, times, times_among, times_in, up_to, wait_first, waited_in, waiters_of, wakes_of, walk_after, walk_at, walk_in, want_acquiring, want_in_cells, want_leaving, want_of, want_releasing, want_showing, want_signaling, want_trying, with_waiters}
+pub use Rattle.ns_world.specs.Names.{taken_set, tests_of, times, times_among, times_in, up_to, wait_first, waited_in, waiters_of, wakes_of, walk_after, walk_at, walk_in, want_of, with_waiters}
 pub use Rattle.ns_world.specs.Names.{woken_of, word_at, word_released, word_released_returning, word_returned}
