@@ -1,7 +1,7 @@
 -- One step of one caller, and all who look on.
-use Rattle.ns_counters.proofs.Prelude.{AreObjectsBySeats, AreWordsOf, BeginOnce, CanAct, EndOnce, ExchangeToAdd, HasActed, IsFoundAt, IsLawful, IsLegalObjectEvent, IsLegalObjects, IsWordOf, List, LoadToAdd, LookCounter, LookOnce, MarkWait, ObjectAct, ObjectEvent, ObjectStanding, ObjectView}
-use Rattle.ns_counters.proofs.Prelude.{Outcome, Place, PlaceFits, Setup, ViewFits, [], acted, append-nil, arith, begins_through, every-append, every_map, first_objects, fold-append, legal_append, object_next, object_who, objects_after, objects_from, objects_own, outcome, refl, set, slice_index}
-use Rattle.ns_counters.proofs.Prelude.{stage, stage_word, subst, sym, word_at, word_of_once, ℕ, ◌++◌, ◌<◌, ◌∙◌, ◌≡◌, ◌≢◌}
+use Rattle.std.proofs.Common.{List, [], append-nil, arith, refl, set, slice_index, subst, sym, ℕ, ◌++◌, ◌<◌, ◌∙◌, ◌≡◌, ◌≢◌}
+use Rattle.ns_counters.proofs.Prelude.{AreObjectsBySeats, AreWordsOf, BeginOnce, CanAct, EndOnce, ExchangeToAdd, HasActed, IsFoundAt, IsLawful, IsLegalObjectEvent, IsLegalObjects, IsWordOf, LoadToAdd, LookCounter, LookOnce, MarkWait, ObjectAct, ObjectEvent, ObjectStanding, ObjectView, Outcome}
+use Rattle.ns_counters.proofs.Prelude.{Place, PlaceFits, Setup, ViewFits, acted, begins_through, every-append, every_map, first_objects, fold-append, legal_append, object_next, object_who, objects_after, objects_from, objects_own, outcome, stage, stage_word, word_at, word_of_once}
 use Rattle.ns_counters.proofs.Keeps.{StepKeeps, step_keeps, places_still}
 use Rattle.ns_counters.proofs.Objects.{own-append, own_all, own_none}
 

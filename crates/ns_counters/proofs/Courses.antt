@@ -1,10 +1,11 @@
 -- How far a call on counters and once cells has come: whatever others do leaves that as it is, and each step of its own takes it on to an answer that means what it says.
-use Rattle.ns_counters.proofs.Prelude.{AddExchange, AddLoad, AnyAnswers, AtCounter, AtNote, AtSomeMoment, AtSomePoint, BeginsWith, Bool, ChainFits, Clock, CounterFault, CounterState, DoneLoad, Env, EnvEvent, EnvFound, EnvNext, EnvState, Err, FirstClock, ForIsNotified, Free, HadValue, HasLookedUpTo}
-use Rattle.ns_counters.proofs.Prelude.{HasShownNone, HaveShownNothing, InRound, InTurn, IsBetween, IsLater, IsLawful, IsLawfulEnv, IsLegalEnv, IsReady, IsSo, Item, Items, List, None, Note, NoteLoad, Number, ObjectEffect, ObjectEvent, ObjectFound, ObjectGoes, ObjectSoFar, ObjectStanding, ObjectWalk}
-use Rattle.ns_counters.proofs.Prelude.{Ok, OnCounterItem, OnNote, OnOnce, OnVariable, OnceBegin, OnceEnd, OnceLoad, OnceState, Option, Outcome, Over, Past, Repeat, Result, Round, RoundGo, RoundNext, RoundOver, RoundPlace, RoundSoFar, Running, Setup, Some, Stage, ValueLoad, WaitClock, WaitLoad}
-use Rattle.ns_counters.proofs.Prelude.{WaitMark, WalkFits, WereThere, Word, [], ap, append-nil, arith, begins_itself, begins_through, by_answer, by_begun, by_chain, by_deadline, by_judging, by_round, by_stage, chain_answers, chain_from, clock_of, cond, counter_of, counter_word, drop, env_after}
-use Rattle.ns_counters.proofs.Prelude.{env_got_of, eq-eqb, eqb, eqb-true, false, first_objects, fold-append, from_items, from_place, has_run, inl, inr, is_done, is_due, is_ready, item_at, items_of, judged, legal_begins, line_starts, ltb-false, made_begins, nat_lt, object_asked, object_got}
-use Rattle.ns_counters.proofs.Prelude.{object_next, object_place, object_want, objects_after, objects_own, past_and, refl, round_got, round_want, slice_get, slice_index, stage, stage_of, subst, suc, sym, take, tried, true, waited_next, word_of_once, zero, ℕ, ℤ, ◌++◌, ◌<◌, ◌∙◌, ◌∷◌, ◌≡◌, ◌≤◌}
+use Rattle.std.proofs.Common.{Bool, Err, List, None, Ok, Option, Result, Some, [], ap, append-nil, arith, cond, drop, eq-eqb, eqb, eqb-true, false, inl, inr, ltb-false, nat_lt, refl, slice_get, slice_index, subst, suc, sym, take, true, zero, ℕ, ℤ, ◌++◌, ◌<◌, ◌∙◌, ◌∷◌, ◌≡◌, ◌≤◌}
+use Rattle.ns_counters.proofs.Prelude.{AddExchange, AddLoad, AnyAnswers, AtCounter, AtNote, AtSomeMoment, AtSomePoint, BeginsWith, ChainFits, Clock, CounterFault, CounterState, DoneLoad, Env, EnvEvent, EnvFound, EnvNext, EnvState, FirstClock, ForIsNotified, Free, HadValue, HasLookedUpTo}
+use Rattle.ns_counters.proofs.Prelude.{HasShownNone, HaveShownNothing, InRound, InTurn, IsBetween, IsLater, IsLawful, IsLawfulEnv, IsLegalEnv, IsReady, IsSo, Item, Items, Note, NoteLoad, Number, ObjectEffect, ObjectEvent, ObjectFound, ObjectGoes, ObjectSoFar, ObjectStanding, ObjectWalk}
+use Rattle.ns_counters.proofs.Prelude.{OnCounterItem, OnNote, OnOnce, OnVariable, OnceBegin, OnceEnd, OnceLoad, OnceState, Outcome, Over, Past, Repeat, Round, RoundGo, RoundNext, RoundOver, RoundPlace, RoundSoFar, Running, Setup, Stage, ValueLoad, WaitClock, WaitLoad, WaitMark, WalkFits, WereThere}
+use Rattle.ns_counters.proofs.Prelude.{Word, begins_itself, begins_through, by_answer, by_begun, by_chain, by_deadline, by_judging, by_round, by_stage, chain_answers, chain_from, clock_of, counter_of, counter_word, env_after, env_got_of, first_objects, fold-append, from_items, from_place, has_run}
+use Rattle.ns_counters.proofs.Prelude.{is_done, is_due, is_ready, item_at, items_of, judged, legal_begins, line_starts, made_begins, object_asked, object_got, object_next, object_place, object_want, objects_after, objects_own, past_and, round_got, round_want, stage, stage_of, tried, waited_next}
+use Rattle.ns_counters.proofs.Prelude.{word_of_once}
 use Rattle.ns_counters.specs.Prelude.{OnCounter}
 use Rattle.ns_counters.proofs.Listed.{left_at, listed}
 use Rattle.ns_counters.proofs.Objects.{own-append}

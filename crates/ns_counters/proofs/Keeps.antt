@@ -1,8 +1,8 @@
 -- A step keeps the law: what has happened by it is legal, the words are those of the objects as they then stand, and its caller and all others stand where they may.
-use Rattle.ns_counters.proofs.Prelude.{Add, Adding, AreWordsOf, Began, BeginOnce, Begun, Bool, CanAct, CounterFault, CounterState, EndOnce, Err, Every, ExchangeToAdd, Free, HasWords, IsLegalFrom, IsLegalObjectEvent, IsLegalOnceEvent, IsWordOf, List, LoadToAdd, LookCounter, LookOnce, MarkWait}
-use Rattle.ns_counters.proofs.Prelude.{ObjectAct, ObjectEvent, ObjectStanding, Ok, OnOnce, OnceEvent, OnceState, Outcome, Place, PlaceFits, Ran, Result, Running, Setup, [], accepted, ap, arith, bit_or, but-here, but_at, but_cases, cond, counter_of, counter_word, eqb, eqb-true, false, get_or}
-use Rattle.ns_counters.proofs.Prelude.{get_or-set_other, get_or-set_same, judged, length, length-set, looked, most, object_next, object_who, objects_from, once_next, outcome, refl, set, set-get_or, slice_index, stage, stage_word, subst, sym, tried, true, word_at, word_of_once, ℕ, ℤ, ◌+◌, ◌<◌, ◌^◌}
-use Rattle.ns_counters.proofs.Prelude.{◌∙◌, ◌∷◌, ◌≡◌, ◌≢◌, ◌≤◌}
+use Rattle.std.proofs.Common.{Bool, Err, List, Ok, Result, [], ap, arith, bit_or, cond, eqb, eqb-true, false, get_or, get_or-set_other, get_or-set_same, length, length-set, refl, set, slice_index, subst, sym, true, ℕ, ℤ, ◌+◌, ◌<◌, ◌^◌, ◌∙◌, ◌∷◌, ◌≡◌, ◌≢◌, ◌≤◌}
+use Rattle.ns_counters.proofs.Prelude.{Add, Adding, AreWordsOf, Began, BeginOnce, Begun, CanAct, CounterFault, CounterState, EndOnce, Every, ExchangeToAdd, Free, HasWords, IsLegalFrom, IsLegalObjectEvent, IsLegalOnceEvent, IsWordOf, LoadToAdd, LookCounter, LookOnce, MarkWait, ObjectAct}
+use Rattle.ns_counters.proofs.Prelude.{ObjectEvent, ObjectStanding, OnOnce, OnceEvent, OnceState, Outcome, Place, PlaceFits, Ran, Running, Setup, accepted, but-here, but_at, but_cases, counter_of, counter_word, judged, looked, most, object_next, object_who, objects_from, once_next, outcome}
+use Rattle.ns_counters.proofs.Prelude.{set-get_or, stage, stage_word, tried, word_at, word_of_once}
 use Rattle.ns_counters.specs.Prelude.{OnCounter}
 use Rattle.ns_counters.proofs.Words.{counter_of-counter_word, marked}
 use Rattle.ns_model.specs.declared.once.OnceState.TheVariants as TheOnce

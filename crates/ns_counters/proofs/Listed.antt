@@ -1,6 +1,6 @@
 -- What stands at a place of a list of objects, and behind it.
-use Rattle.ns_counters.proofs.Prelude.{Bool, Every, IsLow, Item, Items, List, None, OnCounter, OnNote, OnVariable, Option, Some, [], ap, arith, cond, drop, eq-eqb, eqb-true, false, get_or, inl, inr, is_among, is_this, is_variable, item_at, items_of, length, list_any, ltb-false, ltb-true, map}
-use Rattle.ns_counters.proofs.Prelude.{nat_lt, or_cases, place_in, refl, slice_get, subst, suc, sym, take, true, zero, ℕ, ◌&&◌, ◌<◌, ◌||◌, ◌∙◌, ◌∷◌, ◌≡◌}
+use Rattle.std.proofs.Common.{Bool, List, None, Option, Some, [], ap, arith, cond, drop, eq-eqb, eqb-true, false, get_or, inl, inr, length, ltb-false, ltb-true, map, nat_lt, refl, slice_get, subst, suc, sym, take, true, zero, ℕ, ◌&&◌, ◌<◌, ◌||◌, ◌∙◌, ◌∷◌, ◌≡◌}
+use Rattle.ns_counters.proofs.Prelude.{Every, IsLow, Item, Items, OnCounter, OnNote, OnVariable, is_among, is_this, is_variable, item_at, items_of, list_any, or_cases, place_in}
 
 nothing : {A : Type 0} (at : ℕ) (xs : List A) → xs ≡ [] → drop at xs ≡ []
 nothing zero xs e = e

@@ -1,6 +1,7 @@
 -- What a step of a call on counters and once cells needs is so, where its seat stands in a lawful state.
-use Rattle.ns_counters.proofs.Prelude.{AddExchange, AddLoad, AtCounter, AtNote, DoneLoad, EnvEvent, EnvPlain, FirstClock, InRound, IsInBounds, IsLawfulObjects, List, Meets, NoteStanding, ObjectAct, ObjectEvent, ObjectState, ObjectWalk, OnCounter, OnNote, OnWord, OnceBegin, OnceEnd, OnceLoad, Some}
-use Rattle.ns_counters.proofs.Prelude.{StepFits, ValueLoad, WaitClock, WaitLoad, WaitMark, WalkFits, WantFits, ap, made_below, object_want, objects_after, refl, sym, true, walk_in, ℕ, ◌<◌, ◌∙◌, ◌≡◌}
+use Rattle.std.proofs.Common.{List, Some, ap, refl, sym, true, ℕ, ◌<◌, ◌∙◌, ◌≡◌}
+use Rattle.ns_counters.proofs.Prelude.{AddExchange, AddLoad, AtCounter, AtNote, DoneLoad, EnvEvent, EnvPlain, FirstClock, InRound, IsInBounds, IsLawfulObjects, Meets, NoteStanding, ObjectAct, ObjectEvent, ObjectState, ObjectWalk, OnCounter, OnNote, OnWord, OnceBegin, OnceEnd, OnceLoad, StepFits}
+use Rattle.ns_counters.proofs.Prelude.{ValueLoad, WaitClock, WaitLoad, WaitMark, WalkFits, WantFits, made_below, object_want, objects_after, walk_in}
 use Rattle.ns_counters.proofs.WalkLaw.{in_list, want_below}
 
 module _ (history : List ObjectEvent) (state : ObjectState) (env : EnvPlain) (happened : List EnvEvent) (meets : Meets happened env) (led : IsLawfulObjects history state env.notes) (seat : ℕ) where

@@ -1,5 +1,6 @@
 -- New objects are lawful.
-use Rattle.ns_counters.proofs.Prelude.{AreWordsOf, IsLawful, List, [], ap, arith, first_objects, first_words, get_or, length, length-append, length-replicate, most, padded, refl, replicate, setup_of, subst, suc, zero, ℕ, ◌++◌, ◌+◌, ◌-◌, ◌<◌, ◌∙◌, ◌∷◌, ◌≡◌, ◌≤◌}
+use Rattle.std.proofs.Common.{List, [], ap, arith, get_or, length, length-append, refl, replicate, subst, suc, zero, ℕ, ◌++◌, ◌+◌, ◌-◌, ◌<◌, ◌∙◌, ◌∷◌, ◌≡◌, ◌≤◌}
+use Rattle.ns_counters.proofs.Prelude.{AreWordsOf, IsLawful, first_objects, first_words, length-replicate, most, padded, setup_of}
 
 get_zero : (m k : ℕ) → ◌≡◌ {A = ℕ} (get_or (replicate m 0) k 0) 0
 get_zero zero k = refl

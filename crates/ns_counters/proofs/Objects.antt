@@ -1,6 +1,7 @@
 -- Histories of all objects: their parts, and the history of each object in them.
-use Rattle.ns_counters.proofs.Prelude.{Bool, CounterState, Every, IsLegalCounter, IsLegalCounterEvent, IsLegalFrom, IsLegalObjectEvent, IsLegalObjects, IsLegalOnce, IsLegalOnceEvent, List, ObjectEvent, ObjectStanding, OnOnce, OnceState, Setup, [], ap, cond, counter_after, counter_next, eq-eqb, eqb}
-use Rattle.ns_counters.proofs.Prelude.{eqb-true, false, filter-append, first_objects, fold, ne_eqb, object_next, object_who, objects_after, objects_from, objects_own, of_counter, of_once, once_after, once_next, refl, slice_index, subst, sym, true, ℕ, ◌++◌, ◌∙◌, ◌∷◌, ◌≡◌, ◌≢◌}
+use Rattle.std.proofs.Common.{Bool, List, [], ap, cond, eq-eqb, eqb, eqb-true, false, fold, ne_eqb, refl, slice_index, subst, sym, true, ℕ, ◌++◌, ◌∙◌, ◌∷◌, ◌≡◌, ◌≢◌}
+use Rattle.ns_counters.proofs.Prelude.{CounterState, Every, IsLegalCounter, IsLegalCounterEvent, IsLegalFrom, IsLegalObjectEvent, IsLegalObjects, IsLegalOnce, IsLegalOnceEvent, ObjectEvent, ObjectStanding, OnOnce, OnceState, Setup, counter_after, counter_next, filter-append, first_objects}
+use Rattle.ns_counters.proofs.Prelude.{object_next, object_who, objects_after, objects_from, objects_own, of_counter, of_once, once_after, once_next}
 use Rattle.ns_counters.specs.Prelude.{OnCounter}
 
 -- ---- each object by itself

@@ -1,8 +1,8 @@
 -- Where seats stand in calls on counters and once cells: after one of them is put elsewhere, and while more notes are made; what a step leaves of what was asked, and what it needs.
-use Rattle.ns_counters.proofs.Prelude.{AddExchange, AddLoad, AreThere, AtCounter, AtNote, Bool, Clock, CounterFault, CounterState, DoneLoad, Env, Err, FirstClock, Go, InRound, IsLawfulObjects, Item, Items, List, None, NoteStanding, Number, ObjectEvent, ObjectFound, ObjectNext, ObjectStanding}
-use Rattle.ns_counters.proofs.Prelude.{ObjectState, ObjectWalk, Ok, OnCounter, OnNote, OnVariable, OnceBegin, OnceEnd, OnceLoad, Option, Over, Repeat, Result, Round, RoundFits, RoundGo, RoundNext, RoundOver, RoundPlace, Setup, Some, Stage, ValueLoad, WaitClock, WaitLoad, WaitMark, WalkFits, Word}
-use Rattle.ns_counters.proofs.Prelude.{[], ap, arith, by_answer, by_begun, by_deadline, by_judging, by_round, by_stage, cases_eq, cond, counter_of, counter_word, eqb, false, inl, inr, is_there, items_of, judged, length, list_all, nat_lt, object_asked, object_got, objects_after, refl, round_got}
-use Rattle.ns_counters.proofs.Prelude.{slice_set, stage_of, subst, suc, sym, true, walk_in, zero, ℕ, ℤ, ◌<◌, ◌∙◌, ◌∷◌, ◌≡◌, ◌≢◌}
+use Rattle.std.proofs.Common.{Bool, Err, List, None, Ok, Option, Result, Some, [], ap, arith, cond, eqb, false, inl, inr, length, nat_lt, refl, slice_set, subst, suc, sym, true, zero, ℕ, ℤ, ◌<◌, ◌∙◌, ◌∷◌, ◌≡◌, ◌≢◌}
+use Rattle.ns_counters.proofs.Prelude.{AddExchange, AddLoad, AreThere, AtCounter, AtNote, Clock, CounterFault, CounterState, DoneLoad, Env, FirstClock, Go, InRound, IsLawfulObjects, Item, Items, NoteStanding, Number, ObjectEvent, ObjectFound, ObjectNext, ObjectStanding, ObjectState, ObjectWalk}
+use Rattle.ns_counters.proofs.Prelude.{OnCounter, OnNote, OnVariable, OnceBegin, OnceEnd, OnceLoad, Over, Repeat, Round, RoundFits, RoundGo, RoundNext, RoundOver, RoundPlace, Setup, Stage, ValueLoad, WaitClock, WaitLoad, WaitMark, WalkFits, Word, by_answer, by_begun, by_deadline, by_judging}
+use Rattle.ns_counters.proofs.Prelude.{by_round, by_stage, cases_eq, counter_of, counter_word, is_there, items_of, judged, list_all, object_asked, object_got, objects_after, round_got, stage_of, walk_in}
 use Rattle.ns_counters.proofs.Listed.{first_of_all, rest_of_all}
 use Rattle.ns_counters.specs.declared.word.Stage.TheVariants as TheStage
 

@@ -18,8 +18,7 @@ pub use Rattle.ns_model.proofs.Courses.{legal_append}
 pub use Rattle.ns_model.proofs.Environments.{but-here, but_cases, legal_begins, made_begins, made_below}
 pub use Rattle.ns_model.proofs.Lines.{line_starts}
 pub use Rattle.ns_model.proofs.Tallies.{every-append, every_map}
-pub use Rattle.std.proofs.Common.{Bool, Err, List, None, Ok, Option, Result, Some, [], ap, append-nil, arith, bit_or, cond, drop, eq-eqb, eqb, eqb-true, false, fold, get_or, get_or-set_other, get_or-set_same, if◌then◌else◌, inl, inr, length, length-append, length-set, ltb-false, ltb-true, map}
-pub use Rattle.std.proofs.Common.{nat_lt, ne_eqb, refl, replicate, rules, set, slice_get, slice_index, slice_set, subst, suc, sym, take, true, zero, ℕ, ℤ, ◌%◌, ◌&&◌, ◌*◌, ◌++◌, ◌+◌, ◌-◌, ◌/◌, ◌<◌, ◌^◌, ◌||◌, ◌∙◌, ◌∷◌, ◌≡◌, ◌≢◌, ◌≤◌}
+pub use Rattle.std.proofs.Common.{Some}
 pub use Rattle.std.proofs.lemmas.Bool.{cases_eq, or_cases}
 pub use Rattle.std.proofs.lemmas.List.{length-replicate}
 pub use Rattle.std.proofs.lemmas.List.Elements.{filter-append}

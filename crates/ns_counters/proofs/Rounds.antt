@@ -1,5 +1,6 @@
 -- Looks behind one another, and rounds of them, when more has happened.
-use Rattle.ns_counters.proofs.Prelude.{AnswersByRounds, Bool, HasShownNone, HasShownOne, HaveShownNothing, InTurn, IsLater, List, None, Option, Past, RoundShows, Some, [], begins_itself, begins_through, false, inl, inr, suc, true, zero, ℕ, ◌++◌, ◌∷◌}
+use Rattle.std.proofs.Common.{Bool, List, None, Option, Some, [], false, inl, inr, suc, true, zero, ℕ, ◌++◌, ◌∷◌}
+use Rattle.ns_counters.proofs.Prelude.{AnswersByRounds, HasShownNone, HasShownOne, HaveShownNothing, InTurn, IsLater, Past, RoundShows, begins_itself, begins_through}
 
 pub later_itself : (now : Past) → IsLater now now
 later_itself now = record { notes = begins_itself now.notes; objects = begins_itself now.objects }

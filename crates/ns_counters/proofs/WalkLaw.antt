@@ -1,10 +1,10 @@
 -- A step of a call on counters and once cells keeps their law, and leaves each seat where it may stand.
-use Rattle.ns_counters.proofs.Prelude.{Add, AddExchange, AddLoad, AreThere, AtCounter, AtNote, Began, BeginOnce, Bool, CanAct, Clock, CounterFault, CounterState, DoneLoad, Env, EnvEvent, EnvFound, EnvNext, EnvPlain, Err, Every, ExchangeToAdd, FirstClock, ForIsNotified, Free, Go, InRound, Is}
-use Rattle.ns_counters.proofs.Prelude.{IsLawfulObjects, Item, Items, List, LoadToAdd, Meets, None, Note, NoteLoad, NoteStanding, NoteWord, Number, ObjectAct, ObjectEffect, ObjectEvent, ObjectFound, ObjectNext, ObjectStanding, ObjectState, ObjectView, ObjectWalk, ObjectWant, Ok, OnCounter, OnEnv}
-use Rattle.ns_counters.proofs.Prelude.{OnNote, OnVariable, OnWord, OnceBegin, OnceEnd, OnceLoad, Option, Outcome, Over, Place, PlaceFits, Repeat, Result, Round, RoundFits, RoundGo, RoundNext, RoundOver, Running, Setup, Some, Stage, ValueLoad, ViewFits, WaitClock, WaitLoad, WaitMark, WalkFits, Word}
-use Rattle.ns_counters.proofs.Prelude.{[], ap, append-nil, arith, begins_itself, by_answer, by_begun, by_chain, by_deadline, by_judging, by_round, by_stage, cases_eq, chain_from, chain_up, cond, counter_of, counter_word, drop, env_got_of, eqb, false, from_items, from_place, inl, inr, is_there}
-use Rattle.ns_counters.proofs.Prelude.{item_at, items_of, judged, list_all, ltb-true, most, nat_lt, object_after, object_got, object_place, object_want, object_who, objects_after, objects_own, outcome, refl, round_got, slice_get, slice_index, slice_set, stage_of, standing_of, state_of, subst, suc}
-use Rattle.ns_counters.proofs.Prelude.{sym, take, tried, true, waited_next, walk_in, word_at, word_left, zero, ℕ, ℤ, ◌%◌, ◌++◌, ◌<◌, ◌^◌, ◌∙◌, ◌∷◌, ◌≡◌, ◌≢◌, ◌≤◌}
+use Rattle.std.proofs.Common.{Bool, Err, List, None, Ok, Option, Result, Some, [], ap, append-nil, arith, cond, drop, eqb, false, inl, inr, ltb-true, nat_lt, refl, slice_get, slice_index, slice_set, subst, suc, sym, take, true, zero, ℕ, ℤ, ◌%◌, ◌++◌, ◌<◌, ◌^◌, ◌∙◌, ◌∷◌, ◌≡◌, ◌≢◌, ◌≤◌}
+use Rattle.ns_counters.proofs.Prelude.{Add, AddExchange, AddLoad, AreThere, AtCounter, AtNote, Began, BeginOnce, CanAct, Clock, CounterFault, CounterState, DoneLoad, Env, EnvEvent, EnvFound, EnvNext, EnvPlain, Every, ExchangeToAdd, FirstClock, ForIsNotified, Free, Go, InRound, Is, IsLawfulObjects}
+use Rattle.ns_counters.proofs.Prelude.{Item, Items, LoadToAdd, Meets, Note, NoteLoad, NoteStanding, NoteWord, Number, ObjectAct, ObjectEffect, ObjectEvent, ObjectFound, ObjectNext, ObjectStanding, ObjectState, ObjectView, ObjectWalk, ObjectWant, OnCounter, OnEnv, OnNote, OnVariable, OnWord}
+use Rattle.ns_counters.proofs.Prelude.{OnceBegin, OnceEnd, OnceLoad, Outcome, Over, Place, PlaceFits, Repeat, Round, RoundFits, RoundGo, RoundNext, RoundOver, Running, Setup, Stage, ValueLoad, ViewFits, WaitClock, WaitLoad, WaitMark, WalkFits, Word, begins_itself, by_answer, by_begun, by_chain}
+use Rattle.ns_counters.proofs.Prelude.{by_deadline, by_judging, by_round, by_stage, cases_eq, chain_from, chain_up, counter_of, counter_word, env_got_of, from_items, from_place, is_there, item_at, items_of, judged, list_all, most, object_after, object_got, object_place, object_want, object_who}
+use Rattle.ns_counters.proofs.Prelude.{objects_after, objects_own, outcome, round_got, stage_of, standing_of, state_of, tried, waited_next, walk_in, word_at, word_left}
 use Rattle.ns_counters.proofs.Acts.{acted_fits, acted_lawful, others_fit}
 use Rattle.ns_counters.proofs.Keeps.{step_keeps}
 use Rattle.ns_counters.proofs.Listed.{first_of_all, listed, rest_of_all}

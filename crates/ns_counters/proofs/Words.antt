@@ -1,5 +1,6 @@
 -- The words of counters and once cells: each tells of what it was made for, and what a mark leaves of a counter's.
-use Rattle.ns_counters.proofs.Prelude.{Bool, CounterState, Stage, Unused, and_le_r, ap, arith, bit_or, counter_of, counter_word, eqb, false, if◌then◌else◌, most, or_block, or_disjoint, refl, stage_of, stage_word, true, ℕ, ◌%◌, ◌*◌, ◌+◌, ◌/◌, ◌^◌, ◌∙◌, ◌≡◌, ◌≤◌}
+use Rattle.std.proofs.Common.{Bool, ap, arith, bit_or, eqb, false, if◌then◌else◌, refl, true, ℕ, ◌%◌, ◌*◌, ◌+◌, ◌/◌, ◌^◌, ◌∙◌, ◌≡◌, ◌≤◌}
+use Rattle.ns_counters.proofs.Prelude.{CounterState, Stage, Unused, and_le_r, counter_of, counter_word, most, or_block, or_disjoint, stage_of, stage_word}
 
 by_mark : (value : ℕ) (waited : Bool) → value ≤ most → counter_of (counter_word (record { value = value; waited = waited })) ≡ record { value = value; waited = waited }
 by_mark value true few = let v : (value + 2 ^ 32) % 2 ^ 32 ≡ value = omega arith in let w : ((value + 2 ^ 32) / 2 ^ 32) % 2 ≡ 1 = omega arith in λ i. record { value = v i; waited = ap (λ (n : ℕ). eqb n 1) w i }

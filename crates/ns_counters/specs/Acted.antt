@@ -1,5 +1,6 @@
 -- What a caller knows of a step that it has made.
-use Rattle.ns_counters.specs.Names.{BeginOnce, BeginsWith, EndOnce, ExchangeToAdd, List, LoadToAdd, LookCounter, LookOnce, MarkWait, ObjectAct, ObjectEvent, ObjectView, ℕ, ◌++◌, ◌≡◌}
+use Rattle.std.specs.Prelude.{List, ℕ, ◌++◌, ◌≡◌}
+use Rattle.ns_counters.specs.Names.{BeginOnce, BeginsWith, EndOnce, ExchangeToAdd, LoadToAdd, LookCounter, LookOnce, MarkWait, ObjectAct, ObjectEvent, ObjectView}
 use Rattle.ns_counters.specs.Lawful.{IsWordOf}
 use Rattle.ns_counters.specs.Objects.{ObjectStanding, objects_after, IsLegalObjects, objects_own, AreObjectsBySeats}
 use Rattle.ns_counters.specs.Steps.{outcome}

@@ -1,7 +1,8 @@
 -- The walks of calls on counters and once cells as they stand at their seats, and one step of a seat.
-use Rattle.ns_counters.specs.Names.{AddExchange, AddLoad, AtCounter, AtNote, BeginOnce, Bool, DoneLoad, EndOnce, Env, EnvAct, EnvActFits, EnvEffect, EnvPlain, ExchangeToAdd, FirstClock, InRound, Item, Items, List, LoadClock, LoadNote, MarkWait, None, NoteStanding, ObjectAct, ObjectEvent}
-use Rattle.ns_counters.specs.Names.{ObjectFound, ObjectWalk, ObjectWant, Ok, OnEnv, OnNote, OnVariable, OnWord, OnceBegin, OnceEnd, OnceLoad, Option, Place, Round, RoundPlace, Setup, Some, ValueLoad, WaitClock, WaitLoad, WaitMark, Word, [], bit_or, if◌then◌else◌, judged, length, list_all, most}
-use Rattle.ns_counters.specs.Names.{nat_lt, slice_get, slice_index, slice_set, true, unwrap_or, ℕ, ◌<◌, ◌==◌, ◌^◌, ◌≡◌, ◌≤◌}
+use Rattle.std.specs.List.{list_all}
+use Rattle.std.specs.Prelude.{Bool, List, None, Ok, Option, Some, [], bit_or, if◌then◌else◌, length, nat_lt, slice_get, slice_index, slice_set, true, unwrap_or, ℕ, ◌<◌, ◌==◌, ◌^◌, ◌≡◌, ◌≤◌}
+use Rattle.ns_counters.specs.Names.{AddExchange, AddLoad, AtCounter, AtNote, BeginOnce, DoneLoad, EndOnce, Env, EnvAct, EnvActFits, EnvEffect, EnvPlain, ExchangeToAdd, FirstClock, InRound, Item, Items, LoadClock, LoadNote, MarkWait, NoteStanding, ObjectAct, ObjectEvent, ObjectFound, ObjectWalk}
+use Rattle.ns_counters.specs.Names.{ObjectWant, OnEnv, OnNote, OnVariable, OnWord, OnceBegin, OnceEnd, OnceLoad, Place, Round, RoundPlace, Setup, ValueLoad, WaitClock, WaitLoad, WaitMark, Word, judged, most}
 use Rattle.ns_counters.specs.Items.{item_at, items_of}
 use Rattle.ns_counters.specs.Lawful.{IsLawful}
 use Rattle.ns_counters.specs.Objects.{ObjectStanding, objects_after}

@@ -1,5 +1,7 @@
 -- The objects that a wait for any of several is for.
-use Rattle.ns_counters.specs.Names.{Bool, Cvs, Item, Items, List, None, OnNote, OnVariable, Option, [], false, if◌then◌else◌, is_in, list_any, nat_lt, replicate, slice_get, slice_set, suc, take, true, ℕ, ◌+◌, ◌<◌, ◌==◌, ◌∷◌, ◌≡◌}
+use Rattle.std.specs.List.{list_any}
+use Rattle.std.specs.Prelude.{Bool, List, None, Option, [], false, if◌then◌else◌, nat_lt, replicate, slice_get, slice_set, suc, take, true, ℕ, ◌+◌, ◌<◌, ◌==◌, ◌∷◌, ◌≡◌}
+use Rattle.ns_counters.specs.Names.{Cvs, Item, Items, OnNote, OnVariable, is_in}
 
 -- the objects, in order
 abbrev pub items_of : Items → List Item

@@ -1,5 +1,6 @@
 -- The law of a table of counters and once cells: its words, and where callers stand, are as one history leaves them.
-use Rattle.ns_counters.specs.Names.{Adding, BeginsWith, CounterState, Free, List, ObjectEvent, ObjectView, Place, Running, Setup, length, most, slice_index, ℕ, ◌<◌, ◌≡◌, ◌≤◌}
+use Rattle.std.specs.Prelude.{List, length, slice_index, ℕ, ◌<◌, ◌≡◌, ◌≤◌}
+use Rattle.ns_counters.specs.Names.{Adding, BeginsWith, CounterState, Free, ObjectEvent, ObjectView, Place, Running, Setup, most}
 use Rattle.ns_counters.specs.Objects.{ObjectStanding, objects_after, IsLegalObjects, objects_own, AreObjectsBySeats}
 use Rattle.ns_counters.specs.Steps.{word_of_once}
 use Rattle.ns_counters.specs.Words.{counter_word, stage, stage_word}

@@ -1,5 +1,6 @@
 -- How objects are made.
-use Rattle.ns_counters.specs.Names.{List, Setup, length, replicate, ℕ, ◌++◌, ◌-◌}
+use Rattle.std.specs.Prelude.{List, length, replicate, ℕ, ◌++◌, ◌-◌}
+use Rattle.ns_counters.specs.Names.{Setup}
 
 -- the values by number, and 0 past the last, 16 in all
 abbrev pub padded : List ℕ → List ℕ

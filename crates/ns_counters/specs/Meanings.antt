@@ -1,6 +1,7 @@
 -- What the answer of a call on counters and once cells means, whatever others do while it is in progress, and how far such a call has come at each of its places.
-use Rattle.ns_counters.specs.Names.{AddExchange, AddLoad, Already, AtCounter, AtNote, AtSomePoint, Bool, DoneLoad, Err, FirstClock, InRound, IsBetween, IsLeftAt, IsSomeAnd, Item, Items, List, Number, ObjectEvent, ObjectNext, ObjectReply, ObjectWalk, Ok, OnCounter, OnOnce, OnceBegin, OnceEnd}
-use Rattle.ns_counters.specs.Names.{OnceLoad, Option, Refused, Repeat, Round, RoundPlace, Setup, Some, ValueLoad, WaitClock, WaitLoad, WaitMark, [], clock_of, env_after, false, is_done, is_notified, is_ready, take, true, ℕ, ◌++◌, ◌∷◌, ◌≡◌, ◌≢◌, ◌≤◌}
+use Rattle.std.specs.Prelude.{Bool, Err, IsSomeAnd, List, Ok, Option, Some, [], false, take, true, ℕ, ◌++◌, ◌∷◌, ◌≡◌, ◌≢◌, ◌≤◌}
+use Rattle.ns_counters.specs.Names.{AddExchange, AddLoad, Already, AtCounter, AtNote, AtSomePoint, DoneLoad, FirstClock, InRound, IsBetween, IsLeftAt, Item, Items, Number, ObjectEvent, ObjectNext, ObjectReply, ObjectWalk, OnCounter, OnOnce, OnceBegin, OnceEnd, OnceLoad, Refused, Repeat, Round}
+use Rattle.ns_counters.specs.Names.{RoundPlace, Setup, ValueLoad, WaitClock, WaitLoad, WaitMark, clock_of, env_after, is_done, is_notified, is_ready}
 use Rattle.ns_counters.specs.Asks.{AreThere}
 use Rattle.ns_counters.specs.Items.{items_of}
 use Rattle.ns_counters.specs.Objects.{ObjectStanding, objects_after, objects_own}

@@ -63,6 +63,3 @@ pub use Rattle.ns_model.specs.declared.environment.EnvEvent.{EnvEvent}
 pub use Rattle.ns_model.specs.declared.once.OnceEvent.{OnceEvent}
 pub use Rattle.ns_model.specs.declared.once.OnceEvent.TheVariants.{Began, Ran}
 pub use Rattle.ns_model.specs.declared.once.OnceState.{OnceState}
-pub use Rattle.std.specs.List.{fold, list_all, list_any}
-pub use Rattle.std.specs.Prelude.{Bool, Err, IsSomeAnd, List, None, Ok, Option, Result, Some, [], bit_or, drop, false, filter, if◌then◌else◌, length, nat_lt, replicate, slice_get, slice_index, slice_set, suc, take, true, unwrap_or, zero, ℕ, ℤ, ◌%◌, ◌++◌, ◌+◌, ◌-◌, ◌/◌, ◌<◌, ◌==◌, ◌^◌, ◌∷◌, ◌≡◌}
-pub use Rattle.std.specs.Prelude.{◌≢◌, ◌≤◌, ◌⊎◌}

@@ -1,6 +1,7 @@
 -- Counters and once cells side by side: which histories of all of them are legal, and what they leave.
-use Rattle.ns_counters.specs.Names.{Add, Began, Begun, CounterEvent, CounterState, Every, IsLegalCounterEvent, IsLegalFrom, IsLegalOnceEvent, List, ObjectEvent, OnCounter, OnOnce, OnceEvent, OnceState, Ran, Setup, [], but_at, counter_next, filter, first_counter, fold, if◌then◌else◌, once_next}
-use Rattle.ns_counters.specs.Names.{slice_index, ℕ, ◌<◌, ◌==◌, ◌∷◌}
+use Rattle.std.specs.List.{fold}
+use Rattle.std.specs.Prelude.{List, [], filter, if◌then◌else◌, slice_index, ℕ, ◌<◌, ◌==◌, ◌∷◌}
+use Rattle.ns_counters.specs.Names.{Add, Began, Begun, CounterEvent, CounterState, Every, IsLegalCounterEvent, IsLegalFrom, IsLegalOnceEvent, ObjectEvent, OnCounter, OnOnce, OnceEvent, OnceState, Ran, Setup, but_at, counter_next, first_counter, once_next}
 use Rattle.ns_model.specs.declared.once.OnceState.TheVariants.{Unused}
 
 -- what a history leaves of each object, by its number

@@ -1,6 +1,7 @@
 -- One round of a wait for any of several objects.
-use Rattle.ns_counters.specs.Names.{AtCounter, AtNote, Clock, Env, EnvNext, EnvWalk, FirstClock, ForIsNotified, Go, Is, Item, List, LoadClock, LoadNote, LookCounter, None, NoteLoad, ObjectFound, ObjectWant, OnEnv, OnNote, OnVariable, OnWord, Over, Round, RoundGo, RoundNext, RoundOver, RoundPlace}
-use Rattle.ns_counters.specs.Names.{Some, Word, [], drop, env_got_of, if◌then◌else◌, is_due, suc, true, ℕ, ◌<◌, ◌==◌, ◌∷◌}
+use Rattle.std.specs.Prelude.{List, None, Some, [], drop, if◌then◌else◌, suc, true, ℕ, ◌<◌, ◌==◌, ◌∷◌}
+use Rattle.ns_counters.specs.Names.{AtCounter, AtNote, Clock, Env, EnvNext, EnvWalk, FirstClock, ForIsNotified, Go, Is, Item, LoadClock, LoadNote, LookCounter, NoteLoad, ObjectFound, ObjectWant, OnEnv, OnNote, OnVariable, OnWord, Over, Round, RoundGo, RoundNext, RoundOver, RoundPlace, Word}
+use Rattle.ns_counters.specs.Names.{env_got_of, is_due}
 use Rattle.ns_counters.specs.Items.{items_of}
 use Rattle.ns_counters.specs.Words.{counter_of}
 use Rattle.ns_counters.specs.declared.items.Item.TheVariants.{OnCounter}

@@ -1,5 +1,6 @@
 -- Rounds of looks at a clock, and then at several things in order, of which a note is one kind and a counter is another: what a wait for any of several goes by.
-use Rattle.ns_counters.specs.Names.{BeginsWith, Bool, EnvEvent, List, None, ObjectEvent, Option, Some, [], clock_of, false, is_due, length, slice_get, suc, take, true, zero, ℕ, ◌∷◌, ◌≡◌, ◌⊎◌}
+use Rattle.std.specs.Prelude.{Bool, List, None, Option, Some, [], false, length, slice_get, suc, take, true, zero, ℕ, ◌∷◌, ◌≡◌, ◌⊎◌}
+use Rattle.ns_counters.specs.Names.{BeginsWith, EnvEvent, ObjectEvent, clock_of, is_due}
 
 -- how far both have come: the clock and the notes, and the counters and once cells
 pub record Past : Type 0 where

@@ -1,6 +1,6 @@
 -- What one step of a call leaves, by the word that it finds.
-use Rattle.ns_counters.specs.Names.{Add, Adding, Began, BeginOnce, Begun, CounterFault, EndOnce, Err, ExchangeToAdd, Free, List, LoadToAdd, LookCounter, LookOnce, MarkWait, ObjectAct, ObjectEvent, Ok, OnCounter, OnOnce, Place, Ran, Result, Running, Setup, [], bit_or, if◌then◌else◌, judged, most, ℕ}
-use Rattle.ns_counters.specs.Names.{ℤ, ◌+◌, ◌<◌, ◌==◌, ◌^◌, ◌∷◌, ◌≡◌, ◌≤◌}
+use Rattle.std.specs.Prelude.{Err, List, Ok, Result, [], bit_or, if◌then◌else◌, ℕ, ℤ, ◌+◌, ◌<◌, ◌==◌, ◌^◌, ◌∷◌, ◌≡◌, ◌≤◌}
+use Rattle.ns_counters.specs.Names.{Add, Adding, Began, BeginOnce, Begun, CounterFault, EndOnce, ExchangeToAdd, Free, LoadToAdd, LookCounter, LookOnce, MarkWait, ObjectAct, ObjectEvent, OnCounter, OnOnce, Place, Ran, Running, Setup, judged, most}
 use Rattle.ns_counters.specs.Words.{counter_word, counter_of}
 
 -- The words: first those of 16 counters, by number, and then those of 16 once cells.

@@ -1,7 +1,7 @@
 -- The walks of the calls on counters and once cells: what each place wants, and where each answer leads.
-use Rattle.ns_counters.specs.Names.{AddExchange, AddLoad, Adding, Already, BeginOnce, Bool, Clock, CounterFault, CounterState, DoneLoad, EndOnce, Env, Err, ExchangeToAdd, FirstClock, Free, InRound, LoadClock, LoadToAdd, LookCounter, LookOnce, MarkWait, None, Number, ObjectFound, ObjectNext}
-use Rattle.ns_counters.specs.Names.{ObjectWalk, ObjectWant, Ok, OnEnv, OnWord, OnceBegin, OnceEnd, OnceLoad, Option, Place, Refused, Repeat, Result, Round, RoundGo, RoundNext, RoundOver, Running, Some, Stage, ValueLoad, WaitClock, WaitLoad, WaitMark, Word, false, if◌then◌else◌, judged, nat_lt}
-use Rattle.ns_counters.specs.Names.{true, ℕ, ℤ, ◌==◌}
+use Rattle.std.specs.Prelude.{Bool, Err, None, Ok, Option, Result, Some, false, if◌then◌else◌, nat_lt, true, ℕ, ℤ, ◌==◌}
+use Rattle.ns_counters.specs.Names.{AddExchange, AddLoad, Adding, Already, BeginOnce, Clock, CounterFault, CounterState, DoneLoad, EndOnce, Env, ExchangeToAdd, FirstClock, Free, InRound, LoadClock, LoadToAdd, LookCounter, LookOnce, MarkWait, Number, ObjectFound, ObjectNext, ObjectWalk, ObjectWant}
+use Rattle.ns_counters.specs.Names.{OnEnv, OnWord, OnceBegin, OnceEnd, OnceLoad, Place, Refused, Repeat, Round, RoundGo, RoundNext, RoundOver, Running, Stage, ValueLoad, WaitClock, WaitLoad, WaitMark, Word, judged}
 use Rattle.ns_counters.specs.RoundWalks.{IsInList, round_got, round_want}
 use Rattle.ns_counters.specs.Words.{counter_of, counter_word, stage_of}
 use Rattle.ns_counters.specs.declared.reply.ObjectReply.TheVariants.{Is, Ran}

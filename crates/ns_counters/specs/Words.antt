@@ -1,5 +1,6 @@
 -- The words that a table keeps of counters and of once cells.
-use Rattle.ns_counters.specs.Names.{CounterState, Done, OnceState, Stage, Unused, if◌then◌else◌, ℕ, ◌%◌, ◌+◌, ◌/◌, ◌==◌, ◌^◌}
+use Rattle.std.specs.Prelude.{if◌then◌else◌, ℕ, ◌%◌, ◌+◌, ◌/◌, ◌==◌, ◌^◌}
+use Rattle.ns_counters.specs.Names.{CounterState, Done, OnceState, Stage, Unused}
 use Rattle.ns_counters.specs.declared.word.Stage.TheVariants.{Running}
 use Rattle.ns_model.specs.declared.once.OnceState.TheVariants as TheOnce
 

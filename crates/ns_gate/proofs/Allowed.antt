@@ -1,11 +1,12 @@
 -- Each act on the table keeps the rule, by the machine's law.
-use Rattle.ns_gate.proofs.Prelude.{Acquire, Act, ActFits, Allows, ArmFlag, Arrival, AtHome, Bool, CanLeave, CanStep, CanWait, Cell, Change, Effect, Event, Flag, Found, GateView, GetLoad, HasMode, HasStepped, Held, Holds, Homes, InAcquire, InCells, InLeaving, InQueuing, InRelease, InShow, InSignal}
-use Rattle.ns_gate.proofs.Prelude.{InTry, InWait, IsExchange, IsLoad, IsOne, IsRuled, IsSome, IsStoreOf, JudgeMet, JudgeQuiet, Leave, List, Lists, LoadCell, LoadFlag, LoadWord, Made, MayBegin, MayExchange, MayLoad, MayStore, Me, Mode, None, OnCondition, OnVariables, Option, Owed, OwesOne, Paid}
-use Rattle.ns_gate.proofs.Prelude.{Part, PayWake, PerformedWith, Queue, QueueSelf, QueueToWait, Quiet, QuietKeeps, Read, Release, ReleaseReturning, Releasing, ReturnQueues, ReturnShown, Saw, ScanAndRelease, SectionFits, Shows, Some, StoreCell, Subject, TableAct, TakeQueues, Taking, TestLast}
-use Rattle.ns_gate.proofs.Prelude.{Tested, ToChange, ToQueue, Truths, TryLoad, Underlying, Valid, Views, WaitReturning, WakeAndReturn, Walk, Word, Write, Writer, [], act_by, act_fits, ap, arith, before_in, bits_of, called_of, carried_after, carried_by, cases_eq, change_commits, change_found}
-use Rattle.ns_gate.proofs.Prelude.{changed, cond, content_by, decoded, drop, either, encoded, eq-eqb, eqb, exchanged, exit_for, false, flags_with, found_of, get_elem?, get_or, get_or-set_other, get_or-set_same, gives, has_queues, has_some, homes_after, if◌then◌else◌, inl, inr, judge_of}
-use Rattle.ns_gate.proofs.Prelude.{keeps_slots, length, length-set, lists_scanned, meets_at, mode_for, moves, ne_eqb, newly_held, next_owed, none, number_of, one_is, owed_after, owes_more, part_of, refl, releasing_of, rest, row_in, scanned, section_of, set, set-get_or, slice_set, some, split_at}
-use Rattle.ns_gate.proofs.Prelude.{standing_after, subst, suc, sym, take, takes, the, true, view_fits, view_in, waited_in, walk_by, want_of, woken_of, word_acquired, word_at, word_of, word_released, word_released_returning, word_returned, word_taken, ℕ, ◌+◌, ◌<◌, ◌∙◌, ◌∷◌, ◌≡◌, ◌≢◌, ◌⊎◌}
+use Rattle.std.proofs.Common.{Bool, IsSome, List, None, Option, Some, [], ap, arith, cond, drop, eq-eqb, eqb, false, get_or, get_or-set_other, get_or-set_same, if◌then◌else◌, inl, inr, length, length-set, ne_eqb, refl, set, slice_set, subst, suc, sym, take, true, ℕ, ◌+◌, ◌<◌, ◌∙◌, ◌∷◌, ◌≡◌, ◌≢◌}
+use Rattle.std.proofs.Common.{◌⊎◌}
+use Rattle.ns_gate.proofs.Prelude.{Acquire, Act, ActFits, Allows, ArmFlag, Arrival, AtHome, CanLeave, CanStep, CanWait, Cell, Change, Effect, Event, Flag, Found, GateView, GetLoad, HasMode, HasStepped, Held, Holds, Homes, InAcquire, InCells, InLeaving, InQueuing, InRelease, InShow, InSignal, InTry}
+use Rattle.ns_gate.proofs.Prelude.{InWait, IsExchange, IsLoad, IsOne, IsRuled, IsStoreOf, JudgeMet, JudgeQuiet, Leave, Lists, LoadCell, LoadFlag, LoadWord, Made, MayBegin, MayExchange, MayLoad, MayStore, Me, Mode, OnCondition, OnVariables, Owed, OwesOne, Paid, Part, PayWake, PerformedWith, Queue}
+use Rattle.ns_gate.proofs.Prelude.{QueueSelf, QueueToWait, Quiet, QuietKeeps, Read, Release, ReleaseReturning, Releasing, ReturnQueues, ReturnShown, Saw, ScanAndRelease, SectionFits, Shows, StoreCell, Subject, TableAct, TakeQueues, Taking, TestLast, Tested, ToChange, ToQueue, Truths, TryLoad}
+use Rattle.ns_gate.proofs.Prelude.{Underlying, Valid, Views, WaitReturning, WakeAndReturn, Walk, Word, Write, Writer, act_by, act_fits, before_in, bits_of, called_of, carried_after, carried_by, cases_eq, change_commits, change_found, changed, content_by, decoded, either, encoded, exchanged}
+use Rattle.ns_gate.proofs.Prelude.{exit_for, flags_with, found_of, get_elem?, gives, has_queues, has_some, homes_after, judge_of, keeps_slots, lists_scanned, meets_at, mode_for, moves, newly_held, next_owed, none, number_of, one_is, owed_after, owes_more, part_of, releasing_of, rest, row_in}
+use Rattle.ns_gate.proofs.Prelude.{scanned, section_of, set-get_or, some, split_at, standing_after, takes, the, view_fits, view_in, waited_in, walk_by, want_of, woken_of, word_acquired, word_at, word_of, word_released, word_released_returning, word_returned, word_taken}
 use Rattle.ns_gate.proofs.Keeps.{none_takes, hand_of, its_fit, between, lawful_between, stands_between, walk_in, now, later, did, did_from, ruled}
 use Rattle.ns_gate.proofs.Findings.{meant_by, walk_is}
 use Rattle.ns_model.specs.declared.event.Exit.TheVariants as TheExit

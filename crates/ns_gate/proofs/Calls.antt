@@ -1,7 +1,8 @@
 -- A step takes its call on, as its caller follows it.
-use Rattle.ns_gate.proofs.Prelude.{Act, ActFits, CallGoes, CanStep, Course, Done, Event, Found, GateView, HasReached, HasSince, HasStepped, Held, Idle, InAcquire, InCells, InRelease, InShow, InSignal, InTry, InWait, IsAtPlace, IsAtRest, IsOne, IsTold, IsTrueToHistory, IsWide, List, Next, None, On}
-use Rattle.ns_gate.proofs.Prelude.{Option, Owed, OwesBelow, OwesOne, Pay, PayInWait, PayTheWoken, PayWake, Performed, PlaceFits, SeatOf, SeatView, SectionFits, Some, Standing, Told, Truths, Walk, [], ap, append-nil, append_assoc, arith, asked_of, begins_itself, begins_through, carried_by}
-use Rattle.ns_gate.proofs.Prelude.{course_by, false, got_of, has_queues, has_some, length, part_of, pays, refl, row_after, standing_after, subst, sym, the, true, walk_after, walk_by, want_of, ℕ, ◌++◌, ◌∙◌, ◌∷◌, ◌≡◌, ◌≤◌}
+use Rattle.std.proofs.Common.{List, None, Option, Some, [], ap, append-nil, append_assoc, arith, false, length, refl, subst, sym, true, ℕ, ◌++◌, ◌∙◌, ◌∷◌, ◌≡◌, ◌≤◌}
+use Rattle.ns_gate.proofs.Prelude.{Act, ActFits, CallGoes, CanStep, Course, Done, Event, Found, GateView, HasReached, HasSince, HasStepped, Held, Idle, InAcquire, InCells, InRelease, InShow, InSignal, InTry, InWait, IsAtPlace, IsAtRest, IsOne, IsTold, IsTrueToHistory, IsWide, Next, On, Owed}
+use Rattle.ns_gate.proofs.Prelude.{OwesBelow, OwesOne, Pay, PayInWait, PayTheWoken, PayWake, Performed, PlaceFits, SeatOf, SeatView, SectionFits, Standing, Told, Truths, Walk, asked_of, begins_itself, begins_through, carried_by, course_by, got_of, has_queues, has_some, part_of, pays, row_after}
+use Rattle.ns_gate.proofs.Prelude.{standing_after, the, walk_after, walk_by, want_of}
 use Rattle.ns_gate.proofs.Findings.{fits_now, walk_is}
 
 none_of : {A : Type 0} (xs : List A) → has_some xs ≡ false → xs ≡ []

@@ -1,6 +1,6 @@
 -- What is known of a gate that is closed.
-use Rattle.ns_gate.proofs.Prelude.{Bool, EndsAs, Every, Final, Fits, GateView, Holds, Homes, IsLawful, IsOne, IsPackable, IsRuled, IsTold, List, Lists, Seen, Truths, Underlying, Views, Word, [], ap, arith, decoded, every_at, ext_get_or, false, get_elem?, get_or, is_held, length, nat_lt, not}
-use Rattle.ns_gate.proofs.Prelude.{one_is, packable, refl, some, some-injective, some-ne-none, subst, suc, sym, the, true, word_of, zero, ℕ, ◌+◌, ◌<◌, ◌||◌, ◌∙◌, ◌∷◌, ◌≡◌, ◌≤◌}
+use Rattle.std.proofs.Common.{Bool, List, [], ap, arith, ext_get_or, false, get_or, length, nat_lt, not, refl, subst, suc, sym, true, zero, ℕ, ◌+◌, ◌<◌, ◌||◌, ◌∙◌, ◌∷◌, ◌≡◌, ◌≤◌}
+use Rattle.ns_gate.proofs.Prelude.{EndsAs, Every, Final, Fits, GateView, Holds, Homes, IsLawful, IsOne, IsPackable, IsRuled, IsTold, Lists, Seen, Truths, Underlying, Views, Word, decoded, every_at, get_elem?, is_held, one_is, packable, some, some-injective, some-ne-none, the, word_of}
 
 -- ---- what is read
 

@@ -1,8 +1,8 @@
 -- What a step tells its caller.
-use Rattle.ns_gate.proofs.Prelude.{Acquire, Act, ActFits, BeginsIf, Bool, CanStep, Cell, Changed, Effect, Flag, Found, GateView, HasStepped, Held, IsExchange, IsOwedNext, IsPackable, JudgeMet, JudgeQuiet, List, Lists, LoadCell, LoadFlag, LoadWord, LockState, Made, MayExchange, Me, None, Option}
-use Rattle.ns_gate.proofs.Prelude.{Owed, Part, Performed, PerformedWith, Release, ReleaseReturning, Result, ReturnQueues, Returning, Saw, SeatView, SectionFits, Some, TakeQueues, Truths, WaitReturning, Walk, Word, [], act_by, act_fits, act_of, act_returning, ap, cases_eq, change_found, cond}
-use Rattle.ns_gate.proofs.Prelude.{decoded, exchanged, found_fits, found_of, found_returned, got_of, inl, inr, made_by, ne_eqb, next_owed, number_of, packable, part_of, refl, rest, row_in, scanned, slice_index, standing_after, subst, sym, the, tried_for, view_fits, view_in, walk_after, walk_by}
-use Rattle.ns_gate.proofs.Prelude.{want_of, word_of, ℕ, ◌++◌, ◌<◌, ◌∙◌, ◌∷◌, ◌≡◌}
+use Rattle.std.proofs.Common.{Bool, List, None, Option, Result, Some, [], ap, cond, inl, inr, ne_eqb, refl, slice_index, subst, sym, ℕ, ◌++◌, ◌<◌, ◌∙◌, ◌∷◌, ◌≡◌}
+use Rattle.ns_gate.proofs.Prelude.{Acquire, Act, ActFits, BeginsIf, CanStep, Cell, Changed, Effect, Flag, Found, GateView, HasStepped, Held, IsExchange, IsOwedNext, IsPackable, JudgeMet, JudgeQuiet, Lists, LoadCell, LoadFlag, LoadWord, LockState, Made, MayExchange, Me, Owed, Part, Performed}
+use Rattle.ns_gate.proofs.Prelude.{PerformedWith, Release, ReleaseReturning, ReturnQueues, Returning, Saw, SeatView, SectionFits, TakeQueues, Truths, WaitReturning, Walk, Word, act_by, act_fits, act_of, act_returning, cases_eq, change_found, decoded, exchanged, found_fits, found_of, found_returned}
+use Rattle.ns_gate.proofs.Prelude.{got_of, made_by, next_owed, number_of, packable, part_of, rest, row_in, scanned, standing_after, the, tried_for, view_fits, view_in, walk_after, walk_by, want_of, word_of}
 
 -- the wake that is owed next
 pub owed_next : (wake : Owed) (owed : List Owed) → IsOwedNext wake owed → wake ≡ next_owed owed

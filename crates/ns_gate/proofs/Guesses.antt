@@ -1,7 +1,7 @@
 -- One exchange of the lock word that is a load and the exchange behind it, where the word was guessed.
-use Rattle.ns_gate.proofs.Prelude.{Acquire, Act, Allows, Bool, CameByGuess, CanStep, Err, Found, GateView, GoesOn, HasGuessed, HasMadeBoth, Holds, IsExchange, IsPackable, IsPlainExchange, LoadWord, Made, MayExchange, MayGuess, None, Ok, Performed, PerformedBoth, PerformedWith, QuietKeeps, Release}
-use Rattle.ns_gate.proofs.Prelude.{Result, Saw, SeatOf, SeatView, Some, Truths, Walk, WantsNext, Word, act_by, ap, at_once, carried_after, cases_eq, cond, decoded, either, eq-eqb, eqb, exchanged, got_of, inl, inr, made_by, ne_eqb, number_of, refl, subst, sym, the, tried_for, walk_after, want_of}
-use Rattle.ns_gate.proofs.Prelude.{word_of, ℕ, ◌<◌, ◌∙◌, ◌≡◌}
+use Rattle.std.proofs.Common.{Bool, Err, None, Ok, Result, Some, ap, cond, eq-eqb, eqb, inl, inr, ne_eqb, refl, subst, sym, ℕ, ◌<◌, ◌∙◌, ◌≡◌}
+use Rattle.ns_gate.proofs.Prelude.{Acquire, Act, Allows, CameByGuess, CanStep, Found, GateView, GoesOn, HasGuessed, HasMadeBoth, Holds, IsExchange, IsPackable, IsPlainExchange, LoadWord, Made, MayExchange, MayGuess, Performed, PerformedBoth, PerformedWith, QuietKeeps, Release, Saw, SeatOf}
+use Rattle.ns_gate.proofs.Prelude.{SeatView, Truths, Walk, WantsNext, Word, act_by, at_once, carried_after, cases_eq, decoded, either, exchanged, got_of, made_by, number_of, the, tried_for, walk_after, want_of, word_of}
 use Rattle.ns_gate.proofs.Allowed.{may_load, may_exchange}
 use Rattle.ns_gate.proofs.Findings.{exchanged_by, stepped, walk_is, word_packs}
 

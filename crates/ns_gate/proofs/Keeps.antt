@@ -1,9 +1,9 @@
 -- A step of the machine keeps the rule.
-use Rattle.ns_gate.proofs.Prelude.{AtHome, BeginsIf, BeginsWith, CallGoes, Course, Done, Effect, Event, Every, Fits, Found, GateView, HasCome, HasStepped, Held, Homes, Idle, IfSome, IsLawful, IsRuled, IsTold, List, LockState, MayBegin, Next, None, On, Option, Others, Owed, Part, QuietKeeps}
-use Rattle.ns_gate.proofs.Prelude.{Request, SeatStep, SeatView, Shows, SoFar, Some, Step, Truths, Underlying, ViewFits, Views, Walk, [], ap, arith, asked_of, begin_at, begins_if, begins_unchanged, calls_of, cond, course_after, course_by, course_from, drop, eq-eqb, eqb, every_at, every_both}
-use Rattle.ns_gate.proofs.Prelude.{every_put, false, get_elem?, got_of, has_queues, inl, inr, is_seat, nat_lt, one_if, one_most, others_both, others_map, others_none, others_of, part_of, refl, row_after, seat_in, seat_step_by, seat_step_tells, seat_steps_keep, set, set_here, set_same, set_there}
-use Rattle.ns_gate.proofs.Prelude.{slice_get, slice_get_within, slice_set, some, split_at, standing_after, step_at, subst, suc, sym, take, takers, takes_on, told_after, told_there, total, total_none, total_set, true, view_fits, view_in, walk_after, walk_by, want_of, zero, ℕ, ◌++◌, ◌<◌, ◌∙◌, ◌∷◌}
-use Rattle.ns_gate.proofs.Prelude.{◌≡◌, ◌≢◌, ◌≤◌, ◌⊎◌}
+use Rattle.std.proofs.Common.{IfSome, List, None, Option, Some, [], ap, arith, cond, drop, eq-eqb, eqb, false, inl, inr, nat_lt, refl, set, slice_get, slice_set, subst, suc, sym, take, true, zero, ℕ, ◌++◌, ◌<◌, ◌∙◌, ◌∷◌, ◌≡◌, ◌≢◌, ◌≤◌, ◌⊎◌}
+use Rattle.ns_gate.proofs.Prelude.{AtHome, BeginsIf, BeginsWith, CallGoes, Course, Done, Effect, Event, Every, Fits, Found, GateView, HasCome, HasStepped, Held, Homes, Idle, IsLawful, IsRuled, IsTold, LockState, MayBegin, Next, On, Others, Owed, Part, QuietKeeps, Request, SeatStep, SeatView, Shows}
+use Rattle.ns_gate.proofs.Prelude.{SoFar, Step, Truths, Underlying, ViewFits, Views, Walk, asked_of, begin_at, begins_if, begins_unchanged, calls_of, course_after, course_by, course_from, every_at, every_both, every_put, get_elem?, got_of, has_queues, is_seat, one_if, one_most, others_both}
+use Rattle.ns_gate.proofs.Prelude.{others_map, others_none, others_of, part_of, row_after, seat_in, seat_step_by, seat_step_tells, seat_steps_keep, set_here, set_same, set_there, slice_get_within, some, split_at, standing_after, step_at, takers, takes_on, told_after, told_there, total, total_none}
+use Rattle.ns_gate.proofs.Prelude.{total_set, view_fits, view_in, walk_after, walk_by, want_of}
 
 -- nobody has the queues where none is counted
 pub none_takes : {C : Type 0} {N : ℕ} (views : List (SeatView C N)) (n : ℕ) (view : SeatView C N) → takers views ≡ 0 → slice_get views n ≡ Some view → has_queues view.walk ≡ true → ⊥

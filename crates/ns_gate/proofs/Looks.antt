@@ -1,6 +1,7 @@
 -- A look changes no word of the table: any load may be told what it has shown.
-use Rattle.ns_gate.proofs.Prelude.{Act, Allows, Bool, CanStep, Cause, Effect, GateView, HasLooked, HasStepped, Holds, Homes, IsOne, IsRuled, Limits, List, Lists, Look, Looked, MayShow, Me, None, Option, Part, Performed, QuietKeeps, Some, Truths, Underlying, Views, Walk, [], ap, carried_after}
-use Rattle.ns_gate.proofs.Prelude.{get_elem?, held_after, inl, keeps_slots, part_of, refl, set, set-get_or, some, subst, sym, the, want_of, ℕ, ◌<◌, ◌∙◌, ◌∷◌, ◌≡◌}
+use Rattle.std.proofs.Common.{Bool, List, None, Option, Some, [], ap, inl, refl, set, subst, sym, ℕ, ◌<◌, ◌∙◌, ◌∷◌, ◌≡◌}
+use Rattle.ns_gate.proofs.Prelude.{Act, Allows, CanStep, Cause, Effect, GateView, HasLooked, HasStepped, Holds, Homes, IsOne, IsRuled, Limits, Lists, Look, Looked, MayShow, Me, Part, Performed, QuietKeeps, Truths, Underlying, Views, Walk, carried_after, get_elem?, held_after, keeps_slots, part_of}
+use Rattle.ns_gate.proofs.Prelude.{set-get_or, some, the, want_of}
 use Rattle.ns_gate.proofs.Keeps.{now, later, did, ruled}
 use Rattle.ns_gate.proofs.Findings.{meant_by, walk_is}
 

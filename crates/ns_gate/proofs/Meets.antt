@@ -1,7 +1,7 @@
 -- Two seats of a gate that meet.
-use Rattle.ns_gate.proofs.Prelude.{Allows, ArePair, Bool, Event, Fits, GateView, HasLearned, HasSight, HaveLearned, HaveMet, Held, Holds, Homes, IsAtRest, IsBySeats, IsBySums, IsOne, IsRuled, IsSettled, IsWide, List, Mode, None, OneWriter, Option, Read, SeatOf, SeatView, ShareTheLock, Some, Truths}
-use Rattle.ns_gate.proofs.Prelude.{Underlying, Views, Word, Write, [], ap, arith, begins_itself, cond, eq-eqb, eqb, false, first_of, fresh_seat, get_elem?, is_reading, is_seat, is_write, is_writing, joined_learn, meets, not, number_of_seat, one_history, one_if, own_append, own_of, readers, refl}
-use Rattle.ns_gate.proofs.Prelude.{rest_of, sight_of, slice_get, some, subst, suc, sym, the, total, total_at, true, writers, zero, ℕ, ◌++◌, ◌+◌, ◌∙◌, ◌∷◌, ◌≡◌, ◌≢◌, ◌≤◌}
+use Rattle.std.proofs.Common.{Bool, List, None, Option, Some, [], ap, arith, cond, eq-eqb, eqb, false, not, refl, slice_get, subst, suc, sym, true, zero, ℕ, ◌++◌, ◌+◌, ◌∙◌, ◌∷◌, ◌≡◌, ◌≢◌, ◌≤◌}
+use Rattle.ns_gate.proofs.Prelude.{Allows, ArePair, Event, Fits, GateView, HasLearned, HasSight, HaveLearned, HaveMet, Held, Holds, Homes, IsAtRest, IsBySeats, IsBySums, IsOne, IsRuled, IsSettled, IsWide, Mode, OneWriter, Read, SeatOf, SeatView, ShareTheLock, Truths, Underlying, Views, Word, Write}
+use Rattle.ns_gate.proofs.Prelude.{begins_itself, first_of, fresh_seat, get_elem?, is_reading, is_seat, is_write, is_writing, joined_learn, meets, number_of_seat, one_history, one_if, own_append, own_of, readers, rest_of, sight_of, some, the, total, total_at, writers}
 use Rattle.ns_gate.proofs.Keeps.{once}
 
 -- ---- two of those that share a sum

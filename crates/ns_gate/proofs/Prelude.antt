@@ -45,8 +45,8 @@ pub use Rattle.ns_word.proofs.Seen.{found_fits, packable}
 pub use Rattle.ns_word.proofs.Starts.{lawful_fresh}
 pub use Rattle.ns_word.proofs.ToldAfter.{begins_if, own_append, seat_in, seat_step_by, seat_step_tells, seat_steps_keep, told_first, told_there}
 pub use Rattle.ns_word.specs.declared.wait.Aim.{Aim}
-pub use Rattle.std.proofs.Common.{Bool, Err, IfSome, IsSome, IsTrue, List, None, Ok, Option, Result, Some, [], ap, append-nil, append_assoc, arith, cond, drop, eq-eqb, eqb, ext_get_or, false, get_or, get_or-set_other, get_or-set_same, if◌then◌else◌, inl, inr, length, length-set, map, nat_lt}
-pub use Rattle.std.proofs.Common.{ne_eqb, not, refl, replicate, rules, set, slice_get, slice_index, slice_set, subst, suc, sym, take, true, zero, ℕ, ◌&&◌, ◌++◌, ◌+◌, ◌<◌, ◌||◌, ◌↔◌, ◌∙◌, ◌∷◌, ◌≡◌, ◌≢◌, ◌≤◌, ◌⊎◌}
+pub use Rattle.std.proofs.Common.{arith, inl}
+pub use Rattle.std.proofs.Common.{refl, subst, sym, ℕ}
 pub use Rattle.std.proofs.Math.Bool.{and-true}
 pub use Rattle.std.proofs.lemmas.Bool.{cases_Bool, cases_eq}
 pub use Rattle.std.proofs.lemmas.List.{get_or-replicate, length-replicate, set-get_or}

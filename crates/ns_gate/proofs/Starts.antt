@@ -1,6 +1,6 @@
 -- A new gate.
-use Rattle.ns_gate.proofs.Prelude.{Every, Fits, Holds, List, Lists, Some, Truths, [], ap, arith, fresh, fresh_seat, fresh_state, fresh_views, get_or, get_or-replicate, lawful_fresh, length, length-replicate, map, nat_lt, no_lists, number_of_seat, one_if, one_of_each, opening, refl, replicate}
-use Rattle.ns_gate.proofs.Prelude.{slice_get, some, suc, sym, told_first, zero, ℕ, ◌+◌, ◌<◌, ◌∙◌, ◌∷◌, ◌≡◌, ◌≤◌}
+use Rattle.std.proofs.Common.{List, Some, [], ap, arith, get_or, length, map, nat_lt, refl, replicate, slice_get, suc, sym, zero, ℕ, ◌+◌, ◌<◌, ◌∙◌, ◌∷◌, ◌≡◌, ◌≤◌}
+use Rattle.ns_gate.proofs.Prelude.{Every, Fits, Holds, Lists, Truths, fresh, fresh_seat, fresh_state, fresh_views, get_or-replicate, lawful_fresh, length-replicate, no_lists, number_of_seat, one_if, one_of_each, opening, some, told_first}
 
 module _ (C : Type 0) (N : ℕ) where
   stands_there : (first n i : ℕ) → i < n → slice_get (fresh_views {C = C} {N = N} first n) i ≡ Some (fresh_seat {C = C} {N = N} 0 (first + i)).at

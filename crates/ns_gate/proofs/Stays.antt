@@ -1,5 +1,6 @@
 -- What stays as it is where a step changes nothing, or nothing but a flag.
-use Rattle.ns_gate.proofs.Prelude.{Act, ArmFlag, Carries, Effect, Found, GateView, Lists, Made, None, Part, Performed, SeatOf, SeatView, Truths, [], ap, awaits, false, has_queues, part_of, refl, stands_nowhere, subst, sym, the, times, true, ℕ, ◌++◌, ◌∙◌, ◌∷◌, ◌≡◌}
+use Rattle.std.proofs.Common.{None, [], ap, false, refl, subst, sym, true, ℕ, ◌++◌, ◌∙◌, ◌∷◌, ◌≡◌}
+use Rattle.ns_gate.proofs.Prelude.{Act, ArmFlag, Carries, Effect, Found, GateView, Lists, Made, Part, Performed, SeatOf, SeatView, Truths, awaits, has_queues, part_of, stands_nowhere, the, times}
 use Rattle.ns_gate.proofs.Findings.{does}
 
 -- the seat has the same slots, the same section in hand, and knows the lists to stand as they did

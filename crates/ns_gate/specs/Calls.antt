@@ -1,5 +1,6 @@
 -- How far a call has come, as its caller follows it from step to step.
-use Rattle.ns_gate.specs.Names.{BeginsWith, Done, Event, Held, Idle, IsBySeats, IsLegal, IsOne, IsSettled, List, Lists, Me, Means, Next, None, On, Option, Owed, PlaceFits, Reply, Request, SoFar, Some, Truths, Walk, [], calls_of, false, has_queues, length, own_of, row_after, ℕ, ◌++◌, ◌<◌, ◌∷◌, ◌≡◌}
+use Rattle.std.specs.Prelude.{List, None, Option, Some, [], false, length, ℕ, ◌++◌, ◌<◌, ◌∷◌, ◌≡◌}
+use Rattle.ns_gate.specs.Names.{BeginsWith, Done, Event, Held, Idle, IsBySeats, IsLegal, IsOne, IsSettled, Lists, Me, Means, Next, On, Owed, PlaceFits, Reply, Request, SoFar, Truths, Walk, calls_of, has_queues, own_of, row_after}
 use Rattle.ns_gate.specs.Law.{GateView}
 use Rattle.ns_gate.specs.Steps.{the, course_by}
 

@@ -1,5 +1,6 @@
 -- What is known of a gate that is closed, by a seat of it.
-use Rattle.ns_gate.specs.Names.{Bool, Event, IsLawful, IsTold, List, LockState, Some, Truths, is_held, not, row_after, slice_get, true, ℕ, ◌≡◌, ◌≤◌}
+use Rattle.std.specs.Prelude.{Bool, List, Some, not, slice_get, true, ℕ, ◌≡◌, ◌≤◌}
+use Rattle.ns_gate.specs.Names.{Event, IsLawful, IsTold, LockState, Truths, is_held, row_after}
 use Rattle.ns_gate.specs.Law.{GateView}
 
 -- The gate has come to a lawful state, in which the cells are this row, and the lock is free or held as is told; the seat stands there, and was told of the history so far. Where the lock is free, the row is the one after that history.

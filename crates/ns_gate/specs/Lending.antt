@@ -1,5 +1,7 @@
 -- What the queues are once a borrow of their lists is over.
-use Rattle.ns_gate.specs.Names.{Fml, Ghosts, Lends, Lists, MutBor, RattleType, queues_row}
+use Rattle.std.specs.Borrow.{Fml, Lends, MutBor}
+use denote.RattleType.{RattleType}
+use Rattle.ns_gate.specs.Names.{Ghosts, Lists, queues_row}
 use denote.Param.{value_of}
 use Rattle.ns_gate.specs.contracts.boxed.BoxedQueues.{the_row as boxed_row}
 

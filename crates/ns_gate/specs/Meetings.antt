@@ -1,5 +1,6 @@
 -- What two seats of a gate know once they have met.
-use Rattle.ns_gate.specs.Names.{AreOfOneHistory, BeginsWith, Event, HaveLearnedBy, Held, None, Option, Read, Sight, Some, Truths, own_of, ℕ, ◌≡◌, ◌≢◌}
+use Rattle.std.specs.Prelude.{None, Option, Some, ℕ, ◌≡◌, ◌≢◌}
+use Rattle.ns_gate.specs.Names.{AreOfOneHistory, BeginsWith, Event, HaveLearnedBy, Held, Read, Sight, Truths, own_of}
 use Rattle.ns_gate.specs.Calls.{SeatOf, IsTrueToHistory}
 use Rattle.ns_gate.specs.Law.{GateView, fresh_seat}
 

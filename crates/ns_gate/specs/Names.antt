@@ -86,8 +86,5 @@ pub use Rattle.ns_word.specs.declared.word.Taking.{Taking}
 pub use Rattle.ns_word.specs.declared.word.Taking.TheVariants.{ToChange, ToQueue}
 pub use Rattle.ns_word.specs.declared.word.Word.{Word}
 pub use Rattle.ns_queue.specs.contracts.queues.Queues.{the_row as queues_row}
-pub use Rattle.std.specs.Borrow.{Fml, Lends, MutBor}
-pub use Rattle.std.specs.Option.{option_map}
-pub use Rattle.std.specs.Prelude.{Bool, Err, IfSome, List, None, Ok, Option, Result, Some, [], false, if◌then◌else◌, length, map, nat_lt, not, replicate, slice_get, slice_index, slice_set, true, ℕ, ◌++◌, ◌+◌, ◌<◌, ◌∷◌, ◌≡◌, ◌≢◌, ◌≤◌, ◌⊎◌}
 pub use denote.RattleType.{RattleType}
 pub use mathlib.Core.Option.{none, some}

@@ -1,6 +1,7 @@
 -- What is to be known beside an act.
-use Rattle.ns_gate.specs.Names.{Acquire, Act, ArmFlag, Beside, Changed, IsPackable, JudgeMet, JudgeQuiet, List, LoadCell, LoadFlag, LoadWord, Look, MayShow, None, Option, PayWake, Release, ReleaseReturning, Released, ReturnQueues, Returning, StoreCell, TakeQueues, Truths, WaitReturning, Waited}
-use Rattle.ns_gate.specs.Names.{Walk, Word, before_in, bits_of, owes_more, row_in, slice_index, slice_set, ℕ, ◌<◌, ◌≡◌}
+use Rattle.std.specs.Prelude.{List, None, Option, slice_index, slice_set, ℕ, ◌<◌, ◌≡◌}
+use Rattle.ns_gate.specs.Names.{Acquire, Act, ArmFlag, Beside, Changed, IsPackable, JudgeMet, JudgeQuiet, LoadCell, LoadFlag, LoadWord, Look, MayShow, PayWake, Release, ReleaseReturning, Released, ReturnQueues, Returning, StoreCell, TakeQueues, Truths, WaitReturning, Waited, Walk, Word, before_in}
+use Rattle.ns_gate.specs.Names.{bits_of, owes_more, row_in}
 use Rattle.ns_gate.specs.Calls.{SeatOf}
 use Rattle.ns_gate.specs.Law.{GateView}
 use Rattle.ns_gate.specs.Steps.{the, Carries, IsOwedNext, found_returned, lists_returned, some_returned}

@@ -1,8 +1,9 @@
 -- What one step of a seat is: a step of the machine between two lawful states.
-use Rattle.ns_gate.specs.Names.{Acquire, Act, ArmFlag, BeginsWith, Bits, Bool, CallGoes, Cause, Changed, Course, Err, Event, Found, IsFirst, IsLawful, IsLook, IsOne, IsTold, JudgeMet, JudgeQuiet, Left, List, Lists, LoadCell, LoadFlag, LoadWord, LockState, Looked, Made, Me, None, Ok, Option, Owed}
-use Rattle.ns_gate.specs.Names.{PayWake, PlaceFits, Release, ReleaseReturning, Released, Result, ReturnQueues, Returning, Saw, Scanned, SeatStep, SeatView, Some, StoreCell, TakeQueues, Truths, ViewFits, WaitReturning, Waited, Walk, Woke, Word, [], asked_of, bits_of, calls_of, change_found, changed}
-use Rattle.ns_gate.specs.Names.{content_at, course_after, course_from, found_of, got_of, has_queues, has_some, left_of, meets_at, mode_for, moves, releasing_of, rest, row_after, row_in, scanned, slice_index, standing_after, the_or, times, told_after, true, waited_in, walk_after, want_of, with_lock}
-use Rattle.ns_gate.specs.Names.{woken_of, word_acquired, word_released, word_released_returning, word_returned, word_taken, ℕ, ◌++◌, ◌+◌, ◌∷◌, ◌≡◌, ◌≤◌, ◌⊎◌}
+use Rattle.std.specs.Prelude.{Bool, Err, List, None, Ok, Option, Result, Some, [], slice_index, true, ℕ, ◌++◌, ◌+◌, ◌∷◌, ◌≡◌, ◌≤◌, ◌⊎◌}
+use Rattle.ns_gate.specs.Names.{Acquire, Act, ArmFlag, BeginsWith, Bits, CallGoes, Cause, Changed, Course, Event, Found, IsFirst, IsLawful, IsLook, IsOne, IsTold, JudgeMet, JudgeQuiet, Left, Lists, LoadCell, LoadFlag, LoadWord, LockState, Looked, Made, Me, Owed, PayWake, PlaceFits, Release}
+use Rattle.ns_gate.specs.Names.{ReleaseReturning, Released, ReturnQueues, Returning, Saw, Scanned, SeatStep, SeatView, StoreCell, TakeQueues, Truths, ViewFits, WaitReturning, Waited, Walk, Woke, Word, asked_of, bits_of, calls_of, change_found, changed, content_at, course_after, course_from}
+use Rattle.ns_gate.specs.Names.{found_of, got_of, has_queues, has_some, left_of, meets_at, mode_for, moves, releasing_of, rest, row_after, row_in, scanned, standing_after, the_or, times, told_after, waited_in, walk_after, want_of, with_lock, woken_of, word_acquired, word_released}
+use Rattle.ns_gate.specs.Names.{word_released_returning, word_returned, word_taken}
 use Rattle.ns_gate.specs.Law.{GateView, fresh_seat}
 
 -- the seat that a view stands for, where it is one

@@ -1,6 +1,7 @@
 -- What a signal or a broadcast makes of the lists in hand, and a scan that takes nobody, or a writer alone.
-use Rattle.ns_gate.specs.Names.{Bool, Cv, Err, List, Lists, None, Ok, Option, Owed, Result, Some, Sought, Truths, Turned, Waiter, Waking, [], begins_with_reader, bits_of, cvs_without, false, has_some, if◌then◌else◌, left_of, meets_at, moved_to, option_map, sole_of, sought_of, taken_by, taken_set}
-use Rattle.ns_gate.specs.Names.{value_of, waiters_of, wakes_of, without, woken_of, ℕ, ◌∷◌}
+use Rattle.std.specs.Option.{option_map}
+use Rattle.std.specs.Prelude.{Bool, Err, List, None, Ok, Option, Result, Some, [], false, if◌then◌else◌, ℕ, ◌∷◌}
+use Rattle.ns_gate.specs.Names.{Cv, Lists, Owed, Sought, Truths, Turned, Waiter, Waking, begins_with_reader, bits_of, cvs_without, has_some, left_of, meets_at, moved_to, sole_of, sought_of, taken_by, taken_set, value_of, waiters_of, wakes_of, without, woken_of}
 
 -- those whom it takes out of the list of its variable, where the lists stand so
 abbrev pub taken_from : {C : Type 0} → Waking → ℕ → Lists C → List (Waiter C)

@@ -1,5 +1,6 @@
 -- Laws of the beginnings of lists.
-use Rattle.ns_model.proofs.Prelude.{BeginsWith, List, [], ap, append-nil, append_assoc, arith, inl, inr, length, length-append, refl, sym, ⊎_elim, ◌++◌, ◌∙◌, ◌∷◌, ◌≡◌, ◌⊎◌}
+use Rattle.std.proofs.Common.{List, [], ap, append-nil, append_assoc, arith, inl, inr, length, length-append, refl, sym, ⊎_elim, ◌++◌, ◌∙◌, ◌∷◌, ◌≡◌, ◌⊎◌}
+use Rattle.ns_model.proofs.Prelude.{BeginsWith}
 
 module _ {A : Type 0} where
   pub begins_itself : (l : List A) → BeginsWith l l

@@ -1,5 +1,6 @@
 -- A count over the seats, one seat at a time.
-use Rattle.ns_model.proofs.Prelude.{Bool, Fits, add-one, ap, arith, cases_eq, cond, count_below, eq-eqb, eqb, false, inl, inr, ne_eqb, one_if, refl, suc, true, w8, zero, ℕ, ◌&&◌, ◌+◌, ◌<◌, ◌∙◌, ◌≡◌, ◌≤◌}
+use Rattle.std.proofs.Common.{Bool, Fits, add-one, ap, arith, cond, eq-eqb, eqb, false, inl, inr, ne_eqb, refl, suc, true, w8, zero, ℕ, ◌&&◌, ◌+◌, ◌<◌, ◌∙◌, ◌≡◌, ◌≤◌}
+use Rattle.ns_model.proofs.Prelude.{cases_eq, count_below, one_if}
 
 pub count_none : (p : ℕ → Bool) → count_below 0 p ≡ 0
 unfolding count_below

@@ -1,5 +1,6 @@
 -- A history and its parts.
-use Rattle.ns_model.proofs.Prelude.{IsLegalFrom, List, [], arith, fold, fold_more, get_or, length, subst, suc, sym, take, take_more, zero, ℕ, ◌++◌, ◌+◌, ◌<◌, ◌∷◌, ◌≡◌}
+use Rattle.std.proofs.Common.{List, [], arith, fold, get_or, length, subst, suc, sym, take, zero, ℕ, ◌++◌, ◌+◌, ◌<◌, ◌∷◌, ◌≡◌}
+use Rattle.ns_model.proofs.Prelude.{IsLegalFrom, fold_more, take_more}
 
 module _ {S E : Type 0} (IsLegalEvent : S → E → Type 0) (next : S → E → S) where
   pub legal_append : (now : S) (g h : List E) → IsLegalFrom IsLegalEvent next now g → IsLegalFrom IsLegalEvent next (fold next now g) h → IsLegalFrom IsLegalEvent next now (g ++ h)

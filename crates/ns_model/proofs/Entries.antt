@@ -1,5 +1,6 @@
 -- Which entries fit no phase but that of their wait, and what the tests of modes and answers tell.
-use Rattle.ns_model.proofs.Prelude.{AfterCv, Answer, Bool, Canceled, Cond, EntryFits, Idle, Left, List, Met, Mode, Phase, Plain, Read, TimedOut, Variables, Waited, Waiting, Woken, Write, answers, is_met, modes, refl, sameb, true, ℕ, ◌≡◌}
+use Rattle.std.proofs.Common.{Bool, List, refl, true, ℕ, ◌≡◌}
+use Rattle.ns_model.proofs.Prelude.{AfterCv, Answer, Canceled, Cond, EntryFits, Idle, Left, Met, Mode, Phase, Plain, Read, TimedOut, Variables, Waited, Waiting, Woken, Write, answers, is_met, modes, sameb}
 
 -- a plain entry fits one that waits for nothing
 pub plain_at_rest : {C : Type 0} (holds : C → List ℕ → Bool) (before : List ℕ) (mode : Mode) (phase : Phase C) → (phase ≡ Idle → ⊥) → EntryFits holds before mode Plain phase → ⊥

@@ -1,7 +1,7 @@
 -- Laws of the histories of an environment.
-use Rattle.ns_model.proofs.Prelude.{Advance, BeginsWith, Bool, EnvEvent, EnvStanding, IsEnvBySeats, IsLegalEnv, IsLegalEnvEvent, IsLegalEnvFrom, IsMade, List, New, None, NoteStanding, Notify, Option, ParentFits, Some, Take, [], ap, arith, but_at, cond, dite, earlier, earliest, env_after, env_from}
-use Rattle.ns_model.proofs.Prelude.{env_next, env_own, env_who, eq-eqb, eqb, expiry_in, expiry_of, false, filter-append, first_env, from_parent, is_due, is_over, le-leb, leb-true, line, line_of, list_any, made_note, min, ne_eqb, notified_in, notified_note, or_cases, or_left, or_right, refl, subst}
-use Rattle.ns_model.proofs.Prelude.{suc, sym, true, true≢false, zero, ℕ, ℕ_discrete, ⊎_elim, ◌++◌, ◌+◌, ◌<◌, ◌||◌, ◌∙◌, ◌∷◌, ◌≡◌, ◌≢◌, ◌≤◌}
+use Rattle.std.proofs.Common.{Bool, List, None, Option, Some, [], ap, arith, cond, eq-eqb, eqb, false, le-leb, leb-true, min, ne_eqb, refl, subst, suc, sym, true, true≢false, zero, ℕ, ⊎_elim, ◌++◌, ◌+◌, ◌<◌, ◌||◌, ◌∙◌, ◌∷◌, ◌≡◌, ◌≢◌, ◌≤◌}
+use Rattle.ns_model.proofs.Prelude.{Advance, BeginsWith, EnvEvent, EnvStanding, IsEnvBySeats, IsLegalEnv, IsLegalEnvEvent, IsLegalEnvFrom, IsMade, New, NoteStanding, Notify, ParentFits, Take, but_at, dite, earlier, earliest, env_after, env_from, env_next, env_own, env_who, expiry_in, expiry_of}
+use Rattle.ns_model.proofs.Prelude.{filter-append, first_env, from_parent, is_due, is_over, line, line_of, list_any, made_note, notified_in, notified_note, or_cases, or_left, or_right, ℕ_discrete}
 
 -- ---- a history and its parts
 

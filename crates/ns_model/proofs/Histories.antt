@@ -1,5 +1,6 @@
 -- A history and its parts.
-use Rattle.ns_model.proofs.Prelude.{Bool, Event, IsLegalEvent, List, Standing, [], arith, fold, get_or, length, phase_next, refl, row_next, standing_from, standing_next, suc, take, take_more, zero, ℕ, ◌++◌, ◌+◌, ◌<◌, ◌∷◌, ◌≡◌}
+use Rattle.std.proofs.Common.{Bool, List, [], arith, fold, get_or, length, refl, suc, take, zero, ℕ, ◌++◌, ◌+◌, ◌<◌, ◌∷◌, ◌≡◌}
+use Rattle.ns_model.proofs.Prelude.{Event, IsLegalEvent, Standing, phase_next, row_next, standing_from, standing_next, take_more}
 use Rattle.ns_model.specs.Histories.{IsLegalFrom}
 
 pub phases_fold : {C : Type 0} {N : ℕ} (now : Standing C) (h : List (Event C N)) (seat : ℕ) →

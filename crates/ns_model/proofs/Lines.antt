@@ -1,6 +1,6 @@
 -- A walk from a note up to its root, while the history grows.
-use Rattle.ns_model.proofs.Prelude.{BeginsWith, Bool, EnvEvent, EnvStanding, IsLeftAt, IsLegalEnv, IsMade, IsNotified, List, None, Option, Some, ap, arith, clock_of, earlier, env_after, expiry_in, expiry_of, false, is_notified, is_over, notified_in, or_left, or_right, refl, subst, suc, sym, true}
-use Rattle.ns_model.proofs.Prelude.{true≢false, ℕ, ◌<◌, ◌||◌, ◌∙◌, ◌≡◌}
+use Rattle.std.proofs.Common.{Bool, List, None, Option, Some, ap, arith, false, refl, subst, suc, sym, true, true≢false, ℕ, ◌<◌, ◌||◌, ◌∙◌, ◌≡◌}
+use Rattle.ns_model.proofs.Prelude.{BeginsWith, EnvEvent, EnvStanding, IsLeftAt, IsLegalEnv, IsMade, IsNotified, clock_of, earlier, env_after, expiry_in, expiry_of, is_notified, is_over, notified_in, or_left, or_right}
 use Rattle.ns_model.proofs.Environments.{IsSound, sound_after, grown_begins, legal_begins, over_grown, notified_in-up, notified_in-root, expiry_in-up, expiry_in-root, earlier-none, earlier_assoc}
 
 pub line_starts : (seen : List EnvEvent) (note : ℕ) → IsMade seen note → IsLeftAt seen note (Some note)

@@ -1,5 +1,6 @@
 -- What a legal history of a once cell means.
-use Rattle.ns_model.proofs.Prelude.{Began, Bool, Done, IsCourseOfOnce, IsLegalFrom, IsLegalOnce, IsLegalOnceEvent, List, OnceEvent, OnceState, Ran, Running, Unused, [], ap, false, fold, inl, inr, is_done, is_ran, list_any, once_after, once_next, refl, true, ℕ, ◌||◌, ◌∙◌, ◌∷◌, ◌≡◌, ◌⊎◌}
+use Rattle.std.proofs.Common.{Bool, List, [], ap, false, fold, inl, inr, refl, true, ℕ, ◌||◌, ◌∙◌, ◌∷◌, ◌≡◌, ◌⊎◌}
+use Rattle.ns_model.proofs.Prelude.{Began, Done, IsCourseOfOnce, IsLegalFrom, IsLegalOnce, IsLegalOnceEvent, OnceEvent, OnceState, Ran, Running, Unused, is_done, is_ran, list_any, once_after, once_next}
 
 -- nothing comes after the end
 ended : (events : List OnceEvent) → IsLegalFrom IsLegalOnceEvent once_next Done events → events ≡ []

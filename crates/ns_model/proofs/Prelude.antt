@@ -40,8 +40,8 @@ pub use Rattle.ns_model.specs.declared.once.OnceState.TheVariants.{Done, Running
 pub use Rattle.ns_model.specs.declared.phase.Phase.{Phase}
 pub use Rattle.ns_model.specs.declared.phase.Phase.TheVariants.{Cond, Idle, Left, Waiting, Woken}
 pub use Rattle.ns_model.specs.declared.seats.Seats.{Seats}
-pub use Rattle.std.proofs.Common.{Bool, Err, Fits, List, None, Ok, Option, Result, Some, [], add-one, ap, append-nil, append_assoc, arith, bit_or, cond, eq-eqb, eqb, eqb-true, falls, false, fold, get_or, inl, inr, le-leb, le-ltb, leb-true, length, length-append, lt-ltb, min, ne_eqb, pos, refl}
-pub use Rattle.std.proofs.Common.{replicate, set, subst, suc, sym, take, true, true≢false, w64, w8, zero, ℕ, ℤ, ⊎_elim, ◌%◌, ◌&&◌, ◌*◌, ◌++◌, ◌+ℤ◌, ◌+◌, ◌<ℤ◌, ◌<◌, ◌^◌, ◌||◌, ◌∙◌, ◌∷◌, ◌≡◌, ◌≢◌, ◌≤ℤ◌, ◌≤◌, ◌⊎◌}
+pub use Rattle.std.proofs.Common.{arith, falls, inl, inr, le-ltb, lt-ltb, ne_eqb, refl}
+pub use Rattle.std.proofs.Common.{sym, take, w64, w8}
 pub use Rattle.std.proofs.lemmas.Bool.{cases_eq, cases_lt, false≢true, or_cases, or_left, or_right}
 pub use Rattle.std.proofs.lemmas.Grind.{common_steps}
 pub use Rattle.std.proofs.lemmas.Int.{ints}

@@ -1,5 +1,6 @@
 -- An event fits in memory, over any condition.
-use Rattle.ns_model.proofs.Prelude.{FitsInMemory, HasRoom, RattleType, arith, copied, event_row, layout, param, room, small_by, ◌<◌, ◌^◌}
+use Rattle.std.proofs.Common.{arith, ◌<◌, ◌^◌}
+use Rattle.ns_model.proofs.Prelude.{FitsInMemory, HasRoom, RattleType, copied, event_row, layout, param, room, small_by}
 
 -- it fits where a condition and a row have room
 pub events_fit : (C N : RattleType) → HasRoom (copied 0 C) (param 1 N) → FitsInMemory (event_row (copied 0 C) (param 1 N))

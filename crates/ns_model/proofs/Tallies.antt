@@ -1,5 +1,6 @@
 -- Sums and facts over lists: of one element among the others, and of lists in which one element changes.
-use Rattle.ns_model.proofs.Prelude.{Bool, Every, List, [], ap, arith, false, get_elem?, one_if, set, some, some-injective, some-ne-none, subst, suc, sym, total, true, zero, ℕ, ◌++◌, ◌+◌, ◌∷◌, ◌≡◌, ◌≤◌}
+use Rattle.std.proofs.Common.{Bool, List, [], ap, arith, false, set, subst, suc, sym, true, zero, ℕ, ◌++◌, ◌+◌, ◌∷◌, ◌≡◌, ◌≤◌}
+use Rattle.ns_model.proofs.Prelude.{Every, get_elem?, one_if, some, some-injective, some-ne-none, total}
 
 pub one_most : (b : Bool) → one_if b ≤ 1
 one_most true = omega arith

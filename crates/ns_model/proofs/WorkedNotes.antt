@@ -1,5 +1,6 @@
 -- The definitions at worked histories of clock and notes.
-use Rattle.ns_model.proofs.Prelude.{Advance, EnvEvent, IsLegalEnv, List, New, None, Notify, Some, Take, [], arith, clock_of, expiry_of, false, is_made, is_notified, refl, takes_in, true, ◌++◌, ◌∷◌, ◌≡◌}
+use Rattle.std.proofs.Common.{List, None, Some, [], arith, false, refl, true, ◌++◌, ◌∷◌, ◌≡◌}
+use Rattle.ns_model.proofs.Prelude.{Advance, EnvEvent, IsLegalEnv, New, Notify, Take, clock_of, expiry_of, is_made, is_notified, takes_in}
 
 -- a note, its child and its grandchild
 abbrev three : List EnvEvent

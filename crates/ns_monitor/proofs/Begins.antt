@@ -1,6 +1,7 @@
 -- What a seat may begin that has a section in hand.
-use Rattle.ns_monitor.proofs.Prelude.{Bool, CanLeave, CanStep, CellFits, HasMode, Held, InCells, IsAtRest, IsFirst, IsFreshIn, IsQuietFor, IsSettled, IsSome, IsWide, List, LoadCell, Mode, None, Option, PlaceFits, QuietCells, QuietLast, QuietWriter, Reader, Releasing, SeatOf, Some, StandsAt, ToTell}
-use Rattle.ns_monitor.proofs.Prelude.{Truths, Walk, Write, Writer, arith, false, getting, if◌then◌else◌, locking, ltb-false, ltb-true, mode_released, nat_lt, new_section, quiet_place, refl, releasing_by, subst, sym, the, true, ℕ, ◌-◌, ◌<◌, ◌∙◌, ◌≡◌, ◌≤◌}
+use Rattle.std.proofs.Common.{Bool, IsSome, List, None, Option, Some, arith, false, if◌then◌else◌, ltb-false, ltb-true, nat_lt, refl, subst, sym, true, ℕ, ◌-◌, ◌<◌, ◌∙◌, ◌≡◌, ◌≤◌}
+use Rattle.ns_monitor.proofs.Prelude.{CanLeave, CanStep, CellFits, HasMode, Held, InCells, IsAtRest, IsFirst, IsFreshIn, IsQuietFor, IsSettled, IsWide, LoadCell, Mode, PlaceFits, QuietCells, QuietLast, QuietWriter, Reader, Releasing, SeatOf, StandsAt, ToTell, Truths, Walk, Write, Writer, getting}
+use Rattle.ns_monitor.proofs.Prelude.{locking, mode_released, new_section, quiet_place, releasing_by, the}
 
 module _ {C : Type 0} {N : ℕ} (truths : Truths C) where
   has_some : (mode : Mode) (held : Option (Held C N)) → HasMode mode held → IsSome held

@@ -1,7 +1,8 @@
 -- What a call of the gate's seat tells its caller.
-use Rattle.ns_monitor.proofs.Prelude.{Acquire, Acquiring, AsFresh, Bool, Busy, CanStep, Cell, Done, Err, ForLock, Get, Grows, HasAnswered, HasBegun, HasGoneBehind, HasLocked, HasReached, HasSeenMore, HasSince, HasUnlocked, InCells, InHand, InTry, IsAtPlace, IsAtRest, IsFreshIn, IsNumberOf, Known}
-use Rattle.ns_monitor.proofs.Prelude.{LoadCell, LoadWord, Made, Mode, None, Number, Ok, On, Option, Performed, Releasing, Result, Saw, SeatOf, Set, SetStore, Some, StoreCell, Succeeded, TableId, Truths, TryAcquire, TryLock, Unchanged, Walk, WantsNext, WentAtOnce, Word, [], ap, append-nil, asked_of}
-use Rattle.ns_monitor.proofs.Prelude.{begins, cond, false, getting, goes, going_act, gone_to, got_of, known_of, locking, may_acquire, may_go, refl, releasing_by, row_after, section_of, setting, since, since_then, subst, sym, the, tried, true, trying, walk_after, ℕ, ◌++◌, ◌∙◌, ◌∷◌, ◌≡◌}
+use Rattle.std.proofs.Common.{Bool, Err, None, Ok, Option, Result, Some, [], ap, append-nil, cond, false, refl, subst, sym, true, ℕ, ◌++◌, ◌∙◌, ◌∷◌, ◌≡◌}
+use Rattle.ns_monitor.proofs.Prelude.{Acquire, Acquiring, AsFresh, Busy, CanStep, Cell, Done, ForLock, Get, Grows, HasAnswered, HasBegun, HasGoneBehind, HasLocked, HasReached, HasSeenMore, HasSince, HasUnlocked, InCells, InHand, InTry, IsAtPlace, IsAtRest, IsFreshIn, IsNumberOf, Known, LoadCell}
+use Rattle.ns_monitor.proofs.Prelude.{LoadWord, Made, Mode, Number, On, Performed, Releasing, Saw, SeatOf, Set, SetStore, StoreCell, Succeeded, TableId, Truths, TryAcquire, TryLock, Unchanged, Walk, WantsNext, WentAtOnce, Word, asked_of, begins, getting, goes, going_act, gone_to, got_of, known_of}
+use Rattle.ns_monitor.proofs.Prelude.{locking, may_acquire, may_go, releasing_by, row_after, section_of, setting, since, since_then, the, tried, trying, walk_after}
 use Rattle.ns_monitor.proofs.Begins.{locked_fresh}
 use Rattle.ns_monitor.proofs.Standing.{loads_first}
 use Rattle.ns_model.specs.declared.event.Exit.TheVariants as TheExit

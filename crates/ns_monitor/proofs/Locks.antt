@@ -1,6 +1,7 @@
 -- A seat sets its own flag, before it queues, and finds it cleared.
-use Rattle.ns_monitor.proofs.Prelude.{AcquireLoad, Aim, ArmFlag, Arrival, AwaitWake, Bool, Flag, GateView, HasKeptItsQueues, HasReached, HasSince, HasUnchangedQueues, Idle, InAcquire, IsAtPlace, Made, None, On, Performed, SeatOf, Some, Truths, Walk, ap, arrival_of, awaits, cond, false, goes_on}
-use Rattle.ns_monitor.proofs.Prelude.{got_of, has_queues, ne_eqb, nowhere_now, request_for, since, stays_arming, still_carries, subst, sym, the, times, true, ℕ, ◌∙◌, ◌≡◌, ◌≢◌}
+use Rattle.std.proofs.Common.{Bool, None, Some, ap, cond, false, ne_eqb, subst, sym, true, ℕ, ◌∙◌, ◌≡◌, ◌≢◌}
+use Rattle.ns_monitor.proofs.Prelude.{AcquireLoad, Aim, ArmFlag, Arrival, AwaitWake, Flag, GateView, HasKeptItsQueues, HasReached, HasSince, HasUnchangedQueues, Idle, InAcquire, IsAtPlace, Made, On, Performed, SeatOf, Truths, Walk, arrival_of, awaits, goes_on, got_of, has_queues, nowhere_now}
+use Rattle.ns_monitor.proofs.Prelude.{request_for, since, stays_arming, still_carries, the, times}
 
 -- It has done so with the queues in hand, goes on to this place, and stands in no list.
 pub record HasArmed {C : Type 0} {N : ℕ} (truths : Truths C) (place : Walk C) (me now : SeatOf C N) : Type 0 where

@@ -1,5 +1,6 @@
 -- The looks of a wait at its note and its deadline.
-use Rattle.ns_monitor.proofs.Prelude.{Answer, Canceled, EndedBy, EnvEvent, EnvKnown, HasLookedOn, IfAnswered, List, LookAnswers, LookShows, Met, Note, Option, Some, TimedOut, made_grows, subst, sym, ℕ, ◌≡◌}
+use Rattle.std.proofs.Common.{List, Option, Some, subst, sym, ℕ, ◌≡◌}
+use Rattle.ns_monitor.proofs.Prelude.{Answer, Canceled, EndedBy, EnvEvent, EnvKnown, HasLookedOn, IfAnswered, LookAnswers, LookShows, Met, Note, TimedOut, made_grows}
 use Rattle.ns_note.specs.Known.{Grows}
 
 -- A seat that has looked

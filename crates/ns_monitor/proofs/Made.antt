@@ -1,5 +1,6 @@
 -- New seats.
-use Rattle.ns_monitor.proofs.Prelude.{IsAtRest, None, SeatOf, Truths, [], fresh_seat, refl, subst, sym, the, ℕ, ◌∷◌, ◌≡◌}
+use Rattle.std.proofs.Common.{None, [], refl, subst, sym, ℕ, ◌∷◌, ◌≡◌}
+use Rattle.ns_monitor.proofs.Prelude.{IsAtRest, SeatOf, Truths, fresh_seat, the}
 
 module _ (C : Type 0) (N : ℕ) where
   -- a new seat is at rest, with nothing in hand

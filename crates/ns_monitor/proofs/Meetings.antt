@@ -1,5 +1,6 @@
 -- Two callers that meet.
-use Rattle.ns_monitor.proofs.Prelude.{HasLearned, IsAtRest, Known, SeatHasLearned, SeatOf, SeatView, TableId, Truths, ap, known_of, subst, the, ℕ, ◌≡◌}
+use Rattle.std.proofs.Common.{ap, subst, ℕ, ◌≡◌}
+use Rattle.ns_monitor.proofs.Prelude.{HasLearned, IsAtRest, Known, SeatHasLearned, SeatOf, SeatView, TableId, Truths, known_of, the}
 
 module _ {C : Type 0} {N : ℕ} (truths : Truths C) where
   -- what a seat has learned that rests, as its caller sees it

@@ -30,8 +30,8 @@ pub use Rattle.ns_word.proofs.Acts.{view_fits}
 pub use Rattle.ns_word.proofs.Hands.{free_scanned}
 pub use Rattle.ns_word.proofs.Scans.{are_called, as_many}
 pub use Rattle.ns_word.specs.declared.request.Request.TheVariants.{Release}
-pub use Rattle.std.proofs.Common.{Bool, Err, IfErr, IfSome, IsSome, List, None, Ok, Option, Result, Some, [], ap, append-nil, arith, cond, drop, false, filter, get_or, get_or-set_other, get_or-set_same, if◌then◌else◌, inl, inr, is_none, is_some, le-ltb, length, length-append, length-set, lt-ltb}
-pub use Rattle.std.proofs.Common.{ltb-false, ltb-true, map, nat_lt, ne_eqb, not, option_map, refl, rules, set, slice_index, slice_index_or, slice_set, subst, sym, true, ℕ, ⊎_elim, ◌&&◌, ◌++◌, ◌+◌, ◌-◌, ◌<◌, ◌==◌, ◌||◌, ◌∙◌, ◌∷◌, ◌≡◌, ◌≢◌, ◌≤◌, ◌⊎◌}
+pub use Rattle.std.proofs.Common.{None, Some, ap, arith}
+pub use Rattle.std.proofs.Common.{refl, rules, subst, sym}
 pub use Rattle.std.proofs.lemmas.Bool.{cases_Bool, cases_eq, cond-false, cond-true, cond_both}
 pub use Rattle.std.proofs.lemmas.Grind.{same_number_lists}
 pub use Rattle.std.proofs.lemmas.List.{drop_all, drop_more}

@@ -1,8 +1,9 @@
 -- A scan of the lock list with the queues in hand, by a release or by a wait: what it takes and leaves.
-use Rattle.ns_monitor.proofs.Prelude.{Await, Bits, Bool, Carries, Changed, Err, GateView, HasInHand, HasReached, HasRow, HasUnchangedQueues, IsAtPlace, IsInRange, IsReady, List, Lists, MayEnter, MayScan, None, Ok, OnCondition, OnVariables, Option, Owed, OwesTheWoken, Paid, Pays, PutsBack, Release}
-use Rattle.ns_monitor.proofs.Prelude.{Released, Returning, Scanning, ScansAs, SeatOf, Some, Sought, Subject, ToRelease, ToWait, Truths, Turned, Waited, Waiter, Walk, Word, [], ap, are_called, arith, asked_of, begins_with_reader, bits_of, called_by, called_of, cases_Bool, cond, entered, false}
-use Rattle.ns_monitor.proofs.Prelude.{filter, found_back, free_scanned, got_of, has_condition, has_queues, has_some, inl, inr, is_eligible, is_satisfied, is_some, lacks_row, left_of, length, list_any, lists_returned, lists_scanned, map, meets_at, ne_eqb, not, pay_releasing, pay_waiting, paying_at}
-use Rattle.ns_monitor.proofs.Prelude.{reads, ready_at, refl, returning_at, returning_for, returning_of, row_in, scanned_writer, seats_of, some_returned, subst, sym, the, times, true, waits_at, wake_told, with_lock, woken_of, works, writes, ℕ, ◌&&◌, ◌<◌, ◌==◌, ◌||◌, ◌∙◌, ◌∷◌, ◌≡◌}
+use Rattle.std.proofs.Common.{Bool, Err, List, None, Ok, Option, Some, [], ap, arith, cond, false, filter, inl, inr, is_some, length, map, ne_eqb, not, refl, subst, sym, true, ℕ, ◌&&◌, ◌<◌, ◌==◌, ◌||◌, ◌∙◌, ◌∷◌, ◌≡◌}
+use Rattle.ns_monitor.proofs.Prelude.{Await, Bits, Carries, Changed, GateView, HasInHand, HasReached, HasRow, HasUnchangedQueues, IsAtPlace, IsInRange, IsReady, Lists, MayEnter, MayScan, OnCondition, OnVariables, Owed, OwesTheWoken, Paid, Pays, PutsBack, Release, Released, Returning, Scanning}
+use Rattle.ns_monitor.proofs.Prelude.{ScansAs, SeatOf, Sought, Subject, ToRelease, ToWait, Truths, Turned, Waited, Waiter, Walk, Word, are_called, asked_of, begins_with_reader, bits_of, called_by, called_of, cases_Bool, entered, found_back, free_scanned, got_of, has_condition, has_queues, has_some}
+use Rattle.ns_monitor.proofs.Prelude.{is_eligible, is_satisfied, lacks_row, left_of, list_any, lists_returned, lists_scanned, meets_at, pay_releasing, pay_waiting, paying_at, reads, ready_at, returning_at, returning_for, returning_of, row_in, scanned_writer, seats_of, some_returned, the, times}
+use Rattle.ns_monitor.proofs.Prelude.{waits_at, wake_told, with_lock, woken_of, works, writes}
 
 -- ---- the scan
 

@@ -1,8 +1,9 @@
 -- The rounds of a wait for a condition: where it goes by what it tests and sees.
-use Rattle.ns_monitor.proofs.Prelude.{Answer, Answered, Await, Bool, Canceled, Cause, CondWait, ConditionWaitMeans, Course, EnvEvent, EnvKnown, Event, Expired, ForWait, HadLooked, HasAcquired, HasAnswered, HasComeBack, HasMode, HasReached, HasRow, HasSince, HasStayed, HasTested, HasWaited}
-use Rattle.ns_monitor.proofs.Prelude.{HasWaitedFor, Held, IfAnswered, InHand, InQueuing, InWait, IsAtPlace, IsFresh, IsFreshIn, IsInRange, IsWide, Known, Limits, List, Load, Look, LookIn, LookShows, Looked, Met, Mode, None, Note, Notified, On, OnCondition, OnReturn, Option, Outcome, Part}
-use Rattle.ns_monitor.proofs.Prelude.{Performed, PlaceFits, QueuesOrEnds, SeatOf, SeatView, Some, Subject, TableId, TestCells, TestLast, Tests, TimedOut, Truths, Unchanged, Visit, Wait, WaitMeans, WaitTells, Walk, [], answer_of, ap, append-nil, back_with, cond, does, false, goes, got_queuing}
-use Rattle.ns_monitor.proofs.Prelude.{hand_of, held_after, held_by, inl, inr, is_limited, is_some, known_of, limits_of, look_or_queue, option_map, refl, row_after, section_of, subst, sym, test_place, tested_by, the, true, ℕ, ⊎_elim, ◌++◌, ◌-◌, ◌||◌, ◌∙◌, ◌∷◌, ◌≡◌, ◌⊎◌}
+use Rattle.std.proofs.Common.{Bool, List, None, Option, Some, [], ap, append-nil, cond, false, inl, inr, is_some, option_map, refl, subst, sym, true, ℕ, ⊎_elim, ◌++◌, ◌-◌, ◌||◌, ◌∙◌, ◌∷◌, ◌≡◌, ◌⊎◌}
+use Rattle.ns_monitor.proofs.Prelude.{Answer, Answered, Await, Canceled, Cause, CondWait, ConditionWaitMeans, Course, EnvEvent, EnvKnown, Event, Expired, ForWait, HadLooked, HasAcquired, HasAnswered, HasComeBack, HasMode, HasReached, HasRow, HasSince, HasStayed, HasTested, HasWaited, HasWaitedFor}
+use Rattle.ns_monitor.proofs.Prelude.{Held, IfAnswered, InHand, InQueuing, InWait, IsAtPlace, IsFresh, IsFreshIn, IsInRange, IsWide, Known, Limits, Load, Look, LookIn, LookShows, Looked, Met, Mode, Note, Notified, On, OnCondition, OnReturn, Outcome, Part, Performed, PlaceFits, QueuesOrEnds, SeatOf}
+use Rattle.ns_monitor.proofs.Prelude.{SeatView, Subject, TableId, TestCells, TestLast, Tests, TimedOut, Truths, Unchanged, Visit, Wait, WaitMeans, WaitTells, Walk, answer_of, back_with, does, goes, got_queuing, hand_of, held_after, held_by, is_limited, known_of, limits_of, look_or_queue, row_after}
+use Rattle.ns_monitor.proofs.Prelude.{section_of, test_place, tested_by, the}
 
 -- a wait for a condition is for something that there is
 pub in_range : {C : Type 0} (on : Subject C) (c : C) → on ≡ OnCondition c → IsInRange on

@@ -1,6 +1,6 @@
 -- What a write section keeps of the row that it began at: as it sets a cell, and as it finds that row again.
-use Rattle.ns_monitor.proofs.Prelude.{AreSaved, Bool, HasMode, HasSaved, Held, InHand, List, None, Option, Some, Write, ap, arith, cases_eq, false, get_or, get_or-set_other, get_or-set_same, if◌then◌else◌, inl, inr, is_none, length, length-set, refl, saved_after, slice_index, slice_index_or}
-use Rattle.ns_monitor.proofs.Prelude.{slice_set, subst, sym, true, value_before, ℕ, ◌<◌, ◌∙◌, ◌≡◌, ◌≢◌, ◌≤◌}
+use Rattle.std.proofs.Common.{Bool, List, None, Option, Some, ap, arith, false, get_or, get_or-set_other, get_or-set_same, if◌then◌else◌, inl, inr, is_none, length, length-set, refl, slice_index, slice_index_or, slice_set, subst, sym, true, ℕ, ◌<◌, ◌∙◌, ◌≡◌, ◌≢◌, ◌≤◌}
+use Rattle.ns_monitor.proofs.Prelude.{AreSaved, HasMode, HasSaved, Held, InHand, Write, cases_eq, saved_after, value_before}
 
 module _ (N i old value : ℕ) (saved : List (Option ℕ)) (before row : List ℕ) (low : i < N) (wide : length row ≡ N) (found : old ≡ slice_index row i) (p : AreSaved N saved before row) where
   -- the cell that is set: what it held is saved now, or what it held first was saved before

@@ -1,7 +1,8 @@
 -- Waits for any of several condition variables: where they stand, and what they tell once they are over.
+use Rattle.std.proofs.Common.{List, None, Option, Some, [], ap, append-nil, false, refl, subst, sym, true, ℕ, ◌++◌, ◌∙◌, ◌∷◌, ◌≡◌}
 use Rattle.ns_monitor.proofs.Prelude.{Act, AnyWait, AnyWaitMeans, AreSome, Await, AwaitWakeInWait, BeginsWith, Cause, Course, Cvs, Flag, Found, HasAnswered, HasBegunToWait, HasComeBackFromAny, HasLeft, HasMode, HasSeenTrue, HasSince, HasStoodUnwoken, Held, InHand, InQueuing, InWait, IsByOneOf}
-use Rattle.ns_monitor.proofs.Prelude.{IsFreshIn, IsSettled, IsTold, IsWaitingForAny, IsWide, Known, List, Load, LoadFlag, LockState, Look, Looked, MayEnd, Mode, None, Option, Owed, Performed, PlaceFits, SaysWoken, SeatOf, Some, TableId, Told, Truths, WaitKnown, WaitsOn, WaitsStill, Walk, WokenBy}
-use Rattle.ns_monitor.proofs.Prelude.{[], any_waiting, ap, append-nil, at_will, effect_of, false, has_some, known_of, leave_any_told, pays, refl, row_after, section_of, since, since_then, subst, sym, the, true, waits_for_any, ℕ, ◌++◌, ◌∙◌, ◌∷◌, ◌≡◌}
+use Rattle.ns_monitor.proofs.Prelude.{IsFreshIn, IsSettled, IsTold, IsWaitingForAny, IsWide, Known, Load, LoadFlag, LockState, Look, Looked, MayEnd, Mode, Owed, Performed, PlaceFits, SaysWoken, SeatOf, TableId, Told, Truths, WaitKnown, WaitsOn, WaitsStill, Walk, WokenBy, any_waiting, at_will}
+use Rattle.ns_monitor.proofs.Prelude.{effect_of, has_some, known_of, leave_any_told, pays, row_after, section_of, since, since_then, the, waits_for_any}
 use Rattle.ns_monitor.proofs.Waits.{looks_out, waits_on}
 
 abbrev behind : {A : Type 0} → List A → List A

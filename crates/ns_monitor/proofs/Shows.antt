@@ -1,6 +1,7 @@
 -- A call that shows, step by step, and the state that it shows.
-use Rattle.ns_monitor.proofs.Prelude.{BeginsWith, Bool, HasReached, HasSince, HasStood, HasUnchangedQueues, Idle, InShow, IsAtPlace, IsLawful, Known, Lists, LoadWord, LockState, Made, None, On, Part, Performed, ReturnShown, Saw, SeatOf, ShowLoad, Some, TableId, TakeQueues, TakeToShow, ToChange}
-use Rattle.ns_monitor.proofs.Prelude.{Told, Truths, Word, ap, append-nil, begins_itself, begins_through, cond, effect_of, false, goes, goes_on, known_of, own_of, refl, show_by, showing, subst, sym, the, true, word_taken, ℕ, ◌++◌, ◌∙◌, ◌∷◌, ◌≡◌}
+use Rattle.std.proofs.Common.{Bool, None, Some, ap, append-nil, cond, false, refl, subst, sym, true, ℕ, ◌++◌, ◌∙◌, ◌∷◌, ◌≡◌}
+use Rattle.ns_monitor.proofs.Prelude.{BeginsWith, HasReached, HasSince, HasStood, HasUnchangedQueues, Idle, InShow, IsAtPlace, IsLawful, Known, Lists, LoadWord, LockState, Made, On, Part, Performed, ReturnShown, Saw, SeatOf, ShowLoad, TableId, TakeQueues, TakeToShow, ToChange, Told, Truths, Word}
+use Rattle.ns_monitor.proofs.Prelude.{begins_itself, begins_through, effect_of, goes, goes_on, known_of, own_of, show_by, showing, the, word_taken}
 use Rattle.ns_word.specs.declared.request.Request.TheVariants as TheRequest
 
 module _ {C : Type 0} {N : ℕ} (truths : Truths C) where

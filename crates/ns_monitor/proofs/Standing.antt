@@ -1,11 +1,11 @@
 -- The loops of a call, step by step, by the place at which it stands.
-use Rattle.ns_monitor.proofs.Prelude.{Acquire, AcquireLoad, Acquiring, Act, Bits, Bool, CameByGuess, CanStep, Carries, Change, Changed, Changing, Decides, Effect, Err, Event, Flag, ForLock, ForWait, Found, GateView, Going, HasBegunBy, HasGoneBehind, HasInHand, HasKeptItsQueues, HasReached}
-use Rattle.ns_monitor.proofs.Prelude.{HasSince, HasStepped, HasTakenAt, Held, Idle, IfErr, InAcquire, InLeaving, InQueuing, InRelease, InShow, InSignal, InWait, IsAtPlace, IsAtRest, IsFirst, IsNumberOf, IsOwedNext, IsPackable, Leave, LeaveLoad, Leaving, List, Lists, Load, LoadFlag, LoadWord}
-use Rattle.ns_monitor.proofs.Prelude.{LockState, Made, MayGoAlone, None, Ok, On, Option, Owed, OwesBelow, OwesTheWoken, Paid, Part, PayWake, Pays, Performed, PlaceFits, PutsBack, Queue, QueueToWait, ReleaseLoad, ReleaseReturning, Released, Request, Result, ReturnQueues, ReturnShown, Returning, Saw}
-use Rattle.ns_monitor.proofs.Prelude.{ScanAndRelease, ScanCells, SeatOf, SeatView, SectionFits, SignalLoad, Sleeps, Some, TakeQueues, Taking, ToChange, ToQueue, Told, Truths, Turned, WaitReturning, Waited, Walk, WantsNext, Word, [], act_returning, ap, append-nil, asked_of, begins, bits_of}
-use Rattle.ns_monitor.proofs.Prelude.{called_of, can_go, carried_by, changed, cond, does, false, found_back, found_returned, goes, goes_on, going_act, going_at, going_of, gone_to, got_of, has_queues, has_some, lists_returned, may_go, meets_at, moves, orderly_now, owes_more, part_of, refl}
-use Rattle.ns_monitor.proofs.Prelude.{release_has_queues, rest, rest_of, returning_at, returning_of, row_in, scan_place, scanning_at, since, since_then, some_returned, standing_after, stays_by, subst, sym, taken_at, taking_at, taking_for, the, true, view_fits, view_in, walk_after, want_of}
-use Rattle.ns_monitor.proofs.Prelude.{woken_of, word_taken, ℕ, ◌++◌, ◌<◌, ◌∙◌, ◌∷◌, ◌≡◌}
+use Rattle.std.proofs.Common.{Bool, Err, IfErr, List, None, Ok, Option, Result, Some, [], ap, append-nil, cond, false, refl, subst, sym, true, ℕ, ◌++◌, ◌<◌, ◌∙◌, ◌∷◌, ◌≡◌}
+use Rattle.ns_monitor.proofs.Prelude.{Acquire, AcquireLoad, Acquiring, Act, Bits, CameByGuess, CanStep, Carries, Change, Changed, Changing, Decides, Effect, Event, Flag, ForLock, ForWait, Found, GateView, Going, HasBegunBy, HasGoneBehind, HasInHand, HasKeptItsQueues, HasReached, HasSince}
+use Rattle.ns_monitor.proofs.Prelude.{HasStepped, HasTakenAt, Held, Idle, InAcquire, InLeaving, InQueuing, InRelease, InShow, InSignal, InWait, IsAtPlace, IsAtRest, IsFirst, IsNumberOf, IsOwedNext, IsPackable, Leave, LeaveLoad, Leaving, Lists, Load, LoadFlag, LoadWord, LockState, Made, MayGoAlone}
+use Rattle.ns_monitor.proofs.Prelude.{On, Owed, OwesBelow, OwesTheWoken, Paid, Part, PayWake, Pays, Performed, PlaceFits, PutsBack, Queue, QueueToWait, ReleaseLoad, ReleaseReturning, Released, Request, ReturnQueues, ReturnShown, Returning, Saw, ScanAndRelease, ScanCells, SeatOf, SeatView}
+use Rattle.ns_monitor.proofs.Prelude.{SectionFits, SignalLoad, Sleeps, TakeQueues, Taking, ToChange, ToQueue, Told, Truths, Turned, WaitReturning, Waited, Walk, WantsNext, Word, act_returning, asked_of, begins, bits_of, called_of, can_go, carried_by, changed, does, found_back, found_returned, goes}
+use Rattle.ns_monitor.proofs.Prelude.{goes_on, going_act, going_at, going_of, gone_to, got_of, has_queues, has_some, lists_returned, may_go, meets_at, moves, orderly_now, owes_more, part_of, release_has_queues, rest, rest_of, returning_at, returning_of, row_in, scan_place, scanning_at, since}
+use Rattle.ns_monitor.proofs.Prelude.{since_then, some_returned, standing_after, stays_by, taken_at, taking_at, taking_for, the, view_fits, view_in, walk_after, want_of, woken_of, word_taken}
 use Rattle.ns_monitor.specs.Prelude.{Release}
 
 -- a word that was taken has a number, if the word before has

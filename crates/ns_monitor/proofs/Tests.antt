@@ -1,9 +1,9 @@
 -- The cells of the row are loaded one after another, step by step, and the test of a wait tells.
-use Rattle.ns_monitor.proofs.Prelude.{Act, AreRead, Await, Bool, CanStep, Cell, Found, GateView, HasAnswered, HasGone, HasLoaded, HasReached, HasSince, HasTested, HasUnchangedQueues, Held, InCells, InQueuing, InRelease, InWait, Is, IsAtPlace, IsQuiet, IsWide, JudgeMet}
-use Rattle.ns_monitor.proofs.Prelude.{JudgeQuiet, List, Lists, LoadCell, LoadToScan, LockState, Next, None, On, Option, Part, Performed, PlaceFits, QueueToWait, Quiet, QuietCells, QuietLast, ScanAndRelease, ScanCells, SeatOf, Some, StandsAt, TestCells, Tested, ToTell, Truths, Visit}
-use Rattle.ns_monitor.proofs.Prelude.{Wait, Walk, [], ap, arith, asked_of, before_in, begins, carried_by, cases_Bool, cases_eq, cell_in_hand, cond, cond-false, cond-true, cond_both, does, false, get_or, get_or-set_other, get_or-set_same, goes_on, got_of, has_queues, inl, inr, judging, le-ltb}
-use Rattle.ns_monitor.proofs.Prelude.{length, length-set, loading, loading_at, lt-ltb, nat_lt, refl, release_has_queues, row_in, same_number_lists, set, since, since_itself, since_then, slice_index, subst, sym, tested_by, the, true, view_in, wait_has_queues, walk_after, want_of, ℕ, ◌+◌, ◌-◌, ◌<◌}
-use Rattle.ns_monitor.proofs.Prelude.{◌∙◌, ◌∷◌, ◌≡◌, ◌≤◌}
+use Rattle.std.proofs.Common.{Bool, List, None, Option, Some, [], ap, arith, cond, false, get_or, get_or-set_other, get_or-set_same, inl, inr, le-ltb, length, length-set, lt-ltb, nat_lt, refl, set, slice_index, subst, sym, true, ℕ, ◌+◌, ◌-◌, ◌<◌, ◌∙◌, ◌∷◌, ◌≡◌, ◌≤◌}
+use Rattle.ns_monitor.proofs.Prelude.{Act, AreRead, Await, CanStep, Cell, Found, GateView, HasAnswered, HasGone, HasLoaded, HasReached, HasSince, HasTested, HasUnchangedQueues, Held, InCells, InQueuing, InRelease, InWait, Is, IsAtPlace, IsQuiet, IsWide, JudgeMet, JudgeQuiet, Lists, LoadCell}
+use Rattle.ns_monitor.proofs.Prelude.{LoadToScan, LockState, Next, On, Part, Performed, PlaceFits, QueueToWait, Quiet, QuietCells, QuietLast, ScanAndRelease, ScanCells, SeatOf, StandsAt, TestCells, Tested, ToTell, Truths, Visit, Wait, Walk, asked_of, before_in, begins, carried_by, cases_Bool}
+use Rattle.ns_monitor.proofs.Prelude.{cases_eq, cell_in_hand, cond-false, cond-true, cond_both, does, goes_on, got_of, has_queues, judging, loading, loading_at, release_has_queues, row_in, same_number_lists, since, since_itself, since_then, tested_by, the, view_in, wait_has_queues, walk_after}
+use Rattle.ns_monitor.proofs.Prelude.{want_of}
 use Rattle.ns_monitor.proofs.Standing.{commits_none, held_in, same_held}
 
 -- ---- the row

@@ -1,7 +1,7 @@
 -- A wait for a condition variable that is over: what its caller sees.
+use Rattle.std.proofs.Common.{List, None, Option, Some, ap, false, refl, subst, sym, true, ℕ, ◌++◌, ◌<◌, ◌∙◌, ◌∷◌, ◌≡◌}
 use Rattle.ns_monitor.proofs.Prelude.{Answer, Answered, Await, Cause, Course, CvWait, Ended, Event, Expired, HasAnswered, HasComeBackFrom, HasMode, HasRow, HasSince, HasTakenAt, HasWaitedForVariable, Held, IfAnswered, IfEnded, InHand, InQueuing, InWait, IsForVariables, IsFreshIn, IsSettled, IsWide}
-use Rattle.ns_monitor.proofs.Prelude.{Known, Limits, List, Load, Mode, None, Notified, OnCondition, OnVariables, Option, Outcome, PlaceFits, SeatOf, Some, Subject, TableId, Truths, VariableWaitMeans, Walk, Woken, Word, answer_of_wait, ap, false, hand_of, is_met, known_of, leave_told, refl}
-use Rattle.ns_monitor.proofs.Prelude.{row_after, section_of, subst, sym, the, true, waits_for_variable, ℕ, ◌++◌, ◌<◌, ◌∙◌, ◌∷◌, ◌≡◌}
+use Rattle.ns_monitor.proofs.Prelude.{Known, Limits, Load, Mode, Notified, OnCondition, OnVariables, Outcome, PlaceFits, SeatOf, Subject, TableId, Truths, VariableWaitMeans, Walk, Woken, Word, answer_of_wait, hand_of, is_met, known_of, leave_told, row_after, section_of, the, waits_for_variable}
 
 -- one for variables has no need of a row at hand
 pub needs_no_row : {C : Type 0} (on : Subject C) (row held : List ℕ) → IsForVariables on → HasRow on row held

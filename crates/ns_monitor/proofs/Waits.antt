@@ -1,7 +1,8 @@
 -- A wait outside, step by step: it queues, waits to be woken or ended, and may leave its list.
-use Rattle.ns_monitor.proofs.Prelude.{AcquireLoad, ArmFlag, ArmToWait, Arrival, AsFresh, Await, AwaitWakeInWait, AwaitWakeToLeave, Bool, Cause, Changed, Ended, Flag, ForWait, HasReached, HasTakenAt, Home, Idle, IfEnded, InAcquire, InLeaving, InQueuing, InWait, IsAtPlace, Leave, LeaveLoad}
-use Rattle.ns_monitor.proofs.Prelude.{LeaveSelf, Load, LoadFlag, LoadToScan, Look, LookOut, Looked, Made, None, On, OnCondition, OnVariables, Option, Outcome, Performed, QueueToWait, SeatOf, Some, Subject, Truths, Wait, Word, ap, armed_place, arrival_of, cond, cond_both, false, found_back, goes}
-use Rattle.ns_monitor.proofs.Prelude.{got_of, home_of, is_limited, lacks_row, load_place, ne_eqb, outcome_taken, refl, rest_or_look, stands_at, subst, sym, the, true, wait_has_queues, woken_by, ℕ, ◌∙◌, ◌≡◌, ◌≢◌}
+use Rattle.std.proofs.Common.{Bool, None, Option, Some, ap, cond, false, ne_eqb, refl, subst, sym, true, ℕ, ◌∙◌, ◌≡◌, ◌≢◌}
+use Rattle.ns_monitor.proofs.Prelude.{AcquireLoad, ArmFlag, ArmToWait, Arrival, AsFresh, Await, AwaitWakeInWait, AwaitWakeToLeave, Cause, Changed, Ended, Flag, ForWait, HasReached, HasTakenAt, Home, Idle, IfEnded, InAcquire, InLeaving, InQueuing, InWait, IsAtPlace, Leave, LeaveLoad, LeaveSelf}
+use Rattle.ns_monitor.proofs.Prelude.{Load, LoadFlag, LoadToScan, Look, LookOut, Looked, Made, On, OnCondition, OnVariables, Outcome, Performed, QueueToWait, SeatOf, Subject, Truths, Wait, Word, armed_place, arrival_of, cond_both, found_back, goes, got_of, home_of, is_limited, lacks_row}
+use Rattle.ns_monitor.proofs.Prelude.{load_place, outcome_taken, rest_or_look, stands_at, the, wait_has_queues, woken_by}
 use Rattle.ns_monitor.proofs.Locks.{HasArmed, arms}
 use Rattle.ns_monitor.proofs.Tests.{moves_in}
 

@@ -1,8 +1,8 @@
 -- A call that wakes, step by step: what it has in hand, and what it owes once the queues are back.
-use Rattle.ns_monitor.proofs.Prelude.{Bool, Broadcasting, CanStep, Carries, Event, HasAnswered, HasKeptItsQueues, HasReached, HasReturnedWoken, HasSince, HasTakenAt, HasUnchangedQueues, HasWoken, HasWokenInHand, InSignal, IsAtPlace, IsOrderly, Known, List, Lists, LockState, None, On, Owed, Part}
-use Rattle.ns_monitor.proofs.Prelude.{Performed, ReturnQueues, Saw, SeatOf, SignalLoad, Signaling, Some, Succeeded, TableId, Truths, Turned, Waiter, WakeAndReturn, WakeWaiters, Waking, Walk, Woke, Word, [], ap, bits_of, can_go, change_found, cond, does, false, found_nobody, goes_on, has_queues}
-use Rattle.ns_monitor.proofs.Prelude.{has_some, if◌then◌else◌, is_held, is_held_by_one, known_of, lists_woken, moves_nobody, not, owed_woken, owes_the_woken, part_of, pay_woken, refl, rest, stays_by, still_woken, subst, sym, taken_by, taken_from, taken_set, takes_nobody, the, true, wake_by}
-use Rattle.ns_monitor.proofs.Prelude.{wake_event, wake_of, wakes_of, woken_found, woken_nobody, works, ℕ, ◌&&◌, ◌++◌, ◌∙◌, ◌∷◌, ◌≡◌}
+use Rattle.std.proofs.Common.{Bool, List, None, Some, [], ap, cond, false, if◌then◌else◌, not, refl, subst, sym, true, ℕ, ◌&&◌, ◌++◌, ◌∙◌, ◌∷◌, ◌≡◌}
+use Rattle.ns_monitor.proofs.Prelude.{Broadcasting, CanStep, Carries, Event, HasAnswered, HasKeptItsQueues, HasReached, HasReturnedWoken, HasSince, HasTakenAt, HasUnchangedQueues, HasWoken, HasWokenInHand, InSignal, IsAtPlace, IsOrderly, Known, Lists, LockState, On, Owed, Part, Performed}
+use Rattle.ns_monitor.proofs.Prelude.{ReturnQueues, Saw, SeatOf, SignalLoad, Signaling, Succeeded, TableId, Truths, Turned, Waiter, WakeAndReturn, WakeWaiters, Waking, Walk, Woke, Word, bits_of, can_go, change_found, does, found_nobody, goes_on, has_queues, has_some, is_held, is_held_by_one}
+use Rattle.ns_monitor.proofs.Prelude.{known_of, lists_woken, moves_nobody, owed_woken, owes_the_woken, part_of, pay_woken, rest, stays_by, still_woken, taken_by, taken_from, taken_set, takes_nobody, the, wake_by, wake_event, wake_of, wakes_of, woken_found, woken_nobody, works}
 use Rattle.ns_monitor.proofs.Standing.{saw_keeps}
 use Rattle.ns_word.specs.declared.request.Request.TheVariants as TheRequest
 

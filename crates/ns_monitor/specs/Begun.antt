@@ -1,5 +1,6 @@
 -- A call that has begun, and has tried to go at once.
-use Rattle.ns_monitor.specs.Names.{HasSince, SeatOf, Some, TableId, Walk, the, ℕ, ◌≡◌}
+use Rattle.std.specs.Prelude.{Some, ℕ, ◌≡◌}
+use Rattle.ns_monitor.specs.Names.{HasSince, SeatOf, TableId, Walk, the}
 use Rattle.ns_monitor.specs.Known.{Known, known_of}
 use Rattle.ns_monitor.specs.Standing.{IsNumberOf}
 

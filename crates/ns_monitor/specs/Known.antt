@@ -1,6 +1,6 @@
 -- What contracts see of a caller, and how it grows.
-use Rattle.ns_monitor.specs.Names.{AreNewBy, AreOfOneHistoryBy, BeginsWith, Bool, Event, Held, InHand, IsLawful, IsTrueToHistory, List, Lists, LockState, Mode, None, Option, Owed, Releasing, SeatOf, Sight, Some, TableId, Truths, Walk, [], is_held, new_section, not, own_of, row_after, section_of}
-use Rattle.ns_monitor.specs.Names.{the, true, ℕ, ◌++◌, ◌∷◌, ◌≡◌}
+use Rattle.std.specs.Prelude.{Bool, List, None, Option, Some, [], not, true, ℕ, ◌++◌, ◌∷◌, ◌≡◌}
+use Rattle.ns_monitor.specs.Names.{AreNewBy, AreOfOneHistoryBy, BeginsWith, Event, Held, InHand, IsLawful, IsTrueToHistory, Lists, LockState, Mode, Owed, Releasing, SeatOf, Sight, TableId, Truths, Walk, is_held, new_section, own_of, row_after, section_of, the}
 use Rattle.ns_monitor.specs.Walks.{releasing_by}
 use Rattle.ns_model.specs.declared.event.Exit.TheVariants as TheExit
 

@@ -1,5 +1,6 @@
 -- What may end a wait early, and what a look has shown of it.
-use Rattle.ns_monitor.specs.Names.{BeginsWith, Cause, EnvKnown, IfSome, IsMade, Limits, LookAnswers, Note, Option, TableId, answer_of, option_map, ℕ, ◌≡◌}
+use Rattle.std.specs.Prelude.{IfSome, Option, option_map, ℕ, ◌≡◌}
+use Rattle.ns_monitor.specs.Names.{BeginsWith, Cause, EnvKnown, IsMade, Limits, LookAnswers, Note, TableId, answer_of}
 
 -- the seat is of the environment, and has seen the note made that the limits name, if they name one
 pub record IsLooking (env : TableId) (seat : EnvKnown) (note : Option Note) (limits : Limits) : Type 0 where

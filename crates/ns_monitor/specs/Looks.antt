@@ -1,6 +1,7 @@
 -- What a look at a note and a deadline shows stays so: the laws of what watches for the end of a wait.
-use Rattle.ns_monitor.specs.Names.{BeginsWith, Cause, EnvEvent, EnvKnown, Expired, HasLooked, IfSome, IsMade, IsSome, Limits, List, LookAnswers, MayShow, None, Note, Notified, Option, Some, TableId, TimedOut, answer_of, begins_itself, begins_through, limits_by, option_map, refl, subst, sym, ℕ, ◌∙◌}
-use Rattle.ns_monitor.specs.Names.{◌≡◌}
+use Rattle.std.proofs.Common.{subst, sym, ◌∙◌}
+use Rattle.std.specs.Prelude.{IfSome, IsSome, List, None, Option, Some, option_map, refl, ℕ, ◌≡◌}
+use Rattle.ns_monitor.specs.Names.{BeginsWith, Cause, EnvEvent, EnvKnown, Expired, HasLooked, IsMade, Limits, LookAnswers, MayShow, Note, Notified, TableId, TimedOut, answer_of, begins_itself, begins_through, limits_by}
 use Rattle.ns_monitor.specs.Limits.{HasLookedOn, IsLooking, LookShows}
 use Rattle.ns_monitor.specs.Several.{at_will}
 

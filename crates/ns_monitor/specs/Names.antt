@@ -117,9 +117,6 @@ pub use Rattle.ns_word.specs.declared.word.Taking.{Taking}
 pub use Rattle.ns_word.specs.declared.word.Taking.TheVariants.{ToChange, ToQueue}
 pub use Rattle.ns_word.specs.declared.word.Word.{Word}
 pub use Rattle.ns_model.proofs.Beginnings.{begins_itself, begins_through}
-pub use Rattle.std.proofs.Common.{arith, subst, sym, ◌∙◌}
-pub use Rattle.std.specs.Prelude.{Bool, Err, IfSome, IsSome, List, None, Ok, Option, Result, Some, [], false, if◌then◌else◌, is_none, length, not, option_map, refl, slice_index, slice_index_or, slice_set, true, ℕ, ◌&&◌, ◌++◌, ◌-◌, ◌<◌, ◌^◌, ◌∷◌, ◌≡◌, ◌≢◌, ◌≤◌, ◌⊎◌}
-pub use Rattle.std.specs.contracts.option.Option.{the_row as option_row}
 pub use denote.Builtin.{u64}
 pub use denote.Param.{layout}
 pub use denote.RattleType.{RattleType}

@@ -1,5 +1,6 @@
 -- What came of asking whether a wait was woken.
-use Rattle.ns_monitor.specs.Names.{AnyPoll, Still, ℕ}
+use Rattle.std.specs.Prelude.{ℕ}
+use Rattle.ns_monitor.specs.Names.{AnyPoll, Still}
 use Rattle.ns_monitor.specs.declared.several.AnyPoll.TheVariants.{Woken}
 
 -- where it was woken, this holds of the section and of the variable

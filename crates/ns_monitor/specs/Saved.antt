@@ -1,5 +1,6 @@
 -- What a write section keeps of the row that it began at.
-use Rattle.ns_monitor.specs.Names.{Held, InHand, List, Mode, None, Option, QuietWriter, Releasing, Some, Truths, if◌then◌else◌, is_none, length, slice_index, slice_index_or, slice_set, true, ℕ, ◌<◌, ◌≡◌}
+use Rattle.std.specs.Prelude.{List, None, Option, Some, if◌then◌else◌, is_none, length, slice_index, slice_index_or, slice_set, true, ℕ, ◌<◌, ◌≡◌}
+use Rattle.ns_monitor.specs.Names.{Held, InHand, Mode, QuietWriter, Releasing, Truths}
 
 -- a cell's value as the section began: the one saved, or the one there is where none was
 abbrev pub value_before : Option ℕ → ℕ → ℕ

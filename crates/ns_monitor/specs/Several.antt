@@ -1,6 +1,7 @@
 -- Waits for any of several condition variables, as their caller sees them: begun, still waiting, and come back.
-use Rattle.ns_monitor.specs.Names.{AfterAny, Any, AnyWait, AwaitWakeInWait, BeginsWith, Cvs, Event, Held, InHand, InWait, IsAtPlace, IsBack, IsLawful, IsTrueToHistory, Limits, List, LockState, Mode, None, OnVariables, Option, SeatOf, SeatView, Some, Truths, Wait, Walk, [], entry_of, is_in}
-use Rattle.ns_monitor.specs.Names.{leave_any_told, own_of, row_after, section_of, the, true, wait_first, ℕ, ◌++◌, ◌<◌, ◌∷◌, ◌≡◌, ◌≤◌}
+use Rattle.std.specs.Prelude.{List, None, Option, Some, [], true, ℕ, ◌++◌, ◌<◌, ◌∷◌, ◌≡◌, ◌≤◌}
+use Rattle.ns_monitor.specs.Names.{AfterAny, Any, AnyWait, AwaitWakeInWait, BeginsWith, Cvs, Event, Held, InHand, InWait, IsAtPlace, IsBack, IsLawful, IsTrueToHistory, Limits, LockState, Mode, OnVariables, SeatOf, SeatView, Truths, Wait, Walk, entry_of, is_in, leave_any_told, own_of, row_after}
+use Rattle.ns_monitor.specs.Names.{section_of, the, wait_first}
 use Rattle.ns_monitor.specs.Known.{Known}
 
 -- What may end such a wait early: its caller, at any time. A deadline of 0 has always come.

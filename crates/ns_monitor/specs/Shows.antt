@@ -1,5 +1,6 @@
 -- What a call shows of how the monitor stands.
-use Rattle.ns_monitor.specs.Names.{BeginsWith, DebugState, Event, IsLawful, List, Lists, LockState, SeatView, ShowsLists, Truths, Word, false, own_of, ℕ, ◌++◌, ◌∷◌, ◌≡◌}
+use Rattle.std.specs.Prelude.{List, false, ℕ, ◌++◌, ◌∷◌, ◌≡◌}
+use Rattle.ns_monitor.specs.Names.{BeginsWith, DebugState, Event, IsLawful, Lists, LockState, SeatView, ShowsLists, Truths, Word, own_of}
 use Rattle.ns_monitor.specs.Known.{Known}
 
 -- At one moment between what the caller had seen and what it has seen now, the lock was in a lawful state, with this word and these lists, which nobody had in hand; in it the caller had the section in hand that it has, and its own events were just those that it had done.

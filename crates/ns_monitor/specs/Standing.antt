@@ -1,9 +1,9 @@
 -- What the loops of a call are told of the place at which it stands, and where they lead it.
-use Rattle.ns_monitor.specs.Names.{Acquire, AcquireExchange, AcquireLoad, Acquiring, Act, Aim, Arm, ArmToWait, Arrival, AtLock, Bool, Carries, Changed, Changing, Done, Err, Flag, Found, Going, HasMadeBoth, HasReached, HasUnchangedQueues, Idle, InAcquire, InLeaving, InQueuing, InRelease, InShow}
-use Rattle.ns_monitor.specs.Names.{InSignal, InWait, IsAtPlace, IsOrderly, IsPackable, Leave, LeaveLoad, LeaveSelf, Leaving, List, Load, LoadFlag, LoadWord, Next, None, Nothing, Ok, On, Option, Owed, Paid, PayWake, Performed, Queue, QueueSelf, QueueToWait, Release, ReleaseExchange, ReleaseLoad}
-use Rattle.ns_monitor.specs.Names.{ReleasePlace, Released, Releasing, Result, ReturnShown, Returning, Saw, ScanAndRelease, SeatOf, SignalLoad, Some, Succeeded, Take, TakeToLeave, TakeToQueue, TakeToScan, TakeToWake, Taking, ToChange, ToQueue, Truths, Turned, Waited, WakeAndReturn, Walk, Word}
-use Rattle.ns_monitor.specs.Names.{acquire_by, acquired_for, asked_of, bits_of, called_of, false, found_returned, got_of, has_queues, home_of, if◌then◌else◌, lists_returned, may_acquire, meets_at, mode_for, needs_scan, not, release_by, request_for, row_in, scan_place, some_returned, the, true}
-use Rattle.ns_monitor.specs.Names.{want_of, woken_of, ℕ, ◌<◌, ◌≡◌}
+use Rattle.std.specs.Prelude.{Bool, Err, List, None, Ok, Option, Result, Some, false, if◌then◌else◌, not, true, ℕ, ◌<◌, ◌≡◌}
+use Rattle.ns_monitor.specs.Names.{Acquire, AcquireExchange, AcquireLoad, Acquiring, Act, Aim, Arm, ArmToWait, Arrival, AtLock, Carries, Changed, Changing, Done, Flag, Found, Going, HasMadeBoth, HasReached, HasUnchangedQueues, Idle, InAcquire, InLeaving, InQueuing, InRelease, InShow, InSignal}
+use Rattle.ns_monitor.specs.Names.{InWait, IsAtPlace, IsOrderly, IsPackable, Leave, LeaveLoad, LeaveSelf, Leaving, Load, LoadFlag, LoadWord, Next, Nothing, On, Owed, Paid, PayWake, Performed, Queue, QueueSelf, QueueToWait, Release, ReleaseExchange, ReleaseLoad, ReleasePlace, Released, Releasing}
+use Rattle.ns_monitor.specs.Names.{ReturnShown, Returning, Saw, ScanAndRelease, SeatOf, SignalLoad, Succeeded, Take, TakeToLeave, TakeToQueue, TakeToScan, TakeToWake, Taking, ToChange, ToQueue, Truths, Turned, Waited, WakeAndReturn, Walk, Word, acquire_by, acquired_for, asked_of, bits_of}
+use Rattle.ns_monitor.specs.Names.{called_of, found_returned, got_of, has_queues, home_of, lists_returned, may_acquire, meets_at, mode_for, needs_scan, release_by, request_for, row_in, scan_place, some_returned, the, want_of, woken_of}
 use Rattle.ns_word.specs.declared.request.Request.TheVariants as TheRequest
 
 -- the seat's number, as its caller has it at hand

@@ -1,7 +1,7 @@
 -- How a call loads the cells of the row one after another, and what the test of a wait tells.
-use Rattle.ns_monitor.specs.Names.{Answered, Await, Bool, Done, GateView, HasMode, HasReached, HasSince, HasUnchangedQueues, InCells, InQueuing, InRelease, InWait, IsAtPlace, IsAtRest, IsFirst, List, LoadToScan, Met, Next, None, OnCondition, OnEntry, OnVariables, Option, PlaceFits, QueueToWait}
-use Rattle.ns_monitor.specs.Names.{QuietCells, QuietLast, ScanAndRelease, ScanCells, SeatOf, Some, Subject, TestCells, TestLast, Truths, Visit, Wait, Waiter, Walk, Word, false, if◌then◌else◌, left_of, length, load_place, meets_at, quiet_place, row_in, scan_place, slice_index, test_place, the}
-use Rattle.ns_monitor.specs.Names.{unmet_by, wait_first, woken_of, ℕ, ◌-◌, ◌<◌, ◌≡◌}
+use Rattle.std.specs.Prelude.{Bool, List, None, Option, Some, false, if◌then◌else◌, length, slice_index, ℕ, ◌-◌, ◌<◌, ◌≡◌}
+use Rattle.ns_monitor.specs.Names.{Answered, Await, Done, GateView, HasMode, HasReached, HasSince, HasUnchangedQueues, InCells, InQueuing, InRelease, InWait, IsAtPlace, IsAtRest, IsFirst, LoadToScan, Met, Next, OnCondition, OnEntry, OnVariables, PlaceFits, QueueToWait, QuietCells, QuietLast}
+use Rattle.ns_monitor.specs.Names.{ScanAndRelease, ScanCells, SeatOf, Subject, TestCells, TestLast, Truths, Visit, Wait, Waiter, Walk, Word, left_of, load_place, meets_at, quiet_place, row_in, scan_place, test_place, the, unmet_by, wait_first, woken_of}
 
 -- ---- cells one after another
 

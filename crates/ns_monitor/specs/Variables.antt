@@ -1,5 +1,6 @@
 -- What a wait for a condition variable tells once it is over, and what a signal or a broadcast does, as its caller sees it.
-use Rattle.ns_monitor.specs.Names.{AfterCv, Answer, Broadcast, Broadcasting, CvWait, Event, Held, InHand, IsBack, Seats, Signal, Signaling, Truths, Waking, [], entry_of, is_met, leave_told, row_after, section_of, ℕ, ◌++◌, ◌∷◌, ◌≡◌}
+use Rattle.std.specs.Prelude.{[], ℕ, ◌++◌, ◌∷◌, ◌≡◌}
+use Rattle.ns_monitor.specs.Names.{AfterCv, Answer, Broadcast, Broadcasting, CvWait, Event, Held, InHand, IsBack, Seats, Signal, Signaling, Truths, Waking, entry_of, is_met, leave_told, row_after, section_of}
 use Rattle.ns_monitor.specs.Known.{Known}
 
 -- The section that was in hand was committed, with the wait for the variable as its exit, and behind it, unless the answer says that the caller was woken, that it left the variable; nothing else. A

@@ -1,6 +1,7 @@
 -- How far the parts of a wait have come, and what it tells once it is over.
-use Rattle.ns_monitor.specs.Names.{Answer, Answered, Await, AwaitWakeInWait, Bool, Canceled, Cause, CondWait, Ended, EnvEvent, Err, Expired, Flag, HasAnswered, HasReached, Held, InHand, InLeaving, InQueuing, InWait, IsAtPlace, IsBack, LeaveLoad, List, Load, LookAnswers, Met, None, Note, Notified}
-use Rattle.ns_monitor.specs.Names.{Ok, Option, Outcome, Result, SeatOf, Some, TimedOut, Truths, Wait, Woken, [], answer_of, entry_of, false, got_of, is_met, row_after, section_of, the, ℕ, ◌++◌, ◌∷◌, ◌≡◌, ◌≢◌, ◌⊎◌}
+use Rattle.std.specs.Prelude.{Bool, Err, List, None, Ok, Option, Result, Some, [], false, ℕ, ◌++◌, ◌∷◌, ◌≡◌, ◌≢◌, ◌⊎◌}
+use Rattle.ns_monitor.specs.Names.{Answer, Answered, Await, AwaitWakeInWait, Canceled, Cause, CondWait, Ended, EnvEvent, Expired, Flag, HasAnswered, HasReached, Held, InHand, InLeaving, InQueuing, InWait, IsAtPlace, IsBack, LeaveLoad, Load, LookAnswers, Met, Note, Notified, Outcome, SeatOf}
+use Rattle.ns_monitor.specs.Names.{TimedOut, Truths, Wait, Woken, answer_of, entry_of, got_of, is_met, row_after, section_of, the}
 use Rattle.ns_model.specs.declared.event.Entry.TheVariants.{Waited}
 use Rattle.ns_monitor.specs.Known.{Known}
 

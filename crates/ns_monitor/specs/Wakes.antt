@@ -1,5 +1,6 @@
 -- What a call that wakes has in hand, and what it owes once the queues are back.
-use Rattle.ns_monitor.specs.Names.{Bool, Carries, HasReached, Lists, SeatOf, Truths, Turned, Waking, Word, bits_of, has_some, if◌then◌else◌, is_held, lists_woken, not, owed_woken, pay_woken, taken_from, the, ℕ, ◌&&◌, ◌≡◌}
+use Rattle.std.specs.Prelude.{Bool, if◌then◌else◌, not, ℕ, ◌&&◌, ◌≡◌}
+use Rattle.ns_monitor.specs.Names.{Carries, HasReached, Lists, SeatOf, Truths, Turned, Waking, Word, bits_of, has_some, is_held, lists_woken, owed_woken, pay_woken, taken_from, the}
 use Rattle.ns_word.specs.declared.request.Request.TheVariants as TheRequest
 
 -- the lock is held by one of two words and free by the other

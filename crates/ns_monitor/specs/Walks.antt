@@ -1,6 +1,7 @@
 -- The first place of each call of a monitor, by which a caller's calls are told.
-use Rattle.ns_monitor.specs.Names.{AcquireLoad, AsFresh, ForLock, GetLoad, InAcquire, InCells, InQueuing, InRelease, InShow, InSignal, InTry, InWait, Limits, Load, Mode, Note, OnCondition, OnVariables, Only, Option, ReleaseLoad, Releasing, SetLoad, ShowLoad, SignalLoad, ToTell, TryLoad, Wait}
-use Rattle.ns_monitor.specs.Names.{Waking, Walk, false, option_map, quiet_first, wait_first, ℕ}
+use Rattle.std.specs.Prelude.{Option, false, option_map, ℕ}
+use Rattle.ns_monitor.specs.Names.{AcquireLoad, AsFresh, ForLock, GetLoad, InAcquire, InCells, InQueuing, InRelease, InShow, InSignal, InTry, InWait, Limits, Load, Mode, Note, OnCondition, OnVariables, Only, ReleaseLoad, Releasing, SetLoad, ShowLoad, SignalLoad, ToTell, TryLoad, Wait, Waking, Walk}
+use Rattle.ns_monitor.specs.Names.{quiet_first, wait_first}
 
 -- a try for this mode
 abbrev pub trying : {C : Type 0} → Mode → Walk C

@@ -1,8 +1,8 @@
 -- The steps, as the table asks for them.
-use Rattle.ns_note.proofs.Prelude.{Adding, Allows, CanAct, EnvAct, EnvEvent, EnvPlain, EnvView, Every, FoundWord, Holds, IsLawful, IsMade, IsNoteWord, IsOne, IsRuled, IsWordAt, List, LoadClock, LoadNext, LoadNote, Me, MoveClock, NoteStanding, Nothing, NotifyNote, OneActs, OneMakes, Option, Others}
-use Rattle.ns_note.proofs.Prelude.{ParentFits, StoreNote, TakeNext, Taken, ViewFits, Views, WordFits, [], acted, acted_fits, acted_lawful, adds, adds_most, ap, arith, bit_or, but-here, env_after, eq-eqb, events_of, every_at, every_put, get_elem?, has_acted, is_adding, is_seat, keeps, made_note}
-use Rattle.ns_note.proofs.Prelude.{max, note_of, note_stored, notified_note, one_if, others_both, others_fit, others_map, others_none, others_of, outcome, refl, set, set_again, slice_index, some, state_of, subst, sym, tally, the, total, total_most, total_none, total_set, word_at, word_of, ℕ, ◌%◌}
-use Rattle.ns_note.proofs.Prelude.{◌++◌, ◌+◌, ◌-◌, ◌<◌, ◌^◌, ◌∙◌, ◌∷◌, ◌≡◌, ◌≢◌, ◌≤◌}
+use Rattle.std.proofs.Common.{List, Option, [], ap, arith, bit_or, eq-eqb, max, refl, set, slice_index, subst, sym, ℕ, ◌%◌, ◌++◌, ◌+◌, ◌-◌, ◌<◌, ◌^◌, ◌∙◌, ◌∷◌, ◌≡◌, ◌≢◌, ◌≤◌}
+use Rattle.ns_note.proofs.Prelude.{Adding, Allows, CanAct, EnvAct, EnvEvent, EnvPlain, EnvView, Every, FoundWord, Holds, IsLawful, IsMade, IsNoteWord, IsOne, IsRuled, IsWordAt, LoadClock, LoadNext, LoadNote, Me, MoveClock, NoteStanding, Nothing, NotifyNote, OneActs, OneMakes, Others, ParentFits}
+use Rattle.ns_note.proofs.Prelude.{StoreNote, TakeNext, Taken, ViewFits, Views, WordFits, acted, acted_fits, acted_lawful, adds, adds_most, but-here, env_after, events_of, every_at, every_put, get_elem?, has_acted, is_adding, is_seat, keeps, made_note, note_of, note_stored, notified_note, one_if}
+use Rattle.ns_note.proofs.Prelude.{others_both, others_fit, others_map, others_none, others_of, outcome, set_again, some, state_of, tally, the, total, total_most, total_none, total_set, word_at, word_of}
 use Rattle.ns_note.proofs.Codec.{note_of-word_of, marked}
 use Rattle.ns_note.proofs.Words.{bell_set, word_found, word_set}
 

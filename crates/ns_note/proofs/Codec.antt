@@ -1,6 +1,6 @@
 -- The word of a note: what it tells, and what a mark leaves of it.
-use Rattle.ns_note.proofs.Prelude.{Bool, IfSome, None, NoteWord, Option, Some, WordFits, and_mask, ap, arith, bit_and, bit_or, deadline_at, deadline_code, eqb, false, flag, if◌then◌else◌, le-ltb, ne_eqb, note_of, or_add_and, parent_at, parent_code, refl, suc, true, word_of, ℕ, ◌%◌, ◌*◌, ◌+◌, ◌-◌}
-use Rattle.ns_note.proofs.Prelude.{◌/◌, ◌<◌, ◌^◌, ◌∙◌, ◌≡◌, ◌≤◌}
+use Rattle.std.proofs.Common.{Bool, IfSome, None, Option, Some, ap, arith, bit_and, bit_or, eqb, false, if◌then◌else◌, le-ltb, ne_eqb, refl, suc, true, ℕ, ◌%◌, ◌*◌, ◌+◌, ◌-◌, ◌/◌, ◌<◌, ◌^◌, ◌∙◌, ◌≡◌, ◌≤◌}
+use Rattle.ns_note.proofs.Prelude.{NoteWord, WordFits, and_mask, deadline_at, deadline_code, flag, note_of, or_add_and, parent_at, parent_code, word_of}
 
 flag_most : (b : Bool) → flag b ≤ 1
 flag_most true = omega arith

@@ -18,8 +18,8 @@ pub use Rattle.ns_seats.proofs.Meetings.{cuts, glues, learns as joined_learn, me
 pub use Rattle.ns_seats.proofs.Numbered.{all_new, new_more, none_twice, numbered_count, numbered_first, numbered_rest}
 pub use Rattle.ns_seats.proofs.Sights.{one_history}
 pub use Rattle.ns_seats.proofs.Views.{pair_of}
-pub use Rattle.std.proofs.Common.{Bool, IfSome, IsSomeAnd, List, None, Option, Some, [], ap, append-nil, append_assoc, arith, bit_and, bit_or, cond, eq-eqb, eqb, false, get_or, get_or-set_other, get_or-set_same, if◌then◌else◌, inl, inr, le-ltb, length, length-append, length-set, max, nat_lt}
-pub use Rattle.std.proofs.Common.{ne_eqb, option_map, refl, replicate, rules, set, slice_index, subst, suc, sym, true, zero, ℕ, ◌%◌, ◌*◌, ◌++◌, ◌+◌, ◌-◌, ◌/◌, ◌<◌, ◌^◌, ◌∙◌, ◌∷◌, ◌≡◌, ◌≢◌, ◌≤◌}
+pub use Rattle.std.proofs.Common.{arith}
+pub use Rattle.std.proofs.Common.{rules, subst}
 pub use Rattle.std.proofs.lemmas.Bool.{cases_eq}
 pub use Rattle.std.proofs.lemmas.Bool.Decides.{nat_tests}
 pub use Rattle.std.proofs.lemmas.List.{length-replicate}

@@ -1,7 +1,7 @@
 -- A seat after a step.
-use Rattle.ns_note.proofs.Prelude.{Adding, Adds, EnvAct, EnvEvent, EnvKnown, EnvStanding, EnvView, FoundFull, FoundWord, Grows, HasTakenNumber, IfSome, IsAtRest, IsClockWord, IsEnvBySeats, IsLegalEnv, IsMade, IsNumberOf, IsOne, List, LoadClock, LoadNext, Me, New, None, Note, NoteStanding, NoteWord}
-use Rattle.ns_note.proofs.Prelude.{Nothing, Option, ParentFits, Some, StoreNote, TableId, Take, TakeNext, Taken, [], after_one, ap, append-nil, append_assoc, arith, begins_through, but-here, clock_of, cond, env_after, events_of, false, grown_begins, known_of, made_begins, made_note, nat_lt}
-use Rattle.ns_note.proofs.Prelude.{nat_tests, note_of, option_map, refl, sound_after, subst, sym, takes_in, the, true, ℕ, ◌++◌, ◌<◌, ◌∙◌, ◌∷◌, ◌≡◌, ◌≤◌}
+use Rattle.std.proofs.Common.{IfSome, List, None, Option, Some, [], ap, append-nil, append_assoc, arith, cond, false, nat_lt, option_map, refl, subst, sym, true, ℕ, ◌++◌, ◌<◌, ◌∙◌, ◌∷◌, ◌≡◌, ◌≤◌}
+use Rattle.ns_note.proofs.Prelude.{Adding, Adds, EnvAct, EnvEvent, EnvKnown, EnvStanding, EnvView, FoundFull, FoundWord, Grows, HasTakenNumber, IsAtRest, IsClockWord, IsEnvBySeats, IsLegalEnv, IsMade, IsNumberOf, IsOne, LoadClock, LoadNext, Me, New, Note, NoteStanding, NoteWord, Nothing}
+use Rattle.ns_note.proofs.Prelude.{ParentFits, StoreNote, TableId, Take, TakeNext, Taken, after_one, begins_through, but-here, clock_of, env_after, events_of, grown_begins, known_of, made_begins, made_note, nat_tests, note_of, sound_after, takes_in, the}
 
 -- ---- what a step tells
 

@@ -1,6 +1,7 @@
 -- Seats of a new environment, and seats that meet.
-use Rattle.ns_note.proofs.Prelude.{Adds, Allows, ArePair, EnvEvent, EnvView, Every, HasSight, HaveLearned, Holds, IsBySums, IsEnvBySeats, IsLawful, IsLegalEnv, IsRuled, Learned, List, Making, Me, TableId, ViewFits, [], adds, append-nil, arith, begins_itself, env_own, env_own-append, eqb, fresh}
-use Rattle.ns_note.proofs.Prelude.{fresh_plain, fresh_seat, is_adding, joined_learn, known_of, new_lawful, none_twice, numbered_count, one_history, one_if, refl, replicate, sight_of, subst, suc, sym, tally, total, zero, ℕ, ◌+◌, ◌∙◌, ◌∷◌, ◌≡◌, ◌≤◌}
+use Rattle.std.proofs.Common.{List, [], append-nil, arith, eqb, refl, replicate, subst, suc, sym, zero, ℕ, ◌+◌, ◌∙◌, ◌∷◌, ◌≡◌, ◌≤◌}
+use Rattle.ns_note.proofs.Prelude.{Adds, Allows, ArePair, EnvEvent, EnvView, Every, HasSight, HaveLearned, Holds, IsBySums, IsEnvBySeats, IsLawful, IsLegalEnv, IsRuled, Learned, Making, Me, TableId, ViewFits, adds, begins_itself, env_own, env_own-append, fresh, fresh_plain, fresh_seat, is_adding}
+use Rattle.ns_note.proofs.Prelude.{joined_learn, known_of, new_lawful, none_twice, numbered_count, one_history, one_if, sight_of, tally, total}
 use Rattle.ns_note.proofs.Words.{zeros_are}
 
 -- the rule reads the views by sums over what has to do with their numbers and with what they make, and by what holds of each

@@ -1,6 +1,7 @@
 -- The words of a table, one of them changed with what it is the word of.
-use Rattle.ns_note.proofs.Prelude.{AreWordsOf, EnvAct, EnvPlain, IsClockWord, IsNoteWord, IsWordAt, List, LoadClock, LoadNext, LoadNote, MoveClock, NoteStanding, NotifyNote, StoreNote, TakeNext, arith, but-there, but_at, cases_eq, fresh_plain, get_or, get_or-set_other, get_or-set_same, inl, inr}
-use Rattle.ns_note.proofs.Prelude.{length, length-replicate, length-set, made_note, notified_note, outcome, refl, replicate, set, state_of, subst, suc, sym, word_at, zero, ℕ, ◌+◌, ◌<◌, ◌∙◌, ◌≡◌, ◌≢◌, ◌≤◌}
+use Rattle.std.proofs.Common.{List, arith, get_or, get_or-set_other, get_or-set_same, inl, inr, length, length-set, refl, replicate, set, subst, suc, sym, zero, ℕ, ◌+◌, ◌<◌, ◌∙◌, ◌≡◌, ◌≢◌, ◌≤◌}
+use Rattle.ns_note.proofs.Prelude.{AreWordsOf, EnvAct, EnvPlain, IsClockWord, IsNoteWord, IsWordAt, LoadClock, LoadNext, LoadNote, MoveClock, NoteStanding, NotifyNote, StoreNote, TakeNext, but-there, but_at, cases_eq, fresh_plain, length-replicate, made_note, notified_note, outcome, state_of}
+use Rattle.ns_note.proofs.Prelude.{word_at}
 
 module _ (plain : EnvPlain) (words : List ℕ) (are : AreWordsOf plain words) where
   clock_set : (clock word : ℕ) → IsClockWord word clock → AreWordsOf (record plain { clock = clock }) (set words 0 word)

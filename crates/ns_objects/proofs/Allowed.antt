@@ -1,8 +1,8 @@
 -- The steps, as the table asks for them.
-use Rattle.ns_objects.proofs.Prelude.{Add, Adding, Allows, Began, BeginOnce, Bool, CanAct, CounterFault, CounterState, EndOnce, Err, Every, ExchangeToAdd, Free, HasActed, Holds, IsCounterWord, IsOne, IsRuled, List, LoadToAdd, LookOnce, MarkWait, Me, ObjectAct, ObjectEvent, ObjectView, Ok}
-use Rattle.ns_objects.proofs.Prelude.{OnCounter, OnOnce, OneActs, OneEnds, Others, Result, Running, Setup, ViewFits, Views, [], accepted, acted, acted_fits, acted_lawful, ap, arith, bit_or, cond, counter_of, counter_of-counter_word, counter_word, either, eq-eqb, events_of, every_at, every_put}
-use Rattle.ns_objects.proofs.Prelude.{false, get_elem?, has_acted, is_seat, judged, keeps, looked, most, one_if, others_both, others_fit, others_map, others_none, others_of, outcome, refl, set, slice_index, some, subst, sym, the, total, total_none, total_set, tried, true, value_of, word_at, ℕ, ℤ}
-use Rattle.ns_objects.proofs.Prelude.{◌++◌, ◌+◌, ◌-◌, ◌<◌, ◌==◌, ◌^◌, ◌∙◌, ◌∷◌, ◌≡◌, ◌≢◌, ◌≤◌}
+use Rattle.std.proofs.Common.{Bool, Err, List, Ok, Result, [], ap, arith, bit_or, cond, eq-eqb, false, refl, set, slice_index, subst, sym, true, ℕ, ℤ, ◌++◌, ◌+◌, ◌-◌, ◌<◌, ◌==◌, ◌^◌, ◌∙◌, ◌∷◌, ◌≡◌, ◌≢◌, ◌≤◌}
+use Rattle.ns_objects.proofs.Prelude.{Add, Adding, Allows, Began, BeginOnce, CanAct, CounterFault, CounterState, EndOnce, Every, ExchangeToAdd, Free, HasActed, Holds, IsCounterWord, IsOne, IsRuled, LoadToAdd, LookOnce, MarkWait, Me, ObjectAct, ObjectEvent, ObjectView, OnCounter, OnOnce, OneActs}
+use Rattle.ns_objects.proofs.Prelude.{OneEnds, Others, Running, Setup, ViewFits, Views, accepted, acted, acted_fits, acted_lawful, counter_of, counter_of-counter_word, counter_word, either, events_of, every_at, every_put, get_elem?, has_acted, is_seat, judged, keeps, looked, most, one_if}
+use Rattle.ns_objects.proofs.Prelude.{others_both, others_fit, others_map, others_none, others_of, outcome, some, the, total, total_none, total_set, tried, value_of, word_at}
 
 seat_one : (seat : ℕ) (v : ObjectView) → v.seat ≡ seat → is_seat seat v ≡ 1
 seat_one seat v is = ap one_if (eq-eqb v.seat seat is)

@@ -1,6 +1,7 @@
 -- How a change of a counter comes to its end.
-use Rattle.ns_objects.proofs.Prelude.{Add, Adding, Bool, CounterFault, CounterState, ExchangeToAdd, Free, HasCome, HasJudged, IsCounterWord, List, Me, ObjectView, Ok, OnCounter, OneActs, OneComes, Outcome, Result, [], ap, change_in_hand, cond, counter_of, counter_of-counter_word, counter_word, eqb}
-use Rattle.ns_objects.proofs.Prelude.{judged, judging, most, ne_eqb, outcome, subst, sym, the, tried, ℕ, ℤ, ◌∙◌, ◌∷◌, ◌≡◌, ◌≢◌, ◌≤◌}
+use Rattle.std.proofs.Common.{Bool, List, Ok, Result, [], ap, cond, eqb, ne_eqb, subst, sym, ℕ, ℤ, ◌∙◌, ◌∷◌, ◌≡◌, ◌≢◌, ◌≤◌}
+use Rattle.ns_objects.proofs.Prelude.{Add, Adding, CounterFault, CounterState, ExchangeToAdd, Free, HasCome, HasJudged, IsCounterWord, Me, ObjectView, OnCounter, OneActs, OneComes, Outcome, change_in_hand, counter_of, counter_of-counter_word, counter_word, judged, judging, most, outcome, the}
+use Rattle.ns_objects.proofs.Prelude.{tried}
 use Rattle.ns_objects.proofs.Rests.{came, came_through}
 
 module _ {S : Type 0} (counter : ℕ) (delta : ℤ) (me now : Me S (List ObjectView)) where

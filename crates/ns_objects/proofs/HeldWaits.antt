@@ -1,7 +1,7 @@
 -- Waits for condition variables among notes and counters: which variables those are, and what the parts of such a wait tell together.
-use Rattle.ns_objects.proofs.Prelude.{AnyItem, AnyWait, AreAmong, AreSome, Bool, BothKnown, Counter, Cv, Cvs, Every, HasBegunToWait, HasComeBackFromAny, HasWaitedForAny, Held, InHand, IsByOneOf, IsLow, IsNamed, Known, KnowsTruly, List, Mode, None, Note, Option, Past, PlaceBy, PlainItem, Setup}
-use Rattle.ns_objects.proofs.Prelude.{Some, Truths, Ty, WaitKnown, WaitsOn, [], align, ap, append_assoc, are_some, arith, begins_itself, begins_through, cond, eq-eqb, eqb-true, false, false≢true, is_among, is_this, item_of, leave_any_told, low_if_among, map, max, place_in, refl, room, room_enough}
-use Rattle.ns_objects.proofs.Prelude.{section_of, size, slice_get, subst, suc, sym, true, up, zero, ℕ, ◌%◌, ◌++◌, ◌+◌, ◌-◌, ◌<◌, ◌^◌, ◌||◌, ◌∙◌, ◌∷◌, ◌≡◌, ◌≤◌}
+use Rattle.std.proofs.Common.{Bool, List, None, Option, Some, [], ap, append_assoc, arith, cond, eq-eqb, eqb-true, false, map, max, refl, slice_get, subst, suc, sym, true, zero, ℕ, ◌%◌, ◌++◌, ◌+◌, ◌-◌, ◌<◌, ◌^◌, ◌||◌, ◌∙◌, ◌∷◌, ◌≡◌, ◌≤◌}
+use Rattle.ns_objects.proofs.Prelude.{AnyItem, AnyWait, AreAmong, AreSome, BothKnown, Counter, Cv, Cvs, Every, HasBegunToWait, HasComeBackFromAny, HasWaitedForAny, Held, InHand, IsByOneOf, IsLow, IsNamed, Known, KnowsTruly, Mode, Note, Past, PlaceBy, PlainItem, Setup, Truths, Ty, WaitKnown}
+use Rattle.ns_objects.proofs.Prelude.{WaitsOn, align, are_some, begins_itself, begins_through, false≢true, is_among, is_this, item_of, leave_any_told, low_if_among, place_in, room, room_enough, section_of, size, up}
 
 -- an item that is named is no variable above 3
 low_too : (now : BothKnown) (item : AnyItem) → IsNamed now.0 now.1 item → IsLow (item_of item)

@@ -21,8 +21,8 @@ pub use Rattle.ns_seats.proofs.Numbered.{all_new, new_more, none_twice, numbered
 pub use Rattle.ns_seats.proofs.Sights.{one_history}
 pub use Rattle.ns_seats.proofs.Views.{pair_of}
 pub use Rattle.ns_word.proofs.Enters.{are_some}
-pub use Rattle.std.proofs.Common.{Bool, Err, List, None, Ok, Option, Result, Some, [], ap, append_assoc, arith, bit_or, cond, eq-eqb, eqb, eqb-true, false, get_or, inl, inr, le-leb, leb, length, length-append, map, max, ne_eqb, of_z, refl, rules, set, slice_get, slice_index, subst, suc, sym, take}
-pub use Rattle.std.proofs.Common.{take_all, to_z, to_z-of_z, true, w64, zero, ℕ, ℤ, ◌%◌, ◌++◌, ◌+◌, ◌-◌, ◌<◌, ◌==◌, ◌^◌, ◌||◌, ◌∙◌, ◌∷◌, ◌≡◌, ◌≢◌, ◌≤◌}
+pub use Rattle.std.proofs.Common.{arith, eqb, false, rules, subst, sym}
+pub use Rattle.std.proofs.Common.{to_z-of_z}
 pub use Rattle.std.proofs.lemmas.Bool.{false≢true, lt-leb}
 pub use Rattle.std.proofs.lemmas.List.{take_more}
 pub use Rattle.std.proofs.lemmas.Option.{slice_get-get_or}

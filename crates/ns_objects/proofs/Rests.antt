@@ -1,6 +1,7 @@
 -- A seat after a step.
-use Rattle.ns_objects.proofs.Prelude.{AreObjectsBySeats, CounterState, EnvGrows, EnvKnown, EnvTrue, ExchangeToAdd, Grows, HasActed, HasCome, HasJudged, HasWords, IsLegalObjects, IsTrueToHistory, List, LoadToAdd, Me, ObjectAct, ObjectEvent, ObjectView, ObjectsKnown, OneActs, OneComes, Place, Setup}
-use Rattle.ns_objects.proofs.Prelude.{TableId, [], ap, append_assoc, begins_itself, begins_through, events_of, known_of, outcome, refl, subst, sym, the, ℕ, ℤ, ◌++◌, ◌∙◌, ◌∷◌, ◌≡◌}
+use Rattle.std.proofs.Common.{List, [], ap, append_assoc, refl, subst, sym, ℕ, ℤ, ◌++◌, ◌∙◌, ◌∷◌, ◌≡◌}
+use Rattle.ns_objects.proofs.Prelude.{AreObjectsBySeats, CounterState, EnvGrows, EnvKnown, EnvTrue, ExchangeToAdd, Grows, HasActed, HasCome, HasJudged, HasWords, IsLegalObjects, IsTrueToHistory, LoadToAdd, Me, ObjectAct, ObjectEvent, ObjectView, ObjectsKnown, OneActs, OneComes, Place, Setup}
+use Rattle.ns_objects.proofs.Prelude.{TableId, begins_itself, begins_through, events_of, known_of, outcome, the}
 
 -- a step brings its caller further
 pub came : (act : ObjectAct) (found : ℕ) (v w : ObjectView) → HasActed act found v w → HasCome (events_of act found v) (outcome v.seat act v.place found).place v w

@@ -1,6 +1,7 @@
 -- What a caller has seen, look by look.
-use Rattle.ns_objects.proofs.Prelude.{AnyItem, Bool, BothKnown, Counter, Cv, EnvEvent, EnvGrows, EnvKnown, Every, Grows, HasShownNone, InTurn, IsBetween, IsLater, IsNamed, List, Note, NoteOf, ObjectsKnown, Option, Setup, WasReady, WasReadyIn, [], ap, arith, begins_itself, clock_of, eqb, every_map}
-use Rattle.ns_objects.proofs.Prelude.{false, get_or, is_due, is_notified, length, made_grows, objects_after, past_of, standing_of, subst, suc, sym, take, take_all, zero, ℕ, ◌<◌, ◌∙◌, ◌∷◌, ◌≡◌, ◌≤◌}
+use Rattle.std.proofs.Common.{Bool, List, Option, [], ap, arith, eqb, false, get_or, length, subst, suc, sym, take, take_all, zero, ℕ, ◌<◌, ◌∙◌, ◌∷◌, ◌≡◌, ◌≤◌}
+use Rattle.ns_objects.proofs.Prelude.{AnyItem, BothKnown, Counter, Cv, EnvEvent, EnvGrows, EnvKnown, Every, Grows, HasShownNone, InTurn, IsBetween, IsLater, IsNamed, Note, NoteOf, ObjectsKnown, Setup, WasReady, WasReadyIn, begins_itself, clock_of, every_map, is_due, is_notified, made_grows}
+use Rattle.ns_objects.proofs.Prelude.{objects_after, past_of, standing_of}
 
 -- a caller that knows more of both
 abbrev pub BothGrow : BothKnown → BothKnown → Type 0

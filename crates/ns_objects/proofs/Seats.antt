@@ -1,6 +1,7 @@
 -- Seats of new objects, and seats that meet.
-use Rattle.ns_objects.proofs.Prelude.{Grows, Allows, AreObjectsBySeats, ArePair, Every, HasSight, HasWords, HaveMet, Holds, IsBySums, IsLawful, IsLegalObjects, IsRuled, Learned, List, Me, ObjectEvent, ObjectView, Setup, TableId, ViewFits, [], arith, begins_itself, eqb, fresh, fresh_seat}
-use Rattle.ns_objects.proofs.Prelude.{joined_learn, known_of, no_setup, none_twice, numbered_count, objects_own, one_history, one_if, own-append, refl, sight_of, subst, suc, sym, zero, ℕ, ◌+◌, ◌∙◌, ◌∷◌, ◌≤◌}
+use Rattle.std.proofs.Common.{List, [], arith, eqb, refl, subst, suc, sym, zero, ℕ, ◌+◌, ◌∙◌, ◌∷◌, ◌≤◌}
+use Rattle.ns_objects.proofs.Prelude.{Grows, Allows, AreObjectsBySeats, ArePair, Every, HasSight, HasWords, HaveMet, Holds, IsBySums, IsLawful, IsLegalObjects, IsRuled, Learned, Me, ObjectEvent, ObjectView, Setup, TableId, ViewFits, begins_itself, fresh, fresh_seat, joined_learn, known_of}
+use Rattle.ns_objects.proofs.Prelude.{no_setup, none_twice, numbered_count, objects_own, one_history, one_if, own-append, sight_of}
 
 -- the rule reads the views by sums over what has to do with their numbers, and by what holds of each
 pub by_sums : (S : Type 0) (setup : Setup) → IsBySums {S = S} {K = ℕ} (λ (v : ObjectView). v.seat) (ViewFits setup) (λ words homes views history. IsRuled setup words views history)

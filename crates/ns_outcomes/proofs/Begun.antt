@@ -1,7 +1,8 @@
 -- The script's own schedule, and why a run that draws turns behind it stops.
-use Rattle.ns_outcomes.proofs.Prelude.{Advances, BadScript, Bool, Call, Fault, Going, HasBegun, IsDrawFault, IsDrawingFault, IsDrawn, IsRunFault, IsSeedRun, Line, List, Lists, NotJson, Option, OutOfMemory, Over, Plan, Progress, Read, Runs, Script, ScriptCondition, Stage, Standing, StepLimit, Stops}
-use Rattle.ns_outcomes.proofs.Prelude.{TooMany, Turn, Whole, WorldFault, Write, [], advance_both, ap, arith, cond, drawing_fault, first_standing, first_standings, flat_map-append, generator, inl, inr, is_some, items_of, length, length-map, length-range_with_len, map, map-range_with_len_more}
-use Rattle.ns_outcomes.proofs.Prelude.{next_call, outcome_text, plan_of, progress, range_with_len, refl, replicate, start, subst, sym, whole_busy, word_items, world_for, ℕ, ◌++◌, ◌+◌, ◌||◌, ◌∙◌, ◌∷◌, ◌≡◌}
+use Rattle.std.proofs.Common.{Bool, List, Option, [], ap, arith, cond, inl, inr, is_some, length, map, refl, replicate, subst, sym, ℕ, ◌++◌, ◌+◌, ◌||◌, ◌∙◌, ◌∷◌, ◌≡◌}
+use Rattle.ns_outcomes.proofs.Prelude.{Advances, BadScript, Call, Fault, Going, HasBegun, IsDrawFault, IsDrawingFault, IsDrawn, IsRunFault, IsSeedRun, Line, Lists, NotJson, OutOfMemory, Over, Plan, Progress, Read, Runs, Script, ScriptCondition, Stage, Standing, StepLimit, Stops, TooMany, Turn}
+use Rattle.ns_outcomes.proofs.Prelude.{Whole, WorldFault, Write, advance_both, drawing_fault, first_standing, first_standings, flat_map-append, generator, items_of, length-map, length-range_with_len, map-range_with_len_more, next_call, outcome_text, plan_of, progress, range_with_len, start}
+use Rattle.ns_outcomes.proofs.Prelude.{whole_busy, word_items, world_for}
 use Rattle.ns_world.specs.declared.fault.Fault.TheVariants as world
 use Rattle.ns_outcomes.proofs.Draws.{drew_advances}
 use Rattle.ns_outcomes.proofs.Runs.{threads_long}

@@ -1,6 +1,7 @@
 -- Turns that were drawn are turns of a run, and follow the words that spell them.
-use Rattle.ns_outcomes.proofs.Prelude.{Advances, AreFewest, Bool, Draws, Drew, Finished, GoesBefore, Idle, IsCutShort, IsDrawingFault, IsDrawnWord, IsPick, Item, Lcg, List, Lists, None, Nothing, ScriptCondition, Some, Stage, Step, Stops, StopsFor, Turn, TurnStands, Turned, TurnsOf, Went, Whole}
-use Rattle.ns_outcomes.proofs.Prelude.{WorldFault, [], ap, arith, cond, drawing_fault, eq-eqb, eqb, false, is_end, items_of, length, length-append, map, map-append, not, pcg32, refl, rest_of, subst, sym, true, turn_item, ℕ, ◌++◌, ◌+◌, ◌<◌, ◌∙◌, ◌∷◌, ◌≡◌, ◌≢◌, ◌≤◌, ◌⊎◌}
+use Rattle.std.proofs.Common.{Bool, List, None, Some, [], ap, arith, cond, eq-eqb, eqb, false, length, length-append, map, not, refl, subst, sym, true, ℕ, ◌++◌, ◌+◌, ◌<◌, ◌∙◌, ◌∷◌, ◌≡◌, ◌≢◌, ◌≤◌, ◌⊎◌}
+use Rattle.ns_outcomes.proofs.Prelude.{Advances, AreFewest, Draws, Drew, Finished, GoesBefore, Idle, IsCutShort, IsDrawingFault, IsDrawnWord, IsPick, Item, Lcg, Lists, Nothing, ScriptCondition, Stage, Step, Stops, StopsFor, Turn, TurnStands, Turned, TurnsOf, Went, Whole, WorldFault, drawing_fault}
+use Rattle.ns_outcomes.proofs.Prelude.{is_end, items_of, map-append, pcg32, rest_of, turn_item}
 use Rattle.ns_world.specs.declared.fault.Fault.TheVariants as world
 
 -- ---- words

@@ -44,9 +44,8 @@ pub use Rattle.rand_pcg.specs.Pcg.{pcg32}
 pub use Rattle.serde_json.specs.Data.{Data}
 pub use Rattle.serde_json.specs.Find.{get}
 pub use Rattle.serde_json.specs.View.{view}
-pub use Rattle.std.proofs.Common.{All, AllPairs, Bool, Contains, Err, IfErr, IfSome, IsPermutation, IsSortedBy, List, None, Ok, OnErr, OnOk, Option, Result, Some, String, T, [], add-one, add-zero, ap, append-nil, append_assoc, arith, below_more, bytes_eq, codes, cond, count_by, drop, eq-eqb, eqb}
-pub use Rattle.std.proofs.Common.{eqb→eq, false, flat_map, get_or, inl, inr, is_some, le-ltb, length, length-append, length-take-le, lt-ltb, map, not, option_map, position, refl, replicate, rules, slice_get, string_bytes, string_cmp, subst, suc, sum, sym, take, true, zero-add, ℕ, ◌&&◌, ◌*◌, ◌++◌}
-pub use Rattle.std.proofs.Common.{◌+◌, ◌-◌, ◌<◌, ◌^◌, ◌||◌, ◌∙◌, ◌∷◌, ◌≡◌, ◌≢◌, ◌≤◌, ◌⊎◌}
+pub use Rattle.std.proofs.Common.{arith}
+pub use Rattle.std.proofs.Common.{false, flat_map, inl, inr, length, map, refl, rules, string_bytes, sym}
 pub use Rattle.std.proofs.Math.Seq.{take-suc}
 pub use Rattle.std.proofs.lemmas.Bool.{cases_lt, cases_order}
 pub use Rattle.std.proofs.lemmas.Iterator.Adapters.{position_from-zero}

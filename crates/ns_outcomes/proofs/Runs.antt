@@ -1,6 +1,6 @@
 -- Outcomes: their text, and the runs that they are of.
-use Rattle.ns_outcomes.proofs.Prelude.{Bool, Call, ComesTo, EndsOtherwise, HasRun, IsLike, Line, List, Plan, Script, ScriptCondition, T, Vec, Whole, [], ap, eqb, eqb→eq, false, flat_map, flat_map-same, length, length-map, map, not, outcome_text, plan_of, pointwise, range_with_len, refl, subst, sym}
-use Rattle.ns_outcomes.proofs.Prelude.{thread_text, true, ℕ, ◌&&◌, ◌++◌, ◌∙◌, ◌∷◌, ◌≡◌}
+use Rattle.std.proofs.Common.{Bool, List, T, [], ap, eqb, eqb→eq, false, flat_map, length, map, not, refl, subst, sym, true, ℕ, ◌&&◌, ◌++◌, ◌∙◌, ◌∷◌, ◌≡◌}
+use Rattle.ns_outcomes.proofs.Prelude.{Call, ComesTo, EndsOtherwise, HasRun, IsLike, Line, Plan, Script, ScriptCondition, Vec, Whole, flat_map-same, length-map, outcome_text, plan_of, pointwise, range_with_len, thread_text}
 
 -- the same calls are in progress by either test
 pub threads_same : (f g : ℕ → Bool) (lines : List Line) (threads : ℕ) → ((seat : ℕ) → f seat ≡ g seat) → flat_map (thread_text f lines) (range_with_len 0 threads) ≡ flat_map (thread_text g lines) (range_with_len 0 threads)

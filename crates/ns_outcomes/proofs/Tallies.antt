@@ -1,10 +1,11 @@
 -- What is counted after one run more, what the counts give as a list, and the blocks of one outcome more.
-use Rattle.ns_outcomes.proofs.Prelude.{All, All-found, All-map, All-permutation, All-weaker, AllByRecursion, AllPairs, AllPairs-from_IsDistinct, AreRuns, BadScript, Bool, Contains, Contains-permutation, Count, Counts, CountsOnceMore, Fault, Found, Global, HasCounted, IfSome, IsBefore, IsCountFault}
-use Rattle.ns_outcomes.proofs.Prelude.{IsDistinct, IsDistinct-IsPermutation, IsDistinct-cons, IsDistinct-from_apart, IsDistinct-from_sorted, IsDistinct-head, IsDistinct-tail, IsDrawFault, IsFound, IsOrdered, IsOutcomeOf, IsPermutation, IsPermutation-map, IsSortedBy, IsTally, List, None, NotJson}
-use Rattle.ns_outcomes.proofs.Prelude.{Option, OutOfMemory, Plan, Read, Seeds, Some, StepLimit, String, TooMany, Write, [], add-one, add-zero, ap, append-nil, append_assoc, arith, back_total, below_more, block_text, blocks_text, bytes_decides, bytes_eq, cases_lt, cases_order, cond, count_by}
-use Rattle.ns_outcomes.proofs.Prelude.{count_by-le-length, counted, counted_at, eq-eqb, eq_by_cmp, false, found_of, get_by_text, get_or, get_or-le-sum_by, get_or_append_left, get_or_from_slice_get, get_or_push, inl, inr, is_at, is_eq-slice_cmp, is_lt, keys_of, le-ltb, length, length-take-le}
-use Rattle.ns_outcomes.proofs.Prelude.{length_push, lookup, lt-ltb, map, nat_cmp, nat_cmp_total, nat_list_eq_equiv, on_total, once_more, option_map, option_or, ordering_then, place_from_lookup, position, position_from, position_from-zero, ranks_by, refl, same_Some, seed_at, slice_cmp, slice_get}
-use Rattle.ns_outcomes.proofs.Prelude.{slice_get-map, slice_get_within, sorted_far, string_bytes, string_cmp, string_cmp_total, subst, suc, sum, sum_by-cons, sum_by_push, sym, take, take-suc, texts_of, then_total, times, true, zero-add, ℕ, ◌*◌, ◌++◌, ◌+◌, ◌<◌, ◌^◌, ◌∙◌, ◌∷◌, ◌≡◌, ◌≤◌, ◌⊎◌}
+use Rattle.std.proofs.Common.{All, AllPairs, Bool, Contains, IfSome, IsPermutation, IsSortedBy, List, None, Option, Some, String, [], add-one, add-zero, ap, append-nil, append_assoc, arith, below_more, bytes_eq, cond, count_by, eq-eqb, false, get_or, inl, inr, le-ltb, length, length-take-le}
+use Rattle.std.proofs.Common.{lt-ltb, map, option_map, position, refl, slice_get, string_bytes, string_cmp, subst, suc, sum, sym, take, true, zero-add, ℕ, ◌*◌, ◌++◌, ◌+◌, ◌<◌, ◌^◌, ◌∙◌, ◌∷◌, ◌≡◌, ◌≤◌, ◌⊎◌}
+use Rattle.ns_outcomes.proofs.Prelude.{All-found, All-map, All-permutation, All-weaker, AllByRecursion, AllPairs-from_IsDistinct, AreRuns, BadScript, Contains-permutation, Count, Counts, CountsOnceMore, Fault, Found, Global, HasCounted, IsBefore, IsCountFault, IsDistinct, IsDistinct-IsPermutation}
+use Rattle.ns_outcomes.proofs.Prelude.{IsDistinct-cons, IsDistinct-from_apart, IsDistinct-from_sorted, IsDistinct-head, IsDistinct-tail, IsDrawFault, IsFound, IsOrdered, IsOutcomeOf, IsPermutation-map, IsTally, NotJson, OutOfMemory, Plan, Read, Seeds, StepLimit, TooMany, Write, back_total}
+use Rattle.ns_outcomes.proofs.Prelude.{block_text, blocks_text, bytes_decides, cases_lt, cases_order, count_by-le-length, counted, counted_at, eq_by_cmp, found_of, get_by_text, get_or-le-sum_by, get_or_append_left, get_or_from_slice_get, get_or_push, is_at, is_eq-slice_cmp, is_lt, keys_of}
+use Rattle.ns_outcomes.proofs.Prelude.{length_push, lookup, nat_cmp, nat_cmp_total, nat_list_eq_equiv, on_total, once_more, option_or, ordering_then, place_from_lookup, position_from, position_from-zero, ranks_by, same_Some, seed_at, slice_cmp, slice_get-map, slice_get_within, sorted_far}
+use Rattle.ns_outcomes.proofs.Prelude.{string_cmp_total, sum_by-cons, sum_by_push, take-suc, texts_of, then_total, times}
 
 -- ---- the first place that passes, and how many pass
 

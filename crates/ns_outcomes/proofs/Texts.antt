@@ -1,5 +1,6 @@
 -- The text of a script, part by part.
-use Rattle.ns_outcomes.proofs.Prelude.{AllocError, AreMembers, Data, Err, HasSeedRun, HasText, IsMember, IsScriptText, IsSeedRun, List, Ok, OnOk, Result, Script, SeedRun, Turn, [], append-nil, append_assoc, codes, get, names_before, plan_from, plan_of, refl, string_bytes, ℕ, ⊤, ◌++◌, ◌≡◌}
+use Rattle.std.proofs.Common.{Err, List, Ok, OnOk, Result, [], append-nil, append_assoc, codes, refl, string_bytes, ℕ, ◌++◌, ◌≡◌}
+use Rattle.ns_outcomes.proofs.Prelude.{AllocError, AreMembers, Data, HasSeedRun, HasText, IsMember, IsScriptText, IsSeedRun, Script, SeedRun, Turn, get, names_before, plan_from, plan_of, ⊤}
 
 -- ---- the members
 

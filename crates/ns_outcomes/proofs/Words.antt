@@ -1,5 +1,6 @@
 -- When two lock words are the same.
-use Rattle.ns_outcomes.proofs.Prelude.{Bool, Word, beq, eq-eqb, eqb, false, not, refl, subst, sym, true, ◌&&◌, ◌≡◌, ◌≢◌}
+use Rattle.std.proofs.Common.{Bool, eq-eqb, eqb, false, not, refl, subst, sym, true, ◌&&◌, ◌≡◌, ◌≢◌}
+use Rattle.ns_outcomes.proofs.Prelude.{Word, beq}
 use Rattle.ns_outcomes.proofs.Runs.{not_false, number_same}
 
 -- all parts are

@@ -1,6 +1,6 @@
 -- What a fault leaves, and what a write of a whole text answers.
-use Rattle.ns_outcomes.proofs.Prelude.{Answers, Appends, BadScript, Err, Fault, Gave, IfErr, IsAtEnd, IsCountFault, IsDrawFault, IsEnough, IsRefused, IsUndrawn, IsUnscheduled, List, NotJson, Ok, OnErr, OnOk, Option, OutOfMemory, Plan, Read, ReplayAnswers, Result, Seeds, StepLimit, TooMany, WasRead}
-use Rattle.ns_outcomes.proofs.Prelude.{Write, WritesFront, inl, inr, plan_from, refl, subst, ℕ, ⊤, ◌≡◌}
+use Rattle.std.proofs.Common.{Err, IfErr, List, Ok, OnErr, OnOk, Option, Result, inl, inr, refl, subst, ℕ, ◌≡◌}
+use Rattle.ns_outcomes.proofs.Prelude.{Answers, Appends, BadScript, Fault, Gave, IsAtEnd, IsCountFault, IsDrawFault, IsEnough, IsRefused, IsUndrawn, IsUnscheduled, NotJson, OutOfMemory, Plan, Read, ReplayAnswers, Seeds, StepLimit, TooMany, WasRead, Write, WritesFront, plan_from, ⊤}
 use Rattle.ns_replay.specs.declared.path.ScriptPath.TheVariants as at
 
 -- ---- refusals

@@ -1,5 +1,7 @@
 -- What is answered and written, for the outcomes of a script, and for a script with a schedule of its own.
-use Rattle.ns_outcomes.specs.Names.{Appends, BadScript, Err, Fault, HasRun, IsRefused, Keeps, Line, List, Ok, Option, OutOfMemory, Plan, Read, Result, ScriptCondition, StepLimit, TooMany, Turn, Whole, Write, length, max_bytes, plan_from, ℕ, ⊤, ◌++◌, ◌<◌, ◌≡◌, ◌≢◌, ◌≤◌, ◌⊎◌}
+use Rattle.std.specs.Io.KnownBytes.{Appends, Keeps}
+use Rattle.std.specs.Prelude.{Err, List, Ok, Option, Result, length, ℕ, ⊤, ◌++◌, ◌<◌, ◌≡◌, ◌≢◌, ◌≤◌, ◌⊎◌}
+use Rattle.ns_outcomes.specs.Names.{BadScript, Fault, HasRun, IsRefused, Line, OutOfMemory, Plan, Read, ScriptCondition, StepLimit, TooMany, Turn, Whole, Write, max_bytes, plan_from}
 use Rattle.ns_replay.specs.declared.path.ScriptPath.TheVariants as at
 use Rattle.ns_outcomes.specs.Outcomes.{IsLong, IsSeedRun, lengthened, outcome_text}
 use Rattle.ns_outcomes.specs.Tallies.{HasLongRun, HasMade, report_text}

@@ -1,6 +1,7 @@
 -- Runs whose turns a generator draws.
-use Rattle.ns_outcomes.specs.Names.{Advances, Call, Fault, Item, Lcg, List, OutOfMemory, Plan, Progress, ScriptCondition, Some, StepLimit, Turn, TurnOf, Turned, WorldFault, [], false, if◌then◌else◌, is_some, items_of, length, map, next_call, pcg32, pcg32_of_seed, pcg32_seed, progress}
-use Rattle.ns_outcomes.specs.Names.{range_with_len, script_truths, start, true, whole_busy, whole_of, world_for, ℕ, ◌+◌, ◌<◌, ◌||◌, ◌∷◌, ◌≡◌, ◌≢◌, ◌≤◌, ◌⊎◌}
+use Rattle.std.specs.List.{range_with_len}
+use Rattle.std.specs.Prelude.{List, Some, [], false, if◌then◌else◌, is_some, length, map, true, ℕ, ◌+◌, ◌<◌, ◌||◌, ◌∷◌, ◌≡◌, ◌≢◌, ◌≤◌, ◌⊎◌}
+use Rattle.ns_outcomes.specs.Names.{Advances, Call, Fault, Item, Lcg, OutOfMemory, Plan, Progress, ScriptCondition, StepLimit, Turn, TurnOf, Turned, WorldFault, items_of, next_call, pcg32, pcg32_of_seed, pcg32_seed, progress, script_truths, start, whole_busy, whole_of, world_for}
 use Rattle.ns_world.specs.declared.fault.Fault.TheVariants as world
 use Rattle.ns_outcomes.specs.Standings.{IsPick, going, stood}
 use Rattle.ns_outcomes.specs.declared.drawing.Drawing.{Drawing}

@@ -23,9 +23,3 @@ pub use Rattle.serde_json.specs.Data.{Data, depth}
 pub use Rattle.serde_json.specs.Find.{get}
 pub use Rattle.serde_json.specs.Read.{max_depth, read}
 pub use Rattle.serde_json.specs.Written.{IsInOrder, compact_text, has_float}
-pub use Rattle.std.specs.BTreeMap.{get_by_text}
-pub use Rattle.std.specs.Io.KnownBytes.{Appends, Keeps}
-pub use Rattle.std.specs.List.{range_with_len, sum}
-pub use Rattle.std.specs.Prelude.{All, AllPairs, Bool, Contains, Err, List, None, Ok, Option, Result, Some, String, [], bytes_eq, codes, count_by, decimal, false, flat_map, get_or, if◌then◌else◌, is_some, length, map, option_map, position, slice_get, slice_set, string_bytes, take, true, ℕ, ⊤, ◌%◌}
-pub use Rattle.std.specs.Prelude.{◌++◌, ◌+◌, ◌<◌, ◌==◌, ◌^◌, ◌||◌, ◌∷◌, ◌≡◌, ◌≢◌, ◌≤◌, ◌⊎◌}
-pub use Rattle.std.specs.declared.alloc.Global.{Global}

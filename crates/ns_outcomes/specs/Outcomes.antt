@@ -1,5 +1,7 @@
 -- The outcome of a run, and what is an outcome of a script.
-use Rattle.ns_outcomes.specs.Names.{Bool, Fault, Line, List, NeedsMore, OutOfMemory, Plan, Runs, ScriptCondition, StepLimit, Turn, Whole, [], codes, decimal, flat_map, if◌then◌else◌, left_text, length, range_with_len, reply_text, row_text, whole_busy, world_for, ℕ, ◌++◌, ◌==◌, ◌≡◌, ◌⊎◌}
+use Rattle.std.specs.List.{range_with_len}
+use Rattle.std.specs.Prelude.{Bool, List, [], codes, decimal, flat_map, if◌then◌else◌, length, ℕ, ◌++◌, ◌==◌, ◌≡◌, ◌⊎◌}
+use Rattle.ns_outcomes.specs.Names.{Fault, Line, NeedsMore, OutOfMemory, Plan, Runs, ScriptCondition, StepLimit, Turn, Whole, left_text, reply_text, row_text, whole_busy, world_for}
 use Rattle.ns_outcomes.specs.Drawn.{IsDrawn, IsSeedCut, Stage}
 
 -- ---- the text of an outcome

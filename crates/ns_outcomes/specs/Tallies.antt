@@ -1,6 +1,9 @@
 -- Distinct outcomes, as they are counted, and the text that shows them.
-use Rattle.ns_outcomes.specs.Names.{All, AllPairs, Contains, Fault, Global, List, None, Option, OutOfMemory, Plan, Some, StepLimit, String, [], bytes_eq, codes, count_by, decimal, get_by_text, get_or, if◌then◌else◌, length, map, option_map, position, string_bytes, sum, ℕ, ◌%◌, ◌++◌, ◌+◌, ◌<◌, ◌^◌}
-use Rattle.ns_outcomes.specs.Names.{◌∷◌, ◌≡◌, ◌≢◌, ◌≤◌, ◌⊎◌}
+use Rattle.std.specs.BTreeMap.{get_by_text}
+use Rattle.std.specs.List.{sum}
+use Rattle.std.specs.Prelude.{All, AllPairs, Contains, List, None, Option, Some, String, [], bytes_eq, codes, count_by, decimal, get_or, if◌then◌else◌, length, map, option_map, position, string_bytes, ℕ, ◌%◌, ◌++◌, ◌+◌, ◌<◌, ◌^◌, ◌∷◌, ◌≡◌, ◌≢◌, ◌≤◌, ◌⊎◌}
+use Rattle.std.specs.declared.alloc.Global.{Global}
+use Rattle.ns_outcomes.specs.Names.{Fault, OutOfMemory, Plan, StepLimit}
 use Rattle.ns_outcomes.specs.Outcomes.{IsLong, IsOutcomeOf}
 use Rattle.ns_outcomes.specs.declared.seeds.Seeds.{Seeds}
 use Rattle.ns_outcomes.specs.declared.tallying.Count.{Count}

@@ -1,5 +1,6 @@
 -- The text of a script with a schedule of words that were drawn.
-use Rattle.ns_outcomes.specs.Names.{Data, IsInOrder, List, None, Option, Some, Turn, [], codes, compact_text, decimal, depth, false, flat_map, get, has_float, if◌then◌else◌, max_depth, read, ℕ, ◌++◌, ◌==◌, ◌∷◌, ◌≡◌, ◌≤◌}
+use Rattle.std.specs.Prelude.{List, None, Option, Some, [], codes, decimal, false, flat_map, if◌then◌else◌, ℕ, ◌++◌, ◌==◌, ◌∷◌, ◌≡◌, ◌≤◌}
+use Rattle.ns_outcomes.specs.Names.{Data, IsInOrder, Turn, compact_text, depth, get, has_float, max_depth, read}
 
 -- ---- the words
 

@@ -1,5 +1,6 @@
 -- Waiters put at the back of the lock list, one after the other, and the seats in one of the lists.
-use Rattle.ns_queue.proofs.Prelude.{ArrayVec, Cv, HaveSeats, IsOrderly, List, Lists, Lock, Waiter, ap, arith, eq-eqb, eqb, get_or, length, one_if, sum_by_more_le, sym, take, times, times_in, with_waiters, ℕ, ◌++◌, ◌+◌, ◌<◌, ◌≡◌, ◌≤◌}
+use Rattle.std.proofs.Common.{List, ap, arith, eq-eqb, eqb, get_or, length, sym, take, ℕ, ◌++◌, ◌+◌, ◌<◌, ◌≡◌, ◌≤◌}
+use Rattle.ns_queue.proofs.Prelude.{ArrayVec, Cv, HaveSeats, IsOrderly, Lists, Lock, Waiter, one_if, sum_by_more_le, times, times_in, with_waiters}
 use Rattle.ns_queue.proofs.Seats.{times_in-append}
 use Rattle.ns_queue.proofs.Inside.{shape, list_at}
 use Rattle.ns_queue.proofs.Parts.{below_in}

@@ -1,5 +1,6 @@
 -- What is known of a run's first condition, and what it takes to learn that.
-use Rattle.ns_queue.proofs.Prelude.{Bool, IfSome, None, Option, Some, ap, arith, asked_for, asking, cond, false, inl, inr, is_alike, is_none, is_satisfied, is_some, refl, sym, true, unwrap_or, ◌&&◌, ◌∙◌, ◌≡◌, ◌≤◌, ◌⊎◌}
+use Rattle.std.proofs.Common.{Bool, IfSome, None, Option, Some, ap, arith, cond, false, inl, inr, is_none, is_some, refl, sym, true, unwrap_or, ◌&&◌, ◌∙◌, ◌≡◌, ◌≤◌, ◌⊎◌}
+use Rattle.ns_queue.proofs.Prelude.{asked_for, asking, is_alike, is_satisfied}
 
 module _ {C : Type 0} (same : C → C → Bool) (meets : C → Bool) where
   -- the run that a waiter stands in

@@ -1,6 +1,6 @@
 -- Links from place to place: what a link written elsewhere leaves, and a place put between two or taken out.
-use Rattle.ns_queue.proofs.Prelude.{Hops, List, None, Option, Some, Waiter, [], ahead, ap, arith, behind, cases_eq, eq-eqb, first_seat, gather, get_or, get_or-set_other, get_or-set_same, inl, inr, last_seat, length, length-set, ne_eqb, one_if, refl, seated, set, sym, times_in, ℕ, ◌++◌, ◌<◌, ◌∙◌}
-use Rattle.ns_queue.proofs.Prelude.{◌∷◌, ◌≡◌, ◌≢◌, ◌≤◌}
+use Rattle.std.proofs.Common.{List, None, Option, Some, [], ap, arith, eq-eqb, get_or, get_or-set_other, get_or-set_same, inl, inr, length, length-set, ne_eqb, refl, set, sym, ℕ, ◌++◌, ◌<◌, ◌∙◌, ◌∷◌, ◌≡◌, ◌≢◌, ◌≤◌}
+use Rattle.ns_queue.proofs.Prelude.{Hops, Waiter, ahead, behind, cases_eq, first_seat, gather, last_seat, one_if, seated, times_in}
 use Rattle.ns_queue.proofs.Seats.{times_in-cons, times_in-append}
 
 module _ {A : Type 0} where

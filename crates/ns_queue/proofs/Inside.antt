@@ -1,6 +1,6 @@
 -- The lists as the fields hold them.
-use Rattle.ns_queue.proofs.Prelude.{ArrayVec, Bool, Cv, IsOrderly, IsTrue, List, Lists, OnFalse, Waiter, [], ap, arith, beside, cases_eq, cond, drop, eq-eqb, eqb, false, filter, get_or, get_or-le-sum_by, get_or-map, inl, inr, length, length-map, length-set, map, map-set, map_over_more, ne_eqb, not}
-use Rattle.ns_queue.proofs.Prelude.{one_if, refl, set, subst, suc, sum_by, sum_by_more, sym, take, times, times_in, true, waiters_of, with_waiters, without_in, zero, ℕ, ◌++◌, ◌+◌, ◌<◌, ◌∙◌, ◌∷◌, ◌≡◌, ◌≤◌}
+use Rattle.std.proofs.Common.{Bool, IsTrue, List, [], ap, arith, cond, drop, eq-eqb, eqb, false, get_or, inl, inr, length, length-set, map, ne_eqb, not, refl, set, subst, suc, sym, take, true, zero, ℕ, ◌++◌, ◌+◌, ◌<◌, ◌∙◌, ◌∷◌, ◌≡◌, ◌≤◌}
+use Rattle.ns_queue.proofs.Prelude.{ArrayVec, Cv, IsOrderly, Lists, OnFalse, Waiter, beside, cases_eq, filter, get_or-le-sum_by, get_or-map, length-map, map-set, map_over_more, one_if, sum_by, sum_by_more, times, times_in, waiters_of, with_waiters, without_in}
 use Rattle.ns_queue.proofs.Seats.{times_in-cons, times_in_push}
 use Rattle.ns_queue.proofs.Orders.{orderly_more, orderly_less, times_set, cv_times, part_has_room}
 use Rattle.ns_queue.proofs.Parts.{once_in, read_apart, read_back}

@@ -1,7 +1,6 @@
 -- What is left of a list whose taken waiters are taken out one by one.
-use Rattle.ns_queue.proofs.Prelude.{Bool, IsRow, List, Waiter, [], ap, arith, begins_with_reader, cases_Bool, cond, drop, eq-eqb, false, get_or, inl, inr, is_eligible, left_by_writer, left_of, length, ne_eqb, not, refl, seats_of, sym, times_in, true, without_all, without_in, woken_of, writes, ℕ}
-use Rattle.ns_queue.proofs.Prelude.{◌+◌, ◌-◌, ◌<◌, ◌∙◌, ◌∷◌, ◌≡◌, ◌≢◌, ◌≤◌}
-use Rattle.std.proofs.Common.{filter}
+use Rattle.std.proofs.Common.{Bool, List, [], ap, arith, cond, drop, eq-eqb, false, filter, get_or, inl, inr, length, ne_eqb, not, refl, sym, true, ℕ, ◌+◌, ◌-◌, ◌<◌, ◌∙◌, ◌∷◌, ◌≡◌, ◌≢◌, ◌≤◌}
+use Rattle.ns_queue.proofs.Prelude.{IsRow, Waiter, begins_with_reader, cases_Bool, is_eligible, left_by_writer, left_of, seats_of, times_in, without_all, without_in, woken_of, writes}
 use Rattle.ns_queue.proofs.Inside.{times_in-filter}
 use Rattle.ns_queue.proofs.Marking.{drop_step}
 use Rattle.ns_queue.proofs.Seats.{none_without, times_in-cons}

@@ -1,6 +1,6 @@
 -- The links of the runs: what a link written elsewhere leaves, and lists put together.
-use Rattle.ns_queue.proofs.Prelude.{Bool, IsRow, List, None, Option, RunLinks, RunsOn, Some, StandRuns, Waiter, [], ap, append_assoc, arith, cases_Bool, cases_lt, false, get_or, get_or-set_other, head_of, inl, inr, joins, last_run, last_seat, place_of, refl, seated, set, subst, sym, times_in, true}
-use Rattle.ns_queue.proofs.Prelude.{true≢false, ℕ, ◌++◌, ◌<◌, ◌∙◌, ◌∷◌, ◌≡◌, ◌≢◌, ◌⊎◌}
+use Rattle.std.proofs.Common.{Bool, List, None, Option, Some, [], ap, append_assoc, arith, false, get_or, get_or-set_other, inl, inr, refl, set, subst, sym, true, true≢false, ℕ, ◌++◌, ◌<◌, ◌∙◌, ◌∷◌, ◌≡◌, ◌≢◌, ◌⊎◌}
+use Rattle.ns_queue.proofs.Prelude.{IsRow, RunLinks, RunsOn, StandRuns, Waiter, cases_Bool, cases_lt, head_of, joins, last_run, last_seat, place_of, seated, times_in}
 use Rattle.ns_queue.proofs.Seats.{times_in-append}
 use Rattle.ns_queue.proofs.Hops.{stands_not, seated_none, seated_here}
 use Rattle.ns_queue.proofs.Places.{row_rest, row_own, row_parts, row_at, row_front, row_low}

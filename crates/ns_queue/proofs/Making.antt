@@ -1,6 +1,6 @@
 -- What a change of a list makes of the links of its runs.
-use Rattle.ns_queue.proofs.Prelude.{Bool, IsRow, IsRuns, List, MadeUpTo, None, Option, RunLinks, RunsOn, Some, StandRuns, Waiter, [], ahead, ap, arith, behind, cases_Bool, false, first_seat, from, get_or, get_or-replicate, get_or-set_other, get_or-set_same, head_of, inl, inr, joins, last_run}
-use Rattle.ns_queue.proofs.Prelude.{last_seat, length, length-replicate, length-set, place_of, refl, replicate, seated, set, subst, sym, times_in, true, true≢false, without_in, ℕ, ◌++◌, ◌<◌, ◌∙◌, ◌∷◌, ◌≡◌, ◌≢◌}
+use Rattle.std.proofs.Common.{Bool, List, None, Option, Some, [], ap, arith, false, get_or, get_or-set_other, get_or-set_same, inl, inr, length, length-set, refl, replicate, set, subst, sym, true, true≢false, ℕ, ◌++◌, ◌<◌, ◌∙◌, ◌∷◌, ◌≡◌, ◌≢◌}
+use Rattle.ns_queue.proofs.Prelude.{IsRow, IsRuns, MadeUpTo, RunLinks, RunsOn, StandRuns, Waiter, ahead, behind, cases_Bool, first_seat, from, get_or-replicate, head_of, joins, last_run, last_seat, length-replicate, place_of, seated, times_in, without_in}
 use Rattle.ns_queue.proofs.Hops.{seated_none, stands_not}
 use Rattle.ns_queue.proofs.Ringed.{first_low, last_low}
 use Rattle.ns_queue.proofs.Places.{split, ahead_out, from_none, found, cut_at, stepped, row_at, row_parts, row_rest, row_own, row_front, row_low, standing, without_is, row_without}

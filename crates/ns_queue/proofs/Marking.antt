@@ -1,5 +1,6 @@
 -- One place further along a list.
-use Rattle.ns_queue.proofs.Prelude.{Bool, List, Waiter, Wanted, [], add-one, ap, append_assoc, arith, drop, drop-cons, false, get_or, is_wanted, length, marked, refl, signal_marks, suc, sym, true, wanted_after, ℕ, ◌++◌, ◌+◌, ◌<◌, ◌∙◌, ◌∷◌, ◌≡◌}
+use Rattle.std.proofs.Common.{Bool, List, [], add-one, ap, append_assoc, arith, drop, false, get_or, length, refl, suc, sym, true, ℕ, ◌++◌, ◌+◌, ◌<◌, ◌∙◌, ◌∷◌, ◌≡◌}
+use Rattle.ns_queue.proofs.Prelude.{Waiter, Wanted, drop-cons, is_wanted, marked, signal_marks, wanted_after}
 
 pub drop_step : {A : Type 0} (xs : List A) (i : ℕ) (d x : A) → i < length xs → get_or xs i d ≡ x → drop i xs ≡ x ∷ drop (i + 1) xs
 drop_step {A} xs i d x within is = rw add-one (drop-cons xs i d within ∙ ap (λ (y : A). y ∷ drop (suc i) xs) is)

@@ -1,5 +1,6 @@
 -- What the marks of a signal come to.
-use Rattle.ns_queue.proofs.Prelude.{Anybody, Bool, List, Nobody, Readers, ReadersAndWriter, Waiter, Wanted, [], ap, cond, drop, false, filter, length, marked, not, readers_and_a_writer, reads, refl, signal_marks, signaled_of, suc, true, unmarked, unsignaled_of, wanted_after, writes, ◌∷◌, ◌≡◌}
+use Rattle.std.proofs.Common.{Bool, List, [], ap, cond, drop, false, length, not, refl, suc, true, ◌∷◌, ◌≡◌}
+use Rattle.ns_queue.proofs.Prelude.{Anybody, Nobody, Readers, ReadersAndWriter, Waiter, Wanted, filter, marked, readers_and_a_writer, reads, signal_marks, signaled_of, unmarked, unsignaled_of, wanted_after, writes}
 
 module _ {C : Type 0} where
   pub length-signal_marks : (wanted : Wanted) (ws : List (Waiter C)) → length (signal_marks wanted ws) ≡ length ws

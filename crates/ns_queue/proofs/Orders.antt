@@ -1,6 +1,6 @@
 -- What changes one list keeps the lists orderly.
-use Rattle.ns_queue.proofs.Prelude.{Fits, IsOrderly, List, Lists, Waiter, [], ap, arith, beside, cases_eq, cases_lt, eq-eqb, eqb, get_or, get_or-le-sum_by, get_or_past, inl, inr, length, mul-le-mul_right, ne_eqb, one_if, refl, set, subst, suc, sum_by-set, times, times_in, w64, zero, ℕ, ◌*◌, ◌+◌}
-use Rattle.ns_queue.proofs.Prelude.{◌-◌, ◌<◌, ◌^◌, ◌∷◌, ◌≡◌, ◌≤◌}
+use Rattle.std.proofs.Common.{Fits, List, [], ap, arith, eq-eqb, eqb, get_or, inl, inr, length, ne_eqb, refl, set, subst, suc, w64, zero, ℕ, ◌*◌, ◌+◌, ◌-◌, ◌<◌, ◌^◌, ◌∷◌, ◌≡◌, ◌≤◌}
+use Rattle.ns_queue.proofs.Prelude.{IsOrderly, Lists, Waiter, beside, cases_eq, cases_lt, get_or-le-sum_by, get_or_past, mul-le-mul_right, one_if, sum_by-set, times, times_in}
 use Rattle.ns_queue.proofs.Seats.{room_for}
 
 module _ {C : Type 0} where

@@ -1,6 +1,7 @@
 -- Lists without the seats of a set.
-use Rattle.ns_queue.proofs.Prelude.{Anybody, ArrayVec, Bool, Cv, HaveSeats, IsOrderly, List, Lists, Seats, Waiter, [], ap, arith, cases_eq, cases_lt, cvs_without, drop, eqb, false, get_or, get_or-le-sum_by, get_or-map, inl, inr, is_in, length, length-map, lt-ltb, map, marked, nat_lt, ne_eqb, not}
-use Rattle.ns_queue.proofs.Prelude.{one_if, outside, refl, set, signal_marks, signaled_of, suc, sum_by, sum_by-append, sum_by-cons, sum_by-take-drop, sym, take, taken_set, times, times_in, true, unmarked, unsignaled_of, waiters_of, without_in, zero, ℕ, ◌++◌, ◌+◌, ◌<◌, ◌∙◌, ◌∷◌, ◌≡◌, ◌≤◌}
+use Rattle.std.proofs.Common.{Bool, List, [], ap, arith, drop, eqb, false, get_or, inl, inr, length, lt-ltb, map, nat_lt, ne_eqb, not, refl, set, suc, sym, take, true, zero, ℕ, ◌++◌, ◌+◌, ◌<◌, ◌∙◌, ◌∷◌, ◌≡◌, ◌≤◌}
+use Rattle.ns_queue.proofs.Prelude.{Anybody, ArrayVec, Cv, HaveSeats, IsOrderly, Lists, Seats, Waiter, cases_eq, cases_lt, cvs_without, get_or-le-sum_by, get_or-map, is_in, length-map, marked, one_if, outside, signal_marks, signaled_of, sum_by, sum_by-append, sum_by-cons, sum_by-take-drop}
+use Rattle.ns_queue.proofs.Prelude.{taken_set, times, times_in, unmarked, unsignaled_of, waiters_of, without_in}
 use Rattle.ns_queue.proofs.Inside.{shape, times_in-filter}
 use Rattle.ns_queue.proofs.Marking.{drop_step}
 use Rattle.ns_queue.proofs.Meaning.{signal_leaves, signal_takes}

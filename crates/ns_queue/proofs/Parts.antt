@@ -1,6 +1,6 @@
 -- One of the five lists: read back, changed, and left by a seat.
-use Rattle.ns_queue.proofs.Prelude.{Bool, Cv, Cvs, HaveSeats, IsList, IsOrderly, List, Lists, Lock, Seats, Waiter, Which, [], add-one, ap, arith, beside, eqb, false, get_or, get_or-le-sum_by, get_or-set_other, get_or-set_same, has_seat, length, length-set, map, named_for, outside, refl, set, suc}
-use Rattle.ns_queue.proofs.Prelude.{sum_by, sum_by-cons, times, times_in, true, waiters_of, with_each, with_waiters, without, without_in, zero, ℕ, ◌++◌, ◌+◌, ◌<◌, ◌||◌, ◌∙◌, ◌∷◌, ◌≡◌, ◌≢◌, ◌≤◌}
+use Rattle.std.proofs.Common.{Bool, List, [], add-one, ap, arith, eqb, false, get_or, get_or-set_other, get_or-set_same, length, length-set, map, refl, set, suc, true, zero, ℕ, ◌++◌, ◌+◌, ◌<◌, ◌||◌, ◌∙◌, ◌∷◌, ◌≡◌, ◌≢◌, ◌≤◌}
+use Rattle.ns_queue.proofs.Prelude.{Cv, Cvs, HaveSeats, IsList, IsOrderly, Lists, Lock, Seats, Waiter, Which, beside, get_or-le-sum_by, has_seat, named_for, outside, sum_by, sum_by-cons, times, times_in, waiters_of, with_each, with_waiters, without, without_in}
 use Rattle.ns_model.specs.Cvs.{is_in}
 use Rattle.ns_queue.proofs.Seats.{none_without}
 use Rattle.ns_queue.proofs.Orders.{lock_times, cv_times}

@@ -1,6 +1,6 @@
 -- A place in a list: those in front of it, and those from it on.
-use Rattle.ns_queue.proofs.Prelude.{IsRow, List, None, Some, Waiter, [], ahead, ap, append-nil, append_assoc, arith, behind, cases_eq, eq-eqb, first_seat, from, inl, inr, is_of, length, length-append, ne_eqb, not, one_if, refl, seated, subst, sym, times_in, without_in, ℕ, ◌++◌, ◌+◌, ◌<◌, ◌∙◌, ◌∷◌}
-use Rattle.ns_queue.proofs.Prelude.{◌≡◌}
+use Rattle.std.proofs.Common.{List, None, Some, [], ap, append-nil, append_assoc, arith, eq-eqb, inl, inr, length, length-append, ne_eqb, not, refl, subst, sym, ℕ, ◌++◌, ◌+◌, ◌<◌, ◌∙◌, ◌∷◌, ◌≡◌}
+use Rattle.ns_queue.proofs.Prelude.{IsRow, Waiter, ahead, behind, cases_eq, first_seat, from, is_of, one_if, seated, times_in, without_in}
 use Rattle.ns_queue.proofs.Seats.{few, own_times, times_in-cons, times_in-append}
 use Rattle.ns_queue.proofs.Inside.{times_in-filter}
 use Rattle.ns_queue.proofs.Hops.{seated_rest, stands_not}

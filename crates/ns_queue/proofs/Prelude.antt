@@ -9,9 +9,8 @@ pub use Rattle.ns_queue.specs.Prelude.{tests_from, tests_of, tests_seeking, time
 unfoldable pub use Rattle.ns_queue.specs.Prelude.{gather}
 pub use Rattle.ns_queue.specs.Rings.{AreCounts}
 pub use Rattle.ns_queue.specs.Sizes.{lock_fits, queues_fit, ring_fits, row_fits}
-pub use Rattle.std.proofs.Common.{Bool, Fits, IfSome, IsTrue, List, None, Option, Some, [], add-one, ap, append-nil, append_assoc, arith, cond, drop, eq-eqb, eqb, eqb-true, falls, false, get_or, get_or-set_other, get_or-set_same, inl, inr, is_none, is_some, le-ltb, length, length-append}
-pub use Rattle.std.proofs.Common.{length-drop, length-set, length-take, lt-ltb, ltb, ltb-true, map, min, nat_lt, ne_eqb, not, refl, replicate, rules, set, slice_index, slice_index_or, subst, suc, sym, take, take-append-drop, take_all, true, true≢false, unwrap_or, w32, w64, w8, zero, ℕ, ◌&&◌, ◌*◌}
-pub use Rattle.std.proofs.Common.{◌++◌, ◌+◌, ◌-◌, ◌<◌, ◌^◌, ◌||◌, ◌↔◌, ◌∙◌, ◌∷◌, ◌≡◌, ◌≢◌, ◌≤◌, ◌⊎◌}
+pub use Rattle.std.proofs.Common.{[], arith, eqb, falls, false, length}
+pub use Rattle.std.proofs.Common.{map, not, refl, sym, true}
 pub use Rattle.std.proofs.Math.Bool.{or_comm}
 pub use Rattle.std.proofs.Math.Nat.{mul-le-mul_right}
 pub use Rattle.std.proofs.Math.Seq.{drop-cons, take-length}

@@ -1,8 +1,8 @@
 -- Whom a scan takes behind the first, and what it tests for that.
-use Rattle.ns_queue.proofs.Prelude.{Bool, Fits, IsRow, List, None, Option, Reader, Some, Sought, Waiter, Writer, [], ap, append-nil, append_assoc, arith, asked_for, asking, begins_with_reader, behind, cases_Bool, cond, drop, false, first_seat, foremost_of, from, get_or, in_front, inl, inr}
-use Rattle.ns_queue.proofs.Prelude.{is_alike, is_eligible, is_some, left_by_writer, left_of, length, length-append, length-drop, needs, not, reads, refl, seated, seats_of, sought_of, sought_seat, stage_next, suc, sym, take, take-append-drop, tests_from, tests_of, tests_seeking, true, unwrap_or}
-use Rattle.ns_queue.proofs.Prelude.{w32, without_all, without_in, woken_of, writes, zero, ℕ, ◌&&◌, ◌++◌, ◌+◌, ◌<◌, ◌||◌, ◌∙◌, ◌∷◌, ◌≡◌, ◌≤◌}
-use Rattle.std.proofs.Common.{filter}
+use Rattle.std.proofs.Common.{Bool, Fits, List, None, Option, Some, [], ap, append-nil, append_assoc, arith, cond, drop, false, filter, get_or, inl, inr, is_some, length, length-append, length-drop, not, refl, suc, sym, take, take-append-drop, true, unwrap_or, w32, zero, ℕ, ◌&&◌, ◌++◌, ◌+◌, ◌<◌}
+use Rattle.std.proofs.Common.{◌||◌, ◌∙◌, ◌∷◌, ◌≡◌, ◌≤◌}
+use Rattle.ns_queue.proofs.Prelude.{IsRow, Reader, Sought, Waiter, Writer, asked_for, asking, begins_with_reader, behind, cases_Bool, first_seat, foremost_of, from, in_front, is_alike, is_eligible, left_by_writer, left_of, needs, reads, seated, seats_of, sought_of, sought_seat, stage_next}
+use Rattle.ns_queue.proofs.Prelude.{tests_from, tests_of, tests_seeking, without_all, without_in, woken_of, writes}
 use Rattle.ns_queue.specs.declared.scan.Foremost.TheVariants.{Nobody}
 use Rattle.ns_queue.proofs.Asking.{Enters, Knows, asking_most, knows_asked, knows_entered, met_entered, taken_asked}
 use Rattle.ns_queue.proofs.RunCounts.{tests_is}

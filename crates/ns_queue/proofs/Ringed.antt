@@ -1,7 +1,8 @@
 -- What a waiter more or less makes of the entries, the links and the counts.
-use Rattle.ns_queue.proofs.Prelude.{AreCounts, Bool, Counts, DoCount, Fits, HaveSeats, Holds, Hops, IsRow, IsTrue, List, None, Option, Some, Waiter, [], ahead, ap, append-nil, arith, behind, cases_eq, cases_lt, cond, count_by, count_by-le-length, counts_less, counts_more, counts_of, eq-eqb, eqb}
-use Rattle.ns_queue.proofs.Prelude.{false, first_seat, gather, get_or, get_or-set_other, get_or-set_same, get_or_default, has_condition, inl, inr, is_long, is_some, last_seat, length, length-append, length-set, list_any, mul-le-mul_right, nat_lt, ne_eqb, one_if, option_map, refl, replicate, seated}
-use Rattle.ns_queue.proofs.Prelude.{set, subst, suc, sum_by-append, sum_by-cons, sym, times_in, true, w64, w8, without_in, writes_plainly, zero, ℕ, ◌*◌, ◌++◌, ◌+◌, ◌<◌, ◌^◌, ◌||◌, ◌↔◌, ◌∙◌, ◌∷◌, ◌≡◌, ◌≤◌}
+use Rattle.std.proofs.Common.{Bool, Fits, IsTrue, List, None, Option, Some, [], ap, append-nil, arith, cond, eq-eqb, eqb, false, get_or, get_or-set_other, get_or-set_same, inl, inr, is_some, length, length-append, length-set, nat_lt, ne_eqb, refl, replicate, set, subst, suc, sym, true, w64, w8}
+use Rattle.std.proofs.Common.{zero, ℕ, ◌*◌, ◌++◌, ◌+◌, ◌<◌, ◌^◌, ◌||◌, ◌↔◌, ◌∙◌, ◌∷◌, ◌≡◌, ◌≤◌}
+use Rattle.ns_queue.proofs.Prelude.{AreCounts, Counts, DoCount, HaveSeats, Holds, Hops, IsRow, Waiter, ahead, behind, cases_eq, cases_lt, count_by, count_by-le-length, counts_less, counts_more, counts_of, first_seat, gather, get_or_default, has_condition, is_long, last_seat, list_any}
+use Rattle.ns_queue.proofs.Prelude.{mul-le-mul_right, one_if, option_map, seated, sum_by-append, sum_by-cons, times_in, without_in, writes_plainly}
 use Rattle.ns_queue.proofs.Seats.{none_without, room_for, some_more, times_in-cons, times_in-append}
 use Rattle.ns_queue.proofs.Hops.{Spread, stands_not, linked, joined, seated_none, seated_other, seated_here, gather_is, first_hop, last_hop, rest_hops, hop_back, Parted, part}
 

@@ -1,6 +1,6 @@
 -- A scan counts one test for each run in which some waiter's truth is asked for.
-use Rattle.ns_queue.proofs.Prelude.{Asked, Bool, Ended, List, None, Option, Reading, Seeking, Some, Stage, Waiter, [], ap, arith, asked_of, cond, count_by, count_by-le-length, ended, false, goes_on, is_alike, is_eligible, is_some, length, length-append, list_any, map, needs, not, one_if, reads}
-use Rattle.ns_queue.proofs.Prelude.{refl, runs_after, runs_of, stage_after, started, sum_by-append, sum_by-cons, sym, tests_from, tests_of, true, writes, ℕ, ◌&&◌, ◌++◌, ◌+◌, ◌||◌, ◌∙◌, ◌∷◌, ◌≡◌, ◌≤◌}
+use Rattle.std.proofs.Common.{Bool, List, None, Option, Some, [], ap, arith, cond, false, is_some, length, length-append, map, not, refl, sym, true, ℕ, ◌&&◌, ◌++◌, ◌+◌, ◌||◌, ◌∙◌, ◌∷◌, ◌≡◌, ◌≤◌}
+use Rattle.ns_queue.proofs.Prelude.{Asked, Ended, Reading, Seeking, Stage, Waiter, asked_of, count_by, count_by-le-length, ended, goes_on, is_alike, is_eligible, list_any, needs, one_if, reads, runs_after, runs_of, stage_after, started, sum_by-append, sum_by-cons, tests_from, tests_of, writes}
 
 module _ {C : Type 0} where
   abbrev asks : List (Asked C) → Bool

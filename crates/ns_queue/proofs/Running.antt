@@ -1,6 +1,6 @@
 -- From run to run where nobody is taken: one test a run, and the link from the run's last.
-use Rattle.ns_queue.proofs.Prelude.{Bool, Fits, IsRow, List, None, Option, RunsOn, Some, Waiter, [], ahead, ap, append_assoc, arith, behind, cases_Bool, cond, drop, false, first_seat, from, get_or, head_of, in_front, inl, inr, is_alike, is_eligible, is_satisfied, is_some, joins, length, one_if}
-use Rattle.ns_queue.proofs.Prelude.{place_of, refl, seated, sought_of, sought_seat, subst, sym, tests_seeking, times_in, true, w32, ℕ, ◌++◌, ◌+◌, ◌<◌, ◌∙◌, ◌∷◌, ◌≡◌, ◌≤◌}
+use Rattle.std.proofs.Common.{Bool, Fits, List, None, Option, Some, [], ap, append_assoc, arith, cond, drop, false, get_or, inl, inr, is_some, length, refl, subst, sym, true, w32, ℕ, ◌++◌, ◌+◌, ◌<◌, ◌∙◌, ◌∷◌, ◌≡◌, ◌≤◌}
+use Rattle.ns_queue.proofs.Prelude.{IsRow, RunsOn, Waiter, ahead, behind, cases_Bool, first_seat, from, head_of, in_front, is_alike, is_eligible, is_satisfied, joins, one_if, place_of, seated, sought_of, sought_seat, tests_seeking, times_in}
 use Rattle.ns_queue.proofs.Seats.{few, own_times, times_in-append}
 use Rattle.ns_queue.proofs.Seeking.{Unmet, alike_unmet, at_most_one, front_no, front_yes, seeking_alike, seeking_found, seeking_other, unmet_of}
 use Rattle.ns_queue.proofs.Hops.{stands_not}

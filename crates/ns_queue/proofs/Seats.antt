@@ -1,6 +1,6 @@
 -- How often a seat stands in lists, and how many waiters a list can have.
-use Rattle.ns_queue.proofs.Prelude.{Bool, IsTrue, List, Waiter, [], ap, arith, cases_eq, cases_lt, count_by, count_by_more_no, eq-eqb, eqb, false, get_or, inl, inr, is_of, le-ltb, length, lt-ltb, ltb, nat_lt, ne_eqb, one_if, refl, subst, suc, sum_by-append, sum_by-cons, sum_by_more_le, sym, take}
-use Rattle.ns_queue.proofs.Prelude.{take_all, times_in, true, without_in, zero, ℕ, ◌++◌, ◌+◌, ◌<◌, ◌||◌, ◌↔◌, ◌∙◌, ◌∷◌, ◌≡◌, ◌≢◌, ◌≤◌}
+use Rattle.std.proofs.Common.{Bool, IsTrue, List, [], ap, arith, eq-eqb, eqb, false, get_or, inl, inr, le-ltb, length, lt-ltb, ltb, nat_lt, ne_eqb, refl, subst, suc, sym, take, take_all, true, zero, ℕ, ◌++◌, ◌+◌, ◌<◌, ◌||◌, ◌↔◌, ◌∙◌, ◌∷◌, ◌≡◌, ◌≢◌, ◌≤◌}
+use Rattle.ns_queue.proofs.Prelude.{Waiter, cases_eq, cases_lt, count_by, count_by_more_no, is_of, one_if, sum_by-append, sum_by-cons, sum_by_more_le, times_in, without_in}
 
 low_none_at : (s : ℕ) → one_if (ltb s 0) ≡ 0
 low_none_at s = rw (le-ltb s 0 (omega arith)) refl

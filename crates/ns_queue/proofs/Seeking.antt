@@ -1,6 +1,6 @@
 -- Whom a scan takes first, and how many conditions it tests to find that one, or nobody.
-use Rattle.ns_queue.proofs.Prelude.{Bool, IfSome, List, None, Option, Seeking, Some, Stage, Waiter, [], ap, arith, cases_Bool, cond, drop, false, get_or, in_front, inl, inr, is_alike, is_eligible, is_satisfied, is_some, length, needs, not, one_if, reads, refl, stage_after, stage_next, suc, sym}
-use Rattle.ns_queue.proofs.Prelude.{take, tests_from, tests_seeking, true, woken_of, zero, ℕ, ◌&&◌, ◌+◌, ◌<◌, ◌||◌, ◌∙◌, ◌∷◌, ◌≡◌, ◌≤◌}
+use Rattle.std.proofs.Common.{Bool, IfSome, List, None, Option, Some, [], ap, arith, cond, drop, false, get_or, inl, inr, is_some, length, not, refl, suc, sym, take, true, zero, ℕ, ◌&&◌, ◌+◌, ◌<◌, ◌||◌, ◌∙◌, ◌∷◌, ◌≡◌, ◌≤◌}
+use Rattle.ns_queue.proofs.Prelude.{Seeking, Stage, Waiter, cases_Bool, in_front, is_alike, is_eligible, is_satisfied, needs, one_if, reads, stage_after, stage_next, tests_from, tests_seeking, woken_of}
 
 pub at_most_one : (b : Bool) → cond b 1 0 ≤ 1
 at_most_one true = omega arith

@@ -1,5 +1,6 @@
 -- The lists of the four variables, as they are shown.
-use Rattle.ns_queue.proofs.Prelude.{List, Shown, Waiter, [], arith, length, map, refl, shown_of, slice_index_or, ◌∷◌, ◌≡◌}
+use Rattle.std.proofs.Common.{List, [], arith, length, map, refl, slice_index_or, ◌∷◌, ◌≡◌}
+use Rattle.ns_queue.proofs.Prelude.{Shown, Waiter, shown_of}
 
 -- each of four
 pub each_shown : {C : Type 0} (cvs : List (List (Waiter C))) (a b c d : List Shown) → length cvs ≡ 4 →

@@ -1,6 +1,6 @@
 -- What a wake takes of a list, and what it leaves there.
-use Rattle.ns_queue.proofs.Prelude.{Anybody, Bool, Every, HaveSeats, List, Seats, Some, Waiter, [], ap, arith, cases_eq, cases_lt, eq-eqb, eqb, false, get_or, in_more, inl, inr, is_in, le-ltb, length, lt-ltb, ltb-true, marked, nat_lt, ne_eqb, none_in, one_if, or_comm, refl, same_seats, seats_of}
-use Rattle.ns_queue.proofs.Prelude.{signal_marks, signaled_of, sole_of, subst, suc, sym, take, take_more, taken_set, times_in, true, unmarked, unsignaled_of, zero, ℕ, ◌+◌, ◌<◌, ◌||◌, ◌∙◌, ◌∷◌, ◌≡◌, ◌≤◌}
+use Rattle.std.proofs.Common.{Bool, List, Some, [], ap, arith, eq-eqb, eqb, false, get_or, inl, inr, le-ltb, length, lt-ltb, ltb-true, nat_lt, ne_eqb, refl, subst, suc, sym, take, true, zero, ℕ, ◌+◌, ◌<◌, ◌||◌, ◌∙◌, ◌∷◌, ◌≡◌, ◌≤◌}
+use Rattle.ns_queue.proofs.Prelude.{Anybody, Every, HaveSeats, Seats, Waiter, cases_eq, cases_lt, in_more, is_in, marked, none_in, one_if, or_comm, same_seats, seats_of, signal_marks, signaled_of, sole_of, take_more, taken_set, times_in, unmarked, unsignaled_of}
 use Rattle.ns_queue.proofs.Seats.{some_more, times_in-cons, times_in_push}
 use Rattle.ns_queue.proofs.Meaning.{signal_takes, signal_leaves}
 

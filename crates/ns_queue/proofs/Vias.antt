@@ -1,7 +1,6 @@
 -- Which variables those name whom a scan takes.
-use Rattle.ns_queue.proofs.Prelude.{Bool, Every, IsRow, List, Option, Some, Waiter, [], ap, arith, cases_Bool, get_or, inl, inr, is_eligible, length, length-map, length-take, map, map-append, refl, seated, seats_of, sym, take, take_more, times_in, via_in, woken_of, writes, ℕ, ◌++◌, ◌+◌, ◌<◌, ◌∙◌}
-use Rattle.ns_queue.proofs.Prelude.{◌∷◌, ◌≡◌}
-use Rattle.std.proofs.Common.{filter}
+use Rattle.std.proofs.Common.{Bool, List, Option, Some, [], ap, arith, filter, get_or, inl, inr, length, length-take, map, refl, sym, take, ℕ, ◌++◌, ◌+◌, ◌<◌, ◌∙◌, ◌∷◌, ◌≡◌}
+use Rattle.ns_queue.proofs.Prelude.{Every, IsRow, Waiter, cases_Bool, is_eligible, length-map, map-append, seated, seats_of, take_more, times_in, via_in, woken_of, writes}
 use Rattle.ns_queue.proofs.Hops.{seated_first, seated_rest, stands_not}
 use Rattle.ns_queue.proofs.Places.{row_own, row_rest}
 use Rattle.ns_queue.proofs.Seeking.{goes_along}

@@ -1,7 +1,7 @@
 -- Which wakes the list of a variable allows.
-use Rattle.ns_queue.proofs.Prelude.{AreWaiting, Bool, Cond, HaveSeats, Idle, IsLegalBroadcast, IsLegalSignal, Left, List, Mode, Phase, WaitFor, Waiter, Waiting, WaitsAmong, Woken, [], ap, arith, beq, cases_eq, cases_lt, count_never, count_only, count_same, count_split, eqb, eqb-true, false, filter}
-use Rattle.ns_queue.proofs.Prelude.{has, in_more, inl, inr, is_in, is_waiting, is_waiting_as, min, ne_eqb, none_in, not, one_if, readers_and_a_writer, reads, refl, seats_of, signaled_of, subst, taken_set, times_in, total, true, waiting_as, woken_as, woken_strangers, writes, ℕ, ◌&&◌, ◌+◌, ◌<◌, ◌||◌}
-use Rattle.ns_queue.proofs.Prelude.{◌∙◌, ◌∷◌, ◌≡◌, ◌≤◌, ◌⊎◌}
+use Rattle.std.proofs.Common.{Bool, List, [], ap, arith, eqb, eqb-true, false, inl, inr, min, ne_eqb, not, refl, subst, true, ℕ, ◌&&◌, ◌+◌, ◌<◌, ◌||◌, ◌∙◌, ◌∷◌, ◌≡◌, ◌≤◌, ◌⊎◌}
+use Rattle.ns_queue.proofs.Prelude.{AreWaiting, Cond, HaveSeats, Idle, IsLegalBroadcast, IsLegalSignal, Left, Mode, Phase, WaitFor, Waiter, Waiting, WaitsAmong, Woken, beq, cases_eq, cases_lt, count_never, count_only, count_same, count_split, filter, has, in_more, is_in, is_waiting, is_waiting_as}
+use Rattle.ns_queue.proofs.Prelude.{none_in, one_if, readers_and_a_writer, reads, seats_of, signaled_of, taken_set, times_in, total, waiting_as, woken_as, woken_strangers, writes}
 use Rattle.ns_queue.proofs.Seats.{own_times, times_in-cons}
 use Rattle.ns_queue.proofs.Taken.{in_list, not_in_list, in_stands, once_signaled, below_signaled, every_signaled}
 

@@ -1,5 +1,6 @@
 -- Lists that are taken apart by marks, one for each waiter, as a signal does.
-use Rattle.ns_queue.specs.Names.{Anybody, Bool, List, Nobody, Readers, ReadersAndWriter, Waiter, Wanted, [], false, if◌then◌else◌, true, ◌∷◌}
+use Rattle.std.specs.Prelude.{Bool, List, [], false, if◌then◌else◌, true, ◌∷◌}
+use Rattle.ns_queue.specs.Names.{Anybody, Nobody, Readers, ReadersAndWriter, Waiter, Wanted}
 use Rattle.ns_queue.specs.Waiters.{reads, writes}
 
 -- those with a mark, and those without

@@ -24,11 +24,6 @@ pub use Rattle.ns_queue.specs.declared.waiter.Waiter.{Waiter}
 pub use Rattle.ns_queue.specs.declared.waiter.Which.{Which}
 pub use Rattle.ns_queue.specs.declared.waiter.Which.TheVariants.{Cv, Lock}
 pub use Rattle.arrayvec.specs.contracts.array_vec.ArrayVec.{the_row as array_vec_row, the_row as list_row}
-pub use Rattle.std.proofs.Common.{arith}
-pub use Rattle.std.specs.List.{list_any}
-pub use Rattle.std.specs.Mem.{FitsInMemory}
-pub use Rattle.std.specs.Prelude.{Bool, List, None, Option, Some, [], count_by, drop, false, filter, if◌then◌else◌, is_none, is_some, length, map, not, slice_index, slice_index_or, slice_set, suc, sum_by, take, true, zero, ℕ, ◌&&◌, ◌*◌, ◌++◌, ◌+◌, ◌-◌, ◌<◌, ◌==◌, ◌^◌, ◌||◌, ◌∷◌, ◌≡◌, ◌≤◌}
-pub use Rattle.std.specs.contracts.option.Option.{the_row as option_row}
 pub use denote.Builtin.{u64, unit}
 pub use denote.Param.{copied, layout, number, param, value_of}
 pub use denote.RattleType.{RattleType}

@@ -1,5 +1,6 @@
 -- The five lists.
-use Rattle.ns_queue.specs.Names.{Cv, Cvs, List, Lock, Seats, Some, Waiter, Which, [], if◌then◌else◌, length, map, slice_index_or, slice_set, suc, sum_by, zero, ℕ, ◌++◌, ◌+◌, ◌<◌, ◌∷◌, ◌≡◌, ◌≤◌}
+use Rattle.std.specs.Prelude.{List, Some, [], if◌then◌else◌, length, map, slice_index_or, slice_set, suc, sum_by, zero, ℕ, ◌++◌, ◌+◌, ◌<◌, ◌∷◌, ◌≡◌, ◌≤◌}
+use Rattle.ns_queue.specs.Names.{Cv, Cvs, Lock, Seats, Waiter, Which}
 use Rattle.ns_model.specs.Cvs.{is_in}
 use Rattle.ns_queue.specs.Waiters.{outside, times_in, without_in}
 

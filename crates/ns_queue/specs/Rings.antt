@@ -1,5 +1,6 @@
 -- A list of waiters by links: each waiter lies in the entry of its seat, and links go from place to place and back.
-use Rattle.ns_queue.specs.Names.{Bool, Counts, List, None, Option, Some, Waiter, [], count_by, if◌then◌else◌, length, not, one_if, slice_index, slice_index_or, suc, zero, ℕ, ◌&&◌, ◌+◌, ◌-◌, ◌==◌, ◌∷◌, ◌≡◌, ◌≤◌}
+use Rattle.std.specs.Prelude.{Bool, List, None, Option, Some, [], count_by, if◌then◌else◌, length, not, slice_index, slice_index_or, suc, zero, ℕ, ◌&&◌, ◌+◌, ◌-◌, ◌==◌, ◌∷◌, ◌≡◌, ◌≤◌}
+use Rattle.ns_queue.specs.Names.{Counts, Waiter, one_if}
 use Rattle.ns_queue.specs.Waiters.{times_in, without_in, HaveSeats, has_condition, writes, is_long}
 
 -- the waiter of a seat, if it stands in the list

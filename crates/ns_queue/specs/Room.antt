@@ -1,5 +1,13 @@
 -- A waiter and the lists fit in memory, over any condition.
-use Rattle.ns_queue.specs.Names.{FitsInMemory, HasRoom, RattleType, arith, array_vec_row, copied, layout, number, option_row, param, room_enough, size, unit, ◌<◌, ◌^◌}
+use Rattle.std.proofs.Common.{arith}
+use Rattle.std.specs.Mem.{FitsInMemory}
+use Rattle.std.specs.Prelude.{◌<◌, ◌^◌}
+use Rattle.std.specs.contracts.option.Option.{the_row as option_row}
+use denote.Builtin.{unit}
+use denote.Param.{copied, layout, number, param}
+use denote.RattleType.{RattleType}
+use prog.Memory.{size}
+use Rattle.ns_queue.specs.Names.{HasRoom, array_vec_row, room_enough}
 use Rattle.ns_queue.specs.contracts.waiter.Waiter.{the_row as waiter_row}
 
 -- a waiter with such a condition fits in memory

@@ -1,5 +1,6 @@
 -- The links of the runs: from each waiter to its run's first, and from that one to the run's last.
-use Rattle.ns_queue.specs.Names.{Bool, List, None, Option, Some, Sought, Waiter, [], drop, false, if◌then◌else◌, length, slice_index, ℕ, ◌<◌, ◌∷◌, ◌≡◌}
+use Rattle.std.specs.Prelude.{Bool, List, None, Option, Some, [], drop, false, if◌then◌else◌, length, slice_index, ℕ, ◌<◌, ◌∷◌, ◌≡◌}
+use Rattle.ns_queue.specs.Names.{Sought, Waiter}
 use Rattle.ns_queue.specs.Waiters.{times_in, without_in}
 use Rattle.ns_queue.specs.Scans.{is_alike}
 use Rattle.ns_queue.specs.Stages.{in_front, tests_seeking}

@@ -1,5 +1,7 @@
 -- The scan of the lock list: whom a release wakes, who stays, and how many conditions it has to test.
-use Rattle.ns_queue.specs.Names.{Bool, Foremost, List, None, Option, Reader, Some, Sought, Waiter, Writer, [], count_by, false, filter, if◌then◌else◌, is_some, list_any, map, not, true, ℕ, ◌&&◌, ◌++◌, ◌∷◌}
+use Rattle.std.specs.List.{list_any}
+use Rattle.std.specs.Prelude.{Bool, List, None, Option, Some, [], count_by, false, filter, if◌then◌else◌, is_some, map, not, true, ℕ, ◌&&◌, ◌++◌, ◌∷◌}
+use Rattle.ns_queue.specs.Names.{Foremost, Reader, Sought, Waiter, Writer}
 use Rattle.ns_queue.specs.declared.scan.Foremost.TheVariants.{Nobody}
 use Rattle.ns_queue.specs.Waiters.{reads, writes}
 

@@ -1,5 +1,6 @@
 -- Whom a signal takes from the list of a condition variable, and who stays.
-use Rattle.ns_queue.specs.Names.{List, None, Option, Seats, Some, Waiter, [], drop, filter, if◌then◌else◌, seats_in, ◌∷◌}
+use Rattle.std.specs.Prelude.{List, None, Option, Some, [], drop, filter, if◌then◌else◌, ◌∷◌}
+use Rattle.ns_queue.specs.Names.{Seats, Waiter, seats_in}
 use Rattle.ns_queue.specs.Waiters.{reads, writes, seats_of}
 
 -- every reader, and the first writer

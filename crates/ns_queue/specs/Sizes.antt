@@ -1,5 +1,15 @@
 -- The five lists and their parts fit in memory, over any condition.
-use Rattle.ns_queue.specs.Names.{FitsInMemory, Ghosts, HasRoom, RattleType, Ty, arith, array_at, copied, layout, list_row, number, option_row, param, room, room_enough, size, small_by, ty_array, u64, unit, value_of, ℕ, ◌*◌, ◌+◌, ◌<◌, ◌^◌}
+use Rattle.std.proofs.Common.{arith}
+use Rattle.std.specs.Mem.{FitsInMemory}
+use Rattle.std.specs.Prelude.{ℕ, ◌*◌, ◌+◌, ◌<◌, ◌^◌}
+use Rattle.std.specs.contracts.option.Option.{the_row as option_row}
+use denote.Builtin.{u64, unit}
+use denote.Param.{copied, layout, number, param, value_of}
+use denote.RattleType.{RattleType}
+use mir.Syntax.{Ty, ty_array}
+use mir.Table.{array_at}
+use prog.Memory.{size}
+use Rattle.ns_queue.specs.Names.{Ghosts, HasRoom, list_row, room, room_enough, small_by}
 use Rattle.ns_queue.specs.contracts.waiter.Waiter.{the_row as waiter_row}
 use Rattle.ns_queue.specs.contracts.lock_list.LockList.{the_row as lock_row}
 use Rattle.ns_queue.specs.contracts.ring.Ring.{the_row as ring_row}

@@ -1,5 +1,6 @@
 -- The stages of a scan of the lock list: how far it has come as it looks for the first that it takes and goes on behind that one, and what it tests at each.
-use Rattle.ns_queue.specs.Names.{Bool, List, Option, Some, Waiter, [], false, if◌then◌else◌, is_none, is_some, not, suc, take, true, ℕ, ◌&&◌, ◌+◌, ◌||◌, ◌∷◌}
+use Rattle.std.specs.Prelude.{Bool, List, Option, Some, [], false, if◌then◌else◌, is_none, is_some, not, suc, take, true, ℕ, ◌&&◌, ◌+◌, ◌||◌, ◌∷◌}
+use Rattle.ns_queue.specs.Names.{Waiter}
 use Rattle.ns_queue.specs.Waiters.{reads, writes}
 use Rattle.ns_queue.specs.Scans.{is_eligible, is_satisfied, is_alike}
 

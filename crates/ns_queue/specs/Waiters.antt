@@ -1,5 +1,6 @@
 -- Waiters, one by one and in a list.
-use Rattle.ns_queue.specs.Names.{Bool, List, Seats, Shown, Waiter, count_by, filter, is_in, is_some, is_write, map, not, ℕ, ◌==◌, ◌≡◌, ◌≤◌}
+use Rattle.std.specs.Prelude.{Bool, List, count_by, filter, is_some, map, not, ℕ, ◌==◌, ◌≡◌, ◌≤◌}
+use Rattle.ns_queue.specs.Names.{Seats, Shown, Waiter, is_in, is_write}
 
 -- the form in which a waiter is shown
 abbrev pub shown_of : {C : Type 0} → Waiter C → Shown

@@ -1,5 +1,6 @@
 -- The list of a variable beside the phases of the seats.
-use Rattle.ns_queue.specs.Names.{Every, List, Mode, Phase, Seats, Variables, Waiter, Waiting, has, if◌then◌else◌, is_in, is_waiting, true, woken_phase, ℕ, ◌≡◌, ◌≤◌}
+use Rattle.std.specs.Prelude.{List, if◌then◌else◌, true, ℕ, ◌≡◌, ◌≤◌}
+use Rattle.ns_queue.specs.Names.{Every, Mode, Phase, Seats, Variables, Waiter, Waiting, has, is_in, is_waiting, woken_phase}
 use Rattle.ns_queue.specs.Waiters.{times_in, HaveSeats}
 
 -- the phase is that of a wait in this mode, for variables among which is k

@@ -1,6 +1,6 @@
 -- What serde_json reads, as the definitions of a script see it.
-use Rattle.ns_replay.proofs.Prelude.{Bool, Data, Err, Global, IsUtf8, IsUtf8-from_is_utf8, List, None, NotJson, Ok, Option, ScriptPath, Some, String, TooMany, Value, [], ap, are_known, arith, as_array, cond, false, is_known, is_utf8, is_utf8-from_IsUtf8, items_of, json_of, json_read, length}
-use Rattle.ns_replay.proofs.Prelude.{list_all, list_in, list_of, map, members_view, nat_le, nat_tests, read, refl, string_bytes, true, ℕ, ◌&&◌, ◌<◌, ◌∷◌, ◌≡◌, ◌≤◌}
+use Rattle.std.proofs.Common.{Bool, Err, IsUtf8, List, None, Ok, Option, Some, String, [], ap, arith, cond, false, length, map, nat_le, refl, string_bytes, true, ℕ, ◌&&◌, ◌<◌, ◌∷◌, ◌≡◌, ◌≤◌}
+use Rattle.ns_replay.proofs.Prelude.{Data, Global, IsUtf8-from_is_utf8, NotJson, ScriptPath, TooMany, Value, are_known, as_array, is_known, is_utf8, is_utf8-from_IsUtf8, items_of, json_of, json_read, list_all, list_in, list_of, members_view, nat_tests, read}
 
 pub json_ok : (bytes : List ℕ) (d : Data) → IsUtf8 bytes → read bytes ≡ Some d → json_of bytes ≡ Ok d
 unfolding json_of

@@ -1,6 +1,6 @@
 -- What `parse` gives is the number that a word writes.
-use Rattle.ns_replay.proofs.Prelude.{Bool, Err, IsNumeralModel, List, None, Ok, OkIff, ParsesUnsigned, Result, Some, all_ascii_digits, ap, arith, cond, digits_value, false, get_or, length, nat_lt, nat_tests, not, number_of, numerals_by_value, parse_plain, refl, result_ok, tells_all_ascii_digits}
-use Rattle.ns_replay.proofs.Prelude.{true, ℕ, ◌&&◌, ◌<◌, ◌==◌, ◌^◌, ◌||◌, ◌≡◌, ◌≢◌, ◌⊎◌}
+use Rattle.std.proofs.Common.{Bool, Err, List, None, Ok, Result, Some, ap, arith, cond, false, get_or, length, nat_lt, not, refl, true, ℕ, ◌&&◌, ◌<◌, ◌==◌, ◌^◌, ◌||◌, ◌≡◌, ◌≢◌, ◌⊎◌}
+use Rattle.ns_replay.proofs.Prelude.{IsNumeralModel, OkIff, ParsesUnsigned, all_ascii_digits, digits_value, nat_tests, number_of, numerals_by_value, parse_plain, result_ok, tells_all_ascii_digits}
 
 own : IsNumeralModel (λ ds. all_ascii_digits ds ≡ true) (digits_value 10)
 own = numerals_by_value _ tells_all_ascii_digits

@@ -1,6 +1,6 @@
 -- What a fault leaves.
-use Rattle.ns_replay.proofs.Prelude.{Answers, BadScript, Collects, Counts, Ended, Err, Fails, Fault, Gave, IsEnough, IsRefused, IsRunFault, Keeps-refl, List, NotJson, Ok, Option, OutOfMemory, Plan, Read, StepLimit, TooMany, WasRead, arith, false, inl, length, max_bytes, nat_lt, nat_tests}
-use Rattle.ns_replay.proofs.Prelude.{plan_from, refl, script_of, true, ℕ, ◌<◌, ◌≡◌, ◌≤◌}
+use Rattle.std.proofs.Common.{Err, List, Ok, Option, arith, false, inl, length, nat_lt, refl, true, ℕ, ◌<◌, ◌≡◌, ◌≤◌}
+use Rattle.ns_replay.proofs.Prelude.{Answers, BadScript, Collects, Counts, Ended, Fails, Fault, Gave, IsEnough, IsRefused, IsRunFault, Keeps-refl, NotJson, OutOfMemory, Plan, Read, StepLimit, TooMany, WasRead, max_bytes, nat_tests, plan_from, script_of}
 use Rattle.ns_replay.specs.declared.path.ScriptPath.TheVariants as at
 
 -- ---- bytes that are not too many

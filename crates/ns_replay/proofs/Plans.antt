@@ -1,10 +1,10 @@
 -- What a script that was read is known to be.
-use Rattle.ns_replay.proofs.Prelude.{Add, Advance, All, All-cons, All-nil, Bool, Broadcast, Call, CallInRange, CounterWait, CvWait, Data, Declared, Done, Err, Expiry, Fault, Get, IfSome, IsMoment, IsNoteNumber, IsNotified, IsRunnable, IsShort, IsVariable, Item, Items, Limits, List, Lock, NewNote}
-use Rattle.ns_replay.proofs.Prelude.{None, NoteWait, Notify, Ok, Once, Option, Plan, RLock, RUnlock, Result, ScriptCondition, ScriptPath, Set, Signal, Some, TryLock, TryRLock, Turn, Unlock, UnlockQuiet, Vec, Wait, WaitAny, [], actor_of, add_of, any_variables, any_wait_of, arith, as_array}
-use Rattle.ns_replay.proofs.Prelude.{as_number, as_str, as_u64, at_most, below, brief_call_of, bytes_eq, call_at, call_of, calls_at, change_of, codes, cond, condition_of, counter_at, counters_of, each_from, false, get, item_of, items_behind, items_in, json_of, length, length-map, limits_of}
-use Rattle.ns_replay.proofs.Prelude.{list_in, list_of, long_call_of, map, members_of, moment_of, moment_or_none_of, nat_le, nat_lt, nat_tests, need, no_items, note_limit_of, note_or_none_of, number_of, onces_of, one_more, option_and_then, option_map, parts, plain_call_of, plan_in, refl}
-use Rattle.ns_replay.proofs.Prelude.{schedule_of, script_of, short_call_of, subst, threads_of, true, turn_at, turn_of, variable_wait_of, variables_of, version_of, wait_of, with_item, words_of, ℕ, ◌+◌, ◌<◌, ◌>>=◌, ◌^◌, ◌∷◌, ◌≡◌, ◌≤◌}
-use Rattle.ns_replay.specs.Prelude.{Value}
+use Rattle.ns_replay.specs.Prelude.{Add, Advance, Broadcast, Call, CallInRange, CounterWait, CvWait, Data, Declared, Done, Expiry, Fault, Get, IsMoment, IsNoteNumber, IsNotified, IsRunnable, IsShort, IsVariable, Item, Items, Limits, Lock, NewNote, NoteWait, Notify, Once, Plan, RLock, RUnlock}
+use Rattle.ns_replay.specs.Prelude.{ScriptCondition, ScriptPath, Set, Signal, TryLock, TryRLock, Turn, Unlock, UnlockQuiet, Value, Wait, WaitAny, actor_of, add_of, any_variables, any_wait_of, as_array, as_number, as_str, as_u64, at_most, below, brief_call_of, call_at, call_of, calls_at, change_of}
+use Rattle.ns_replay.specs.Prelude.{condition_of, counter_at, counters_of, each_from, get, item_of, items_behind, items_in, json_of, limits_of, list_in, list_of, long_call_of, members_of, moment_of, moment_or_none_of, need, no_items, note_limit_of, note_or_none_of, number_of, onces_of, one_more}
+use Rattle.ns_replay.specs.Prelude.{parts, plain_call_of, plan_in, schedule_of, script_of, short_call_of, threads_of, turn_at, turn_of, variable_wait_of, variables_of, version_of, wait_of, with_item, words_of, ◌>>=◌}
+use Rattle.std.proofs.Common.{All, Bool, Err, IfSome, List, None, Ok, Option, Result, Some, [], arith, bytes_eq, codes, cond, false, length, map, nat_le, nat_lt, option_and_then, option_map, refl, subst, true, ℕ, ◌+◌, ◌<◌, ◌^◌, ◌∷◌, ◌≡◌, ◌≤◌}
+use Rattle.ns_replay.proofs.Prelude.{All-cons, All-nil, Vec, length-map, nat_tests}
 use Rattle.ns_replay.specs.declared.path.ScriptPath.TheVariants as at
 
 -- ---- what a reading that succeeded went through

@@ -1,7 +1,7 @@
 -- Runs of scripts that were read: what they need, and why they fail.
-use Rattle.ns_replay.proofs.Prelude.{All, All-append, All-from_recursion, All-nil, All-replicate, AllByRecursion, Bool, Call, IsRunFault, IsRunnable, IsShort, Line, List, ListFits, None, Option, Plan, RunFault, Runs, RunsTo, Script, ScriptCondition, Some, StopsFor, Turn, Turned, Vec, Whole}
-use Rattle.ns_replay.proofs.Prelude.{WorldFault, [], ap, arith, cond, false, fault_of_world, fresh_whole, inl, inr, is_end, length, length-map, length_seats, map, none_busy, plan_of, recursion_from_All, replicate, rest_of, script_truths, start, subst, sym, true}
-use Rattle.ns_replay.proofs.Prelude.{turns_stay, whole_busy, world_for, ℕ, ◌<◌, ◌==◌, ◌∙◌, ◌∷◌, ◌≡◌, ◌≤◌, ◌⊎◌}
+use Rattle.std.proofs.Common.{All, Bool, List, None, Option, Some, [], ap, arith, cond, false, inl, inr, length, map, replicate, subst, sym, true, ℕ, ◌<◌, ◌==◌, ◌∙◌, ◌∷◌, ◌≡◌, ◌≤◌, ◌⊎◌}
+use Rattle.ns_replay.proofs.Prelude.{All-append, All-from_recursion, All-nil, All-replicate, AllByRecursion, Call, IsRunFault, IsRunnable, IsShort, Line, ListFits, Plan, RunFault, Runs, RunsTo, Script, ScriptCondition, StopsFor, Turn, Turned, Vec, Whole, WorldFault, fault_of_world, fresh_whole}
+use Rattle.ns_replay.proofs.Prelude.{is_end, length-map, length_seats, none_busy, plan_of, recursion_from_All, rest_of, script_truths, start, turns_stay, whole_busy, world_for}
 use Rattle.ns_world.specs.Runs.{Item, items_of}
 use Rattle.ns_world.specs.declared.fault.Fault.TheVariants as world
 

@@ -1,6 +1,6 @@
 -- Texts that grow, and the texts of numbers one after another.
-use Rattle.ns_replay.proofs.Prelude.{Bool, Line, List, Seats, [], after_comma, ap, append-nil, append_assoc, arith, decimal, false, filter, filter-append, flat_map, flat_map-append, is_in, left_text, lefts_text, numbers_text, range_with_len, refl, seat_text, seats_below, suc, sym, true, zero, ℕ}
-use Rattle.ns_replay.proofs.Prelude.{◌++◌, ◌+◌, ◌||◌, ◌∙◌, ◌∷◌, ◌≡◌}
+use Rattle.std.proofs.Common.{Bool, List, [], ap, append-nil, append_assoc, arith, decimal, false, filter, flat_map, refl, suc, sym, true, zero, ℕ, ◌++◌, ◌+◌, ◌||◌, ◌∙◌, ◌∷◌, ◌≡◌}
+use Rattle.ns_replay.proofs.Prelude.{Line, Seats, after_comma, filter-append, flat_map-append, is_in, left_text, lefts_text, numbers_text, range_with_len, seat_text, seats_below}
 
 -- what grew twice grew by both
 pub grows : (old mid new xs ys : List ℕ) → mid ≡ old ++ xs → new ≡ mid ++ ys → new ≡ old ++ (xs ++ ys)

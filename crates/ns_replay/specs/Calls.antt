@@ -1,6 +1,6 @@
 -- What the words of a call and of a schedule write.
-use Rattle.ns_replay.specs.Names.{Add, Advance, Bool, Broadcast, Call, CounterWait, CvWait, Declared, Done, Expiry, Get, IsNotified, List, Lock, NewNote, None, NoteWait, Notify, Once, Option, RLock, RUnlock, ScriptCondition, Set, Signal, Some, TryLock, TryRLock, Turn, Unlock, UnlockQuiet, Value}
-use Rattle.ns_replay.specs.Names.{Wait, WaitAny, [], bytes_eq, codes, false, if◌then◌else◌, nat_le, nat_lt, option_and_then, option_map, true, ℕ, ◌&&◌, ◌∷◌}
+use Rattle.std.specs.Prelude.{Bool, List, None, Option, Some, [], bytes_eq, codes, false, if◌then◌else◌, nat_le, nat_lt, option_and_then, option_map, true, ℕ, ◌&&◌, ◌∷◌}
+use Rattle.ns_replay.specs.Names.{Add, Advance, Broadcast, Call, CounterWait, CvWait, Declared, Done, Expiry, Get, IsNotified, Lock, NewNote, NoteWait, Notify, Once, RLock, RUnlock, ScriptCondition, Set, Signal, TryLock, TryRLock, Turn, Unlock, UnlockQuiet, Value, Wait, WaitAny}
 use Rattle.ns_replay.specs.Objects.{any_wait_of}
 use Rattle.ns_replay.specs.Words.{parts, number_of, below, change_of, moment_of, moment_or_none_of, note_or_none_of}
 use Rattle.ns_replay.specs.Waits.{wait_of, variable_wait_of}

@@ -1,5 +1,7 @@
 -- The conditions of scripts.
-use Rattle.ns_replay.specs.Names.{AtLeast, Bool, List, None, Option, ScriptCondition, Some, Truths, [], codes, decimal, false, length, list_all, nat_le, nat_lt, slice_index, true, truths, zip, ℕ, ◌&&◌, ◌++◌, ◌==◌}
+use Rattle.std.specs.List.{list_all}
+use Rattle.std.specs.Prelude.{Bool, List, None, Option, Some, [], codes, decimal, false, length, nat_le, nat_lt, slice_index, true, zip, ℕ, ◌&&◌, ◌++◌, ◌==◌}
+use Rattle.ns_replay.specs.Names.{AtLeast, ScriptCondition, Truths, truths}
 
 -- `I>=V`
 abbrev pub at_least_text : AtLeast → List ℕ

@@ -1,5 +1,8 @@
 -- The laws of the conditions of scripts.
-use Rattle.ns_replay.specs.Names.{AtLeast, Bool, List, None, Option, ScriptCondition, Some, [], arith, false, get_or, length, nat_le, nat_lt, nat_tests, refl, slice_index, suc, true, zero, ℕ, ◌&&◌, ◌<◌, ◌==◌, ◌∷◌, ◌≡◌, ◌≤◌}
+use Rattle.std.proofs.Common.{arith}
+use Rattle.std.proofs.lemmas.Bool.Decides.{nat_tests}
+use Rattle.std.specs.Prelude.{Bool, List, None, Option, Some, [], false, get_or, length, nat_le, nat_lt, refl, slice_index, suc, true, zero, ℕ, ◌&&◌, ◌<◌, ◌==◌, ◌∷◌, ◌≡◌, ◌≤◌}
+use Rattle.ns_replay.specs.Names.{AtLeast, ScriptCondition}
 use Rattle.ns_replay.specs.Condition.{is_at_least, are_at_least, is_true_of, has_same_fields, have_same_fields, is_same_condition, none_rose}
 
 both : (a b : Bool) → (a && b) ≡ true → (a ≡ true) × (b ≡ true)

@@ -1,5 +1,6 @@
 -- Faults, their texts, and readings that may fail.
-use Rattle.ns_replay.specs.Names.{BadScript, Err, Fault, List, None, NotJson, Ok, Option, OutOfMemory, Read, Result, ScriptPath, Some, StepLimit, TooMany, WorldFault, Write, [], codes, decimal, ℕ, ◌++◌, ◌+◌, ◌∷◌, ◌≡◌}
+use Rattle.std.specs.Prelude.{Err, List, None, Ok, Option, Result, Some, [], codes, decimal, ℕ, ◌++◌, ◌+◌, ◌∷◌, ◌≡◌}
+use Rattle.ns_replay.specs.Names.{BadScript, Fault, NotJson, OutOfMemory, Read, ScriptPath, StepLimit, TooMany, WorldFault, Write}
 use Rattle.ns_world.specs.declared.fault.Fault.TheVariants as world
 use Rattle.ns_replay.specs.declared.path.ScriptPath.TheVariants as at
 

@@ -47,12 +47,3 @@ pub use Rattle.serde_json.specs.Data.{Data, Members, item, member, no_members}
 pub use Rattle.serde_json.specs.Find.{as_array, as_number, as_object, as_str, as_u64, get}
 pub use Rattle.serde_json.specs.Read.{read}
 pub use Rattle.serde_json.specs.View.{items_of, members_view, view}
-pub use Rattle.std.proofs.Common.{arith}
-pub use Rattle.std.proofs.lemmas.Bool.Decides.{nat_tests}
-pub use Rattle.std.specs.Global.{Vec}
-pub use Rattle.std.specs.Io.KnownBytes.{Appends, Consumes, IsAtEnd, Keeps}
-pub use Rattle.std.specs.List.{list_all, range_with_len, slice_split}
-pub use Rattle.std.specs.Prelude.{All, Bool, Err, List, None, Ok, Option, Result, Some, [], bytes_eq, codes, count_by, decimal, false, filter, flat_map, get_or, if◌then◌else◌, length, map, nat_le, nat_lt, neg_ℤ, not, option_and_then, option_map, pos, refl, slice_get, slice_index, suc, take, true}
-pub use Rattle.std.specs.Prelude.{zero, zip, ℕ, ℤ, ⊤, ◌%◌, ◌&&◌, ◌++◌, ◌+◌, ◌<◌, ◌==◌, ◌^◌, ◌||◌, ◌∷◌, ◌≡◌, ◌≤◌, ◌⊎◌}
-pub use Rattle.std.specs.Str.{all_ascii_digits, is_utf8}
-pub use Rattle.std.specs.Str.Parse.{digits_value}

@@ -1,5 +1,6 @@
 -- What the words of a wait for any of several objects write.
-use Rattle.ns_replay.specs.Names.{Declared, Item, Items, List, None, OnCounter, OnNote, OnVariable, Option, Some, [], if◌then◌else◌, nat_lt, no_items, option_and_then, option_map, with_item, ℕ, ◌∷◌}
+use Rattle.std.specs.Prelude.{List, None, Option, Some, [], if◌then◌else◌, nat_lt, option_and_then, option_map, ℕ, ◌∷◌}
+use Rattle.ns_replay.specs.Names.{Declared, Item, Items, OnCounter, OnNote, OnVariable, no_items, with_item}
 use Rattle.ns_replay.specs.Words.{parts, number_of, below, moment_or_none_of}
 
 -- what stands behind a letter, by the parts of the word at it, if it is the first

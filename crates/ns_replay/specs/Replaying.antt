@@ -1,5 +1,7 @@
 -- What a replay answers and writes.
-use Rattle.ns_replay.specs.Names.{Appends, Err, Fault, IsAtEnd, Keeps, Line, List, Ok, Option, Options, OutOfMemory, Read, Result, RunFault, Runs, ScriptCondition, StepLimit, TooMany, Whole, Write, fresh_whole, if◌then◌else◌, length, nat_lt, ℕ, ⊤, ◌++◌, ◌<◌, ◌≡◌, ◌≤◌, ◌⊎◌}
+use Rattle.std.specs.Io.KnownBytes.{Appends, IsAtEnd, Keeps}
+use Rattle.std.specs.Prelude.{Err, List, Ok, Option, Result, if◌then◌else◌, length, nat_lt, ℕ, ⊤, ◌++◌, ◌<◌, ◌≡◌, ◌≤◌, ◌⊎◌}
+use Rattle.ns_replay.specs.Names.{Fault, Line, Options, OutOfMemory, Read, RunFault, Runs, ScriptCondition, StepLimit, TooMany, Whole, Write, fresh_whole}
 use Rattle.ns_replay.specs.Condition.{script_truths}
 use Rattle.ns_replay.specs.Runnable.{IsRunnable}
 use Rattle.ns_replay.specs.Script.{Plan, script_of}

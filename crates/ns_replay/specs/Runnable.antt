@@ -1,5 +1,6 @@
 -- What every script that was read keeps.
-use Rattle.ns_replay.specs.Names.{All, Call, CallInRange, List, ScriptCondition, length, ◌<◌, ◌≤◌}
+use Rattle.std.specs.Prelude.{All, List, length, ◌<◌, ◌≤◌}
+use Rattle.ns_replay.specs.Names.{Call, CallInRange, ScriptCondition}
 use Rattle.ns_replay.specs.Script.{Plan}
 
 -- a thread has at most 256 calls, of the eight cells, of four condition variables, of 64 notes, and of moments below 2^54

@@ -1,6 +1,7 @@
 -- The script that bytes give, or their first refusal.
-use Rattle.ns_replay.specs.Names.{BadScript, Bool, Call, Data, Declared, Err, Fault, List, Members, None, NotJson, Ok, Option, Result, Script, ScriptCondition, ScriptPath, Some, TooMany, Turn, [], as_array, as_number, as_object, as_str, as_u64, bytes_eq, codes, get, if◌then◌else◌, is_utf8, item}
-use Rattle.ns_replay.specs.Names.{length, map, member, nat_le, no_members, option_and_then, option_map, read, true, ℕ, ◌&&◌, ◌==◌, ◌||◌, ◌∷◌}
+use Rattle.std.specs.Prelude.{Bool, Err, List, None, Ok, Option, Result, Some, [], bytes_eq, codes, if◌then◌else◌, length, map, nat_le, option_and_then, option_map, true, ℕ, ◌&&◌, ◌==◌, ◌||◌, ◌∷◌}
+use Rattle.std.specs.Str.{is_utf8}
+use Rattle.ns_replay.specs.Names.{BadScript, Call, Data, Declared, Fault, Members, NotJson, Script, ScriptCondition, ScriptPath, TooMany, Turn, as_array, as_number, as_object, as_str, as_u64, get, item, member, no_members, read}
 use Rattle.serde_json.specs.Data.{Items, no_items}
 use Rattle.ns_replay.specs.Faults.{◌>>=◌, need, each_from}
 use Rattle.ns_replay.specs.Words.{parts}

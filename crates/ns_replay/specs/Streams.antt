@@ -1,5 +1,7 @@
 -- What a read and a write do to the bytes, and what is counted of them.
-use Rattle.ns_replay.specs.Names.{Appends, Bool, Bytes, Consumes, Failed, Got, Interrupted, IsAtEnd, Keeps, List, None, Option, Some, false, length, suc, take, true, zero, ℕ, ◌%◌, ◌+◌, ◌^◌, ◌≡◌, ◌≤◌}
+use Rattle.std.specs.Io.KnownBytes.{Appends, Consumes, IsAtEnd, Keeps}
+use Rattle.std.specs.Prelude.{Bool, List, None, Option, Some, false, length, suc, take, true, zero, ℕ, ◌%◌, ◌+◌, ◌^◌, ◌≡◌, ◌≤◌}
+use Rattle.ns_replay.specs.Names.{Bytes, Failed, Got, Interrupted}
 
 -- a count went up so many times, modulo 2^64
 abbrev pub Counts : ℕ → ℕ → ℕ → Type 0

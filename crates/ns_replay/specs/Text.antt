@@ -1,7 +1,8 @@
 -- The text of a run, by its parts.
-use Rattle.ns_replay.specs.Names.{AfterAny, AfterCv, AfterWait, Already, Answer, Answered, AnyWait, Bool, Busy, Call, Canceled, CondWait, CounterFault, Cvs, Entry, Event, Exit, Is, Leave, LeaveAny, Line, List, Met, Misuse, Mode, Noisy, None, NotesFull, Number, Option, Options, Over, Plain, RUnlock}
-use Rattle.ns_replay.specs.Names.{Ran, Refused, Reply, ScriptCondition, Seats, Section, Shown, Some, Succeeded, TimedOut, Under, Unlock, UnlockQuiet, Waited, Whole, Word, [], codes, count_by, decimal, false, filter, flat_map, if◌then◌else◌, is_in, length, lists_shown, map, nat_lt, option_and_then}
-use Rattle.ns_replay.specs.Names.{range_with_len, shown_of, slice_get, true, wakes_owed, whole_busy, ℕ, ◌&&◌, ◌++◌, ◌+◌, ◌==◌, ◌∷◌}
+use Rattle.std.specs.List.{range_with_len}
+use Rattle.std.specs.Prelude.{Bool, List, None, Option, Some, [], codes, count_by, decimal, false, filter, flat_map, if◌then◌else◌, length, map, nat_lt, option_and_then, slice_get, true, ℕ, ◌&&◌, ◌++◌, ◌+◌, ◌==◌, ◌∷◌}
+use Rattle.ns_replay.specs.Names.{AfterAny, AfterCv, AfterWait, Already, Answer, Answered, AnyWait, Busy, Call, Canceled, CondWait, CounterFault, Cvs, Entry, Event, Exit, Is, Leave, LeaveAny, Line, Met, Misuse, Mode, Noisy, NotesFull, Number, Options, Over, Plain, RUnlock, Ran, Refused, Reply}
+use Rattle.ns_replay.specs.Names.{ScriptCondition, Seats, Section, Shown, Succeeded, TimedOut, Under, Unlock, UnlockQuiet, Waited, Whole, Word, is_in, lists_shown, shown_of, wakes_owed, whole_busy}
 use Rattle.ns_model.specs.declared.event.Exit.TheVariants.{CvWait}
 use Rattle.ns_model.specs.declared.event.Event.TheVariants.{Signal, Broadcast}
 use Rattle.ns_world.specs.declared.reply.Reply.TheVariants.{Expiry}

@@ -1,5 +1,8 @@
 -- All the bytes of a source, and all the bytes to a sink.
-use Rattle.ns_replay.specs.Names.{Appends, Bool, Consumes, Err, Fault, IsAtEnd, List, Ok, Option, OutOfMemory, Read, Result, TooMany, Vec, false, length, true, ℕ, ◌++◌, ◌+◌, ◌<◌, ◌≡◌, ◌≤◌, ◌⊎◌}
+use Rattle.std.specs.Global.{Vec}
+use Rattle.std.specs.Io.KnownBytes.{Appends, Consumes, IsAtEnd}
+use Rattle.std.specs.Prelude.{Bool, Err, List, Ok, Option, Result, false, length, true, ℕ, ◌++◌, ◌+◌, ◌<◌, ◌≡◌, ◌≤◌, ◌⊎◌}
+use Rattle.ns_replay.specs.Names.{Fault, OutOfMemory, Read, TooMany}
 use Rattle.ns_replay.specs.Streams.{Counts}
 use Rattle.ns_replay.specs.declared.path.ScriptPath.TheVariants as at
 

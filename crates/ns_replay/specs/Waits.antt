@@ -1,5 +1,6 @@
 -- What the words of a wait write.
-use Rattle.ns_replay.specs.Names.{AtLeast, Limits, List, None, Option, ScriptCondition, Some, [], bytes_eq, codes, if◌then◌else◌, option_and_then, option_map, ℕ, ◌∷◌}
+use Rattle.std.specs.Prelude.{List, None, Option, Some, [], bytes_eq, codes, if◌then◌else◌, option_and_then, option_map, ℕ, ◌∷◌}
+use Rattle.ns_replay.specs.Names.{AtLeast, Limits, ScriptCondition}
 use Rattle.ns_replay.specs.Words.{parts, number_of, below, moment_of}
 
 -- the cell of `I>`, by the parts at `>`: one of eight

@@ -1,5 +1,8 @@
 -- The words of a text, and the numbers that they write.
-use Rattle.ns_replay.specs.Names.{Bool, List, None, Option, Some, [], all_ascii_digits, bytes_eq, codes, digits_value, if◌then◌else◌, length, nat_lt, neg_ℤ, not, option_and_then, option_map, pos, slice_index, slice_split, ℕ, ℤ, ◌&&◌, ◌+◌, ◌==◌, ◌^◌, ◌||◌, ◌∷◌}
+use Rattle.std.specs.List.{slice_split}
+use Rattle.std.specs.Prelude.{Bool, List, None, Option, Some, [], bytes_eq, codes, if◌then◌else◌, length, nat_lt, neg_ℤ, not, option_and_then, option_map, pos, slice_index, ℕ, ℤ, ◌&&◌, ◌+◌, ◌==◌, ◌^◌, ◌||◌, ◌∷◌}
+use Rattle.std.specs.Str.{all_ascii_digits}
+use Rattle.std.specs.Str.Parse.{digits_value}
 
 -- the parts of a text between the bytes c
 abbrev pub parts : ℕ → List ℕ → List (List ℕ)

@@ -1,16 +1,17 @@
 -- Each step takes its call on: it goes on as it was asked, or its answer means what it says.
-use Rattle.ns_word.proofs.Prelude.{Acquire, AcquireExchange, AcquireLoad, AcquirePlace, AcquireSoFar, Aim, AimFits, Answer, Answered, Any, AnyWait, AnyWaitMeans, Arm, ArmToWait, Arrival, AsFresh, AtVariables, Await, AwaitWake, AwaitWakeInWait, AwaitWakeToLeave, Bool, Busy, CallGoes, CameBack}
-use Rattle.ns_word.proofs.Prelude.{CanLeave, CanWait, Cause, Cell, CellFits, CellPlace, ComesBack, ConditionWaitMeans, Course, Cv, CvWait, Cvs, Done, Effect, Ended, Event, Expired, Flag, ForLock, ForWait, Found, Get, GetLoad, HasLeft, HasLocked, HasLookedFor, HasReleased, HasWoken, Held, HeldFits}
-use Rattle.ns_word.proofs.Prelude.{Idle, InAcquire, InCells, InHand, InLeaving, InQueuing, InRelease, InShow, InSignal, InTry, InWait, Is, IsComing, IsFirst, IsForCondition, IsForVariables, IsLawful, IsLeft, IsQuiet, IsQuietSection, IsSome, KeptFits, Leave, LeaveLoad, LeavePlace, LeaveSelf, Left}
-use Rattle.ns_word.proofs.Prelude.{Limits, List, Load, LoadToScan, LockState, Look, LookIn, LookOut, Looked, Made, MayAnswer, MayEnd, MayShow, MayWait, Means, Met, Mode, Next, Noisy, None, Notified, Number, On, OnCondition, OnEntry, OnReturn, OnVariables, Only, Option, Outcome, OutcomeFits, Paid}
-use Rattle.ns_word.proofs.Prelude.{Part, Pay, PayInWait, PayTheWoken, PlaceFits, Plain, Queue, QueueFits, QueuePlace, QueueToWait, QueuesAfter, QueuesSoFar, Quiet, QuietCells, QuietLast, QuietWriter, Release, ReleaseExchange, ReleaseFits, ReleaseLoad, ReleasePlace, ReleaseSoFar, Releasing, Request}
-use Rattle.ns_word.proofs.Prelude.{ReturnQueues, ReturnShown, Saw, ScanAndRelease, ScanCells, Scanned, SeatView, SectionFits, Set, SetLoad, SetStore, Show, ShowLoad, ShowPlace, SignalLoad, SignalPlace, SignalSoFar, SoFar, Some, Step, Subject, Succeeded, Take, TakeToLeave, TakeToQueue, TakeToScan}
-use Rattle.ns_word.proofs.Prelude.{TakeToShow, TakeToWake, TestCells, TestLast, Tested, Tests, TestsSoFar, ToChange, ToQueue, ToRelease, ToTell, Truths, TryAcquire, TryLoad, TryLock, TryPlace, Unchanged, VariableWaitMeans, Variables, ViewFits, Visit, Wait, WaitFits, WaitPlace, WaitReturning}
-use Rattle.ns_word.proofs.Prelude.{WaitSoFar, Waited, Wake, WakeAndReturn, Waking, Walk, Woke, Woken, WokenBy, Word, [], acquire_by, acquired_for, answer_of, answer_of_wait, ap, append-nil, armed_place, arrival_of, asked_in_cells, asked_of, asked_to_judge, back_with, cause_by, cause_in, cond}
-use Rattle.ns_word.proofs.Prelude.{course_after, course_from, entry_of, eqb, exit_for, false, got_acquiring, got_in_cells, got_leaving, got_of, got_queuing, got_releasing, got_showing, got_signaling, got_trying, got_waiting, has_some, held_after, held_by, home_of, inl, inr, is_held, is_limited}
-use Rattle.ns_word.proofs.Prelude.{is_met, judge_of, leave_any_told, leave_by, leave_of, leave_told, left_by, load_place, look_or_queue, looked_after, ltb, may_acquire, mode_for, mode_released, needs_scan, new_section, newly_held, not, opening_by, outcome_taken, part_of, pay_releasing, pay_waiting}
-use Rattle.ns_word.proofs.Prelude.{pay_woken, place_cause_kept, queue_by, quiet_place, refl, release_by, request_for, rest_or_look, row_after, scan_place, section_of, show_by, signal_by, slice_index, standing_after, stands_at, subst, sym, taken_by, test_place, tries_of, true, unmet_by, variable_in}
-use Rattle.ns_word.proofs.Prelude.{waiters_of, wake_of, want_acquiring, want_in_cells, want_leaving, want_of, want_queuing, want_releasing, want_showing, want_signaling, want_trying, want_waiting, woken_by, word_taken, ℕ, ◌&&◌, ◌++◌, ◌+◌, ◌-◌, ◌∙◌, ◌∷◌, ◌≡◌}
+use Rattle.std.proofs.Common.{Bool, IsSome, List, None, Option, Some, [], ap, append-nil, cond, eqb, false, inl, inr, ltb, not, refl, slice_index, subst, sym, true, ℕ, ◌&&◌, ◌++◌, ◌+◌, ◌-◌, ◌∙◌, ◌∷◌, ◌≡◌}
+use Rattle.ns_word.proofs.Prelude.{Acquire, AcquireExchange, AcquireLoad, AcquirePlace, AcquireSoFar, Aim, AimFits, Answer, Answered, Any, AnyWait, AnyWaitMeans, Arm, ArmToWait, Arrival, AsFresh, AtVariables, Await, AwaitWake, AwaitWakeInWait, AwaitWakeToLeave, Busy, CallGoes, CameBack, CanLeave}
+use Rattle.ns_word.proofs.Prelude.{CanWait, Cause, Cell, CellFits, CellPlace, ComesBack, ConditionWaitMeans, Course, Cv, CvWait, Cvs, Done, Effect, Ended, Event, Expired, Flag, ForLock, ForWait, Found, Get, GetLoad, HasLeft, HasLocked, HasLookedFor, HasReleased, HasWoken, Held, HeldFits, Idle}
+use Rattle.ns_word.proofs.Prelude.{InAcquire, InCells, InHand, InLeaving, InQueuing, InRelease, InShow, InSignal, InTry, InWait, Is, IsComing, IsFirst, IsForCondition, IsForVariables, IsLawful, IsLeft, IsQuiet, IsQuietSection, KeptFits, Leave, LeaveLoad, LeavePlace, LeaveSelf, Left, Limits, Load}
+use Rattle.ns_word.proofs.Prelude.{LoadToScan, LockState, Look, LookIn, LookOut, Looked, Made, MayAnswer, MayEnd, MayShow, MayWait, Means, Met, Mode, Next, Noisy, Notified, Number, On, OnCondition, OnEntry, OnReturn, OnVariables, Only, Outcome, OutcomeFits, Paid, Part, Pay, PayInWait, PayTheWoken}
+use Rattle.ns_word.proofs.Prelude.{PlaceFits, Plain, Queue, QueueFits, QueuePlace, QueueToWait, QueuesAfter, QueuesSoFar, Quiet, QuietCells, QuietLast, QuietWriter, Release, ReleaseExchange, ReleaseFits, ReleaseLoad, ReleasePlace, ReleaseSoFar, Releasing, Request, ReturnQueues, ReturnShown, Saw}
+use Rattle.ns_word.proofs.Prelude.{ScanAndRelease, ScanCells, Scanned, SeatView, SectionFits, Set, SetLoad, SetStore, Show, ShowLoad, ShowPlace, SignalLoad, SignalPlace, SignalSoFar, SoFar, Step, Subject, Succeeded, Take, TakeToLeave, TakeToQueue, TakeToScan, TakeToShow, TakeToWake, TestCells}
+use Rattle.ns_word.proofs.Prelude.{TestLast, Tested, Tests, TestsSoFar, ToChange, ToQueue, ToRelease, ToTell, Truths, TryAcquire, TryLoad, TryLock, TryPlace, Unchanged, VariableWaitMeans, Variables, ViewFits, Visit, Wait, WaitFits, WaitPlace, WaitReturning, WaitSoFar, Waited, Wake, WakeAndReturn}
+use Rattle.ns_word.proofs.Prelude.{Waking, Walk, Woke, Woken, WokenBy, Word, acquire_by, acquired_for, answer_of, answer_of_wait, armed_place, arrival_of, asked_in_cells, asked_of, asked_to_judge, back_with, cause_by, cause_in, course_after, course_from, entry_of, exit_for, got_acquiring}
+use Rattle.ns_word.proofs.Prelude.{got_in_cells, got_leaving, got_of, got_queuing, got_releasing, got_showing, got_signaling, got_trying, got_waiting, has_some, held_after, held_by, home_of, is_held, is_limited, is_met, judge_of, leave_any_told, leave_by, leave_of, leave_told, left_by, load_place}
+use Rattle.ns_word.proofs.Prelude.{look_or_queue, looked_after, may_acquire, mode_for, mode_released, needs_scan, new_section, newly_held, opening_by, outcome_taken, part_of, pay_releasing, pay_waiting, pay_woken, place_cause_kept, queue_by, quiet_place, release_by, request_for, rest_or_look}
+use Rattle.ns_word.proofs.Prelude.{row_after, scan_place, section_of, show_by, signal_by, standing_after, stands_at, taken_by, test_place, tries_of, unmet_by, variable_in, waiters_of, wake_of, want_acquiring, want_in_cells, want_leaving, want_of, want_queuing, want_releasing, want_showing}
+use Rattle.ns_word.proofs.Prelude.{want_signaling, want_trying, want_waiting, woken_by, word_taken}
 use Rattle.ns_word.proofs.Keeps.{acquired_holders}
 use Rattle.ns_word.proofs.Answers.{unmet_cause}
 use Rattle.ns_word.proofs.Leaving.{not_left}

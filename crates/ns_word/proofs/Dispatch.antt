@@ -1,15 +1,15 @@
 -- A step keeps the law: which kind of step it is, by the place in the walk and what was found.
-use Rattle.ns_word.proofs.Prelude.{AcquireExchange, AcquireLoad, Aim, AimFits, AreWaiting, Arm, ArmToWait, Arrival, AsFresh, AsWoken, AtVariables, AwaitWake, AwaitWakeInWait, AwaitWakeToLeave, Bool, Broadcasting, CanLeave, CanWait, Cause, Cell, Cond, CondWait, Cv, Effect, Ended, Event, Every, Exit}
-use Rattle.ns_word.proofs.Prelude.{Flag, ForLock, ForWait, Found, GetLoad, HasMode, HasNumber, Held, Idle, InAcquire, InCells, InLeaving, InQueuing, InRelease, InShow, InSignal, InTry, InWait, IsExpected, IsInRange, IsLawful, IsLeft, IsLegalEvent, IsSettled, IsSettledBy, IsToldSo, Leave, LeaveLoad}
-use Rattle.ns_word.proofs.Prelude.{Left, Limits, List, Load, LoadToScan, LockState, LookIn, LookOut, Looked, Made, MayShow, MayWait, Mode, Next, None, NoneIs, On, OnCondition, OnVariables, Option, Outcome, OutcomeFits, Owed, Paid, Part, Pay, PayInWait, PayTheWoken, Phase, PlaceFits, Plain, Queue}
-use Rattle.ns_word.proofs.Prelude.{QueueToWait, Quiet, QuietCells, QuietKeeps, QuietLast, QuietWriter, Read, ReleaseExchange, ReleaseLoad, Releasing, ReturnQueues, ReturnShown, Saw, ScanAndRelease, ScanCells, Scanned, SeatView, SetLoad, SetStore, ShowLoad, ShowPlace, SignalLoad, SignalPlace}
-use Rattle.ns_word.proofs.Prelude.{Signaling, Some, Step, Subject, Take, TakeToLeave, TakeToQueue, TakeToScan, TakeToShow, TakeToWake, Taking, TestCells, TestLast, Tested, ToChange, ToQueue, ToldOn, Truths, TryAcquire, TryLoad, VariableWaiterFits, Visit, Wait, WaitPlace, WaitReturning, Waiter}
-use Rattle.ns_word.proofs.Prelude.{Waiting, WakeAndReturn, WakeWaiters, Waking, Walk, Woke, Word, Write, [], acquired_for, ap, append-nil, arith, armed_place, arrival_of, awaits, bits_of, both_ways, broadcast_legal, called_of, calls_from_lock, cause_in, change_found, changed, cond, counts_in}
-use Rattle.ns_word.proofs.Prelude.{cvs_without, eq-eqb, eqb, every_join, every_parts, every_signaled, exit_for, expected_for, false, flags_with, got_leaving, got_of, got_showing, got_signaling, got_waiting, has, has_armed, has_queues, has_some, held_after, home_of, inl, inr, is_from_lock, is_held}
-use Rattle.ns_word.proofs.Prelude.{is_on_way, is_queuing, is_some, is_woken, judge_of, kept_by, leave_of, left_of, ltb, ltb-true, may_acquire, meets_at, mode_for, mode_released, moved_to, moves, needs_scan, newly_held, not, opening_for, outcome_taken, owed_after, pay_releasing, pay_waiting}
-use Rattle.ns_word.proofs.Prelude.{pay_woken, pays, phase_before, phase_by, phase_for, phase_kept, place_awaits, queued, refl, releasing_of, rest_or_look, row_in, section_of, signal_legal, slice_set, standing_after, standing_next, stands_at, subst, suc, sum_by, sym, taken_by, taken_set, times_in}
-use Rattle.ns_word.proofs.Prelude.{times_signaled, tries_of, true, variable_told, wait_has_queues, waited_in, waiters_of, waits_in, wake_of, wakes_of, walk_after, want_of, want_showing, want_signaling, want_waiting, was_woken, who_of, with_lock, without, without_in, woken_by, woken_of}
-use Rattle.ns_word.proofs.Prelude.{woken_phases, word_acquired, word_released, word_released_returning, word_returned, word_seen, word_taken, zero, ℕ, ◌&&◌, ◌++◌, ◌+◌, ◌<◌, ◌||◌, ◌∙◌, ◌∷◌, ◌≡◌, ◌≢◌, ◌≤◌, ◌⊎◌}
+use Rattle.std.proofs.Common.{Bool, List, None, Option, Some, [], ap, append-nil, arith, cond, eq-eqb, eqb, false, inl, inr, is_some, ltb, ltb-true, not, refl, slice_set, subst, suc, sym, true, zero, ℕ, ◌&&◌, ◌++◌, ◌+◌, ◌<◌, ◌||◌, ◌∙◌, ◌∷◌, ◌≡◌, ◌≢◌, ◌≤◌, ◌⊎◌}
+use Rattle.ns_word.proofs.Prelude.{AcquireExchange, AcquireLoad, Aim, AimFits, AreWaiting, Arm, ArmToWait, Arrival, AsFresh, AsWoken, AtVariables, AwaitWake, AwaitWakeInWait, AwaitWakeToLeave, Broadcasting, CanLeave, CanWait, Cause, Cell, Cond, CondWait, Cv, Effect, Ended, Event, Every, Exit, Flag}
+use Rattle.ns_word.proofs.Prelude.{ForLock, ForWait, Found, GetLoad, HasMode, HasNumber, Held, Idle, InAcquire, InCells, InLeaving, InQueuing, InRelease, InShow, InSignal, InTry, InWait, IsExpected, IsInRange, IsLawful, IsLeft, IsLegalEvent, IsSettled, IsSettledBy, IsToldSo, Leave, LeaveLoad, Left}
+use Rattle.ns_word.proofs.Prelude.{Limits, Load, LoadToScan, LockState, LookIn, LookOut, Looked, Made, MayShow, MayWait, Mode, Next, NoneIs, On, OnCondition, OnVariables, Outcome, OutcomeFits, Owed, Paid, Part, Pay, PayInWait, PayTheWoken, Phase, PlaceFits, Plain, Queue, QueueToWait, Quiet}
+use Rattle.ns_word.proofs.Prelude.{QuietCells, QuietKeeps, QuietLast, QuietWriter, Read, ReleaseExchange, ReleaseLoad, Releasing, ReturnQueues, ReturnShown, Saw, ScanAndRelease, ScanCells, Scanned, SeatView, SetLoad, SetStore, ShowLoad, ShowPlace, SignalLoad, SignalPlace, Signaling, Step, Subject}
+use Rattle.ns_word.proofs.Prelude.{Take, TakeToLeave, TakeToQueue, TakeToScan, TakeToShow, TakeToWake, Taking, TestCells, TestLast, Tested, ToChange, ToQueue, ToldOn, Truths, TryAcquire, TryLoad, VariableWaiterFits, Visit, Wait, WaitPlace, WaitReturning, Waiter, Waiting, WakeAndReturn, WakeWaiters}
+use Rattle.ns_word.proofs.Prelude.{Waking, Walk, Woke, Word, Write, acquired_for, armed_place, arrival_of, awaits, bits_of, both_ways, broadcast_legal, called_of, calls_from_lock, cause_in, change_found, changed, counts_in, cvs_without, every_join, every_parts, every_signaled, exit_for}
+use Rattle.ns_word.proofs.Prelude.{expected_for, flags_with, got_leaving, got_of, got_showing, got_signaling, got_waiting, has, has_armed, has_queues, has_some, held_after, home_of, is_from_lock, is_held, is_on_way, is_queuing, is_woken, judge_of, kept_by, leave_of, left_of, may_acquire, meets_at}
+use Rattle.ns_word.proofs.Prelude.{mode_for, mode_released, moved_to, moves, needs_scan, newly_held, opening_for, outcome_taken, owed_after, pay_releasing, pay_waiting, pay_woken, pays, phase_before, phase_by, phase_for, phase_kept, place_awaits, queued, releasing_of, rest_or_look, row_in}
+use Rattle.ns_word.proofs.Prelude.{section_of, signal_legal, standing_after, standing_next, stands_at, sum_by, taken_by, taken_set, times_in, times_signaled, tries_of, variable_told, wait_has_queues, waited_in, waiters_of, waits_in, wake_of, wakes_of, walk_after, want_of, want_showing}
+use Rattle.ns_word.proofs.Prelude.{want_signaling, want_waiting, was_woken, who_of, with_lock, without, without_in, woken_by, woken_of, woken_phases, word_acquired, word_released, word_released_returning, word_returned, word_seen, word_taken}
 use Rattle.ns_model.specs.declared.phase.Phase.TheVariants.{Woken}
 use Rattle.ns_word.proofs.Listed.{none_of}
 use Rattle.ns_word.proofs.Groups.{Homed, Known, Groups, groups_of, lawful_by}

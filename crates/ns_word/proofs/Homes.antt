@@ -1,5 +1,6 @@
 -- What the steps leave of the queues' place and of the bits that tell of them.
-use Rattle.ns_word.proofs.Prelude.{Held, List, Option, Owed, SeatView, Waiter, Walk, Word, ap, arith, bits_in, bits_of, false, has_queues, one_if, one_most, sym, takers, true, ℕ, ◌++◌, ◌+◌, ◌∙◌, ◌∷◌, ◌≡◌, ◌≤◌}
+use Rattle.std.proofs.Common.{List, Option, ap, arith, false, sym, true, ℕ, ◌++◌, ◌+◌, ◌∙◌, ◌∷◌, ◌≡◌, ◌≤◌}
+use Rattle.ns_word.proofs.Prelude.{Held, Owed, SeatView, Waiter, Walk, Word, bits_in, bits_of, has_queues, one_if, one_most, takers}
 use Rattle.ns_word.proofs.Groups.{Homed}
 use Rattle.ns_word.proofs.Views.{view_of, takers_at}
 

@@ -1,10 +1,11 @@
 -- Each kind of step keeps what holds of a lock and its seats.
-use Rattle.ns_word.proofs.Prelude.{Any, AreVariables, Arrival, Bool, Cond, CondWait, Cv, Event, Every, Exit, ExitFits, Held, IsExpected, IsLegalEvent, IsNamed, IsSettledBy, List, Lists, LockState, Mode, None, NoneIs, OnCondition, OnVariables, Only, Opening, Option, Owed, OwesAs, Phase, PlaceFits}
-use Rattle.ns_word.proofs.Prelude.{Plain, QuietWriter, Read, Reader, Releasing, SeatView, Some, Stance, Standing, TakenTold, Taking, Tells, ToChange, ToQueue, Truths, VariableWaiterFits, Variables, VariablesTell, ViewFits, Waiter, WaiterNames, WaitersOwn, WaitersPlaced, Waiting, Walk, Word, Write}
-use Rattle.ns_word.proofs.Prelude.{Writer, [], and_parts, ap, arith, awaits, bits_in, bits_of, both_ways, called_of, called_to, calls_from_lock, cases_Bool, cond, counts_in, cvs_without, eqb, eqb-true, exit_for, false, first_standing, flags_with, has_armed, has_eligible, has_queues, has_some}
-use Rattle.ns_word.proofs.Prelude.{in_stands, inl, inr, is_armed, is_held, is_in, is_of, is_on_way, is_queuing, is_some, is_unwoken, is_woken, left_of, length, length-map, lock_stance, may_acquire, meets_at, mode_released, needs_scan, not, not-true, one_if, one_most, outside, owed_to, pays}
-use Rattle.ns_word.proofs.Prelude.{phase_after, phase_before, phase_by, queued, refl, section_of, slice_set, standing_after, standing_from-append, standing_next, stands_waits, subst, sum_by, sym, taken_set, times, times_among, times_at_most, times_in, times_in-append, tries_of, true, waiters_of}
-use Rattle.ns_word.proofs.Prelude.{waits_at, waits_in, wakes_of, was_woken, who_of, with_lock, without_in, woken_of, woken_phase, woken_phases, word_acquired, word_released, word_released_returning, word_returned, word_taken, ℕ, ◌&&◌, ◌++◌, ◌+◌, ◌<◌, ◌∙◌, ◌∷◌, ◌≡◌, ◌≢◌, ◌≤◌, ◌⊎◌}
+use Rattle.std.proofs.Common.{Bool, List, None, Option, Some, [], ap, arith, cond, eqb, eqb-true, false, inl, inr, is_some, length, not, refl, slice_set, subst, sym, true, ℕ, ◌&&◌, ◌++◌, ◌+◌, ◌<◌, ◌∙◌, ◌∷◌, ◌≡◌, ◌≢◌, ◌≤◌, ◌⊎◌}
+use Rattle.ns_word.proofs.Prelude.{Any, AreVariables, Arrival, Cond, CondWait, Cv, Event, Every, Exit, ExitFits, Held, IsExpected, IsLegalEvent, IsNamed, IsSettledBy, Lists, LockState, Mode, NoneIs, OnCondition, OnVariables, Only, Opening, Owed, OwesAs, Phase, PlaceFits, Plain, QuietWriter, Read}
+use Rattle.ns_word.proofs.Prelude.{Reader, Releasing, SeatView, Stance, Standing, TakenTold, Taking, Tells, ToChange, ToQueue, Truths, VariableWaiterFits, Variables, VariablesTell, ViewFits, Waiter, WaiterNames, WaitersOwn, WaitersPlaced, Waiting, Walk, Word, Write, Writer, and_parts, awaits}
+use Rattle.ns_word.proofs.Prelude.{bits_in, bits_of, both_ways, called_of, called_to, calls_from_lock, cases_Bool, counts_in, cvs_without, exit_for, first_standing, flags_with, has_armed, has_eligible, has_queues, has_some, in_stands, is_armed, is_held, is_in, is_of, is_on_way, is_queuing}
+use Rattle.ns_word.proofs.Prelude.{is_unwoken, is_woken, left_of, length-map, lock_stance, may_acquire, meets_at, mode_released, needs_scan, not-true, one_if, one_most, outside, owed_to, pays, phase_after, phase_before, phase_by, queued, section_of, standing_after, standing_from-append}
+use Rattle.ns_word.proofs.Prelude.{standing_next, stands_waits, sum_by, taken_set, times, times_among, times_at_most, times_in, times_in-append, tries_of, waiters_of, waits_at, waits_in, wakes_of, was_woken, who_of, with_lock, without_in, woken_of, woken_phase, woken_phases, word_acquired}
+use Rattle.ns_word.proofs.Prelude.{word_released, word_released_returning, word_returned, word_taken}
 use Rattle.ns_model.specs.declared.phase.Phase.TheVariants.{Idle, Left}
 use Rattle.ns_word.proofs.Listed.{listed_left, listed_queued, listed_without, none_of}
 use Rattle.ns_word.proofs.Groups.{Safe, Homed, Known, Groups}

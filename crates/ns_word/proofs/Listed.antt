@@ -1,5 +1,6 @@
 -- What holds of each of a list, where some leave it or one more comes.
-use Rattle.ns_word.proofs.Prelude.{Bool, Every, List, Mode, None, Option, Waiter, [], cases_Bool, every_filter, every_join, false, goes_along, has_some, inl, inr, is_eligible, is_of, left_of, not, queued, refl, true, without_in, writes, ℕ, ◌++◌, ◌∷◌, ◌≡◌}
+use Rattle.std.proofs.Common.{Bool, List, None, Option, [], false, inl, inr, not, refl, true, ℕ, ◌++◌, ◌∷◌, ◌≡◌}
+use Rattle.ns_word.proofs.Prelude.{Every, Mode, Waiter, cases_Bool, every_filter, every_join, goes_along, has_some, is_eligible, is_of, left_of, queued, without_in, writes}
 
 pub none_of : {A : Type 0} (xs : List A) → has_some xs ≡ false → xs ≡ []
 none_of [] e = refl

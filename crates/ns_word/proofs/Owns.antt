@@ -1,7 +1,7 @@
 -- What the steps leave of the waiters: each is its seat's own.
-use Rattle.ns_word.proofs.Prelude.{AwaitWake, Bool, Every, Held, InAcquire, InWait, List, Lists, Mode, None, NoneIs, Option, Owed, Phase, SeatView, Some, VariableWaiterFits, Waiter, WaiterFits, WaitersOwn, WaitersPlaced, Walk, [], ap, arith, cases_eq, cond, counts_in, eq-eqb, eqb, eqb-true}
-use Rattle.ns_word.proofs.Prelude.{every-append, false, has_eligible, inl, inr, is_eligible, is_long, is_unwoken, left_of, list_any, lock_stance, one_if, or_right, owed_to, place_awaits, queued, refl, subst, suc, sym, times, times_in, times_in-cons, true, waits_in, walk_at, without_in, ℕ, ◌++◌}
-use Rattle.ns_word.proofs.Prelude.{◌+◌, ◌||◌, ◌∙◌, ◌∷◌, ◌≡◌, ◌≢◌}
+use Rattle.std.proofs.Common.{Bool, List, None, Option, Some, [], ap, arith, cond, eq-eqb, eqb, eqb-true, false, inl, inr, refl, subst, suc, sym, true, ℕ, ◌++◌, ◌+◌, ◌||◌, ◌∙◌, ◌∷◌, ◌≡◌, ◌≢◌}
+use Rattle.ns_word.proofs.Prelude.{AwaitWake, Every, Held, InAcquire, InWait, Lists, Mode, NoneIs, Owed, Phase, SeatView, VariableWaiterFits, Waiter, WaiterFits, WaitersOwn, WaitersPlaced, Walk, cases_eq, counts_in, every-append, has_eligible, is_eligible, is_long, is_unwoken, left_of, list_any}
+use Rattle.ns_word.proofs.Prelude.{lock_stance, one_if, or_right, owed_to, place_awaits, queued, times, times_in, times_in-cons, waits_in, walk_at, without_in}
 use Rattle.ns_word.proofs.Listed.{listed_left, listed_queued, listed_without}
 use Rattle.ns_word.proofs.CountsIn.{counts_none}
 use Rattle.ns_word.proofs.Views.{view_of, walk_here, walk_there}

@@ -1,8 +1,8 @@
 -- What the steps leave of the sections.
-use Rattle.ns_word.proofs.Prelude.{Any, Bool, CameBack, Cause, Ended, EntryFits, Event, Exit, ExitFits, Expired, Held, HeldFits, IsBySeats, IsExpected, IsLegal, IsLegalEvent, IsSettledBy, List, Locked, Met, Mode, ModeFits, None, Notified, OnCondition, OnVariables, OneWriter, Only, Opening, Option}
-use Rattle.ns_word.proofs.Prelude.{Owed, OwesAs, Phase, PlaceFits, Read, ReadersCounted, SeatView, SectionFits, Some, Standing, Truths, Variables, ViewFits, Waiting, Walk, Woken, Word, Write, [], answer_of, ap, arith, both_ways, cond, entry_of, eq-eqb, eqb-true, false, first_standing, inl, inr}
-use Rattle.ns_word.proofs.Prelude.{is_met, is_reading, is_writing, left_phase, legal_append, length, length-set, ne_eqb, phase_after, phase_before, phase_by, readers, refl, section_of, slice_set, standing_after, standing_from-append, standing_next, subst, sym, true, who_of, writers, ℕ, ◌++◌, ◌+◌}
-use Rattle.ns_word.proofs.Prelude.{◌-◌, ◌<◌, ◌∙◌, ◌∷◌, ◌≡◌, ◌≢◌, ◌≤◌, ◌⊎◌}
+use Rattle.std.proofs.Common.{Bool, List, None, Option, Some, [], ap, arith, cond, eq-eqb, eqb-true, false, inl, inr, length, length-set, ne_eqb, refl, slice_set, subst, sym, true, ℕ, ◌++◌, ◌+◌, ◌-◌, ◌<◌, ◌∙◌, ◌∷◌, ◌≡◌, ◌≢◌, ◌≤◌, ◌⊎◌}
+use Rattle.ns_word.proofs.Prelude.{Any, CameBack, Cause, Ended, EntryFits, Event, Exit, ExitFits, Expired, Held, HeldFits, IsBySeats, IsExpected, IsLegal, IsLegalEvent, IsSettledBy, Locked, Met, Mode, ModeFits, Notified, OnCondition, OnVariables, OneWriter, Only, Opening, Owed, OwesAs, Phase}
+use Rattle.ns_word.proofs.Prelude.{PlaceFits, Read, ReadersCounted, SeatView, SectionFits, Standing, Truths, Variables, ViewFits, Waiting, Walk, Woken, Word, Write, answer_of, both_ways, entry_of, first_standing, is_met, is_reading, is_writing, left_phase, legal_append, phase_after, phase_before}
+use Rattle.ns_word.proofs.Prelude.{phase_by, readers, section_of, standing_after, standing_from-append, standing_next, who_of, writers}
 use Rattle.ns_model.specs.declared.phase.Phase.TheVariants.{Left}
 use Rattle.ns_word.proofs.Leaving.{left_event, left_is_legal, left_next_here, left_next_there, left_row, left_who}
 use Rattle.ns_word.proofs.Groups.{Safe}

@@ -1,7 +1,7 @@
 -- What the taken are told stays so, by each kind of step.
-use Rattle.ns_word.proofs.Prelude.{Bool, Every, Held, IsNamed, IsToldSo, List, Mode, NamesOn, None, NoneIs, OnCondition, OnVariables, Option, Owed, Phase, SeatView, Some, Stance, Subject, TakenTold, ToldOn, VariableWaiterFits, Variables, Waiter, WaiterNames, Waiting, WaitsAmong, WakeTells, Walk}
-use Rattle.ns_word.proofs.Prelude.{[], ap, append_assoc, arith, called_of, cases_Bool, cases_eq, cond, eq-eqb, eqb, every-append, every_map, every_woken, flags_with, has, in_list, in_stands, inl, inr, is_in, lt-ltb, ne_eqb, one_if, owed_in, owed_to, own_times, refl, stands_waiting, subst, sym}
-use Rattle.ns_word.proofs.Prelude.{taken_set, times_among, times_in, times_in-cons, true, value_of, waits_in, wakes_of, walk_at, woken_of, woken_phase, woken_phases, ℕ, ◌++◌, ◌+◌, ◌<◌, ◌∙◌, ◌∷◌, ◌≡◌, ◌≢◌, ◌≤◌, ◌⊎◌}
+use Rattle.std.proofs.Common.{Bool, List, None, Option, Some, [], ap, append_assoc, arith, cond, eq-eqb, eqb, inl, inr, lt-ltb, ne_eqb, refl, subst, sym, true, ℕ, ◌++◌, ◌+◌, ◌<◌, ◌∙◌, ◌∷◌, ◌≡◌, ◌≢◌, ◌≤◌, ◌⊎◌}
+use Rattle.ns_word.proofs.Prelude.{Every, Held, IsNamed, IsToldSo, Mode, NamesOn, NoneIs, OnCondition, OnVariables, Owed, Phase, SeatView, Stance, Subject, TakenTold, ToldOn, VariableWaiterFits, Variables, Waiter, WaiterNames, Waiting, WaitsAmong, WakeTells, Walk, called_of, cases_Bool, cases_eq}
+use Rattle.ns_word.proofs.Prelude.{every-append, every_map, every_woken, flags_with, has, in_list, in_stands, is_in, one_if, owed_in, owed_to, own_times, stands_waiting, taken_set, times_among, times_in, times_in-cons, value_of, waits_in, wakes_of, walk_at, woken_of, woken_phase, woken_phases}
 use Rattle.ns_model.specs.declared.phase.Phase.TheVariants.{Woken}
 use Rattle.ns_word.proofs.Listed.{every_cut}
 use Rattle.ns_word.proofs.Variables.{waits_of}

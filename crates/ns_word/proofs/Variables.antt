@@ -1,8 +1,7 @@
 -- What the steps leave of the lists of the variables.
-use Rattle.ns_word.proofs.Prelude.{AreVariables, AreWaiting, Bool, Cv, Every, Held, IsOrderly, List, Lists, Mode, None, NoneIs, OnVariables, Only, Option, Owed, Phase, SeatView, Seats, Some, Stance, Subject, VariableWaiterFits, Variables, VariablesTell, WaitFor, Waiter, Waiting, Walk, Write, []}
-use Rattle.ns_word.proofs.Prelude.{ap, arith, below_in, cases_Bool, cases_eq, cond, cvs_without, eq-eqb, eqb, every_filter, every_join, false, gone_outside, has, inl, inr, is_in, is_waiting, length, ne_eqb, not, once_in, one_if, outside, refl, subst, sym, taken_set, times, times_at_most, times_in}
-use Rattle.ns_word.proofs.Prelude.{times_in-append, times_in-cons, times_outside, true, waiters_of, waits_in, walk_at, without_in, woken_phase, woken_phases, ℕ, ◌++◌, ◌<◌, ◌∙◌, ◌∷◌, ◌≡◌, ◌≢◌, ◌≤◌}
-use Rattle.std.proofs.Common.{sum_by}
+use Rattle.std.proofs.Common.{Bool, List, None, Option, Some, [], ap, arith, cond, eq-eqb, eqb, false, inl, inr, length, ne_eqb, not, refl, subst, sum_by, sym, true, ℕ, ◌++◌, ◌<◌, ◌∙◌, ◌∷◌, ◌≡◌, ◌≢◌, ◌≤◌}
+use Rattle.ns_word.proofs.Prelude.{AreVariables, AreWaiting, Cv, Every, Held, IsOrderly, Lists, Mode, NoneIs, OnVariables, Only, Owed, Phase, SeatView, Seats, Stance, Subject, VariableWaiterFits, Variables, VariablesTell, WaitFor, Waiter, Waiting, Walk, Write, below_in, cases_Bool, cases_eq}
+use Rattle.ns_word.proofs.Prelude.{cvs_without, every_filter, every_join, gone_outside, has, is_in, is_waiting, once_in, one_if, outside, taken_set, times, times_at_most, times_in, times_in-append, times_in-cons, times_outside, waiters_of, waits_in, walk_at, without_in, woken_phase, woken_phases}
 use Rattle.ns_model.specs.declared.phase.Phase.TheVariants.{Idle}
 use Rattle.ns_word.proofs.Enters.{HasEntered, one_has, stander, times_other, variable_low}
 use Rattle.ns_word.proofs.Listed.{listed_without}

@@ -1,6 +1,6 @@
 -- What the steps leave of the waiters: each stands where it did, or where it ought to.
-use Rattle.ns_word.proofs.Prelude.{Bool, Held, InAcquire, InQueuing, InWait, List, Lists, LoadToScan, NoneIs, Option, Owed, Queue, QueueToWait, SeatView, Some, WaitersPlaced, Walk, [], ap, arith, awaits, cases_eq, cond, counts_in, eq-eqb, eqb, false, flags_with, has_armed, inl, inr, is_armed}
-use Rattle.ns_word.proofs.Prelude.{is_unwoken, length, ne_eqb, one_if, one_most, owed_to, refl, subst, sym, times_among, true, walk_at, ℕ, ◌&&◌, ◌++◌, ◌+◌, ◌<◌, ◌∙◌, ◌∷◌, ◌≡◌, ◌≢◌, ◌≤◌}
+use Rattle.std.proofs.Common.{Bool, List, Option, Some, [], ap, arith, cond, eq-eqb, eqb, false, inl, inr, length, ne_eqb, refl, subst, sym, true, ℕ, ◌&&◌, ◌++◌, ◌+◌, ◌<◌, ◌∙◌, ◌∷◌, ◌≡◌, ◌≢◌, ◌≤◌}
+use Rattle.ns_word.proofs.Prelude.{Held, InAcquire, InQueuing, InWait, Lists, LoadToScan, NoneIs, Owed, Queue, QueueToWait, SeatView, WaitersPlaced, Walk, awaits, cases_eq, counts_in, flags_with, has_armed, is_armed, is_unwoken, one_if, one_most, owed_to, times_among, walk_at}
 use Rattle.ns_word.proofs.CountsIn.{OnceInEach}
 use Rattle.ns_word.proofs.Views.{view_of, owed_at, walk_here, walk_there}
 

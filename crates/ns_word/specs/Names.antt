@@ -97,10 +97,5 @@ pub use Rattle.ns_word.specs.declared.word.Taking.{Taking}
 pub use Rattle.ns_word.specs.declared.word.Taking.TheVariants.{ToChange, ToQueue}
 pub use Rattle.ns_word.specs.declared.word.Word.{Word}
 pub use Rattle.ns_model.specs.contracts.event.Event.{the_row as event_row}
-pub use Rattle.std.proofs.Common.{arith}
-pub use Rattle.std.proofs.lemmas.Bool.Decides.{nat_tests}
-pub use Rattle.std.specs.List.{list_any}
-pub use Rattle.std.specs.Mem.{FitsInMemory}
-pub use Rattle.std.specs.Prelude.{All, Bool, IsSome, List, None, Option, Some, [], false, if◌then◌else◌, is_some, length, map, min, nat_lt, not, replicate, slice_index, slice_set, suc, sum_by, true, zero, ℕ, ◌%◌, ◌&&◌, ◌*◌, ◌++◌, ◌+◌, ◌-◌, ◌/◌, ◌<◌, ◌==◌, ◌||◌, ◌∷◌, ◌≡◌, ◌≢◌, ◌≤◌, ◌⊎◌}
 pub use denote.Param.{copied, layout, param}
 pub use denote.RattleType.{RattleType}

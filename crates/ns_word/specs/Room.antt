@@ -1,5 +1,9 @@
 -- An event and a section in hand fit in memory, over any condition.
-use Rattle.ns_word.specs.Names.{FitsInMemory, HasRoom, RattleType, arith, copied, event_row, layout, param, room_enough}
+use Rattle.std.proofs.Common.{arith}
+use Rattle.std.specs.Mem.{FitsInMemory}
+use denote.Param.{copied, layout, param}
+use denote.RattleType.{RattleType}
+use Rattle.ns_word.specs.Names.{HasRoom, event_row, room_enough}
 use Rattle.ns_word.specs.contracts.view.Held.{the_row as held_row}
 
 -- an event over such a condition and such a row fits in memory

@@ -1,8 +1,8 @@
 -- No seat is past its last call.
-use Rattle.ns_world.proofs.Prelude.{All, All-head, All-nil, All-tail, AnyWait, Bool, Call, CallInRange, Counts, EnvNext, Finished, Global, Go, GoesOnOrBegins, IfSome, InRound, IsCounted, Line, List, ListFits, LookOver, MovesFrom, Next, None, ObjectNext, ObjectWalk, Option, Over, Progress, Reply}
-use Rattle.ns_world.proofs.Prelude.{Seat, SeatLooks, SeatMakes, SeatView, Sees, Some, Step, ToldIf, TurnOf, Vec, Walk, Whole, WholeMoves, [], ap, arith, calls_of, cases_eq, cond, env_got_of, env_step_of, env_walk_after, false, get_or-set_other, get_or-set_same, got_of, in_call, inl, inr}
-use Rattle.ns_world.proofs.Prelude.{is_for_lock, is_some, length, length-set, look_of, map, object_after, object_got, object_step_of, option_map_or, progress, progressed, refl, replicate, set_there, slice_get, slice_get_within, slice_index, slice_set, step_of, subst, suc, sym, tests_at, tests_told}
-use Rattle.ns_world.proofs.Prelude.{told_to, true, walk_after, whole_busy, zero, ℕ, ◌++◌, ◌+◌, ◌<◌, ◌||◌, ◌∙◌, ◌∷◌, ◌≡◌, ◌≢◌, ◌≤◌}
+use Rattle.std.proofs.Common.{All, Bool, Global, IfSome, List, None, Option, Some, Vec, [], ap, arith, cond, false, inl, inr, is_some, length, map, refl, replicate, slice_get, slice_index, slice_set, subst, suc, sym, true, zero, ℕ, ◌++◌, ◌+◌, ◌<◌, ◌||◌, ◌∙◌, ◌∷◌, ◌≡◌, ◌≢◌, ◌≤◌}
+use Rattle.ns_world.proofs.Prelude.{All-head, All-nil, All-tail, AnyWait, Call, CallInRange, Counts, EnvNext, Finished, Go, GoesOnOrBegins, InRound, IsCounted, Line, ListFits, LookOver, MovesFrom, Next, ObjectNext, ObjectWalk, Over, Progress, Reply, Seat, SeatLooks, SeatMakes, SeatView, Sees, Step}
+use Rattle.ns_world.proofs.Prelude.{ToldIf, TurnOf, Walk, Whole, WholeMoves, calls_of, cases_eq, env_got_of, env_step_of, env_walk_after, get_or-set_other, get_or-set_same, got_of, in_call, is_for_lock, length-set, look_of, object_after, object_got, object_step_of, option_map_or, progress}
+use Rattle.ns_world.proofs.Prelude.{progressed, set_there, slice_get_within, step_of, tests_at, tests_told, told_to, walk_after, whole_busy}
 use Rattle.ns_word.specs.declared.walk.Next.TheVariants.{Done}
 use Rattle.ns_word.specs.declared.act.Found.TheVariants as TheFound
 use Rattle.ns_world.proofs.Fresh.{each_same}

@@ -1,8 +1,8 @@
 -- What the exchanges that were made do, over plain data.
-use Rattle.ns_world.proofs.Prelude.{Act, Any, Arrival, AtLock, AtVariables, Bits, Bool, Broadcasting, CanLeave, CanWait, Change, ChangeFits, Cv, Effect, Err, Event, Found, Held, Home, IfSome, IsInRange, IsUnmet, LeaveSelf, Left, List, Lists, Lock, Made, Makes, MatchResult, Mode, None, Nothing, Ok}
-use Rattle.ns_world.proofs.Prelude.{OnCondition, OnVariables, Only, Option, Owed, Part, Plain, QueueSelf, Release, ReleaseReturning, Releasing, Result, ReturnQueues, Scanned, Signaling, Some, Subject, Truths, Wait, WaitReturning, Waiter, WakeWaiters, Waking, Woke, Word, [], ap, append-nil, arith}
-use Rattle.ns_world.proofs.Prelude.{bits_of, called_of, change_commits, changed, cvs_without, exit_for, false, has_some, if◌then◌else◌, is_held, is_some, leave_of, left_of, length, meets_at, moved_to, ne_eqb, not, part, refl, releasing_of, section_of, some_seats, stands_at, sym, taken_by}
-use Rattle.ns_world.proofs.Prelude.{taken_set, tests_of, true, waited_in, waiters_of, wakes_of, with_waiters, woken_of, word_released, word_released_returning, word_returned, ℕ, ◌&&◌, ◌++◌, ◌==◌, ◌∙◌, ◌∷◌, ◌≡◌}
+use Rattle.std.proofs.Common.{Bool, IfSome, List, MatchResult, None, Option, Some, [], ap, arith, false, if◌then◌else◌, is_some, length, not, refl, sym, true, ℕ, ◌&&◌, ◌++◌, ◌==◌, ◌∙◌, ◌∷◌, ◌≡◌}
+use Rattle.ns_world.proofs.Prelude.{Act, Any, Arrival, AtLock, AtVariables, Bits, Broadcasting, CanLeave, CanWait, Change, ChangeFits, Cv, Effect, Err, Event, Found, Held, Home, IsInRange, IsUnmet, LeaveSelf, Left, Lists, Lock, Made, Makes, Mode, Nothing, Ok, OnCondition, OnVariables, Only, Owed}
+use Rattle.ns_world.proofs.Prelude.{Part, Plain, QueueSelf, Release, ReleaseReturning, Releasing, Result, ReturnQueues, Scanned, Signaling, Subject, Truths, Wait, WaitReturning, Waiter, WakeWaiters, Waking, Woke, Word, append-nil, bits_of, called_of, change_commits, changed, cvs_without, exit_for}
+use Rattle.ns_world.proofs.Prelude.{has_some, is_held, leave_of, left_of, meets_at, moved_to, ne_eqb, part, releasing_of, section_of, some_seats, stands_at, taken_by, taken_set, tests_of, waited_in, waiters_of, wakes_of, with_waiters, woken_of, word_released, word_released_returning, word_returned}
 
 -- a list that isn't empty has somebody
 pub some_left : {A : Type 0} (xs : List A) → not (length xs == 0) ≡ has_some xs

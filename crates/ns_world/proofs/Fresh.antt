@@ -1,6 +1,7 @@
 -- A new world: its seats, one after another, and its law.
-use Rattle.ns_world.proofs.Prelude.{AreNumbered, IsLawfulWhole, List, None, NoteStanding, ObjectWalk, Option, Seat, Some, Truths, [], ap, append_assoc, arith, false, flag_at, fresh_lawful, fresh_seat, fresh_seats, fresh_views, fresh_whole, get_or, in_call, lawful_fresh, length, map, most}
-use Rattle.ns_world.proofs.Prelude.{new_lawful, no_note, note_at, option_map_or, refl, replicate, same_Some, slice_get, slice_index, standing_of, state_of, sub-one, suc, sym, view_of, walk_in, zero, ℕ, ◌++◌, ◌+◌, ◌-◌, ◌<◌, ◌∙◌, ◌∷◌, ◌≡◌, ◌≤◌}
+use Rattle.std.proofs.Common.{List, None, Option, Some, [], ap, arith, false, get_or, length, map, refl, replicate, slice_get, slice_index, sub-one, suc, sym, zero, ℕ, ◌++◌, ◌+◌, ◌-◌, ◌<◌, ◌∙◌, ◌∷◌, ◌≡◌, ◌≤◌}
+use Rattle.ns_world.proofs.Prelude.{AreNumbered, IsLawfulWhole, NoteStanding, ObjectWalk, Seat, Truths, append_assoc, flag_at, fresh_lawful, fresh_seat, fresh_seats, fresh_views, fresh_whole, in_call, lawful_fresh, most, new_lawful, no_note, note_at, option_map_or, same_Some, standing_of, state_of}
+use Rattle.ns_world.proofs.Prelude.{view_of, walk_in}
 
 -- where all are the same, so is each
 pub each_same : {A : Type 0} (x : A) (n i : ℕ) → get_or (replicate n x) i x ≡ x

@@ -1,8 +1,8 @@
 -- How far a call has come that is under way: what its seat's place says, with what has happened since it began.
-use Rattle.ns_world.proofs.Prelude.{AnswersOfLock, AnswersOfNotes, AnswersTo, AnyAnswers, AreAmong, Asked, BeginsWith, Cause, Course, Cvs, EnvCourse, EnvEvent, EnvRequest, EnvSoFar, EnvWalk, Event, Finished, FirstClock, HasLedTo, HaveShownNothing, InRound, IsLater, IsReady, IsUnfinished, List}
-use Rattle.ns_world.proofs.Prelude.{None, ObjectEvent, ObjectSoFar, ObjectWalk, OfLock, OfNotes, OfObjects, Option, Past, Reply, Request, Round, RoundShows, RoundSoFar, Seat, SoFar, Some, Step, Walk, WasShown, WereThere, Whole, [], any_on, ap, append-nil, asked_of, cause_of, env_asked_of, env_own}
-use Rattle.ns_world.proofs.Prelude.{held_at, inl, inr, is_among, items_of, later_and, later_through, limits_of, mode_of, mode_waited, nothing_on, object_asked, objects_own, others_leave_course, own, past_and, refl, round_on, slice_get, so_far_on, subst, sym, true, waits_for_any, ℕ, ◌++◌, ◌<◌, ◌∙◌}
-use Rattle.ns_world.proofs.Prelude.{◌≡◌, ◌⊎◌}
+use Rattle.std.proofs.Common.{List, None, Option, Some, [], ap, inl, inr, refl, slice_get, subst, sym, true, ℕ, ◌++◌, ◌<◌, ◌∙◌, ◌≡◌, ◌⊎◌}
+use Rattle.ns_world.proofs.Prelude.{AnswersOfLock, AnswersOfNotes, AnswersTo, AnyAnswers, AreAmong, Asked, BeginsWith, Cause, Course, Cvs, EnvCourse, EnvEvent, EnvRequest, EnvSoFar, EnvWalk, Event, Finished, FirstClock, HasLedTo, HaveShownNothing, InRound, IsLater, IsReady, IsUnfinished}
+use Rattle.ns_world.proofs.Prelude.{ObjectEvent, ObjectSoFar, ObjectWalk, OfLock, OfNotes, OfObjects, Past, Reply, Request, Round, RoundShows, RoundSoFar, Seat, SoFar, Step, Walk, WasShown, WereThere, Whole, any_on, append-nil, asked_of, cause_of, env_asked_of, env_own, held_at, is_among, items_of}
+use Rattle.ns_world.proofs.Prelude.{later_and, later_through, limits_of, mode_of, mode_waited, nothing_on, object_asked, objects_own, others_leave_course, own, past_and, round_on, so_far_on, waits_for_any}
 use Rattle.ns_world.proofs.Places.{IsNoLook}
 use Rattle.ns_world.proofs.Shown.{LookSoFar, look_on, shown_on}
 use Rattle.ns_word.specs.declared.request.Request.TheVariants as TheRequest

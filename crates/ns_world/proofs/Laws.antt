@@ -1,9 +1,9 @@
 -- Each kind of step, and a call that begins, keep the law: the machines' laws, and that the seat stands as it may.
-use Rattle.ns_world.proofs.Prelude.{Act, AnyWait, AreEnvBy, AreObjectsBy, AreThere, Ask, AsksFor, Bool, Call, CallInRange, EnvEvent, EnvNext, EnvPlain, FirstClock, Go, HasLedTo, HaveLedTo, IfMade, InRound, IsFirst, IsLawful, IsLawfulWhole, IsSome, LedTo, List, LookOver, LooksWhere, MayWaitOnLock}
-use Rattle.ns_world.proofs.Prelude.{NeedsSection, None, ObjectEvent, ObjectNext, ObjectWalk, OnLock, OnObjects, Option, Past, PlaceFits, QuietKeeps, Repeat, Seat, SeatStands, Some, StandsAlone, StandsBy, Start, StaysAsked, Step, Truths, WaitsOnLock, Walk, Whole, WholeMoves, WholeStarts, WholeStep}
-use Rattle.ns_world.proofs.Prelude.{[], ap, append-nil, asked_of, asked_stays, asks_for_any, begin_at, begins, cause_of, cond, done_in, env_got_of, env_walk_after, false, got_of, inl, inr, is_alone, is_for_lock, is_some, keeps, length, lock_of, look_of, looks_at, map, mode_of, mode_waited, not}
-use Rattle.ns_world.proofs.Prelude.{note_in, notes_by, nothing_done, object_after, object_asked, object_got, object_step_of, objects_after, objects_by, past_and, placed, refl, same_Some, shown_by, slice_get, slice_set, start_of, stays_asked, subst, sym, true, unwrap_or, view_of, wait_first}
-use Rattle.ns_world.proofs.Prelude.{waits_for_any, walk_after, want_of, ℕ, ◌<◌, ◌∙◌, ◌≡◌}
+use Rattle.std.proofs.Common.{Bool, IsSome, List, None, Option, Some, [], ap, cond, false, inl, inr, is_some, length, map, not, refl, slice_get, slice_set, subst, sym, true, unwrap_or, ℕ, ◌<◌, ◌∙◌, ◌≡◌}
+use Rattle.ns_world.proofs.Prelude.{Act, AnyWait, AreEnvBy, AreObjectsBy, AreThere, Ask, AsksFor, Call, CallInRange, EnvEvent, EnvNext, EnvPlain, FirstClock, Go, HasLedTo, HaveLedTo, IfMade, InRound, IsFirst, IsLawful, IsLawfulWhole, LedTo, LookOver, LooksWhere, MayWaitOnLock, NeedsSection}
+use Rattle.ns_world.proofs.Prelude.{ObjectEvent, ObjectNext, ObjectWalk, OnLock, OnObjects, Past, PlaceFits, QuietKeeps, Repeat, Seat, SeatStands, StandsAlone, StandsBy, Start, StaysAsked, Step, Truths, WaitsOnLock, Walk, Whole, WholeMoves, WholeStarts, WholeStep, append-nil, asked_of, asked_stays}
+use Rattle.ns_world.proofs.Prelude.{asks_for_any, begin_at, begins, cause_of, done_in, env_got_of, env_walk_after, got_of, is_alone, is_for_lock, keeps, lock_of, look_of, looks_at, mode_of, mode_waited, note_in, notes_by, nothing_done, object_after, object_asked, object_got, object_step_of}
+use Rattle.ns_world.proofs.Prelude.{objects_after, objects_by, past_and, placed, same_Some, shown_by, start_of, stays_asked, view_of, wait_first, waits_for_any, walk_after, want_of}
 use Rattle.ns_world.proofs.Led.{begun_led, first_if_at, kind_led, led_makes}
 use Rattle.ns_world.proofs.Looking.{LookLeads, LooksOut, leads_on, look_leads, noted, right_here, unlooked}
 use Rattle.ns_world.proofs.Mapped.{got-map}

@@ -1,8 +1,8 @@
 -- What has led to a world, and a step or a call that begins, lead to the world after it: each extends what has happened to the clock and the notes, and to counters and once cells.
-use Rattle.ns_world.proofs.Prelude.{AnyWait, AreEnvBy, AreObjectsBy, Ask, Bool, EnvAct, EnvEffect, EnvEvent, EnvFound, EnvNext, EnvPlain, EnvWalk, FirstClock, Fit, Go, HasLedTo, IfMade, InRound, IsLawfulEnv, IsLawfulObjects, IsLawfulWhole, LedTo, List, LookOver, None, NoteStanding, ObjectEvent}
-use Rattle.ns_world.proofs.Prelude.{ObjectStanding, ObjectWalk, OnLock, OnObjects, Option, Past, Seat, SeatStands, Setup, Some, StandsBy, Start, Step, Walk, Went, Whole, [], ap, append-nil, arith, begins_env, cond, env_got_of, env_state, env_walk_after, env_want_of, false, got_of, inl, inr}
-use Rattle.ns_world.proofs.Prelude.{is_some, keeps_env, led_more, length, length-map, length-set, look_of, looks_at, made_begins, map, note_in, notes_of, object_after, object_got, objects_after, objects_of, operates_keeps, outcome_by, past_and, placed, put_keeps, refl, set_again, set_here}
-use Rattle.ns_world.proofs.Prelude.{set_same, slice_get, slice_set, subst, sym, true, unwrap_or, walk_after, walk_in, want_of, ℕ, ◌++◌, ◌<◌, ◌∙◌, ◌≡◌, ◌⊎◌}
+use Rattle.std.proofs.Common.{Bool, List, None, Option, Some, [], ap, arith, cond, false, inl, inr, is_some, length, map, refl, slice_get, slice_set, subst, sym, true, unwrap_or, ℕ, ◌++◌, ◌<◌, ◌∙◌, ◌≡◌, ◌⊎◌}
+use Rattle.ns_world.proofs.Prelude.{AnyWait, AreEnvBy, AreObjectsBy, Ask, EnvAct, EnvEffect, EnvEvent, EnvFound, EnvNext, EnvPlain, EnvWalk, FirstClock, Fit, Go, HasLedTo, IfMade, InRound, IsLawfulEnv, IsLawfulObjects, IsLawfulWhole, LedTo, LookOver, NoteStanding, ObjectEvent, ObjectStanding}
+use Rattle.ns_world.proofs.Prelude.{ObjectWalk, OnLock, OnObjects, Past, Seat, SeatStands, Setup, StandsBy, Start, Step, Walk, Went, Whole, append-nil, begins_env, env_got_of, env_state, env_walk_after, env_want_of, got_of, keeps_env, led_more, length-map, length-set, look_of, looks_at}
+use Rattle.ns_world.proofs.Prelude.{made_begins, note_in, notes_of, object_after, object_got, objects_after, objects_of, operates_keeps, outcome_by, past_and, placed, put_keeps, set_again, set_here, set_same, walk_after, walk_in, want_of}
 use Rattle.ns_world.proofs.Looking.{FirstIf, first_if, noted}
 use Rattle.ns_world.proofs.Mapped.{got-map}
 use Rattle.ns_world.proofs.Places.{IsFirstAt, ask_of, place_of}

@@ -1,8 +1,8 @@
 -- The looks of a wait, over plain data: where a wait goes that looks, and what it needs of the notes. A wait for any of a set of variables looks as it rests, and nowhere else; and while it does, its seat stands nowhere on the clock and the notes.
-use Rattle.ns_world.proofs.Prelude.{Act, AsksFor, Await, AwaitWakeInWait, Bool, Cause, ClockLoad, Cvs, Effect, EnvEffect, EnvEvent, EnvFound, EnvNext, EnvPlain, EnvWalk, Expired, ForLook, Found, Go, Held, IfMade, InLeaving, InQueuing, InWait}
-use Rattle.ns_world.proofs.Prelude.{IsFirstAsk, IsForCondition, IsSome, IsUnfinished, LeaveLoad, Limits, List, Look, LookFits, LookIn, LookOut, LookOver, Looked, MayShow, Mode, None, NoteLoad, NoteStanding, Option, Part, PlaceFits, Some, Truths, Wait, Walk, [], ap, asked_of, asked_stays}
-use Rattle.ns_world.proofs.Prelude.{asks_for_any, came_back, cond, env_got_of, env_want_of, false, got_of, held_after, is_due, is_over, look_of, look_place, looks_at, looks_by_asked, marks_at, marks_of, note_asked, note_in, outcome, passed, refl, same_Some, step_of, stopped, subst, sym}
-use Rattle.ns_world.proofs.Prelude.{true, up_to, waits_among, waits_for_any, walk_after, want_of, ℕ, ◌∙◌, ◌≡◌}
+use Rattle.std.proofs.Common.{Bool, IsSome, List, None, Option, Some, [], ap, cond, false, refl, subst, sym, true, ℕ, ◌∙◌, ◌≡◌}
+use Rattle.ns_world.proofs.Prelude.{Act, AsksFor, Await, AwaitWakeInWait, Cause, ClockLoad, Cvs, Effect, EnvEffect, EnvEvent, EnvFound, EnvNext, EnvPlain, EnvWalk, Expired, ForLook, Found, Go, Held, IfMade, InLeaving, InQueuing, InWait, IsFirstAsk, IsForCondition, IsUnfinished, LeaveLoad, Limits}
+use Rattle.ns_world.proofs.Prelude.{Look, LookFits, LookIn, LookOut, LookOver, Looked, MayShow, Mode, NoteLoad, NoteStanding, Part, PlaceFits, Truths, Wait, Walk, asked_of, asked_stays, asks_for_any, came_back, env_got_of, env_want_of, got_of, held_after, is_due, is_over, look_of, look_place}
+use Rattle.ns_world.proofs.Prelude.{looks_at, looks_by_asked, marks_at, marks_of, note_asked, note_in, outcome, passed, same_Some, step_of, stopped, up_to, waits_among, waits_for_any, walk_after, want_of}
 
 -- ---- the note that may end a wait
 

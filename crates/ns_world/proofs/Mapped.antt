@@ -1,5 +1,6 @@
 -- A list, element by element.
-use Rattle.ns_world.proofs.Prelude.{List, Some, ap, arith, get_or, length, map, option_map, slice_get, slice_get-get_or, slice_get-map, sym, ℕ, ◌<◌, ◌∙◌, ◌≡◌}
+use Rattle.std.proofs.Common.{List, Some, ap, arith, get_or, length, map, option_map, slice_get, sym, ℕ, ◌<◌, ◌∙◌, ◌≡◌}
+use Rattle.ns_world.proofs.Prelude.{slice_get-get_or, slice_get-map}
 
 module _ {A B : Type 0} (f : A → B) where
   pub got-map : (xs : List A) (i : ℕ) (x : A) → slice_get xs i ≡ Some x → slice_get (map f xs) i ≡ Some (f x)

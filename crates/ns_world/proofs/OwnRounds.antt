@@ -1,10 +1,10 @@
 -- Where a step of its own leads a call on counters and once cells, which may have gone on to wait on the lock.
-use Rattle.ns_world.proofs.Prelude.{Answer, AnswersOfLock, AnswersTo, Any, AnyAnswers, AnyMeans, AnyWait, AreObjectsBy, BeginsWith, Bool, Cause, EnvEvent, Finished, FirstClock, Found, Free, HasLedTo, Held, Idle, InHand, InRound, IsLater, IsLawfulWhole, IsReady, IsSome, IsUnfinished, List, MayEnd}
-use Rattle.ns_world.proofs.Prelude.{Means, None, Number, ObjectEffect, ObjectEvent, ObjectGoes, ObjectNext, ObjectSoFar, ObjectWalk, OfObjects, OnVariables, Option, Past, PlaceBy, Repeat, Reply, Request, Round, RoundGo, RoundGoes, RoundNext, RoundOver, RoundPlace, RoundSoFar, Seat, SeatStands}
-use Rattle.ns_world.proofs.Prelude.{SoFar, Some, StandsAlone, Step, WaitMeans, Walk, WalkFits, WalkReply, WereThere, Whole, [], ap, append-nil, append_assoc, asked_of, at_will, begins_unchanged, by_round, cause_of, cond, course_from, env_after, env_own, false, first_place, got_of, held_at, inl}
-use Rattle.ns_world.proofs.Prelude.{inr, is_for_lock, is_some, items_of, last_nothing, later_itself, looked_after, looks_at, made_begins, mode_of, mode_waited, notes_of, nothing_done, object_after, object_asked, object_got, object_place, object_step_of, object_want, objects_after, objects_own}
-use Rattle.ns_world.proofs.Prelude.{objects_own_all, operates_on, option_map_or, own, own-append, past_and, place_told, refl, reply_of_lock, reply_told, round_by, round_due, round_got, round_makes_none, round_want, row_after, same_Some, shown_by, slice_get, slice_set, some_among, step_of}
-use Rattle.ns_world.proofs.Prelude.{step_told, subst, suc, sym, there_more, told_to, true, unwrap_or, wait_first, wait_is_first, waits_for_any, want_of, woken_by, ℕ, ◌++◌, ◌∙◌, ◌≡◌}
+use Rattle.std.proofs.Common.{Bool, IsSome, List, None, Option, Some, [], ap, cond, false, inl, inr, is_some, refl, slice_get, slice_set, subst, suc, sym, true, unwrap_or, ℕ, ◌++◌, ◌∙◌, ◌≡◌}
+use Rattle.ns_world.proofs.Prelude.{Answer, AnswersOfLock, AnswersTo, Any, AnyAnswers, AnyMeans, AnyWait, AreObjectsBy, BeginsWith, Cause, EnvEvent, Finished, FirstClock, Found, Free, HasLedTo, Held, Idle, InHand, InRound, IsLater, IsLawfulWhole, IsReady, IsUnfinished, MayEnd, Means, Number}
+use Rattle.ns_world.proofs.Prelude.{ObjectEffect, ObjectEvent, ObjectGoes, ObjectNext, ObjectSoFar, ObjectWalk, OfObjects, OnVariables, Past, PlaceBy, Repeat, Reply, Request, Round, RoundGo, RoundGoes, RoundNext, RoundOver, RoundPlace, RoundSoFar, Seat, SeatStands, SoFar, StandsAlone, Step}
+use Rattle.ns_world.proofs.Prelude.{WaitMeans, Walk, WalkFits, WalkReply, WereThere, Whole, append-nil, append_assoc, asked_of, at_will, begins_unchanged, by_round, cause_of, course_from, env_after, env_own, first_place, got_of, held_at, is_for_lock, items_of, last_nothing, later_itself}
+use Rattle.ns_world.proofs.Prelude.{looked_after, looks_at, made_begins, mode_of, mode_waited, notes_of, nothing_done, object_after, object_asked, object_got, object_place, object_step_of, object_want, objects_after, objects_own, objects_own_all, operates_on, option_map_or, own, own-append}
+use Rattle.ns_world.proofs.Prelude.{past_and, place_told, reply_of_lock, reply_told, round_by, round_due, round_got, round_makes_none, round_want, row_after, same_Some, shown_by, some_among, step_of, step_told, there_more, told_to, wait_first, wait_is_first, waits_for_any, want_of, woken_by}
 use Rattle.ns_world.proofs.HowFar.{AsShown, Awaiting, HasCome, LockOutcome, LockUnderway, ObjectsUnderway, Outcome, RoundOn, ShownOn, goes_so, lock_rests, unfinished, no_own, no_own_notes, shown_rests, until_rests, wait_for, waits_on}
 use Rattle.ns_world.proofs.Looking.{LooksOut, leads_on}
 use Rattle.ns_world.proofs.Mapped.{got-map}

@@ -1,8 +1,9 @@
 -- Where a step of its own leads a call on the lock, or on the clock and the notes.
-use Rattle.ns_world.proofs.Prelude.{Act, AreBy, BeginsWith, CallGoes, Cause, Course, Effect, EnvCourse, EnvEvent, EnvGoes, EnvGoesOn, EnvNext, EnvRequest, EnvSoFar, EnvWalk, Event, Found, Go, GoesOn, IfMade, IsLawfulWhole, LedTo, Limits, List, Look, LookOver, Looked, Means, Next, None, ObjectEvent}
-use Rattle.ns_world.proofs.Prelude.{OfLock, OfNotes, On, Option, Over, Part, Past, Request, Seat, SoFar, Some, Step, Truths, Walk, WasShown, Went, Whole, [], ap, append_assoc, asked_of, course_after, env_asked_of, env_course_after, env_got_of, env_own, env_own-append, env_own_all, env_state}
-use Rattle.ns_world.proofs.Prelude.{env_step_of, env_walk_after, env_want_of, got_of, held_at, inl, inr, length, limits_of, lock_of, look_of, looked_after, looks_at, map, note_in, notes_of, option_map_or, own, own_all, own_append, part_in, past_and, refl, row_after, same_Some, slice_get, slice_set}
-use Rattle.ns_world.proofs.Prelude.{step_by, step_of, step_takes_on, subst, sym, takes_on, told_to, view_of, walk_after, want_of, ℕ, ◌++◌, ◌∙◌, ◌≡◌}
+use Rattle.std.proofs.Common.{List, None, Option, Some, [], ap, inl, inr, length, map, refl, slice_get, slice_set, subst, sym, ℕ, ◌++◌, ◌∙◌, ◌≡◌}
+use Rattle.ns_world.proofs.Prelude.{Act, AreBy, BeginsWith, CallGoes, Cause, Course, Effect, EnvCourse, EnvEvent, EnvGoes, EnvGoesOn, EnvNext, EnvRequest, EnvSoFar, EnvWalk, Event, Found, Go, GoesOn, IfMade, IsLawfulWhole, LedTo, Limits, Look, LookOver, Looked, Means, Next, ObjectEvent, OfLock}
+use Rattle.ns_world.proofs.Prelude.{OfNotes, On, Over, Part, Past, Request, Seat, SoFar, Step, Truths, Walk, WasShown, Went, Whole, append_assoc, asked_of, course_after, env_asked_of, env_course_after, env_got_of, env_own, env_own-append, env_own_all, env_state, env_step_of, env_walk_after}
+use Rattle.ns_world.proofs.Prelude.{env_want_of, got_of, held_at, limits_of, lock_of, look_of, looked_after, looks_at, note_in, notes_of, option_map_or, own, own_all, own_append, part_in, past_and, row_after, same_Some, step_by, step_of, step_takes_on, takes_on, told_to, view_of, walk_after}
+use Rattle.ns_world.proofs.Prelude.{want_of}
 use Rattle.ns_world.proofs.HowFar.{HasCome, LockOutcome, LockUnderway, NotesOutcome, NotesUnderway, Outcome, leads_as, lock_rests, no_own, no_own_notes}
 use Rattle.ns_world.proofs.Led.{events_by}
 use Rattle.ns_world.proofs.Looking.{first_if, noted}

@@ -1,9 +1,9 @@
 -- Where calls begin, and what acts may be made.
-use Rattle.ns_world.proofs.Prelude.{Act, ActFits, Add, Advance, Any, AreVariables, ArmFlag, Ask, Bool, Broadcast, Call, CallFits, CallInRange, CanLeave, CounterWait, CvWait, Cvs, Done, EnvRequest, EnvWalk, Expiry, Fit, Get, HasMode, Held, IfMade, InCells, InQueuing, InWait, IsFirst, IsFirstAsk}
-use Rattle.ns_world.proofs.Prelude.{IsNotified, IsSettled, IsSome, Limits, List, Load, LoadFlag, MatchOption, MayWait, MayWaitOnLock, Mode, NewNote, None, NoteStanding, NoteWait, Notify, ObjectStanding, ObjectWalk, OnCondition, OnEntry, OnLock, OnObjects, OnVariables, Once, Only, Option, Owed}
-use Rattle.ns_world.proofs.Prelude.{OwesOne, Part, PayWake, PlaceFits, QuietCells, QuietLast, RLock, RUnlock, Read, Reader, ReturnQueues, Set, Setup, Signal, Some, Start, Subject, TestCells, TestLast, ToRelease, Truths, TryLock, TryRLock, Unlock, UnlockQuiet, Value, WaitAny, WaitFor, WaitReturning}
-use Rattle.ns_world.proofs.Prelude.{Write, Writer, [], ap, arith, asks_for_any, cond, env_asked_of, false, is_alone, items_of, looks_at, mode_of, mode_waited, nat_lt, nat_tests, not, note_in, quiet_asks, quiet_is_first, refl, some_among, start_of, subst, sym, test_asks, true, wait_first}
-use Rattle.ns_world.proofs.Prelude.{wait_is_first, waits_for_any, want_of, ℕ, ◌-◌, ◌<◌, ◌∷◌, ◌≡◌, ◌≤◌}
+use Rattle.std.proofs.Common.{Bool, IsSome, List, MatchOption, None, Option, Some, [], ap, arith, cond, false, nat_lt, not, refl, subst, sym, true, ℕ, ◌-◌, ◌<◌, ◌∷◌, ◌≡◌, ◌≤◌}
+use Rattle.ns_world.proofs.Prelude.{Act, ActFits, Add, Advance, Any, AreVariables, ArmFlag, Ask, Broadcast, Call, CallFits, CallInRange, CanLeave, CounterWait, CvWait, Cvs, Done, EnvRequest, EnvWalk, Expiry, Fit, Get, HasMode, Held, IfMade, InCells, InQueuing, InWait, IsFirst, IsFirstAsk}
+use Rattle.ns_world.proofs.Prelude.{IsNotified, IsSettled, Limits, Load, LoadFlag, MayWait, MayWaitOnLock, Mode, NewNote, NoteStanding, NoteWait, Notify, ObjectStanding, ObjectWalk, OnCondition, OnEntry, OnLock, OnObjects, OnVariables, Once, Only, Owed, OwesOne, Part, PayWake, PlaceFits}
+use Rattle.ns_world.proofs.Prelude.{QuietCells, QuietLast, RLock, RUnlock, Read, Reader, ReturnQueues, Set, Setup, Signal, Start, Subject, TestCells, TestLast, ToRelease, Truths, TryLock, TryRLock, Unlock, UnlockQuiet, Value, WaitAny, WaitFor, WaitReturning, Write, Writer, asks_for_any}
+use Rattle.ns_world.proofs.Prelude.{env_asked_of, is_alone, items_of, looks_at, mode_of, mode_waited, nat_tests, note_in, quiet_asks, quiet_is_first, some_among, start_of, test_asks, wait_first, wait_is_first, waits_for_any, want_of}
 use Rattle.ns_env.specs.declared.request.EnvRequest.TheVariants as TheEnvRequest
 use Rattle.ns_world.specs.Prelude.{Lock}
 use Rattle.ns_world.specs.Prelude.{Wait}

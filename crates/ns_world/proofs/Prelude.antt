@@ -73,8 +73,8 @@ pub use Rattle.ns_world.specs.Prelude.{want_of, whole_busy, whole_of, with_waite
 pub use Rattle.ns_world.specs.Runs.{Item, tests_told}
 pub use Rattle.ns_world.specs.contracts.world.World.{the_row as world_row}
 pub use Rattle.ns_world.specs.declared.world.World.TheInside.{Inside}
-pub use Rattle.std.proofs.Common.{All, Bool, Global, IfErr, IfOk, IfSome, IsSome, List, MatchOption, MatchResult, None, Option, Some, Vec, [], add-zero, ap, arith, cond, drop, drop-cons, eq-eqb, eqb, false, get_or, if◌then◌else◌, inl, inr, is_some, length, map, nat_lt, not, option_map, refl}
-pub use Rattle.std.proofs.Common.{replicate, rules, slice_get, slice_index, slice_set, sub-one, subst, suc, sum_by, sym, take, true, unwrap_or, zero, zero-add, ℕ, ◌&&◌, ◌*◌, ◌++◌, ◌+◌, ◌-◌, ◌<◌, ◌==◌, ◌^◌, ◌||◌, ◌∙◌, ◌∷◌, ◌≡◌, ◌≢◌, ◌≤◌, ◌⊎◌}
+pub use Rattle.std.proofs.Common.{[], ap, arith, false, map, refl}
+pub use Rattle.std.proofs.Common.{replicate, slice_get, sym, take}
 pub use Rattle.std.proofs.lemmas.Bool.{false≢true}
 pub use Rattle.std.proofs.lemmas.Bool.Decides.{nat_tests}
 pub use Rattle.std.proofs.lemmas.List.Elements.{All-head, All-nil, All-tail}

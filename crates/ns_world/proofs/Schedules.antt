@@ -1,7 +1,7 @@
 -- Turns that follow a schedule, piece by piece.
-use Rattle.ns_world.proofs.Prelude.{Advances, Bool, Call, EndFinished, Fault, Finished, IsFinished, Item, List, NoSuchSeat, None, Option, OutOfMemory, Progress, Some, Step, Stops, StopsFor, Turn, TurnFault, TurnOf, Turned, TurnsOf, Whole, [], add-zero, ap, append-nil, append_assoc, arith, cond}
-use Rattle.ns_world.proofs.Prelude.{drop, drop-cons, eq-eqb, eqb, false, flat_map-append, get_or, inl, inr, is_end, length, length-append, refl, replicate, replicate-append-replicate, replicate_more, rest_of, subst, suc, sym, take, take-append-drop, take_more, true, word_items, ℕ, ◌++◌, ◌+◌, ◌-◌}
-use Rattle.ns_world.proofs.Prelude.{◌<◌, ◌∙◌, ◌∷◌, ◌≡◌, ◌≤◌}
+use Rattle.std.proofs.Common.{Bool, List, None, Option, Some, [], add-zero, ap, arith, cond, drop, drop-cons, eq-eqb, eqb, false, get_or, inl, inr, length, refl, replicate, subst, suc, sym, take, true, ℕ, ◌++◌, ◌+◌, ◌-◌, ◌<◌, ◌∙◌, ◌∷◌, ◌≡◌, ◌≤◌}
+use Rattle.ns_world.proofs.Prelude.{Advances, Call, EndFinished, Fault, Finished, IsFinished, Item, NoSuchSeat, OutOfMemory, Progress, Step, Stops, StopsFor, Turn, TurnFault, TurnOf, Turned, TurnsOf, Whole, append-nil, append_assoc, flat_map-append, is_end, length-append}
+use Rattle.ns_world.proofs.Prelude.{replicate-append-replicate, replicate_more, rest_of, take-append-drop, take_more, word_items}
 use Rattle.ns_world.specs.Runs.{items_of}
 
 -- ---- what is left of the items

@@ -1,6 +1,7 @@
 -- A world with one of its seats set: what each machine sees of it, and the law.
-use Rattle.ns_world.proofs.Prelude.{AnyWait, AreNumbered, HasLedTo, IfMade, IsLawful, IsLawfulWhole, IsSettled, List, None, NoteStanding, Option, Past, PlaceFits, Seat, SeatStands, SeatView, Setup, Some, StandsBy, Whole, ap, cases_eq, drop, inl, inr, length, length-set, lock_of, map, map-set}
-use Rattle.ns_world.proofs.Prelude.{note_in, number_at, numbers_stay, refl, same_Some, set_here, set_same, set_there, slice_get, slice_get_within, slice_set, split_at, subst, suc, sym, take, there_more, true, view_fits, view_of, zero-add, ℕ, ◌++◌, ◌<◌, ◌∙◌, ◌∷◌, ◌≡◌, ◌≢◌, ◌≤◌}
+use Rattle.std.proofs.Common.{List, None, Option, Some, ap, drop, inl, inr, length, map, refl, slice_get, slice_set, subst, suc, sym, take, true, zero-add, ℕ, ◌++◌, ◌<◌, ◌∙◌, ◌∷◌, ◌≡◌, ◌≢◌, ◌≤◌}
+use Rattle.ns_world.proofs.Prelude.{AnyWait, AreNumbered, HasLedTo, IfMade, IsLawful, IsLawfulWhole, IsSettled, NoteStanding, Past, PlaceFits, Seat, SeatStands, SeatView, Setup, StandsBy, Whole, cases_eq, length-set, lock_of, map-set, note_in, number_at, numbers_stay, same_Some, set_here, set_same}
+use Rattle.ns_world.proofs.Prelude.{set_there, slice_get_within, split_at, there_more, view_fits, view_of}
 use Rattle.ns_world.proofs.Mapped.{got-map}
 
 -- ---- the seats

@@ -1,6 +1,6 @@
 -- What is shown of a front of the seats, and of the rest.
-use Rattle.ns_world.proofs.Prelude.{Bool, List, Lists, Seat, Truths, [], ap, append-nil, arith, cond, drop, drop-cons, drop_all, false, flat_map-append, get_or, hand_of, has_queues, length, length-append, lists_by, map, refl, suc, sym, take, take-append-drop, take_more, true, wakes_by, wakes_owed}
-use Rattle.ns_world.proofs.Prelude.{ℕ, ◌++◌, ◌+◌, ◌<◌, ◌∙◌, ◌∷◌, ◌≡◌, ◌≤◌}
+use Rattle.std.proofs.Common.{Bool, List, [], ap, arith, cond, drop, drop-cons, false, get_or, length, map, refl, suc, sym, take, true, ℕ, ◌++◌, ◌+◌, ◌<◌, ◌∙◌, ◌∷◌, ◌≡◌, ◌≤◌}
+use Rattle.ns_world.proofs.Prelude.{Lists, Seat, Truths, append-nil, drop_all, flat_map-append, hand_of, has_queues, length-append, lists_by, take-append-drop, take_more, wakes_by, wakes_owed}
 
 module _ {C : Type 0} {N : ℕ} (seats : List (Seat C N)) (i : ℕ) (seat : Seat C N) (within : i < length seats) (is : seat ≡ get_or seats i seat) where
   pub wakes_more : wakes_owed (take (i + 1) seats) ≡ wakes_owed (take i seats) ++ map (λ wake. (seat.number, wake.seat)) seat.owed.items

@@ -1,6 +1,7 @@
 -- What the looks of a wait have shown, over plain data.
-use Rattle.ns_world.proofs.Prelude.{Act, Any, AtSomePoint, BeginsWith, Bool, Cause, ClockLoad, EnvCourse, EnvEvent, EnvRequest, EnvSoFar, EnvWalk, ForLook, Limits, List, Look, LookFits, LookMeans, None, NoteLoad, NoteStanding, OnVariables, Option, Request, Shows, Some, Subject, Walk, WasShown, ap}
-use Rattle.ns_world.proofs.Prelude.{asked_of, begins_course, begins_through, env_asked_of, env_course_at, limits_for, limits_of, looked_shows, looks_at, looks_by_asked, others_leave_course, refl, subst, sym, want_of, ℕ, ◌++◌, ◌∙◌, ◌≡◌}
+use Rattle.std.proofs.Common.{Bool, List, None, Option, Some, ap, refl, subst, sym, ℕ, ◌++◌, ◌∙◌, ◌≡◌}
+use Rattle.ns_world.proofs.Prelude.{Act, Any, AtSomePoint, BeginsWith, Cause, ClockLoad, EnvCourse, EnvEvent, EnvRequest, EnvSoFar, EnvWalk, ForLook, Limits, Look, LookFits, LookMeans, NoteLoad, NoteStanding, OnVariables, Request, Shows, Subject, Walk, WasShown, asked_of, begins_course}
+use Rattle.ns_world.proofs.Prelude.{begins_through, env_asked_of, env_course_at, limits_for, limits_of, looked_shows, looks_at, looks_by_asked, others_leave_course, want_of}
 use Rattle.ns_world.proofs.Looking.{FirstIf}
 use Rattle.ns_world.proofs.Places.{IsNoLook}
 use Rattle.ns_env.specs.declared.request.EnvRequest.TheVariants as TheEnvRequest

@@ -1,5 +1,6 @@
 -- A world fits in memory, over any condition.
-use Rattle.ns_world.proofs.Prelude.{FitsInMemory, Ghosts, HasRoom, RattleType, arith, copied, layout, param, queues_room, queues_row, room, small_by, value_of, world_row, ℕ, ◌*◌, ◌+◌, ◌-◌, ◌<◌, ◌^◌, ◌≡◌}
+use Rattle.std.proofs.Common.{arith, ℕ, ◌*◌, ◌+◌, ◌-◌, ◌<◌, ◌^◌, ◌≡◌}
+use Rattle.ns_world.proofs.Prelude.{FitsInMemory, Ghosts, HasRoom, RattleType, copied, layout, param, queues_room, queues_row, room, small_by, value_of, world_row}
 
 -- what stands beside the lists in a world takes little; of any sizes, so that none is worked out
 beside_small : (word row queues rest : ℕ) → word < 2 ^ 20 → row < 2 ^ 32 → queues < 2 ^ 56 → rest < 2 ^ 22 → 2 + 3 * (word + (row + (queues + rest))) < 2 ^ 63

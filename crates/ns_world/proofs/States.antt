@@ -1,7 +1,7 @@
 -- What a lawful world gives to those who show it.
-use Rattle.ns_world.proofs.Prelude.{Event, HasList, IfSome, Inside, IsLawful, IsLawfulWhole, List, LockState, None, Option, Owed, Read, Seat, SeatView, Some, Truths, Waiter, Walk, Whole, [], ap, arith, cases_eq, cond, counts_in, drop, few, has_armed, has_list, inl, inr, is_unwoken, kept, length}
-use Rattle.ns_world.proofs.Prelude.{length-append, length-map, lock_of, map, one_most, owed_to, placed_below, refl, slice_get, slice_get_within, stands_nowhere, suc, sym, take, times, times_among, times_in, times_in-cons, true, unqueued, view_of, wakes_owed, walk_at, whole_of, ℕ, ◌++◌, ◌+◌, ◌<◌}
-use Rattle.ns_world.proofs.Prelude.{◌∙◌, ◌∷◌, ◌≡◌, ◌≤◌}
+use Rattle.std.proofs.Common.{IfSome, List, None, Option, Some, [], ap, arith, cond, drop, inl, inr, length, map, refl, slice_get, suc, sym, take, true, ℕ, ◌++◌, ◌+◌, ◌<◌, ◌∙◌, ◌∷◌, ◌≡◌, ◌≤◌}
+use Rattle.ns_world.proofs.Prelude.{Event, HasList, Inside, IsLawful, IsLawfulWhole, LockState, Owed, Read, Seat, SeatView, Truths, Waiter, Walk, Whole, cases_eq, counts_in, few, has_armed, has_list, is_unwoken, kept, length-append, length-map, lock_of, one_most, owed_to, placed_below}
+use Rattle.ns_world.proofs.Prelude.{slice_get_within, stands_nowhere, times, times_among, times_in, times_in-cons, unqueued, view_of, wakes_owed, walk_at, whole_of}
 use Rattle.ns_world.proofs.SeatSet.{number_here, split_here}
 
 module _ {C : Type 0} {N : ℕ} (truths : Truths C) (w : Inside C N) (lawful : IsLawfulWhole (whole_of truths (kept w.word w.row w.queues w.flags w.env w.seats.items w.history.items w.objects))) where

@@ -1,9 +1,10 @@
 -- The kinds of step that a seat of a lawful world makes: what each is to the lock, to the clock and the notes, and to the counters and once cells.
-use Rattle.ns_world.proofs.Prelude.{Any, AnyWait, AreAmong, AreVariables, AsksFor, Await, Bool, Cause, Cvs, Effect, EnvEffect, EnvEvent, EnvFound, EnvNext, EnvPlain, EnvWalk, Event, Found, Go, HasTold, Idle, InRound, InWait, IsLawfulWhole, IsSome, List, LockSteps, LookOver, LookStep, Looked}
-use Rattle.ns_world.proofs.Prelude.{LooksWhere, MayShow, Mode, MovesFrom, None, NoteStanding, NotesSteps, ObjectEffect, ObjectEvent, ObjectFound, ObjectWalk, ObjectWords, ObjectsSteps, Option, Part, PlaceFits, Round, RoundPlace, Seat, SeatLooks, SeatMakes, SeatStands, SeatView, Sees, Setup, Some}
-use Rattle.ns_world.proofs.Prelude.{StandsAlone, StandsBy, Step, Steps, ToldIf, Wait, WaitsOnLock, Walk, Went, Whole, [], ap, append-nil, asked_of, asks_for_any, at_will, came_back, cause_of, env_got_of, env_step_of, env_walk_after, env_want_of, false, got_of, have_variable, held_after, in_call}
-use Rattle.ns_world.proofs.Prelude.{inl, inr, is_alone, is_for_lock, is_some, items_of, lock_of, look_of, looks_at, mode_of, mode_waited, not-true, notes_by, object_after, object_got, object_place, object_step_of, object_want, objects_by, outcome, part_in, refl, round_due, same_Some, shown_by}
-use Rattle.ns_world.proofs.Prelude.{slice_get, slice_set, step_at, step_of, subst, sym, told_to, true, view_of, wait_first, waited_seat, waits_among, waits_for_any, walk_after, want_of, ℕ, ◌++◌, ◌||◌, ◌∙◌, ◌≡◌, ◌⊎◌}
+use Rattle.std.proofs.Common.{Bool, IsSome, List, None, Option, Some, [], ap, false, inl, inr, is_some, refl, slice_get, slice_set, subst, sym, true, ℕ, ◌++◌, ◌||◌, ◌∙◌, ◌≡◌, ◌⊎◌}
+use Rattle.ns_world.proofs.Prelude.{Any, AnyWait, AreAmong, AreVariables, AsksFor, Await, Cause, Cvs, Effect, EnvEffect, EnvEvent, EnvFound, EnvNext, EnvPlain, EnvWalk, Event, Found, Go, HasTold, Idle, InRound, InWait, IsLawfulWhole, LockSteps, LookOver, LookStep, Looked, LooksWhere, MayShow, Mode}
+use Rattle.ns_world.proofs.Prelude.{MovesFrom, NoteStanding, NotesSteps, ObjectEffect, ObjectEvent, ObjectFound, ObjectWalk, ObjectWords, ObjectsSteps, Part, PlaceFits, Round, RoundPlace, Seat, SeatLooks, SeatMakes, SeatStands, SeatView, Sees, Setup, StandsAlone, StandsBy, Step, Steps, ToldIf}
+use Rattle.ns_world.proofs.Prelude.{Wait, WaitsOnLock, Walk, Went, Whole, append-nil, asked_of, asks_for_any, at_will, came_back, cause_of, env_got_of, env_step_of, env_walk_after, env_want_of, got_of, have_variable, held_after, in_call, is_alone, is_for_lock, items_of, lock_of, look_of, looks_at}
+use Rattle.ns_world.proofs.Prelude.{mode_of, mode_waited, not-true, notes_by, object_after, object_got, object_place, object_step_of, object_want, objects_by, outcome, part_in, round_due, same_Some, shown_by, step_at, step_of, told_to, view_of, wait_first, waited_seat, waits_among, waits_for_any}
+use Rattle.ns_world.proofs.Prelude.{walk_after, want_of}
 use Rattle.ns_world.proofs.Looking.{LookLeads, LooksOut, look_leads, look_stays, looks_out, shown_effect}
 use Rattle.ns_world.proofs.Mapped.{got-map}
 use Rattle.ns_world.proofs.SeatSet.{number_here, place_here, reads}

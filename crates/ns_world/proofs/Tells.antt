@@ -1,7 +1,7 @@
 -- What a lawful world gives to a step of one of its seats.
-use Rattle.ns_world.proofs.Prelude.{ActFits, AnyWait, CanTell, Commits, EnvActFits, EnvWalk, Every, Idle, IfSome, InRound, IsFew, IsLawfulWhole, IsLow, IsSome, List, MayWaitOnLock, None, NoteStanding, ObjectStanding, ObjectWalk, OnVariable, Option, OutOfMemory, Seat, SeatStands, SeatView, Setup}
-use Rattle.ns_world.proofs.Prelude.{Some, Step, StepFits, Walk, WalkFits, Whole, WholeFault, [], act_fits, ap, asks_in_range, drop, env_want_of, first_of_all, is_for_lock, is_there, items_of, length-map, list_all, lock_of, looks_at, ltb-true, map, may_step, notes_of, objects_after, objects_of}
-use Rattle.ns_world.proofs.Prelude.{part_in, refl, rest_of_all, slice_get, subst, suc, sym, take, true, unwrap_or, view_of, walk_in, want_of, ℕ, ◌∙◌, ◌∷◌, ◌≡◌, ◌≤◌}
+use Rattle.std.proofs.Common.{IfSome, IsSome, List, None, Option, Some, [], ap, drop, map, refl, slice_get, subst, suc, sym, take, true, unwrap_or, ℕ, ◌∙◌, ◌∷◌, ◌≡◌, ◌≤◌}
+use Rattle.ns_world.proofs.Prelude.{ActFits, AnyWait, CanTell, Commits, EnvActFits, EnvWalk, Every, Idle, InRound, IsFew, IsLawfulWhole, IsLow, MayWaitOnLock, NoteStanding, ObjectStanding, ObjectWalk, OnVariable, OutOfMemory, Seat, SeatStands, SeatView, Setup, Step, StepFits, Walk, WalkFits, Whole}
+use Rattle.ns_world.proofs.Prelude.{WholeFault, act_fits, asks_in_range, env_want_of, first_of_all, is_for_lock, is_there, items_of, length-map, list_all, lock_of, looks_at, ltb-true, may_step, notes_of, objects_after, objects_of, part_in, rest_of_all, view_of, walk_in, want_of}
 use Rattle.ns_world.proofs.Mapped.{got-map}
 use Rattle.ns_world.proofs.Places.{fits_more}
 use Rattle.ns_world.proofs.SeatSet.{number_here, split_here}

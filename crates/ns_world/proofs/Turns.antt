@@ -1,9 +1,8 @@
 -- A turn of a run, by what beginning a call and a step promise.
-use Rattle.ns_world.proofs.Prelude.{AnyWait, Ask, Bool, Call, Commits, EnvNext, Fault, Go, GoesOnOrBegins, IfErr, IfOk, InCells, InRound, List, Lists, LookOver, Mode, MovesFrom, Next, NoSuchSeat, None, ObjectNext, ObjectWalk, On, OnLock, OnObjects, Option, OutOfMemory, Progress, Seat, SeatLooks}
-use Rattle.ns_world.proofs.Prelude.{SeatMakes, Sees, Some, Start, Step, ToldIf, TurnOf, Turned, TurnsOf, TurnsWith, UnlockQuiet, Walk, Went, Whole, WholeFault, WholeIsBusy, WholeIsIdle, WholeMoves, WholeStarts, WholeStep, Word, [], ap, arith, cond, env_got_of, env_step_of, false, got_of, in_call}
-use Rattle.ns_world.proofs.Prelude.{inl, inr, is_for_lock, is_some, length, length-set, mode_of, nat_lt, object_got, object_step_of, option_map_or, or-true, placed, progress, progressed, refl, same_Some, set_here, slice_get, slice_get_within, start_of, step_of, subst, sym, told_to, true, want_of}
-use Rattle.ns_world.proofs.Prelude.{whole_busy, ℕ, ◌-◌, ◌||◌, ◌∙◌, ◌∷◌, ◌≡◌, ◌≢◌}
-use Rattle.std.proofs.Common.{Err, Ok, Result}
+use Rattle.std.proofs.Common.{Bool, Err, IfErr, IfOk, List, None, Ok, Option, Result, Some, [], ap, arith, cond, false, inl, inr, is_some, length, nat_lt, refl, slice_get, subst, sym, true, ℕ, ◌-◌, ◌||◌, ◌∙◌, ◌∷◌, ◌≡◌, ◌≢◌}
+use Rattle.ns_world.proofs.Prelude.{AnyWait, Ask, Call, Commits, EnvNext, Fault, Go, GoesOnOrBegins, InCells, InRound, Lists, LookOver, Mode, MovesFrom, Next, NoSuchSeat, ObjectNext, ObjectWalk, On, OnLock, OnObjects, OutOfMemory, Progress, Seat, SeatLooks, SeatMakes, Sees, Start, Step, ToldIf}
+use Rattle.ns_world.proofs.Prelude.{TurnOf, Turned, TurnsOf, TurnsWith, UnlockQuiet, Walk, Went, Whole, WholeFault, WholeIsBusy, WholeIsIdle, WholeMoves, WholeStarts, WholeStep, Word, env_got_of, env_step_of, got_of, in_call, is_for_lock, length-set, mode_of, object_got, object_step_of}
+use Rattle.ns_world.proofs.Prelude.{option_map_or, or-true, placed, progress, progressed, same_Some, set_here, slice_get_within, start_of, step_of, told_to, want_of, whole_busy}
 use Rattle.ns_world.specs.Prelude.{Nothing}
 use Rattle.ns_world.specs.Prelude.{Wait}
 use Rattle.ns_world.proofs.SeatSet.{as_many}

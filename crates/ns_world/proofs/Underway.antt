@@ -1,9 +1,9 @@
 -- From its beginning to its answer a call is under way, whatever others do, and its answer means what it says.
-use Rattle.ns_world.proofs.Prelude.{Add, AnswersCall, AreEnvBy, AreObjectsBy, AreThere, Ask, Asked, Call, CallFits, CounterWait, Done, EnvEvent, Event, Finished, Happens, HasLedTo, IsLawfulWhole, IsUnfinished, List, Meanwhile, Mode, None, ObjectEvent, ObjectSoFar, OfLock, OfNotes, OfObjects}
-use Rattle.ns_world.proofs.Prelude.{OnCondition, OnEntry, OnLock, OnObjects, Once, Option, Past, Reply, Seat, SeatMakes, Some, Start, Started, Step, ToRelease, UnlockQuiet, Value, WaitAny, Whole, WholeBegins, WholeMoves, WholeStarts, WholeStep, [], ap, append-nil, append_assoc, asked_of, asks_of}
-use Rattle.ns_world.proofs.Prelude.{begins_course, begins_itself, begins_unchanged, cases_eq, course_from, done_by, done_in, env_after, env_asked_of, env_course_at, env_own, env_own-append, env_own_none, false, happened, held_at, in_call, inl, inr, later_itself, mode_of, mode_waited, notes_by}
-use Rattle.ns_world.proofs.Prelude.{nothing_done, object_asked, objects_by, objects_own, option_map_or, own, own-append, own_none, own_row_append, own_row_none, past_and, placed, quiet_asks, refl, same_Some, set_here, set_there, slice_get, slice_get_within, slice_set, start_of, step_by, subst, suc}
-use Rattle.ns_world.proofs.Prelude.{sym, test_asks, view_of, zero, ℕ, ◌++◌, ◌∙◌, ◌≡◌, ◌≢◌, ◌⊎◌}
+use Rattle.std.proofs.Common.{List, None, Option, Some, [], ap, false, inl, inr, refl, slice_get, slice_set, subst, suc, sym, zero, ℕ, ◌++◌, ◌∙◌, ◌≡◌, ◌≢◌, ◌⊎◌}
+use Rattle.ns_world.proofs.Prelude.{Add, AnswersCall, AreEnvBy, AreObjectsBy, AreThere, Ask, Asked, Call, CallFits, CounterWait, Done, EnvEvent, Event, Finished, Happens, HasLedTo, IsLawfulWhole, IsUnfinished, Meanwhile, Mode, ObjectEvent, ObjectSoFar, OfLock, OfNotes, OfObjects, OnCondition}
+use Rattle.ns_world.proofs.Prelude.{OnEntry, OnLock, OnObjects, Once, Past, Reply, Seat, SeatMakes, Start, Started, Step, ToRelease, UnlockQuiet, Value, WaitAny, Whole, WholeBegins, WholeMoves, WholeStarts, WholeStep, append-nil, append_assoc, asked_of, asks_of, begins_course, begins_itself}
+use Rattle.ns_world.proofs.Prelude.{begins_unchanged, cases_eq, course_from, done_by, done_in, env_after, env_asked_of, env_course_at, env_own, env_own-append, env_own_none, happened, held_at, in_call, later_itself, mode_of, mode_waited, notes_by, nothing_done, object_asked, objects_by}
+use Rattle.ns_world.proofs.Prelude.{objects_own, option_map_or, own, own-append, own_none, own_row_append, own_row_none, past_and, placed, quiet_asks, same_Some, set_here, set_there, slice_get_within, start_of, step_by, test_asks, view_of}
 use Rattle.ns_world.proofs.HowFar.{AddsNothing, HasCome, Outcome, UnderwayIn, has_rests, no_own, no_own_notes, unfinished}
 use Rattle.ns_world.proofs.Laws.{moves_led, no_more, starts_led, steps_led}
 use Rattle.ns_world.proofs.OwnRounds.{objects_take_on}

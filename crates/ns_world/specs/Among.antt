@@ -1,6 +1,6 @@
 -- Waits for condition variables among notes and counters. As such a call begins, a round looks at the notes and counters; where that shows nothing, the call leaves its section and waits on the lock for the variables; and whenever that wait looks, another round does so.
-use Rattle.ns_world.specs.Names.{Any, AnyWait, AreAmong, AreVariables, Bool, Cause, Cvs, Every, Expired, Finished, FirstClock, Idle, InRound, IsLow, IsSome, Limits, Mode, None, Number, ObjectWalk, OnLock, OnVariables, Option, Reply, Request, Seat, Some, Step, Walk, Went, false, have_variable}
-use Rattle.ns_world.specs.Names.{if◌then◌else◌, is_some, items_of, place_in, true, unwrap_or, wait_first, want_of, ℕ, ◌≡◌, ◌≤◌}
+use Rattle.std.specs.Prelude.{Bool, IsSome, None, Option, Some, false, if◌then◌else◌, is_some, true, unwrap_or, ℕ, ◌≡◌, ◌≤◌}
+use Rattle.ns_world.specs.Names.{Any, AnyWait, AreAmong, AreVariables, Cause, Cvs, Every, Expired, Finished, FirstClock, Idle, InRound, IsLow, Limits, Mode, Number, ObjectWalk, OnLock, OnVariables, Reply, Request, Seat, Step, Walk, Went, have_variable, items_of, place_in, wait_first, want_of}
 use Rattle.ns_word.specs.declared.wait.Wait.{Wait}
 use Rattle.ns_world.specs.Begins.{placed}
 use Rattle.ns_world.specs.Calls.{mode_of, mode_waited}

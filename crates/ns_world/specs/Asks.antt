@@ -1,5 +1,6 @@
 -- The clock and the notes of a world, and one step on them.
-use Rattle.ns_world.specs.Names.{EnvEffect, EnvFound, EnvNext, EnvPlain, EnvState, EnvWalk, Environment, Finished, Go, Idle, List, LookOver, NoteStanding, NoteWord, Option, Seat, Step, Went, env_got_of, env_walk_after, env_want_of, get_or, no_note, outcome, standing_of, state_of, ℕ, ◌≡◌}
+use Rattle.std.specs.Prelude.{List, Option, get_or, ℕ, ◌≡◌}
+use Rattle.ns_world.specs.Names.{EnvEffect, EnvFound, EnvNext, EnvPlain, EnvState, EnvWalk, Environment, Finished, Go, Idle, LookOver, NoteStanding, NoteWord, Seat, Step, Went, env_got_of, env_walk_after, env_want_of, no_note, outcome, standing_of, state_of}
 use Rattle.ns_env.specs.declared.walk.EnvNext.TheVariants.{Repeat, Over}
 use Rattle.ns_world.specs.Replies.{env_told}
 

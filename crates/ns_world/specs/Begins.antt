@@ -1,5 +1,6 @@
 -- How a call begins.
-use Rattle.ns_world.specs.Names.{Ask, OnLock, OnObjects, Seat, Some, Start, ℕ}
+use Rattle.std.specs.Prelude.{Some, ℕ}
+use Rattle.ns_world.specs.Names.{Ask, OnLock, OnObjects, Seat, Start}
 
 -- a seat put at the first place of a call
 abbrev pub placed : {C : Type 0} {N : ℕ} → Seat C N → Start C → Seat C N

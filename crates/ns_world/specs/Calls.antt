@@ -1,8 +1,9 @@
 -- Where a call begins, and the section that it needs.
-use Rattle.ns_world.specs.Names.{AcquireLoad, Add, AddLoad, Advance, Advancing, AreThere, AsFresh, Ask, Bool, Broadcast, Broadcasting, Call, ClockLoad, CounterWait, CvWait, Done, DoneLoad, Expiry, ExpiryLoad, FirstClock, ForIsNotified, ForLock, ForNoteWait, Get, GetLoad, Held, IfMade, IfSome}
-use Rattle.ns_world.specs.Names.{InAcquire, InCells, InRelease, InRound, InSignal, InTry, IsNotified, IsSome, Lock, Mode, NewNote, NextLoad, None, NoteStanding, NoteWait, Notify, Notifying, ObjectWalk, OnCondition, OnLock, OnObjects, OnVariables, Once, OnceLoad, Only, Option, RLock, RUnlock, Read}
-use Rattle.ns_world.specs.Names.{Reader, ReleaseLoad, Set, SetLoad, Setup, Signal, SignalLoad, Signaling, Some, Start, ToRelease, TryLoad, TryLock, TryRLock, Unlock, UnlockQuiet, Value, ValueLoad, Wait, WaitAny, WaitMark, Write, Writer, have_variable, is_among, is_some, is_there, items_of, length}
-use Rattle.ns_world.specs.Names.{list_all, nat_lt, not, quiet_first, true, wait_first, ℕ, ◌&&◌, ◌<◌, ◌^◌, ◌||◌, ◌≡◌, ◌≤◌}
+use Rattle.std.specs.List.{list_all}
+use Rattle.std.specs.Prelude.{Bool, IfSome, IsSome, None, Option, Some, is_some, length, nat_lt, not, true, ℕ, ◌&&◌, ◌<◌, ◌^◌, ◌||◌, ◌≡◌, ◌≤◌}
+use Rattle.ns_world.specs.Names.{AcquireLoad, Add, AddLoad, Advance, Advancing, AreThere, AsFresh, Ask, Broadcast, Broadcasting, Call, ClockLoad, CounterWait, CvWait, Done, DoneLoad, Expiry, ExpiryLoad, FirstClock, ForIsNotified, ForLock, ForNoteWait, Get, GetLoad, Held, IfMade, InAcquire, InCells}
+use Rattle.ns_world.specs.Names.{InRelease, InRound, InSignal, InTry, IsNotified, Lock, Mode, NewNote, NextLoad, NoteStanding, NoteWait, Notify, Notifying, ObjectWalk, OnCondition, OnLock, OnObjects, OnVariables, Once, OnceLoad, Only, RLock, RUnlock, Read, Reader, ReleaseLoad, Set, SetLoad, Setup}
+use Rattle.ns_world.specs.Names.{Signal, SignalLoad, Signaling, Start, ToRelease, TryLoad, TryLock, TryRLock, Unlock, UnlockQuiet, Value, ValueLoad, Wait, WaitAny, WaitMark, Write, Writer, have_variable, is_among, is_there, items_of, quiet_first, wait_first}
 
 -- the mode of the section that a wait leaves
 abbrev pub mode_waited : Option Mode → Mode

@@ -1,5 +1,6 @@
 -- Which acts commit an event.
-use Rattle.ns_world.specs.Names.{Act, AtVariables, Change, LeaveSelf, Lists, Release, ReleaseReturning, ReturnQueues, WaitReturning, WakeWaiters, Word, false, stands_at, true, ℕ, ◌≡◌}
+use Rattle.std.specs.Prelude.{false, true, ℕ, ◌≡◌}
+use Rattle.ns_world.specs.Names.{Act, AtVariables, Change, LeaveSelf, Lists, Release, ReleaseReturning, ReturnQueues, WaitReturning, WakeWaiters, Word, stands_at}
 
 -- the change of the lists by this seat is an event: a signal, a broadcast, or that a wait for variables is left in some list of which the seat still stands
 abbrev pub IsEvent : {C : Type 0} → ℕ → Change → Lists C → Type 0

@@ -1,5 +1,6 @@
 -- One step of a seat on the clock and the notes, of a call of its own or of a look.
-use Rattle.ns_world.specs.Names.{Cause, EnvEffect, EnvFound, EnvNext, EnvPlain, EnvWalk, Go, LookOver, Looked, None, Option, Seat, Some, Step, Walk, Went, [], env_got_of, env_want_of, got_of, held_after, walk_after, want_of, ℕ, ◌≡◌}
+use Rattle.std.specs.Prelude.{None, Option, Some, [], ℕ, ◌≡◌}
+use Rattle.ns_world.specs.Names.{Cause, EnvEffect, EnvFound, EnvNext, EnvPlain, EnvWalk, Go, LookOver, Looked, Seat, Step, Walk, Went, env_got_of, env_want_of, got_of, held_after, walk_after, want_of}
 use Rattle.ns_world.specs.Asks.{Asked}
 use Rattle.ns_world.specs.Looks.{came_back, look_of}
 use Rattle.ns_world.specs.Performs.{step_of}

@@ -1,5 +1,6 @@
 -- The looks of a wait: where a seat stands on the clock and the notes while its wait looks.
-use Rattle.ns_world.specs.Names.{Act, Any, Bool, ClockLoad, EnvWalk, ForLook, InWait, IsSome, Limits, Look, LookBy, None, NoteLoad, OnVariables, Option, Request, Some, Subject, Walk, asked_of, false, if◌then◌else◌, true, want_of, ℕ, ◌≡◌}
+use Rattle.std.specs.Prelude.{Bool, IsSome, None, Option, Some, false, if◌then◌else◌, true, ℕ, ◌≡◌}
+use Rattle.ns_world.specs.Names.{Act, Any, ClockLoad, EnvWalk, ForLook, InWait, Limits, Look, LookBy, NoteLoad, OnVariables, Request, Subject, Walk, asked_of, want_of}
 use Rattle.ns_word.specs.declared.request.Request.TheVariants as TheRequest
 
 -- what a look goes by, where the act is one

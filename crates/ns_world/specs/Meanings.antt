@@ -1,8 +1,11 @@
 -- What the answer of a call in a world means, whatever others do while it is in progress.
+use Rattle.std.proofs.Common.{inl, inr}
+use Rattle.std.specs.Option.{option_map_or}
+use Rattle.std.specs.Prelude.{List, None, Option, Some, [], slice_get, suc, true, zero, ℕ, ◌++◌, ◌<◌, ◌≡◌, ◌⊎◌}
 use Rattle.ns_world.specs.Names.{Add, AddLoad, Advance, Any, AnyAnswers, AreAmong, Asked, AtSomePoint, Broadcast, Broadcasting, Call, Cause, CounterWait, Course, CvWait, Cvs, Done, DoneLoad, EnvCourse, EnvEvent, EnvMeans, EnvReply, EnvRequest, Expiry, Finished, FirstClock, Get, Held, InRound}
-use Rattle.ns_world.specs.Names.{IsLater, IsNotified, IsReady, Limits, List, Lock, Means, Mode, NewNote, None, NoteWait, Notify, Number, ObjectEvent, ObjectMeans, ObjectReply, ObjectWalk, OfLock, OfNotes, OfObjects, OnCondition, OnVariable, OnVariables, Once, OnceLoad, Only, Option, Past}
-use Rattle.ns_world.specs.Names.{QuietWriter, RLock, RUnlock, Read, Reader, Reply, Request, Round, RoundShows, Set, Setup, Shows, Signal, Signaling, Some, Started, Step, Subject, TryLock, TryRLock, Unlock, UnlockQuiet, Value, ValueLoad, Wait, WaitAny, WaitMark, WalkReply, WokenBy, Write, Writer}
-use Rattle.ns_world.specs.Names.{[], env_own, inl, inr, is_among, item_at, items_of, objects_own, option_map_or, own, past_and, row_after, slice_get, suc, true, zero, ℕ, ◌++◌, ◌<◌, ◌≡◌, ◌⊎◌}
+use Rattle.ns_world.specs.Names.{IsLater, IsNotified, IsReady, Limits, Lock, Means, Mode, NewNote, NoteWait, Notify, Number, ObjectEvent, ObjectMeans, ObjectReply, ObjectWalk, OfLock, OfNotes, OfObjects, OnCondition, OnVariable, OnVariables, Once, OnceLoad, Only, Past, QuietWriter, RLock, RUnlock}
+use Rattle.ns_world.specs.Names.{Read, Reader, Reply, Request, Round, RoundShows, Set, Setup, Shows, Signal, Signaling, Started, Step, Subject, TryLock, TryRLock, Unlock, UnlockQuiet, Value, ValueLoad, Wait, WaitAny, WaitMark, WalkReply, WokenBy, Write, Writer, env_own, is_among, item_at, items_of}
+use Rattle.ns_world.specs.Names.{objects_own, own, past_and, row_after}
 use Rattle.ns_world.specs.Calls.{mode_of, mode_waited}
 use Rattle.ns_world.specs.Among.{waits_for_any}
 use Rattle.ns_world.specs.Replies.{told, env_told, object_told}

@@ -1,6 +1,7 @@
 -- How a call begins in a world, and what one step of a seat is.
-use Rattle.ns_world.specs.Names.{Begun, Busy, Call, EnvEvent, EnvWalk, Every, Fault, List, Misuse, NoSuchSeat, None, Nothing, ObjectEvent, ObjectWalk, OutOfMemory, Seat, Some, Started, Step, Walk, [], env_want_of, env_who, false, inl, inr, length, object_who, outcome, slice_get, slice_set, want_of}
-use Rattle.ns_world.specs.Names.{ℕ, ◌≡◌, ◌≤◌, ◌⊎◌}
+use Rattle.std.proofs.Common.{inl, inr}
+use Rattle.std.specs.Prelude.{List, None, Some, [], false, length, slice_get, slice_set, ℕ, ◌≡◌, ◌≤◌, ◌⊎◌}
+use Rattle.ns_world.specs.Names.{Begun, Busy, Call, EnvEvent, EnvWalk, Every, Fault, Misuse, NoSuchSeat, Nothing, ObjectEvent, ObjectWalk, OutOfMemory, Seat, Started, Step, Walk, env_want_of, env_who, object_who, outcome, want_of}
 use Rattle.ns_world.specs.Among.{ToldIf, is_for_lock, told_to, waited_seat}
 use Rattle.ns_world.specs.Begins.{placed}
 use Rattle.ns_world.specs.Calls.{CallFits, mode_of, start_of}

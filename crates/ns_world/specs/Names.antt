@@ -37,8 +37,8 @@ pub use Rattle.ns_env.specs.declared.walk.EnvWalk.{EnvWalk}
 pub use Rattle.ns_env.specs.declared.walk.EnvWalk.TheVariants.{Advancing, ClockLoad, ExpiryLoad, NextLoad, NoteLoad, Notifying}
 pub use Rattle.ns_word.specs.Prelude.{ActFits, AreBy, AreNumbered, AreVariables, BeginsWith, CallGoes, CanLeave, CanWait, Course, Effect, Every, HasList, HasMode, InHand, IsFirst, IsForCondition, IsInRange, IsSettled, IsUnmet, Lists, LockState, MayEnd, MayShow, MayWait, Means, OwesOne, Part}
 pub use Rattle.ns_word.specs.Prelude.{PlaceFits, QuietKeeps, SoFar, Step as Steps, Truths, asked_of, bits_of, called_by, called_of, change_commits, changed, counts_in, course_after, course_from, cvs_without, exit_for, fresh_state, fresh_views, got_of, has_armed, has_queues, has_some, held_after}
-pub use Rattle.ns_word.specs.Prelude.{is_held, is_in, is_unwoken, judge_of, leave_of, left_of, looked_after, meets_at, moved_to, owed_to, own, quiet_first, releasing_of, row_after, section_of, stands_at, taken_by, taken_set, times, times_among, times_in, wait_first, waited_in, waiters_of}
-pub use Rattle.ns_word.specs.Prelude.{wakes_of, walk_after, walk_at, want_acquiring, want_in_cells, want_leaving, want_of, want_releasing, want_showing, want_signaling, want_trying, with_waiters, woken_of, word_released, word_released_returning, word_returned}
+pub use Rattle.ns_word.specs.Prelude.{is_held, is_in, is_unwoken, leave_of, left_of, looked_after, meets_at, moved_to, owed_to, own, quiet_first, releasing_of, row_after, section_of, stands_at, taken_by, taken_set, times, times_among, times_in, wait_first, waited_in, waiters_of}
+pub use Rattle.ns_word.specs.Prelude.{wakes_of, walk_after, walk_at, want_of, with_waiters, woken_of, word_released, word_released_returning, word_returned}
 pub use Rattle.ns_model.specs.Environments.{no_note}
 pub use Rattle.ns_model.specs.Room.{HasRoom, room, small_by}
 pub use Rattle.ns_model.specs.declared.cvs.Cvs.{Cvs}
@@ -91,7 +91,7 @@ pub use Rattle.ns_word.specs.declared.walk.Next.TheVariants.{On}
 pub use Rattle.ns_word.specs.declared.walk.Reply.{Reply as WalkReply}
 pub use Rattle.ns_word.specs.declared.walk.Reply.TheVariants.{WokenBy}
 pub use Rattle.ns_word.specs.declared.walk.Walk.{Walk}
-pub use Rattle.ns_word.specs.declared.walk.Walk.TheVariants.{InAcquire, InCells, InRelease, InShow, InSignal, InTry, InWait}
+pub use Rattle.ns_word.specs.declared.walk.Walk.TheVariants.{InAcquire, InCells, InRelease, InSignal, InTry, InWait}
 pub use Rattle.ns_word.specs.declared.word.Arrival.{Arrival}
 pub use Rattle.ns_word.specs.declared.word.Arrival.TheVariants.{AsFresh}
 pub use Rattle.ns_word.specs.declared.word.Bits.{Bits}
@@ -119,10 +119,5 @@ pub use Rattle.ns_world.specs.declared.step.Begun.TheVariants.{Busy, Misuse, Sta
 pub use Rattle.ns_world.specs.declared.step.Step.{Step}
 pub use Rattle.ns_world.specs.declared.step.Step.TheVariants.{Finished, Idle, Nothing, Went}
 pub use Rattle.ns_world.specs.declared.wanted.Look.{Look as LookBy}
-pub use Rattle.std.proofs.Common.{arith, inl, inr}
-pub use Rattle.std.specs.List.{flat_map, list_all}
-pub use Rattle.std.specs.Mem.{FitsInMemory}
-pub use Rattle.std.specs.Option.{option_map_or}
-pub use Rattle.std.specs.Prelude.{All, Bool, IfSome, IsSome, List, None, Option, Some, [], false, get_or, if◌then◌else◌, is_some, length, map, nat_lt, not, replicate, slice_get, slice_index, slice_set, suc, true, unwrap_or, zero, ℕ, ◌&&◌, ◌++◌, ◌+◌, ◌<◌, ◌==◌, ◌^◌, ◌||◌, ◌∷◌, ◌≡◌, ◌≤◌, ◌⊎◌}
 pub use denote.Param.{copied, layout, param}
 pub use denote.RattleType.{RattleType}

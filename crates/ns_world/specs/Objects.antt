@@ -1,5 +1,6 @@
 -- The counters and once cells of a world, and one step of a seat in a call on them.
-use Rattle.ns_world.specs.Names.{EnvPlain, Finished, Idle, List, ObjectEffect, ObjectEvent, ObjectFound, ObjectNext, ObjectWalk, ObjectWords, Over, Repeat, Seat, Some, Step, Went, first_words, object_after, object_got, object_place, object_want, padded, setup_of, ℕ, ◌≡◌}
+use Rattle.std.specs.Prelude.{List, Some, ℕ, ◌≡◌}
+use Rattle.ns_world.specs.Names.{EnvPlain, Finished, Idle, ObjectEffect, ObjectEvent, ObjectFound, ObjectNext, ObjectWalk, ObjectWords, Over, Repeat, Seat, Step, Went, first_words, object_after, object_got, object_place, object_want, padded, setup_of}
 use Rattle.ns_world.specs.Replies.{object_told}
 use Rattle.ns_counters.specs.declared.walk.ObjectNext.TheVariants.{Go}
 

@@ -1,5 +1,6 @@
 -- One step on the parts of a world.
-use Rattle.ns_world.specs.Names.{Act, Effect, Event, Finished, Found, Held, Idle, List, Lists, Next, On, Option, Owed, Part, Scanned, Seat, SeatView, Step, Truths, Walk, Went, Word, get_or, got_of, walk_after, want_of, ℕ, ◌++◌, ◌≡◌}
+use Rattle.std.specs.Prelude.{List, Option, get_or, ℕ, ◌++◌, ◌≡◌}
+use Rattle.ns_world.specs.Names.{Act, Effect, Event, Finished, Found, Held, Idle, Lists, Next, On, Owed, Part, Scanned, Seat, SeatView, Step, Truths, Walk, Went, Word, got_of, walk_after, want_of}
 use Rattle.ns_word.specs.declared.walk.Next.TheVariants.{Done}
 use Rattle.ns_world.specs.Looks.{look_of}
 use Rattle.ns_world.specs.Replies.{told}

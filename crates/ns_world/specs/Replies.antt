@@ -1,5 +1,6 @@
 -- What a call of a world answers, by what its walk does.
-use Rattle.ns_world.specs.Names.{Already, Answered, EnvReply, Is, Noisy, None, NotesFull, Number, ObjectReply, Ran, Refused, Reply, Some, Succeeded, WalkReply}
+use Rattle.std.specs.Prelude.{None, Some}
+use Rattle.ns_world.specs.Names.{Already, Answered, EnvReply, Is, Noisy, NotesFull, Number, ObjectReply, Ran, Refused, Reply, Succeeded, WalkReply}
 use Rattle.ns_world.specs.declared.reply.Reply.TheVariants.{Busy, Expiry}
 use Rattle.ns_env.specs.declared.reply.EnvReply.TheVariants as TheEnv
 use Rattle.ns_counters.specs.declared.reply.ObjectReply.TheVariants as TheObject

@@ -1,5 +1,10 @@
 -- A world's seat fits in memory, over any condition.
-use Rattle.ns_world.specs.Names.{FitsInMemory, HasRoom, RattleType, arith, copied, layout, param, room, small_by, ◌<◌, ◌^◌}
+use Rattle.std.proofs.Common.{arith}
+use Rattle.std.specs.Mem.{FitsInMemory}
+use Rattle.std.specs.Prelude.{◌<◌, ◌^◌}
+use denote.Param.{copied, layout, param}
+use denote.RattleType.{RattleType}
+use Rattle.ns_world.specs.Names.{HasRoom, room, small_by}
 use Rattle.ns_world.specs.contracts.seat.Seat.{the_row as seat_row}
 
 -- a seat of a world fits in memory

@@ -1,6 +1,8 @@
 -- A run of a schedule, turn by turn.
-use Rattle.ns_world.specs.Names.{All, Bool, Call, Fault, Finished, Idle, Line, List, Misuse, NoSuchSeat, None, Nothing, Option, OutOfMemory, Reply, Seat, Some, Started, Step, StepLimit, Turn, Went, [], false, flat_map, if◌then◌else◌, length, not, option_map_or, replicate, slice_get, slice_index}
-use Rattle.ns_world.specs.Names.{slice_set, true, unwrap_or, ℕ, ◌++◌, ◌+◌, ◌<◌, ◌==◌, ◌∷◌, ◌≡◌, ◌≤◌, ◌⊎◌}
+use Rattle.std.specs.List.{flat_map}
+use Rattle.std.specs.Option.{option_map_or}
+use Rattle.std.specs.Prelude.{All, Bool, List, None, Option, Some, [], false, if◌then◌else◌, length, not, replicate, slice_get, slice_index, slice_set, true, unwrap_or, ℕ, ◌++◌, ◌+◌, ◌<◌, ◌==◌, ◌∷◌, ◌≡◌, ◌≤◌, ◌⊎◌}
+use Rattle.ns_world.specs.Names.{Call, Fault, Finished, Idle, Line, Misuse, NoSuchSeat, Nothing, OutOfMemory, Reply, Seat, Started, Step, StepLimit, Turn, Went}
 use Rattle.ns_world.specs.Calls.{CallInRange}
 use Rattle.ns_world.specs.Moves.{WholeBegins, WholeCommits, WholeMoves}
 use Rattle.ns_world.specs.Whole.{Whole, WholeIsIdle, WholeIsBusy, whole_busy}

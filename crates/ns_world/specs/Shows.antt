@@ -1,5 +1,7 @@
 -- What a world shows of its queues and its owed wakes.
-use Rattle.ns_world.specs.Names.{List, Lists, None, Option, Seat, Some, Truths, Walk, [], flat_map, has_queues, if◌then◌else◌, in_hand, map, ℕ, ◌∷◌}
+use Rattle.std.specs.List.{flat_map}
+use Rattle.std.specs.Prelude.{List, None, Option, Some, [], if◌then◌else◌, map, ℕ, ◌∷◌}
+use Rattle.ns_world.specs.Names.{Lists, Seat, Truths, Walk, has_queues, in_hand}
 use Rattle.ns_world.specs.Whole.{Whole}
 
 -- the lists as a seat at this place has them in hand

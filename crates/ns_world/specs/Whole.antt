@@ -1,7 +1,8 @@
 -- A world as a contract sees it, and what holds of it between any two steps.
-use Rattle.ns_world.specs.Names.{Act, AnyWait, AreAmong, AreNumbered, AreThere, Bool, Cvs, EnvEvent, EnvPlain, EnvState, Event, FirstClock, Held, IfMade, InRound, IsLawfulEnv, IsLawfulObjects, IsSome, List, Lists, LockState, Mode, None, NoteStanding, ObjectEvent, ObjectState, ObjectWalk}
-use Rattle.ns_world.specs.Names.{ObjectWords, Option, Part, Past, Round, Seat, Setup, Some, Truths, Walk, Word, [], asked_of, false, fresh_plain, fresh_state, have_variable, is_some, items_of, length, map, not, object_asked, option_map_or, slice_get, suc, true, want_of, zero, ℕ, ◌+◌, ◌||◌, ◌∷◌}
-use Rattle.ns_world.specs.Names.{◌≡◌, ◌≤◌}
+use Rattle.std.specs.Option.{option_map_or}
+use Rattle.std.specs.Prelude.{Bool, IsSome, List, None, Option, Some, [], false, is_some, length, map, not, slice_get, suc, true, zero, ℕ, ◌+◌, ◌||◌, ◌∷◌, ◌≡◌, ◌≤◌}
+use Rattle.ns_world.specs.Names.{Act, AnyWait, AreAmong, AreNumbered, AreThere, Cvs, EnvEvent, EnvPlain, EnvState, Event, FirstClock, Held, IfMade, InRound, IsLawfulEnv, IsLawfulObjects, Lists, LockState, Mode, NoteStanding, ObjectEvent, ObjectState, ObjectWalk, ObjectWords, Part, Past, Round}
+use Rattle.ns_world.specs.Names.{Seat, Setup, Truths, Walk, Word, asked_of, fresh_plain, fresh_state, have_variable, items_of, object_asked, want_of}
 use Rattle.ns_world.specs.Among.{asks_for_any, waits_for_any}
 use Rattle.ns_world.specs.Asks.{env_state, plain_of}
 use Rattle.ns_world.specs.Looks.{AsksFor, looks_at, note_in}

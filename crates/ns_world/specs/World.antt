@@ -1,5 +1,6 @@
 -- What a world keeps, and why none is made.
-use Rattle.ns_world.specs.Names.{Environment, Event, Fault, List, Lists, ObjectWords, OutOfMemory, Seat, TooManySeats, Word, ℕ, ◌<◌, ◌≤◌}
+use Rattle.std.specs.Prelude.{List, ℕ, ◌<◌, ◌≤◌}
+use Rattle.ns_world.specs.Names.{Environment, Event, Fault, Lists, ObjectWords, OutOfMemory, Seat, TooManySeats, Word}
 
 -- what a world keeps, with the flags and the notes in lists
 pub record Kept (C : Type 0) (N : ℕ) : Type 0 where

@@ -1,4 +1,5 @@
-use Rattle.ns_counters.proofs.Prelude.{drop, is_variable, list_any, ◌≡◌}
+use Rattle.std.proofs.Common.{drop, ◌≡◌}
+use Rattle.ns_counters.proofs.Prelude.{is_variable, list_any}
 use Rattle.ns_counters.proofs.items.has_variable.Given as goal
 
 abbrev pub invariant-loop-item : goal.invariant-loop-item

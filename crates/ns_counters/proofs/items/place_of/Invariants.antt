@@ -1,4 +1,5 @@
-use Rattle.ns_counters.proofs.Prelude.{drop, map, place_in, ◌+◌, ◌≡◌}
+use Rattle.std.proofs.Common.{drop, map, ◌+◌, ◌≡◌}
+use Rattle.ns_counters.proofs.Prelude.{place_in}
 use Rattle.ns_counters.proofs.items.place_of.Given as goal
 
 abbrev pub invariant-loop-i : goal.invariant-loop-i

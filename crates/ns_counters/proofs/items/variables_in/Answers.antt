@@ -1,4 +1,5 @@
-use Rattle.ns_counters.proofs.Prelude.{IsLow, OnVariable, ap, arith, subst, sym, ◌∙◌}
+use Rattle.std.proofs.Common.{ap, arith, subst, sym, ◌∙◌}
+use Rattle.ns_counters.proofs.Prelude.{IsLow, OnVariable}
 use Rattle.ns_counters.proofs.Listed.{low_at}
 use Rattle.ns_counters.proofs.items.variables_in.Goals as goal
 

@@ -1,4 +1,5 @@
-use Rattle.ns_counters.proofs.Prelude.{drop, is_among, is_in, map, ℕ, ◌<◌, ◌||◌, ◌≡◌}
+use Rattle.std.proofs.Common.{drop, map, ℕ, ◌<◌, ◌||◌, ◌≡◌}
+use Rattle.ns_counters.proofs.Prelude.{is_among, is_in}
 use Rattle.ns_counters.proofs.items.variables_in.Given as goal
 
 abbrev pub invariant-loop-item : goal.invariant-loop-item

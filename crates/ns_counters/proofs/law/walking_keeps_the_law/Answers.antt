@@ -1,4 +1,5 @@
-use Rattle.ns_counters.proofs.Prelude.{IsLawfulObjects, ObjectState, subst, sym, ◌++◌}
+use Rattle.std.proofs.Common.{subst, sym, ◌++◌}
+use Rattle.ns_counters.proofs.Prelude.{IsLawfulObjects, ObjectState}
 use Rattle.ns_counters.proofs.WalkLaw.{operates_keeps}
 use Rattle.ns_counters.proofs.law.walking_keeps_the_law.Goals as goal
 

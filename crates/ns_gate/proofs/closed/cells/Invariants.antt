@@ -1,4 +1,5 @@
-use Rattle.ns_gate.proofs.Prelude.{get_elem?, length, slice_index, slots_items, some, ℕ, ◌+◌, ◌<◌, ◌≡◌}
+use Rattle.std.proofs.Common.{length, slice_index, ℕ, ◌+◌, ◌<◌, ◌≡◌}
+use Rattle.ns_gate.proofs.Prelude.{get_elem?, slots_items, some}
 use Rattle.ns_gate.proofs.closed.cells.Given as goal
 
 abbrev pub invariant-loop-i : goal.invariant-loop-i

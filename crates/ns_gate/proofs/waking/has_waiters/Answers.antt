@@ -1,4 +1,5 @@
-use Rattle.ns_gate.proofs.Prelude.{Cv, ap, eqb, not, waiters_of, ◌∙◌}
+use Rattle.std.proofs.Common.{ap, eqb, not, ◌∙◌}
+use Rattle.ns_gate.proofs.Prelude.{Cv, waiters_of}
 use Rattle.ns_gate.proofs.Wakes.{has_bits}
 use Rattle.ns_gate.proofs.Room.{queues_fit}
 use Rattle.ns_gate.proofs.waking.has_waiters.Goals as goal

@@ -1,4 +1,5 @@
-use Rattle.ns_gate.proofs.Prelude.{drop, without_each, ◌≡◌}
+use Rattle.std.proofs.Common.{drop, ◌≡◌}
+use Rattle.ns_gate.proofs.Prelude.{without_each}
 use Rattle.ns_gate.proofs.waking.take_back.Given as goal
 
 -- without those behind, the lists are without all of them

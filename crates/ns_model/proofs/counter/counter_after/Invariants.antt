@@ -1,4 +1,5 @@
-use Rattle.ns_model.proofs.Prelude.{counter_next, first_counter, fold, take, ◌≡◌}
+use Rattle.std.proofs.Common.{fold, take, ◌≡◌}
+use Rattle.ns_model.proofs.Prelude.{counter_next, first_counter}
 use Rattle.ns_model.proofs.counter.counter_after.Given as goal
 
 abbrev pub invariant-loop-event : goal.invariant-loop-event

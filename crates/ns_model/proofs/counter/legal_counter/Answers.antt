@@ -1,4 +1,5 @@
-use Rattle.ns_model.proofs.Prelude.{IsLegalCounter, IsLegalCounterEvent, counter_next, first_counter, sym, ◌∙◌}
+use Rattle.std.proofs.Common.{sym, ◌∙◌}
+use Rattle.ns_model.proofs.Prelude.{IsLegalCounter, IsLegalCounterEvent, counter_next, first_counter}
 use Rattle.ns_model.proofs.Courses.{legal_at, legal_step}
 use Rattle.ns_model.proofs.counter.legal_counter.Goals as goal
 

@@ -1,4 +1,5 @@
-use Rattle.ns_model.proofs.Prelude.{IsLegalCounter, counter_after, take, ◌≡◌}
+use Rattle.std.proofs.Common.{take, ◌≡◌}
+use Rattle.ns_model.proofs.Prelude.{IsLegalCounter, counter_after}
 use Rattle.ns_model.proofs.counter.legal_counter.Given as goal
 
 abbrev pub invariant-loop-event : goal.invariant-loop-event

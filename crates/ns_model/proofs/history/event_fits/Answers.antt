@@ -1,4 +1,5 @@
-use Rattle.ns_model.proofs.Prelude.{arith, false≢true, le-ltb, number, sym, ◌∙◌}
+use Rattle.std.proofs.Common.{arith, le-ltb, sym, ◌∙◌}
+use Rattle.ns_model.proofs.Prelude.{false≢true, number}
 use Rattle.ns_model.proofs.Sizes.{events_fit}
 use Rattle.ns_model.proofs.history.event_fits.Goals as goal
 use Rattle.ns_model.proofs.history.event_fits.Goals.{then-who-lt64, else-who-lt64, then-is_row_after, else-is_row_after}

@@ -1,4 +1,5 @@
-use Rattle.ns_model.proofs.Prelude.{IsLegal, falls, first_standing, length, number, sym, ◌∙◌}
+use Rattle.std.proofs.Common.{falls, length, sym, ◌∙◌}
+use Rattle.ns_model.proofs.Prelude.{IsLegal, first_standing, number}
 use Rattle.ns_model.proofs.Histories.{legal_at, legal_more}
 use Rattle.ns_model.proofs.Sizes.{events_fit}
 use Rattle.ns_model.proofs.history.legal.Goals as goal

@@ -1,4 +1,5 @@
-use Rattle.ns_model.proofs.Prelude.{Idle, fold, phase_next, take, ◌≡◌}
+use Rattle.std.proofs.Common.{fold, take, ◌≡◌}
+use Rattle.ns_model.proofs.Prelude.{Idle, phase_next}
 use Rattle.ns_model.proofs.history.phase_of.Given as goal
 
 abbrev pub invariant-loop-event : goal.invariant-loop-event

@@ -1,4 +1,5 @@
-use Rattle.ns_model.proofs.Prelude.{fold, replicate, row_next, take, ◌≡◌}
+use Rattle.std.proofs.Common.{fold, replicate, take, ◌≡◌}
+use Rattle.ns_model.proofs.Prelude.{row_next}
 use Rattle.ns_model.proofs.history.row_after.Given as goal
 
 abbrev pub invariant-loop-event : goal.invariant-loop-event

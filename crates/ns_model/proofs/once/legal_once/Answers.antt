@@ -1,4 +1,5 @@
-use Rattle.ns_model.proofs.Prelude.{IsLegalOnce, IsLegalOnceEvent, Unused, once_next, sym, ◌∙◌}
+use Rattle.std.proofs.Common.{sym, ◌∙◌}
+use Rattle.ns_model.proofs.Prelude.{IsLegalOnce, IsLegalOnceEvent, Unused, once_next}
 use Rattle.ns_model.proofs.Courses.{legal_at}
 use Rattle.ns_model.proofs.once.legal_once.Goals as goal
 

@@ -1,4 +1,5 @@
-use Rattle.ns_model.proofs.Prelude.{IsLegalOnce, once_after, take, ◌≡◌}
+use Rattle.std.proofs.Common.{take, ◌≡◌}
+use Rattle.ns_model.proofs.Prelude.{IsLegalOnce, once_after}
 use Rattle.ns_model.proofs.once.legal_once.Given as goal
 
 abbrev pub invariant-loop-event : goal.invariant-loop-event

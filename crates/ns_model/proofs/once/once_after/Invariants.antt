@@ -1,4 +1,5 @@
-use Rattle.ns_model.proofs.Prelude.{Unused, fold, once_next, take, ◌≡◌}
+use Rattle.std.proofs.Common.{fold, take, ◌≡◌}
+use Rattle.ns_model.proofs.Prelude.{Unused, once_next}
 use Rattle.ns_model.proofs.once.once_after.Given as goal
 
 abbrev pub invariant-loop-event : goal.invariant-loop-event

@@ -1,4 +1,5 @@
-use Rattle.ns_model.proofs.Prelude.{arith, booleans_Decides, eq-eqb, eqb-true, false≢true, refl, sym, ◌∙◌}
+use Rattle.std.proofs.Common.{arith, eq-eqb, eqb-true, refl, sym, ◌∙◌}
+use Rattle.ns_model.proofs.Prelude.{booleans_Decides, false≢true}
 use Rattle.ns_model.proofs.Entries.{after_cv_at_end, met_told, mode_same, mode_told, plain_at_rest, waited_at_wait}
 use Rattle.ns_model.proofs.sections.entry_fits.Goals as goal
 use Rattle.ns_model.proofs.sections.entry_fits.Goals.{then-eq, else-eq, then-eq-2, else-eq-2, then-eq-3, else-eq-3}

@@ -1,4 +1,4 @@
-use Rattle.ns_model.proofs.Prelude.{arith, eq-eqb, eqb-true, ne_eqb, sym, ◌∙◌}
+use Rattle.std.proofs.Common.{arith, eq-eqb, eqb-true, ne_eqb, sym, ◌∙◌}
 use Rattle.ns_model.proofs.wakes.broadcast_fits.Goals as goal
 
 pub count-requires : goal.count-requires

@@ -1,4 +1,5 @@
-use Rattle.ns_model.proofs.Prelude.{count_seats, is_counted, standing_after, ◌≡◌}
+use Rattle.std.proofs.Common.{◌≡◌}
+use Rattle.ns_model.proofs.Prelude.{count_seats, is_counted, standing_after}
 use Rattle.ns_model.proofs.wakes.count.Given as goal
 
 -- the count of the seats so far

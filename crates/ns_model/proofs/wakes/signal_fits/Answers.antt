@@ -1,4 +1,4 @@
-use Rattle.ns_model.proofs.Prelude.{arith, ne_eqb, ◌∙◌}
+use Rattle.std.proofs.Common.{arith, ne_eqb, ◌∙◌}
 use Rattle.ns_model.proofs.wakes.signal_fits.Goals as goal
 
 pub count-writers-requires : goal.count-writers-requires

@@ -1,4 +1,5 @@
-use Rattle.ns_outcomes.proofs.Prelude.{going, take, ◌≡◌, ◌≤◌}
+use Rattle.std.proofs.Common.{take, ◌≡◌, ◌≤◌}
+use Rattle.ns_outcomes.proofs.Prelude.{going}
 use Rattle.ns_outcomes.proofs.choosing.nth_going.Given as goal
 
 abbrev pub invariant-loop-thread : goal.invariant-loop-thread

@@ -1,4 +1,5 @@
-use Rattle.ns_outcomes.proofs.Prelude.{AreRuns, ap, arith, err_from_is_err_and, length, plan_of, seed_at, string_bytes, subst, ℕ, ◌+◌, ◌<◌, ◌^◌, ◌≡◌}
+use Rattle.std.proofs.Common.{ap, arith, length, string_bytes, subst, ℕ, ◌+◌, ◌<◌, ◌^◌, ◌≡◌}
+use Rattle.ns_outcomes.proofs.Prelude.{AreRuns, err_from_is_err_and, plan_of, seed_at}
 use Rattle.ns_outcomes.proofs.Tallies.{has_room, long_run, no_runs, one_more}
 use Rattle.ns_outcomes.proofs.counting.count_outcomes.Goals as goal
 

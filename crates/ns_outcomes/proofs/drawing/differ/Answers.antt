@@ -1,4 +1,4 @@
-use Rattle.ns_outcomes.proofs.Prelude.{sym, ◌∙◌}
+use Rattle.std.proofs.Common.{sym, ◌∙◌}
 use Rattle.ns_outcomes.proofs.Words.{other_word, same_word}
 use Rattle.ns_outcomes.proofs.drawing.differ.Goals as goal
 

@@ -1,4 +1,5 @@
-use Rattle.ns_outcomes.proofs.Prelude.{Drew, IsCounted, length, map, script_truths, stage_of, whole_of, ◌-◌, ◌≤◌}
+use Rattle.std.proofs.Common.{length, map, ◌-◌, ◌≤◌}
+use Rattle.ns_outcomes.proofs.Prelude.{Drew, IsCounted, script_truths, stage_of, whole_of}
 use Rattle.ns_outcomes.proofs.drawing.draw_turns.Given as goal
 
 -- the turns so far

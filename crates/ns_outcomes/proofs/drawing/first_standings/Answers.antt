@@ -1,4 +1,5 @@
-use Rattle.ns_outcomes.proofs.Prelude.{map, progress, script_truths, whole_of, ◌∙◌}
+use Rattle.std.proofs.Common.{map, ◌∙◌}
+use Rattle.ns_outcomes.proofs.Prelude.{progress, script_truths, whole_of}
 use Rattle.ns_outcomes.proofs.Begun.{first_is, one_standing}
 use Rattle.ns_outcomes.proofs.drawing.first_standings.Goals as goal
 

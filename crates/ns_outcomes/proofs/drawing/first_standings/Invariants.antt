@@ -1,4 +1,5 @@
-use Rattle.ns_outcomes.proofs.Prelude.{first_standing, map, progress, range_with_len, script_truths, whole_of, ◌≡◌}
+use Rattle.std.proofs.Common.{map, ◌≡◌}
+use Rattle.ns_outcomes.proofs.Prelude.{first_standing, progress, range_with_len, script_truths, whole_of}
 use Rattle.ns_outcomes.proofs.drawing.first_standings.Given as goal
 
 abbrev pub invariant-loop-thread : goal.invariant-loop-thread

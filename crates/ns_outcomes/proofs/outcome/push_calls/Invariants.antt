@@ -1,4 +1,5 @@
-use Rattle.ns_outcomes.proofs.Prelude.{call_of_text, flat_map, string_bytes, take, ◌++◌, ◌≡◌}
+use Rattle.std.proofs.Common.{flat_map, string_bytes, take, ◌++◌, ◌≡◌}
+use Rattle.ns_outcomes.proofs.Prelude.{call_of_text}
 use Rattle.ns_outcomes.proofs.outcome.push_calls.Given as goal
 
 abbrev pub invariant-loop-line : goal.invariant-loop-line

@@ -1,4 +1,5 @@
-use Rattle.ns_outcomes.proofs.Prelude.{flat_map, is_in, range_with_len, string_bytes, thread_text, ◌++◌, ◌≡◌}
+use Rattle.std.proofs.Common.{flat_map, string_bytes, ◌++◌, ◌≡◌}
+use Rattle.ns_outcomes.proofs.Prelude.{is_in, range_with_len, thread_text}
 use Rattle.ns_outcomes.proofs.outcome.push_threads.Given as goal
 
 abbrev pub invariant-loop-thread : goal.invariant-loop-thread

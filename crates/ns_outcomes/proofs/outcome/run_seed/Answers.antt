@@ -1,4 +1,5 @@
-use Rattle.ns_outcomes.proofs.Prelude.{length, refl, rules, script_truths, stage_of, string_bytes, whole_of, ◌≡◌}
+use Rattle.std.proofs.Common.{length, refl, rules, string_bytes, ◌≡◌}
+use Rattle.ns_outcomes.proofs.Prelude.{script_truths, stage_of, whole_of}
 use Rattle.ns_outcomes.proofs.Begun.{seed_run}
 use Rattle.ns_outcomes.proofs.outcome.run_seed.Goals as goal
 

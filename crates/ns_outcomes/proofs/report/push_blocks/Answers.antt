@@ -1,4 +1,5 @@
-use Rattle.ns_outcomes.proofs.Prelude.{block_text, blocks_text, string_bytes, take, ◌+◌}
+use Rattle.std.proofs.Common.{string_bytes, take, ◌+◌}
+use Rattle.ns_outcomes.proofs.Prelude.{block_text, blocks_text}
 use Rattle.ns_outcomes.proofs.Tallies.{blocks_step, grows}
 use Rattle.ns_outcomes.proofs.report.push_blocks.Goals as goal
 

@@ -1,4 +1,5 @@
-use Rattle.ns_outcomes.proofs.Prelude.{blocks_text, string_bytes, take, ◌++◌, ◌≡◌}
+use Rattle.std.proofs.Common.{string_bytes, take, ◌++◌, ◌≡◌}
+use Rattle.ns_outcomes.proofs.Prelude.{blocks_text}
 use Rattle.ns_outcomes.proofs.report.push_blocks.Given as goal
 
 abbrev pub invariant-loop-before : goal.invariant-loop-before

@@ -1,4 +1,5 @@
-use Rattle.ns_outcomes.proofs.Prelude.{bytes_decides, false, inr, length, plan_of, refl, rules, same_text, script_truths, string_bytes, sym, true, whole_of, ◌∙◌, ◌≡◌}
+use Rattle.std.proofs.Common.{false, inr, length, refl, rules, string_bytes, sym, true, ◌∙◌, ◌≡◌}
+use Rattle.ns_outcomes.proofs.Prelude.{bytes_decides, plan_of, same_text, script_truths, whole_of}
 use Rattle.ns_outcomes.proofs.Runs.{comes, ends_otherwise}
 use Rattle.ns_outcomes.proofs.scheduling.comes_to.Goals as goal
 

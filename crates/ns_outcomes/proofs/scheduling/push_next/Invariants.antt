@@ -1,4 +1,5 @@
-use Rattle.ns_outcomes.proofs.Prelude.{flat_map, next_text, string_bytes, take, ◌++◌, ◌≡◌}
+use Rattle.std.proofs.Common.{flat_map, string_bytes, take, ◌++◌, ◌≡◌}
+use Rattle.ns_outcomes.proofs.Prelude.{next_text}
 use Rattle.ns_outcomes.proofs.scheduling.push_next.Given as goal
 
 abbrev pub invariant-loop-word : goal.invariant-loop-word

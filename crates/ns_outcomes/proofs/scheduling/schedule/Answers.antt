@@ -1,4 +1,5 @@
-use Rattle.ns_outcomes.proofs.Prelude.{IsScheduled, IsUnscheduled, err_from_is_err_and, string_bytes, subst, sym, unread, ◌∙◌}
+use Rattle.std.proofs.Common.{string_bytes, subst, sym, ◌∙◌}
+use Rattle.ns_outcomes.proofs.Prelude.{IsScheduled, IsUnscheduled, err_from_is_err_and, unread}
 use Rattle.ns_outcomes.proofs.Written.{only_write, read_all, unread_by, unscheduled, written}
 use Rattle.ns_outcomes.proofs.scheduling.schedule.Goals as goal
 

@@ -1,4 +1,5 @@
-use Rattle.ns_outcomes.proofs.Prelude.{ap, arith, err_from_is_err_and, inr, length, plan_of, string_bytes, subst, ◌++◌, ◌<◌, ◌∙◌, ◌≤◌}
+use Rattle.std.proofs.Common.{ap, arith, inr, length, string_bytes, subst, ◌++◌, ◌<◌, ◌∙◌, ◌≤◌}
+use Rattle.ns_outcomes.proofs.Prelude.{err_from_is_err_and, plan_of}
 use Rattle.ns_outcomes.proofs.Texts.{has_run, has_text}
 use Rattle.ns_outcomes.proofs.Written.{no_run, unscheduled}
 use Rattle.ns_outcomes.proofs.scheduling.script_for.Goals as goal

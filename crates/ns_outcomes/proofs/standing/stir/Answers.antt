@@ -1,4 +1,5 @@
-use Rattle.ns_outcomes.proofs.Prelude.{arith, get_or_default, length, map_over_more, stirred, ◌<◌}
+use Rattle.std.proofs.Common.{arith, length, ◌<◌}
+use Rattle.ns_outcomes.proofs.Prelude.{get_or_default, map_over_more, stirred}
 use Rattle.ns_outcomes.proofs.standing.stir.Goals as goal
 
 pub loop-standing-preserved : goal.loop-standing-preserved

@@ -1,4 +1,5 @@
-use Rattle.ns_outcomes.proofs.Prelude.{drop, map, stirred, take, ◌++◌, ◌≡◌}
+use Rattle.std.proofs.Common.{drop, map, take, ◌++◌, ◌≡◌}
+use Rattle.ns_outcomes.proofs.Prelude.{stirred}
 use Rattle.ns_outcomes.proofs.standing.stir.Given as goal
 
 abbrev pub invariant-loop-standing : goal.invariant-loop-standing

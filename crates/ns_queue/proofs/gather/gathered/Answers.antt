@@ -1,4 +1,5 @@
-use Rattle.ns_queue.proofs.Prelude.{[], ap, number, ring_fits, sym, ◌++◌, ◌∙◌, ◌∷◌}
+use Rattle.std.proofs.Common.{[], ap, sym, ◌++◌, ◌∙◌, ◌∷◌}
+use Rattle.ns_queue.proofs.Prelude.{number, ring_fits}
 use Rattle.ns_queue.proofs.Places.{ahead_few, from_none, own, seated_stands, smaller, stepped}
 use Rattle.ns_queue.proofs.Orders.{list_small}
 use Rattle.ns_queue.proofs.gather.gathered.Goals as goal

@@ -1,4 +1,5 @@
-use Rattle.ns_queue.proofs.Prelude.{[], ahead, ap, length-map, map, map-append, number, ring_fits, rules, shown_of, sym, ◌++◌, ◌∙◌, ◌∷◌}
+use Rattle.std.proofs.Common.{[], ap, map, rules, sym, ◌++◌, ◌∙◌, ◌∷◌}
+use Rattle.ns_queue.proofs.Prelude.{ahead, length-map, map-append, number, ring_fits, shown_of}
 use Rattle.ns_queue.proofs.Places.{ahead_few, from_none, own, seated_stands, smaller, stepped}
 use Rattle.ns_queue.proofs.gather.shown_ring.Goals as goal
 

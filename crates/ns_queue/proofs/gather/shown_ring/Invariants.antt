@@ -1,4 +1,5 @@
-use Rattle.ns_queue.proofs.Prelude.{ahead, from, length, map, shown_of, ◌≡◌}
+use Rattle.std.proofs.Common.{length, map, ◌≡◌}
+use Rattle.ns_queue.proofs.Prelude.{ahead, from, shown_of}
 use Rattle.ns_queue.proofs.gather.shown_ring.Given as goal
 
 -- those so far

@@ -1,4 +1,5 @@
-use Rattle.ns_queue.proofs.Prelude.{map, seated, take, via_in, ◌≡◌}
+use Rattle.std.proofs.Common.{map, take, ◌≡◌}
+use Rattle.ns_queue.proofs.Prelude.{seated, via_in}
 use Rattle.ns_queue.proofs.gather.vias_of.Given as goal
 
 abbrev pub invariant-loop-seat : goal.invariant-loop-seat

@@ -1,4 +1,4 @@
-use Rattle.ns_queue.proofs.Prelude.{arith, falls, length, sym, ℕ, ◌<◌, ◌≤◌}
+use Rattle.std.proofs.Common.{arith, falls, length, sym, ℕ, ◌<◌, ◌≤◌}
 use Rattle.ns_queue.proofs.Orders.{list_small, at_most, still_in}
 use Rattle.ns_queue.proofs.Marking.{pushed_on, skipped_on, marked_yes, marked_no}
 use Rattle.ns_queue.proofs.marks.marked.Goals.{then-marks-i, else-marks-i}

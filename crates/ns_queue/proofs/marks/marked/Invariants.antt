@@ -1,4 +1,5 @@
-use Rattle.ns_queue.proofs.Prelude.{drop, length, marked, ◌++◌, ◌≡◌, ◌≤◌}
+use Rattle.std.proofs.Common.{drop, length, ◌++◌, ◌≡◌, ◌≤◌}
+use Rattle.ns_queue.proofs.Prelude.{marked}
 use Rattle.ns_queue.proofs.marks.marked.Given as goal
 
 -- those so far, and the rest

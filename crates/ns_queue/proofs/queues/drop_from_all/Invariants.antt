@@ -1,4 +1,5 @@
-use Rattle.ns_queue.proofs.Prelude.{drop, map, outside, take, ◌++◌, ◌≡◌}
+use Rattle.std.proofs.Common.{drop, map, take, ◌++◌, ◌≡◌}
+use Rattle.ns_queue.proofs.Prelude.{outside}
 use Rattle.ns_queue.proofs.queues.drop_from_all.Given as goal
 
 -- the lists so far are without the set

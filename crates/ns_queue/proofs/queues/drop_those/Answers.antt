@@ -1,4 +1,5 @@
-use Rattle.ns_queue.proofs.Prelude.{ap, times_in, ◌∙◌}
+use Rattle.std.proofs.Common.{ap, ◌∙◌}
+use Rattle.ns_queue.proofs.Prelude.{times_in}
 use Rattle.ns_queue.proofs.Orders.{list_small}
 use Rattle.ns_queue.proofs.queues.drop_those.Goals as goal
 

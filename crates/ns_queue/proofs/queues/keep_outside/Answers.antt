@@ -1,4 +1,5 @@
-use Rattle.ns_queue.proofs.Prelude.{FiltersInPlace-all, FiltersInPlace-more_here, FiltersInPlace-more_no, FiltersInPlace-more_set, arith, get_or, get_or_default, length, refl, rules, scaled_Fits, sym, ℕ, ◌<◌, ◌∙◌, ◌≡◌, ◌≤◌}
+use Rattle.std.proofs.Common.{arith, get_or, length, refl, rules, sym, ℕ, ◌<◌, ◌∙◌, ◌≡◌, ◌≤◌}
+use Rattle.ns_queue.proofs.Prelude.{FiltersInPlace-all, FiltersInPlace-more_here, FiltersInPlace-more_no, FiltersInPlace-more_set, get_or_default, scaled_Fits}
 use Rattle.ns_queue.proofs.Outside.{place_low}
 use Rattle.ns_queue.proofs.queues.keep_outside.Goals.{then-not-contains, else-not-contains, then-kept-i, else-kept-i}
 use Rattle.ns_queue.proofs.queues.keep_outside.Goals as goal

@@ -1,4 +1,5 @@
-use Rattle.ns_queue.proofs.Prelude.{[], ap, arith, length, length-map, length-take, map, map-append, shown_of, sym, take, take-length, take_more, ◌++◌, ◌∙◌, ◌∷◌, ◌≡◌}
+use Rattle.std.proofs.Common.{[], ap, arith, length, length-take, map, sym, take, ◌++◌, ◌∙◌, ◌∷◌, ◌≡◌}
+use Rattle.ns_queue.proofs.Prelude.{length-map, map-append, shown_of, take-length, take_more}
 use Rattle.ns_queue.proofs.queues.shown_slice.Goals as goal
 
 pub push-requires : goal.push-requires

@@ -1,4 +1,5 @@
-use Rattle.ns_queue.proofs.Prelude.{map, shown_of, take, ◌≡◌}
+use Rattle.std.proofs.Common.{map, take, ◌≡◌}
+use Rattle.ns_queue.proofs.Prelude.{shown_of}
 use Rattle.ns_queue.proofs.queues.shown_slice.Given as goal
 
 abbrev pub invariant-loop-waiter : goal.invariant-loop-waiter

@@ -1,4 +1,5 @@
-use Rattle.ns_queue.proofs.Prelude.{take, times_in, ◌≡◌}
+use Rattle.std.proofs.Common.{take, ◌≡◌}
+use Rattle.ns_queue.proofs.Prelude.{times_in}
 use Rattle.ns_queue.proofs.queues.stands_in.Given as goal
 
 -- so far the seat doesn't stand there

@@ -1,4 +1,5 @@
-use Rattle.ns_queue.proofs.Prelude.{map, sum_by, take, times_in, ◌≡◌}
+use Rattle.std.proofs.Common.{map, take, ◌≡◌}
+use Rattle.ns_queue.proofs.Prelude.{sum_by, times_in}
 use Rattle.ns_queue.proofs.queues.stands_in_any.Given as goal
 
 -- so far the seat stands in none

@@ -1,4 +1,5 @@
-use Rattle.ns_queue.proofs.Prelude.{ap, arith, get_or, number, ring_fits, sym, ◌∙◌}
+use Rattle.std.proofs.Common.{ap, arith, get_or, sym, ◌∙◌}
+use Rattle.ns_queue.proofs.Prelude.{number, ring_fits}
 use Rattle.ns_queue.proofs.Making.{dropped, inner, next_place, prev_place}
 use Rattle.ns_queue.proofs.Ringed.{stands_low}
 use Rattle.ns_queue.proofs.remake.mend.Goals as goal

@@ -1,4 +1,5 @@
-use Rattle.ns_queue.proofs.Prelude.{arith, number, ring_fits, slice_index, sym, times_in, ◌-◌}
+use Rattle.std.proofs.Common.{arith, slice_index, sym, ◌-◌}
+use Rattle.ns_queue.proofs.Prelude.{number, ring_fits, times_in}
 use Rattle.ns_queue.proofs.Inside.{told_no, told_yes}
 use Rattle.ns_queue.proofs.Leaving.{all_on}
 use Rattle.ns_queue.proofs.Seats.{none_without}

@@ -1,4 +1,5 @@
-use Rattle.ns_queue.proofs.Prelude.{drop, length, without_all, ◌≡◌, ◌≤◌}
+use Rattle.std.proofs.Common.{drop, length, ◌≡◌, ◌≤◌}
+use Rattle.ns_queue.proofs.Prelude.{without_all}
 use Rattle.ns_queue.proofs.ring.take_out.Given as goal
 
 -- those from here on are out

@@ -1,4 +1,5 @@
-use Rattle.ns_queue.proofs.Prelude.{Sought, [], ap, inl, inr, number, option_copied, reads, ring_fits, row_fits, sym, ◌++◌, ◌∙◌, ◌∷◌}
+use Rattle.std.proofs.Common.{[], ap, inl, inr, sym, ◌++◌, ◌∙◌, ◌∷◌}
+use Rattle.ns_queue.proofs.Prelude.{Sought, number, option_copied, reads, ring_fits, row_fits}
 use Rattle.ns_queue.proofs.Asking.{Enters}
 use Rattle.ns_queue.proofs.Places.{seated_stands, smaller}
 use Rattle.ns_queue.proofs.Reading.{look_fits, none_taken, reads_end, reads_few, reads_on, reads_start, writer_taken}

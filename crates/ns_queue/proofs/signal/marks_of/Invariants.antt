@@ -1,4 +1,5 @@
-use Rattle.ns_queue.proofs.Prelude.{Anybody, drop, length, signal_marks, ◌++◌, ◌≡◌}
+use Rattle.std.proofs.Common.{drop, length, ◌++◌, ◌≡◌}
+use Rattle.ns_queue.proofs.Prelude.{Anybody, signal_marks}
 use Rattle.ns_queue.proofs.signal.marks_of.Given as goal
 
 -- the marks so far, and the rest

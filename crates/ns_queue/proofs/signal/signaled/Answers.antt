@@ -1,4 +1,4 @@
-use Rattle.ns_queue.proofs.Prelude.{◌∙◌}
+use Rattle.std.proofs.Common.{◌∙◌}
 use Rattle.ns_queue.proofs.Orders.{list_small}
 use Rattle.ns_queue.proofs.Meaning.{signaled_fit, signaled_takes}
 use Rattle.ns_queue.proofs.signal.signaled.Goals as goal

@@ -1,4 +1,5 @@
-use Rattle.ns_queue.proofs.Prelude.{ap, nat_lt, take_all, times_in, ◌∙◌}
+use Rattle.std.proofs.Common.{ap, nat_lt, take_all, ◌∙◌}
+use Rattle.ns_queue.proofs.Prelude.{times_in}
 use Rattle.ns_queue.proofs.Taken.{low_at, set_more, set_whole}
 use Rattle.ns_queue.proofs.signal.taken_set.Goals as goal
 

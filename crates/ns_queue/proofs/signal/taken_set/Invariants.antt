@@ -1,4 +1,5 @@
-use Rattle.ns_queue.proofs.Prelude.{is_in, nat_lt, take, times_in, ℕ, ◌≡◌}
+use Rattle.std.proofs.Common.{nat_lt, take, ℕ, ◌≡◌}
+use Rattle.ns_queue.proofs.Prelude.{is_in, times_in}
 use Rattle.ns_queue.proofs.signal.taken_set.Given as goal
 
 -- the seats so far

@@ -1,4 +1,5 @@
-use Rattle.ns_replay.proofs.Prelude.{drop, items_behind, items_in, map, ◌≡◌}
+use Rattle.std.proofs.Common.{drop, map, ◌≡◌}
+use Rattle.ns_replay.proofs.Prelude.{items_behind, items_in}
 use Rattle.ns_replay.proofs.objects.items.Given as goal
 
 -- the objects so far, and behind them those of the words that are left

@@ -1,4 +1,5 @@
-use Rattle.ns_replay.proofs.Prelude.{err_from_is_err_and, length, rules, script_truths, whole_of, ◌≡◌}
+use Rattle.std.proofs.Common.{length, rules, ◌≡◌}
+use Rattle.ns_replay.proofs.Prelude.{err_from_is_err_and, script_truths, whole_of}
 use Rattle.ns_replay.proofs.Runs.{idle_world, lists_fit, world_is, script_runs, script_fails}
 use Rattle.ns_replay.proofs.running.run_script.Goals as goal
 

@@ -1,4 +1,5 @@
-use Rattle.ns_replay.proofs.Prelude.{counter_at, drop, each_from, map, view, ◌≡◌}
+use Rattle.std.proofs.Common.{drop, map, ◌≡◌}
+use Rattle.ns_replay.proofs.Prelude.{counter_at, each_from, view}
 use Rattle.ns_replay.proofs.Loop.{with_front}
 use Rattle.ns_replay.proofs.script.each_counter.Given as goal
 

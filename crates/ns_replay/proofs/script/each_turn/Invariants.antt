@@ -1,4 +1,5 @@
-use Rattle.ns_replay.proofs.Prelude.{drop, each_from, map, turn_at, ◌≡◌}
+use Rattle.std.proofs.Common.{drop, map, ◌≡◌}
+use Rattle.ns_replay.proofs.Prelude.{each_from, turn_at}
 use Rattle.ns_replay.proofs.Loop.{with_front}
 use Rattle.ns_replay.proofs.script.each_turn.Given as goal
 

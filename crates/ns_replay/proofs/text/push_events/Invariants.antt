@@ -1,4 +1,5 @@
-use Rattle.ns_replay.proofs.Prelude.{event_text, flat_map, string_bytes, take, ◌++◌, ◌≡◌}
+use Rattle.std.proofs.Common.{flat_map, string_bytes, take, ◌++◌, ◌≡◌}
+use Rattle.ns_replay.proofs.Prelude.{event_text}
 use Rattle.ns_replay.proofs.text.push_events.Given as goal
 
 abbrev pub invariant-loop-event : goal.invariant-loop-event

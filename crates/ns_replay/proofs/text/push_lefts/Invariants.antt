@@ -1,4 +1,5 @@
-use Rattle.ns_replay.proofs.Prelude.{flat_map, is_in, left_text, range_with_len, string_bytes, ◌++◌, ◌≡◌}
+use Rattle.std.proofs.Common.{flat_map, string_bytes, ◌++◌, ◌≡◌}
+use Rattle.ns_replay.proofs.Prelude.{is_in, left_text, range_with_len}
 use Rattle.ns_replay.proofs.text.push_lefts.Given as goal
 
 abbrev pub invariant-loop-thread : goal.invariant-loop-thread

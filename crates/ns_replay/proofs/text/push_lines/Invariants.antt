@@ -1,4 +1,5 @@
-use Rattle.ns_replay.proofs.Prelude.{flat_map, line_text, map, string_bytes, take, ◌++◌, ◌≡◌}
+use Rattle.std.proofs.Common.{flat_map, map, string_bytes, take, ◌++◌, ◌≡◌}
+use Rattle.ns_replay.proofs.Prelude.{line_text}
 use Rattle.ns_replay.proofs.text.push_lines.Given as goal
 
 abbrev pub invariant-loop-line : goal.invariant-loop-line

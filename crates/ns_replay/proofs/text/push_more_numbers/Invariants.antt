@@ -1,4 +1,5 @@
-use Rattle.ns_replay.proofs.Prelude.{after_comma, flat_map, string_bytes, take, ◌++◌, ◌≡◌}
+use Rattle.std.proofs.Common.{flat_map, string_bytes, take, ◌++◌, ◌≡◌}
+use Rattle.ns_replay.proofs.Prelude.{after_comma}
 use Rattle.ns_replay.proofs.text.push_more_numbers.Given as goal
 
 abbrev pub invariant-loop-number : goal.invariant-loop-number

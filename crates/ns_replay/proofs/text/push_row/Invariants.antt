@@ -1,4 +1,5 @@
-use Rattle.ns_replay.proofs.Prelude.{cell_text, codes, flat_map, string_bytes, take, ◌++◌, ◌≡◌}
+use Rattle.std.proofs.Common.{codes, flat_map, string_bytes, take, ◌++◌, ◌≡◌}
+use Rattle.ns_replay.proofs.Prelude.{cell_text}
 use Rattle.ns_replay.proofs.text.push_row.Given as goal
 
 abbrev pub invariant-loop-cell : goal.invariant-loop-cell

@@ -1,4 +1,5 @@
-use Rattle.ns_replay.proofs.Prelude.{numbers_text, seats_below, string_bytes, ◌++◌, ◌≡◌}
+use Rattle.std.proofs.Common.{string_bytes, ◌++◌, ◌≡◌}
+use Rattle.ns_replay.proofs.Prelude.{numbers_text, seats_below}
 use Rattle.ns_replay.proofs.Texts.{is_any}
 use Rattle.ns_replay.proofs.text.push_seats.Given as goal
 

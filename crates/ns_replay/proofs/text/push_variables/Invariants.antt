@@ -1,4 +1,5 @@
-use Rattle.ns_replay.proofs.Prelude.{drop, map, string_bytes, variables_text, ◌++◌, ◌≡◌}
+use Rattle.std.proofs.Common.{drop, map, string_bytes, ◌++◌, ◌≡◌}
+use Rattle.ns_replay.proofs.Prelude.{variables_text}
 use Rattle.ns_replay.proofs.text.push_variables.Given as goal
 
 abbrev pub invariant-loop-k : goal.invariant-loop-k

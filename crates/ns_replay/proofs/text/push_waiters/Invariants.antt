@@ -1,4 +1,5 @@
-use Rattle.ns_replay.proofs.Prelude.{flat_map, string_bytes, take, waiter_text, ◌++◌, ◌≡◌}
+use Rattle.std.proofs.Common.{flat_map, string_bytes, take, ◌++◌, ◌≡◌}
+use Rattle.ns_replay.proofs.Prelude.{waiter_text}
 use Rattle.ns_replay.proofs.text.push_waiters.Given as goal
 
 abbrev pub invariant-loop-waiter : goal.invariant-loop-waiter

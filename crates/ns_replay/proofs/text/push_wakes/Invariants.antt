@@ -1,4 +1,5 @@
-use Rattle.ns_replay.proofs.Prelude.{flat_map, string_bytes, take, wake_text, ◌++◌, ◌≡◌}
+use Rattle.std.proofs.Common.{flat_map, string_bytes, take, ◌++◌, ◌≡◌}
+use Rattle.ns_replay.proofs.Prelude.{wake_text}
 use Rattle.ns_replay.proofs.text.push_wakes.Given as goal
 
 abbrev pub invariant-loop-wake : goal.invariant-loop-wake

@@ -1,4 +1,5 @@
-use Rattle.ns_replay.proofs.Prelude.{Consumes-trans, IsEnough, List, arith, err_from_is_err_and, length, length-append, length-take-le, max_bytes, max_piece, take, ℕ, ◌++◌, ◌+◌, ◌≡◌, ◌≤◌}
+use Rattle.std.proofs.Common.{List, arith, length, length-append, length-take-le, take, ℕ, ◌++◌, ◌+◌, ◌≡◌, ◌≤◌}
+use Rattle.ns_replay.proofs.Prelude.{Consumes-trans, IsEnough, err_from_is_err_and, max_bytes, max_piece}
 use Rattle.ns_replay.proofs.transfer.collect_bytes.Goals as goal
 
 -- few bytes, and one read more

@@ -1,4 +1,5 @@
-use Rattle.ns_replay.proofs.Prelude.{Consumes, Counts, false, length, ◌≡◌, ◌≤◌}
+use Rattle.std.proofs.Common.{false, length, ◌≡◌, ◌≤◌}
+use Rattle.ns_replay.proofs.Prelude.{Consumes, Counts}
 use Rattle.ns_replay.proofs.transfer.collect_bytes.Given as goal
 
 abbrev pub invariant-loop : goal.invariant-loop

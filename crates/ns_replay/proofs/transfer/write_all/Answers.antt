@@ -1,4 +1,5 @@
-use Rattle.ns_replay.proofs.Prelude.{Appends-trans, Counts, List, Some, ap, append_assoc, arith, drop, length, stuck_by, suc, sym, take, take-append-drop, take_rest, zero, ℕ, ◌++◌, ◌-◌, ◌<◌, ◌∙◌, ◌≡◌}
+use Rattle.std.proofs.Common.{List, Some, ap, append_assoc, arith, drop, length, suc, sym, take, take-append-drop, zero, ℕ, ◌++◌, ◌-◌, ◌<◌, ◌∙◌, ◌≡◌}
+use Rattle.ns_replay.proofs.Prelude.{Appends-trans, Counts, stuck_by, take_rest}
 use Rattle.ns_replay.proofs.transfer.write_all.Goals as goal
 
 -- a write that took some byte is counted as none

@@ -1,4 +1,5 @@
-use Rattle.ns_replay.proofs.Prelude.{Appends, Counts, List, false, length, ℕ, ◌++◌, ◌≡◌}
+use Rattle.std.proofs.Common.{List, false, length, ℕ, ◌++◌, ◌≡◌}
+use Rattle.ns_replay.proofs.Prelude.{Appends, Counts}
 use Rattle.ns_replay.proofs.transfer.write_all.Given as goal
 
 abbrev pub invariant-loop-rest : goal.invariant-loop-rest

@@ -1,4 +1,4 @@
-use Rattle.ns_replay.proofs.Prelude.{arith, get_or, inl, inr, length, ◌∙◌, ◌≡◌, ◌≢◌, ◌⊎◌}
+use Rattle.std.proofs.Common.{arith, get_or, inl, inr, length, ◌∙◌, ◌≡◌, ◌≢◌, ◌⊎◌}
 use Rattle.ns_replay.proofs.Numbers.{number_from_parse}
 use Rattle.ns_replay.proofs.words.number.Goals.{then-bytes-eq48, else-bytes-eq48}
 use Rattle.ns_replay.proofs.words.number.Goals as goal

@@ -1,4 +1,5 @@
-use Rattle.ns_word.proofs.Prelude.{arith, word_of, ◌/◌, ◌≤◌}
+use Rattle.std.proofs.Common.{arith, ◌/◌, ◌≤◌}
+use Rattle.ns_word.proofs.Prelude.{word_of}
 use Rattle.ns_word.proofs.codec.unpacked.Goals as goal
 
 pub taken_apart-requires : goal.taken_apart-requires

@@ -1,4 +1,5 @@
-use Rattle.ns_word.proofs.Prelude.{take, wakes_of, ◌≡◌}
+use Rattle.std.proofs.Common.{take, ◌≡◌}
+use Rattle.ns_word.proofs.Prelude.{wakes_of}
 use Rattle.ns_word.proofs.owed.wakes.Given as goal
 
 -- the wakes so far

@@ -1,4 +1,5 @@
-use Rattle.ns_world.proofs.Prelude.{OnLock, ap, are_some, false≢true, items_of, low_if_among, mode_of, mode_waited, placed, some_among, sym, wait_first, waits_for_any, ◌∙◌}
+use Rattle.std.proofs.Common.{ap, sym, ◌∙◌}
+use Rattle.ns_world.proofs.Prelude.{OnLock, are_some, false≢true, items_of, low_if_among, mode_of, mode_waited, placed, some_among, wait_first, waits_for_any}
 use Rattle.ns_world.proofs.among.begin_wait.Goals as goal
 
 pub returns : goal.returns

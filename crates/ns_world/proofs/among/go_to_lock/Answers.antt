@@ -1,4 +1,5 @@
-use Rattle.ns_world.proofs.Prelude.{CanTell, InRound, None, ObjectWalk, Round, RoundPlace, Seat, refl, ℕ, ◌≡◌}
+use Rattle.std.proofs.Common.{None, refl, ℕ, ◌≡◌}
+use Rattle.ns_world.proofs.Prelude.{CanTell, InRound, ObjectWalk, Round, RoundPlace, Seat}
 use Rattle.ns_world.proofs.among.go_to_lock.Goals as goal
 
 -- what goes to the lock is a round

@@ -1,4 +1,5 @@
-use Rattle.ns_world.proofs.Prelude.{AnyWait, CanTell, HasTold, IsSome, None, ObjectWalk, Option, Seat, Step, ToldIf, ap, is_for_lock, refl, subst, sym, true, ℕ, ◌∙◌, ◌≡◌}
+use Rattle.std.proofs.Common.{IsSome, None, Option, ap, refl, subst, sym, true, ℕ, ◌∙◌, ◌≡◌}
+use Rattle.ns_world.proofs.Prelude.{AnyWait, CanTell, HasTold, ObjectWalk, Seat, Step, ToldIf, is_for_lock}
 use Rattle.ns_world.proofs.among.step_objects.Goals as goal
 
 -- what is for the lock has been told to it

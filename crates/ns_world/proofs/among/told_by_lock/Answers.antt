@@ -1,4 +1,5 @@
-use Rattle.ns_world.proofs.Prelude.{AnyWait, Finished, Reply, Step, Went, ap, refl, step_told, sym, waited_seat, ◌∙◌, ◌≡◌}
+use Rattle.std.proofs.Common.{ap, refl, sym, ◌∙◌, ◌≡◌}
+use Rattle.ns_world.proofs.Prelude.{AnyWait, Finished, Reply, Step, Went, step_told, waited_seat}
 use Rattle.ns_world.proofs.among.told_by_lock.Goals.{in-None, in-Some-walk}
 use Rattle.ns_world.proofs.among.told_by_lock.Goals as goal
 

@@ -1,5 +1,6 @@
 use Rattle.ns_world.proofs.asks.ask.Goals as goal
-use Rattle.ns_world.proofs.Prelude.{ap, env_step_of, ◌∙◌}
+use Rattle.std.proofs.Common.{ap, ◌∙◌}
+use Rattle.ns_world.proofs.Prelude.{env_step_of}
 
 pub returns : goal.returns
 returns g c = record {

@@ -1,4 +1,5 @@
-use Rattle.ns_world.proofs.Prelude.{is_there, items_of, list_all, note_at, take, true, ◌≡◌}
+use Rattle.std.proofs.Common.{take, true, ◌≡◌}
+use Rattle.ns_world.proofs.Prelude.{is_there, items_of, list_all, note_at}
 use Rattle.ns_world.proofs.call.are_there.Given as goal
 
 -- there is each of those so far

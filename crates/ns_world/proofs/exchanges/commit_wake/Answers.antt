@@ -1,4 +1,4 @@
-use Rattle.ns_world.proofs.Prelude.{[], ap, ◌++◌, ◌∙◌, ◌∷◌}
+use Rattle.std.proofs.Common.{[], ap, ◌++◌, ◌∙◌, ◌∷◌}
 use Rattle.ns_model.specs.declared.event.Event.TheVariants.{Signal, Broadcast}
 use Rattle.ns_world.proofs.exchanges.commit_wake.Goals.{in-Signaling, in-Broadcasting}
 use Rattle.ns_world.proofs.exchanges.commit_wake.Goals as goal

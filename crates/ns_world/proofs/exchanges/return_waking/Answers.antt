@@ -1,4 +1,5 @@
-use Rattle.ns_world.proofs.Prelude.{ap, err_from_is_err_and, has_some, list_small, not, refl, ◌∙◌}
+use Rattle.std.proofs.Common.{ap, not, refl, ◌∙◌}
+use Rattle.ns_world.proofs.Prelude.{err_from_is_err_and, has_some, list_small}
 use Rattle.ns_world.proofs.Exchanged.{some_left, woken_back}
 use Rattle.ns_world.proofs.exchanges.return_waking.Goals as goal
 

@@ -1,4 +1,5 @@
-use Rattle.ns_world.proofs.Prelude.{ap, are_called, arith, as_many, called_by, err_from_is_err_and, not, refl, rules, some_called, ◌∙◌}
+use Rattle.std.proofs.Common.{ap, arith, not, refl, rules, ◌∙◌}
+use Rattle.ns_world.proofs.Prelude.{are_called, as_many, called_by, err_from_is_err_and, some_called}
 use Rattle.ns_world.proofs.Exchanged.{some_left, wait_some, waited}
 use Rattle.ns_world.proofs.exchanges.wait_returning.Goals as goal
 

@@ -1,4 +1,5 @@
-use Rattle.ns_world.proofs.Prelude.{SeatLooks, Some, Went, env_want_of, outcome, plain_of, refl, subst, sym, ◌∙◌}
+use Rattle.std.proofs.Common.{Some, refl, subst, sym, ◌∙◌}
+use Rattle.ns_world.proofs.Prelude.{SeatLooks, Went, env_want_of, outcome, plain_of}
 use Rattle.ns_world.proofs.Looking.{look_effect, look_leads, LookLeads}
 use Rattle.ns_world.proofs.looks.look.Goals as goal
 

@@ -1,4 +1,5 @@
-use Rattle.ns_world.proofs.Prelude.{ap, step_of, ◌∙◌}
+use Rattle.std.proofs.Common.{ap, ◌∙◌}
+use Rattle.ns_world.proofs.Prelude.{step_of}
 use Rattle.ns_world.proofs.looks.see.Goals as goal
 
 pub settle-requires : goal.settle-requires

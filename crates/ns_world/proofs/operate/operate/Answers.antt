@@ -1,4 +1,5 @@
-use Rattle.ns_world.proofs.Prelude.{Some, ap, object_place, object_step_of, refl, ◌∙◌}
+use Rattle.std.proofs.Common.{Some, ap, refl, ◌∙◌}
+use Rattle.ns_world.proofs.Prelude.{object_place, object_step_of}
 use Rattle.ns_world.proofs.operate.operate.Goals as goal
 
 pub returns : goal.returns

@@ -1,4 +1,5 @@
-use Rattle.ns_world.proofs.Prelude.{[], ap, left_is, refl, slice_set, sym, word_at, ◌∙◌}
+use Rattle.std.proofs.Common.{[], ap, refl, slice_set, sym, ◌∙◌}
+use Rattle.ns_world.proofs.Prelude.{left_is, word_at}
 use Rattle.ns_counters.specs.Steps.{outcome}
 use Rattle.ns_world.proofs.operate.perform.Goals as goal
 

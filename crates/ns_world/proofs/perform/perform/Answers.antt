@@ -1,4 +1,5 @@
-use Rattle.ns_world.proofs.Prelude.{Seat, ap, arith, look_of, step_of, tests_after, walk_after, ◌∙◌}
+use Rattle.std.proofs.Common.{ap, arith, ◌∙◌}
+use Rattle.ns_world.proofs.Prelude.{Seat, look_of, step_of, tests_after, walk_after}
 use Rattle.ns_world.proofs.perform.perform.Goals as goal
 
 pub make-requires : goal.make-requires

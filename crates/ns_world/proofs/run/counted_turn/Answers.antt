@@ -1,4 +1,5 @@
-use Rattle.ns_world.proofs.Prelude.{Call, Global, IsCounted, Progress, Vec, arith, err_from_is_err_and, map, number, progress, progressed, refl, subst, sym, whole_of, ◌<◌, ◌≤◌}
+use Rattle.std.proofs.Common.{Global, Vec, arith, map, refl, subst, sym, ◌<◌, ◌≤◌}
+use Rattle.ns_world.proofs.Prelude.{Call, IsCounted, Progress, err_from_is_err_and, number, progress, progressed, whole_of}
 use Rattle.ns_world.proofs.Sizes.{among_as_many, world_fits}
 use Rattle.ns_world.proofs.Schedules.{stops_now, turn_stops, untold_stops}
 use Rattle.ns_world.proofs.Counted.{turn_counted, calls_fit, counts_progress}

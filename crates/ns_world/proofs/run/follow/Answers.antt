@@ -1,4 +1,5 @@
-use Rattle.ns_world.proofs.Prelude.{arith, err_from_is_err_and, length, number, take-length, ◌≡◌}
+use Rattle.std.proofs.Common.{arith, length, ◌≡◌}
+use Rattle.ns_world.proofs.Prelude.{err_from_is_err_and, number, take-length}
 use Rattle.ns_world.proofs.Sizes.{less_left, world_fits}
 use Rattle.ns_world.proofs.Schedules.{advance_none, advance_word, stops_word}
 use Rattle.ns_world.proofs.run.follow.Goals as goal

@@ -1,4 +1,5 @@
-use Rattle.ns_world.proofs.Prelude.{err_from_is_err_and, number, sym, ◌∙◌}
+use Rattle.std.proofs.Common.{sym, ◌∙◌}
+use Rattle.ns_world.proofs.Prelude.{err_from_is_err_and, number}
 use Rattle.ns_world.proofs.Sizes.{world_fits}
 use Rattle.ns_world.proofs.Schedules.{advance_none, advance_item, stops_behind}
 use Rattle.ns_world.proofs.run.item.Goals as goal

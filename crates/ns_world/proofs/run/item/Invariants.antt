@@ -1,4 +1,5 @@
-use Rattle.ns_world.proofs.Prelude.{Advances, IsCounted, [], map, progress, whole_of, ◌-◌, ◌∷◌}
+use Rattle.std.proofs.Common.{[], map, ◌-◌, ◌∷◌}
+use Rattle.ns_world.proofs.Prelude.{Advances, IsCounted, progress, whole_of}
 use Rattle.ns_world.proofs.run.item.Given as goal
 
 -- the item goes on

@@ -1,4 +1,5 @@
-use Rattle.ns_world.proofs.Prelude.{CallInRange, IfSome, err_from_is_err_and, number, subst, sym, whole_of, ◌∙◌}
+use Rattle.std.proofs.Common.{IfSome, subst, sym, ◌∙◌}
+use Rattle.ns_world.proofs.Prelude.{CallInRange, err_from_is_err_and, number, whole_of}
 use Rattle.ns_world.proofs.Sizes.{world_fits}
 use Rattle.ns_world.proofs.Counted.{calls_fit, next_fits}
 use Rattle.ns_world.proofs.Turns.{nothing_moved, turns_going, turns_without}

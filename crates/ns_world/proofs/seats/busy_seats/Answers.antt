@@ -1,5 +1,6 @@
 use Rattle.ns_world.proofs.Sizes.{less_left}
-use Rattle.ns_world.proofs.Prelude.{ap, arith, false, in_call, is_in, length, option_map_or, refl, slice_get, slice_get_past, sym, ℕ, ◌∙◌, ◌≤◌}
+use Rattle.std.proofs.Common.{ap, arith, false, length, refl, slice_get, sym, ℕ, ◌∙◌, ◌≤◌}
+use Rattle.ns_world.proofs.Prelude.{in_call, is_in, option_map_or, slice_get_past}
 use Rattle.ns_world.proofs.Mapped.{found_at}
 use Rattle.ns_world.proofs.Busy.{first_all, first_with, first_without}
 use Rattle.ns_world.proofs.seats.busy_seats.Goals.{then-is_busy, else-is_busy}

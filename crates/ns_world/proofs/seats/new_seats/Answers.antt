@@ -1,4 +1,5 @@
-use Rattle.ns_world.proofs.Prelude.{ap, append-nil, arith, fresh_seat, refl, sym, ℕ, ◌+◌, ◌-◌, ◌∙◌, ◌≡◌}
+use Rattle.std.proofs.Common.{ap, arith, refl, sym, ℕ, ◌+◌, ◌-◌, ◌∙◌, ◌≡◌}
+use Rattle.ns_world.proofs.Prelude.{append-nil, fresh_seat}
 use Rattle.ns_world.proofs.Fresh.{one_more}
 use Rattle.ns_world.proofs.seats.new_seats.Goals as goal
 

@@ -1,4 +1,5 @@
-use Rattle.ns_world.proofs.Prelude.{fresh_seats, ◌++◌, ◌-◌, ◌≡◌}
+use Rattle.std.proofs.Common.{◌++◌, ◌-◌, ◌≡◌}
+use Rattle.ns_world.proofs.Prelude.{fresh_seats}
 use Rattle.ns_world.proofs.seats.new_seats.Given as goal
 
 -- those made so far, and those to come

@@ -1,4 +1,5 @@
-use Rattle.ns_world.proofs.Prelude.{take, wakes_owed, ◌≡◌}
+use Rattle.std.proofs.Common.{take, ◌≡◌}
+use Rattle.ns_world.proofs.Prelude.{wakes_owed}
 use Rattle.ns_world.proofs.shows.owed_wakes.Given as goal
 
 abbrev pub invariant-loop-seat : goal.invariant-loop-seat

@@ -1,4 +1,4 @@
-use Rattle.ns_world.proofs.Prelude.{map, take, ◌++◌, ◌≡◌}
+use Rattle.std.proofs.Common.{map, take, ◌++◌, ◌≡◌}
 use Rattle.ns_world.proofs.shows.push_wakes.Given as goal
 
 abbrev pub invariant-loop-wake : goal.invariant-loop-wake

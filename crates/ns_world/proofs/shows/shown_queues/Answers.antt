@@ -1,4 +1,5 @@
-use Rattle.ns_world.proofs.Prelude.{Some, ap, arith, slice_get, slice_get-get_or, suc, sym, ◌+◌, ◌∙◌, ◌≡◌}
+use Rattle.std.proofs.Common.{Some, ap, arith, slice_get, suc, sym, ◌+◌, ◌∙◌, ◌≡◌}
+use Rattle.ns_world.proofs.Prelude.{slice_get-get_or}
 use Rattle.ns_world.proofs.Showing.{queues_here, queues_later, none_left}
 use Rattle.ns_world.proofs.shows.shown_queues.Goals as goal
 

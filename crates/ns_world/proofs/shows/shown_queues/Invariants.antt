@@ -1,4 +1,5 @@
-use Rattle.ns_world.proofs.Prelude.{drop, lists_by, ◌≡◌}
+use Rattle.std.proofs.Common.{drop, ◌≡◌}
+use Rattle.ns_world.proofs.Prelude.{lists_by}
 use Rattle.ns_world.proofs.shows.shown_queues.Given as goal
 
 -- none of those before has the queues

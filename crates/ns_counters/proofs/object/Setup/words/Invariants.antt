@@ -1,4 +1,4 @@
-use Rattle.ns_counters.proofs.Prelude.{replicate, take, ◌++◌, ◌-◌, ◌≡◌}
+use Rattle.std.proofs.Common.{replicate, take, ◌++◌, ◌-◌, ◌≡◌}
 use Rattle.ns_counters.proofs.object.Setup.words.Given as goal
 
 abbrev pub invariant-loop-i : goal.invariant-loop-i

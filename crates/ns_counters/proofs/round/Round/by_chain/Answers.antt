@@ -1,4 +1,5 @@
-use Rattle.ns_counters.proofs.Prelude.{ap, arith, from_place, rules, suc, ◌+◌, ◌∙◌, ◌≡◌}
+use Rattle.std.proofs.Common.{ap, arith, rules, suc, ◌+◌, ◌∙◌, ◌≡◌}
+use Rattle.ns_counters.proofs.Prelude.{from_place}
 use Rattle.ns_counters.proofs.round.Round.by_chain.Goals.{in_default-via-in-Go+in_default, in_default-via-in-Over+in-Is+else-next, in_default-via-in-Over+in_default, in_default-via-in_default}
 use Rattle.ns_counters.proofs.round.Round.by_chain.Goals as goal
 

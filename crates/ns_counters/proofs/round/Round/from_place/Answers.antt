@@ -1,4 +1,5 @@
-use Rattle.ns_counters.proofs.Prelude.{None, OnCounter, OnNote, OnVariable, Round, Some, ap, arith, from_items, from_place, item_at, suc, sym, ℕ, ◌+◌, ◌∙◌, ◌≡◌}
+use Rattle.std.proofs.Common.{None, Some, ap, arith, suc, sym, ℕ, ◌+◌, ◌∙◌, ◌≡◌}
+use Rattle.ns_counters.proofs.Prelude.{OnCounter, OnNote, OnVariable, Round, from_items, from_place, item_at}
 use Rattle.ns_counters.proofs.Listed.{left_at, none_behind_it, none_left}
 use Rattle.ns_counters.proofs.round.Round.from_place.Goals.{in-None, in-Some-OnVariable}
 use Rattle.ns_counters.proofs.round.Round.from_place.Goals as goal

@@ -1,4 +1,5 @@
-use Rattle.ns_counters.proofs.Prelude.{from_place, ◌≡◌}
+use Rattle.std.proofs.Common.{◌≡◌}
+use Rattle.ns_counters.proofs.Prelude.{from_place}
 use Rattle.ns_counters.proofs.round.Round.from_place.Given as goal
 
 -- what is left leads where all does

@@ -1,4 +1,5 @@
-use Rattle.ns_gate.proofs.Prelude.{ArmFlag, ap, arith, inl, ◌+◌, ◌∙◌}
+use Rattle.std.proofs.Common.{ap, arith, inl, ◌+◌, ◌∙◌}
+use Rattle.ns_gate.proofs.Prelude.{ArmFlag}
 use Rattle.ns_gate.proofs.gate.Gate.arm_flag.Goals as goal
 
 pub flag_at-flag-requires : goal.flag_at-flag-requires

@@ -1,4 +1,5 @@
-use Rattle.ns_gate.proofs.Prelude.{ap, arith, is_held, not, ◌∙◌}
+use Rattle.std.proofs.Common.{ap, arith, not, ◌∙◌}
+use Rattle.ns_gate.proofs.Prelude.{is_held}
 use Rattle.ns_gate.proofs.Endings.{last_packs, ends}
 use Rattle.ns_gate.proofs.gate.Gate.close.Goals as goal
 

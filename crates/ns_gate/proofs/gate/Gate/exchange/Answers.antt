@@ -1,4 +1,5 @@
-use Rattle.ns_gate.proofs.Prelude.{TableId, arith, sym, ◌∙◌}
+use Rattle.std.proofs.Common.{arith, sym, ◌∙◌}
+use Rattle.ns_gate.proofs.Prelude.{TableId}
 use Rattle.ns_gate.proofs.Allowed.{may_exchange}
 use Rattle.ns_gate.proofs.Findings.{found_packs, exchange_told}
 use Rattle.ns_gate.proofs.gate.Gate.exchange.Goals as goal

@@ -1,4 +1,5 @@
-use Rattle.ns_gate.proofs.Prelude.{TableId, arith, sym, ◌∙◌}
+use Rattle.std.proofs.Common.{arith, sym, ◌∙◌}
+use Rattle.ns_gate.proofs.Prelude.{TableId}
 use Rattle.ns_gate.proofs.Guesses.{may_guess, guess_packs, came_so}
 use Rattle.ns_gate.proofs.gate.Gate.exchange_guessing.Goals as goal
 

@@ -1,4 +1,5 @@
-use Rattle.ns_gate.proofs.Prelude.{Acquire, ap, arith, refl, word_acquired, ◌∙◌}
+use Rattle.std.proofs.Common.{ap, arith, refl, ◌∙◌}
+use Rattle.ns_gate.proofs.Prelude.{Acquire, word_acquired}
 use Rattle.ns_gate.proofs.gate.Gate.exchange_to_acquire.Goals as goal
 
 pub acquired-requires : goal.acquired-requires

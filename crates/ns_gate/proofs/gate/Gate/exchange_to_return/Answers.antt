@@ -1,4 +1,5 @@
-use Rattle.ns_gate.proofs.Prelude.{Changed, GateView, IsExchange, List, Lists, PutsBack, Released, Returning, Truths, Waited, Word, act_returning, arith, refl, word_returning, ℕ, ◌∙◌}
+use Rattle.std.proofs.Common.{List, arith, refl, ℕ, ◌∙◌}
+use Rattle.ns_gate.proofs.Prelude.{Changed, GateView, IsExchange, Lists, PutsBack, Released, Returning, Truths, Waited, Word, act_returning, word_returning}
 use Rattle.ns_gate.proofs.Findings.{returned_so}
 use Rattle.ns_gate.proofs.gate.Gate.exchange_to_return.Goals as goal
 

@@ -1,4 +1,5 @@
-use Rattle.ns_gate.proofs.Prelude.{JudgeMet, ap, arith, ◌+◌}
+use Rattle.std.proofs.Common.{ap, arith, ◌+◌}
+use Rattle.ns_gate.proofs.Prelude.{JudgeMet}
 use Rattle.ns_gate.proofs.Findings.{met_cell}
 use Rattle.ns_gate.proofs.gate.Gate.judge_met.Goals as goal
 

@@ -1,4 +1,5 @@
-use Rattle.ns_gate.proofs.Prelude.{JudgeQuiet, ap, arith, ◌+◌}
+use Rattle.std.proofs.Common.{ap, arith, ◌+◌}
+use Rattle.ns_gate.proofs.Prelude.{JudgeQuiet}
 use Rattle.ns_gate.proofs.Findings.{quiet_cell}
 use Rattle.ns_gate.proofs.gate.Gate.judge_quiet.Goals as goal
 

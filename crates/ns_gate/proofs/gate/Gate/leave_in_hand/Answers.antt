@@ -1,4 +1,5 @@
-use Rattle.ns_gate.proofs.Prelude.{LeaveSelf, TableId, ap, arith, bits_of, changed, refl, stands_at, sym, the, ◌∙◌}
+use Rattle.std.proofs.Common.{ap, arith, refl, sym, ◌∙◌}
+use Rattle.ns_gate.proofs.Prelude.{LeaveSelf, TableId, bits_of, changed, stands_at, the}
 use Rattle.ns_gate.proofs.Findings.{has_slot, was_in_hand, now_in_hand}
 use Rattle.ns_gate.proofs.Room.{queues_fit}
 use Rattle.ns_gate.proofs.gate.Gate.leave_in_hand.Goals as goal

@@ -1,4 +1,5 @@
-use Rattle.ns_gate.proofs.Prelude.{TableId, arith, sym, ◌∙◌}
+use Rattle.std.proofs.Common.{arith, sym, ◌∙◌}
+use Rattle.ns_gate.proofs.Prelude.{TableId}
 use Rattle.ns_gate.proofs.Allowed.{may_load}
 use Rattle.ns_gate.proofs.Findings.{stepped}
 use Rattle.ns_gate.proofs.gate.Gate.load_at.Goals as goal

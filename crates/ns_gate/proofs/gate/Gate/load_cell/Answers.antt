@@ -1,4 +1,5 @@
-use Rattle.ns_gate.proofs.Prelude.{LoadCell, ap, arith, ◌+◌}
+use Rattle.std.proofs.Common.{ap, arith, ◌+◌}
+use Rattle.ns_gate.proofs.Prelude.{LoadCell}
 use Rattle.ns_gate.proofs.gate.Gate.load_cell.Goals as goal
 
 pub load_at-requires : goal.load_at-requires

@@ -1,4 +1,5 @@
-use Rattle.ns_gate.proofs.Prelude.{LoadFlag, ap, arith, inl, ◌+◌, ◌∙◌}
+use Rattle.std.proofs.Common.{ap, arith, inl, ◌+◌, ◌∙◌}
+use Rattle.ns_gate.proofs.Prelude.{LoadFlag}
 use Rattle.ns_gate.proofs.Findings.{small_flag}
 use Rattle.ns_gate.proofs.gate.Gate.load_flag.Goals as goal
 

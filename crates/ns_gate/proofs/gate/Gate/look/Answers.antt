@@ -1,4 +1,5 @@
-use Rattle.ns_gate.proofs.Prelude.{TableId, arith, inl, sym, ◌∙◌}
+use Rattle.std.proofs.Common.{arith, inl, sym, ◌∙◌}
+use Rattle.ns_gate.proofs.Prelude.{TableId}
 use Rattle.ns_gate.proofs.Looks.{may_look, has_looked}
 use Rattle.ns_gate.proofs.gate.Gate.look.Goals as goal
 

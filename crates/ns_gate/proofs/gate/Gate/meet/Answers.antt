@@ -1,4 +1,5 @@
-use Rattle.ns_gate.proofs.Prelude.{SeatOf, TableId, ap, arith, cuts, glues, pair_of, sym, ◌∙◌}
+use Rattle.std.proofs.Common.{ap, arith, sym, ◌∙◌}
+use Rattle.ns_gate.proofs.Prelude.{SeatOf, TableId, cuts, glues, pair_of}
 use Rattle.ns_gate.proofs.Meets.{by_sums, learns, met_at}
 use Rattle.ns_gate.proofs.gate.Gate.meet.Goals as goal
 

@@ -1,4 +1,4 @@
-use Rattle.ns_gate.proofs.Prelude.{arith, ◌∙◌}
+use Rattle.std.proofs.Common.{arith, ◌∙◌}
 use Rattle.ns_gate.proofs.Starts.{begins_with}
 use Rattle.ns_gate.proofs.gate.Gate.new.Goals as goal
 

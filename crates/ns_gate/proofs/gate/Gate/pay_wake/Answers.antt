@@ -1,4 +1,5 @@
-use Rattle.ns_gate.proofs.Prelude.{PayWake, ap, arith, inr, ◌+◌, ◌∙◌}
+use Rattle.std.proofs.Common.{ap, arith, inr, ◌+◌, ◌∙◌}
+use Rattle.ns_gate.proofs.Prelude.{PayWake}
 use Rattle.ns_gate.proofs.Findings.{owed_next}
 use Rattle.ns_gate.proofs.gate.Gate.pay_wake.Goals as goal
 

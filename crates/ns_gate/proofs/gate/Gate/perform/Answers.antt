@@ -1,4 +1,5 @@
-use Rattle.ns_gate.proofs.Prelude.{Act, ArmFlag, Bool, IsOnWord, JudgeMet, JudgeQuiet, Limits, List, LoadCell, LoadFlag, LoadWord, Look, PayWake, StoreCell, arith, before_in, refl, row_in, slice_index, slice_set, the, ℕ, ◌≡◌}
+use Rattle.std.proofs.Common.{Bool, List, arith, refl, slice_index, slice_set, ℕ, ◌≡◌}
+use Rattle.ns_gate.proofs.Prelude.{Act, ArmFlag, IsOnWord, JudgeMet, JudgeQuiet, Limits, LoadCell, LoadFlag, LoadWord, Look, PayWake, StoreCell, before_in, row_in, the}
 use Rattle.ns_gate.proofs.Besides.{beside_fits}
 use Rattle.ns_gate.proofs.gate.Gate.perform.Goals as goal
 

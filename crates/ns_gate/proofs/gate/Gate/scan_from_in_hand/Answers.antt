@@ -1,4 +1,5 @@
-use Rattle.ns_gate.proofs.Prelude.{TableId, Waiter, ap, arith, bits_of, lists_scanned, map, meets_at, refl, seats_of, sought_at, sym, tests_of, the, woken_of, ◌∙◌}
+use Rattle.std.proofs.Common.{ap, arith, map, refl, sym, ◌∙◌}
+use Rattle.ns_gate.proofs.Prelude.{TableId, Waiter, bits_of, lists_scanned, meets_at, seats_of, sought_at, tests_of, the, woken_of}
 use Rattle.ns_gate.proofs.Findings.{has_slot, now_in_hand, was_in_hand}
 use Rattle.ns_gate.proofs.Room.{queues_fit}
 use Rattle.ns_gate.proofs.gate.Gate.scan_from_in_hand.Goals as goal

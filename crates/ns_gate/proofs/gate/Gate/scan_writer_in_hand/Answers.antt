@@ -1,4 +1,5 @@
-use Rattle.ns_gate.proofs.Prelude.{None, Ok, Some, TableId, Turned, ap, arith, bits_of, foremost_of, left_of, lists_scanned, meets_at, refl, sought_at, sym, the, woken_of, ◌∙◌}
+use Rattle.std.proofs.Common.{None, Ok, Some, ap, arith, refl, sym, ◌∙◌}
+use Rattle.ns_gate.proofs.Prelude.{TableId, Turned, bits_of, foremost_of, left_of, lists_scanned, meets_at, sought_at, the, woken_of}
 use Rattle.ns_gate.proofs.Findings.{has_slot, now_in_hand, was_in_hand}
 use Rattle.ns_gate.proofs.Scans.{lists_few, lists_kept, told_nobody, told_reader, told_writer}
 use Rattle.ns_gate.proofs.Room.{queues_fit}

@@ -1,4 +1,5 @@
-use Rattle.ns_gate.proofs.Prelude.{ShowsLists, TableId, ap, arith, bits_of, refl, subst, sym, the, ◌∙◌}
+use Rattle.std.proofs.Common.{ap, arith, refl, subst, sym, ◌∙◌}
+use Rattle.ns_gate.proofs.Prelude.{ShowsLists, TableId, bits_of, the}
 use Rattle.ns_gate.proofs.Findings.{has_slot, was_in_hand, now_in_hand}
 use Rattle.ns_gate.proofs.Room.{queues_fit}
 use Rattle.ns_gate.proofs.gate.Gate.show_in_hand.Goals as goal

@@ -1,4 +1,5 @@
-use Rattle.ns_gate.proofs.Prelude.{None, TableId, arith, sym, ◌∙◌}
+use Rattle.std.proofs.Common.{None, arith, sym, ◌∙◌}
+use Rattle.ns_gate.proofs.Prelude.{TableId}
 use Rattle.ns_gate.proofs.Allowed.{may_store}
 use Rattle.ns_gate.proofs.Findings.{stepped}
 use Rattle.ns_gate.proofs.gate.Gate.store_at.Goals as goal

@@ -1,4 +1,5 @@
-use Rattle.ns_gate.proofs.Prelude.{StoreCell, ap, arith, refl, ◌+◌}
+use Rattle.std.proofs.Common.{ap, arith, refl, ◌+◌}
+use Rattle.ns_gate.proofs.Prelude.{StoreCell}
 use Rattle.ns_gate.proofs.gate.Gate.store_cell.Goals as goal
 
 pub store_at-requires : goal.store_at-requires

@@ -1,4 +1,5 @@
-use Rattle.ns_gate.proofs.Prelude.{TableId, ap, arith, bits_of, lists_woken, not, refl, rules, sym, the, ◌∙◌}
+use Rattle.std.proofs.Common.{ap, arith, not, refl, rules, sym, ◌∙◌}
+use Rattle.ns_gate.proofs.Prelude.{TableId, bits_of, lists_woken, the}
 use Rattle.ns_gate.proofs.Findings.{has_slot, was_in_hand, now_in_hand}
 use Rattle.ns_gate.proofs.Wakes.{may_turn, turned_over}
 use Rattle.ns_gate.proofs.Room.{queues_fit}

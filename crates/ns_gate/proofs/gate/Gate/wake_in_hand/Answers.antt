@@ -1,4 +1,5 @@
-use Rattle.ns_gate.proofs.Prelude.{List, TableId, ap, arith, bits_of, has_some, list_fits, list_small, lists_woken, moved_to, number, refl, sym, taken_from, the, ◌&&◌, ◌∙◌, ◌≡◌}
+use Rattle.std.proofs.Common.{List, ap, arith, refl, sym, ◌&&◌, ◌∙◌, ◌≡◌}
+use Rattle.ns_gate.proofs.Prelude.{TableId, bits_of, has_some, list_fits, list_small, lists_woken, moved_to, number, taken_from, the}
 use Rattle.ns_gate.proofs.Findings.{has_slot, now_in_hand, was_in_hand}
 use Rattle.ns_gate.proofs.Wakes.{may_move}
 use Rattle.ns_gate.proofs.Room.{queues_fit}

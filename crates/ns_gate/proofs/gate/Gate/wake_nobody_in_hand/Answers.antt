@@ -1,4 +1,5 @@
-use Rattle.ns_gate.proofs.Prelude.{Cv, Some, TableId, ap, arith, bits_of, false, has_some, refl, sym, the, true, waiters_of, ◌∙◌, ◌≡◌}
+use Rattle.std.proofs.Common.{Some, ap, arith, false, refl, sym, true, ◌∙◌, ◌≡◌}
+use Rattle.ns_gate.proofs.Prelude.{Cv, TableId, bits_of, has_some, the, waiters_of}
 use Rattle.ns_gate.proofs.Findings.{has_slot, now_in_hand, was_in_hand}
 use Rattle.ns_gate.proofs.Room.{queues_fit}
 use Rattle.ns_gate.proofs.gate.Gate.wake_nobody_in_hand.Goals as goal

@@ -1,4 +1,5 @@
-use Rattle.ns_gate.proofs.Prelude.{Cv, None, TableId, [], ap, arith, bits_of, lists_woken, number, refl, sole_of, sym, the, waiter_fits, waiters_of, woken_sole, ◌∙◌, ◌∷◌, ◌≡◌}
+use Rattle.std.proofs.Common.{None, [], ap, arith, refl, sym, ◌∙◌, ◌∷◌, ◌≡◌}
+use Rattle.ns_gate.proofs.Prelude.{Cv, TableId, bits_of, lists_woken, number, sole_of, the, waiter_fits, waiters_of, woken_sole}
 use Rattle.ns_gate.proofs.Findings.{has_slot, now_in_hand, was_in_hand}
 use Rattle.ns_gate.proofs.Wakes.{left_sole, made_sole, may_move, takes_sole, woken_by_sole}
 use Rattle.ns_gate.proofs.Room.{queues_fit}

@@ -1,4 +1,5 @@
-use Rattle.ns_monitor.proofs.Prelude.{HasLocked, Some, TableId, Write, arith, locking, since_then, subst, sym, ◌∙◌}
+use Rattle.std.proofs.Common.{Some, arith, subst, sym, ◌∙◌}
+use Rattle.ns_monitor.proofs.Prelude.{HasLocked, TableId, Write, locking, since_then}
 use Rattle.ns_monitor.proofs.Callers.{CameSo, came_at_once, locked_so}
 use Rattle.ns_monitor.proofs.handle.Acting+Free+C+N.lock.Given.{Over}
 use Rattle.ns_monitor.proofs.handle.Acting+Free+C+N.lock.Goals.{Joined-last, in-Some, in-None}

@@ -1,4 +1,5 @@
-use Rattle.ns_monitor.proofs.Prelude.{Known, TableId, ap, arith, sym, ◌∙◌}
+use Rattle.std.proofs.Common.{ap, arith, sym, ◌∙◌}
+use Rattle.ns_monitor.proofs.Prelude.{Known, TableId}
 use Rattle.ns_monitor.proofs.handle.Acting+Free+C+N.meet.Goals as goal
 
 pub meet-first-requires : goal.meet-first-requires

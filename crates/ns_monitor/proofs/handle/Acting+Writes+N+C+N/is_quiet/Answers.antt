@@ -1,4 +1,5 @@
-use Rattle.ns_monitor.proofs.Prelude.{TableId, arith, ◌∙◌}
+use Rattle.std.proofs.Common.{arith, ◌∙◌}
+use Rattle.ns_monitor.proofs.Prelude.{TableId}
 use Rattle.ns_monitor.proofs.handle.Acting+Writes+N+C+N.is_quiet.Goals as goal
 
 pub is_quiet-requires : goal.is_quiet-requires

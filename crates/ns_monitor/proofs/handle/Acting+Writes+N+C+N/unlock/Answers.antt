@@ -1,4 +1,5 @@
-use Rattle.ns_monitor.proofs.Prelude.{HasUnlocked, Some, TableId, Writer, arith, refl, releasing_by, since_then, subst, sym, ◌∙◌}
+use Rattle.std.proofs.Common.{Some, arith, refl, subst, sym, ◌∙◌}
+use Rattle.ns_monitor.proofs.Prelude.{HasUnlocked, TableId, Writer, releasing_by, since_then}
 use Rattle.ns_monitor.proofs.Callers.{CameSo, came_at_once, released_so}
 use Rattle.ns_monitor.proofs.handle.Acting+Writes+N+C+N.unlock.Given.{Over}
 use Rattle.ns_monitor.proofs.handle.Acting+Writes+N+C+N.unlock.Goals.{Joined-last, in-Some, in-None}

@@ -1,4 +1,5 @@
-use Rattle.ns_monitor.proofs.Prelude.{HasUnlocked, QuietWriter, Some, TableId, arith, refl, releasing_by, since_then, subst, sym, ◌∙◌}
+use Rattle.std.proofs.Common.{Some, arith, refl, subst, sym, ◌∙◌}
+use Rattle.ns_monitor.proofs.Prelude.{HasUnlocked, QuietWriter, TableId, releasing_by, since_then}
 use Rattle.ns_monitor.proofs.Callers.{CameSo, came_at_once, released_so}
 use Rattle.ns_monitor.proofs.handle.Acting+Writes+N+C+N.unlock_without_wakeup.Given.{Over}
 use Rattle.ns_monitor.proofs.handle.Acting+Writes+N+C+N.unlock_without_wakeup.Goals.{Joined-last, in-Some, in-None}

@@ -1,4 +1,5 @@
-use Rattle.ns_monitor.proofs.Prelude.{TableId, ◌∙◌}
+use Rattle.std.proofs.Common.{◌∙◌}
+use Rattle.ns_monitor.proofs.Prelude.{TableId}
 use Rattle.ns_monitor.proofs.handle.Acting.any_begin.Goals as goal
 
 pub invariant_of-result : goal.invariant_of-result

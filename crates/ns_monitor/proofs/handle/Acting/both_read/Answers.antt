@@ -1,4 +1,5 @@
-use Rattle.ns_monitor.proofs.Prelude.{Known, TableId, ap, arith, sym, ◌∙◌}
+use Rattle.std.proofs.Common.{ap, arith, sym, ◌∙◌}
+use Rattle.ns_monitor.proofs.Prelude.{Known, TableId}
 use Rattle.ns_monitor.proofs.handle.Acting.both_read.Goals as goal
 
 pub both_read-first-requires : goal.both_read-first-requires

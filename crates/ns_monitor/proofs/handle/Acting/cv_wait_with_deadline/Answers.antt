@@ -1,4 +1,5 @@
-use Rattle.ns_monitor.proofs.Prelude.{TableId, arith, ◌∙◌}
+use Rattle.std.proofs.Common.{arith, ◌∙◌}
+use Rattle.ns_monitor.proofs.Prelude.{TableId}
 use Rattle.ns_monitor.proofs.handle.Acting.cv_wait_with_deadline.Goals as goal
 
 pub cv_wait_with_deadline-caller-requires : goal.cv_wait_with_deadline-caller-requires

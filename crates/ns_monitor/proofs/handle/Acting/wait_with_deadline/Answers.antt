@@ -1,4 +1,4 @@
-use Rattle.ns_monitor.proofs.Prelude.{rules, ◌≡◌}
+use Rattle.std.proofs.Common.{rules, ◌≡◌}
 use Rattle.ns_monitor.proofs.Looks.{ended_by}
 use Rattle.ns_monitor.proofs.Returns.{looked_by}
 use Rattle.ns_monitor.proofs.handle.Acting.wait_with_deadline.Goals as goal

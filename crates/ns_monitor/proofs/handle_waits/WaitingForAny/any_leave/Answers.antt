@@ -1,4 +1,5 @@
-use Rattle.ns_monitor.proofs.Prelude.{TableId, arith, ◌∙◌}
+use Rattle.std.proofs.Common.{arith, ◌∙◌}
+use Rattle.ns_monitor.proofs.Prelude.{TableId}
 use Rattle.ns_monitor.proofs.handle_waits.WaitingForAny.any_leave.Goals as goal
 
 pub any_leave-caller-requires : goal.any_leave-caller-requires

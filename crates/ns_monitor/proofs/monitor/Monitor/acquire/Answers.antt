@@ -1,4 +1,5 @@
-use Rattle.ns_monitor.proofs.Prelude.{AcquireLoad, HasSince, InAcquire, LoadWord, None, Saw, TableId, arith, rules, since, since_then, sym, the, ◌∙◌}
+use Rattle.std.proofs.Common.{None, arith, rules, sym, ◌∙◌}
+use Rattle.ns_monitor.proofs.Prelude.{AcquireLoad, HasSince, InAcquire, LoadWord, Saw, TableId, since, since_then, the}
 use Rattle.ns_monitor.proofs.Standing.{can_load, loads, same_number}
 use Rattle.ns_monitor.proofs.monitor.Monitor.acquire.Given.{Over}
 use Rattle.ns_monitor.proofs.monitor.Monitor.acquire.Goals.{After-load-word}

@@ -1,4 +1,5 @@
-use Rattle.ns_monitor.proofs.Prelude.{AcquireLoad, InAcquire, LoadWord, None, Saw, TableId, arith, refl, since, since_itself, since_then, sym, the, ◌∙◌}
+use Rattle.std.proofs.Common.{None, arith, refl, sym, ◌∙◌}
+use Rattle.ns_monitor.proofs.Prelude.{AcquireLoad, InAcquire, LoadWord, Saw, TableId, since, since_itself, since_then, the}
 use Rattle.ns_monitor.proofs.Standing.{can_load, loads, same_number}
 use Rattle.ns_monitor.proofs.monitor.Monitor.acquire_on.Goals as goal
 

@@ -1,4 +1,5 @@
-use Rattle.ns_monitor.proofs.Prelude.{AcquiresBy, HasSince, IsPackable, None, the, ◌≡◌}
+use Rattle.std.proofs.Common.{None, ◌≡◌}
+use Rattle.ns_monitor.proofs.Prelude.{AcquiresBy, HasSince, IsPackable, the}
 use Rattle.ns_monitor.proofs.monitor.Monitor.acquire_on.Given as goal
 
 abbrev pub invariant-loop : goal.invariant-loop

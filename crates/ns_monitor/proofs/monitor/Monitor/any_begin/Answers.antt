@@ -1,4 +1,5 @@
-use Rattle.ns_monitor.proofs.Prelude.{AwaitWakeInWait, HasMode, HasSince, InWait, IsAtPlace, IsWaitingForAny, Known, Some, TableId, Wait, any_waiting, ap, arith, queuing_first, subst, sym, the, waits_for_any, ◌∙◌, ◌≡◌}
+use Rattle.std.proofs.Common.{Some, ap, arith, subst, sym, ◌∙◌, ◌≡◌}
+use Rattle.ns_monitor.proofs.Prelude.{AwaitWakeInWait, HasMode, HasSince, InWait, IsAtPlace, IsWaitingForAny, Known, TableId, Wait, any_waiting, queuing_first, the, waits_for_any}
 use Rattle.ns_monitor.proofs.SeveralWaits.{has_begun_to_wait, may_wait_for_any}
 use Rattle.ns_monitor.proofs.Standing.{same_number}
 use Rattle.ns_monitor.proofs.monitor.Monitor.any_begin.Given.{Over}

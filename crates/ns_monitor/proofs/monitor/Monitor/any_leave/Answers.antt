@@ -1,4 +1,5 @@
-use Rattle.ns_monitor.proofs.Prelude.{Await, AwaitWakeInWait, ForWait, HasAcquired, HasAnswered, HasComeBackFromAny, InWait, IsAtPlace, IsInRange, None, TableId, Wait, WaitKnown, WokenBy, ap, arith, known_of, subst, sym, the, variable_in, waits_for_any, ◌∙◌}
+use Rattle.std.proofs.Common.{None, ap, arith, subst, sym, ◌∙◌}
+use Rattle.ns_monitor.proofs.Prelude.{Await, AwaitWakeInWait, ForWait, HasAcquired, HasAnswered, HasComeBackFromAny, InWait, IsAtPlace, IsInRange, TableId, Wait, WaitKnown, WokenBy, known_of, the, variable_in, waits_for_any}
 use Rattle.ns_monitor.proofs.Returns.{fits_fresh}
 use Rattle.ns_monitor.proofs.SeveralWaits.{any_back_fresh, has_come_back}
 use Rattle.ns_monitor.proofs.Standing.{same_number}

@@ -1,5 +1,6 @@
-use Rattle.ns_monitor.proofs.Prelude.{AcquireLoad, Await, AwaitWakeInWait, CanStep, Flag, ForWait, HasAcquired, HasAnswered, HasSince, InAcquire, InWait, IsAtPlace, IsWaitingForAny, Limits, LoadFlag, Look, LookOut, Looked, None, Performed, Some, TableId, Wait, WaitKnown, Woken, WokenBy, ap, arith}
-use Rattle.ns_monitor.proofs.Prelude.{at_will, can_go, false, goes, got_of, refl, since, since_then, subst, sym, the, waits_for_any, ◌∙◌}
+use Rattle.std.proofs.Common.{None, Some, ap, arith, false, refl, subst, sym, ◌∙◌}
+use Rattle.ns_monitor.proofs.Prelude.{AcquireLoad, Await, AwaitWakeInWait, CanStep, Flag, ForWait, HasAcquired, HasAnswered, HasSince, InAcquire, InWait, IsAtPlace, IsWaitingForAny, Limits, LoadFlag, Look, LookOut, Looked, Performed, TableId, Wait, WaitKnown, Woken, WokenBy, at_will, can_go, goes}
+use Rattle.ns_monitor.proofs.Prelude.{got_of, since, since_then, the, waits_for_any}
 use Rattle.ns_monitor.proofs.SeveralWaits.{has_come_back, still_waits, tells_still}
 use Rattle.ns_monitor.proofs.Standing.{same_number}
 use Rattle.ns_monitor.proofs.Waits.{looks_out, woken_next}

@@ -1,4 +1,5 @@
-use Rattle.ns_monitor.proofs.Prelude.{Flag, HasSince, LoadFlag, None, TableId, arith, can_go, refl, rules, since, since_itself, since_then, sym, the, ◌∙◌}
+use Rattle.std.proofs.Common.{None, arith, refl, rules, sym, ◌∙◌}
+use Rattle.ns_monitor.proofs.Prelude.{Flag, HasSince, LoadFlag, TableId, can_go, since, since_itself, since_then, the}
 use Rattle.ns_monitor.proofs.Standing.{is_woken, same_number, sleeps_on}
 use Rattle.ns_monitor.proofs.monitor.Monitor.await_flag.Given.{Over}
 use Rattle.ns_monitor.proofs.monitor.Monitor.await_flag.Goals.{After-load_flag-flag}

@@ -1,4 +1,5 @@
-use Rattle.ns_monitor.proofs.Prelude.{HasSince, IsAtPlace, None, the, ◌≡◌}
+use Rattle.std.proofs.Common.{None, ◌≡◌}
+use Rattle.ns_monitor.proofs.Prelude.{HasSince, IsAtPlace, the}
 use Rattle.ns_monitor.proofs.monitor.Monitor.await_flag.Given as goal
 
 abbrev pub invariant-loop : goal.invariant-loop

@@ -1,4 +1,5 @@
-use Rattle.ns_monitor.proofs.Prelude.{AwaitWakeInWait, Bool, Cause, Ended, Idle, IfEnded, InWait, LookOut, None, On, Outcome, Some, Woken, ap, arith, cond, is_limited, refl, rules, since_then, subst, sym, true, ◌∙◌, ◌≡◌}
+use Rattle.std.proofs.Common.{Bool, None, Some, ap, arith, cond, refl, rules, subst, sym, true, ◌∙◌, ◌≡◌}
+use Rattle.ns_monitor.proofs.Prelude.{AwaitWakeInWait, Cause, Ended, Idle, IfEnded, InWait, LookOut, On, Outcome, Woken, is_limited, since_then}
 use Rattle.ns_monitor.proofs.Standing.{same_number}
 use Rattle.ns_monitor.proofs.Waits.{woken_next}
 use Rattle.ns_monitor.proofs.monitor.Monitor.await_in.Goals as goal

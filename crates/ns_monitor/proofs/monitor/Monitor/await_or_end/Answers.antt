@@ -1,4 +1,5 @@
-use Rattle.ns_monitor.proofs.Prelude.{AwaitWakeInWait, Flag, HasSince, InWait, IsAtPlace, LoadFlag, Look, LookOut, Looked, None, Some, TableId, arith, can_go, false, goes, refl, rules, since, since_itself, since_then, subst, sym, the, ◌∙◌, ◌≡◌}
+use Rattle.std.proofs.Common.{None, Some, arith, false, refl, rules, subst, sym, ◌∙◌, ◌≡◌}
+use Rattle.ns_monitor.proofs.Prelude.{AwaitWakeInWait, Flag, HasSince, InWait, IsAtPlace, LoadFlag, Look, LookOut, Looked, TableId, can_go, goes, since, since_itself, since_then, the}
 use Rattle.ns_monitor.proofs.Standing.{same_number}
 use Rattle.ns_monitor.proofs.Waits.{goes_to_leave, looks_out, waits_on}
 use Rattle.ns_monitor.proofs.monitor.Monitor.await_or_end.Given.{Over}

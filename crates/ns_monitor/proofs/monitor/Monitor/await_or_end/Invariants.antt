@@ -1,4 +1,5 @@
-use Rattle.ns_monitor.proofs.Prelude.{AwaitWakeInWait, HasSince, InWait, IsAtPlace, None, the, ◌≡◌}
+use Rattle.std.proofs.Common.{None, ◌≡◌}
+use Rattle.ns_monitor.proofs.Prelude.{AwaitWakeInWait, HasSince, InWait, IsAtPlace, the}
 use Rattle.ns_monitor.proofs.monitor.Monitor.await_or_end.Given as goal
 
 abbrev pub invariant-loop : goal.invariant-loop

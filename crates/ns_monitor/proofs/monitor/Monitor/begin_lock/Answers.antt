@@ -1,4 +1,5 @@
-use Rattle.ns_monitor.proofs.Prelude.{HasSince, Known, Some, TableId, WentAtOnce, ap, arith, known_of, locking, rules, subst, sym, the, ◌∙◌}
+use Rattle.std.proofs.Common.{Some, ap, arith, rules, subst, sym, ◌∙◌}
+use Rattle.ns_monitor.proofs.Prelude.{HasSince, Known, TableId, WentAtOnce, known_of, locking, the}
 use Rattle.ns_monitor.proofs.Begins.{may_lock}
 use Rattle.ns_monitor.proofs.Standing.{same_number}
 use Rattle.ns_monitor.proofs.monitor.Monitor.begin_lock.Goals as goal

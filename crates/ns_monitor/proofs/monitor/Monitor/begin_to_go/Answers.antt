@@ -1,4 +1,5 @@
-use Rattle.ns_monitor.proofs.Prelude.{TableId, arith, sym, ◌∙◌}
+use Rattle.std.proofs.Common.{arith, sym, ◌∙◌}
+use Rattle.ns_monitor.proofs.Prelude.{TableId}
 use Rattle.ns_monitor.proofs.Standing.{began_by}
 use Rattle.ns_monitor.proofs.monitor.Monitor.begin_to_go.Goals as goal
 

@@ -1,4 +1,5 @@
-use Rattle.ns_monitor.proofs.Prelude.{HasReached, HasSince, LoadWord, MayGoAlone, Part, Saw, Some, TableId, ap, arith, asked_of, does, got_of, refl, since_then, subst, sym, the, ◌∙◌}
+use Rattle.std.proofs.Common.{Some, ap, arith, refl, subst, sym, ◌∙◌}
+use Rattle.ns_monitor.proofs.Prelude.{HasReached, HasSince, LoadWord, MayGoAlone, Part, Saw, TableId, asked_of, does, got_of, since_then, the}
 use Rattle.ns_monitor.proofs.Standing.{loads_first, same_held}
 use Rattle.ns_monitor.proofs.monitor.Monitor.begin_to_take.Given.{Over}
 use Rattle.ns_monitor.proofs.monitor.Monitor.begin_to_take.Goals.{After-load-first}

@@ -1,4 +1,5 @@
-use Rattle.ns_monitor.proofs.Prelude.{HasSince, IsQuietFor, Known, Some, TableId, WentAtOnce, ap, arith, known_of, releasing_by, rules, subst, sym, the, ◌∙◌}
+use Rattle.std.proofs.Common.{Some, ap, arith, rules, subst, sym, ◌∙◌}
+use Rattle.ns_monitor.proofs.Prelude.{HasSince, IsQuietFor, Known, TableId, WentAtOnce, known_of, releasing_by, the}
 use Rattle.ns_monitor.proofs.Begins.{may_release}
 use Rattle.ns_monitor.proofs.Standing.{same_number}
 use Rattle.ns_monitor.proofs.monitor.Monitor.begin_unlock.Goals as goal

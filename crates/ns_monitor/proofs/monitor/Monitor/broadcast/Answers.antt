@@ -1,4 +1,5 @@
-use Rattle.ns_monitor.proofs.Prelude.{Broadcasting, TableId, sym, waking_by, ◌∙◌}
+use Rattle.std.proofs.Common.{sym, ◌∙◌}
+use Rattle.ns_monitor.proofs.Prelude.{Broadcasting, TableId, waking_by}
 use Rattle.ns_monitor.proofs.Callers.{grew}
 use Rattle.ns_monitor.proofs.Wakes.{has_woken}
 use Rattle.ns_monitor.proofs.monitor.Monitor.broadcast.Goals as goal

@@ -1,4 +1,5 @@
-use Rattle.ns_monitor.proofs.Prelude.{HasAnswered, HasSince, HasStood, InShow, IsAtPlace, IsPackable, Known, None, ReturnShown, Some, Succeeded, TableId, ToChange, Word, ap, arith, bits_of, known_of, refl, rules, showing, since_itself, since_then, subst, sym, the, works, ◌∙◌}
+use Rattle.std.proofs.Common.{None, Some, ap, arith, refl, rules, subst, sym, ◌∙◌}
+use Rattle.ns_monitor.proofs.Prelude.{HasAnswered, HasSince, HasStood, InShow, IsAtPlace, IsPackable, Known, ReturnShown, Succeeded, TableId, ToChange, Word, bits_of, known_of, showing, since_itself, since_then, the, works}
 use Rattle.ns_monitor.proofs.Callers.{saw_more}
 use Rattle.ns_monitor.proofs.Shows.{stood_since}
 use Rattle.ns_monitor.proofs.Standing.{still_since, taken_packs}

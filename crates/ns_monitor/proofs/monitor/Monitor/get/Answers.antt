@@ -1,4 +1,5 @@
-use Rattle.ns_monitor.proofs.Prelude.{Known, TableId, ap, arith, getting, rules, sym, the, ◌∙◌}
+use Rattle.std.proofs.Common.{ap, arith, rules, sym, ◌∙◌}
+use Rattle.ns_monitor.proofs.Prelude.{Known, TableId, getting, the}
 use Rattle.ns_monitor.proofs.Begins.{may_get}
 use Rattle.ns_monitor.proofs.Callers.{is_got, saw_more}
 use Rattle.ns_monitor.proofs.monitor.Monitor.get.Goals as goal

@@ -1,4 +1,5 @@
-use Rattle.ns_monitor.proofs.Prelude.{CanStep, IsAtPlace, Made, None, Performed, Saw, arith, going_act, going_at, going_of, may_go, refl, rules, since, since_itself, subst, sym, the, true, ◌≡◌}
+use Rattle.std.proofs.Common.{None, arith, refl, rules, subst, sym, true, ◌≡◌}
+use Rattle.ns_monitor.proofs.Prelude.{CanStep, IsAtPlace, Made, Performed, Saw, going_act, going_at, going_of, may_go, since, since_itself, the}
 use Rattle.ns_monitor.proofs.Standing.{decided, can_go_by, goes_alone, goes_by, may_by, misses}
 use Rattle.ns_monitor.proofs.monitor.Monitor.go_by.Given.{Over}
 use Rattle.ns_monitor.proofs.monitor.Monitor.go_by.Goals.{After-may_go}

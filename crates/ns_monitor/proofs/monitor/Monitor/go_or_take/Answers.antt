@@ -1,4 +1,5 @@
-use Rattle.ns_monitor.proofs.Prelude.{CanStep, HasTakenAt, LoadWord, Made, None, Performed, Saw, TableId, TakeQueues, ap, arith, false, going_act, refl, rules, since, since_itself, since_then, subst, sym, taking_for, the, true, word_taken, ◌∙◌}
+use Rattle.std.proofs.Common.{None, ap, arith, false, refl, rules, subst, sym, true, ◌∙◌}
+use Rattle.ns_monitor.proofs.Prelude.{CanStep, HasTakenAt, LoadWord, Made, Performed, Saw, TableId, TakeQueues, going_act, since, since_itself, since_then, taking_for, the, word_taken}
 use Rattle.ns_monitor.proofs.Standing.{can_go_by, can_load, decided, may_by, can_take, goes_alone, goes_by, loads, misses, misses_taking, saw_held, took}
 use Rattle.ns_monitor.proofs.monitor.Monitor.go_or_take.Goals as goal
 

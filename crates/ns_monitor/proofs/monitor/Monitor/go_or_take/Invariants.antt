@@ -1,4 +1,5 @@
-use Rattle.ns_monitor.proofs.Prelude.{HasReached, HasSince, IsPackable, None, Saw, asked_of, got_of, the, ◌≡◌}
+use Rattle.std.proofs.Common.{None, ◌≡◌}
+use Rattle.ns_monitor.proofs.Prelude.{HasReached, HasSince, IsPackable, Saw, asked_of, got_of, the}
 use Rattle.ns_monitor.proofs.monitor.Monitor.go_or_take.Given as goal
 
 abbrev pub invariant-loop : goal.invariant-loop

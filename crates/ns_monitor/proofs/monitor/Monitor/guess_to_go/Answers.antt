@@ -1,4 +1,5 @@
-use Rattle.ns_monitor.proofs.Prelude.{TableId, arith, false, sym, true, ◌∙◌, ◌≡◌}
+use Rattle.std.proofs.Common.{arith, false, sym, true, ◌∙◌, ◌≡◌}
+use Rattle.ns_monitor.proofs.Prelude.{TableId}
 use Rattle.ns_monitor.proofs.monitor.Monitor.guess_to_go.Goals as goal
 
 pub acquire_guessing-requires : goal.acquire_guessing-requires

@@ -1,4 +1,5 @@
-use Rattle.ns_monitor.proofs.Prelude.{Known, TableId, ap, arith, ◌∙◌}
+use Rattle.std.proofs.Common.{ap, arith, ◌∙◌}
+use Rattle.ns_monitor.proofs.Prelude.{Known, TableId}
 use Rattle.ns_monitor.proofs.monitor.Monitor.is_quiet.Goals as goal
 
 pub load_to_judge-row-requires : goal.load_to_judge-row-requires

@@ -1,4 +1,5 @@
-use Rattle.ns_monitor.proofs.Prelude.{Await, AwaitWakeToLeave, Changed, HasReached, HasSince, InLeaving, InWait, IsAtPlace, Leave, LeaveSelf, None, TableId, ap, arith, false, refl, rules, since_then, subst, sym, the, true, works, ◌∙◌}
+use Rattle.std.proofs.Common.{None, ap, arith, false, refl, rules, subst, sym, true, ◌∙◌}
+use Rattle.ns_monitor.proofs.Prelude.{Await, AwaitWakeToLeave, Changed, HasReached, HasSince, InLeaving, InWait, IsAtPlace, Leave, LeaveSelf, TableId, since_then, the, works}
 use Rattle.ns_monitor.proofs.Standing.{hand_by, same_number, still_since}
 use Rattle.ns_monitor.proofs.Waits.{left_next, taken_ended, taken_next}
 use Rattle.ns_monitor.proofs.monitor.Monitor.leave.Given.{Over}

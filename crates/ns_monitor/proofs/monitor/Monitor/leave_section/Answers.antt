@@ -1,4 +1,5 @@
-use Rattle.ns_monitor.proofs.Prelude.{HasRow, HasSince, InQueuing, InWait, Lists, None, TableId, ap, arith, armed_place, bits_of, refl, row_in, rules, since_then, subst, sym, the, times, ◌∙◌, ◌≡◌}
+use Rattle.std.proofs.Common.{None, ap, arith, refl, rules, subst, sym, ◌∙◌, ◌≡◌}
+use Rattle.ns_monitor.proofs.Prelude.{HasRow, HasSince, InQueuing, InWait, Lists, TableId, armed_place, bits_of, row_in, since_then, the, times}
 use Rattle.ns_monitor.proofs.Locks.{HasArmed}
 use Rattle.ns_monitor.proofs.Releases.{scans_at_hand}
 use Rattle.ns_monitor.proofs.Waits.{arms_to_wait, loads_or_queues}

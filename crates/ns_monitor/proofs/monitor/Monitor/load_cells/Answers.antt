@@ -1,4 +1,5 @@
-use Rattle.ns_monitor.proofs.Prelude.{HasLoaded, TableId, arith, refl, rules, subst, sym, ◌<◌, ◌∙◌, ◌≡◌}
+use Rattle.std.proofs.Common.{arith, refl, rules, subst, sym, ◌<◌, ◌∙◌, ◌≡◌}
+use Rattle.ns_monitor.proofs.Prelude.{HasLoaded, TableId}
 use Rattle.ns_monitor.proofs.Tests.{can_load_cell, loads_cell, loads_none}
 use Rattle.ns_monitor.proofs.monitor.Monitor.load_cells.Goals as goal
 

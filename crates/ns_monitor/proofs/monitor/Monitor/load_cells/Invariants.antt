@@ -1,4 +1,5 @@
-use Rattle.ns_monitor.proofs.Prelude.{HasLoaded, ◌≡◌}
+use Rattle.std.proofs.Common.{◌≡◌}
+use Rattle.ns_monitor.proofs.Prelude.{HasLoaded}
 use Rattle.ns_monitor.proofs.monitor.Monitor.load_cells.Given as goal
 
 abbrev pub invariant-loop-i : goal.invariant-loop-i

@@ -1,4 +1,5 @@
-use Rattle.ns_monitor.proofs.Prelude.{TableId, arith, refl, rules, sym, ◌∙◌}
+use Rattle.std.proofs.Common.{arith, refl, rules, sym, ◌∙◌}
+use Rattle.ns_monitor.proofs.Prelude.{TableId}
 use Rattle.ns_monitor.proofs.Begins.{may_judge}
 use Rattle.ns_monitor.proofs.Tests.{can_tell, is_judged}
 use Rattle.ns_monitor.proofs.monitor.Monitor.load_to_judge.Goals as goal

@@ -1,4 +1,5 @@
-use Rattle.ns_monitor.proofs.Prelude.{IsAtPlace, ap, arith, cond, loading, loading_at, row_in, rules, subst, sym, the, ◌∙◌}
+use Rattle.std.proofs.Common.{ap, arith, cond, rules, subst, sym, ◌∙◌}
+use Rattle.ns_monitor.proofs.Prelude.{IsAtPlace, loading, loading_at, row_in, the}
 use Rattle.ns_monitor.proofs.Releases.{scans_row}
 use Rattle.ns_monitor.proofs.Tests.{is_scanned}
 use Rattle.ns_monitor.proofs.monitor.Monitor.load_to_scan.Goals as goal

@@ -1,4 +1,5 @@
-use Rattle.ns_monitor.proofs.Prelude.{Cause, IfSome, InQueuing, InWait, Limits, Look, LookIn, Looked, None, Option, Some, TableId, arith, can_go, does, false, is_limited, refl, rules, since, since_itself, sym, the, true, ◌∙◌, ◌≡◌}
+use Rattle.std.proofs.Common.{IfSome, None, Option, Some, arith, false, refl, rules, sym, true, ◌∙◌, ◌≡◌}
+use Rattle.ns_monitor.proofs.Prelude.{Cause, InQueuing, InWait, Limits, Look, LookIn, Looked, TableId, can_go, does, is_limited, since, since_itself, the}
 use Rattle.ns_monitor.proofs.Standing.{commits_none}
 use Rattle.ns_monitor.proofs.Returns.{by_limits, look_fresh, looks_in}
 use Rattle.ns_monitor.proofs.monitor.Monitor.look_before.Goals as goal

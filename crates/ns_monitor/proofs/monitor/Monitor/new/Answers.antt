@@ -1,4 +1,5 @@
-use Rattle.ns_monitor.proofs.Prelude.{AreNew, GateView, IsNumberOf, Known, List, SeatOf, TableId, [], all_new, ap, arith, first_of, fresh_seat, known_of, length, length-append, new_more, new_seat, numbered_first, numbered_rest, refl, rest_of, rules, subst, sym, the, ℕ, ◌+◌, ◌<◌, ◌∙◌, ◌∷◌, ◌≡◌}
+use Rattle.std.proofs.Common.{List, [], ap, arith, length, length-append, refl, rules, subst, sym, ℕ, ◌+◌, ◌<◌, ◌∙◌, ◌∷◌, ◌≡◌}
+use Rattle.ns_monitor.proofs.Prelude.{AreNew, GateView, IsNumberOf, Known, SeatOf, TableId, all_new, first_of, fresh_seat, known_of, new_more, new_seat, numbered_first, numbered_rest, rest_of, the}
 use Rattle.ns_monitor.proofs.Made.{new_rests}
 use Rattle.ns_monitor.proofs.monitor.Monitor.new.Goals as goal
 

@@ -1,4 +1,5 @@
-use Rattle.ns_monitor.proofs.Prelude.{AreNew, fresh, length, ◌-◌, ◌≡◌}
+use Rattle.std.proofs.Common.{length, ◌-◌, ◌≡◌}
+use Rattle.ns_monitor.proofs.Prelude.{AreNew, fresh}
 use Rattle.ns_monitor.proofs.monitor.Monitor.new.Given as goal
 
 abbrev pub invariant-loop-number : goal.invariant-loop-number

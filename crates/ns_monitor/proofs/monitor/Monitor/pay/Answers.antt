@@ -1,4 +1,5 @@
-use Rattle.ns_monitor.proofs.Prelude.{None, Owed, PayWake, TableId, arith, can_go, drop, drop_all, drop_more, get_or, owes_more, refl, since, since_itself, since_then, sym, the, ◌+◌, ◌∙◌}
+use Rattle.std.proofs.Common.{None, arith, drop, get_or, refl, sym, ◌+◌, ◌∙◌}
+use Rattle.ns_monitor.proofs.Prelude.{Owed, PayWake, TableId, can_go, drop_all, drop_more, owes_more, since, since_itself, since_then, the}
 use Rattle.ns_monitor.proofs.SeveralWaits.{true_now}
 use Rattle.ns_monitor.proofs.Standing.{all_paid, can_pay, is_paid, owes_next}
 use Rattle.ns_monitor.proofs.monitor.Monitor.pay.Goals as goal

@@ -1,4 +1,5 @@
-use Rattle.ns_monitor.proofs.Prelude.{HasReached, HasSeenTrue, HasSince, None, Paid, asked_of, drop, got_of, has_some, the, ◌≡◌}
+use Rattle.std.proofs.Common.{None, drop, ◌≡◌}
+use Rattle.ns_monitor.proofs.Prelude.{HasReached, HasSeenTrue, HasSince, Paid, asked_of, got_of, has_some, the}
 use Rattle.ns_monitor.proofs.monitor.Monitor.pay.Given as goal
 
 abbrev pub invariant-loop-wake : goal.invariant-loop-wake

@@ -1,4 +1,5 @@
-use Rattle.ns_monitor.proofs.Prelude.{HasReached, None, Paid, PayWake, TableId, [], arith, asked_of, can_go, got_of, has_some, owes_more, since, subst, sym, the, ◌∙◌}
+use Rattle.std.proofs.Common.{None, [], arith, subst, sym, ◌∙◌}
+use Rattle.ns_monitor.proofs.Prelude.{HasReached, Paid, PayWake, TableId, asked_of, can_go, got_of, has_some, owes_more, since, the}
 use Rattle.ns_monitor.proofs.SeveralWaits.{true_now}
 use Rattle.ns_monitor.proofs.Standing.{all_paid, can_pay, is_paid, owes_next}
 use Rattle.ns_monitor.proofs.monitor.Monitor.pay_one.Goals as goal

@@ -1,4 +1,5 @@
-use Rattle.ns_monitor.proofs.Prelude.{CanStep, None, Performed, Saw, TableId, act_returning, arith, found_back, refl, since, since_itself, since_then, stays_itself, stays_through, subst, sym, the, ◌∙◌}
+use Rattle.std.proofs.Common.{None, arith, refl, subst, sym, ◌∙◌}
+use Rattle.ns_monitor.proofs.Prelude.{CanStep, Performed, Saw, TableId, act_returning, found_back, since, since_itself, since_then, stays_itself, stays_through, the}
 use Rattle.ns_monitor.proofs.SeveralWaits.{true_now}
 use Rattle.ns_monitor.proofs.Standing.{can_put_back, hand_stays, is_back_for, misses_back}
 use Rattle.ns_monitor.proofs.monitor.Monitor.put_back.Goals as goal

@@ -1,4 +1,5 @@
-use Rattle.ns_monitor.proofs.Prelude.{HasKeptItsQueues, HasSince, IsAtPlace, IsPackable, None, returning_at, the, ◌≡◌}
+use Rattle.std.proofs.Common.{None, ◌≡◌}
+use Rattle.ns_monitor.proofs.Prelude.{HasKeptItsQueues, HasSince, IsAtPlace, IsPackable, returning_at, the}
 use Rattle.ns_monitor.proofs.monitor.Monitor.put_back.Given as goal
 
 abbrev pub invariant-loop : goal.invariant-loop

@@ -1,4 +1,5 @@
-use Rattle.ns_monitor.proofs.Prelude.{Arm, ArmFlag, AwaitWake, Changed, InAcquire, IsAtPlace, None, Queue, QueueSelf, TableId, ap, arith, can_go, refl, since_then, subst, sym, the, times, works, ◌∙◌, ◌≡◌}
+use Rattle.std.proofs.Common.{None, ap, arith, refl, subst, sym, ◌∙◌, ◌≡◌}
+use Rattle.ns_monitor.proofs.Prelude.{Arm, ArmFlag, AwaitWake, Changed, InAcquire, IsAtPlace, Queue, QueueSelf, TableId, can_go, since_then, the, times, works}
 use Rattle.ns_monitor.proofs.Locks.{HasArmed, arms, comes_to_acquire}
 use Rattle.ns_monitor.proofs.Standing.{hand_by, same_number, still_since}
 use Rattle.ns_monitor.proofs.monitor.Monitor.queue.Given.{Over}

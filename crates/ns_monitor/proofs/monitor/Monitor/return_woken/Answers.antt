@@ -1,5 +1,5 @@
-use Rattle.ns_monitor.proofs.Prelude.{Carries, HasKeptItsQueues, HasReturnedWoken, HasSince, HasWokenInHand, InSignal, IsAtPlace, IsOrderly, None, ReturnQueues, Saw, TableId, WakeAndReturn, WakeWaiters, ap, arith, change_found, is_held, lists_woken, not, refl, rules, since, since_itself}
-use Rattle.ns_monitor.proofs.Prelude.{since_then, subst, sym, taken_from, the, works, ◌∙◌, ◌≡◌}
+use Rattle.std.proofs.Common.{None, ap, arith, not, refl, rules, subst, sym, ◌∙◌, ◌≡◌}
+use Rattle.ns_monitor.proofs.Prelude.{Carries, HasKeptItsQueues, HasReturnedWoken, HasSince, HasWokenInHand, InSignal, IsAtPlace, IsOrderly, ReturnQueues, Saw, TableId, WakeAndReturn, WakeWaiters, change_found, is_held, lists_woken, since, since_itself, since_then, taken_from, the, works}
 use Rattle.ns_monitor.proofs.Standing.{still_since}
 use Rattle.ns_monitor.proofs.Wakes.{by_both, by_one, can_return, hand_kept, hand_made, is_returned, misses_return}
 use Rattle.ns_monitor.proofs.monitor.Monitor.return_woken.Given.{Over}

@@ -1,4 +1,5 @@
-use Rattle.ns_monitor.proofs.Prelude.{HasSince, HasWokenInHand, InSignal, IsAtPlace, IsPackable, None, WakeAndReturn, is_held, the, ◌≡◌}
+use Rattle.std.proofs.Common.{None, ◌≡◌}
+use Rattle.ns_monitor.proofs.Prelude.{HasSince, HasWokenInHand, InSignal, IsAtPlace, IsPackable, WakeAndReturn, is_held, the}
 use Rattle.ns_monitor.proofs.monitor.Monitor.return_woken.Given as goal
 
 abbrev pub invariant-loop : goal.invariant-loop

@@ -1,4 +1,5 @@
-use Rattle.ns_monitor.proofs.Prelude.{InRelease, IsAtPlace, None, ScanAndRelease, arith, refl, row_in, scan_place, since_then, subst, sym, the, ◌∙◌}
+use Rattle.std.proofs.Common.{None, arith, refl, subst, sym, ◌∙◌}
+use Rattle.ns_monitor.proofs.Prelude.{InRelease, IsAtPlace, ScanAndRelease, row_in, scan_place, since_then, the}
 use Rattle.ns_monitor.proofs.Releases.{scans_plain}
 use Rattle.ns_monitor.proofs.Tests.{moves_in}
 use Rattle.ns_monitor.proofs.monitor.Monitor.scan_and_release.Goals as goal

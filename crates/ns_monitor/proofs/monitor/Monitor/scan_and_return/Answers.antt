@@ -1,4 +1,5 @@
-use Rattle.ns_monitor.proofs.Prelude.{GateView, HasReached, HasSince, List, None, Paid, TableId, ap, arith, asked_of, false, got_of, has_some, lists_scanned, paying_at, ready_at, since_then, sought_at, subst, sym, the, true, works, ◌∙◌, ◌≡◌}
+use Rattle.std.proofs.Common.{List, None, ap, arith, false, subst, sym, true, ◌∙◌, ◌≡◌}
+use Rattle.ns_monitor.proofs.Prelude.{GateView, HasReached, HasSince, Paid, TableId, asked_of, got_of, has_some, lists_scanned, paying_at, ready_at, since_then, sought_at, the, works}
 use Rattle.ns_monitor.proofs.Releases.{calls_few, found_first, hand_scanned, may_enter, may_still, owes_scanned, pay_scanned, pays_at, put_scanned, ready_still, scans_in_hand, told_list, turned_writer}
 use Rattle.ns_monitor.proofs.monitor.Monitor.scan_and_return.Given.{Over}
 use Rattle.ns_monitor.proofs.monitor.Monitor.scan_and_return.Goals.{After-put_back}

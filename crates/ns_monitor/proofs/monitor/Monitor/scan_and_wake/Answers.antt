@@ -1,4 +1,5 @@
-use Rattle.ns_monitor.proofs.Prelude.{HasReached, HasSince, None, Paid, TableId, ap, arith, as_many, asked_of, called_by, false, got_of, has_some, lists_scanned, meets_at, not, ready_at, rules, since_then, subst, sym, the, woken_of, works, ◌∙◌}
+use Rattle.std.proofs.Common.{None, ap, arith, false, not, rules, subst, sym, ◌∙◌}
+use Rattle.ns_monitor.proofs.Prelude.{HasReached, HasSince, Paid, TableId, as_many, asked_of, called_by, got_of, has_some, lists_scanned, meets_at, ready_at, since_then, the, woken_of, works}
 use Rattle.ns_monitor.proofs.Releases.{calls_are, hand_scanned, may_enter, owes_scanned, pay_scanned, pays_at, put_scanned, scans_in_hand, took_some}
 use Rattle.ns_monitor.proofs.monitor.Monitor.scan_and_wake.Goals as goal
 

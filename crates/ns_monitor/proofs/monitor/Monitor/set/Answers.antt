@@ -1,4 +1,5 @@
-use Rattle.ns_monitor.proofs.Prelude.{InCells, Known, SetStore, Some, StoreCell, TableId, ap, arith, can_go, refl, rules, setting, sym, the, ◌∙◌}
+use Rattle.std.proofs.Common.{Some, ap, arith, refl, rules, sym, ◌∙◌}
+use Rattle.ns_monitor.proofs.Prelude.{InCells, Known, SetStore, StoreCell, TableId, can_go, setting, the}
 use Rattle.ns_monitor.proofs.Saves.{saves}
 use Rattle.ns_monitor.proofs.Standing.{same_number}
 use Rattle.ns_monitor.proofs.Callers.{grew, is_set, sets_next}

@@ -1,4 +1,5 @@
-use Rattle.ns_monitor.proofs.Prelude.{LoadWord, MayGoAlone, None, Saw, TableId, arith, since, since_then, subst, sym, ◌∙◌}
+use Rattle.std.proofs.Common.{None, arith, subst, sym, ◌∙◌}
+use Rattle.ns_monitor.proofs.Prelude.{LoadWord, MayGoAlone, Saw, TableId, since, since_then}
 use Rattle.ns_monitor.proofs.Standing.{can_load, loads, saw_held}
 use Rattle.ns_monitor.proofs.monitor.Monitor.take.Goals as goal
 

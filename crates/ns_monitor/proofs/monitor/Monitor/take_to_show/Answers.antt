@@ -1,4 +1,5 @@
-use Rattle.ns_monitor.proofs.Prelude.{CanStep, InShow, IsAtPlace, LoadWord, Made, None, Saw, ShowLoad, Some, TableId, TakeQueues, TakeToShow, ToChange, Walk, arith, can_go, false, refl, rules, showing, since, since_then, subst, sym, true, ◌∙◌}
+use Rattle.std.proofs.Common.{None, Some, arith, false, refl, rules, subst, sym, true, ◌∙◌}
+use Rattle.ns_monitor.proofs.Prelude.{CanStep, InShow, IsAtPlace, LoadWord, Made, Saw, ShowLoad, TableId, TakeQueues, TakeToShow, ToChange, Walk, can_go, showing, since, since_then}
 use Rattle.ns_monitor.proofs.Shows.{has_stood, loads_to_show, misses_to_show, shows_by, takes_to_show}
 use Rattle.ns_monitor.proofs.Standing.{loads_first}
 use Rattle.ns_monitor.proofs.monitor.Monitor.take_to_show.Given.{Over}

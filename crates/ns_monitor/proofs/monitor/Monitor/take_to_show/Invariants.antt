@@ -1,4 +1,5 @@
-use Rattle.ns_monitor.proofs.Prelude.{HasReached, HasSince, IsPackable, Some, show_by, showing, the, ◌≡◌}
+use Rattle.std.proofs.Common.{Some, ◌≡◌}
+use Rattle.ns_monitor.proofs.Prelude.{HasReached, HasSince, IsPackable, show_by, showing, the}
 use Rattle.ns_word.specs.declared.request.Request.TheVariants as TheRequest
 use Rattle.ns_monitor.proofs.monitor.Monitor.take_to_show.Given as goal
 

@@ -1,4 +1,5 @@
-use Rattle.ns_monitor.proofs.Prelude.{TableId, ap, arith, judge_of, rules, sym, ◌-◌, ◌∙◌}
+use Rattle.std.proofs.Common.{ap, arith, rules, sym, ◌-◌, ◌∙◌}
+use Rattle.ns_monitor.proofs.Prelude.{TableId, judge_of}
 use Rattle.ns_monitor.proofs.Tests.{can_tell, is_tested}
 use Rattle.ns_monitor.proofs.monitor.Monitor.test.Goals as goal
 

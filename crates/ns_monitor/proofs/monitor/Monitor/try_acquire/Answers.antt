@@ -1,4 +1,5 @@
-use Rattle.ns_monitor.proofs.Prelude.{Acquire, AsFresh, ForLock, InTry, IsAtPlace, None, Some, TableId, TryAcquire, arith, can_go, false, rules, since, since_then, sym, tried, true, trying, ◌∙◌}
+use Rattle.std.proofs.Common.{None, Some, arith, false, rules, sym, true, ◌∙◌}
+use Rattle.ns_monitor.proofs.Prelude.{Acquire, AsFresh, ForLock, InTry, IsAtPlace, TableId, TryAcquire, can_go, since, since_then, tried, trying}
 use Rattle.ns_monitor.proofs.Callers.{is_tried, may_try, tried_behind, tries_by, wants_to_try}
 use Rattle.ns_monitor.proofs.Standing.{loads_first}
 use Rattle.ns_monitor.proofs.monitor.Monitor.try_acquire.Goals as goal

@@ -1,4 +1,5 @@
-use Rattle.ns_monitor.proofs.Prelude.{Busy, HasAnswered, HasLocked, HasSeenMore, Succeeded, TableId, TryLock, cond, known_of, rules, subst, sym, trying, ◌∙◌}
+use Rattle.std.proofs.Common.{cond, rules, subst, sym, ◌∙◌}
+use Rattle.ns_monitor.proofs.Prelude.{Busy, HasAnswered, HasLocked, HasSeenMore, Succeeded, TableId, TryLock, known_of, trying}
 use Rattle.ns_monitor.proofs.Callers.{locked, saw_more}
 use Rattle.ns_monitor.proofs.monitor.Monitor.try_lock_as.Goals as goal
 

@@ -1,5 +1,5 @@
-use Rattle.ns_monitor.proofs.Prelude.{Answer, Answered, Await, Cause, Grows, HasAnswered, HasMode, HasSince, HasWaitedFor, IfSome, IsAtRest, IsFreshIn, Known, Met, OnEntry, QueuesOrEnds, SeatOf, Some, TableId, answer_of, ap, arith, false, inl, inr, is_limited, known_of, refl, row_in, rules}
-use Rattle.ns_monitor.proofs.Prelude.{since_then, subst, sym, the, true, wait_first, waits_by, ◌∙◌, ◌≡◌}
+use Rattle.std.proofs.Common.{IfSome, Some, ap, arith, false, inl, inr, refl, rules, subst, sym, true, ◌∙◌, ◌≡◌}
+use Rattle.ns_monitor.proofs.Prelude.{Answer, Answered, Await, Cause, Grows, HasAnswered, HasMode, HasSince, HasWaitedFor, IsAtRest, IsFreshIn, Known, Met, OnEntry, QueuesOrEnds, SeatOf, TableId, answer_of, is_limited, known_of, row_in, since_then, the, wait_first, waits_by}
 use Rattle.ns_monitor.proofs.Callers.{grew}
 use Rattle.ns_monitor.proofs.Returns.{ended_as, ended_since, fits_fresh, tested_so, wait_tells}
 use Rattle.ns_monitor.proofs.Standing.{same_number}

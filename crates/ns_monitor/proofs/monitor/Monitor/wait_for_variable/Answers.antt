@@ -1,4 +1,5 @@
-use Rattle.ns_monitor.proofs.Prelude.{Answered, Await, Grows, HasAnswered, HasMode, IsFreshIn, Known, Some, TableId, answer_of_wait, ap, arith, is_limited, known_of, queuing_first, rules, subst, sym, the, true, waits_for_variable, ◌∙◌, ◌≡◌}
+use Rattle.std.proofs.Common.{Some, ap, arith, rules, subst, sym, true, ◌∙◌, ◌≡◌}
+use Rattle.ns_monitor.proofs.Prelude.{Answered, Await, Grows, HasAnswered, HasMode, IsFreshIn, Known, TableId, answer_of_wait, is_limited, known_of, queuing_first, the, waits_for_variable}
 use Rattle.ns_monitor.proofs.Callers.{grew}
 use Rattle.ns_monitor.proofs.Returns.{fits_fresh}
 use Rattle.ns_monitor.proofs.Standing.{same_number}

@@ -1,4 +1,5 @@
-use Rattle.ns_monitor.proofs.Prelude.{Answered, Await, Cause, HasAnswered, HasReached, HasSince, IfEnded, IfSome, IsFreshIn, None, OnReturn, QueuesOrEnds, Some, TableId, ap, arith, false, is_limited, refl, row_in, since_itself, since_then, subst, sym, the, true, unmet_by, ◌∙◌, ◌≡◌}
+use Rattle.std.proofs.Common.{IfSome, None, Some, ap, arith, false, refl, subst, sym, true, ◌∙◌, ◌≡◌}
+use Rattle.ns_monitor.proofs.Prelude.{Answered, Await, Cause, HasAnswered, HasReached, HasSince, IfEnded, IsFreshIn, OnReturn, QueuesOrEnds, TableId, is_limited, row_in, since_itself, since_then, the, unmet_by}
 use Rattle.ns_monitor.proofs.Returns.{back_to_test, comes_fresh, ended_as, has_row, in_range, tested_so}
 use Rattle.ns_monitor.proofs.Standing.{same_number}
 use Rattle.ns_monitor.proofs.monitor.Monitor.wait_on.Given.{Over}

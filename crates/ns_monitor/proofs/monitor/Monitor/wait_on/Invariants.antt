@@ -1,4 +1,5 @@
-use Rattle.ns_monitor.proofs.Prelude.{HasSince, InQueuing, InWait, IsAtPlace, Load, None, row_in, the, ◌≡◌}
+use Rattle.std.proofs.Common.{None, ◌≡◌}
+use Rattle.ns_monitor.proofs.Prelude.{HasSince, InQueuing, InWait, IsAtPlace, Load, row_in, the}
 use Rattle.ns_monitor.proofs.monitor.Monitor.wait_on.Given as goal
 
 abbrev pub invariant-loop : goal.invariant-loop

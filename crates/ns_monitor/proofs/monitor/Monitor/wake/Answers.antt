@@ -1,4 +1,5 @@
-use Rattle.ns_monitor.proofs.Prelude.{HasSince, Some, TableId, arith, found_nobody, is_held, rules, since_then, sym, taken_from, takes_nobody, the, waking_by, woken_nobody, ◌∙◌}
+use Rattle.std.proofs.Common.{Some, arith, rules, sym, ◌∙◌}
+use Rattle.ns_monitor.proofs.Prelude.{HasSince, TableId, found_nobody, is_held, since_then, taken_from, takes_nobody, the, waking_by, woken_nobody}
 use Rattle.ns_monitor.proofs.Standing.{still_since}
 use Rattle.ns_monitor.proofs.Wakes.{hand_of_nobody, nobody_woken, taken_still}
 use Rattle.ns_monitor.proofs.monitor.Monitor.wake.Given.{Over}

@@ -1,4 +1,5 @@
-use Rattle.ns_monitor.proofs.Prelude.{HasSince, HasWokenInHand, InSignal, IsOrderly, None, TableId, WakeAndReturn, arith, found_sole, refl, rules, since_itself, since_then, subst, sym, taken_from, the, works, ◌∙◌}
+use Rattle.std.proofs.Common.{None, arith, refl, rules, subst, sym, ◌∙◌}
+use Rattle.ns_monitor.proofs.Prelude.{HasSince, HasWokenInHand, InSignal, IsOrderly, TableId, WakeAndReturn, found_sole, since_itself, since_then, taken_from, the, works}
 use Rattle.ns_monitor.proofs.Standing.{still_since}
 use Rattle.ns_monitor.proofs.Wakes.{hand_made, taken_still}
 use Rattle.ns_monitor.proofs.monitor.Monitor.wake_some.Given.{Over}

@@ -1,4 +1,5 @@
-use Rattle.ns_monitor.proofs.Prelude.{Bool, HasReached, HasWokenInHand, InSignal, IsOrderly, None, TableId, WakeAndReturn, ap, arith, has_some, list_fits, list_small, number, owed_woken, pay_woken, refl, rules, since_itself, since_then, subst, sym, taken_from, the, wakes_of, works, ◌∙◌, ◌≡◌}
+use Rattle.std.proofs.Common.{Bool, None, ap, arith, refl, rules, subst, sym, ◌∙◌, ◌≡◌}
+use Rattle.ns_monitor.proofs.Prelude.{HasReached, HasWokenInHand, InSignal, IsOrderly, TableId, WakeAndReturn, has_some, list_fits, list_small, number, owed_woken, pay_woken, since_itself, since_then, taken_from, the, wakes_of, works}
 use Rattle.ns_monitor.proofs.Standing.{still_since}
 use Rattle.ns_monitor.proofs.Wakes.{hand_made}
 use Rattle.ns_monitor.proofs.monitor.Monitor.wake_waiters.Given.{Over}

@@ -1,4 +1,5 @@
-use Rattle.ns_note.proofs.Prelude.{Grows, MoveClock, rules, subst, sym, ◌∙◌}
+use Rattle.std.proofs.Common.{rules, subst, sym, ◌∙◌}
+use Rattle.ns_note.proofs.Prelude.{Grows, MoveClock}
 use Rattle.ns_note.proofs.Rests.{rests, grew, adds_by}
 use Rattle.ns_note.proofs.Allowed.{moves}
 use Rattle.ns_note.proofs.env.Env.advance.Goals as goal

@@ -1,4 +1,5 @@
-use Rattle.ns_note.proofs.Prelude.{IsExpiryAt, None, NoteWord, Option, ap, earlier, env_after, expiry_begins, expiry_goes_on, expiry_starts, legal_begins, line_falls, made_below, nearer, subst, sym, ℕ, ◌∙◌}
+use Rattle.std.proofs.Common.{None, Option, ap, subst, sym, ℕ, ◌∙◌}
+use Rattle.ns_note.proofs.Prelude.{IsExpiryAt, NoteWord, earlier, env_after, expiry_begins, expiry_goes_on, expiry_starts, legal_begins, line_falls, made_below, nearer}
 use Rattle.ns_note.proofs.Rests.{grows_through}
 use Rattle.ns_note.proofs.env.Env.expiry.Goals as goal
 

@@ -1,4 +1,5 @@
-use Rattle.ns_note.proofs.Prelude.{Grows, IsExpiryAt, height, ◌≡◌}
+use Rattle.std.proofs.Common.{◌≡◌}
+use Rattle.ns_note.proofs.Prelude.{Grows, IsExpiryAt, height}
 use Rattle.ns_note.proofs.env.Env.expiry.Given as goal
 
 abbrev pub invariant-loop-next : goal.invariant-loop-next

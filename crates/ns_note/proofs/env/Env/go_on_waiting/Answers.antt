@@ -1,4 +1,4 @@
-use Rattle.ns_note.proofs.Prelude.{Some, ap, ◌∙◌}
+use Rattle.std.proofs.Common.{Some, ap, ◌∙◌}
 use Rattle.ns_note.proofs.Looks.{canceled_since, timed_out_since}
 use Rattle.ns_note.proofs.Rests.{made_grows}
 use Rattle.ns_note.proofs.env.Env.go_on_waiting.Goals as goal

@@ -1,4 +1,5 @@
-use Rattle.ns_note.proofs.Prelude.{Grows, ◌≡◌}
+use Rattle.std.proofs.Common.{◌≡◌}
+use Rattle.ns_note.proofs.Prelude.{Grows}
 use Rattle.ns_note.proofs.env.Env.go_on_waiting.Given as goal
 
 abbrev pub invariant-loop : goal.invariant-loop

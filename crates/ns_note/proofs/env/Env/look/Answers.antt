@@ -1,4 +1,5 @@
-use Rattle.ns_note.proofs.Prelude.{BeginsWith, EnvKnown, IfSome, IsBetween, IsMade, IsUnnotified, Note, Option, begins_itself, made_begins, option_map, subst, sym, ◌∙◌}
+use Rattle.std.proofs.Common.{IfSome, Option, option_map, subst, sym, ◌∙◌}
+use Rattle.ns_note.proofs.Prelude.{BeginsWith, EnvKnown, IsBetween, IsMade, IsUnnotified, Note, begins_itself, made_begins}
 use Rattle.ns_note.proofs.Looks.{times_out, shows_nothing}
 use Rattle.ns_note.proofs.env.Env.look.Goals.{After-is_due, in-Some+else-stops, in_default}
 use Rattle.ns_note.proofs.env.Env.look.Goals as goal

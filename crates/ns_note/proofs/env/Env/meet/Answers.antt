@@ -1,4 +1,5 @@
-use Rattle.ns_note.proofs.Prelude.{AreOfOneHistory, EnvKnown, EnvView, Grows, HaveLearned, List, Me, TableId, ap, cuts, fresh_seat, glues, known_of, meets, pair_of, rules, subst, sym, the, ℕ, ◌∙◌}
+use Rattle.std.proofs.Common.{List, ap, rules, subst, sym, ℕ, ◌∙◌}
+use Rattle.ns_note.proofs.Prelude.{AreOfOneHistory, EnvKnown, EnvView, Grows, HaveLearned, Me, TableId, cuts, fresh_seat, glues, known_of, meets, pair_of, the}
 use Rattle.ns_note.proofs.Rests.{grew, nowhere}
 use Rattle.ns_note.proofs.Seats.{by_sums, learns}
 use Rattle.ns_note.proofs.env.Env.meet.Goals as goal

@@ -1,5 +1,5 @@
-use Rattle.ns_note.proofs.Prelude.{AreNew, EnvKnown, EnvView, IsAtRest, IsNumberOf, List, Me, TableId, [], all_new, ap, arith, cuts, first_of, fresh_seat, known, known_of, length, length-append, new_more, numbered_first, numbered_rest, refl, rest_of, rules, subst, sym, the, ℕ, ◌+◌, ◌<◌, ◌∙◌, ◌∷◌}
-use Rattle.ns_note.proofs.Prelude.{◌≡◌}
+use Rattle.std.proofs.Common.{List, [], ap, arith, length, length-append, refl, rules, subst, sym, ℕ, ◌+◌, ◌<◌, ◌∙◌, ◌∷◌, ◌≡◌}
+use Rattle.ns_note.proofs.Prelude.{AreNew, EnvKnown, EnvView, IsAtRest, IsNumberOf, Me, TableId, all_new, cuts, first_of, fresh_seat, known, known_of, new_more, numbered_first, numbered_rest, rest_of, the}
 use Rattle.ns_note.proofs.Seats.{begins_with, by_sums}
 use Rattle.ns_note.proofs.env.Env.new.Goals as goal
 

@@ -1,4 +1,5 @@
-use Rattle.ns_note.proofs.Prelude.{AreNew, fresh, length, ◌-◌, ◌≡◌}
+use Rattle.std.proofs.Common.{length, ◌-◌, ◌≡◌}
+use Rattle.ns_note.proofs.Prelude.{AreNew, fresh}
 use Rattle.ns_note.proofs.env.Env.new.Given as goal
 
 abbrev pub invariant-loop-number : goal.invariant-loop-number

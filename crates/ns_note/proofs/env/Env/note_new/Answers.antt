@@ -1,4 +1,5 @@
-use Rattle.ns_note.proofs.Prelude.{Adds, EnvKnown, EnvView, FoundWord, IfSome, IsMade, New, Note, Option, ParentFits, Take, Taken, WordFits, [], ap, arith, env_after, made_note, note_of, note_stored, option_map, rules, state_of, subst, sym, the, word_of, ℕ, ◌++◌, ◌+◌, ◌-◌, ◌<◌, ◌^◌, ◌∙◌, ◌∷◌, ◌≡◌}
+use Rattle.std.proofs.Common.{IfSome, Option, [], ap, arith, option_map, rules, subst, sym, ℕ, ◌++◌, ◌+◌, ◌-◌, ◌<◌, ◌^◌, ◌∙◌, ◌∷◌, ◌≡◌}
+use Rattle.ns_note.proofs.Prelude.{Adds, EnvKnown, EnvView, FoundWord, IsMade, New, Note, ParentFits, Take, Taken, WordFits, env_after, made_note, note_of, note_stored, state_of, the, word_of}
 use Rattle.ns_note.proofs.Codec.{note_of-word_of}
 use Rattle.ns_note.proofs.Rests.{rests, grew, adds_by, adds_note, note_made, numbers_fit, parent_above}
 use Rattle.ns_note.proofs.Allowed.{makes, back}

@@ -1,4 +1,5 @@
-use Rattle.ns_note.proofs.Prelude.{EnvKnown, Grows, IsMade, NotifyNote, arith, rules, subst, sym, ℕ, ◌+◌, ◌-◌, ◌∙◌}
+use Rattle.std.proofs.Common.{arith, rules, subst, sym, ℕ, ◌+◌, ◌-◌, ◌∙◌}
+use Rattle.ns_note.proofs.Prelude.{EnvKnown, Grows, IsMade, NotifyNote}
 use Rattle.ns_note.proofs.Rests.{rests, grew, adds_by}
 use Rattle.ns_note.proofs.Allowed.{marks}
 use Rattle.ns_note.proofs.env.Env.notify.Goals as goal

@@ -1,4 +1,5 @@
-use Rattle.ns_note.proofs.Prelude.{LoadClock, refl, rules, ◌∙◌}
+use Rattle.std.proofs.Common.{refl, rules, ◌∙◌}
+use Rattle.ns_note.proofs.Prelude.{LoadClock}
 use Rattle.ns_note.proofs.Rests.{rests, grew, mine_stays, quiet_adds, clock_loaded}
 use Rattle.ns_note.proofs.Allowed.{loads_clock}
 use Rattle.ns_note.proofs.env.Env.now.Goals as goal

@@ -1,4 +1,4 @@
-use Rattle.ns_note.proofs.Prelude.{◌≡◌}
+use Rattle.std.proofs.Common.{◌≡◌}
 use Rattle.ns_note.proofs.env.Env.ring.Given as goal
 
 abbrev pub invariant-loop-number : goal.invariant-loop-number

@@ -1,4 +1,4 @@
-use Rattle.ns_note.proofs.Prelude.{arith, rules, ◌∙◌}
+use Rattle.std.proofs.Common.{arith, rules, ◌∙◌}
 use Rattle.ns_note.proofs.Allowed.{sets_back}
 use Rattle.ns_note.proofs.env.Env.set_bell_back.Goals as goal
 

@@ -1,4 +1,5 @@
-use Rattle.ns_note.proofs.Prelude.{IsLeftAt, NoteWord, Some, ap, env_after, line_falls, made_below, nearer, subst, sym, ◌∙◌}
+use Rattle.std.proofs.Common.{Some, ap, subst, sym, ◌∙◌}
+use Rattle.ns_note.proofs.Prelude.{IsLeftAt, NoteWord, env_after, line_falls, made_below, nearer}
 use Rattle.ns_note.proofs.Looks.{goes_above, over_above}
 use Rattle.ns_note.proofs.Rests.{grows_through}
 use Rattle.ns_note.proofs.env.Env.stops.Goals.{In-Some}

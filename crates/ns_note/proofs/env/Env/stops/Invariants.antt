@@ -1,4 +1,5 @@
-use Rattle.ns_note.proofs.Prelude.{Grows, height, ◌≡◌}
+use Rattle.std.proofs.Common.{◌≡◌}
+use Rattle.ns_note.proofs.Prelude.{Grows, height}
 use Rattle.ns_note.proofs.Looks.{IsLoadedAt}
 use Rattle.ns_note.proofs.env.Env.stops.Given as goal
 

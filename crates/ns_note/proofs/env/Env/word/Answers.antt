@@ -1,4 +1,5 @@
-use Rattle.ns_note.proofs.Prelude.{LoadNote, arith, refl, rules, ◌+◌, ◌-◌, ◌∙◌}
+use Rattle.std.proofs.Common.{arith, refl, rules, ◌+◌, ◌-◌, ◌∙◌}
+use Rattle.ns_note.proofs.Prelude.{LoadNote}
 use Rattle.ns_note.proofs.Rests.{rests, grew, quiet_adds}
 use Rattle.ns_note.proofs.Allowed.{loads_note}
 use Rattle.ns_note.proofs.env.Env.word.Goals as goal

@@ -1,4 +1,4 @@
-use Rattle.ns_objects.proofs.Prelude.{of_z, refl, to_z, w64, ℤ, ◌∙◌}
+use Rattle.std.proofs.Common.{of_z, refl, to_z, w64, ℤ, ◌∙◌}
 use Rattle.ns_objects.proofs.Changes.{goes_on, judged_anew, found_coded, judged_so}
 use Rattle.ns_objects.proofs.objects.Objects.add_at.Goals as goal
 

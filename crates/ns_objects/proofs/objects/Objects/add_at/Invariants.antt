@@ -1,4 +1,5 @@
-use Rattle.ns_objects.proofs.Prelude.{HasJudged, IsCounterWord, ◌≡◌}
+use Rattle.std.proofs.Common.{◌≡◌}
+use Rattle.ns_objects.proofs.Prelude.{HasJudged, IsCounterWord}
 use Rattle.ns_objects.proofs.objects.Objects.add_at.Given as goal
 
 abbrev pub invariant-loop : goal.invariant-loop

@@ -1,4 +1,5 @@
-use Rattle.ns_objects.proofs.Prelude.{BothKnown, EnvGrows, EnvKnown, HasComeBackFromAny, HaveShownNothing, Known, None, Option, RoundAnswers, Setup, Some, WaitAnswers, WasReady, ap, later_itself, past_of, refl, subst, suc, sym, ℕ, ◌∙◌}
+use Rattle.std.proofs.Common.{None, Option, Some, ap, refl, subst, suc, sym, ℕ, ◌∙◌}
+use Rattle.ns_objects.proofs.Prelude.{BothKnown, EnvGrows, EnvKnown, HasComeBackFromAny, HaveShownNothing, Known, RoundAnswers, Setup, WaitAnswers, WasReady, later_itself, past_of}
 use Rattle.ns_objects.proofs.HeldWaits.{back_from_wait, place_by, waits_on_itself, waits_through}
 use Rattle.ns_objects.proofs.Rests.{env_grows_not, env_grows_through, grows_not, grows_through}
 use Rattle.ns_objects.proofs.Rounds.{all_known_later}

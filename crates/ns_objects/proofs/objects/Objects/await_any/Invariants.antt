@@ -1,4 +1,5 @@
-use Rattle.ns_objects.proofs.Prelude.{EnvGrows, Grows, HaveShownNothing, WaitsOn, WasReady, past_of, ℕ, ◌≡◌}
+use Rattle.std.proofs.Common.{ℕ, ◌≡◌}
+use Rattle.ns_objects.proofs.Prelude.{EnvGrows, Grows, HaveShownNothing, WaitsOn, WasReady, past_of}
 use Rattle.ns_objects.proofs.objects.Objects.await_any.Given as goal
 
 -- each round so far has shown nothing, and the wait on the monitor goes on

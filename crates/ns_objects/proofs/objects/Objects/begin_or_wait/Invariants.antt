@@ -1,4 +1,5 @@
-use Rattle.ns_objects.proofs.Prelude.{Free, OneComes, [], stage, standing_in, the, ◌≡◌}
+use Rattle.std.proofs.Common.{[], ◌≡◌}
+use Rattle.ns_objects.proofs.Prelude.{Free, OneComes, stage, standing_in, the}
 use Rattle.ns_objects.proofs.objects.Objects.begin_or_wait.Given as goal
 
 abbrev pub invariant-loop : goal.invariant-loop

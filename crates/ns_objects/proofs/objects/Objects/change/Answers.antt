@@ -1,4 +1,5 @@
-use Rattle.ns_objects.proofs.Prelude.{CounterState, accepted, ap, arith, change_in_hand, counter_of, counter_word, rules, the, ◌∙◌}
+use Rattle.std.proofs.Common.{ap, arith, rules, ◌∙◌}
+use Rattle.ns_objects.proofs.Prelude.{CounterState, accepted, change_in_hand, counter_of, counter_word, the}
 use Rattle.ns_objects.proofs.Allowed.{exchanges_word, value_made}
 use Rattle.ns_objects.proofs.Rests.{has_exchanged}
 use Rattle.ns_objects.proofs.objects.Objects.change.Goals as goal

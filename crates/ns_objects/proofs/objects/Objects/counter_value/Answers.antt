@@ -1,4 +1,5 @@
-use Rattle.ns_objects.proofs.Prelude.{LookCounter, ObjectsKnown, arith, refl, rules, subst, sym, ◌<◌}
+use Rattle.std.proofs.Common.{arith, refl, rules, subst, sym, ◌<◌}
+use Rattle.ns_objects.proofs.Prelude.{LookCounter, ObjectsKnown}
 use Rattle.ns_objects.proofs.Allowed.{allows}
 use Rattle.ns_objects.proofs.objects.Objects.counter_value.Goals as goal
 

@@ -1,4 +1,5 @@
-use Rattle.ns_objects.proofs.Prelude.{EnvGrows, WaitHasBegun, ◌≡◌}
+use Rattle.std.proofs.Common.{◌≡◌}
+use Rattle.ns_objects.proofs.Prelude.{EnvGrows, WaitHasBegun}
 use Rattle.ns_objects.proofs.objects.Objects.counter_wait.Given as goal
 
 abbrev pub invariant-loop : goal.invariant-loop

@@ -1,4 +1,5 @@
-use Rattle.ns_objects.proofs.Prelude.{Running, ap, arith, rules, sym, ◌∙◌}
+use Rattle.std.proofs.Common.{ap, arith, rules, sym, ◌∙◌}
+use Rattle.ns_objects.proofs.Prelude.{Running}
 use Rattle.ns_objects.proofs.Allowed.{ends_once}
 use Rattle.ns_objects.proofs.objects.Objects.end_once.Goals as goal
 

@@ -1,5 +1,5 @@
-use Rattle.ns_objects.proofs.Prelude.{AnyItem, Bool, BothKnown, InTurn, IsNamed, Setup, Some, WasReady, WasReadyIn, [], ap, begins_itself, clock_of, false, inl, inr, is_due, le-leb, leb, lt-leb, past_of, refl, slice_get-get_or, subst, sym, take, take_more, true, turn_more, turn_until, ◌++◌, ◌∙◌}
-use Rattle.ns_objects.proofs.Prelude.{◌∷◌}
+use Rattle.std.proofs.Common.{Bool, Some, [], ap, false, inl, inr, le-leb, leb, refl, subst, sym, take, true, ◌++◌, ◌∙◌, ◌∷◌}
+use Rattle.ns_objects.proofs.Prelude.{AnyItem, BothKnown, InTurn, IsNamed, Setup, WasReady, WasReadyIn, begins_itself, clock_of, is_due, lt-leb, past_of, slice_get-get_or, take_more, turn_more, turn_until}
 use Rattle.ns_objects.proofs.Rests.{env_grows_through, grows_through}
 use Rattle.ns_objects.proofs.Rounds.{every_get, known_later, whole_round}
 use Rattle.ns_objects.proofs.objects.Objects.look_at_any.Goals as goal

@@ -1,4 +1,5 @@
-use Rattle.ns_objects.proofs.Prelude.{EnvGrows, Grows, InTurn, WasReady, false, past_of, take, ◌≡◌}
+use Rattle.std.proofs.Common.{false, take, ◌≡◌}
+use Rattle.ns_objects.proofs.Prelude.{EnvGrows, Grows, InTurn, WasReady, past_of}
 use Rattle.ns_objects.proofs.objects.Objects.look_at_any.Given as goal
 
 -- behind the look at the clock each item so far was unready, in order

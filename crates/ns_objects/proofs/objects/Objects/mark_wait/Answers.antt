@@ -1,4 +1,5 @@
-use Rattle.ns_objects.proofs.Prelude.{MarkWait, ObjectsKnown, arith, rules, subst, sym, the, ◌<◌}
+use Rattle.std.proofs.Common.{arith, rules, subst, sym, ◌<◌}
+use Rattle.ns_objects.proofs.Prelude.{MarkWait, ObjectsKnown, the}
 use Rattle.ns_objects.proofs.Rests.{grew, came, come_grows}
 use Rattle.ns_objects.proofs.Allowed.{marks_wait}
 use Rattle.ns_objects.proofs.objects.Objects.mark_wait.Goals as goal

@@ -1,4 +1,5 @@
-use Rattle.ns_objects.proofs.Prelude.{AreOfOneHistory, Grows, HaveMet, List, Me, ObjectView, ObjectsKnown, TableId, ap, cuts, fresh_seat, glues, known_of, meets, no_setup, pair_of, rules, subst, sym, the, ℕ, ◌∙◌}
+use Rattle.std.proofs.Common.{List, ap, rules, subst, sym, ℕ, ◌∙◌}
+use Rattle.ns_objects.proofs.Prelude.{AreOfOneHistory, Grows, HaveMet, Me, ObjectView, ObjectsKnown, TableId, cuts, fresh_seat, glues, known_of, meets, no_setup, pair_of, the}
 use Rattle.ns_objects.proofs.Rests.{grew}
 use Rattle.ns_objects.proofs.Seats.{by_sums, learns}
 use Rattle.ns_objects.proofs.objects.Objects.meet.Goals as goal

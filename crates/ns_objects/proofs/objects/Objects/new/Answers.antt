@@ -1,5 +1,5 @@
-use Rattle.ns_objects.proofs.Prelude.{AreNew, IsAtRest, IsRuled, List, Me, ObjectEvent, ObjectView, ObjectsKnown, Setup, TableId, [], all_new, ap, arith, cuts, first_of, first_words, fresh, fresh_seat, known, known_of, length, length-append, new_lawful, new_more, numbered_first, numbered_rest}
-use Rattle.ns_objects.proofs.Prelude.{padded, refl, rest_of, rules, setup_of, subst, sym, the, ℕ, ◌+◌, ◌<◌, ◌∙◌, ◌∷◌, ◌≡◌}
+use Rattle.std.proofs.Common.{List, [], ap, arith, length, length-append, refl, rules, subst, sym, ℕ, ◌+◌, ◌<◌, ◌∙◌, ◌∷◌, ◌≡◌}
+use Rattle.ns_objects.proofs.Prelude.{AreNew, IsAtRest, IsRuled, Me, ObjectEvent, ObjectView, ObjectsKnown, Setup, TableId, all_new, cuts, first_of, first_words, fresh, fresh_seat, known, known_of, new_lawful, new_more, numbered_first, numbered_rest, padded, rest_of, setup_of, the}
 use Rattle.ns_objects.proofs.Seats.{begins, by_sums}
 use Rattle.ns_objects.proofs.objects.Objects.new.Goals as goal
 

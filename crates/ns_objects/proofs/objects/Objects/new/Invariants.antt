@@ -1,4 +1,5 @@
-use Rattle.ns_objects.proofs.Prelude.{AreNew, fresh, length, setup_of, ◌-◌, ◌≡◌}
+use Rattle.std.proofs.Common.{length, ◌-◌, ◌≡◌}
+use Rattle.ns_objects.proofs.Prelude.{AreNew, fresh, setup_of}
 use Rattle.ns_objects.proofs.objects.Objects.new.Given as goal
 
 abbrev pub invariant-loop-number : goal.invariant-loop-number

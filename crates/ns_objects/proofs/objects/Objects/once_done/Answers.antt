@@ -1,4 +1,5 @@
-use Rattle.ns_objects.proofs.Prelude.{ObjectsKnown, arith, rules, subst, sym, ◌<◌}
+use Rattle.std.proofs.Common.{arith, rules, subst, sym, ◌<◌}
+use Rattle.ns_objects.proofs.Prelude.{ObjectsKnown}
 use Rattle.ns_objects.proofs.Allowed.{looks_at_once}
 use Rattle.ns_objects.proofs.objects.Objects.once_done.Goals as goal
 

@@ -1,4 +1,5 @@
-use Rattle.ns_objects.proofs.Prelude.{IsNamed, arith, subst, sym, ◌<◌, ◌∙◌}
+use Rattle.std.proofs.Common.{arith, subst, sym, ◌<◌, ◌∙◌}
+use Rattle.ns_objects.proofs.Prelude.{IsNamed}
 use Rattle.ns_objects.proofs.Rounds.{every_get}
 use Rattle.ns_objects.proofs.objects.Objects.rest_for_any.Goals as goal
 

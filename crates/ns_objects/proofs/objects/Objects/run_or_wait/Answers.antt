@@ -1,4 +1,5 @@
-use Rattle.ns_objects.proofs.Prelude.{Began, Free, ObjectsKnown, OnOnce, Ran, Running, [], known_of, subst, the, ◌++◌, ◌∙◌, ◌∷◌, ◌≡◌}
+use Rattle.std.proofs.Common.{[], subst, ◌++◌, ◌∙◌, ◌∷◌, ◌≡◌}
+use Rattle.ns_objects.proofs.Prelude.{Began, Free, ObjectsKnown, OnOnce, Ran, Running, known_of, the}
 use Rattle.ns_objects.proofs.Rests.{grew, come_grows, comes_with}
 use Rattle.ns_objects.proofs.objects.Objects.run_or_wait.Goals as goal
 

@@ -1,4 +1,5 @@
-use Rattle.ns_objects.proofs.Prelude.{BothKnown, EnvGrows, EnvKnown, HaveShownNothing, None, RoundAnswers, Setup, Some, WasReady, any_of, ap, past_of, subst, suc, sym, ◌∙◌}
+use Rattle.std.proofs.Common.{None, Some, ap, subst, suc, sym, ◌∙◌}
+use Rattle.ns_objects.proofs.Prelude.{BothKnown, EnvGrows, EnvKnown, HaveShownNothing, RoundAnswers, Setup, WasReady, any_of, past_of}
 use Rattle.ns_objects.proofs.Rests.{env_grows_through, grows_through}
 use Rattle.ns_objects.proofs.Rounds.{all_known_later}
 use Rattle.ns_objects.proofs.objects.Objects.wait_any.Goals as goal

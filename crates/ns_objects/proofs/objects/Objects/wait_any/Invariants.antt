@@ -1,4 +1,5 @@
-use Rattle.ns_objects.proofs.Prelude.{EnvGrows, Grows, HaveShownNothing, WasReady, any_of, past_of, ℕ, ◌≡◌}
+use Rattle.std.proofs.Common.{ℕ, ◌≡◌}
+use Rattle.ns_objects.proofs.Prelude.{EnvGrows, Grows, HaveShownNothing, WasReady, any_of, past_of}
 use Rattle.ns_objects.proofs.objects.Objects.wait_any.Given as goal
 
 -- each round so far has shown nothing

@@ -1,4 +1,5 @@
-use Rattle.ns_objects.proofs.Prelude.{BothKnown, Cvs, PlaceBy, RoundAnswers, Setup, arith, inr, is_among, is_in, item_of, layout, map, past_of, subst, sym, ◌∙◌, ◌≡◌}
+use Rattle.std.proofs.Common.{arith, inr, map, subst, sym, ◌∙◌, ◌≡◌}
+use Rattle.ns_objects.proofs.Prelude.{BothKnown, Cvs, PlaceBy, RoundAnswers, Setup, is_among, is_in, item_of, layout, past_of}
 use Rattle.ns_objects.proofs.HeldWaits.{all_low, some_wait, waited, hand_fits}
 use Rattle.ns_objects.proofs.Rounds.{all_known_later, further}
 use Rattle.ns_objects.proofs.objects.Objects.wait_any_held.Goals as goal

@@ -1,4 +1,5 @@
-use Rattle.ns_outcomes.proofs.Prelude.{ap, btree_map_updates_text, get_by_text, once_more, string_bytes, ◌∙◌, ◌≡◌}
+use Rattle.std.proofs.Common.{ap, string_bytes, ◌∙◌, ◌≡◌}
+use Rattle.ns_outcomes.proofs.Prelude.{btree_map_updates_text, get_by_text, once_more}
 use Rattle.ns_outcomes.proofs.tallying.Counts.count.Goals as goal
 use Rattle.ns_outcomes.proofs.tallying.Counts.count.Goals.{in-Some, in-None}
 

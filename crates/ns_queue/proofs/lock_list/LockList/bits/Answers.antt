@@ -1,4 +1,5 @@
-use Rattle.ns_queue.proofs.Prelude.{ap, has_condition, is_long, nat_lt, number, ring_fits, sym, writes_plainly, ◌∙◌}
+use Rattle.std.proofs.Common.{ap, nat_lt, sym, ◌∙◌}
+use Rattle.ns_queue.proofs.Prelude.{has_condition, is_long, number, ring_fits, writes_plainly}
 use Rattle.ns_queue.proofs.Ringed.{any_counted}
 use Rattle.ns_queue.proofs.lock_list.LockList.bits.Goals as goal
 

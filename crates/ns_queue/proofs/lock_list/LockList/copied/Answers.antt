@@ -1,4 +1,5 @@
-use Rattle.ns_queue.proofs.Prelude.{[], ap, lock_fits, number, ring_fits, sym, ◌++◌, ◌∙◌, ◌∷◌}
+use Rattle.std.proofs.Common.{[], ap, sym, ◌++◌, ◌∙◌, ◌∷◌}
+use Rattle.ns_queue.proofs.Prelude.{lock_fits, number, ring_fits}
 use Rattle.ns_queue.proofs.Places.{ahead_free, from_none, own, seated_stands, smaller, stepped}
 use Rattle.ns_queue.proofs.lock_list.LockList.copied.Goals as goal
 

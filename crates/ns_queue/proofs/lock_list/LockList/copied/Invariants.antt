@@ -1,4 +1,5 @@
-use Rattle.ns_queue.proofs.Prelude.{ahead, from, length, ◌≡◌}
+use Rattle.std.proofs.Common.{length, ◌≡◌}
+use Rattle.ns_queue.proofs.Prelude.{ahead, from}
 use Rattle.ns_queue.proofs.lock_list.LockList.copied.Given as goal
 
 -- those so far

@@ -1,4 +1,5 @@
-use Rattle.ns_queue.proofs.Prelude.{ap, lock_fits, map, number, ring_fits, row_fits, seated, via_in, without_all, ◌∙◌}
+use Rattle.std.proofs.Common.{ap, map, ◌∙◌}
+use Rattle.ns_queue.proofs.Prelude.{lock_fits, number, ring_fits, row_fits, seated, via_in, without_all}
 use Rattle.ns_queue.proofs.RunCounts.{tests_most}
 use Rattle.ns_queue.proofs.Leaving.{woken_leave}
 use Rattle.ns_queue.proofs.Vias.{vias_woken}

@@ -1,4 +1,5 @@
-use Rattle.ns_queue.proofs.Prelude.{lock_fits, number, refl, ring_fits, row_fits, sym, ◌∙◌}
+use Rattle.std.proofs.Common.{refl, sym, ◌∙◌}
+use Rattle.ns_queue.proofs.Prelude.{lock_fits, number, ring_fits, row_fits}
 use Rattle.ns_queue.proofs.Reading.{nobody_first, reader_first, writer_first}
 use Rattle.ns_queue.proofs.lock_list.LockList.take_writer.Goals as goal
 

@@ -1,4 +1,5 @@
-use Rattle.ns_queue.proofs.Prelude.{Lock, take, with_waiters, ◌++◌, ◌≡◌}
+use Rattle.std.proofs.Common.{take, ◌++◌, ◌≡◌}
+use Rattle.ns_queue.proofs.Prelude.{Lock, with_waiters}
 use Rattle.ns_queue.proofs.queues.Queues.append.Given as goal
 
 -- those so far stand at the back

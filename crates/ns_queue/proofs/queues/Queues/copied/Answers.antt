@@ -1,4 +1,5 @@
-use Rattle.ns_queue.proofs.Prelude.{IsOrderly, [], lock_fits, number, subst, sym, ◌∙◌, ◌∷◌, ◌≡◌}
+use Rattle.std.proofs.Common.{[], subst, sym, ◌∙◌, ◌∷◌, ◌≡◌}
+use Rattle.ns_queue.proofs.Prelude.{IsOrderly, lock_fits, number}
 use Rattle.ns_queue.proofs.Inside.{again, shape}
 use Rattle.ns_queue.proofs.queues.Queues.copied.Given.{Over}
 use Rattle.ns_queue.proofs.Orders.{list_small}

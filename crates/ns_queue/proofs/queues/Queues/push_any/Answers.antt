@@ -1,4 +1,5 @@
-use Rattle.ns_queue.proofs.Prelude.{Cv, Waiter, [], ap, arith, beside, number, queues_fit, subst, sym, waiters_of, with_each, with_waiters, ◌++◌, ◌∙◌, ◌∷◌, ◌≡◌}
+use Rattle.std.proofs.Common.{[], ap, arith, subst, sym, ◌++◌, ◌∙◌, ◌∷◌, ◌≡◌}
+use Rattle.ns_queue.proofs.Prelude.{Cv, Waiter, beside, number, queues_fit, waiters_of, with_each, with_waiters}
 use Rattle.ns_queue.proofs.Orders.{free_beside}
 use Rattle.ns_queue.proofs.Parts.{each_beside, each_less, each_more}
 use Rattle.ns_queue.proofs.queues.Queues.push_any.Goals.{then-contains, else-contains}

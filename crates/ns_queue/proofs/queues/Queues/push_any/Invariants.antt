@@ -1,4 +1,5 @@
-use Rattle.ns_queue.proofs.Prelude.{with_each, ◌≡◌}
+use Rattle.std.proofs.Common.{◌≡◌}
+use Rattle.ns_queue.proofs.Prelude.{with_each}
 use Rattle.ns_queue.proofs.queues.Queues.push_any.Given as goal
 
 -- the lists of the variables so far have the waiter

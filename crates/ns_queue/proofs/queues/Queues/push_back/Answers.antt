@@ -1,4 +1,5 @@
-use Rattle.ns_queue.proofs.Prelude.{arith, lock_fits, number, queues_fit, ◌<◌}
+use Rattle.std.proofs.Common.{arith, ◌<◌}
+use Rattle.ns_queue.proofs.Prelude.{lock_fits, number, queues_fit}
 use Rattle.ns_queue.proofs.Orders.{free_beside}
 use Rattle.ns_queue.proofs.Inside.{lock_pushed}
 use Rattle.ns_queue.proofs.queues.Queues.push_back.Goals as goal

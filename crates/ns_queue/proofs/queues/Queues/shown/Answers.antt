@@ -1,4 +1,5 @@
-use Rattle.ns_queue.proofs.Prelude.{ap, lock_fits, map, number, shown_of, ◌<◌, ◌∙◌}
+use Rattle.std.proofs.Common.{ap, map, ◌<◌, ◌∙◌}
+use Rattle.ns_queue.proofs.Prelude.{lock_fits, number, shown_of}
 use Rattle.ns_queue.proofs.Orders.{offset_fits, list_small, number_fits}
 use Rattle.ns_queue.proofs.Inside.{list_there, list_at}
 use Rattle.ns_queue.proofs.queues.Queues.shown.Goals as goal

@@ -1,4 +1,5 @@
-use Rattle.ns_queue.proofs.Prelude.{ap, get_or, taken_set, ◌∙◌}
+use Rattle.std.proofs.Common.{ap, get_or, ◌∙◌}
+use Rattle.ns_queue.proofs.Prelude.{taken_set}
 use Rattle.ns_queue.proofs.Orders.{offset_fits, list_small}
 use Rattle.ns_queue.proofs.Appended.{have_seats_at}
 use Rattle.ns_queue.proofs.Taken.{below_signaled}

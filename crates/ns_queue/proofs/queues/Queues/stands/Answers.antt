@@ -1,4 +1,5 @@
-use Rattle.ns_queue.proofs.Prelude.{ap, lock_fits, ltb_from_iff, nat_lt, number, times_in, ◌<◌, ◌∙◌}
+use Rattle.std.proofs.Common.{ap, nat_lt, ◌<◌, ◌∙◌}
+use Rattle.ns_queue.proofs.Prelude.{lock_fits, ltb_from_iff, number, times_in}
 use Rattle.ns_queue.proofs.Orders.{offset_fits, list_small, number_fits}
 use Rattle.ns_queue.proofs.Inside.{list_at, list_there}
 use Rattle.ns_queue.proofs.queues.Queues.stands.Goals as goal

@@ -1,4 +1,5 @@
-use Rattle.ns_queue.proofs.Prelude.{Cv, ap, arith, sym, taken_set, waiters_of, ◌∙◌}
+use Rattle.std.proofs.Common.{ap, arith, sym, ◌∙◌}
+use Rattle.ns_queue.proofs.Prelude.{Cv, taken_set, waiters_of}
 use Rattle.ns_queue.proofs.Appended.{have_seats_at}
 use Rattle.ns_queue.proofs.Orders.{offset_fits, list_small}
 use Rattle.ns_queue.proofs.Inside.{list_at, shape, list_there}

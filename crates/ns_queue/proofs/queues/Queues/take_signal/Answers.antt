@@ -1,4 +1,5 @@
-use Rattle.ns_queue.proofs.Prelude.{Cv, ap, arith, get_or, signaled_of, sym, taken_set, waiters_of, ◌∙◌}
+use Rattle.std.proofs.Common.{ap, arith, get_or, sym, ◌∙◌}
+use Rattle.ns_queue.proofs.Prelude.{Cv, signaled_of, taken_set, waiters_of}
 use Rattle.ns_queue.proofs.Appended.{have_seats_at}
 use Rattle.ns_queue.proofs.Orders.{list_small, offset_fits}
 use Rattle.ns_queue.proofs.Inside.{list_at, shape, list_there}

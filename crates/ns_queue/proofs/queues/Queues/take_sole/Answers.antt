@@ -1,4 +1,5 @@
-use Rattle.ns_queue.proofs.Prelude.{ap, arith, refl, sole_of, sym, taken_set, ◌∙◌}
+use Rattle.std.proofs.Common.{ap, arith, refl, sym, ◌∙◌}
+use Rattle.ns_queue.proofs.Prelude.{sole_of, taken_set}
 use Rattle.ns_queue.proofs.Appended.{have_seats_at}
 use Rattle.ns_queue.proofs.Orders.{list_small, offset_fits}
 use Rattle.ns_queue.proofs.Inside.{list_at, list_there}

@@ -1,4 +1,5 @@
-use Rattle.ns_queue.proofs.Prelude.{lock_fits, number, ◌<◌}
+use Rattle.std.proofs.Common.{◌<◌}
+use Rattle.ns_queue.proofs.Prelude.{lock_fits, number}
 use Rattle.ns_queue.proofs.Orders.{offset_fits, list_small, number_fits}
 use Rattle.ns_queue.proofs.Inside.{list_there}
 use Rattle.ns_queue.proofs.queues.Queues.waiters.Goals as goal

@@ -1,7 +1,8 @@
 use Rattle.ns_queue.proofs.Orders.{offset_fits, list_small}
 use Rattle.ns_queue.proofs.Appended.{have_seats_at}
 use Rattle.ns_queue.proofs.Inside.{list_there, list_at}
-use Rattle.ns_queue.proofs.Prelude.{ap, taken_set, ◌∙◌}
+use Rattle.std.proofs.Common.{ap, ◌∙◌}
+use Rattle.ns_queue.proofs.Prelude.{taken_set}
 use Rattle.ns_queue.proofs.queues.Queues.waiting_set.Goals as goal
 
 pub offset_bounds-self-inside-k : goal.offset_bounds-self-inside-k

@@ -1,4 +1,4 @@
-use Rattle.ns_queue.proofs.Prelude.{arith, ◌<◌}
+use Rattle.std.proofs.Common.{arith, ◌<◌}
 use Rattle.ns_queue.proofs.Ringed.{entry_at, nobody_above, row_of}
 use Rattle.ns_queue.proofs.ring.Ring.get.Goals as goal
 

@@ -1,4 +1,5 @@
-use Rattle.ns_queue.proofs.Prelude.{number, option_copied, ring_fits, ◌∙◌}
+use Rattle.std.proofs.Common.{◌∙◌}
+use Rattle.ns_queue.proofs.Prelude.{number, option_copied, ring_fits}
 use Rattle.ns_queue.proofs.Ringed.{mapped_some, tells}
 use Rattle.ns_queue.proofs.ring.Ring.holds.Goals as goal
 

@@ -1,4 +1,4 @@
-use Rattle.ns_queue.proofs.Prelude.{arith, refl, ◌∙◌}
+use Rattle.std.proofs.Common.{arith, refl, ◌∙◌}
 use Rattle.ns_queue.proofs.Ringed.{closes, counts_it, entry_at, entry_read, links_low, not_empty, place_low, removed, view_of}
 use Rattle.ns_queue.proofs.ring.Ring.remove.Goals as goal
 

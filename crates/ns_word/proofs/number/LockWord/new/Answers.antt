@@ -1,4 +1,5 @@
-use Rattle.ns_word.proofs.Prelude.{ap, word_of, ◌∙◌}
+use Rattle.std.proofs.Common.{ap, ◌∙◌}
+use Rattle.ns_word.proofs.Prelude.{word_of}
 use Rattle.ns_word.proofs.Codes.{decoded}
 use Rattle.ns_word.proofs.number.LockWord.new.Goals as goal
 

@@ -1,4 +1,5 @@
-use Rattle.ns_world.proofs.Prelude.{Advance, Advancing, Ask, ClockLoad, Expiry, ExpiryLoad, ForIsNotified, ForNoteWait, IfMade, IsNotified, NewNote, NextLoad, None, NoteStanding, NoteWait, Notify, Notifying, Option, Some, note_at, option_map_or, refl, sym, true, ℕ, ◌∙◌, ◌≡◌}
+use Rattle.std.proofs.Common.{None, Option, Some, refl, sym, true, ℕ, ◌∙◌, ◌≡◌}
+use Rattle.ns_world.proofs.Prelude.{Advance, Advancing, Ask, ClockLoad, Expiry, ExpiryLoad, ForIsNotified, ForNoteWait, IfMade, IsNotified, NewNote, NextLoad, NoteStanding, NoteWait, Notify, Notifying, note_at, option_map_or}
 use Rattle.ns_world.proofs.Places.{begins_where}
 use Rattle.ns_world.proofs.call.Call.start_others.Goals as goal
 

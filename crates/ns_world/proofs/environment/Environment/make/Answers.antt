@@ -1,4 +1,5 @@
-use Rattle.ns_world.proofs.Prelude.{EnvAct, EnvEffect, EnvFound, EnvPlain, outcome, plain_of, subst, sym, ℕ, ◌≡◌}
+use Rattle.std.proofs.Common.{subst, sym, ℕ, ◌≡◌}
+use Rattle.ns_world.proofs.Prelude.{EnvAct, EnvEffect, EnvFound, EnvPlain, outcome, plain_of}
 use Rattle.ns_world.proofs.environment.Environment.make.Goals as goal
 
 -- the act is the one that was matched

@@ -1,4 +1,5 @@
-use Rattle.ns_world.proofs.Prelude.{refl, set_same, subst, sym, whole_of, ◌∙◌, ◌≤◌}
+use Rattle.std.proofs.Common.{refl, subst, sym, ◌∙◌, ◌≤◌}
+use Rattle.ns_world.proofs.Prelude.{set_same, whole_of}
 use Rattle.ns_world.proofs.Mapped.{found_at}
 use Rattle.ns_world.proofs.Laws.{start_keeps}
 use Rattle.ns_world.proofs.world.World.begin.Goals as goal

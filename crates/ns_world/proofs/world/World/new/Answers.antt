@@ -1,4 +1,5 @@
-use Rattle.ns_world.proofs.Prelude.{arith, err_from_is_err_and, refl, ℕ, ◌<◌, ◌^◌, ◌≤◌}
+use Rattle.std.proofs.Common.{arith, refl, ℕ, ◌<◌, ◌^◌, ◌≤◌}
+use Rattle.ns_world.proofs.Prelude.{err_from_is_err_and}
 use Rattle.ns_world.proofs.Fresh.{no_flags, whole_new}
 use Rattle.ns_world.proofs.world.World.new.Goals as goal
 

@@ -1,4 +1,4 @@
-use Rattle.ns_world.proofs.Prelude.{◌∙◌}
+use Rattle.std.proofs.Common.{◌∙◌}
 use Rattle.ns_world.proofs.world.World.seats.Goals as goal
 
 pub returns-clause-count : goal.returns-clause-count

@@ -1,4 +1,5 @@
-use Rattle.ns_world.proofs.Prelude.{Lists, ap, arith, each_shown, map, number, refl, rules, shown_of, ◌∙◌}
+use Rattle.std.proofs.Common.{ap, arith, map, refl, rules, ◌∙◌}
+use Rattle.ns_world.proofs.Prelude.{Lists, each_shown, number, shown_of}
 use Rattle.ns_world.proofs.Sizes.{world_fits}
 use Rattle.ns_world.proofs.States.{shown_fit, wakes_few}
 use Rattle.ns_world.proofs.world.World.state.Goals as goal

@@ -1,4 +1,5 @@
-use Rattle.ns_world.proofs.Prelude.{AsksFor, Seat, ap, err_from_is_err_and, false, in_call, inl, inr, is_some, number, refl, row_fits, set_same, subst, whole_of, ◌||◌, ◌∙◌, ◌≡◌, ◌≤◌}
+use Rattle.std.proofs.Common.{ap, false, inl, inr, is_some, refl, subst, ◌||◌, ◌∙◌, ◌≡◌, ◌≤◌}
+use Rattle.ns_world.proofs.Prelude.{AsksFor, Seat, err_from_is_err_and, in_call, number, row_fits, set_same, whole_of}
 use Rattle.ns_world.proofs.Laws.{step_keeps}
 use Rattle.ns_world.proofs.Mapped.{found_at}
 use Rattle.ns_world.proofs.Tells.{act_here, alone_here, ask_here, can_tell, few_there, no_look_here, operates_fit, refused_here}

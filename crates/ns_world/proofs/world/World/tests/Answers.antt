@@ -1,4 +1,5 @@
-use Rattle.ns_world.proofs.Prelude.{ap, length, option_map_or, refl, sym, ◌<◌}
+use Rattle.std.proofs.Common.{ap, length, refl, sym, ◌<◌}
+use Rattle.ns_world.proofs.Prelude.{option_map_or}
 use Rattle.ns_world.proofs.Mapped.{found_at}
 use Rattle.ns_world.proofs.world.World.tests.Goals as goal
 
