@@ -28,8 +28,8 @@ type Own<'m, 'e> = (OneHandle<'m>, Watcher<'e>);
 
 /// Waits so many times in one section, and counts how often a deadline that has come has ended it.
 ///
-/// In this function and the next the loop has one call, which the compiler inlines, and stands by itself, so that it has all
-/// registers.
+/// In this function and the next the loop has one call, which the compiler inlines, and stands by itself, so that it
+/// has all registers.
 #[inline(never)]
 fn count_late<R: Wait>(rt: &R, handle: OneHandle<'_>, mut watcher: Watcher<'_>, times: u64) -> u64 {
     let mut held = handle.lock(rt);

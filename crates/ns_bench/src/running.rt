@@ -7,6 +7,7 @@ ghost use Rattle.std.specs.Thread.{IsSend, IsSync};
 use crate::amount::{Amount, Count, total};
 use ns_monitor::{Condition, Handle, Handles};
 use ns_note::watcher::{Watcher, Watchers};
+use ns_objects::sharer::{Sharer, Sharers};
 use std::alloc::{AllocError, Global};
 use std::sync::{Barrier, Wait};
 use std::thread::{Threads, join, map_vec};
@@ -63,10 +64,15 @@ impl<'m, C: Condition<N>, const N: usize> Source<Handle<'m, C, N>> for Handles<'
     }
 }
 
-impl<'m, 'e, C: Condition<N>, const N: usize> Source<(Handle<'m, C, N>, Watcher<'e>)>
-    for (Handles<'m, C, N>, Watchers<'e>) {
-    fn take(&mut self) -> Option<(Handle<'m, C, N>, Watcher<'e>)> {
-        self.0.next().zip(self.1.next())
+impl<'o> Source<Sharer<'o>> for Sharers<'o> {
+    fn take(&mut self) -> Option<Sharer<'o>> {
+        self.next()
+    }
+}
+
+impl<S: Drop, T: Drop, F: Source<S>, G: Source<T>> Source<(S, T)> for (F, G) {
+    fn take(&mut self) -> Option<(S, T)> {
+        self.0.take().zip(self.1.take())
     }
 }
 

@@ -1,16 +1,15 @@
 //! Waits for any of three notes of which the last is notified, by one thread.
 
-ghost use Rattle.std.specs.Prelude.{◌<◌};
 ghost use Rattle.ns_model.specs.Environments.{IsMade};
 
 use crate::amount::{Amount, Count};
-use crate::running::{Job, Source, Work, play};
+use crate::running::{Job, Work, play};
 use ns_note::env::Env;
 use ns_note::note::Note;
-use ns_note::watcher::{Watcher, Watchers};
+use ns_note::watcher::Watcher;
 use ns_objects::any::Item;
 use ns_objects::objects::Objects;
-use ns_objects::sharer::{Sharer, Sharers};
+use ns_objects::sharer::Sharer;
 use std::alloc::Global;
 use std::sync::Wait;
 use std::thread::Threads;
@@ -21,12 +20,6 @@ pub struct AnyReady;
 
 /// What the thread has of its own.
 type Own<'o, 'e> = (Sharer<'o>, Watcher<'e>);
-
-impl<'o, 'e> Source<Own<'o, 'e>> for (Sharers<'o>, Watchers<'e>) {
-    fn take(&mut self) -> Option<Own<'o, 'e>> {
-        self.0.next().zip(self.1.next())
-    }
-}
 
 /// Three notes of which the last is notified, and who has seen them made.
 #[derive(Drop)]
