@@ -7,6 +7,7 @@ pub mod Meetings
 pub mod Prelude
 pub mod Releases
 pub mod Returns
+pub mod Room
 pub mod Saves
 pub mod SeveralWaits
 pub mod Shows

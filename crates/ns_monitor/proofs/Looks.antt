@@ -1,6 +1,7 @@
 -- The looks of a wait at its note and its deadline.
-use Rattle.std.proofs.Common.{List, Option, Some, subst, sym, ℕ, ◌≡◌}
-use Rattle.ns_monitor.proofs.Prelude.{Answer, Canceled, EndedBy, EnvEvent, EnvKnown, HasLookedOn, IfAnswered, LookAnswers, LookShows, Met, Note, TimedOut, made_grows}
+use Rattle.std.proofs.Common.{List, Option, Some, option_map, subst, sym, ℕ, ◌≡◌}
+use Rattle.ns_monitor.proofs.Prelude.{Answer, Canceled, EndedBy, EnvEvent, EnvKnown, HasLookedOn, IfAnswered, LookShows, Met, Note, TimedOut, made_grows}
+use Rattle.ns_monitor.specs.Names.{HasLooked, limits_by}
 use Rattle.ns_note.specs.Known.{Grows}
 
 -- A seat that has looked
@@ -8,8 +9,10 @@ pub has_looked : (old new : EnvKnown) → Grows old new → new.mine ≡ old.min
 has_looked old new grows mine = record { env = grows.env; seat_count = grows.seat_count; seat = grows.seat; begins = grows.begins; mine = mine; makes = λ note. made_grows old new note grows }
 
 -- what ended a wait is what its look has shown, by its answer
-pub ended_by : (given : Option Note) (deadline number : Option ℕ) (old new : EnvKnown) (seen : List EnvEvent) (answer : Answer) → seen ≡ new.seen →
-    IfAnswered answer (λ cause. LookShows given (record { deadline = deadline; note = number }) old new (Some cause)) → EndedBy given deadline old.seen seen answer
-ended_by given deadline number old new seen Met same shows = tt
-ended_by given deadline number old new seen TimedOut same shows = subst (λ (l : List EnvEvent). LookAnswers given deadline old.seen l (Some TimedOut)) (sym same) shows
-ended_by given deadline number old new seen Canceled same shows = subst (λ (l : List EnvEvent). LookAnswers given deadline old.seen l (Some Canceled)) (sym same) shows
+pub ended_by : (given : Option Note) (deadline number : Option ℕ) (old new : EnvKnown) (seen : List EnvEvent) (answer : Answer) → seen ≡ new.seen → number ≡ option_map (λ n. n.index) given →
+    IfAnswered answer (λ cause. LookShows (record { deadline = deadline; note = number }) old new (Some cause)) → EndedBy given deadline old.seen seen answer
+ended_by given deadline number old new seen answer same is shows = by answer (subst (λ (x : List EnvEvent × Option ℕ). IfAnswered answer (λ cause. HasLooked (record { deadline = deadline; note = x.1 }) (Some cause) old.seen x.0)) (λ i. (sym same i, is i)) shows) where
+  by : (answer : Answer) → IfAnswered answer (λ cause. HasLooked (limits_by given deadline) (Some cause) old.seen seen) → EndedBy given deadline old.seen seen answer
+  by Met shows = tt
+  by TimedOut shows = shows
+  by Canceled shows = shows

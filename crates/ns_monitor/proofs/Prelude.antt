@@ -5,6 +5,7 @@ pub use Rattle.ns_gate.proofs.Keeps.{hand_of}
 pub use Rattle.ns_gate.proofs.Stays.{HasKeptItsQueues, effect_of, nowhere_now, stays_arming, stays_by, stays_itself, stays_through, still_carries}
 pub use Rattle.ns_gate.proofs.Wakes.{found_nobody, found_sole, moves_nobody, orderly_now, owes_the_woken, still_woken, takes_nobody, woken_found}
 pub use Rattle.ns_model.proofs.Beginnings.{begins_itself, begins_through}
+pub use Rattle.ns_monitor.proofs.Room.{in_room}
 pub use Rattle.ns_monitor.specs.Prelude.{Acquire, AcquireLoad, AcquiresBy, Acquiring, Act, Aim, Answer, Answered, AnyWait, AnyWaitMeans, AreNew, AreRead, AreSaved, AreSome, Arm, ArmFlag, ArmToWait, Arrival, AsFresh, Await, AwaitWake, AwaitWakeInWait, AwaitWakeToLeave, BeginsWith, Bits}
 pub use Rattle.ns_monitor.specs.Prelude.{Broadcasting, Busy, CameByGuess, CanLeave, CanStep, Canceled, Carries, Cause, Cell, CellFits, Change, Changed, Changing, CondWait, ConditionWaitMeans, Course, CvWait, Cvs, Decides, Done, Effect, Ended, EndedBy, EnvEvent, EnvKnown, Event, Expired, Flag}
 pub use Rattle.ns_monitor.specs.Prelude.{ForLock, ForWait, Found, GateView, Get, Going, Grows, HadLooked, HasAcquired, HasAnswered, HasBegun, HasBegunBy, HasBegunToWait, HasComeBack, HasComeBackFrom, HasComeBackFromAny, HasGone, HasGoneBehind, HasInHand, HasLearned, HasLeft, HasLoaded, HasLocked}

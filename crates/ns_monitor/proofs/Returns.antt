@@ -4,6 +4,7 @@ use Rattle.ns_monitor.proofs.Prelude.{Answer, Answered, Await, Canceled, Cause, 
 use Rattle.ns_monitor.proofs.Prelude.{Held, IfAnswered, InHand, InQueuing, InWait, IsAtPlace, IsFresh, IsFreshIn, IsInRange, IsWide, Known, Limits, Load, Look, LookIn, LookShows, Looked, Met, Mode, Note, Notified, On, OnCondition, OnReturn, Outcome, Part, Performed, PlaceFits, QueuesOrEnds, SeatOf}
 use Rattle.ns_monitor.proofs.Prelude.{SeatView, Subject, TableId, TestCells, TestLast, Tests, TimedOut, Truths, Unchanged, Visit, Wait, WaitMeans, WaitTells, Walk, answer_of, back_with, does, goes, got_queuing, hand_of, held_after, held_by, is_limited, known_of, limits_of, look_or_queue, row_after}
 use Rattle.ns_monitor.proofs.Prelude.{section_of, test_place, tested_by, the}
+use Rattle.ns_monitor.specs.Names.{HasLooked}
 
 -- a wait for a condition is for something that there is
 pub in_range : {C : Type 0} (on : Subject C) (c : C) → on ≡ OnCondition c → IsInRange on
@@ -108,8 +109,8 @@ fits_fresh N mode held fits each h = let section = hand_of (IsFreshIn N mode) he
 
 -- it was told the note's number, and left its section only once a look had shown nothing, to a seat that has seen this
 pub looked_by : (P : Type 0) (note : Option Note) (deadline number : Option ℕ) (old new : EnvKnown) (seen : List EnvEvent) → seen ≡ new.seen → number ≡ option_map (λ n. n.index) note →
-    (is_limited (record { deadline = deadline; note = number }) ≡ true → P ⊎ LookShows note (record { deadline = deadline; note = number }) old new None) → is_some deadline || is_some note ≡ true → P ⊎ HadLooked note deadline old.seen seen
-looked_by P given deadline number old new seen same is before limited = ⊎_elim (λ kept. inl kept) (λ shown. inr (subst (HadLooked given deadline old.seen) (sym same) (record { none = shown }))) (before (ap (λ o. is_limited (record { deadline = deadline; note = o })) is ∙ named given limited)) where
+    (is_limited (record { deadline = deadline; note = number }) ≡ true → P ⊎ LookShows (record { deadline = deadline; note = number }) old new None) → is_some deadline || is_some note ≡ true → P ⊎ HadLooked note deadline old.seen seen
+looked_by P given deadline number old new seen same is before limited = ⊎_elim (λ kept. inl kept) (λ shown. inr (record { none = subst (λ (x : List EnvEvent × Option ℕ). HasLooked (record { deadline = deadline; note = x.1 }) None old.seen x.0) (λ i. (sym same i, is i)) shown })) (before (ap (λ o. is_limited (record { deadline = deadline; note = o })) is ∙ named given limited)) where
   named : (o : Option Note) → is_some deadline || is_some o ≡ true → is_limited (limits_of deadline o) ≡ true
   named None l = l
   named (Some n) l = l

@@ -1,12 +1,11 @@
 -- What may end a wait early, and what a look has shown of it.
-use Rattle.std.specs.Prelude.{IfSome, Option, option_map, ℕ, ◌≡◌}
-use Rattle.ns_monitor.specs.Names.{BeginsWith, Cause, EnvKnown, IsMade, Limits, LookAnswers, Note, TableId, answer_of}
+use Rattle.std.specs.Prelude.{IfSome, Option, ℕ, ◌≡◌}
+use Rattle.ns_monitor.specs.Names.{BeginsWith, Cause, EnvKnown, HasLooked, IsMade, Limits, TableId}
 
 -- the seat is of the environment, and has seen the note made that the limits name, if they name one
-pub record IsLooking (env : TableId) (seat : EnvKnown) (note : Option Note) (limits : Limits) : Type 0 where
+pub record IsLooking (env : TableId) (seat : EnvKnown) (limits : Limits) : Type 0 where
   pub of : seat.env ≡ env
-  pub made : IfSome note (λ n. IsMade seat.seen n.index)
-  pub named : limits.note ≡ option_map (λ n. n.index) note
+  pub made : IfSome limits.note (IsMade seat.seen)
 
 -- the same seat later, which has seen more and done nothing of its own
 pub record HasLookedOn (old new : EnvKnown) : Type 0 where
@@ -18,5 +17,5 @@ pub record HasLookedOn (old new : EnvKnown) : Type 0 where
   pub makes : (note : ℕ) → IsMade old.seen note → IsMade new.seen note
 
 -- a look between has shown this
-abbrev pub LookShows : Option Note → Limits → EnvKnown → EnvKnown → Option Cause → Type 0
-LookShows note limits old new shown = LookAnswers note limits.deadline old.seen new.seen (option_map answer_of shown)
+abbrev pub LookShows : Limits → EnvKnown → EnvKnown → Option Cause → Type 0
+LookShows limits old new shown = HasLooked limits shown old.seen new.seen

@@ -3,7 +3,8 @@
 //! That a seat or a section is of this monitor is an invariant of the handle's type. So a program over handles
 //! needs no clause and no loop invariant that says it, but where two meet, and for `close`. Each call does what
 //! the monitor's call of the same name does, for the seat or the section that the handle has, and promises what
-//! that does. Those of the fast path have its body, too: a call of a function that may wait takes instructions.
+//! that does. What locks and releases at once has its body here, and the monitor's calls make a handle for it: a
+//! call of a function that may wait takes instructions, which programs by handles are spared.
 
 ghost use Rattle.std.specs.Prelude.{◌≡◌, ◌<◌, ◌++◌, [], ◌∷◌, true, Some, All, IfErr, IfOk, length, slice_index, slice_set};
 ghost use Rattle.ns_model.specs.declared.event.Exit.TheVariants as TheExit;
@@ -53,6 +54,15 @@ pub type Writing<'m, C, const N: usize> = Acting<'m, Writes<N>, C, N>;
 pub type Reading<'m, C, const N: usize> = Acting<'m, Reads, C, N>;
 
 impl<'m, H: Hand<C, N>, C: Condition<N>, const N: usize> Acting<'m, H, C, N> {
+    /// A seat, or a section, together with its monitor.
+    #[inline(always)]
+    pub fn new(monitor: &'m Monitor<C, N>, caller: Caller<H, C, N>) -> Self
+        requires { caller.monitor ≡ monitor.now }
+        ensures { result ≡ caller }
+    {
+        Acting { monitor, caller }
+    }
+
     /// How the monitor stands at one moment of the call, as [`Monitor::debug_state_and_waiters`] tells it.
     pub fn debug_state_and_waiters<R: Wait>(&mut self, rt: &R) -> DebugState
         ensures saw { HasSeenMore C.means showing self.old self.new }
@@ -87,18 +97,6 @@ impl<'m, H: Hand<C, N>, C: Condition<N>, const N: usize> Acting<'m, H, C, N> {
 }
 
 impl<'m, C: Condition<N>, const N: usize> Acting<'m, Free, C, N> {
-    /// A seat together with its monitor.
-    #[inline(always)]
-    pub fn new(monitor: &'m Monitor<C, N>, seat: Seat<C, N>) -> Self
-        requires { seat.monitor ≡ monitor.now }
-        ensures { result ≡ seat }
-    {
-        Acting {
-            monitor,
-            caller: seat,
-        }
-    }
-
     /// The seat, as for [`Monitor::close`].
     #[inline(always)]
     pub fn into_seat(self) -> Seat<C, N>

@@ -83,7 +83,6 @@ impl<'m, H: Renewed<C, N>, C: Condition<N>, const N: usize> Acting<'m, H, C, N> 
             let mut looker = Looker {
                 env: watcher.env,
                 seat: &mut watcher.seat,
-                note,
             };
             monitor.wait_by(rt, caller, condition, limits, &mut looker)
         };

@@ -6,7 +6,8 @@ ghost use Rattle.ns_gate.specs.Prelude.{Read, Write, TryLock, Busy, Succeeded, Q
 ghost use Rattle.ns_monitor.specs.Prelude.{AreNew, AreOfOneHistory, EndsAs, Grows, HasBegun, HasLearned, HasLocked, HasSeenMore, IsFreshIn, IsNumberOf, IsQuietFor, WentAtOnce, getting, judging, known_of, locking, releasing_by, setting, trying};
 
 use crate::caller::{Caller, Free, Hand, ReadHeld, Renewed, Seat, Section, WriteHeld};
-use crate::going::{Begun, Going, locked, released};
+use crate::going::{Begun, Going};
+use crate::handle::Acting;
 use crate::{Closed, Fault};
 use ns_gate::gate::{Gate, GateSeat};
 use ns_model::condition::Condition;
@@ -216,7 +217,7 @@ impl<C: Condition<N>, const N: usize> Monitor<C, N> {
         requires { seat.monitor ≡ self.now }
         ensures { HasLocked C.means (locking Write) Write seat result }
     {
-        locked!(self, rt, seat, Mode::Write)
+        Acting::new(self, seat).lock(rt).caller
     }
 
     /// Acquires the lock to read, beside other readers, and waits as long as it has to. The section
@@ -226,7 +227,7 @@ impl<C: Condition<N>, const N: usize> Monitor<C, N> {
         requires { seat.monitor ≡ self.now }
         ensures { HasLocked C.means (locking Read) Read seat result }
     {
-        locked!(self, rt, seat, Mode::Read)
+        Acting::new(self, seat).rlock(rt).caller
     }
 
     /// The value of a cell of the section's row.
@@ -388,7 +389,7 @@ impl<C: Condition<N>, const N: usize> Monitor<C, N> {
         ensures grows { Grows C.means (releasing_by Writer) held result }
         ensures mine { InHand held.held (λ section. result.mine ≡ held.mine ++ section_of C.means.holds held.seat section TheExit.Plain ∷ []) }
     {
-        released!(self, rt, held, Releasing::Writer)
+        Acting::new(self, held).unlock(rt).into_seat()
     }
 
     /// Ends a read section: it is committed, and the caller's events have it as their last.
@@ -400,7 +401,7 @@ impl<C: Condition<N>, const N: usize> Monitor<C, N> {
         ensures grows { Grows C.means (releasing_by Reader) held result }
         ensures mine { InHand held.held (λ section. result.mine ≡ held.mine ++ section_of C.means.holds held.seat section TheExit.Plain ∷ []) }
     {
-        released!(self, rt, held, Releasing::Reader)
+        Acting::new(self, held).runlock(rt).into_seat()
     }
 
     /// Ends a write section that can't have made a false condition true: it is committed as it is, as
@@ -413,7 +414,9 @@ impl<C: Condition<N>, const N: usize> Monitor<C, N> {
         ensures grows { Grows C.means (releasing_by QuietWriter) held result }
         ensures mine { InHand held.held (λ section. result.mine ≡ held.mine ++ section_of C.means.holds held.seat section TheExit.Plain ∷ []) }
     {
-        released!(self, rt, held, Releasing::QuietWriter)
+        Acting::new(self, held)
+            .unlock_without_wakeup(rt)
+            .into_seat()
     }
 
     /// Ends the monitor, and tells the cells as they stand, and whether the lock is free. Where it

@@ -229,7 +229,6 @@ impl<C: Condition<N>, const N: usize> Monitor<C, N> {
             let mut looker = Looker {
                 env,
                 seat: env_seat,
-                note,
             };
             self.wait_by(rt, held, condition, limits, &mut looker)
         };

@@ -159,7 +159,6 @@ impl<C: Condition<N>, const N: usize> Monitor<C, N> {
             let mut looker = Looker {
                 env,
                 seat: env_seat,
-                note,
             };
             self.wait_for_variable(rt, held, k, limits, &mut looker)
         };

@@ -1,15 +1,13 @@
 //! What watches for an early end of a wait.
 
-ghost use Rattle.std.specs.Prelude.{◌≡◌, refl, false, None, Some, Option, IfSome, option_map};
+ghost use Rattle.std.specs.Prelude.{◌≡◌, refl, false, None, Some, Option, IfSome};
 ghost use Rattle.std.proofs.Common.{◌∙◌};
-ghost use Rattle.ns_gate.specs.Prelude.{is_met, MayShow, answer_of, is_limited, Cause, Expired, Limits};
+ghost use Rattle.ns_gate.specs.Prelude.{MayShow, is_limited, Cause, Expired, Limits};
 ghost use Rattle.ns_monitor.specs.Prelude.{HasLookedOn, IsLooking, LookShows, may_show, none_shown, nothing_named, same_looker, shown_at_will, shown_since, still_looking, then_looker};
 ghost use Rattle.ns_monitor.specs.Several.{at_will};
 
 use ns_env::limits::{Cause, Limits};
-use ns_model::event::Answer;
 use ns_note::env::Env;
-use ns_note::note::Note;
 use ns_note::seat::EnvSeat;
 
 /// What watches for an early end of a wait: it looks, where the wait's limits let anything end it.
@@ -115,42 +113,28 @@ pub struct Looker<'a> {
     pub env: &'a Env,
     /// The caller's seat of it.
     pub seat: &'a mut EnvSeat,
-    /// The note, if one is given.
-    pub note: Option<Note>,
-}
-
-/// What a look has shown, as a cause to end a wait. A look never meets a condition.
-fn cause_of(shown: Option<Answer>) -> Option<Cause>
-    requires { IfSome shown (λ answer. is_met answer ≡ false) }
-    ensures { option_map answer_of result ≡ shown }
-{
-    match shown {
-        Some(Answer::TimedOut) => Some(Cause::Expired),
-        Some(Answer::Canceled) => Some(Cause::Notified),
-        _ => None,
-    }
 }
 
 impl<'a> Watch for Looker<'a> {
-    ghost watches = { λ me limits. IsLooking me.env.now me.seat.now me.note limits };
+    ghost watches = { λ me limits. IsLooking me.env.now me.seat.now limits };
 
-    ghost since = { λ one two. (two.seat.ghost_name ≡ one.seat.ghost_name) × (two.env ≡ one.env) × (two.note ≡ one.note) × HasLookedOn one.seat.now two.seat.now };
+    ghost since = { λ one two. (two.seat.ghost_name ≡ one.seat.ghost_name) × (two.env ≡ one.env) × HasLookedOn one.seat.now two.seat.now };
 
-    ghost shows = { λ one two limits shown. LookShows one.note limits one.seat.now two.seat.now shown };
+    ghost shows = { λ one two limits shown. LookShows limits one.seat.now two.seat.now shown };
 
-    ghost same = { λ one. (refl, refl, refl, same_looker one.seat.now) };
+    ghost same = { λ one. (refl, refl, same_looker one.seat.now) };
 
-    ghost then = { λ one two three s t. (t.0 ∙ s.0, t.1 ∙ s.1, t.2 ∙ s.2, then_looker one.seat.now two.seat.now three.seat.now s.3 t.3) };
+    ghost then = { λ one two three s t. (t.0 ∙ s.0, t.1 ∙ s.1, then_looker one.seat.now two.seat.now three.seat.now s.2 t.2) };
 
-    ghost still = { λ one two limits s watches. still_looking one.env.now two.env.now one.seat.now two.seat.now one.note two.note limits (λ i. (s.1 i).now) s.2 s.3 watches };
+    ghost still = { λ one two limits s watches. still_looking one.env.now two.env.now one.seat.now two.seat.now limits (λ i. (s.1 i).now) s.2 watches };
 
-    ghost later = { λ one two three limits shown s shows. shown_since one.note two.note limits one.seat.now two.seat.now three.seat.now shown s.2 s.3 shows };
+    ghost later = { λ one two three limits shown s shows. shown_since limits one.seat.now two.seat.now three.seat.now shown s.2 shows };
 
-    ghost stays = { λ one two three limits shows s. none_shown one.note limits one.seat.now two.seat.now three.seat.now shows s.3 };
+    ghost stays = { λ one two three limits shows s. none_shown limits one.seat.now two.seat.now three.seat.now shows s.2 };
 
-    ghost names = { λ one two limits shown watches shows. may_show one.note limits one.seat.now two.seat.now shown watches.named shows };
+    ghost names = { λ one two limits shown watches shows. may_show limits one.seat.now two.seat.now shown shows };
 
     fn look(&mut self, limits: Limits) -> Option<Cause> {
-        cause_of(self.env.look(self.seat, self.note, limits.deadline))
+        self.env.look_for(self.seat, limits)
     }
 }

@@ -1,7 +1,8 @@
 -- What calls that look may answer.
-use Rattle.std.proofs.Common.{Bool, IfSome, IsSomeAnd, List, None, Option, Some, false, option_map, refl, subst, sym, true, ℕ, ◌<◌, ◌∙◌, ◌≡◌, ◌≤◌}
+use Rattle.std.proofs.Common.{Bool, IfSome, IsSomeAnd, List, None, Option, Some, false, refl, subst, sym, true, ℕ, ◌<◌, ◌∙◌, ◌≡◌, ◌≤◌}
 use Rattle.ns_note.proofs.Prelude.{Answer, BeginsWith, Canceled, EnvEvent, IsBetween, IsLeftAt, IsLegalEnv, IsNotified, IsUnnotified, LookAnswers, Note, NoteWord, TimedOut, WaitAnswers, begins_itself, begins_through, clock_of, due_is, env_after, is_due, is_notified, is_over, line_goes_on}
 use Rattle.ns_note.proofs.Prelude.{line_stops, not_due_is, standing_of, state_of}
+use Rattle.ns_note.specs.Names.{Expired, HasLooked, Limits}
 
 -- a true answer is of the last point, a false one of the point at which the clock was loaded
 pub notified_at : (answer : Bool) (old middle new : List EnvEvent) (note : ℕ) → BeginsWith middle old → BeginsWith new middle → (answer ≡ true → IsNotified new note) → (answer ≡ false → is_notified middle note ≡ false)
@@ -32,12 +33,12 @@ module _ (seen now : List EnvEvent) (legal : IsLegalEnv now) (begins : BeginsWit
 
 -- ---- a look, whose clock was loaded in the middle
 
-module _ (given : Option Note) (deadline : Option ℕ) (old middle new : List EnvEvent) (between : IsBetween old middle new) where
-  pub times_out : (clock : ℕ) → clock ≡ clock_of middle → is_due clock deadline ≡ true → IsUnnotified middle (option_map (λ n. n.index) given) → LookAnswers given deadline old new (Some TimedOut)
-  times_out clock is due waited = (middle, between, (waited, subst (λ (c : ℕ). IsSomeAnd deadline (λ d. d ≤ c)) is (due_is clock deadline due)))
+module _ (limits : Limits) (old middle new : List EnvEvent) (between : IsBetween old middle new) where
+  pub expires : (clock : ℕ) → clock ≡ clock_of middle → is_due clock limits.deadline ≡ true → IsUnnotified middle limits.note → HasLooked limits (Some Expired) old new
+  expires clock is due waited = (middle, between, (waited, subst (λ (c : ℕ). IsSomeAnd limits.deadline (λ d. d ≤ c)) is (due_is clock limits.deadline due)))
 
-  pub shows_nothing : (clock : ℕ) → clock ≡ clock_of middle → is_due clock deadline ≡ false → IsUnnotified middle (option_map (λ n. n.index) given) → LookAnswers given deadline old new None
-  shows_nothing clock is early waited = (middle, between, (waited, subst (λ (c : ℕ). IfSome deadline (λ d. c < d)) is (not_due_is clock deadline early)))
+  pub shows_nothing : (clock : ℕ) → clock ≡ clock_of middle → is_due clock limits.deadline ≡ false → IsUnnotified middle limits.note → HasLooked limits None old new
+  shows_nothing clock is early waited = (middle, between, (waited, subst (λ (c : ℕ). IfSome limits.deadline (λ d. c < d)) is (not_due_is clock limits.deadline early)))
 
 -- ---- a wait for a note, for one that began before
 

@@ -8,6 +8,7 @@ ghost use Rattle.ns_note.specs.Known.{AreNew, AreOfOneHistory, Grows, IsAtRest, 
 ghost use Rattle.ns_seats.specs.Views.{IsOne};
 ghost use Rattle.ns_note.specs.Told.{FoundFull, HasTakenNumber};
 ghost use Rattle.ns_env.specs.declared.view.Making.TheVariants.{Nothing};
+ghost use Rattle.ns_env.specs.Chains.{HasLooked};
 ghost use Rattle.ns_env.specs.Notes.{state_of};
 ghost use Rattle.ns_note.specs.Words.{WordFits};
 
@@ -21,6 +22,7 @@ use crate::seat::{EnvSeat, TableSeat};
 use crate::table_words::{BELLS, CLOCK, NEXT, NOTES, WORDS};
 use crate::view::View;
 use atomic_table::Table;
+use ns_env::limits::{Cause, Limits};
 use ns_env::note::{NoteWord, earlier, is_due};
 use ns_model::environment::EnvEvent;
 use ns_model::event::Answer;
@@ -289,19 +291,19 @@ impl Env {
         self.word(seat, note.index).made
     }
 
-    /// Whether the note or an ancestor is notified by a call, or has a deadline that the clock,
-    /// which was loaded before, has reached.
-    fn stops(&self, seat: &mut EnvSeat, note: Note, clock: u64) -> bool
+    /// Whether the note of this number or an ancestor is notified by a call, or has a deadline that the
+    /// clock, which was loaded before, has reached.
+    fn stops(&self, seat: &mut EnvSeat, note: u8, clock: u64) -> bool
         requires env { seat.old.env ≡ self.now }
-        requires made { IsMade seat.old.seen note.index }
+        requires made { IsMade seat.old.seen note }
         requires clock { clock ≡ clock_of seat.old.seen }
         requires true_to { IsTrueToHistory seat.old }
         ensures grows { Grows seat.old seat.new }
         ensures mine { seat.new.mine ≡ seat.old.mine }
-        ensures over { result ≡ true → IsNotified seat.new.seen note.index }
-        ensures not_yet { result ≡ false → is_notified seat.old.seen note.index ≡ false }
+        ensures over { result ≡ true → IsNotified seat.new.seen note }
+        ensures not_yet { result ≡ false → is_notified seat.old.seen note ≡ false }
     {
-        let mut word = self.word(seat, note.index);
+        let mut word = self.word(seat, note);
         while !word.is_over(clock) {
             match word.parent {
                 None => return false,
@@ -323,7 +325,7 @@ impl Env {
         ensures notified { (point : List EnvEvent) × IsBetween seat.old.seen point seat.new.seen × (result ≡ is_notified point note.index) }
     {
         let clock = self.now(seat);
-        self.stops(seat, note, clock)
+        self.stops(seat, note.index, clock)
     }
 
     /// The earliest deadline from the note up to its root, in ticks, or `None` where there is
@@ -348,6 +350,30 @@ impl Env {
         earliest
     }
 
+    /// One look at what may end a wait: `Notified` where its note is notified, else `Expired` where the
+    /// clock has reached its deadline, in ticks, else nothing. What the limits don't name is not looked at.
+    ///
+    /// Needs a note, if they name one, that the seat has seen made.
+    pub fn look_for(&self, seat: &mut EnvSeat, limits: Limits) -> Option<Cause>
+        requires env { seat.old.env ≡ self.now }
+        requires made { IfSome limits.note (IsMade seat.old.seen) }
+        ensures grows { Grows seat.old seat.new }
+        ensures mine { seat.new.mine ≡ seat.old.mine }
+        ensures shows { HasLooked limits result seat.old.seen seat.new.seen }
+    {
+        let clock = self.now(seat);
+        if let Some(note) = limits.note {
+            if self.stops(seat, note, clock) {
+                return Some(Cause::Notified);
+            }
+        }
+        if is_due(limits.deadline, clock) {
+            Some(Cause::Expired)
+        } else {
+            None
+        }
+    }
+
     /// One look at a note and a deadline, in ticks: `Canceled` where the note is notified, else
     /// `TimedOut` where the clock has reached the deadline, else nothing. What is not given is
     /// not looked at. With neither it loads the clock all the same, and answers nothing.
@@ -365,16 +391,14 @@ impl Env {
         ensures mine { seat.new.mine ≡ seat.old.mine }
         ensures answers { LookAnswers note deadline seat.old.seen seat.new.seen result }
     {
-        let clock = self.now(seat);
-        if let Some(note) = note {
-            if self.stops(seat, note, clock) {
-                return Some(Answer::Canceled);
-            }
-        }
-        if is_due(deadline, clock) {
-            Some(Answer::TimedOut)
-        } else {
-            None
+        let limits = Limits {
+            deadline,
+            note: index_of(note),
+        };
+        match self.look_for(seat, limits) {
+            None => None,
+            Some(Cause::Notified) => Some(Answer::Canceled),
+            Some(Cause::Expired) => Some(Answer::TimedOut),
         }
     }
 

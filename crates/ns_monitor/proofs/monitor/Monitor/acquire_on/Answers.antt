@@ -1,5 +1,5 @@
-use Rattle.std.proofs.Common.{None, arith, refl, sym, ◌∙◌}
-use Rattle.ns_monitor.proofs.Prelude.{AcquireLoad, InAcquire, LoadWord, Saw, TableId, since, since_itself, since_then, the}
+use Rattle.std.proofs.Common.{None, refl, sym, ◌∙◌}
+use Rattle.ns_monitor.proofs.Prelude.{in_room, AcquireLoad, InAcquire, LoadWord, Saw, TableId, since, since_itself, since_then, the}
 use Rattle.ns_monitor.proofs.Standing.{can_load, loads, same_number}
 use Rattle.ns_monitor.proofs.monitor.Monitor.acquire_on.Goals as goal
 
@@ -21,14 +21,14 @@ returns-in_default-clause-since g c = since_then None _ _ _ c.loop.invariant.4 c
 
 pub queue-arrival-requires : goal.queue-arrival-requires
 queue-arrival-requires g c = let inv = c.loop.invariant in let came = c.in-Some-go_or_take.ensures.came in
-    (omega arith, (omega arith, (omega arith, (c.go_or_take.ensures.seat, (same_number g.C.Condition.means None c.args.number c.args.seat.now.me c.go_or_take.new.seat.me c.requires.number (since_then None _ _ _ inv.4 c.go_or_take.ensures.since), (came.packs, (came.at, came.taken)))))))
+    in_room (c.go_or_take.ensures.seat, (same_number g.C.Condition.means None c.args.number c.args.seat.now.me c.go_or_take.new.seat.me c.requires.number (since_then None _ _ _ inv.4 c.go_or_take.ensures.since), (came.packs, (came.at, came.taken))))
 
 pub load-word-requires : goal.load-word-requires
 load-word-requires g c =
-    (omega arith, (omega arith, (omega arith, (◌∙◌ {A = TableId} c.queue-arrival.ensures.seat (sym c.self.view_is), can_load g.C.Condition.means (InAcquire c.args.aim (AcquireLoad c.queue-arrival.result)) c.queue-arrival.new.seat.me tt c.queue-arrival.ensures.woken))))
+    in_room (◌∙◌ {A = TableId} c.queue-arrival.ensures.seat (sym c.self.view_is), can_load g.C.Condition.means (InAcquire c.args.aim (AcquireLoad c.queue-arrival.result)) c.queue-arrival.new.seat.me tt c.queue-arrival.ensures.woken)
 
 pub go_or_take-requires : goal.go_or_take-requires
-go_or_take-requires g c = let inv = c.loop.invariant in (omega arith, (omega arith, (omega arith, (◌∙◌ {A = TableId} inv.2 c.requires.of, (tt, (refl, (inv.3, inv.5)))))))
+go_or_take-requires g c = let inv = c.loop.invariant in in_room (◌∙◌ {A = TableId} inv.2 c.requires.of, (tt, (refl, (inv.3, inv.5))))
 
 pub returns-in_default-clause-seat : goal.returns-in_default-clause-seat
 returns-in_default-clause-seat g c = c.go_or_take.ensures.seat

@@ -1,5 +1,5 @@
-use Rattle.std.proofs.Common.{None, ap, arith, subst, sym, ◌∙◌}
-use Rattle.ns_monitor.proofs.Prelude.{Await, AwaitWakeInWait, ForWait, HasAcquired, HasAnswered, HasComeBackFromAny, InWait, IsAtPlace, IsInRange, TableId, Wait, WaitKnown, WokenBy, known_of, the, variable_in, waits_for_any}
+use Rattle.std.proofs.Common.{None, ap, subst, sym, ◌∙◌}
+use Rattle.ns_monitor.proofs.Prelude.{in_room, Await, AwaitWakeInWait, ForWait, HasAcquired, HasAnswered, HasComeBackFromAny, InWait, IsAtPlace, IsInRange, TableId, Wait, WaitKnown, WokenBy, known_of, the, variable_in, waits_for_any}
 use Rattle.ns_monitor.proofs.Returns.{fits_fresh}
 use Rattle.ns_monitor.proofs.SeveralWaits.{any_back_fresh, has_come_back}
 use Rattle.ns_monitor.proofs.Standing.{same_number}
@@ -9,22 +9,13 @@ use Rattle.ns_monitor.proofs.monitor.Monitor.any_leave.Goals as goal
 
 pub come_back-outcome-requires : goal.come_back-outcome-requires
 come_back-outcome-requires g c = let t = g.C.Condition.means in let w = c.waiting.invariant.0 in let cvs = c.waiting.inside.cvs in
-    let is = c.for_any-wait.ensures ∙ ap (λ m. waits_for_any {C = g.row.C.Denot} m cvs) c.mode-mode.ensures in (
-      omega arith,
+    let is = c.for_any-wait.ensures ∙ ap (λ m. waits_for_any {C = g.row.C.Denot} m cvs) c.mode-mode.ensures in in_room (
+      ◌∙◌ {A = TableId} (ap (λ (k : WaitKnown _ _). k.known.monitor) c.waiting.view_is) c.requires.of,
       (
-        omega arith,
+        c.waiting.invariant.1,
         (
-          omega arith,
-          (
-            ◌∙◌ {A = TableId} (ap (λ (k : WaitKnown _ _). k.known.monitor) c.waiting.view_is) c.requires.of,
-            (
-              c.waiting.invariant.1,
-              (
-                subst (λ (v : Wait g.row.C.Denot). IsInRange v.on) (sym is) w.are,
-                (ap (λ (v : Wait g.row.C.Denot). v.limits) is, subst (λ (v : Wait g.row.C.Denot). IsAtPlace t (InWait v AwaitWakeInWait) c.waiting.inside.seat.me) (sym is) w.at),
-              ),
-            ),
-          ),
+          subst (λ (v : Wait g.row.C.Denot). IsInRange v.on) (sym is) w.are,
+          (ap (λ (v : Wait g.row.C.Denot). v.limits) is, subst (λ (v : Wait g.row.C.Denot). IsAtPlace t (InWait v AwaitWakeInWait) c.waiting.inside.seat.me) (sym is) w.at),
         ),
       ),
     )

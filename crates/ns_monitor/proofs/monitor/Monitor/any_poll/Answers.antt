@@ -1,5 +1,5 @@
-use Rattle.std.proofs.Common.{None, Some, ap, arith, false, refl, subst, sym, ◌∙◌}
-use Rattle.ns_monitor.proofs.Prelude.{AcquireLoad, Await, AwaitWakeInWait, CanStep, Flag, ForWait, HasAcquired, HasAnswered, HasSince, InAcquire, InWait, IsAtPlace, IsWaitingForAny, Limits, LoadFlag, Look, LookOut, Looked, Performed, TableId, Wait, WaitKnown, Woken, WokenBy, at_will, can_go, goes}
+use Rattle.std.proofs.Common.{None, Some, ap, false, refl, subst, sym, ◌∙◌}
+use Rattle.ns_monitor.proofs.Prelude.{in_room, AcquireLoad, Await, AwaitWakeInWait, CanStep, Flag, ForWait, HasAcquired, HasAnswered, HasSince, InAcquire, InWait, IsAtPlace, IsWaitingForAny, Limits, LoadFlag, Look, LookOut, Looked, Performed, TableId, Wait, WaitKnown, Woken, WokenBy, at_will, can_go, goes}
 use Rattle.ns_monitor.proofs.Prelude.{got_of, since, since_then, the, waits_for_any}
 use Rattle.ns_monitor.proofs.SeveralWaits.{has_come_back, still_waits, tells_still}
 use Rattle.ns_monitor.proofs.Standing.{same_number}
@@ -10,28 +10,19 @@ use Rattle.ns_monitor.proofs.monitor.Monitor.any_poll.Goals as goal
 
 pub load_flag-flag-requires : goal.load_flag-flag-requires
 load_flag-flag-requires g c = let of = ◌∙◌ {A = TableId} (ap (λ (k : WaitKnown _ _). k.known.monitor) c.waiting.view_is) (◌∙◌ {A = TableId} c.requires.of (sym c.self.view_is)) in
-    (omega arith, (omega arith, (omega arith, (of, (c.waiting.invariant.1, can_go g.C.Condition.means (InWait (waits_for_any g.H.Section.mode c.waiting.inside.cvs) AwaitWakeInWait) LoadFlag c.waiting.inside.seat.me refl c.waiting.invariant.0.at)))))
+    in_room (of, (c.waiting.invariant.1, can_go g.C.Condition.means (InWait (waits_for_any g.H.Section.mode c.waiting.inside.cvs) AwaitWakeInWait) LoadFlag c.waiting.inside.seat.me refl c.waiting.invariant.0.at))
 
 pub look-requires : goal.look-requires
 look-requires g c = let t = g.C.Condition.means in let cvs = c.waiting.inside.cvs in let wait : Wait g.row.C.Denot = waits_for_any g.H.Section.mode cvs in let flag = c.load_flag-flag in let me = c.waiting.inside.seat.me in let mid = flag.new.seat.me in
     let is = c.for_any-wait.ensures ∙ ap (λ m. waits_for_any {C = g.row.C.Denot} m cvs) c.mode-mode.ensures in
     let of = ◌∙◌ {A = TableId} (ap (λ (k : WaitKnown _ _). k.known.monitor) c.waiting.view_is) (◌∙◌ {A = TableId} c.requires.of (sym c.self.view_is)) in
-    let out = looks_out t wait flag.result me mid c.if-flag-eq1.true refl c.waiting.invariant.0.at flag.ensures.did in (
-      omega arith,
+    let out = looks_out t wait flag.result me mid c.if-flag-eq1.true refl c.waiting.invariant.0.at flag.ensures.did in in_room (
+      ◌∙◌ {A = TableId} flag.ensures.seat of,
       (
-        omega arith,
+        same_number t None c.waiting.inside.number me mid c.waiting.invariant.1 (since t None LoadFlag (Flag flag.result) me mid flag.ensures.did),
         (
-          omega arith,
-          (
-            ◌∙◌ {A = TableId} flag.ensures.seat of,
-            (
-              same_number t None c.waiting.inside.number me mid c.waiting.invariant.1 (since t None LoadFlag (Flag flag.result) me mid flag.ensures.did),
-              (
-                tt,
-                subst (λ (l : Limits). CanStep t None (Look l false) mid) (sym (ap (λ (v : Wait g.row.C.Denot). v.limits) is)) (can_go t (InWait wait LookOut) (Look at_will false) mid refl out),
-              ),
-            ),
-          ),
+          tt,
+          subst (λ (l : Limits). CanStep t None (Look l false) mid) (sym (ap (λ (v : Wait g.row.C.Denot). v.limits) is)) (can_go t (InWait wait LookOut) (Look at_will false) mid refl out),
         ),
       ),
     )
@@ -56,20 +47,11 @@ pub acquire-requires : goal.acquire-requires
 acquire-requires g c = let t = g.C.Condition.means in let cvs = c.waiting.inside.cvs in let wait : Wait g.row.C.Denot = waits_for_any g.H.Section.mode cvs in let flag = c.load_flag-flag in let me = c.waiting.inside.seat.me in let mid = flag.new.seat.me in
     let is = c.for_any-wait.ensures ∙ ap (λ m. waits_for_any {C = g.row.C.Denot} m cvs) c.mode-mode.ensures in
     let led = goes t (InWait wait AwaitWakeInWait) LoadFlag (Flag flag.result) (got_of g.row.N (InWait wait AwaitWakeInWait) (Flag flag.result)) me mid c.waiting.invariant.0.at refl refl refl flag.ensures.did in
-    let next = woken_next t wait flag.result (Woken (Some c.variable_told-k.result)) c.arrival_of.result mid c.if-flag-eq1.false (ap (λ n. Woken (Some n)) c.variable_told-k.ensures) c.arrival_of.ensures led in (
-      omega arith,
+    let next = woken_next t wait flag.result (Woken (Some c.variable_told-k.result)) c.arrival_of.result mid c.if-flag-eq1.false (ap (λ n. Woken (Some n)) c.variable_told-k.ensures) c.arrival_of.ensures led in in_room (
+      ◌∙◌ {A = TableId} flag.ensures.seat (◌∙◌ {A = TableId} (ap (λ (k : WaitKnown _ _). k.known.monitor) c.waiting.view_is) c.requires.of),
       (
-        omega arith,
-        (
-          omega arith,
-          (
-            ◌∙◌ {A = TableId} flag.ensures.seat (◌∙◌ {A = TableId} (ap (λ (k : WaitKnown _ _). k.known.monitor) c.waiting.view_is) c.requires.of),
-            (
-              same_number t None c.waiting.inside.number me mid c.waiting.invariant.1 (since t None LoadFlag (Flag flag.result) me mid flag.ensures.did),
-              subst (λ (v : Wait g.row.C.Denot). IsAtPlace t (InAcquire (ForWait v (Woken (Some c.variable_told-k.result))) (AcquireLoad c.arrival_of.result)) mid) (sym is) next,
-            ),
-          ),
-        ),
+        same_number t None c.waiting.inside.number me mid c.waiting.invariant.1 (since t None LoadFlag (Flag flag.result) me mid flag.ensures.did),
+        subst (λ (v : Wait g.row.C.Denot). IsAtPlace t (InAcquire (ForWait v (Woken (Some c.variable_told-k.result))) (AcquireLoad c.arrival_of.result)) mid) (sym is) next,
       ),
     )
 

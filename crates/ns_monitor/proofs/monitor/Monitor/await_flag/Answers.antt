@@ -1,5 +1,5 @@
-use Rattle.std.proofs.Common.{None, arith, refl, rules, sym, ◌∙◌}
-use Rattle.ns_monitor.proofs.Prelude.{Flag, HasSince, LoadFlag, TableId, can_go, since, since_itself, since_then, the}
+use Rattle.std.proofs.Common.{None, refl, rules, sym, ◌∙◌}
+use Rattle.ns_monitor.proofs.Prelude.{in_room, Flag, HasSince, LoadFlag, TableId, can_go, since, since_itself, since_then, the}
 use Rattle.ns_monitor.proofs.Standing.{is_woken, same_number, sleeps_on}
 use Rattle.ns_monitor.proofs.monitor.Monitor.await_flag.Given.{Over}
 use Rattle.ns_monitor.proofs.monitor.Monitor.await_flag.Goals.{After-load_flag-flag}
@@ -10,7 +10,7 @@ loop-init g c = (tt, tt, refl, since_itself (the c.args.seat.now.me.0), c.requir
 
 pub load_flag-flag-requires : goal.load_flag-flag-requires
 load_flag-flag-requires g c = let t = g.C.Condition.means in let inv = c.loop.invariant in
-    (omega arith, (omega arith, (omega arith, (◌∙◌ {A = TableId} inv.2 (◌∙◌ {A = TableId} c.requires.of (sym c.self.view_is)), (same_number t None c.args.number c.args.seat.now.me c.loop.seat.me c.requires.number inv.3, can_go t c.args._walk LoadFlag c.loop.seat.me c.requires.sleeps.loads inv.4)))))
+    in_room (◌∙◌ {A = TableId} inv.2 (◌∙◌ {A = TableId} c.requires.of (sym c.self.view_is)), (same_number t None c.args.number c.args.seat.now.me c.loop.seat.me c.requires.number inv.3, can_go t c.args._walk LoadFlag c.loop.seat.me c.requires.sleeps.loads inv.4))
 
 since_now : (g : Over) (c : After-load_flag-flag g) → HasSince None (the c.args.seat.now.me.0) (the c.load_flag-flag.new.seat.me.0)
 since_now g c = since_then None _ _ _ c.loop.invariant.3 (since g.C.Condition.means None LoadFlag (Flag c.load_flag-flag.result) c.loop.seat.me c.load_flag-flag.new.seat.me c.load_flag-flag.ensures.did)
@@ -34,4 +34,4 @@ loop-preserved g c = (
 
 pub park-requires : goal.park-requires
 park-requires g c = let flag = c.load_flag-flag in let of = ◌∙◌ {A = TableId} flag.ensures.seat (◌∙◌ {A = TableId} c.loop.invariant.2 (◌∙◌ {A = TableId} c.requires.of (sym c.self.view_is))) in
-    (omega arith, (omega arith, (omega arith, (of, same_number g.C.Condition.means None c.args.number c.args.seat.now.me flag.new.seat.me c.requires.number (since_now g (goal.at.park-requires g c).After-load_flag-flag)))))
+    in_room (of, same_number g.C.Condition.means None c.args.number c.args.seat.now.me flag.new.seat.me c.requires.number (since_now g (goal.at.park-requires g c).After-load_flag-flag))

@@ -1,5 +1,5 @@
-use Rattle.std.proofs.Common.{Bool, None, Some, ap, arith, cond, refl, rules, subst, sym, true, ◌∙◌, ◌≡◌}
-use Rattle.ns_monitor.proofs.Prelude.{AwaitWakeInWait, Cause, Ended, Idle, IfEnded, InWait, LookOut, On, Outcome, Woken, is_limited, since_then}
+use Rattle.std.proofs.Common.{Bool, None, Some, ap, cond, refl, rules, subst, sym, true, ◌∙◌, ◌≡◌}
+use Rattle.ns_monitor.proofs.Prelude.{in_room, AwaitWakeInWait, Cause, Ended, Idle, IfEnded, InWait, LookOut, On, Outcome, Woken, is_limited, since_then}
 use Rattle.ns_monitor.proofs.Standing.{same_number}
 use Rattle.ns_monitor.proofs.Waits.{woken_next}
 use Rattle.ns_monitor.proofs.monitor.Monitor.await_in.Goals as goal
@@ -36,10 +36,10 @@ returns-in-Err-clause-comes g c = c.leave.ensures.left
 
 pub leave-requires : goal.leave-requires
 leave-requires g c = let waits = c.await_or_end in
-    (omega arith, (omega arith, (omega arith, (waits.ensures.seat, (same_number g.C.Condition.means None c.args.number c.args.seat.now.me waits.new.seat.me c.requires.number waits.ensures.since, (c.requires.range, c.in-Err.ensures.came))))))
+    in_room (waits.ensures.seat, (same_number g.C.Condition.means None c.args.number c.args.seat.now.me waits.new.seat.me c.requires.number waits.ensures.since, (c.requires.range, c.in-Err.ensures.came)))
 
 pub await_or_end-requires : goal.await_or_end-requires
-await_or_end-requires g c = (omega arith, (omega arith, (omega arith, (c.requires.of, (c.requires.number, (sym c.is_some.ensures ∙ c.if-not-is_some.false, (c.requires.watches, c.requires.at)))))))
+await_or_end-requires g c = in_room (c.requires.of, (c.requires.number, (sym c.is_some.ensures ∙ c.if-not-is_some.false, (c.requires.watches, c.requires.at))))
 
 -- what it left for is what was shown
 shown : (so : Cause → Type 0) (cause : Cause) (outcome : Outcome) → IfEnded outcome (λ other. other ≡ cause) → so cause → IfEnded outcome so
@@ -53,4 +53,4 @@ returns-in-Err-clause-ended g c = let w = c.args.watch.now in let limits = c.arg
 pub await_flag-flag-requires : goal.await_flag-flag-requires
 await_flag-flag-requires g c = let wait = c.args.wait in
     let rests = ap (λ (b : Bool). cond b (On (InWait wait LookOut)) (Idle (InWait wait AwaitWakeInWait))) (sym c.is_some.ensures ∙ c.if-not-is_some.true) in
-    (omega arith, (omega arith, (omega arith, (c.requires.of, (c.requires.number, (record { loads = refl; free = refl; rests = rests }, c.requires.at))))))
+    in_room (c.requires.of, (c.requires.number, (record { loads = refl; free = refl; rests = rests }, c.requires.at)))

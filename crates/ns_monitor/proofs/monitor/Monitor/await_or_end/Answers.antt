@@ -1,5 +1,5 @@
-use Rattle.std.proofs.Common.{None, Some, arith, false, refl, rules, subst, sym, ◌∙◌, ◌≡◌}
-use Rattle.ns_monitor.proofs.Prelude.{AwaitWakeInWait, Flag, HasSince, InWait, IsAtPlace, LoadFlag, Look, LookOut, Looked, TableId, can_go, goes, since, since_itself, since_then, the}
+use Rattle.std.proofs.Common.{None, Some, false, refl, rules, subst, sym, ◌∙◌, ◌≡◌}
+use Rattle.ns_monitor.proofs.Prelude.{in_room, AwaitWakeInWait, Flag, HasSince, InWait, IsAtPlace, LoadFlag, Look, LookOut, Looked, TableId, can_go, goes, since, since_itself, since_then, the}
 use Rattle.ns_monitor.proofs.Standing.{same_number}
 use Rattle.ns_monitor.proofs.Waits.{goes_to_leave, looks_out, waits_on}
 use Rattle.ns_monitor.proofs.monitor.Monitor.await_or_end.Given.{Over}
@@ -12,7 +12,7 @@ loop-init g c = (tt, tt, refl, since_itself (the c.args.seat.now.me.0), g.W.Watc
 pub load_flag-flag-requires : goal.load_flag-flag-requires
 load_flag-flag-requires g c = let t = g.C.Condition.means in let inv = c.loop.invariant in
     let number = same_number t None c.args.number c.args.seat.now.me c.loop.seat.me c.requires.number inv.3 in
-    (omega arith, (omega arith, (omega arith, (◌∙◌ {A = TableId} inv.2 (◌∙◌ {A = TableId} c.requires.of (sym c.self.view_is)), (number, can_go t (InWait c.args.wait AwaitWakeInWait) LoadFlag c.loop.seat.me refl inv.5)))))
+    in_room (◌∙◌ {A = TableId} inv.2 (◌∙◌ {A = TableId} c.requires.of (sym c.self.view_is)), (number, can_go t (InWait c.args.wait AwaitWakeInWait) LoadFlag c.loop.seat.me refl inv.5))
 
 since_flag : (g : Over) (c : After-load_flag-flag g) → HasSince None (the c.args.seat.now.me.0) (the c.load_flag-flag.new.seat.me.0)
 since_flag g c = since_then None _ _ _ c.loop.invariant.3 (since g.C.Condition.means None LoadFlag (Flag c.load_flag-flag.result) c.loop.seat.me c.load_flag-flag.new.seat.me c.load_flag-flag.ensures.did)
@@ -37,7 +37,7 @@ pub look-requires : goal.look-requires
 look-requires g c = let t = g.C.Condition.means in let me = c.load_flag-flag.new.seat.me in let after = (goal.at.look-requires g c).After-load_flag-flag in
     let named = g.W.Watch.names c.loop.watch c.look-shown.new.self c.args.wait.limits c.look-shown.result (g.W.Watch.still c.args.watch.now c.loop.watch c.args.wait.limits c.loop.invariant.4 c.requires.watches) c.look-shown.ensures.shown in
     let of = ◌∙◌ {A = TableId} c.load_flag-flag.ensures.seat (◌∙◌ {A = TableId} c.loop.invariant.2 (◌∙◌ {A = TableId} c.requires.of (sym c.self.view_is))) in
-    (omega arith, (omega arith, (omega arith, (of, (same_number t None c.args.number c.args.seat.now.me me c.requires.number (since_flag g after), (named, can_go t (InWait c.args.wait LookOut) (Look c.args.wait.limits false) me refl (looking g after c.if-flag-ne1.false)))))))
+    in_room (of, (same_number t None c.args.number c.args.seat.now.me me c.requires.number (since_flag g after), (named, can_go t (InWait c.args.wait LookOut) (Look c.args.wait.limits false) me refl (looking g after c.if-flag-ne1.false))))
 
 pub returns-in-Some-shown : goal.returns-in-Some-shown
 returns-in-Some-shown g c = record {
@@ -62,4 +62,4 @@ loop-preserved g c = let t = g.C.Condition.means in let me = c.load_flag-flag.ne
 pub rest-requires : goal.rest-requires
 rest-requires g c = let t = g.C.Condition.means in let me = c.load_flag-flag.new.seat.me in let after = (goal.at.rest-requires g c).After-load_flag-flag in
     let number = same_number t None c.args.number c.args.seat.now.me c.look.new.seat.me c.requires.number (since_then None _ _ _ (since_flag g after) (since t None (Look c.args.wait.limits false) (Looked c.look-shown.result) me c.look.new.seat.me c.look.ensures.did)) in
-    (omega arith, (omega arith, (omega arith, (◌∙◌ {A = TableId} c.look.ensures.seat (◌∙◌ {A = TableId} c.load_flag-flag.ensures.seat (◌∙◌ {A = TableId} c.loop.invariant.2 c.requires.of)), number))))
+    in_room (◌∙◌ {A = TableId} c.look.ensures.seat (◌∙◌ {A = TableId} c.load_flag-flag.ensures.seat (◌∙◌ {A = TableId} c.loop.invariant.2 c.requires.of)), number)

@@ -1,30 +1,21 @@
-use Rattle.std.proofs.Common.{Some, ap, arith, rules, subst, sym, ◌∙◌}
-use Rattle.ns_monitor.proofs.Prelude.{HasSince, Known, TableId, WentAtOnce, known_of, locking, the}
+use Rattle.std.proofs.Common.{Some, ap, rules, subst, sym, ◌∙◌}
+use Rattle.ns_monitor.proofs.Prelude.{in_room, HasSince, Known, TableId, WentAtOnce, known_of, locking, the}
 use Rattle.ns_monitor.proofs.Begins.{may_lock}
 use Rattle.ns_monitor.proofs.Standing.{same_number}
 use Rattle.ns_monitor.proofs.monitor.Monitor.begin_lock.Goals as goal
 
 pub go_at_once-last-requires : goal.go_at_once-last-requires
-go_at_once-last-requires g c = let seat = c.seat.inside.seat in (
-  omega arith,
+go_at_once-last-requires g c = let seat = c.seat.inside.seat in in_room (
+  ◌∙◌ {A = TableId} (ap (λ (k : Known g.row.C.Denot g.row.N). k.monitor) c.seat.view_is) c.requires,
   (
-    omega arith,
+    c.seat.invariant.0,
     (
-      omega arith,
+      search rules,
       (
-        ◌∙◌ {A = TableId} (ap (λ (k : Known g.row.C.Denot g.row.N). k.monitor) c.seat.view_is) c.requires,
+        search rules,
         (
-          c.seat.invariant.0,
-          (
-            search rules,
-            (
-              search rules,
-              (
-                may_lock g.C.Condition.means c.args.mode c.lock.result (the seat.me.0).at.held c.lock.ensures.first c.seat.invariant.2,
-                search rules,
-              ),
-            ),
-          ),
+          may_lock g.C.Condition.means c.args.mode c.lock.result (the seat.me.0).at.held c.lock.ensures.first c.seat.invariant.2,
+          search rules,
         ),
       ),
     ),

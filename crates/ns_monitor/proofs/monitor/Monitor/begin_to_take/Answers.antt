@@ -1,5 +1,5 @@
-use Rattle.std.proofs.Common.{Some, ap, arith, refl, subst, sym, ◌∙◌}
-use Rattle.ns_monitor.proofs.Prelude.{HasReached, HasSince, LoadWord, MayGoAlone, Part, Saw, TableId, asked_of, does, got_of, since_then, the}
+use Rattle.std.proofs.Common.{Some, ap, refl, subst, sym, ◌∙◌}
+use Rattle.ns_monitor.proofs.Prelude.{in_room, HasReached, HasSince, LoadWord, MayGoAlone, Part, Saw, TableId, asked_of, does, got_of, since_then, the}
 use Rattle.ns_monitor.proofs.Standing.{loads_first, same_held}
 use Rattle.ns_monitor.proofs.monitor.Monitor.begin_to_take.Given.{Over}
 use Rattle.ns_monitor.proofs.monitor.Monitor.begin_to_take.Goals.{After-load-first}
@@ -10,7 +10,7 @@ first : (g : Over) (c : After-load-first g) → HasReached g.C.Condition.means (
 first g c = loads_first g.C.Condition.means c.args.walk c.args.walk c.load-first.result c.args.seat.now.me c.load-first.new.seat.me refl c.requires.rest c.load-first.ensures.did
 
 pub go_or_take-requires : goal.go_or_take-requires
-go_or_take-requires g c = (omega arith, (omega arith, (omega arith, (◌∙◌ {A = TableId} c.load-first.ensures.seat c.requires.of, (c.requires.decides, (sym c.requires.going, (c.load-first.ensures.word, (first g (goal.at.go_or_take-requires g c).After-load-first).0)))))))
+go_or_take-requires g c = in_room (◌∙◌ {A = TableId} c.load-first.ensures.seat c.requires.of, (c.requires.decides, (sym c.requires.going, (c.load-first.ensures.word, (first g (goal.at.go_or_take-requires g c).After-load-first).0))))
 
 pub unreachable-requires : goal.unreachable-requires
 unreachable-requires g c = subst MayGoAlone c.requires.going c.in-None.ensures.came.0

@@ -1,31 +1,22 @@
-use Rattle.std.proofs.Common.{Some, ap, arith, rules, subst, sym, ◌∙◌}
-use Rattle.ns_monitor.proofs.Prelude.{HasSince, IsQuietFor, Known, TableId, WentAtOnce, known_of, releasing_by, the}
+use Rattle.std.proofs.Common.{Some, ap, rules, subst, sym, ◌∙◌}
+use Rattle.ns_monitor.proofs.Prelude.{in_room, HasSince, IsQuietFor, Known, TableId, WentAtOnce, known_of, releasing_by, the}
 use Rattle.ns_monitor.proofs.Begins.{may_release}
 use Rattle.ns_monitor.proofs.Standing.{same_number}
 use Rattle.ns_monitor.proofs.monitor.Monitor.begin_unlock.Goals as goal
 
 pub go_at_once-last-requires : goal.go_at_once-last-requires
 go_at_once-last-requires g c = let seat = c.held.inside.seat in let held = (the seat.me.0).at.held in
-    let quiet = subst (λ (k : Known g.row.C.Denot g.row.N). IsQuietFor g.C.Condition.means c.args.releasing k.held) (sym c.held.view_is) c.requires.quiet in (
-      omega arith,
+    let quiet = subst (λ (k : Known g.row.C.Denot g.row.N). IsQuietFor g.C.Condition.means c.args.releasing k.held) (sym c.held.view_is) c.requires.quiet in in_room (
+      ◌∙◌ {A = TableId} (ap (λ (k : Known g.row.C.Denot g.row.N). k.monitor) c.held.view_is) c.requires.of,
       (
-        omega arith,
+        c.held.invariant.0,
         (
-          omega arith,
+          search rules,
           (
-            ◌∙◌ {A = TableId} (ap (λ (k : Known g.row.C.Denot g.row.N). k.monitor) c.held.view_is) c.requires.of,
+            search rules,
             (
-              c.held.invariant.0,
-              (
-                search rules,
-                (
-                  search rules,
-                  (
-                    may_release g.C.Condition.means g.H.Section.mode c.args.releasing c.release.result held c.release.ensures.first (g.met.H.Section.in_mode c.held.inside.hand held c.held.invariant.2) c.requires.mode quiet c.held.invariant.0.settled,
-                    search rules,
-                  ),
-                ),
-              ),
+              may_release g.C.Condition.means g.H.Section.mode c.args.releasing c.release.result held c.release.ensures.first (g.met.H.Section.in_mode c.held.inside.hand held c.held.invariant.2) c.requires.mode quiet c.held.invariant.0.settled,
+              search rules,
             ),
           ),
         ),

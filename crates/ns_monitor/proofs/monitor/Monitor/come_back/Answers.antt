@@ -1,10 +1,10 @@
-use Rattle.ns_monitor.proofs.Prelude.{None, arith, rules, since_then}
+use Rattle.ns_monitor.proofs.Prelude.{in_room, None, rules, since_then}
 use Rattle.ns_monitor.proofs.Standing.{same_number}
 use Rattle.ns_monitor.proofs.monitor.Monitor.come_back.Goals as goal
 
 pub acquire-requires : goal.acquire-requires
 acquire-requires g c = let came = c.await_in-arrival in
-    (omega arith, (omega arith, (omega arith, (came.ensures.seat, (same_number g.C.Condition.means None c.args.number c.args.seat.now.me came.new.seat.me c.requires.number came.ensures.since, came.ensures.comes)))))
+    in_room (came.ensures.seat, (same_number g.C.Condition.means None c.args.number c.args.seat.now.me came.new.seat.me c.requires.number came.ensures.since, came.ensures.comes))
 
 pub returns : goal.returns
 returns g c = record {

@@ -1,5 +1,5 @@
-use Rattle.std.proofs.Common.{None, Some, ap, arith, refl, rules, subst, sym, ◌∙◌}
-use Rattle.ns_monitor.proofs.Prelude.{HasAnswered, HasSince, HasStood, InShow, IsAtPlace, IsPackable, Known, ReturnShown, Succeeded, TableId, ToChange, Word, bits_of, known_of, showing, since_itself, since_then, the, works}
+use Rattle.std.proofs.Common.{None, Some, ap, refl, rules, subst, sym, ◌∙◌}
+use Rattle.ns_monitor.proofs.Prelude.{in_room, HasAnswered, HasSince, HasStood, InShow, IsAtPlace, IsPackable, Known, ReturnShown, Succeeded, TableId, ToChange, Word, bits_of, known_of, showing, since_itself, since_then, the, works}
 use Rattle.ns_monitor.proofs.Callers.{saw_more}
 use Rattle.ns_monitor.proofs.Shows.{stood_since}
 use Rattle.ns_monitor.proofs.Standing.{still_since, taken_packs}
@@ -10,26 +10,17 @@ use Rattle.ns_monitor.proofs.monitor.Monitor.debug_state_and_waiters.Goals as go
 
 pub put_back-requires : goal.put_back-requires
 put_back-requires g c = let t = g.C.Condition.means in let took = c.take_to_show-word in let show = c.show_in_hand-lists in let me = took.new.seat.me in let now = show.new.seat.me in let same = show.ensures.seat.1 in let taken = c.taken-taken.result in
-    let at = subst (λ (w : Word). IsAtPlace t (InShow (ReturnShown w)) me) (sym c.taken-taken.ensures) took.ensures.at in (
-      omega arith,
+    let at = subst (λ (w : Word). IsAtPlace t (InShow (ReturnShown w)) me) (sym c.taken-taken.ensures) took.ensures.at in in_room (
+      ◌∙◌ {A = TableId} show.ensures.seat.0 took.ensures.seat,
       (
-        omega arith,
+        tt,
         (
-          omega arith,
+          refl,
           (
-            ◌∙◌ {A = TableId} show.ensures.seat.0 took.ensures.seat,
+            subst IsPackable (sym c.taken-taken.ensures) (taken_packs ToChange took.result took.ensures.word),
             (
-              tt,
-              (
-                refl,
-                (
-                  subst IsPackable (sym c.taken-taken.ensures) (taken_packs ToChange took.result took.ensures.word),
-                  (
-                    works t (InShow (ReturnShown taken)) me now at refl same,
-                    record { carries = λ last. show.ensures.has; some = λ last. refl; bits = λ last. show.ensures.bits ∙ (λ i. bits_of (the (sym same i)).stood.lock) },
-                  ),
-                ),
-              ),
+              works t (InShow (ReturnShown taken)) me now at refl same,
+              record { carries = λ last. show.ensures.has; some = λ last. refl; bits = λ last. show.ensures.bits ∙ (λ i. bits_of (the (sym same i)).stood.lock) },
             ),
           ),
         ),
@@ -56,8 +47,8 @@ returns g c = record {
 
 pub take_to_show-word-requires : goal.take_to_show-word-requires
 take_to_show-word-requires g c = let of = ap (λ (k : Known g.row.C.Denot g.row.N). k.monitor) c.caller.view_is ∙ c.requires in
-    (omega arith, (omega arith, (omega arith, (of, c.caller.invariant.0))))
+    in_room (of, c.caller.invariant.0)
 
 pub show_in_hand-lists-requires : goal.show_in_hand-lists-requires
 show_in_hand-lists-requires g c = let took = c.take_to_show-word in
-    (omega arith, (omega arith, (omega arith, (◌∙◌ {A = TableId} took.ensures.seat (sym c.self.view_is), search rules))))
+    in_room (◌∙◌ {A = TableId} took.ensures.seat (sym c.self.view_is), search rules)

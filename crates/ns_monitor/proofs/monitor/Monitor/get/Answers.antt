@@ -1,5 +1,5 @@
-use Rattle.std.proofs.Common.{ap, arith, rules, sym, ◌∙◌}
-use Rattle.ns_monitor.proofs.Prelude.{Known, TableId, getting, the}
+use Rattle.std.proofs.Common.{ap, rules, sym, ◌∙◌}
+use Rattle.ns_monitor.proofs.Prelude.{in_room, Known, TableId, getting, the}
 use Rattle.ns_monitor.proofs.Begins.{may_get}
 use Rattle.ns_monitor.proofs.Callers.{is_got, saw_more}
 use Rattle.ns_monitor.proofs.monitor.Monitor.get.Goals as goal
@@ -16,4 +16,4 @@ returns g c = record {
 pub load_cell-requires : goal.load_cell-requires
 load_cell-requires g c = let seat = c.held.inside.seat in
     let may = may_get g.C.Condition.means g.H.Section.mode c.args.i c.get.result seat.me c.get.ensures.first c.held.invariant.0 (g.met.H.Section.in_mode c.held.inside.hand (the seat.me.0).at.held c.held.invariant.2) c.requires.cell in
-    (omega arith, (omega arith, (omega arith, (◌∙◌ {A = TableId} (ap (λ (k : Known g.row.C.Denot g.row.N). k.monitor) c.held.view_is) (c.requires.of ∙ sym c.self.view_is), (search rules, may)))))
+    in_room (◌∙◌ {A = TableId} (ap (λ (k : Known g.row.C.Denot g.row.N). k.monitor) c.held.view_is) (c.requires.of ∙ sym c.self.view_is), (search rules, may))

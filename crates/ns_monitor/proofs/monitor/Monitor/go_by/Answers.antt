@@ -1,5 +1,5 @@
-use Rattle.std.proofs.Common.{None, arith, refl, rules, subst, sym, true, ◌≡◌}
-use Rattle.ns_monitor.proofs.Prelude.{CanStep, IsAtPlace, Made, Performed, Saw, going_act, going_at, going_of, may_go, since, since_itself, the}
+use Rattle.std.proofs.Common.{None, refl, rules, subst, sym, true, ◌≡◌}
+use Rattle.ns_monitor.proofs.Prelude.{in_room, CanStep, IsAtPlace, Made, Performed, Saw, going_act, going_at, going_of, may_go, since, since_itself, the}
 use Rattle.ns_monitor.proofs.Standing.{decided, can_go_by, goes_alone, goes_by, may_by, misses}
 use Rattle.ns_monitor.proofs.monitor.Monitor.go_by.Given.{Over}
 use Rattle.ns_monitor.proofs.monitor.Monitor.go_by.Goals.{After-may_go}
@@ -19,7 +19,7 @@ returns-then-not-may_go g c = record {
 pub exchange_to_go-requires : goal.exchange_to_go-requires
 exchange_to_go-requires g c = let t = g.C.Condition.means in let walk = c.args._walk in let word = c.args.word in let me = c.args.seat.now.me in let is = c.requires.going in
     let may = may_by c.args.going walk word c.may_go.result true is c.may_go.ensures c.if-not-may_go.false in
-    (omega arith, (omega arith, (omega arith, (c.requires.of, (c.requires.word, (may.0, subst (λ x. CanStep t None (going_act x word) me) (sym is) (can_go_by t walk word me c.requires.decides may.1 (at g (goal.at.exchange_to_go-requires g c).After-may_go may.1))))))))
+    in_room (c.requires.of, (c.requires.word, (may.0, subst (λ x. CanStep t None (going_act x word) me) (sym is) (can_go_by t walk word me c.requires.decides may.1 (at g (goal.at.exchange_to_go-requires g c).After-may_go may.1)))))
 
 pub returns-in-Ok : goal.returns-in-Ok
 returns-in-Ok g c = record {

@@ -1,5 +1,5 @@
-use Rattle.std.proofs.Common.{None, ap, arith, false, refl, rules, subst, sym, true, ◌∙◌}
-use Rattle.ns_monitor.proofs.Prelude.{CanStep, HasTakenAt, LoadWord, Made, Performed, Saw, TableId, TakeQueues, going_act, since, since_itself, since_then, taking_for, the, word_taken}
+use Rattle.std.proofs.Common.{None, ap, false, refl, rules, subst, sym, true, ◌∙◌}
+use Rattle.ns_monitor.proofs.Prelude.{in_room, CanStep, HasTakenAt, LoadWord, Made, Performed, Saw, TableId, TakeQueues, going_act, since, since_itself, since_then, taking_for, the, word_taken}
 use Rattle.ns_monitor.proofs.Standing.{can_go_by, can_load, decided, may_by, can_take, goes_alone, goes_by, loads, misses, misses_taking, saw_held, took}
 use Rattle.ns_monitor.proofs.monitor.Monitor.go_or_take.Goals as goal
 
@@ -10,7 +10,7 @@ pub exchange_to_go-requires : goal.exchange_to_go-requires
 exchange_to_go-requires g c = let t = g.C.Condition.means in let inv = c.loop.invariant in let walk = c.args._walk in let is = c.requires.going in let d = c.requires.decides in
     let may = may_by c.args.going walk c.loop.word c.may_go.result true is c.may_go.ensures c.if-may_go.true in
     let by = subst (λ x. CanStep t None (going_act x c.loop.word) c.loop.seat.me) (sym is) (can_go_by t walk c.loop.word c.loop.seat.me d may.1 (decided t walk c.loop.word true _ c.loop.seat.me d may.1 refl inv.6)) in
-    (omega arith, (omega arith, (omega arith, (◌∙◌ {A = TableId} inv.2 c.requires.of, (inv.3, (may.0, by))))))
+    in_room (◌∙◌ {A = TableId} inv.2 c.requires.of, (inv.3, (may.0, by)))
 
 pub returns-in-Ok : goal.returns-in-Ok
 returns-in-Ok g c = record {
@@ -37,7 +37,7 @@ loop-preserved-in-Err g c = let t = g.C.Condition.means in let inv = c.loop.inva
 pub load-word-requires : goal.load-word-requires
 load-word-requires g c = let t = g.C.Condition.means in let inv = c.loop.invariant in let walk = c.args._walk in let d = c.requires.decides in
     let may = (may_by c.args.going walk c.loop.word c.may_go.result false c.requires.going c.may_go.ensures c.if-may_go.false).1 in
-    (omega arith, (omega arith, (omega arith, (◌∙◌ {A = TableId} inv.2 (◌∙◌ {A = TableId} c.requires.of (sym c.self.view_is)), can_load t walk c.loop.seat.me d (decided t walk c.loop.word false true c.loop.seat.me d may (sym c.spin.ensures ∙ c.if-spin.true) inv.6)))))
+    in_room (◌∙◌ {A = TableId} inv.2 (◌∙◌ {A = TableId} c.requires.of (sym c.self.view_is)), can_load t walk c.loop.seat.me d (decided t walk c.loop.word false true c.loop.seat.me d may (sym c.spin.ensures ∙ c.if-spin.true) inv.6))
 
 pub loop-preserved-then-spin : goal.loop-preserved-then-spin
 loop-preserved-then-spin g c = let t = g.C.Condition.means in let inv = c.loop.invariant in let walk = c.args._walk in let d = c.requires.decides in let me = c.loop.seat.me in let now = c.load-word.new.seat.me in let word = c.load-word.result in
@@ -56,7 +56,7 @@ pub exchange_to_take-requires : goal.exchange_to_take-requires
 exchange_to_take-requires g c = let t = g.C.Condition.means in let inv = c.loop.invariant in let walk = c.args._walk in let is = c.requires.going in let d = c.requires.decides in
     let may = (may_by c.args.going walk c.loop.word c.may_go.result false is c.may_go.ensures c.if-may_go.false).1 in
     let by = subst (λ x. CanStep t None (TakeQueues x c.loop.word) c.loop.seat.me) (ap taking_for (sym is) ∙ sym c.taking-taking.ensures) (can_take t walk c.loop.word c.loop.seat.me d (decided t walk c.loop.word false false c.loop.seat.me d may (sym c.spin.ensures ∙ c.if-spin.false) inv.6)) in
-    (omega arith, (omega arith, (omega arith, (◌∙◌ {A = TableId} inv.2 (◌∙◌ {A = TableId} c.requires.of (sym c.self.view_is)), (inv.3, by)))))
+    in_room (◌∙◌ {A = TableId} inv.2 (◌∙◌ {A = TableId} c.requires.of (sym c.self.view_is)), (inv.3, by))
 
 pub returns-in-Ok-exchange_to_take : goal.returns-in-Ok-exchange_to_take
 returns-in-Ok-exchange_to_take g c = record {

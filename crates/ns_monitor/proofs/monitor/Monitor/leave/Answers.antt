@@ -1,5 +1,5 @@
-use Rattle.std.proofs.Common.{None, ap, arith, false, refl, rules, subst, sym, true, ◌∙◌}
-use Rattle.ns_monitor.proofs.Prelude.{Await, AwaitWakeToLeave, Changed, HasReached, HasSince, InLeaving, InWait, IsAtPlace, Leave, LeaveSelf, TableId, since_then, the, works}
+use Rattle.std.proofs.Common.{None, ap, false, refl, rules, subst, sym, true, ◌∙◌}
+use Rattle.ns_monitor.proofs.Prelude.{in_room, Await, AwaitWakeToLeave, Changed, HasReached, HasSince, InLeaving, InWait, IsAtPlace, Leave, LeaveSelf, TableId, since_then, the, works}
 use Rattle.ns_monitor.proofs.Standing.{hand_by, same_number, still_since}
 use Rattle.ns_monitor.proofs.Waits.{left_next, taken_ended, taken_next}
 use Rattle.ns_monitor.proofs.monitor.Monitor.leave.Given.{Over}
@@ -7,13 +7,13 @@ use Rattle.ns_monitor.proofs.monitor.Monitor.leave.Goals.{After-put_back}
 use Rattle.ns_monitor.proofs.monitor.Monitor.leave.Goals as goal
 
 pub leave_in_hand-stood-requires : goal.leave_in_hand-stood-requires
-leave_in_hand-stood-requires g c = (omega arith, (omega arith, (omega arith, (◌∙◌ {A = TableId} c.take-word.ensures.seat (sym c.self.view_is), c.take-word.ensures.taken.taken))))
+leave_in_hand-stood-requires g c = in_room (◌∙◌ {A = TableId} c.take-word.ensures.seat (sym c.self.view_is), c.take-word.ensures.taken.taken)
 
 pub put_back-requires : goal.put_back-requires
 put_back-requires g c = let t = g.C.Condition.means in let took = c.take-word in let left = c.leave_in_hand-stood in let me1 = took.new.seat.me in let e = left.ensures in
     let hand = hand_by t (LeaveSelf c.home-home.result) c.args.number left.result.1 me1 left.new.seat.me (c.requires.number.0 ∙ sym took.ensures.since.seat) e.seat.1 (λ last. refl) e.lists e.bits in
     let stands = works t (InWait c.args.wait (InLeaving c.args.cause (Leave took.result))) me1 left.new.seat.me took.ensures.taken.at refl e.seat.1 in
-    (omega arith, (omega arith, (omega arith, (◌∙◌ {A = TableId} e.seat.0 took.ensures.seat, (tt, (ap (λ w. Changed (LeaveSelf w)) c.home-home.ensures, (took.ensures.taken.packs, (stands, hand))))))))
+    in_room (◌∙◌ {A = TableId} e.seat.0 took.ensures.seat, (tt, (ap (λ w. Changed (LeaveSelf w)) c.home-home.ensures, (took.ensures.taken.packs, (stands, hand)))))
 
 -- it came so far, and stands where its list tells
 since_back : (g : Over) (c : After-put_back g) → HasSince None (the c.args.seat.now.me.0) (the c.put_back.new.seat.me.0)
@@ -35,7 +35,7 @@ await_flag-flag-requires g c = let t = g.C.Condition.means in let took = c.take-
     let at : IsAtPlace t (InWait c.args.wait (InLeaving c.args.cause AwaitWakeToLeave)) c.put_back.new.seat.me = subst (λ next. HasReached t (Await c.args.wait) next c.put_back.new.seat.me)
     (left_next t c.args.wait c.args.cause took.result c.home-home.result c.args.number left.result.0 false took.new.seat.me left.new.seat.me c.home-home.ensures
     (c.requires.number.0 ∙ sym took.ensures.since.seat) left.ensures.seat.1 left.ensures.stood c.if-stood.false) c.put_back.ensures.returned in
-    (omega arith, (omega arith, (omega arith, (c.put_back.ensures.seat, (same_number t None c.args.number c.args.seat.now.me c.put_back.new.seat.me c.requires.number (since_back g (goal.at.await_flag-flag-requires g c).After-put_back), (record { loads = refl; free = refl; rests = refl }, at))))))
+    in_room (c.put_back.ensures.seat, (same_number t None c.args.number c.args.seat.now.me c.put_back.new.seat.me c.requires.number (since_back g (goal.at.await_flag-flag-requires g c).After-put_back), (record { loads = refl; free = refl; rests = refl }, at)))
 
 pub returns : goal.returns
 returns g c = record {
@@ -47,4 +47,4 @@ returns g c = record {
 }
 
 pub take-word-requires : goal.take-word-requires
-take-word-requires g c = (omega arith, (omega arith, (omega arith, (c.requires.of, (tt, (refl, c.requires.at))))))
+take-word-requires g c = in_room (c.requires.of, (tt, (refl, c.requires.at)))

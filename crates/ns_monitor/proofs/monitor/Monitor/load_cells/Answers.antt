@@ -1,5 +1,5 @@
 use Rattle.std.proofs.Common.{arith, refl, rules, subst, sym, ◌<◌, ◌∙◌, ◌≡◌}
-use Rattle.ns_monitor.proofs.Prelude.{HasLoaded, TableId}
+use Rattle.ns_monitor.proofs.Prelude.{in_room, HasLoaded, TableId}
 use Rattle.ns_monitor.proofs.Tests.{can_load_cell, loads_cell, loads_none}
 use Rattle.ns_monitor.proofs.monitor.Monitor.load_cells.Goals as goal
 
@@ -9,7 +9,7 @@ loop-i-init g c = (refl, loads_none g.C.Condition.means _ _ _ _ c.told-row c.req
 pub load_cell-requires : goal.load_cell-requires
 load_cell-requires g c = let inv = c.loop-i.invariant in let few = c.requires.count.0 in let low = c.loop-i-test.true in
     let can = can_load_cell g.C.Condition.means _ _ _ _ _ _ _ (subst (λ n. c.loop-i.i < n) c.requires.count.1 low) inv.1 in
-    (omega arith, (omega arith, (omega arith, (◌∙◌ {A = TableId} inv.0 (◌∙◌ {A = TableId} c.requires.of (sym c.self.view_is)), (omega (arith, few, low), can)))))
+    in_room (◌∙◌ {A = TableId} inv.0 (◌∙◌ {A = TableId} c.requires.of (sym c.self.view_is)), (omega (arith, few, low), can))
 
 pub loop-i-preserved : goal.loop-i-preserved
 loop-i-preserved g c = let inv = c.loop-i.invariant in let few = c.requires.count.0 in let low = c.loop-i-test.true in

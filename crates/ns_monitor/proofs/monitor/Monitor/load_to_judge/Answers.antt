@@ -1,12 +1,12 @@
 use Rattle.std.proofs.Common.{arith, refl, rules, sym, ◌∙◌}
-use Rattle.ns_monitor.proofs.Prelude.{TableId}
+use Rattle.ns_monitor.proofs.Prelude.{in_room, TableId}
 use Rattle.ns_monitor.proofs.Begins.{may_judge}
 use Rattle.ns_monitor.proofs.Tests.{can_tell, is_judged}
 use Rattle.ns_monitor.proofs.monitor.Monitor.load_to_judge.Goals as goal
 
 pub judge_quiet-requires : goal.judge_quiet-requires
 judge_quiet-requires g c = let some_cells = g.met.C.Condition.has_cells.0 in let begun = c.load_cells-begun.ensures in
-    (omega arith, (omega arith, (omega arith, (◌∙◌ {A = TableId} begun.seat (sym c.self.view_is), (omega (arith, some_cells), can_tell g.C.Condition.means _ _ _ _ _ _ _ refl begun.loaded)))))
+    in_room (◌∙◌ {A = TableId} begun.seat (sym c.self.view_is), (omega (arith, some_cells), can_tell g.C.Condition.means _ _ _ _ _ _ _ refl begun.loaded))
 
 pub returns : goal.returns
 returns g c = record {
@@ -18,4 +18,4 @@ returns g c = record {
 
 pub load_cells-begun-requires : goal.load_cells-begun-requires
 load_cells-begun-requires g c =
-    (omega arith, (omega arith, (omega arith, (omega (arith, g.met.C.Condition.has_cells), (c.requires.of, ((omega arith, refl), may_judge g.C.Condition.means c.is_quiet.result c.args.seat.now.me g.met.C.Condition.has_cells.0 c.is_quiet.ensures.first c.requires.rest c.requires.writes))))))
+    in_room (omega (arith, g.met.C.Condition.has_cells), (c.requires.of, ((omega arith, refl), may_judge g.C.Condition.means c.is_quiet.result c.args.seat.now.me g.met.C.Condition.has_cells.0 c.is_quiet.ensures.first c.requires.rest c.requires.writes)))

@@ -1,5 +1,5 @@
 use Rattle.std.proofs.Common.{ap, arith, cond, rules, subst, sym, ◌∙◌}
-use Rattle.ns_monitor.proofs.Prelude.{IsAtPlace, loading, loading_at, row_in, the}
+use Rattle.ns_monitor.proofs.Prelude.{in_room, IsAtPlace, loading, loading_at, row_in, the}
 use Rattle.ns_monitor.proofs.Releases.{scans_row}
 use Rattle.ns_monitor.proofs.Tests.{is_scanned}
 use Rattle.ns_monitor.proofs.monitor.Monitor.load_to_scan.Goals as goal
@@ -16,7 +16,7 @@ returns-then-not-needed g c = record {
 pub load_cells-requires : goal.load_cells-requires
 load_cells-requires g c = let t = g.C.Condition.means in
     let by = subst (λ b. IsAtPlace t (cond b (loading_at g.row.N c.args.walk 0) (loading g.row.N c.args.walk).last) c.args.seat.now.me) c.if-not-needed.false c.requires.at in
-    (omega arith, (omega arith, (omega arith, (omega (arith, g.met.C.Condition.has_cells), (c.requires.of, ((omega arith, sym c.requires.scans), by))))))
+    in_room (omega (arith, g.met.C.Condition.has_cells), (c.requires.of, ((omega arith, sym c.requires.scans), by)))
 
 pub returns : goal.returns
 returns g c = record {

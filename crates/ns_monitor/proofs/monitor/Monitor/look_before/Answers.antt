@@ -1,5 +1,5 @@
-use Rattle.std.proofs.Common.{IfSome, None, Option, Some, arith, false, refl, rules, sym, true, ◌∙◌, ◌≡◌}
-use Rattle.ns_monitor.proofs.Prelude.{Cause, InQueuing, InWait, Limits, Look, LookIn, Looked, TableId, can_go, does, is_limited, since, since_itself, the}
+use Rattle.std.proofs.Common.{IfSome, None, Option, Some, false, refl, rules, sym, true, ◌∙◌, ◌≡◌}
+use Rattle.ns_monitor.proofs.Prelude.{in_room, Cause, InQueuing, InWait, Limits, Look, LookIn, Looked, TableId, can_go, does, is_limited, since, since_itself, the}
 use Rattle.ns_monitor.proofs.Standing.{commits_none}
 use Rattle.ns_monitor.proofs.Returns.{by_limits, look_fresh, looks_in}
 use Rattle.ns_monitor.proofs.monitor.Monitor.look_before.Goals as goal
@@ -19,7 +19,7 @@ returns-then-not-is_some g c = record {
 pub look-requires : goal.look-requires
 look-requires g c = let t = g.C.Condition.means in let me = c.args.seat.now.me in let wait = c.args.wait in
     let can = can_go t (InWait wait (InQueuing c.args.again LookIn)) (Look wait.limits c.args.again) me refl (by_limits t wait c.args.again true me (sym c.is_some.ensures ∙ c.if-not-is_some.false) c.requires.at) in
-    (omega arith, (omega arith, (omega arith, (◌∙◌ {A = TableId} c.requires.of (sym c.self.view_is), (c.requires.number, (g.W.Watch.names c.args.watch.now c.look-shown.new.self wait.limits c.look-shown.result c.requires.watches c.look-shown.ensures.shown, can))))))
+    in_room (◌∙◌ {A = TableId} c.requires.of (sym c.self.view_is), (c.requires.number, (g.W.Watch.names c.args.watch.now c.look-shown.new.self wait.limits c.look-shown.result c.requires.watches c.look-shown.ensures.shown, can)))
 
 -- what a look has shown, it has shown for a limit
 is_limited_if : (limits : Limits) (shown : Option Cause) → is_limited limits ≡ true → IfSome shown (λ cause. is_limited limits ≡ true)

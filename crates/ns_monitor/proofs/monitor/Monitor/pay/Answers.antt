@@ -1,5 +1,5 @@
 use Rattle.std.proofs.Common.{None, arith, drop, get_or, refl, sym, ◌+◌, ◌∙◌}
-use Rattle.ns_monitor.proofs.Prelude.{Owed, PayWake, TableId, can_go, drop_all, drop_more, owes_more, since, since_itself, since_then, the}
+use Rattle.ns_monitor.proofs.Prelude.{in_room, Owed, PayWake, TableId, can_go, drop_all, drop_more, owes_more, since, since_itself, since_then, the}
 use Rattle.ns_monitor.proofs.SeveralWaits.{true_now}
 use Rattle.ns_monitor.proofs.Standing.{all_paid, can_pay, is_paid, owes_next}
 use Rattle.ns_monitor.proofs.monitor.Monitor.pay.Goals as goal
@@ -15,7 +15,7 @@ pub pay_wake-requires : goal.pay_wake-requires
 pay_wake-requires g c = let t = g.C.Condition.means in let inv = c.loop-wake.invariant in let i = c.loop-wake.wake-index in let items = c.as_slice-wake-items.result.now in
     let some = inv.1 ∙ drop_more items i none c.loop-wake-test.true in
     let at = can_pay t c.args._walk (get_or items i none) (drop (i + 1) items) c.loop-wake.seat.me c.requires.pays some inv.3 in
-    (omega arith, (omega arith, (omega arith, (◌∙◌ {A = TableId} inv.0 (◌∙◌ {A = TableId} c.requires.of (sym c.self.view_is)), (owes_next t (get_or items i none) (drop (i + 1) items) c.loop-wake.seat.me some at.owes, can_go t c.args._walk PayWake c.loop-wake.seat.me c.requires.pays.pays at)))))
+    in_room (◌∙◌ {A = TableId} inv.0 (◌∙◌ {A = TableId} c.requires.of (sym c.self.view_is)), (owes_next t (get_or items i none) (drop (i + 1) items) c.loop-wake.seat.me some at.owes, can_go t c.args._walk PayWake c.loop-wake.seat.me c.requires.pays.pays at))
 
 pub loop-wake-preserved : goal.loop-wake-preserved
 loop-wake-preserved g c = let t = g.C.Condition.means in let inv = c.loop-wake.invariant in let i = c.loop-wake.wake-index in let items = c.as_slice-wake-items.result.now in let me = c.loop-wake.seat.me in let now = c.pay_wake.new.seat.me in

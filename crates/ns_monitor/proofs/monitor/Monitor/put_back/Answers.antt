@@ -1,5 +1,5 @@
-use Rattle.std.proofs.Common.{None, arith, refl, subst, sym, ◌∙◌}
-use Rattle.ns_monitor.proofs.Prelude.{CanStep, Performed, Saw, TableId, act_returning, found_back, since, since_itself, since_then, stays_itself, stays_through, the}
+use Rattle.std.proofs.Common.{None, refl, subst, sym, ◌∙◌}
+use Rattle.ns_monitor.proofs.Prelude.{in_room, CanStep, Performed, Saw, TableId, act_returning, found_back, since, since_itself, since_then, stays_itself, stays_through, the}
 use Rattle.ns_monitor.proofs.SeveralWaits.{true_now}
 use Rattle.ns_monitor.proofs.Standing.{can_put_back, hand_stays, is_back_for, misses_back}
 use Rattle.ns_monitor.proofs.monitor.Monitor.put_back.Goals as goal
@@ -11,7 +11,7 @@ pub exchange_to_return-requires : goal.exchange_to_return-requires
 exchange_to_return-requires g c = let t = g.C.Condition.means in let inv = c.loop.invariant in let me = c.loop.seat.me in let last = c.loop.word in
     let hand = hand_stays t c.args.returning c.args.turned c.args.seat.now.me me inv.5 c.requires.hand in
     let can = subst (λ r. CanStep t None (act_returning r last) me) (sym c.requires.returning) (can_put_back t c.args._walk last me c.requires.puts inv.6) in
-    (omega arith, (omega arith, (omega arith, (◌∙◌ {A = TableId} inv.2 (◌∙◌ {A = TableId} c.requires.of (sym c.self.view_is)), (inv.3, (can, (hand.carries last, (hand.some last, hand.bits last))))))))
+    in_room (◌∙◌ {A = TableId} inv.2 (◌∙◌ {A = TableId} c.requires.of (sym c.self.view_is)), (inv.3, (can, (hand.carries last, (hand.some last, hand.bits last)))))
 
 pub returns-in-Ok : goal.returns-in-Ok
 returns-in-Ok g c = record {

@@ -1,4 +1,4 @@
-use Rattle.ns_monitor.proofs.Prelude.{HasRow, InQueuing, InWait, Load, None, ap, arith, refl, row_in, since_then, subst, sym}
+use Rattle.ns_monitor.proofs.Prelude.{in_room, HasRow, InQueuing, InWait, Load, None, ap, arith, refl, row_in, since_then, subst, sym}
 use Rattle.ns_monitor.proofs.Standing.{same_number}
 use Rattle.ns_monitor.proofs.VariableWaits.{taken_now}
 use Rattle.ns_monitor.proofs.monitor.Monitor.queue_to_wait.Goals as goal
@@ -7,10 +7,10 @@ pub leave_section-requires : goal.leave_section-requires
 leave_section-requires g c = let t = g.C.Condition.means in let took = c.take-word in let me = took.new.seat.me in
     let taken = taken_now t (InWait c.args.queuing.wait (InQueuing c.args.queuing.again Load)) took.result c.args.seat.now.me me took.ensures.taken in
     let by = subst (HasRow c.args.queuing.wait.on c.args.row.now) (ap row_in (sym took.ensures.taken.held)) c.requires.row in
-    (omega arith, (omega arith, (omega arith, (omega (arith, g.met.C.Condition.has_cells), (took.ensures.seat, (same_number t None c.args.queuing.number c.args.seat.now.me me c.requires.number took.ensures.since, (c.requires.range, (taken, by))))))))
+    in_room (omega (arith, g.met.C.Condition.has_cells), (took.ensures.seat, (same_number t None c.args.queuing.number c.args.seat.now.me me c.requires.number took.ensures.since, (c.requires.range, (taken, by)))))
 
 pub take-word-requires : goal.take-word-requires
-take-word-requires g c = (omega arith, (omega arith, (omega arith, (c.requires.of, (tt, (refl, c.requires.at))))))
+take-word-requires g c = in_room (c.requires.of, (tt, (refl, c.requires.at)))
 
 pub returns : goal.returns
 returns g c = let left = c.leave_section.ensures in record { seat = left.seat; since = since_then None _ _ _ c.take-word.ensures.since left.since; waits = left.waits }

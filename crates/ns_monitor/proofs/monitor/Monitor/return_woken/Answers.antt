@@ -1,5 +1,5 @@
-use Rattle.std.proofs.Common.{None, ap, arith, not, refl, rules, subst, sym, ◌∙◌, ◌≡◌}
-use Rattle.ns_monitor.proofs.Prelude.{Carries, HasKeptItsQueues, HasReturnedWoken, HasSince, HasWokenInHand, InSignal, IsAtPlace, IsOrderly, ReturnQueues, Saw, TableId, WakeAndReturn, WakeWaiters, change_found, is_held, lists_woken, since, since_itself, since_then, taken_from, the, works}
+use Rattle.std.proofs.Common.{None, ap, not, refl, rules, subst, sym, ◌∙◌, ◌≡◌}
+use Rattle.ns_monitor.proofs.Prelude.{in_room, Carries, HasKeptItsQueues, HasReturnedWoken, HasSince, HasWokenInHand, InSignal, IsAtPlace, IsOrderly, ReturnQueues, Saw, TableId, WakeAndReturn, WakeWaiters, change_found, is_held, lists_woken, since, since_itself, since_then, taken_from, the, works}
 use Rattle.ns_monitor.proofs.Standing.{still_since}
 use Rattle.ns_monitor.proofs.Wakes.{by_both, by_one, can_return, hand_kept, hand_made, is_returned, misses_return}
 use Rattle.ns_monitor.proofs.monitor.Monitor.return_woken.Given.{Over}
@@ -11,7 +11,7 @@ loop-init g c = (tt, tt, refl, c.requires.word, since_itself (the c.args.seat.no
 
 pub exchange_to_return-requires : goal.exchange_to_return-requires
 exchange_to_return-requires g c = let t = g.C.Condition.means in let inv = c.loop.invariant in let hand = inv.7 in
-    (omega arith, (omega arith, (omega arith, (◌∙◌ {A = TableId} inv.2 (◌∙◌ {A = TableId} c.requires.of (sym c.self.view_is)), (inv.3, (can_return t c.args.call.waking c.args.call.k c.loop.word c.loop.seat.me inv.6, (hand.carries, (hand.some, hand.bits))))))))
+    in_room (◌∙◌ {A = TableId} inv.2 (◌∙◌ {A = TableId} c.requires.of (sym c.self.view_is)), (inv.3, (can_return t c.args.call.waking c.args.call.k c.loop.word c.loop.seat.me inv.6, (hand.carries, (hand.some, hand.bits)))))
 
 pub returns-in-Ok : goal.returns-in-Ok
 returns-in-Ok g c = record {
@@ -39,24 +39,15 @@ pub turn_in_hand-turned-requires : goal.turn_in_hand-turned-requires
 turn_in_hand-turned-requires g c = let after = (goal.at.turn_in_hand-turned-requires g c).In-Err in let now = c.exchange_to_return.new.seat.me in let held = c.is_held-held.result in
     let stood = sym ((missed g after).1.stood ∙ c.loop.invariant.5) in
     let differs = by_one c.loop.word c.in-Err.other (sym c.is_held_by_one.ensures ∙ c.if-is_held_by_one.true) in
-    let other : is_held c.loop.word ≡ not held = sym (ap not c.is_held-held.ensures ∙ differs) in (
-      omega arith,
+    let other : is_held c.loop.word ≡ not held = sym (ap not c.is_held-held.ensures ∙ differs) in in_room (
+      ◌∙◌ {A = TableId} c.exchange_to_return.ensures.seat (◌∙◌ {A = TableId} c.loop.invariant.2 (◌∙◌ {A = TableId} c.requires.of (sym c.self.view_is))),
       (
-        omega arith,
+        c.requires.variable,
         (
-          omega arith,
+          subst IsOrderly stood c.requires.orderly,
           (
-            ◌∙◌ {A = TableId} c.exchange_to_return.ensures.seat (◌∙◌ {A = TableId} c.loop.invariant.2 (◌∙◌ {A = TableId} c.requires.of (sym c.self.view_is))),
-            (
-              c.requires.variable,
-              (
-                subst IsOrderly stood c.requires.orderly,
-                (
-                  c.requires.taken ∙ ap (taken_from c.args.call.waking c.args.call.k) stood,
-                  subst (λ b. Carries (lists_woken c.args.call.waking c.args.call.k b (the now.0).stood) now) other (kept g after).carries,
-                ),
-              ),
-            ),
+            c.requires.taken ∙ ap (taken_from c.args.call.waking c.args.call.k) stood,
+            subst (λ b. Carries (lists_woken c.args.call.waking c.args.call.k b (the now.0).stood) now) other (kept g after).carries,
           ),
         ),
       ),

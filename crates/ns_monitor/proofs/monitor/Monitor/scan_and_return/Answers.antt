@@ -1,31 +1,22 @@
 use Rattle.std.proofs.Common.{List, None, ap, arith, false, subst, sym, true, ◌∙◌, ◌≡◌}
-use Rattle.ns_monitor.proofs.Prelude.{GateView, HasReached, HasSince, Paid, TableId, asked_of, got_of, has_some, lists_scanned, paying_at, ready_at, since_then, sought_at, the, works}
+use Rattle.ns_monitor.proofs.Prelude.{in_room, GateView, HasReached, HasSince, Paid, TableId, asked_of, got_of, has_some, lists_scanned, paying_at, ready_at, since_then, sought_at, the, works}
 use Rattle.ns_monitor.proofs.Releases.{calls_few, found_first, hand_scanned, may_enter, may_still, owes_scanned, pay_scanned, pays_at, put_scanned, ready_still, scans_in_hand, told_list, turned_writer}
 use Rattle.ns_monitor.proofs.monitor.Monitor.scan_and_return.Given.{Over}
 use Rattle.ns_monitor.proofs.monitor.Monitor.scan_and_return.Goals.{After-put_back}
 use Rattle.ns_monitor.proofs.monitor.Monitor.scan_and_return.Goals as goal
 
 pub scan_and_wake-requires : goal.scan_and_wake-requires
-scan_and_wake-requires g c = let t = g.C.Condition.means in let look = c.scan_writer_in_hand in let me = c.args.seat.now.me in let walk = ready_at c.args.scanning c.args.word in (
-  omega arith,
+scan_and_wake-requires g c = let t = g.C.Condition.means in let look = c.scan_writer_in_hand in let me = c.args.seat.now.me in let walk = ready_at c.args.scanning c.args.word in in_room (
+  omega (arith, g.met.C.Condition.has_cells),
   (
-    omega arith,
+    ◌∙◌ {A = TableId} look.ensures.seat.0 c.requires.of,
     (
-      omega arith,
+      c.requires.word,
       (
-        omega (arith, g.met.C.Condition.has_cells),
+        may_still t c.args.scanning me look.new.seat.me c.requires.may look.ensures.seat.1,
         (
-          ◌∙◌ {A = TableId} look.ensures.seat.0 c.requires.of,
-          (
-            c.requires.word,
-            (
-              may_still t c.args.scanning me look.new.seat.me c.requires.may look.ensures.seat.1,
-              (
-                ready_still t walk c.args.row.now me look.new.seat.me (scans_in_hand c.args.scanning c.args.word) c.requires.ready look.ensures.seat.1 c.in-Err.ensures.still,
-                found_first _ _ (sought_at t c.args.row.now (the me.0).stood) c.in-Err.sought (sym look.ensures.told ∙ c.in-Err.is) ∙ ap (λ (vs : List (GateView _ g.row.N)). sought_at t c.args.row.now (the vs).stood) (sym look.ensures.seat.1),
-              ),
-            ),
-          ),
+          ready_still t walk c.args.row.now me look.new.seat.me (scans_in_hand c.args.scanning c.args.word) c.requires.ready look.ensures.seat.1 c.in-Err.ensures.still,
+          found_first _ _ (sought_at t c.args.row.now (the me.0).stood) c.in-Err.sought (sym look.ensures.told ∙ c.in-Err.is) ∙ ap (λ (vs : List (GateView _ g.row.N)). sought_at t c.args.row.now (the vs).stood) (sym look.ensures.seat.1),
         ),
       ),
     ),
@@ -42,7 +33,7 @@ returns-in-Err-clause-scanned g c = let e = c.scan_and_wake.ensures.scanned in r
 
 pub enter-turned-requires : goal.enter-turned-requires
 enter-turned-requires g c = let t = g.C.Condition.means in let look = c.scan_writer_in_hand in
-    (omega arith, (omega arith, (omega arith, (◌∙◌ {A = TableId} look.ensures.seat.0 c.requires.of, may_enter t c.args.scanning c.args.row.now c.args.seat.now.me look.new.seat.me c.requires.may c.in-Ok.ensures.lists))))
+    in_room (◌∙◌ {A = TableId} look.ensures.seat.0 c.requires.of, may_enter t c.args.scanning c.args.row.now c.args.seat.now.me look.new.seat.me c.requires.may c.in-Ok.ensures.lists)
 
 pub put_back-requires : goal.put_back-requires
 put_back-requires g c = let t = g.C.Condition.means in let look = c.scan_writer_in_hand in let me = c.args.seat.now.me in let entered = c.enter-turned in let now = entered.new.seat.me in
@@ -51,7 +42,7 @@ put_back-requires g c = let t = g.C.Condition.means in let look = c.scan_writer_
     let hand = hand_scanned t c.args.scanning c.args.word c.args.row.now entered.result me now c.requires.ready c.requires.may same (entered.ensures.lists left c.in-Ok.ensures.lists) (entered.ensures.some ∙ turned.0) (entered.ensures.bits left c.in-Ok.ensures.lists turned.1) in
     let put = put_scanned t c.args.scanning c.args.word entered.result now c.place-place.result c.returning.result (c.place-place.ensures ∙ ap (ready_at c.args.scanning) c.parts.ensures) c.returning.ensures
     (works t (ready_at c.args.scanning c.args.word) me now c.requires.ready.at (scans_in_hand c.args.scanning c.args.word) same) hand in
-    (omega arith, (omega arith, (omega arith, (entered.ensures.seat.0, (put.0, (put.1, (c.requires.word, (put.2, put.3))))))))
+    in_room (entered.ensures.seat.0, (put.0, (put.1, (c.requires.word, (put.2, put.3)))))
 
 -- the wake that was told is all that is owed
 owed : (g : Over) (c : After-put_back g) → (the c.put_back.new.seat.me.0).at.owed ≡ told_list c.in-Ok.told.0
@@ -71,7 +62,7 @@ since g c = subst (λ vs. HasSince None (the vs) (the c.put_back.new.seat.me.0))
 pub pay_one-requires : goal.pay_one-requires
 pay_one-requires g c = let t = g.C.Condition.means in let put = (goal.at.pay_one-requires g c).After-put_back in let now = c.put_back.new.seat.me in let one = ap told_list c.in-Some.is in
     let at = pays_at t c.args.scanning c.paying.result now c.paying.ensures true (subst (λ ns. HasReached t (asked_of (paying_at c.args.scanning)) (got_of g.row.N (paying_at c.args.scanning) (Paid (has_some ns))) now) one (pays g put)) in
-    (omega arith, (omega arith, (omega arith, (c.put_back.ensures.seat, (at.0, (at.1, owed g put ∙ one))))))
+    in_room (c.put_back.ensures.seat, (at.0, (at.1, owed g put ∙ one)))
 
 pub returns-in-Some-clause-scanned : goal.returns-in-Some-clause-scanned
 returns-in-Some-clause-scanned g c = let t = g.C.Condition.means in let e = c.pay_one.ensures in record {

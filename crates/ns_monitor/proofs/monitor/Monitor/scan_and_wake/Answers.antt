@@ -1,11 +1,11 @@
-use Rattle.std.proofs.Common.{None, ap, arith, false, not, rules, subst, sym, ◌∙◌}
-use Rattle.ns_monitor.proofs.Prelude.{HasReached, HasSince, Paid, TableId, as_many, asked_of, called_by, got_of, has_some, lists_scanned, meets_at, ready_at, since_then, the, woken_of, works}
+use Rattle.std.proofs.Common.{None, ap, false, not, rules, subst, sym, ◌∙◌}
+use Rattle.ns_monitor.proofs.Prelude.{in_room, HasReached, HasSince, Paid, TableId, as_many, asked_of, called_by, got_of, has_some, lists_scanned, meets_at, ready_at, since_then, the, woken_of, works}
 use Rattle.ns_monitor.proofs.Releases.{calls_are, hand_scanned, may_enter, owes_scanned, pay_scanned, pays_at, put_scanned, scans_in_hand, took_some}
 use Rattle.ns_monitor.proofs.monitor.Monitor.scan_and_wake.Goals as goal
 
 pub enter-turned-requires : goal.enter-turned-requires
 enter-turned-requires g c = let t = g.C.Condition.means in let scan = c.scan_from_in_hand-scan in
-    (omega arith, (omega arith, (omega arith, (◌∙◌ {A = TableId} scan.ensures.seat.0 c.requires.of, may_enter t c.args.scanning c.args.row.now c.args.seat.now.me scan.new.seat.me c.requires.may scan.ensures.lists))))
+    in_room (◌∙◌ {A = TableId} scan.ensures.seat.0 c.requires.of, may_enter t c.args.scanning c.args.row.now c.args.seat.now.me scan.new.seat.me c.requires.may scan.ensures.lists)
 
 pub put_back-requires : goal.put_back-requires
 put_back-requires g c = let t = g.C.Condition.means in let scan = c.scan_from_in_hand-scan in let e = scan.ensures in let me = c.args.seat.now.me in let entered = c.enter-turned in let now = entered.new.seat.me in
@@ -14,7 +14,7 @@ put_back-requires g c = let t = g.C.Condition.means in let scan = c.scan_from_in
     let hand = hand_scanned t c.args.scanning c.args.word c.args.row.now entered.result me now c.requires.ready c.requires.may same (entered.ensures.lists left e.lists) some (entered.ensures.bits left e.lists e.bits) in
     let put = put_scanned t c.args.scanning c.args.word entered.result now c.place-place.result c.returning.result (c.place-place.ensures ∙ ap (ready_at c.args.scanning) c.parts.ensures) c.returning.ensures
     (works t (ready_at c.args.scanning c.args.word) me now c.requires.ready.at (scans_in_hand c.args.scanning c.args.word) same) hand in
-    (omega arith, (omega arith, (omega arith, (entered.ensures.seat.0, (put.0, (put.1, (c.requires.word, (put.2, put.3))))))))
+    in_room (entered.ensures.seat.0, (put.0, (put.1, (c.requires.word, (put.2, put.3)))))
 
 -- what is owed, and that its walk pays
 pub pay-requires : goal.pay-requires
@@ -24,7 +24,7 @@ pay-requires g c = let t = g.C.Condition.means in let scan = c.scan_from_in_hand
     let at = pays_at t c.args.scanning c.paying.result now c.paying.ensures (has_some (the now.0).at.owed) next in
     let owed = owes_scanned t c.args.scanning c.returning.result entered.new.seat.me (the now.0).at.owed c.returning.ensures e.owes in
     let called = calls_are t (ready_at c.args.scanning c.args.word) c.args.row.now _ _ _ me entered.new.seat.me c.requires.ready same (c.called-owed.ensures ∙ (λ i. called_by (c.as_slice.ensures.value i) (c.as_slice-2.ensures.value i))) scan.ensures.woken scan.ensures.vias in
-    (omega arith, (omega arith, (omega arith, (e.seat, (at.0, (at.1, owed ∙ sym called))))))
+    in_room (e.seat, (at.0, (at.1, owed ∙ sym called)))
 
 pub called-owed-requires : goal.called-owed-requires
 called-owed-requires g c = record { few = search rules; same = rw (c.as_slice.ensures.value, c.as_slice-2.ensures.value) (as_many _ _ _ c.scan_from_in_hand-scan.ensures.woken c.scan_from_in_hand-scan.ensures.vias) }

@@ -1,5 +1,5 @@
 use Rattle.std.proofs.Common.{Some, ap, arith, refl, rules, sym, ◌∙◌}
-use Rattle.ns_monitor.proofs.Prelude.{InCells, Known, SetStore, StoreCell, TableId, can_go, setting, the}
+use Rattle.ns_monitor.proofs.Prelude.{in_room, InCells, Known, SetStore, StoreCell, TableId, can_go, setting, the}
 use Rattle.ns_monitor.proofs.Saves.{saves}
 use Rattle.ns_monitor.proofs.Standing.{same_number}
 use Rattle.ns_monitor.proofs.Callers.{grew, is_set, sets_next}
@@ -28,11 +28,11 @@ pub store_cell-requires : goal.store_cell-requires
 store_cell-requires g c = let t = g.C.Condition.means in let i = c.args.i in let value = c.args.value in let me = c.held.inside.seat.me in let load = c.load_cell-old in let mid = load.new.seat.me in
     let of = ◌∙◌ {A = TableId} load.ensures.seat (◌∙◌ {A = TableId} (ap (λ (k : Known g.row.C.Denot g.row.N). k.monitor) c.held.view_is) (c.requires.of ∙ sym c.self.view_is)) in
     let next = sets_next t i value load.result c.set.result me mid c.set.ensures.first c.held.invariant.0 load.ensures.did in
-    (omega arith, (omega arith, (omega arith, (of, (search rules, can_go t (InCells (SetStore i value)) (StoreCell i value) mid refl next.0)))))
+    in_room (of, (search rules, can_go t (InCells (SetStore i value)) (StoreCell i value) mid refl next.0))
 
 pub load_cell-old-requires : goal.load_cell-old-requires
 load_cell-old-requires g c = let of = ap (λ (k : Known g.row.C.Denot g.row.N). k.monitor) c.held.view_is ∙ (c.requires.of ∙ sym c.self.view_is) in
-    (omega arith, (omega arith, (omega arith, (of, (c.requires.cell, search rules)))))
+    in_room (of, (c.requires.cell, search rules))
 
 pub save-requires : goal.save-requires
 save-requires g c = let wide = g.met.C.Condition.has_cells in (omega (arith, wide), c.requires.cell)

@@ -1,15 +1,15 @@
-use Rattle.std.proofs.Common.{None, arith, subst, sym, ◌∙◌}
-use Rattle.ns_monitor.proofs.Prelude.{LoadWord, MayGoAlone, Saw, TableId, since, since_then}
+use Rattle.std.proofs.Common.{None, subst, sym, ◌∙◌}
+use Rattle.ns_monitor.proofs.Prelude.{in_room, LoadWord, MayGoAlone, Saw, TableId, since, since_then}
 use Rattle.ns_monitor.proofs.Standing.{can_load, loads, saw_held}
 use Rattle.ns_monitor.proofs.monitor.Monitor.take.Goals as goal
 
 pub load-first-requires : goal.load-first-requires
-load-first-requires g c = (omega arith, (omega arith, (omega arith, (◌∙◌ {A = TableId} c.requires.of (sym c.self.view_is), can_load g.C.Condition.means c.args._walk c.args.seat.now.me c.requires.decides c.requires.at))))
+load-first-requires g c = in_room (◌∙◌ {A = TableId} c.requires.of (sym c.self.view_is), can_load g.C.Condition.means c.args._walk c.args.seat.now.me c.requires.decides c.requires.at)
 
 pub go_or_take-requires : goal.go_or_take-requires
 go_or_take-requires g c =
     let loaded = loads g.C.Condition.means c.args._walk c.load-first.result c.args.seat.now.me c.load-first.new.seat.me c.requires.decides c.requires.at c.load-first.ensures.did in
-    (omega arith, (omega arith, (omega arith, (◌∙◌ {A = TableId} c.load-first.ensures.seat c.requires.of, (c.requires.decides, (sym c.requires.going, (c.load-first.ensures.word, loaded)))))))
+    in_room (◌∙◌ {A = TableId} c.load-first.ensures.seat c.requires.of, (c.requires.decides, (sym c.requires.going, (c.load-first.ensures.word, loaded))))
 
 pub unreachable-requires : goal.unreachable-requires
 unreachable-requires g c = subst MayGoAlone c.requires.going c.in-None.ensures.came.0

@@ -1,5 +1,5 @@
-use Rattle.std.proofs.Common.{None, Some, arith, false, refl, rules, subst, sym, true, ◌∙◌}
-use Rattle.ns_monitor.proofs.Prelude.{CanStep, InShow, IsAtPlace, LoadWord, Made, Saw, ShowLoad, TableId, TakeQueues, TakeToShow, ToChange, Walk, can_go, showing, since, since_then}
+use Rattle.std.proofs.Common.{None, Some, false, refl, rules, subst, sym, true, ◌∙◌}
+use Rattle.ns_monitor.proofs.Prelude.{in_room, CanStep, InShow, IsAtPlace, LoadWord, Made, Saw, ShowLoad, TableId, TakeQueues, TakeToShow, ToChange, Walk, can_go, showing, since, since_then}
 use Rattle.ns_monitor.proofs.Shows.{has_stood, loads_to_show, misses_to_show, shows_by, takes_to_show}
 use Rattle.ns_monitor.proofs.Standing.{loads_first}
 use Rattle.ns_monitor.proofs.monitor.Monitor.take_to_show.Given.{Over}
@@ -36,14 +36,14 @@ loop-preserved g c = let t = g.C.Condition.means in let inv = c.loop.invariant i
 
 pub load-word-requires-then-spin : goal.load-word-requires-then-spin
 load-word-requires-then-spin g c = let t = g.C.Condition.means in let inv = c.loop.invariant in let me = c.loop.seat.me in let of = ◌∙◌ {A = TableId} inv.2 (◌∙◌ {A = TableId} c.requires.of (sym c.self.view_is)) in
-    (omega arith, (omega arith, (omega arith, (of, can_go t (InShow ShowLoad) LoadWord me refl (shows_by t c.loop.word true me (sym c.spin.ensures ∙ c.if-spin.true) inv.5)))))
+    in_room (of, can_go t (InShow ShowLoad) LoadWord me refl (shows_by t c.loop.word true me (sym c.spin.ensures ∙ c.if-spin.true) inv.5))
 
 pub exchange_to_take-requires : goal.exchange_to_take-requires
 exchange_to_take-requires g c = let t = g.C.Condition.means in let inv = c.loop.invariant in let me = c.loop.seat.me in let word = c.loop.word in
     let of = ◌∙◌ {A = TableId} inv.2 (◌∙◌ {A = TableId} c.requires.of (sym c.self.view_is)) in
-    (omega arith, (omega arith, (omega arith, (of, (inv.3, can_go t (InShow (TakeToShow word)) (TakeQueues ToChange word) me refl (shows_by t word false me (sym c.spin.ensures ∙ c.if-spin.false) inv.5))))))
+    in_room (of, (inv.3, can_go t (InShow (TakeToShow word)) (TakeQueues ToChange word) me refl (shows_by t word false me (sym c.spin.ensures ∙ c.if-spin.false) inv.5)))
 
 pub load-word-requires : goal.load-word-requires
 load-word-requires g c = let t = g.C.Condition.means in let me = c.args.seat.now.me in let rest = c.requires.rest in
     let can = subst (λ (w : Walk g.row.C.Denot). CanStep t (Some w) LoadWord me) (sym c.show.ensures.first) (record { one = rest.one; may = (rest.over, tt, (tt, rest.settled)); walk = InShow ShowLoad; walks = refl; wants = refl }) in
-    (omega arith, (omega arith, (omega arith, (◌∙◌ {A = TableId} c.requires.of (sym c.self.view_is), can))))
+    in_room (◌∙◌ {A = TableId} c.requires.of (sym c.self.view_is), can)

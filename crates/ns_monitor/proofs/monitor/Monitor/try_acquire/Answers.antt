@@ -1,12 +1,12 @@
-use Rattle.std.proofs.Common.{None, Some, arith, false, rules, sym, true, ◌∙◌}
-use Rattle.ns_monitor.proofs.Prelude.{Acquire, AsFresh, ForLock, InTry, IsAtPlace, TableId, TryAcquire, can_go, since, since_then, tried, trying}
+use Rattle.std.proofs.Common.{None, Some, false, rules, sym, true, ◌∙◌}
+use Rattle.ns_monitor.proofs.Prelude.{in_room, Acquire, AsFresh, ForLock, InTry, IsAtPlace, TableId, TryAcquire, can_go, since, since_then, tried, trying}
 use Rattle.ns_monitor.proofs.Callers.{is_tried, may_try, tried_behind, tries_by, wants_to_try}
 use Rattle.ns_monitor.proofs.Standing.{loads_first}
 use Rattle.ns_monitor.proofs.monitor.Monitor.try_acquire.Goals as goal
 
 pub begin_to_go-requires : goal.begin_to_go-requires
 begin_to_go-requires g c = let t = g.C.Condition.means in let is = c.try_lock.ensures.first in
-    (omega arith, (omega arith, (omega arith, (c.requires.of, (tt, (may_try t c.args.mode c.try_lock.result c.args.seat.now.me is c.requires.rest c.requires.free, λ word may. wants_to_try t c.args.mode c.try_lock.result word is may))))))
+    in_room (c.requires.of, (tt, (may_try t c.args.mode c.try_lock.result c.args.seat.now.me is c.requires.rest c.requires.free, λ word may. wants_to_try t c.args.mode c.try_lock.result word is may)))
 
 pub returns-in_default : goal.returns-in_default
 returns-in_default g c = let gone = tried_behind g.C.Condition.means c.args.mode c.try_lock.result c.args.seat.now.me c.begin_to_go.new.seat.me c.try_lock.ensures.first c.requires.rest c.in_default.ensures.began in record {
@@ -26,7 +26,7 @@ pub exchange_to_acquire-requires : goal.exchange_to_acquire-requires
 exchange_to_acquire-requires g c = let t = g.C.Condition.means in let mode = c.args.mode in let word = c.in-Err.word in let me = c.begin_to_go.new.seat.me in
     let led = loads_first t (trying mode) c.try_lock.result word c.args.seat.now.me me c.try_lock.ensures.first c.requires.rest c.in-Err.ensures.began.1 in
     let at : IsAtPlace t (InTry mode (TryAcquire word)) me = tries_by t mode word true me (sym c.may_acquire.ensures ∙ c.if-not-may_acquire.false) led.0 in
-    (omega arith, (omega arith, (omega arith, (◌∙◌ {A = TableId} c.begin_to_go.ensures.seat (sym c.self.view_is), (c.in-Err.ensures.began.0, can_go t (InTry mode (TryAcquire word)) (Acquire (ForLock mode) AsFresh word) me (λ i. Acquire (ForLock mode) AsFresh word) at)))))
+    in_room (◌∙◌ {A = TableId} c.begin_to_go.ensures.seat (sym c.self.view_is), (c.in-Err.ensures.began.0, can_go t (InTry mode (TryAcquire word)) (Acquire (ForLock mode) AsFresh word) me (λ i. Acquire (ForLock mode) AsFresh word) at))
 
 pub returns : goal.returns
 returns g c = let t = g.C.Condition.means in let mode = c.args.mode in let word = c.in-Err.word in let me = c.begin_to_go.new.seat.me in let now = c.exchange_to_acquire.new.seat.me in

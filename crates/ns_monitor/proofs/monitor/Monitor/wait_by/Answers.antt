@@ -1,5 +1,5 @@
 use Rattle.std.proofs.Common.{IfSome, Some, ap, arith, false, inl, inr, refl, rules, subst, sym, true, ◌∙◌, ◌≡◌}
-use Rattle.ns_monitor.proofs.Prelude.{Answer, Answered, Await, Cause, Grows, HasAnswered, HasMode, HasSince, HasWaitedFor, IsAtRest, IsFreshIn, Known, Met, OnEntry, QueuesOrEnds, SeatOf, TableId, answer_of, is_limited, known_of, row_in, since_then, the, wait_first, waits_by}
+use Rattle.ns_monitor.proofs.Prelude.{in_room, Answer, Answered, Await, Cause, Grows, HasAnswered, HasMode, HasSince, HasWaitedFor, IsAtRest, IsFreshIn, Known, Met, OnEntry, QueuesOrEnds, SeatOf, TableId, answer_of, is_limited, known_of, row_in, since_then, the, wait_first, waits_by}
 use Rattle.ns_monitor.proofs.Callers.{grew}
 use Rattle.ns_monitor.proofs.Returns.{ended_as, ended_since, fits_fresh, tested_so, wait_tells}
 use Rattle.ns_monitor.proofs.Standing.{same_number}
@@ -13,7 +13,7 @@ in_mode g c = subst (λ m. HasMode m (the c.held.inside.seat.me.0).at.held) (sym
 
 pub test-requires : goal.test-requires
 test-requires g c =
-    (omega arith, (omega arith, (omega arith, (omega (arith, g.met.C.Condition.has_cells), (◌∙◌ {A = TableId} (ap (λ (k : Known _ _). k.monitor) c.held.view_is) c.requires.of, (refl, (c.wait.ensures.first, refl, c.held.invariant.0, in_mode g (goal.at.test-requires g c).After-wait)))))))
+    in_room (omega (arith, g.met.C.Condition.has_cells), (◌∙◌ {A = TableId} (ap (λ (k : Known _ _). k.monitor) c.held.view_is) c.requires.of, (refl, (c.wait.ensures.first, refl, c.held.invariant.0, in_mode g (goal.at.test-requires g c).After-wait))))
 
 -- the call that it began
 began : (g : Over) (c : After-test g) → HasSince (Some (wait_first g.row.N (waits_by c.mode-mode.result c.args.condition c.args.limits))) (the c.held.inside.seat.me.0) (the c.test.new.seat.me.0)
@@ -83,7 +83,7 @@ wait_on-answer-requires g c = let t = g.C.Condition.means in let wait = waits_by
     let led = subst (λ o. QueuesOrEnds t wait false o c.test.new.seat.me now) c.in_default.is c.look_before.ensures.leads in
     let number = same_number t (Some (wait_first g.row.N wait)) c.held.inside.number c.held.inside.seat.me now c.held.invariant.1 (looked g after) in
     let watches = g.W.Watch.still c.args.watch.now c.look_before.new.watch c.args.limits c.look_before.ensures.looked c.requires.watches in
-    (omega arith, (omega arith, (omega arith, (omega (arith, g.met.C.Condition.has_cells), (c.look_before.ensures.seat, (number, (tt, (watches, (c.test.ensures.tested.row_is ∙ ap row_in (sym (led.1 ∙ c.test.ensures.tested.held)), led.0)))))))))
+    in_room (omega (arith, g.met.C.Condition.has_cells), (c.look_before.ensures.seat, (number, (tt, (watches, (c.test.ensures.tested.row_is ∙ ap row_in (sym (led.1 ∙ c.test.ensures.tested.held)), led.0))))))
 
 -- it has waited
 over : (g : Over) (c : After-wait_on-answer g) → HasSince (Some (wait_first g.row.N (waits_by c.mode-mode.result c.args.condition c.args.limits))) (the c.held.inside.seat.me.0) (the c.wait_on-answer.new.seat.me.0)

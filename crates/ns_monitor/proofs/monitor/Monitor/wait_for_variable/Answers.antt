@@ -1,5 +1,5 @@
-use Rattle.std.proofs.Common.{Some, ap, arith, rules, subst, sym, true, ◌∙◌, ◌≡◌}
-use Rattle.ns_monitor.proofs.Prelude.{Answered, Await, Grows, HasAnswered, HasMode, IsFreshIn, Known, TableId, answer_of_wait, is_limited, known_of, queuing_first, the, waits_for_variable}
+use Rattle.std.proofs.Common.{Some, ap, rules, subst, sym, true, ◌∙◌, ◌≡◌}
+use Rattle.ns_monitor.proofs.Prelude.{in_room, Answered, Await, Grows, HasAnswered, HasMode, IsFreshIn, Known, TableId, answer_of_wait, is_limited, known_of, queuing_first, the, waits_for_variable}
 use Rattle.ns_monitor.proofs.Callers.{grew}
 use Rattle.ns_monitor.proofs.Returns.{fits_fresh}
 use Rattle.ns_monitor.proofs.Standing.{same_number}
@@ -12,7 +12,7 @@ pub wait_at_variables-outcome-requires : goal.wait_at_variables-outcome-requires
 wait_at_variables-outcome-requires g c = let held = c.held.inside in let mode = c.mode-mode.result in
     let in_mode = subst (λ m. HasMode m (the held.seat.me.0).at.held) (sym c.mode-mode.ensures) (g.met.H.Section.in_mode held.hand (the held.seat.me.0).at.held c.held.invariant.2) in
     let fits = may_wait g.C.Condition.means mode c.args.k c.args.limits (the held.seat.me.0).at.held c.requires.variable in_mode c.held.invariant.0.settled in
-    (omega arith, (omega arith, (omega arith, (◌∙◌ {A = TableId} (ap (λ (k : Known _ _). k.monitor) c.held.view_is) c.requires.of, (c.held.invariant.1, (c.held.invariant.0, ((tt, c.requires.variable), (fits, c.requires.watches))))))))
+    in_room (◌∙◌ {A = TableId} (ap (λ (k : Known _ _). k.monitor) c.held.view_is) c.requires.of, (c.held.invariant.1, (c.held.invariant.0, ((tt, c.requires.variable), (fits, c.requires.watches)))))
 
 answered : (g : Over) (c : After-wait_at_variables-outcome g) → HasAnswered g.C.Condition.means (Await (waits_for_variable c.mode-mode.result c.args.k c.args.limits)) (Answered (answer_of_wait c.wait_at_variables-outcome.result)) c.wait_at_variables-outcome.new.seat.me
 answered g c = c.wait_at_variables-outcome.ensures.acquired

@@ -1,5 +1,5 @@
 use Rattle.std.proofs.Common.{IfSome, None, Some, ap, arith, false, refl, subst, sym, true, ◌∙◌, ◌≡◌}
-use Rattle.ns_monitor.proofs.Prelude.{Answered, Await, Cause, HasAnswered, HasReached, HasSince, IfEnded, IsFreshIn, OnReturn, QueuesOrEnds, TableId, is_limited, row_in, since_itself, since_then, the, unmet_by}
+use Rattle.ns_monitor.proofs.Prelude.{in_room, Answered, Await, Cause, HasAnswered, HasReached, HasSince, IfEnded, IsFreshIn, OnReturn, QueuesOrEnds, TableId, is_limited, row_in, since_itself, since_then, the, unmet_by}
 use Rattle.ns_monitor.proofs.Returns.{back_to_test, comes_fresh, ended_as, has_row, in_range, tested_so}
 use Rattle.ns_monitor.proofs.Standing.{same_number}
 use Rattle.ns_monitor.proofs.monitor.Monitor.wait_on.Given.{Over}
@@ -13,17 +13,17 @@ pub queue_to_wait-requires : goal.queue_to_wait-requires
 queue_to_wait-requires g c = let inv = c.loop.invariant in
     let number = same_number g.C.Condition.means None c.args.number c.args.seat.now.me c.loop.seat.me c.requires.number inv.3 in
     let range = in_range c.args.wait.on c.in-OnCondition.condition c.in-OnCondition.is in
-    (omega arith, (omega arith, (omega arith, (omega (arith, g.met.C.Condition.has_cells), (◌∙◌ {A = TableId} inv.2 c.requires.of, (number, (range, (inv.5, has_row c.args.wait.on c.in-OnCondition.condition c.loop.row _ c.in-OnCondition.is inv.6))))))))
+    in_room (omega (arith, g.met.C.Condition.has_cells), (◌∙◌ {A = TableId} inv.2 c.requires.of, (number, (range, (inv.5, has_row c.args.wait.on c.in-OnCondition.condition c.loop.row _ c.in-OnCondition.is inv.6)))))
 
 pub come_back-outcome-requires : goal.come_back-outcome-requires
 come_back-outcome-requires g c = let inv = c.loop.invariant in let me = c.queue_to_wait.new.seat.me in
     let number = same_number g.C.Condition.means None c.args.number c.args.seat.now.me me c.requires.number (since_then None _ _ _ inv.3 c.queue_to_wait.ensures.since) in
-    (omega arith, (omega arith, (omega arith, (c.queue_to_wait.ensures.seat, (number, (in_range c.args.wait.on c.in-OnCondition.condition c.in-OnCondition.is, (g.W.Watch.still c.args.watch.now c.loop.watch c.args.wait.limits inv.4 c.requires.watches, c.queue_to_wait.ensures.waits)))))))
+    in_room (c.queue_to_wait.ensures.seat, (number, (in_range c.args.wait.on c.in-OnCondition.condition c.in-OnCondition.is, (g.W.Watch.still c.args.watch.now c.loop.watch c.args.wait.limits inv.4 c.requires.watches, c.queue_to_wait.ensures.waits))))
 
 pub test-requires : goal.test-requires
 test-requires g c =
     let back = back_to_test g.C.Condition.means c.args.wait c.in-OnCondition.condition c.come_back-outcome.result c.come_back-outcome.new.seat.me c.in-OnCondition.is c.come_back-outcome.ensures.acquired in
-    (omega arith, (omega arith, (omega arith, (omega (arith, g.met.C.Condition.has_cells), (c.come_back-outcome.ensures.seat, (c.in-OnCondition.is, back))))))
+    in_room (omega (arith, g.met.C.Condition.has_cells), (c.come_back-outcome.ensures.seat, (c.in-OnCondition.is, back)))
 
 -- it has acquired the lock again and has tested its condition
 since_test : (g : Over) (c : After-test g) → HasSince None (the c.args.seat.now.me.0) (the c.test.new.seat.me.0)
@@ -69,7 +69,7 @@ pub look_before-requires : goal.look_before-requires
 look_before-requires g c = let t = g.C.Condition.means in let me = c.test.new.seat.me in let after = (goal.at.look_before-requires g c).After-test in
     let by = subst (λ o. HasReached t (Await c.args.wait) (unmet_by c.args.wait (OnReturn o)) me) c.in_default-outcome.is (unmet g after c.if-test.false) in
     let watches = g.W.Watch.still c.args.watch.now c.come_back-outcome.new.watch c.args.wait.limits (watched g after) c.requires.watches in
-    (omega arith, (omega arith, (omega arith, (c.test.ensures.seat, (same_number t None c.args.number c.args.seat.now.me me c.requires.number (since_test g after), (watches, by))))))
+    in_room (c.test.ensures.seat, (same_number t None c.args.number c.args.seat.now.me me c.requires.number (since_test g after), (watches, by)))
 
 -- it has looked, and goes on
 since_look : (g : Over) (c : After-look_before g) → HasSince None (the c.args.seat.now.me.0) (the c.look_before.new.seat.me.0)

@@ -1,5 +1,5 @@
-use Rattle.std.proofs.Common.{Some, arith, rules, sym, ◌∙◌}
-use Rattle.ns_monitor.proofs.Prelude.{HasSince, TableId, found_nobody, is_held, since_then, taken_from, takes_nobody, the, waking_by, woken_nobody}
+use Rattle.std.proofs.Common.{Some, rules, sym, ◌∙◌}
+use Rattle.ns_monitor.proofs.Prelude.{in_room, HasSince, TableId, found_nobody, is_held, since_then, taken_from, takes_nobody, the, waking_by, woken_nobody}
 use Rattle.ns_monitor.proofs.Standing.{still_since}
 use Rattle.ns_monitor.proofs.Wakes.{hand_of_nobody, nobody_woken, taken_still}
 use Rattle.ns_monitor.proofs.monitor.Monitor.wake.Given.{Over}
@@ -15,7 +15,7 @@ return_woken-requires g c = let t = g.C.Condition.means in let took = c.begin_to
     let still = taken_still t c.args.call.waking c.args.call.k took.result c.args.seat.now.me me now took.ensures.taken e.seat.1 e.has in
     let none = (takes_nobody c.args.call.waking c.args.call.k (the me.0).stood (found_nobody c.args.call.k (the me.0).stood c.in-Some.made nobody).0).0 in
     let hand = hand_of_nobody c.args.call.waking c.args.call.k (is_held took.result) c.in-Some.made me now e.seat.1 e.has nobody in
-    (omega arith, (omega arith, (omega arith, (◌∙◌ {A = TableId} e.seat.0 took.ensures.seat, (c.requires.variable, (still.packs, (still.at, (still.orderly, (sym none ∙ (λ i. taken_from c.args.call.waking c.args.call.k (the (sym e.seat.1 i)).stood), hand)))))))))
+    in_room (◌∙◌ {A = TableId} e.seat.0 took.ensures.seat, (c.requires.variable, (still.packs, (still.at, (still.orderly, (sym none ∙ (λ i. taken_from c.args.call.waking c.args.call.k (the (sym e.seat.1 i)).stood), hand))))))
 
 pub returns-in-Some : goal.returns-in-Some
 returns-in-Some g c = record {
@@ -28,7 +28,7 @@ returns-in-Some g c = record {
 
 pub wake_some-requires : goal.wake_some-requires
 wake_some-requires g c = let t = g.C.Condition.means in let took = c.begin_to_take-word in let look = c.wake_nobody_in_hand in let e = look.ensures in
-    (omega arith, (omega arith, (omega arith, (◌∙◌ {A = TableId} e.seat.0 took.ensures.seat, (c.requires.variable, taken_still t c.args.call.waking c.args.call.k took.result c.args.seat.now.me took.new.seat.me look.new.seat.me took.ensures.taken e.seat.1 e.has)))))
+    in_room (◌∙◌ {A = TableId} e.seat.0 took.ensures.seat, (c.requires.variable, taken_still t c.args.call.waking c.args.call.k took.result c.args.seat.now.me took.new.seat.me look.new.seat.me took.ensures.taken e.seat.1 e.has))
 
 pub returns : goal.returns
 returns g c = record {

@@ -1,14 +1,14 @@
-use Rattle.ns_monitor.proofs.Prelude.{None, arith, number, refl, since_then, sym, the, waiter_fits}
+use Rattle.ns_monitor.proofs.Prelude.{in_room, None, arith, number, refl, since_then, sym, the, waiter_fits}
 use Rattle.ns_monitor.proofs.Wakes.{owes_sole}
 use Rattle.ns_monitor.proofs.monitor.Monitor.wake_sole.Goals as goal
 
 pub return_woken-moved-requires : goal.return_woken-moved-requires
-return_woken-moved-requires g c = (omega arith, (omega arith, (omega arith, (c.requires.of, (c.requires.variable, (c.requires.word, (c.requires.at, (c.requires.orderly, (sym c.requires.alone, c.requires.hand)))))))))
+return_woken-moved-requires g c = in_room (c.requires.of, (c.requires.variable, (c.requires.word, (c.requires.at, (c.requires.orderly, (sym c.requires.alone, c.requires.hand))))))
 
 pub pay_one-requires : goal.pay_one-requires
 pay_one-requires g c = let t = g.C.Condition.means in let back = c.return_woken-moved.ensures in let now = c.return_woken-moved.new.seat.me in
     let owes = owes_sole t c.args.call.waking c.args.call.k c.return_woken-moved.result (the c.args.seat.now.me.0).stood c.args.sole c.wake_by.result now c.requires.alone c.if-not-moved.true c.wake_by.ensures back.returned in
-    (omega arith, (omega arith, (omega arith, (back.seat, (record { pays = refl; free = refl; more = refl }, (owes.1, owes.0))))))
+    in_room (back.seat, (record { pays = refl; free = refl; more = refl }, (owes.1, owes.0)))
 
 pub returns-then-not-moved-clause-since : goal.returns-then-not-moved-clause-since
 returns-then-not-moved-clause-since g c = since_then None _ _ _ c.return_woken-moved.ensures.since c.pay_one.ensures.since

@@ -1,5 +1,5 @@
-use Rattle.std.proofs.Common.{None, arith, refl, rules, subst, sym, ◌∙◌}
-use Rattle.ns_monitor.proofs.Prelude.{HasSince, HasWokenInHand, InSignal, IsOrderly, TableId, WakeAndReturn, found_sole, since_itself, since_then, taken_from, the, works}
+use Rattle.std.proofs.Common.{None, refl, rules, subst, sym, ◌∙◌}
+use Rattle.ns_monitor.proofs.Prelude.{in_room, HasSince, HasWokenInHand, InSignal, IsOrderly, TableId, WakeAndReturn, found_sole, since_itself, since_then, taken_from, the, works}
 use Rattle.ns_monitor.proofs.Standing.{still_since}
 use Rattle.ns_monitor.proofs.Wakes.{hand_made, taken_still}
 use Rattle.ns_monitor.proofs.monitor.Monitor.wake_some.Given.{Over}
@@ -15,7 +15,7 @@ wake_sole-requires g c = let t = g.C.Condition.means in let waking = c.args.call
     let held = c.is_held-held.result in let found = found_sole waking k held (the me.0).stood c.in-Some.sole c.in-Some.made (sym e.sole) in
     let by = subst (λ b. HasWokenInHand waking k b c.in-Some.made now) c.is_held-held.ensures (hand_made waking k held c.in-Some.made me now same e.lists found.1 found.2) in
     let stands = works t (InSignal waking k (WakeAndReturn c.args.word)) me now taken.at refl same in
-    (omega arith, (omega arith, (omega arith, (◌∙◌ {A = TableId} e.seat.0 c.requires.of, (c.requires.variable, (taken.packs, (stands, (subst IsOrderly (λ i. (the (sym same i)).stood) e.orderly, ((λ i. taken_from waking k (the (same i)).stood) ∙ found.0, by)))))))))
+    in_room (◌∙◌ {A = TableId} e.seat.0 c.requires.of, (c.requires.variable, (taken.packs, (stands, (subst IsOrderly (λ i. (the (sym same i)).stood) e.orderly, ((λ i. taken_from waking k (the (same i)).stood) ∙ found.0, by))))))
 
 pub returns-in-Some : goal.returns-in-Some
 returns-in-Some g c = record {
@@ -26,7 +26,7 @@ returns-in-Some g c = record {
 
 pub wake_waiters-requires : goal.wake_waiters-requires
 wake_waiters-requires g c = let t = g.C.Condition.means in let look = c.wake_sole_in_hand in let e = c.in-None.ensures in let me = c.args.seat.now.me in let now = look.new.seat.me in
-    (omega arith, (omega arith, (omega arith, (◌∙◌ {A = TableId} e.seat.0 c.requires.of, (c.requires.variable, taken_still t c.args.call.waking c.args.call.k c.args.word me me now c.requires.taken e.seat.1 e.same)))))
+    in_room (◌∙◌ {A = TableId} e.seat.0 c.requires.of, (c.requires.variable, taken_still t c.args.call.waking c.args.call.k c.args.word me me now c.requires.taken e.seat.1 e.same))
 
 pub returns-in-None : goal.returns-in-None
 returns-in-None g c = record {

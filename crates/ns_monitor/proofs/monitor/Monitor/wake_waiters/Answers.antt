@@ -1,5 +1,5 @@
-use Rattle.std.proofs.Common.{Bool, None, ap, arith, refl, rules, subst, sym, ◌∙◌, ◌≡◌}
-use Rattle.ns_monitor.proofs.Prelude.{HasReached, HasWokenInHand, InSignal, IsOrderly, TableId, WakeAndReturn, has_some, list_fits, list_small, number, owed_woken, pay_woken, since_itself, since_then, taken_from, the, wakes_of, works}
+use Rattle.std.proofs.Common.{Bool, None, ap, refl, rules, subst, sym, ◌∙◌, ◌≡◌}
+use Rattle.ns_monitor.proofs.Prelude.{in_room, HasReached, HasWokenInHand, InSignal, IsOrderly, TableId, WakeAndReturn, has_some, list_fits, list_small, number, owed_woken, pay_woken, since_itself, since_then, taken_from, the, wakes_of, works}
 use Rattle.ns_monitor.proofs.Standing.{still_since}
 use Rattle.ns_monitor.proofs.Wakes.{hand_made}
 use Rattle.ns_monitor.proofs.monitor.Monitor.wake_waiters.Given.{Over}
@@ -8,28 +8,19 @@ use Rattle.ns_word.specs.declared.request.Request.TheVariants as TheRequest
 use Rattle.ns_monitor.proofs.monitor.Monitor.wake_waiters.Goals as goal
 
 pub return_woken-moved-requires : goal.return_woken-moved-requires
-return_woken-moved-requires g c = let t = g.C.Condition.means in let taken = c.requires.taken in let made = c.wake_in_hand-taken in let e = made.ensures in let me = c.args.seat.now.me in let now = made.new.seat.me in let same = e.seat.1 in (
-  omega arith,
+return_woken-moved-requires g c = let t = g.C.Condition.means in let taken = c.requires.taken in let made = c.wake_in_hand-taken in let e = made.ensures in let me = c.args.seat.now.me in let now = made.new.seat.me in let same = e.seat.1 in in_room (
+  ◌∙◌ {A = TableId} e.seat.0 c.requires.of,
   (
-    omega arith,
+    c.requires.variable,
     (
-      omega arith,
+      taken.packs,
       (
-        ◌∙◌ {A = TableId} e.seat.0 c.requires.of,
+        works t (InSignal c.args.call.waking c.args.call.k (WakeAndReturn c.args.word)) me now taken.at refl same,
         (
-          c.requires.variable,
+          subst IsOrderly (λ i. (the (sym same i)).stood) e.orderly,
           (
-            taken.packs,
-            (
-              works t (InSignal c.args.call.waking c.args.call.k (WakeAndReturn c.args.word)) me now taken.at refl same,
-              (
-                subst IsOrderly (λ i. (the (sym same i)).stood) e.orderly,
-                (
-                  c.as_slice.ensures.value ∙ (e.taken ∙ (λ i. taken_from c.args.call.waking c.args.call.k (the (sym same i)).stood)),
-                  subst (λ held. HasWokenInHand c.args.call.waking c.args.call.k held made.result.1 now) c.is_held-held.ensures (hand_made c.args.call.waking c.args.call.k c.is_held-held.result made.result.1 me now same e.lists e.some e.bits),
-                ),
-              ),
-            ),
+            c.as_slice.ensures.value ∙ (e.taken ∙ (λ i. taken_from c.args.call.waking c.args.call.k (the (sym same i)).stood)),
+            subst (λ held. HasWokenInHand c.args.call.waking c.args.call.k held made.result.1 now) c.is_held-held.ensures (hand_made c.args.call.waking c.args.call.k c.is_held-held.result made.result.1 me now same e.lists e.some e.bits),
           ),
         ),
       ),
@@ -50,7 +41,7 @@ paid g c = let made = c.wake_in_hand-taken in let waking = c.args.call.waking in
 pub pay-requires : goal.pay-requires
 pay-requires g c = let t = g.C.Condition.means in let back = c.return_woken-moved.ensures in let now = c.return_woken-moved.new.seat.me in
     let by = subst (λ ns. HasReached t (TheRequest.Wake c.args.call.waking c.args.call.k) (pay_woken c.args.call.waking c.args.call.k (has_some ns)) now) (sym back.returned.owed) back.returned.leads in
-    (omega arith, (omega arith, (omega arith, (back.seat, (record { pays = refl; free = refl; more = refl }, (by, back.returned.owed ∙ sym (paid g (goal.at.pay-requires g c).Joined-moved)))))))
+    in_room (back.seat, (record { pays = refl; free = refl; more = refl }, (by, back.returned.owed ∙ sym (paid g (goal.at.pay-requires g c).Joined-moved))))
 
 pub returns : goal.returns
 returns g c = record {
@@ -61,7 +52,7 @@ returns g c = record {
 }
 
 pub wake_in_hand-taken-requires : goal.wake_in_hand-taken-requires
-wake_in_hand-taken-requires g c = (omega arith, (omega arith, (omega arith, (list_small _ (list_fits g.row.C (number g.row.N) g.met.C.Condition.has_room), (◌∙◌ {A = TableId} c.requires.of (sym c.self.view_is), (c.requires.taken.taken, c.requires.variable))))))
+wake_in_hand-taken-requires g c = in_room (list_small _ (list_fits g.row.C (number g.row.N) g.met.C.Condition.has_room), (◌∙◌ {A = TableId} c.requires.of (sym c.self.view_is), (c.requires.taken.taken, c.requires.variable)))
 
 pub as_slice-requires : goal.as_slice-requires
 as_slice-requires g c = list_small _ (list_fits g.row.C (number g.row.N) g.met.C.Condition.has_room)

@@ -5,16 +5,19 @@ use Rattle.ns_note.proofs.Rests.{grows_through}
 use Rattle.ns_note.proofs.env.Env.stops.Goals.{In-Some}
 use Rattle.ns_note.proofs.env.Env.stops.Goals as goal
 
+pub word-word-requires-clause-number : goal.word-word-requires-clause-number
+word-word-requires-clause-number c = made_below c.args.seat.now.seen c.args.note c.requires.true_to.legal c.requires.made
+
 pub returns-in-None-clause-not_yet : goal.returns-in-None-clause-not_yet
 returns-in-None-clause-not_yet c = let seen = c.args.seat.now.seen in let g = c.loop-word.invariant.0 in
-    λ _. subst (IsLeftAt seen c.args.note.index) c.in-None.is
-    (goes_above seen c.loop-word.seat.seen g.true_to.legal g.begins c.args.note.index c.args.clock c.requires.clock c.loop-word.word c.loop-word.invariant.2 (sym c.is_over.ensures ∙ c.loop-word-test.true))
+    λ _. subst (IsLeftAt seen c.args.note) c.in-None.is
+    (goes_above seen c.loop-word.seat.seen g.true_to.legal g.begins c.args.note c.args.clock c.requires.clock c.loop-word.word c.loop-word.invariant.2 (sym c.is_over.ensures ∙ c.loop-word-test.true))
 
 -- the walk goes on to this place
-left : (c : In-Some) → IsLeftAt c.args.seat.now.seen c.args.note.index (Some c.in-Some.number)
+left : (c : In-Some) → IsLeftAt c.args.seat.now.seen c.args.note (Some c.in-Some.number)
 left c = let seen = c.args.seat.now.seen in let g = c.loop-word.invariant.0 in
-    subst (IsLeftAt seen c.args.note.index) c.in-Some.is
-    (goes_above seen c.loop-word.seat.seen g.true_to.legal g.begins c.args.note.index c.args.clock c.requires.clock c.loop-word.word c.loop-word.invariant.2 (sym c.is_over.ensures ∙ c.loop-word-test.true))
+    subst (IsLeftAt seen c.args.note) c.in-Some.is
+    (goes_above seen c.loop-word.seat.seen g.true_to.legal g.begins c.args.note c.args.clock c.requires.clock c.loop-word.word c.loop-word.invariant.2 (sym c.is_over.ensures ∙ c.loop-word-test.true))
 
 pub word-word-requires-in-Some-clause-number : goal.word-word-requires-in-Some-clause-number
 word-word-requires-in-Some-clause-number c = made_below c.args.seat.now.seen c.in-Some.number c.requires.true_to.legal (left (goal.at.word-word-requires-in-Some-clause-number c).In-Some).0
@@ -32,4 +35,4 @@ loop-word-preserved c = let e = c.word-word-in-Some.ensures in (
 
 pub returns-clause-over : goal.returns-clause-over
 returns-clause-over c = let g = c.loop-word.invariant.0 in
-    λ _. over_above c.args.seat.now.seen c.loop-word.seat.seen g.true_to.legal g.begins c.args.note.index c.args.clock c.requires.clock c.loop-word.word c.loop-word.invariant.2 (sym c.is_over.ensures ∙ c.loop-word-test.false)
+    λ _. over_above c.args.seat.now.seen c.loop-word.seat.seen g.true_to.legal g.begins c.args.note c.args.clock c.requires.clock c.loop-word.word c.loop-word.invariant.2 (sym c.is_over.ensures ∙ c.loop-word-test.false)
