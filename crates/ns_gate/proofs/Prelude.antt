@@ -20,9 +20,8 @@ pub use Rattle.ns_model.proofs.Beginnings.{begins_itself, begins_through}
 pub use Rattle.ns_model.proofs.Sets.{in_more, none_in}
 pub use Rattle.ns_model.proofs.Tallies.{Others, every_at, every_both, every_put, one_most, others_both, others_map, others_none, others_of, total_at, total_none, total_set}
 pub use Rattle.ns_model.specs.Room.{room_enough}
-pub use Rattle.ns_queue.proofs.Inside.{told_no}
+pub use Rattle.ns_queue.proofs.Bounds.{list_small, told_no}
 pub use Rattle.ns_queue.proofs.Marking.{drop_step}
-pub use Rattle.ns_queue.proofs.Orders.{list_small}
 pub use Rattle.ns_queue.proofs.Outside.{gone_those, same_each}
 pub use Rattle.ns_queue.proofs.Parts.{below_in, once_in}
 pub use Rattle.ns_queue.proofs.Seats.{none_without, own_times, times_in-cons}

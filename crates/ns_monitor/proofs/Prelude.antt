@@ -24,7 +24,7 @@ pub use Rattle.ns_monitor.specs.Prelude.{ready_at, release_has_queues, releasing
 pub use Rattle.ns_monitor.specs.Prelude.{some_returned, sought_at, standing_after, stands_at, taken_at, taken_by, taken_from, taken_set, taking_at, taking_for, test_place, tested_by, the, times, tried, trying, unmet_by, value_before, variable_in, view_in, wait_first, wait_has_queues, waits_at}
 pub use Rattle.ns_monitor.specs.Prelude.{waits_by, waits_for_any, waits_for_variable, wake_by, wake_event, wake_of, wake_told, wakes_of, waking_by, walk_after, want_of, with_lock, woken_by, woken_nobody, woken_of, word_taken, writes}
 pub use Rattle.ns_note.proofs.Rests.{made_grows}
-pub use Rattle.ns_queue.proofs.Orders.{list_small}
+pub use Rattle.ns_queue.proofs.Bounds.{list_small}
 pub use Rattle.ns_queue.specs.Room.{list_fits, waiter_fits}
 pub use Rattle.ns_seats.proofs.Numbered.{all_new, new_more, numbered_first, numbered_rest}
 pub use Rattle.ns_word.proofs.Acts.{view_fits}

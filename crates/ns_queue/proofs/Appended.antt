@@ -1,9 +1,7 @@
--- Waiters put at the back of the lock list, one after the other, and the seats in one of the lists.
+-- Waiters put at the back of the lock list, one after the other.
 use Rattle.std.proofs.Common.{List, ap, arith, eq-eqb, eqb, get_or, length, sym, take, ℕ, ◌++◌, ◌+◌, ◌<◌, ◌≡◌, ◌≤◌}
-use Rattle.ns_queue.proofs.Prelude.{ArrayVec, Cv, HaveSeats, IsOrderly, Lists, Lock, Waiter, one_if, sum_by_more_le, times, times_in, with_waiters}
+use Rattle.ns_queue.proofs.Prelude.{Lists, Lock, Waiter, one_if, sum_by_more_le, times, times_in, with_waiters}
 use Rattle.ns_queue.proofs.Seats.{times_in-append}
-use Rattle.ns_queue.proofs.Inside.{shape, list_at}
-use Rattle.ns_queue.proofs.Parts.{below_in}
 
 module _ {C : Type 0} where
   -- the next of them stands nowhere yet
@@ -13,7 +11,3 @@ module _ {C : Type 0} where
       let more : times_in w.seat (take i ws) + one_if (eqb (get_or ws i w).seat w.seat) ≤ times_in w.seat ws = sum_by_more_le (λ v. one_if (eqb v.seat w.seat)) ws i w within in
       let one : ◌≡◌ {A = ℕ} (one_if (eqb (get_or ws i w).seat w.seat)) 1 = ap one_if (eq-eqb (get_or ws i w).seat w.seat (ap (λ v. v.seat) (sym is))) in
       omega (arith, more, one, once w.seat, free w.seat (omega (arith, more, one)), times_in-append w.seat lists.lock (take i ws), ap (times w.seat) so_far)
-
-  -- the waiters of a variable's list have seats
-  pub have_seats_at : (lock : List (Waiter C)) (cvs : List (ArrayVec (Waiter C))) (k : ℕ) (d : ArrayVec (Waiter C)) → IsOrderly (shape lock cvs) → k < 4 → HaveSeats (get_or cvs k d).items
-  have_seats_at lock cvs k d orderly low = rw (← list_at lock cvs k d orderly low) (below_in (shape lock cvs) (Cv k) orderly low)

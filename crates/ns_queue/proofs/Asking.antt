@@ -2,6 +2,12 @@
 use Rattle.std.proofs.Common.{Bool, IfSome, None, Option, Some, ap, arith, cond, false, inl, inr, is_none, is_some, refl, sym, true, unwrap_or, ◌&&◌, ◌∙◌, ◌≡◌, ◌≤◌, ◌⊎◌}
 use Rattle.ns_queue.proofs.Prelude.{asked_for, asking, is_alike, is_satisfied}
 
+module _ {C : Type 0} (same : C → C → Bool) where
+  -- a condition is like none that isn't there
+  pub alike_none : (o : Option C) → is_alike same o None ≡ false
+  alike_none (Some c) = refl
+  alike_none None = refl
+
 module _ {C : Type 0} (same : C → C → Bool) (meets : C → Bool) where
   -- the run that a waiter stands in
   abbrev pub Enters : Option C → Option C → Option Bool → Option C → Option Bool → Type 0

@@ -1,5 +1,5 @@
 -- Links from place to place: what a link written elsewhere leaves, and a place put between two or taken out.
-use Rattle.std.proofs.Common.{List, None, Option, Some, [], ap, arith, eq-eqb, get_or, get_or-set_other, get_or-set_same, inl, inr, length, length-set, ne_eqb, refl, set, sym, ℕ, ◌++◌, ◌<◌, ◌∙◌, ◌∷◌, ◌≡◌, ◌≢◌, ◌≤◌}
+use Rattle.std.proofs.Common.{List, None, Option, Some, [], ap, arith, eq-eqb, get_or, get_or-set_other, get_or-set_same, inl, inr, length, length-set, ne_eqb, refl, set, subst, sym, ℕ, ◌++◌, ◌<◌, ◌∙◌, ◌∷◌, ◌≡◌, ◌≢◌, ◌≤◌}
 use Rattle.ns_queue.proofs.Prelude.{Hops, Waiter, ahead, behind, cases_eq, first_seat, gather, last_seat, one_if, seated, times_in}
 use Rattle.ns_queue.proofs.Seats.{times_in-cons, times_in-append}
 
@@ -73,14 +73,13 @@ module _ {C : Type 0} where
   last_hop nx pv [] x y h = h.1
   last_hop nx pv (w ∷ ws) x y h = last_hop nx pv ws w.seat y h.1
 
-  -- from a waiter on
-  pub rest_hops : (nx pv : List ℕ) (xs : List (Waiter C)) (w : Waiter C) (ys : List (Waiter C)) (x y : ℕ) → Hops nx pv x (xs ++ w ∷ ys) y → Hops nx pv w.seat ys y
-  rest_hops nx pv [] w ys x y h = h.1
-  rest_hops nx pv (v ∷ xs) w ys x y h = rest_hops nx pv xs w ys v.seat y h.1
-
-  pub hop_back : (nx pv : List ℕ) (xs : List (Waiter C)) (w : Waiter C) (ys : List (Waiter C)) (x y : ℕ) → Hops nx pv x (xs ++ w ∷ ys) y → get_or pv w.seat 0 ≡ last_seat x xs
-  hop_back nx pv [] w ys x y h = h.0.1
-  hop_back nx pv (v ∷ xs) w ys x y h = hop_back nx pv xs w ys v.seat y h.1
+  -- at a seat that stands there
+  pub links_at : (nx pv : List ℕ) (s : ℕ) (ws : List (Waiter C)) (x y : ℕ) → 1 ≤ times_in s ws → Hops nx pv x ws y → (get_or nx s 0 ≡ first_seat y (behind s ws)) × (get_or pv s 0 ≡ last_seat x (ahead s ws))
+  links_at nx pv s [] x y stands h = absurd (omega (arith, stands))
+  links_at nx pv s (w ∷ ws) x y stands h = elim (cases_eq w.seat s) [
+    | inl e ↦ (let P : ℕ → Type 0 = λ k. (get_or nx k 0 ≡ first_seat y ws) × (get_or pv k 0 ≡ x) in rw (eq-eqb w.seat s e) (subst P e (first_hop nx pv ws w.seat y h.1, h.0.1)))
+    | inr ne ↦ rw (ne_eqb w.seat s ne) (links_at nx pv s ws w.seat y (let no = ap one_if (ne_eqb w.seat s ne) in omega (arith, stands, times_in-cons s w ws, no)) h.1)
+  ]
 
   -- ---- one more
 
@@ -187,34 +186,3 @@ module _ {C : Type 0} where
       let rest = gather_is held nx pv ws w.seat y (length ws) h.1 (λ s. omega (arith, once s, times_in-cons s w ws))
       (λ s stands. has s (omega (arith, stands, times_in-cons s w ws)) ∙ seated_rest s w ws (λ e. absurd (let off = ap (λ k. times_in k ws) e in omega (arith, off, own, stands)))) refl in
       rw (size, h.0.0, here) (ap (λ vs. w ∷ vs) rest)
-
-  -- ---- a list parted at a seat
-
-  pub record Parted (s : ℕ) (ws : List (Waiter C)) : Type 0 where
-    pub xs : List (Waiter C)
-    pub w : Waiter C
-    pub ys : List (Waiter C)
-    pub is : ws ≡ xs ++ w ∷ ys
-    pub here : w.seat ≡ s
-    pub out : times_in s xs ≡ 0
-    pub in_front : ahead s ws ≡ xs
-    pub rest : behind s ws ≡ ys
-
-  part_more : (s : ℕ) (w : Waiter C) (ws : List (Waiter C)) → w.seat ≢ s → Parted s ws → Parted s (w ∷ ws)
-  part_more s w ws ne p = record {
-    xs = w ∷ p.xs;
-    w = p.w;
-    ys = p.ys;
-    is = ap (λ vs. w ∷ vs) p.is;
-    here = p.here;
-    out = (let no = ap one_if (ne_eqb w.seat s ne) in omega (arith, p.out, times_in-cons s w p.xs, no));
-    in_front = rw (ne_eqb w.seat s ne) (ap (λ vs. w ∷ vs) p.in_front);
-    rest = rw (ne_eqb w.seat s ne) p.rest;
-  }
-
-  pub part : (s : ℕ) (ws : List (Waiter C)) → 1 ≤ times_in s ws → Parted s ws
-  part s [] stands = absurd (omega (arith, stands))
-  part s (w ∷ ws) stands = elim (cases_eq w.seat s) [
-    | inl e ↦ record { xs = []; w = w; ys = ws; is = refl; here = e; out = refl; in_front = rw (eq-eqb w.seat s e) refl; rest = rw (eq-eqb w.seat s e) refl }
-    | inr ne ↦ part_more s w ws ne (part s ws (let no = ap one_if (ne_eqb w.seat s ne) in omega (arith, stands, times_in-cons s w ws, no)))
-  ]

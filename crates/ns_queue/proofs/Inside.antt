@@ -1,26 +1,11 @@
 -- The lists as the fields hold them.
-use Rattle.std.proofs.Common.{Bool, IsTrue, List, [], ap, arith, cond, drop, eq-eqb, eqb, false, get_or, inl, inr, length, length-set, map, ne_eqb, not, refl, set, subst, suc, sym, take, true, zero, ℕ, ◌++◌, ◌+◌, ◌<◌, ◌∙◌, ◌∷◌, ◌≡◌, ◌≤◌}
-use Rattle.ns_queue.proofs.Prelude.{ArrayVec, Cv, IsOrderly, Lists, OnFalse, Waiter, beside, cases_eq, filter, get_or-le-sum_by, get_or-map, length-map, map-set, map_over_more, one_if, sum_by, sum_by_more, times, times_in, waiters_of, with_waiters, without_in}
-use Rattle.ns_queue.proofs.Seats.{times_in-cons, times_in_push}
+use Rattle.std.proofs.Common.{List, [], ap, arith, drop, eqb, get_or, inl, inr, length, length-set, map, not, refl, set, subst, sym, take, ℕ, ◌++◌, ◌+◌, ◌<◌, ◌∙◌, ◌∷◌, ◌≡◌, ◌≤◌}
+use Rattle.ns_queue.proofs.Prelude.{ArrayVec, Cv, IsOrderly, Lists, Waiter, beside, cases_eq, get_or-le-sum_by, get_or-map, length-map, map-set, map_over_more, one_if, sum_by, sum_by_more, times, times_in, waiters_of, with_waiters, without_in}
+use Rattle.ns_queue.proofs.Marking.{times_in-filter}
+use Rattle.ns_queue.proofs.Seats.{none_more, one_more, times_in-cons, times_in_push}
 use Rattle.ns_queue.proofs.Orders.{orderly_more, orderly_less, times_set, cv_times, part_has_room}
 use Rattle.ns_queue.proofs.Parts.{once_in, read_apart, read_back}
-
--- what a test told
-pub told_yes : (b : Bool) (n : ℕ) → b ≡ true → (IsTrue b → 0 < n) → 0 < n
-told_yes b n is tells = tells is
-
-pub told_no : (b : Bool) (n : ℕ) → b ≡ false → (0 < n → IsTrue b) → n ≡ 0
-told_no b zero is tells = refl
-told_no b (suc n) is tells = let other = tells (omega arith) in cc
-
-pub on_none : (b : Bool) (n : ℕ) → (0 < n → IsTrue b) → OnFalse b (n ≡ 0)
-on_none true n tells = tt
-on_none false zero tells = refl
-on_none false (suc n) tells = let other = tells (omega arith) in cc
-
--- one who stands in neither part
-pub neither : (m n : ℕ) → m ≡ 0 → n ≡ 0 → (IsTrue false → 0 < m + n) × (0 < m + n → IsTrue false)
-neither m n none out = (λ no. absurd (cc), λ here. absurd (omega (arith, here, none, out)))
+use Rattle.ns_queue.proofs.Shown.{four_of}
 
 module _ {C : Type 0} where
   abbrev pub shape : List (Waiter C) → List (ArrayVec (Waiter C)) → Lists C
@@ -84,18 +69,15 @@ module _ {C : Type 0} where
   list_pushed lock cvs k d v w orderly within low free is =
       let new = shape lock (set cvs k v) in
       let more : (seat : ℕ) → times_in seat v.items ≡ times_in seat (get_or cvs k d).items + one_if (eqb w.seat seat) = λ seat. ap (times_in seat) is ∙ times_in_push (get_or cvs k d).items w seat in
-      let here : (seat : ℕ) → beside new seat k ≤ 1 = λ seat. let most = put_beside lock cvs k d v (one_if (eqb w.seat seat)) seat orderly within (omega (arith, more seat)) k within in elim (cases_eq w.seat seat) [
-        | inl e ↦ (let P : ℕ → Type 0 = λ s. beside new s k ≤ 1 in subst P e (let own = put_beside lock cvs k d v (one_if (eqb w.seat w.seat)) w.seat orderly within
-            (omega (arith, more w.seat)) k within in let one : one_if (eqb w.seat w.seat) ≡ 1 = rw (eq-eqb w.seat w.seat refl) refl in omega (arith, own, one, free)))
-        | inr ne ↦ (let no : one_if (eqb w.seat seat) ≡ 0 = rw (ne_eqb w.seat seat ne) refl in omega (arith, most, no, orderly.once seat k within))
-      ] in
+      let here : (seat : ℕ) → beside new seat k ≤ 1 = one_more (λ s. beside (shape lock cvs) s k) (λ s. beside new s k) w.seat
+      (λ seat. put_beside lock cvs k d v (one_if (eqb w.seat seat)) seat orderly within (omega (arith, more seat)) k within) free (λ seat. orderly.once seat k within) in
       record {
         four = put_four lock cvs k v orderly;
         once = λ seat j low_j. elim (cases_eq j k) [
           | inl e ↦ (let P : ℕ → Type 0 = λ i. beside new seat i ≤ 1 in subst P (sym e) (here seat))
           | inr ne ↦ omega (arith, ap (λ (lists : Lists C). beside lists seat j) (list_put lock cvs k v), ap (times_in seat) (read_apart (shape lock cvs) k j v.items ne), orderly.once seat j low_j)
         ];
-        below = λ seat high. let no : one_if (eqb w.seat seat) ≡ 0 = rw (ne_eqb w.seat seat (λ e. omega arith)) refl in omega (arith, put_times lock cvs k d v orderly within seat, more seat, no, orderly.below seat high);
+        below = none_more (λ s. times s (shape lock cvs)) (λ s. times s new) w.seat 64 (λ seat. omega (arith, put_times lock cvs k d v orderly within seat, more seat)) low orderly.below;
       }
 
   pub lock_lessened : (lock lock' : List (Waiter C)) (cvs : List (ArrayVec (Waiter C))) → IsOrderly (shape lock cvs) →
@@ -103,16 +85,9 @@ module _ {C : Type 0} where
   lock_lessened lock lock' cvs orderly less = orderly_less (shape lock cvs) (shape lock' cvs) orderly orderly.four (λ seat k within. omega (arith, less seat)) (λ seat. omega (arith, less seat))
 
   -- the same lists once more
-  pub again : (lock lock' : List (Waiter C)) (cvs : List (ArrayVec (Waiter C))) (p q r s a b c d : ArrayVec (Waiter C)) → IsOrderly (shape lock cvs) → lock' ≡ lock →
-      a.items ≡ (get_or cvs 0 p).items → b.items ≡ (get_or cvs 1 q).items → c.items ≡ (get_or cvs 2 r).items → d.items ≡ (get_or cvs 3 s).items →
-      shape lock' (a ∷ b ∷ c ∷ d ∷ []) ≡ shape lock cvs
-  again lock lock' [] p q r s a b c d orderly is ax by cz du = absurd (omega (arith, four_lists lock [] orderly))
-  again lock lock' (x ∷ []) p q r s a b c d orderly is ax by cz du = absurd (omega (arith, four_lists lock (x ∷ []) orderly))
-  again lock lock' (x ∷ y ∷ []) p q r s a b c d orderly is ax by cz du = absurd (omega (arith, four_lists lock (x ∷ y ∷ []) orderly))
-  again lock lock' (x ∷ y ∷ z ∷ []) p q r s a b c d orderly is ax by cz du = absurd (omega (arith, four_lists lock (x ∷ y ∷ z ∷ []) orderly))
-  again lock lock' (x ∷ y ∷ z ∷ u ∷ []) p q r s a b c d orderly is ax by cz du =
-      rw (is, ax, by, cz, du) refl
-  again lock lock' (x ∷ y ∷ z ∷ u ∷ v ∷ vs) p q r s a b c d orderly is ax by cz du = absurd (omega (arith, four_lists lock (x ∷ y ∷ z ∷ u ∷ v ∷ vs) orderly))
+  pub again : (lists : Lists C) (lock : List (Waiter C)) (a b c d : ArrayVec (Waiter C)) → length lists.cvs ≡ 4 → lock ≡ lists.lock →
+      a.items ≡ waiters_of lists (Cv 0) → b.items ≡ waiters_of lists (Cv 1) → c.items ≡ waiters_of lists (Cv 2) → d.items ≡ waiters_of lists (Cv 3) → shape lock (a ∷ b ∷ c ∷ d ∷ []) ≡ lists
+  again lists lock a b c d four is p q r s = rw (is, p, q, r, s, ← four_of lists.cvs [] four) refl
 
   -- a seat in one of the lists, and in none of them so far
   pub some_list : (cvs : List (ArrayVec (Waiter C))) (i : ℕ) (d : ArrayVec (Waiter C)) (ws : List (Waiter C)) (seat : ℕ) → i < 4 → length cvs ≡ 4 → ws ≡ (get_or cvs i d).items →
@@ -138,13 +113,6 @@ module _ {C : Type 0} where
       let at : (get_or nows i d).items ≡ get_or (map items nows) i (get_or nows i d).items = sym (get_or-map items nows i d (get_or nows i d).items (omega arith)) in
       map-set items nows i v ∙ ap (λ (ws : List (Waiter C)). set (map items nows) i ws) becomes
       ∙ map_over_more f (map items olds) (map items nows) i (get_or nows i d).items (rw length-map within) before at
-
-  -- a list and the lists without a seat
-  pub times_in-filter : (p : Waiter C → Bool) (ws : List (Waiter C)) (seat : ℕ) → times_in seat (filter p ws) ≤ times_in seat ws
-  times_in-filter p [] seat = omega arith
-  times_in-filter p (w ∷ ws) seat =
-      elim (p w) as (λ b. times_in seat (cond b (w ∷ filter p ws) (filter p ws)) ≤ times_in seat (w ∷ ws))
-      [ true ↦ omega (arith, times_in-cons seat w ws, times_in-cons seat w (filter p ws), times_in-filter p ws seat) | false ↦ omega (arith, times_in-cons seat w ws, times_in-filter p ws seat) ]
 
   -- a seat taken out of the lock list
   pub lock_left : (lock lock' : List (Waiter C)) (cvs : List (ArrayVec (Waiter C))) (out : ℕ) → IsOrderly (shape lock cvs) → lock' ≡ without_in out lock → IsOrderly (shape lock' cvs)

@@ -1,9 +1,8 @@
 -- What is left of a list whose taken waiters are taken out one by one.
-use Rattle.std.proofs.Common.{Bool, List, [], ap, arith, cond, drop, eq-eqb, false, filter, get_or, inl, inr, length, ne_eqb, not, refl, sym, true, ℕ, ◌+◌, ◌-◌, ◌<◌, ◌∙◌, ◌∷◌, ◌≡◌, ◌≢◌, ◌≤◌}
-use Rattle.ns_queue.proofs.Prelude.{IsRow, Waiter, begins_with_reader, cases_Bool, is_eligible, left_by_writer, left_of, seats_of, times_in, without_all, without_in, woken_of, writes}
-use Rattle.ns_queue.proofs.Inside.{times_in-filter}
-use Rattle.ns_queue.proofs.Marking.{drop_step}
-use Rattle.ns_queue.proofs.Seats.{none_without, times_in-cons}
+use Rattle.std.proofs.Common.{Bool, List, [], ap, arith, cond, drop, eq-eqb, false, get_or, inl, inr, length, map, ne_eqb, refl, sym, true, ℕ, ◌+◌, ◌-◌, ◌<◌, ◌∙◌, ◌∷◌, ◌≡◌, ◌≢◌, ◌≤◌}
+use Rattle.ns_queue.proofs.Prelude.{IsRow, Waiter, marked, unmarked, begins_with_reader, cases_Bool, is_eligible, left_by_writer, left_of, seats_of, times_in, without_all, without_in, woken_of, writes}
+use Rattle.ns_queue.proofs.Marking.{drop_step, filter_marks, times_parted}
+use Rattle.ns_queue.proofs.Seats.{none_without}
 use Rattle.ns_queue.proofs.Seeking.{goes_along}
 use Rattle.ns_queue.proofs.Hops.{stands_not}
 use Rattle.ns_queue.proofs.Places.{row_own, row_rest}
@@ -33,51 +32,39 @@ module _ {C : Type 0} where
   goes_last : (vs : List (Waiter C)) (w : Waiter C) (ws left : List (Waiter C)) → times_in w.seat vs ≡ 0 → times_in w.seat left ≡ 0 → without_all (seats_of vs) ws ≡ left → without_in w.seat (without_all (seats_of vs) (w ∷ ws)) ≡ left
   goes_last vs w ws left out gone is = ap (without_in w.seat) (stays_first vs w ws out ∙ ap (λ us. w ∷ us) is) ∙ first_goes w left gone
 
-  filter_leaves : (p : Waiter C → Bool) (ws : List (Waiter C)) → IsRow ws → without_all (seats_of (filter p ws)) ws ≡ filter (λ v. not (p v)) ws
-  filter_leaves p [] row = refl
-  filter_leaves p (w ∷ ws) row =
-      let rest = filter_leaves p ws (row_rest w ws row) in
+  -- those marked leave the others
+  marked_leave : (ms : List Bool) (ws : List (Waiter C)) → IsRow ws → without_all (seats_of (marked ms ws)) ws ≡ unmarked ms ws
+  marked_leave [] ws row = refl
+  marked_leave (m ∷ ms) [] row = refl
+  marked_leave (true ∷ ms) (w ∷ ws) row =
+      let parts = times_parted ms ws w.seat in
       let own = row_own w ws row in
-      let out : times_in w.seat (filter p ws) ≡ 0 = omega (arith, times_in-filter p ws w.seat, own) in
-      elim (cases_Bool (p w)) [
-        | inl goes ↦ rw goes (goes_last (filter p ws) w ws (filter (λ v. not (p v)) ws) out (omega (arith, times_in-filter (λ v. not (p v)) ws w.seat, own)) rest)
-        | inr stays ↦ rw stays (stays_first (filter p ws) w ws out ∙ ap (λ vs. w ∷ vs) rest)
-      ]
+      goes_last (marked ms ws) w ws (unmarked ms ws) (omega (arith, parts, own)) (omega (arith, parts, own)) (marked_leave ms ws (row_rest w ws row))
+  marked_leave (false ∷ ms) (w ∷ ws) row =
+      stays_first (marked ms ws) w ws (omega (arith, times_parted ms ws w.seat, row_own w ws row)) ∙ ap (λ vs. w ∷ vs) (marked_leave ms ws (row_rest w ws row))
 
   module _ (meets : C → Bool) where
-    times_woken : (s : ℕ) (ws : List (Waiter C)) → times_in s (woken_of meets ws) ≤ times_in s ws
-    times_woken s [] = omega arith
-    times_woken s (w ∷ ws) = elim (cases_Bool (is_eligible meets w)) [
+    -- which of the waiters a scan takes
+    abbrev pub scan_marks : List (Waiter C) → List Bool
+    scan_marks [] = []
+    scan_marks (w ∷ ws) = cond (is_eligible meets w) (true ∷ cond (writes w) [] (map (goes_along meets) ws)) (false ∷ scan_marks ws)
+
+    pub scan_is : (ws : List (Waiter C)) → (woken_of meets ws ≡ marked (scan_marks ws) ws) × (left_of meets ws ≡ unmarked (scan_marks ws) ws)
+    scan_is [] = (refl, refl)
+    scan_is (w ∷ ws) = elim (cases_Bool (is_eligible meets w)) [
       | inl goes ↦ elim (cases_Bool (writes w)) [
-        | inl alone ↦ rw (goes, alone) (omega (arith, times_in-cons s w ws, times_in-cons s w []))
-        | inr reader ↦ rw (goes, reader) (omega (arith, times_in-cons s w ws, times_in-cons s w (filter (goes_along meets) ws), times_in-filter (goes_along meets) ws s))
+        | inl alone ↦ rw (goes, alone) (refl, refl)
+        | inr reader ↦ let those = filter_marks (goes_along meets) ws in rw (goes, reader) (ap (λ vs. w ∷ vs) those.0, those.1)
       ]
-      | inr stays ↦ rw stays (omega (arith, times_in-cons s w ws, times_woken s ws))
+      | inr stays ↦ let rest = scan_is ws in rw stays (rest.0, ap (λ vs. w ∷ vs) rest.1)
     ]
 
     pub woken_leave : (ws : List (Waiter C)) → IsRow ws → without_all (seats_of (woken_of meets ws)) ws ≡ left_of meets ws
-    woken_leave [] row = refl
-    woken_leave (w ∷ ws) row =
-        let own = row_own w ws row in
-        elim (cases_Bool (is_eligible meets w)) [
-          | inl goes ↦ elim (cases_Bool (writes w)) [
-            | inl alone ↦ rw (goes, alone) (first_goes w ws own)
-            | inr reader ↦ rw (goes, reader) (goes_last (filter (goes_along meets) ws) w ws (filter (λ v. not (goes_along meets v)) ws) (omega (arith, times_in-filter (goes_along meets) ws w.seat, own)) (omega (arith, times_in-filter (λ v. not (goes_along meets v)) ws w.seat, own))
-                (filter_leaves (goes_along meets) ws (row_rest w ws row)))
-          ]
-          | inr stays ↦ rw stays (stays_first (woken_of meets ws) w ws (omega (arith, times_woken w.seat ws, own)) ∙ ap (λ vs. w ∷ vs) (woken_leave ws (row_rest w ws row)))
-        ]
+    woken_leave ws row = ap (λ vs. without_all (seats_of vs) ws) (scan_is ws).0 ∙ marked_leave (scan_marks ws) ws row ∙ sym (scan_is ws).1
 
     -- nobody comes in
     pub times_left : (ws : List (Waiter C)) (seat : ℕ) → times_in seat (left_of meets ws) ≤ times_in seat ws
-    times_left [] seat = omega arith
-    times_left (w ∷ ws) seat = elim (cases_Bool (is_eligible meets w)) [
-      | inl goes ↦ elim (cases_Bool (writes w)) [
-        | inl alone ↦ rw (goes, alone) (omega (arith, times_in-cons seat w ws))
-        | inr reader ↦ rw (goes, reader) (omega (arith, times_in-cons seat w ws, times_in-filter (λ v. not (goes_along meets v)) ws seat))
-      ]
-      | inr stays ↦ rw stays (omega (arith, times_in-cons seat w ws, times_in-cons seat w (left_of meets ws), times_left ws seat))
-    ]
+    times_left ws seat = omega (arith, ap (times_in seat) (scan_is ws).1, times_parted (scan_marks ws) ws seat)
 
     pub times_left_by_writer : (ws : List (Waiter C)) (seat : ℕ) → times_in seat (left_by_writer meets ws) ≤ times_in seat ws
     times_left_by_writer ws seat =

@@ -1,5 +1,6 @@
 pub mod Appended
 pub mod Asking
+pub mod Bounds
 pub mod Hops
 pub mod Inside
 pub mod Leaving

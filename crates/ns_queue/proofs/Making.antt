@@ -1,8 +1,8 @@
 -- What a change of a list makes of the links of its runs.
-use Rattle.std.proofs.Common.{Bool, List, None, Option, Some, [], ap, arith, false, get_or, get_or-set_other, get_or-set_same, inl, inr, length, length-set, refl, replicate, set, subst, sym, true, true≢false, ℕ, ◌++◌, ◌<◌, ◌∙◌, ◌∷◌, ◌≡◌, ◌≢◌}
+use Rattle.std.proofs.Common.{Bool, List, None, cond, Option, Some, [], ap, arith, false, get_or, get_or-set_other, get_or-set_same, inl, inr, length, length-set, refl, replicate, set, subst, sym, true, true≢false, ℕ, ◌++◌, ◌<◌, ◌∙◌, ◌∷◌, ◌≡◌, ◌≢◌}
 use Rattle.ns_queue.proofs.Prelude.{IsRow, IsRuns, MadeUpTo, RunLinks, RunsOn, StandRuns, Waiter, ahead, behind, cases_Bool, first_seat, from, get_or-replicate, head_of, joins, last_run, last_seat, length-replicate, place_of, seated, times_in, without_in}
 use Rattle.ns_queue.proofs.Hops.{seated_none, stands_not}
-use Rattle.ns_queue.proofs.Ringed.{first_low, last_low}
+use Rattle.ns_queue.proofs.Ringed.{last_low}
 use Rattle.ns_queue.proofs.Places.{split, ahead_out, from_none, found, cut_at, stepped, row_at, row_parts, row_rest, row_own, row_front, row_low, standing, without_is, row_without}
 use Rattle.ns_queue.proofs.Links.{head_yes, head_no, last_run-append, last_seat-append, heads_other, lasts_other, on_lasts, open_end, links_join, on_join, on_part, on_rest, on_at, head_link, run_seated, run_out, run_inner, run_low, stand_of, stand_heads, stand_lasts}
 
@@ -14,62 +14,58 @@ write_at links c k v e within = ap (λ n. get_or (set links c v) n 0) (sym e) �
 
 module _ {C : Type 0} (same : C → C → Bool) where
   -- the links in front of a place, with the last run's first linked
-  closed_front : (heads lasts : List ℕ) (head v : ℕ) (xs : List (Waiter C)) → IsRow xs → head ≡ place_of (last_run same None xs) → RunLinks same heads lasts None 64 xs → RunLinks same heads (set lasts head v) None 64 xs
-  closed_front heads lasts head v xs row is h =
+  record Closed (heads lasts : List ℕ) (head v : ℕ) (xs : List (Waiter C)) : Type 0 where
+    front : RunLinks same heads (set lasts head v) None 64 xs
+    end : get_or (set lasts head v) (place_of (last_run same None xs)) 0 ≡ v
+    all : length (set lasts head v) ≡ 65
+
+  closed : (heads lasts : List ℕ) (head v : ℕ) (xs : List (Waiter C)) → IsRow xs → head ≡ place_of (last_run same None xs) → length lasts ≡ 65 → RunLinks same heads lasts None 64 xs → Closed heads lasts head v xs
+  closed heads lasts head v xs row is all h =
       let P : ℕ → Type 0 = λ k. RunLinks same heads (set lasts k v) None 64 xs in
-      subst P (sym is) (open_end same heads lasts None 64 xs v (row.below 64 (omega arith)) row h)
+      let low : head < 65 = rw is (run_low same xs row) in
+      record {
+        front = subst P (sym is) (open_end same heads lasts None 64 xs v (row.below 64 (omega arith)) row h);
+        end = write_at lasts head (place_of (last_run same None xs)) v is (omega (arith, low, all));
+        all = length-set lasts head v ∙ all;
+      }
 
   -- ---- one waiter further
+
+  made_on : (heads lasts lasts' : List ℕ) (head head' before at n : ℕ) (ws : List (Waiter C)) (w : Waiter C) → IsRow ws → seated at ws ≡ Some w → n ≡ first_seat 64 (behind at ws) → head' ≡ place_of (head_of same w (last_run same None (ahead at ws))) →
+      RunLinks same heads lasts' None 64 (ahead at ws) → (joins same w (last_run same None (ahead at ws)) ≡ false → get_or lasts' (place_of (last_run same None (ahead at ws))) 0 ≡ last_seat 64 (ahead at ws)) →
+      (StandRuns same heads lasts (from n ws) → StandRuns same heads lasts' (from n ws)) → length lasts' ≡ 65 → MadeUpTo same heads lasts head before at ws → MadeUpTo same (set heads at head') lasts' head' at n ws
+  made_on heads lasts lasts' head head' before at n ws w row is next head_is front begins kept all m =
+      let s = stepped at ws w n row is next in
+      let xs = ahead at ws in
+      let run = last_run same None xs in
+      let one : RunLinks same (set heads at head') lasts' run (last_seat 64 xs) (w ∷ []) = (begins, write_at heads at w.seat head' (sym s.here) (omega (arith, s.low, m.heads_all)) ∙ head_is, tt) in
+      let P : List (Waiter C) → Type 0 = λ vs. StandRuns same heads lasts vs in
+      let rest : StandRuns same heads lasts (w ∷ from n ws) = subst P s.from_is m.rest in
+      record {
+        links = rw s.ahead_is (links_join same (set heads at head') lasts' None 64 xs (w ∷ []) (heads_other same heads lasts' None 64 xs at head' (ahead_out at ws) front) one);
+        head_is = head_is ∙ ap place_of (sym (ap (last_run same None) s.ahead_is ∙ last_run-append same None xs (w ∷ [])));
+        before_is = sym (ap (last_seat 64) s.ahead_is ∙ last_seat-append 64 xs (w ∷ []) ∙ s.here);
+        rest = stand_heads same heads lasts' (from n ws) at head' s.out (kept rest.1);
+        end = other_end heads at head' s.low m.end;
+        heads_all = length-set heads at head' ∙ m.heads_all;
+        lasts_all = all;
+      }
 
   pub made_joins : (heads lasts : List ℕ) (head before at n : ℕ) (ws : List (Waiter C)) (w : Waiter C) → IsRow ws → seated at ws ≡ Some w → n ≡ first_seat 64 (behind at ws) → joins same w (last_run same None (ahead at ws)) ≡ true →
       MadeUpTo same heads lasts head before at ws → MadeUpTo same (set heads at head) lasts head at n ws
   made_joins heads lasts head before at n ws w row is next goes m =
-      let s = stepped at ws w n row is next in
-      let xs = ahead at ws in
-      let run = last_run same None xs in
-      let here : get_or (set heads at head) w.seat 0 ≡ place_of (head_of same w run) = write_at heads at w.seat head (sym s.here) (omega (arith, s.low, m.heads_all)) ∙ m.head_is ∙ ap place_of (sym (head_yes same w run goes)) in
-      let one : RunLinks same (set heads at head) lasts run (last_seat 64 xs) (w ∷ []) = (λ e. absurd (true≢false (sym goes ∙ e)), here, tt) in
-      let P : List (Waiter C) → Type 0 = λ vs. StandRuns same heads lasts vs in
-      let rest : StandRuns same heads lasts (w ∷ from n ws) = subst P s.from_is m.rest in
-      record {
-        links = rw s.ahead_is (links_join same (set heads at head) lasts None 64 xs (w ∷ []) (heads_other same heads lasts None 64 xs at head (ahead_out at ws) m.links) one);
-        head_is = m.head_is ∙ ap place_of (sym (ap (last_run same None) s.ahead_is ∙ last_run-append same None xs (w ∷ []) ∙ head_yes same w run goes));
-        before_is = sym (ap (last_seat 64) s.ahead_is ∙ last_seat-append 64 xs (w ∷ []) ∙ s.here);
-        rest = stand_heads same heads lasts (from n ws) at head s.out rest.1;
-        end = other_end heads at head s.low m.end;
-        heads_all = length-set heads at head ∙ m.heads_all;
-        lasts_all = m.lasts_all;
-      }
-
-  made_begins : (heads lasts : List ℕ) (head before at n : ℕ) (ws : List (Waiter C)) (w : Waiter C) → IsRow ws → seated at ws ≡ Some w → n ≡ first_seat 64 (behind at ws) → joins same w (last_run same None (ahead at ws)) ≡ false →
-      MadeUpTo same heads lasts head before at ws → MadeUpTo same (set heads at at) (set lasts head before) at at n ws
-  made_begins heads lasts head before at n ws w row is next begins m =
-      let s = stepped at ws w n row is next in
-      let f = found at ws w is in
-      let xs = ahead at ws in
-      let run = last_run same None xs in
-      let rows = row_parts xs (w ∷ behind at ws) (row_at ws _ f.is row) in
-      let low : head < 65 = rw m.head_is (run_low same xs rows.0) in
-      let out = stands_not head w (behind at ws) (rw m.head_is (run_out same xs (w ∷ behind at ws) (row_at ws _ f.is row))) in
-      let end : get_or (set lasts head before) (place_of run) 0 ≡ last_seat 64 xs = write_at lasts head (place_of run) before m.head_is (omega (arith, low, m.lasts_all)) ∙ m.before_is in
-      let here : get_or (set heads at at) w.seat 0 ≡ place_of (head_of same w run) = write_at heads at w.seat at (sym s.here) (omega (arith, s.low, m.heads_all)) ∙ sym s.here ∙ ap place_of (sym (head_no same w run begins)) in
-      let one : RunLinks same (set heads at at) (set lasts head before) run (last_seat 64 xs) (w ∷ []) = (λ e. end, here, tt) in
-      let P : List (Waiter C) → Type 0 = λ vs. StandRuns same heads lasts vs in
-      let rest : StandRuns same heads lasts (w ∷ from n ws) = subst P s.from_is m.rest in
-      record {
-        links = rw s.ahead_is (links_join same (set heads at at) (set lasts head before) None 64 xs (w ∷ [])
-            (heads_other same heads (set lasts head before) None 64 xs at at (ahead_out at ws) (closed_front heads lasts head before xs rows.0 m.head_is m.links)) one);
-        head_is = sym s.here ∙ ap place_of (sym (ap (last_run same None) s.ahead_is ∙ last_run-append same None xs (w ∷ []) ∙ head_no same w run begins));
-        before_is = sym (ap (last_seat 64) s.ahead_is ∙ last_seat-append 64 xs (w ∷ []) ∙ s.here);
-        rest = stand_heads same heads (set lasts head before) (from n ws) at at s.out (stand_lasts same heads lasts (from n ws) head before (rw (← s.behind_is) out.1) rest.1);
-        end = other_end heads at at s.low m.end;
-        heads_all = length-set heads at at ∙ m.heads_all;
-        lasts_all = length-set lasts head before ∙ m.lasts_all;
-      }
+      made_on heads lasts lasts head head before at n ws w row is next (m.head_is ∙ ap place_of (sym (head_yes same w (last_run same None (ahead at ws)) goes))) m.links (λ e. absurd (true≢false (sym goes ∙ e))) (λ rest. rest) m.lasts_all m
 
   pub made_begun : (heads lasts lasts' : List ℕ) (head head' before at n : ℕ) (ws : List (Waiter C)) (w : Waiter C) → IsRow ws → seated at ws ≡ Some w → n ≡ first_seat 64 (behind at ws) → joins same w (last_run same None (ahead at ws)) ≡ false →
       head' ≡ at → lasts' ≡ set lasts head before → MadeUpTo same heads lasts head before at ws → MadeUpTo same (set heads at head') lasts' head' at n ws
-  made_begun heads lasts lasts' head head' before at n ws w row is next begins e f m = rw (e, f) (made_begins heads lasts head before at n ws w row is next begins m)
+  made_begun heads lasts lasts' head head' before at n ws w row is next begins e l m =
+      let f = found at ws w is in
+      let xs = ahead at ws in
+      let row' = row_at ws _ f.is row in
+      let c = closed heads lasts head before xs (row_parts xs (w ∷ behind at ws) row').0 m.head_is m.lasts_all m.links in
+      let out = stands_not head w (behind at ws) (rw m.head_is (run_out same xs (w ∷ behind at ws) row')) in
+      rw l (made_on heads lasts (set lasts head before) head head' before at n ws w row is next (e ∙ sym f.here ∙ ap place_of (sym (head_no same w (last_run same None xs) begins))) c.front (λ _. c.end ∙ m.before_is)
+      (stand_lasts same heads lasts (from n ws) head before (rw (← (stepped at ws w n row is next).behind_is) out.1)) c.all m)
 
   -- where a run begins that began there before
   pub made_stops : (heads lasts : List ℕ) (head before at : ℕ) (ws : List (Waiter C)) (w : Waiter C) → IsRow ws → seated at ws ≡ Some w → joins same w (last_run same None (ahead at ws)) ≡ false → get_or heads at 0 ≡ at →
@@ -80,21 +76,19 @@ module _ {C : Type 0} (same : C → C → Bool) where
       let ys = behind at ws in
       let run = last_run same None xs in
       let row' = row_at ws _ f.is row in
-      let rows = row_parts xs (w ∷ ys) row' in
-      let low : head < 65 = rw m.head_is (run_low same xs rows.0) in
+      let c = closed heads lasts head before xs (row_parts xs (w ∷ ys) row').0 m.head_is m.lasts_all m.links in
       let out = stands_not head w ys (rw m.head_is (run_out same xs (w ∷ ys) row')) in
-      let end : get_or (set lasts head before) (place_of run) 0 ≡ last_seat 64 xs = write_at lasts head (place_of run) before m.head_is (omega (arith, low, m.lasts_all)) ∙ m.before_is in
       let own : get_or heads w.seat 0 ≡ w.seat = ap (λ k. get_or heads k 0) f.here ∙ began ∙ sym f.here in
       let P : List (Waiter C) → Type 0 = λ vs. StandRuns same heads lasts vs in
       let rest : StandRuns same heads lasts (w ∷ ys) = subst P f.from_is m.rest in
       let on = on_at same heads (set lasts head before) (Some w) (head_of same w run) w.seat ys (sym (head_no same w run begins)) (on_lasts same heads lasts (Some w) w.seat ys head before out.0 out.1 (rest.0 own)) in
       let Q : List (Waiter C) → Type 0 = λ vs. RunsOn same heads (set lasts head before) None 64 vs in
       record {
-        on = subst Q (sym f.is) (on_join same heads (set lasts head before) None 64 xs (w ∷ ys) (closed_front heads lasts head before xs rows.0 m.head_is m.links)
-            (record { links = (λ e. end, own ∙ ap place_of (sym (head_no same w run begins)), on.links); ended = on.ended }));
+        on = subst Q (sym f.is) (on_join same heads (set lasts head before) None 64 xs (w ∷ ys) c.front
+            (record { links = (λ e. c.end ∙ m.before_is, own ∙ ap place_of (sym (head_no same w run begins)), on.links); ended = on.ended }));
         end = m.end;
         heads_all = m.heads_all;
-        lasts_all = length-set lasts head before ∙ m.lasts_all;
+        lasts_all = c.all;
       }
 
   -- at the list's end
@@ -103,78 +97,53 @@ module _ {C : Type 0} (same : C → C → Bool) where
       let all = (from_none at ws none).1 in
       let P : List (Waiter C) → Type 0 = λ vs. RunLinks same heads lasts None 64 vs in
       let is = m.head_is ∙ ap (λ vs. place_of (last_run same None vs)) all in
-      let low : head < 65 = rw is (run_low same ws row) in
+      let c = closed heads lasts head before ws row is m.lasts_all (subst P all m.links) in
       record {
-        on = record {
-          links = closed_front heads lasts head before ws row is (subst P all m.links);
-          ended = write_at lasts head (place_of (last_run same None ws)) before is (omega (arith, low, m.lasts_all)) ∙ m.before_is ∙ ap (last_seat 64) all;
-        };
+        on = record { links = c.front; ended = c.end ∙ m.before_is ∙ ap (last_seat 64) all };
         end = m.end;
         heads_all = m.heads_all;
-        lasts_all = length-set lasts head before ∙ m.lasts_all;
+        lasts_all = c.all;
       }
 
   -- ---- one more at the back
 
-  pub back_head : (heads lasts : List ℕ) (back : ℕ) (ws : List (Waiter C)) → back ≡ last_seat 64 ws → IsRuns same heads lasts ws → get_or heads back 0 ≡ place_of (last_run same None ws)
+  back_head : (heads lasts : List ℕ) (back : ℕ) (ws : List (Waiter C)) → back ≡ last_seat 64 ws → IsRuns same heads lasts ws → get_or heads back 0 ≡ place_of (last_run same None ws)
   back_head heads lasts back ws is h = ap (λ k. get_or heads k 0) is ∙ head_link same heads lasts None 64 ws h.end h.on.links
 
-  pushed_joins : (heads lasts : List ℕ) (head : ℕ) (ws : List (Waiter C)) (w : Waiter C) → IsRow (ws ++ w ∷ []) → head ≡ place_of (last_run same None ws) → joins same w (last_run same None ws) ≡ true →
-      IsRuns same heads lasts ws → IsRuns same (set heads w.seat head) (set lasts head w.seat) (ws ++ w ∷ [])
-  pushed_joins heads lasts head ws w row is goes h =
-      let run = last_run same None ws in
-      let rows = row_parts ws (w ∷ []) row in
-      let low : head < 65 = rw is (run_low same ws rows.0) in
+  pub goes_low : (ws : List (Waiter C)) (w : Waiter C) (head : ℕ) → IsRow ws → w.seat < 64 → head ≡ place_of (head_of same w (last_run same None ws)) → head < 65
+  goes_low ws w head row low is = rw is (elim (cases_Bool (joins same w (last_run same None ws))) [ inl goes ↦ rw goes (run_low same ws row) | inr begins ↦ rw begins (omega (arith, low)) ])
+
+  pushed_on : (heads lasts lasts' : List ℕ) (head : ℕ) (ws : List (Waiter C)) (w : Waiter C) → IsRow (ws ++ w ∷ []) → head ≡ place_of (head_of same w (last_run same None ws)) → RunLinks same heads lasts' None 64 ws →
+      (joins same w (last_run same None ws) ≡ false → get_or lasts' (place_of (last_run same None ws)) 0 ≡ last_seat 64 ws) → get_or lasts' head 0 ≡ w.seat → length lasts' ≡ 65 → IsRuns same heads lasts ws → IsRuns same (set heads w.seat head) lasts' (ws ++ w ∷ [])
+  pushed_on heads lasts lasts' head ws w row is front begins ended all h =
       let within = row_low ws [] w row in
-      let head_is : place_of (head_of same w run) ≡ head = ap place_of (head_yes same w run goes) ∙ sym is in
       record {
-        on = on_join same (set heads w.seat head) (set lasts head w.seat) None 64 ws (w ∷ [])
-            (heads_other same heads (set lasts head w.seat) None 64 ws w.seat head (row_front ws [] w row) (closed_front heads lasts head w.seat ws rows.0 is h.on.links))
-            (record {
-              links = (λ e. absurd (true≢false (sym goes ∙ e)), get_or-set_same heads w.seat head 0 (omega (arith, within, h.heads_all)) ∙ sym head_is, tt);
-              ended = write_at lasts head (place_of (head_of same w run)) w.seat (sym head_is) (omega (arith, low, h.lasts_all));
-            });
+        on = on_join same (set heads w.seat head) lasts' None 64 ws (w ∷ []) (heads_other same heads lasts' None 64 ws w.seat head (row_front ws [] w row) front)
+            (record { links = (begins, get_or-set_same heads w.seat head 0 (omega (arith, within, h.heads_all)) ∙ is, tt); ended = ap (λ k. get_or lasts' k 0) (sym is) ∙ ended });
         end = other_end heads w.seat head within h.end;
         heads_all = length-set heads w.seat head ∙ h.heads_all;
-        lasts_all = length-set lasts head w.seat ∙ h.lasts_all;
-      }
-
-  pushed_begins : (heads lasts : List ℕ) (ws : List (Waiter C)) (w : Waiter C) → IsRow (ws ++ w ∷ []) → joins same w (last_run same None ws) ≡ false →
-      IsRuns same heads lasts ws → IsRuns same (set heads w.seat w.seat) (set lasts w.seat w.seat) (ws ++ w ∷ [])
-  pushed_begins heads lasts ws w row begins h =
-      let run = last_run same None ws in
-      let within = row_low ws [] w row in
-      let out = row_front ws [] w row in
-      let apart = stands_not (place_of run) w [] (run_out same ws (w ∷ []) row) in
-      let head_is : place_of (head_of same w run) ≡ w.seat = ap place_of (head_no same w run begins) in
-      record {
-        on = on_join same (set heads w.seat w.seat) (set lasts w.seat w.seat) None 64 ws (w ∷ [])
-            (heads_other same heads (set lasts w.seat w.seat) None 64 ws w.seat w.seat out (lasts_other same heads lasts None 64 ws w.seat w.seat (λ e. omega (arith, e, within)) out h.on.links))
-            (record {
-              links = (λ e. get_or-set_other lasts w.seat (place_of run) w.seat 0 apart.0 ∙ h.on.ended, get_or-set_same heads w.seat w.seat 0 (omega (arith, within, h.heads_all)) ∙ sym head_is, tt);
-              ended = write_at lasts w.seat (place_of (head_of same w run)) w.seat (sym head_is) (omega (arith, within, h.lasts_all));
-            });
-        end = other_end heads w.seat w.seat within h.end;
-        heads_all = length-set heads w.seat w.seat ∙ h.heads_all;
-        lasts_all = length-set lasts w.seat w.seat ∙ h.lasts_all;
+        lasts_all = all;
       }
 
   pub pushed : (heads lasts : List ℕ) (head : ℕ) (ws : List (Waiter C)) (w : Waiter C) → IsRow (ws ++ w ∷ []) → head ≡ place_of (head_of same w (last_run same None ws)) →
       IsRuns same heads lasts ws → IsRuns same (set heads w.seat head) (set lasts head w.seat) (ws ++ w ∷ [])
-  pushed heads lasts head ws w row is h = elim (cases_Bool (joins same w (last_run same None ws))) [
-    | inl goes ↦ pushed_joins heads lasts head ws w row (is ∙ ap place_of (head_yes same w (last_run same None ws) goes)) goes h
-    | inr begins ↦
-        let own : head ≡ w.seat = is ∙ ap place_of (head_no same w (last_run same None ws) begins) in
-        let P : ℕ → Type 0 = λ k. IsRuns same (set heads w.seat k) (set lasts k w.seat) (ws ++ w ∷ []) in
-        subst P (sym own) (pushed_begins heads lasts ws w row begins h)
-  ]
-
-  -- the first of the run that a waiter would stand in
-  pub head_goes : (o : Option (Waiter C)) (w : Waiter C) (head : ℕ) → head ≡ place_of o → joins same w o ≡ true → head ≡ place_of (head_of same w o)
-  head_goes o w head is goes = is ∙ ap place_of (sym (head_yes same w o goes))
-
-  pub head_begins : (o : Option (Waiter C)) (w : Waiter C) → joins same w o ≡ false → w.seat ≡ place_of (head_of same w o)
-  head_begins o w begins = ap place_of (sym (head_no same w o begins))
+  pushed heads lasts head ws w row is h =
+      let run = last_run same None ws in
+      let rows = (row_parts ws (w ∷ []) row).0 in
+      let within = row_low ws [] w row in
+      let ended : get_or (set lasts head w.seat) head 0 ≡ w.seat = get_or-set_same lasts head w.seat 0 (let low = goes_low ws w head rows within is in omega (arith, low, h.lasts_all)) in
+      let all = length-set lasts head w.seat ∙ h.lasts_all in
+      elim (cases_Bool (joins same w run)) [
+        | inl goes ↦
+            let c = closed heads lasts head w.seat ws rows (is ∙ ap place_of (head_yes same w run goes)) h.lasts_all h.on.links in
+            pushed_on heads lasts (set lasts head w.seat) head ws w row is c.front (λ e. absurd (true≢false (sym goes ∙ e))) ended all h
+        | inr begins ↦
+            let own : head ≡ w.seat = is ∙ ap place_of (head_no same w run begins) in
+            let apart = stands_not (place_of run) w [] (run_out same ws (w ∷ []) row) in
+            pushed_on heads lasts (set lasts head w.seat) head ws w row is
+            (lasts_other same heads lasts None 64 ws head w.seat (λ e. omega (arith, e, own, within)) (rw own (row_front ws [] w row)) h.on.links)
+            (λ _. get_or-set_other lasts head (place_of run) w.seat 0 (λ e. apart.0 (e ∙ own)) ∙ h.on.ended) ended all h
+      ]
 
   -- ---- one more at the front
 
@@ -308,7 +277,7 @@ module _ {C : Type 0} (same : C → C → Bool) where
       record {
         low = omega (arith, low);
         last = λ apart. record {
-          on = rw (left, back) (on_join same heads (set lasts q (last_seat 64 xs)) None 64 xs ys (closed_front heads lasts q (last_seat 64 xs) xs rows.0 is parts.0)
+          on = rw (left, back) (on_join same heads (set lasts q (last_seat 64 xs)) None 64 xs ys (closed heads lasts q (last_seat 64 xs) xs rows.0 is h.lasts_all parts.0).front
               (cut_last heads lasts run w.seat (last_seat 64 xs) q ys is (omega (arith, low, h.lasts_all)) out apart rest));
           end = h.end;
           heads_all = h.heads_all;
@@ -329,9 +298,18 @@ module _ {C : Type 0} (same : C → C → Bool) where
       let whole = split at ws in
       ap (λ k. seated k ws) is ∙ ap (seated (place_of (last_run same None (ahead at ws)))) whole ∙ run_seated same (ahead at ws) (from at ws) (row_at ws _ whole row)
 
-  pub back_read : (head : ℕ) (ws : List (Waiter C)) → IsRow ws → head ≡ place_of (last_run same None ws) → seated head ws ≡ last_run same None ws
+  back_read : (head : ℕ) (ws : List (Waiter C)) → IsRow ws → head ≡ place_of (last_run same None ws) → seated head ws ≡ last_run same None ws
   back_read head ws row is = run_read head 64 ws row (is ∙ ap (λ vs. place_of (last_run same None vs)) (sym (from_none 64 ws (seated_none 64 ws (row.below 64 (omega arith)))).1))
       ∙ ap (last_run same None) (from_none 64 ws (seated_none 64 ws (row.below 64 (omega arith)))).1
+
+  -- the first of the run that a waiter would stand in at the back
+  pub head_told : (heads lasts : List ℕ) (back : ℕ) (ws : List (Waiter C)) (w : Waiter C) (b : Bool) (o : Option (Waiter C)) → back ≡ last_seat 64 ws → IsRow ws → IsRuns same heads lasts ws → b ≡ joins same w o → o ≡ seated (get_or heads back 0) ws →
+      cond b (get_or heads back 0) w.seat ≡ place_of (head_of same w (last_run same None ws))
+  head_told heads lasts back ws w b o is row h told read =
+      let run = last_run same None ws in
+      let link = back_head heads lasts back ws is h in
+      let goes : b ≡ joins same w run = told ∙ ap (joins same w) (read ∙ back_read (get_or heads back 0) ws row link) in
+      elim (cases_Bool (joins same w run)) [ inl on ↦ rw (goes, on) link | inr begins ↦ rw (goes, begins) refl ]
 
   pub joins_told : (b : Bool) (w : Waiter C) (o p q : Option (Waiter C)) (v : Bool) → b ≡ joins same w o → o ≡ p → p ≡ q → b ≡ v → joins same w q ≡ v
   joins_told b w o p q v told read is value = sym (told ∙ ap (joins same w) (read ∙ is)) ∙ value
@@ -339,23 +317,6 @@ module _ {C : Type 0} (same : C → C → Bool) where
   pub head_low : (heads lasts : List ℕ) (head before at : ℕ) (ws : List (Waiter C)) → IsRow ws → MadeUpTo same heads lasts head before at ws → head < 65
   head_low heads lasts head before at ws row m = rw m.head_is (run_low same (ahead at ws) (row_parts (ahead at ws) (from at ws) (row_at ws _ (split at ws) row)).0)
 
-  pub goes_low : (ws : List (Waiter C)) (w : Waiter C) (head : ℕ) → IsRow ws → w.seat < 64 → head ≡ place_of (head_of same w (last_run same None ws)) → head < 65
-  goes_low ws w head row low is = rw is (elim (cases_Bool (joins same w (last_run same None ws))) [ inl goes ↦ rw goes (run_low same ws row) | inr begins ↦ rw begins (omega (arith, low)) ])
-
 module _ {C : Type 0} where
   pub back_place : (ws : List (Waiter C)) (back : ℕ) → IsRow ws → back ≡ last_seat 64 ws → back < 65
   back_place ws back row is = rw is (last_low 64 ws (omega arith) row.below)
-
-  pub next_place : (ws : List (Waiter C)) (s next : ℕ) → IsRow ws → 0 < times_in s ws → next ≡ first_seat 64 (behind s ws) → next < 65
-  next_place ws s next row stands is =
-      let st = standing s ws stands in
-      let f = found s ws st.w st.is in
-      let rows = row_parts (ahead s ws) (st.w ∷ behind s ws) (row_at ws _ f.is row) in
-      rw is (first_low (behind s ws) (row_rest st.w (behind s ws) rows.1).below)
-
-  pub prev_place : (ws : List (Waiter C)) (s prev : ℕ) → IsRow ws → 0 < times_in s ws → prev ≡ last_seat 64 (ahead s ws) → prev < 65
-  prev_place ws s prev row stands is =
-      let st = standing s ws stands in
-      let f = found s ws st.w st.is in
-      let rows = row_parts (ahead s ws) (st.w ∷ behind s ws) (row_at ws _ f.is row) in
-      rw is (last_low 64 (ahead s ws) (omega arith) rows.0.below)

@@ -1,5 +1,5 @@
 -- What the marks of a signal come to.
-use Rattle.std.proofs.Common.{Bool, List, [], ap, cond, drop, false, length, not, refl, suc, true, ◌∷◌, ◌≡◌}
+use Rattle.std.proofs.Common.{List, [], ap, cond, drop, false, length, not, refl, suc, true, ◌∷◌, ◌≡◌}
 use Rattle.ns_queue.proofs.Prelude.{Anybody, Nobody, Readers, ReadersAndWriter, Waiter, Wanted, filter, marked, readers_and_a_writer, reads, signal_marks, signaled_of, unmarked, unsignaled_of, wanted_after, writes}
 
 module _ {C : Type 0} where
@@ -43,10 +43,3 @@ module _ {C : Type 0} where
   signal_leaves [] = refl
   signal_leaves (w ∷ ws) = elim (writes w) as (λ b. unmarked (signal_marks (cond b Nobody ReadersAndWriter) ws) ws ≡ cond b ws (drop 1 (filter writes ws)))
       [ true ↦ nobody_left ws | false ↦ mixed_left ws ]
-
-module _ {C : Type 0} where
-  pub signaled_fit : (a b : List (Waiter C)) (c ms : List Bool) (items : List (Waiter C)) → a ≡ items → b ≡ items → c ≡ ms → ms ≡ signal_marks Anybody a → length c ≡ length b
-  signaled_fit a b c ms items ea eb ec em = rw (ec, em, ea, eb) (length-signal_marks Anybody items)
-
-  pub signaled_takes : (a b : List (Waiter C)) (c ms : List Bool) (items : List (Waiter C)) → a ≡ items → b ≡ items → c ≡ ms → ms ≡ signal_marks Anybody a → marked c b ≡ signaled_of items
-  signaled_takes a b c ms items ea eb ec em = rw (ec, em, ea, eb) (signal_takes items)

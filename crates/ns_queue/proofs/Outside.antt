@@ -1,17 +1,13 @@
 -- Lists without the seats of a set.
-use Rattle.std.proofs.Common.{Bool, List, [], ap, arith, drop, eqb, false, get_or, inl, inr, length, lt-ltb, map, nat_lt, ne_eqb, not, refl, set, suc, sym, take, true, zero, ℕ, ◌++◌, ◌+◌, ◌<◌, ◌∙◌, ◌∷◌, ◌≡◌, ◌≤◌}
-use Rattle.ns_queue.proofs.Prelude.{Anybody, ArrayVec, Cv, HaveSeats, IsOrderly, Lists, Seats, Waiter, cases_eq, cases_lt, cvs_without, get_or-le-sum_by, get_or-map, is_in, length-map, marked, one_if, outside, signal_marks, signaled_of, sum_by, sum_by-append, sum_by-cons, sum_by-take-drop}
-use Rattle.ns_queue.proofs.Prelude.{taken_set, times, times_in, unmarked, unsignaled_of, waiters_of, without_in}
-use Rattle.ns_queue.proofs.Inside.{shape, times_in-filter}
-use Rattle.ns_queue.proofs.Marking.{drop_step}
+use Rattle.std.proofs.Common.{Bool, List, [], ap, arith, drop, eqb, false, get_or, inl, inr, length, lt-ltb, map, nat_lt, ne_eqb, not, refl, set, sym, take, true, ℕ, ◌++◌, ◌+◌, ◌<◌, ◌||◌, ◌∙◌, ◌∷◌, ◌≡◌, ◌≢◌, ◌≤◌}
+use Rattle.ns_queue.proofs.Prelude.{cases_Bool, Anybody, ArrayVec, Cv, HaveSeats, IsOrderly, Lists, Seats, Waiter, cases_lt, cvs_without, get_or-le-sum_by, get_or-map, is_in, length-map, marked, one_if, outside, signal_marks, signaled_of, sum_by, sum_by-append, sum_by-cons, sum_by-take-drop}
+use Rattle.ns_queue.proofs.Prelude.{taken_set, times, times_in, unmarked, unsignaled_of, waiters_of, without, without_in}
+use Rattle.ns_queue.proofs.Inside.{shape}
+use Rattle.ns_queue.proofs.Marking.{drop_step, times_in-filter, times_parted}
 use Rattle.ns_queue.proofs.Meaning.{signal_leaves, signal_takes}
 use Rattle.ns_queue.proofs.Orders.{orderly_less}
-use Rattle.ns_queue.proofs.Seats.{own_times, times_in-cons}
-use Rattle.ns_queue.proofs.Taken.{in_list, in_taken, times_parted}
-
--- a seat that stands somewhere is below 64
-pub low_of : (n seat : ℕ) → (64 ≤ seat → n ≡ 0) → 0 < n → seat < 64
-low_of n seat none some = elim (cases_lt seat 64) [ inl low ↦ low | inr high ↦ absurd (omega (arith, none high, some)) ]
+use Rattle.ns_queue.proofs.Seats.{low_of, own_times, times_in-cons}
+use Rattle.ns_queue.proofs.Taken.{in_list, in_taken}
 
 module _ {C : Type 0} (set : Seats) where
   -- nobody stands there more often
@@ -26,10 +22,10 @@ module _ {C : Type 0} (set : Seats) where
   -- a list in which none of the set stands
   pub none_outside : (ws : List (Waiter C)) → ((seat : ℕ) → is_in set seat ≡ true → times_in seat ws ≡ 0) → outside set ws ≡ ws
   none_outside [] none = refl
-  none_outside (w ∷ ws) none = go (is_in set w.seat) refl (none_outside ws (λ seat is. omega (arith, none seat is, times_in-cons seat w ws))) where
-    go : (b : Bool) → is_in set w.seat ≡ b → outside set ws ≡ ws → outside set (w ∷ ws) ≡ w ∷ ws
-    go true e rest = absurd (omega (arith, none w.seat e, own_times w ws))
-    go false e rest = rw e (ap (λ vs. w ∷ vs) rest)
+  none_outside (w ∷ ws) none = elim (cases_Bool (is_in set w.seat)) [
+    | inl out ↦ absurd (omega (arith, none w.seat out, own_times w ws))
+    | inr stays ↦ rw stays (ap (λ vs. w ∷ vs) (none_outside ws (λ seat is. omega (arith, none seat is, times_in-cons seat w ws))))
+  ]
 
   -- one in which only those of the set stand
   pub all_outside : (ws : List (Waiter C)) → ((seat : ℕ) → 1 ≤ times_in seat ws → is_in set seat ≡ true) → outside set ws ≡ []
@@ -65,15 +61,12 @@ module _ {C : Type 0} where
   -- none of the set is left
   pub gone_outside : (set : Seats) (ws : List (Waiter C)) (seat : ℕ) → is_in set seat ≡ true → times_in seat (outside set ws) ≡ 0
   gone_outside set [] seat is = omega arith
-  gone_outside set (w ∷ ws) seat is = go (is_in set w.seat) refl (gone_outside set ws seat is) where
-    go : (b : Bool) → is_in set w.seat ≡ b → times_in seat (outside set ws) ≡ 0 → times_in seat (outside set (w ∷ ws)) ≡ 0
-    go true e rest = rw e rest
-    go false e rest =
-        let other : one_if (eqb w.seat seat) ≡ 0 = elim (cases_eq w.seat seat) [
-          | inl same ↦ let both : true ≡ false = sym is ∙ (ap (is_in set) (sym same) ∙ e) in absurd (cc)
-          | inr ne ↦ ap one_if (ne_eqb w.seat seat ne)
-        ] in
-        rw e (omega (arith, times_in-cons seat w (outside set ws), rest, other))
+  gone_outside set (w ∷ ws) seat is = let rest = gone_outside set ws seat is in elim (cases_Bool (is_in set w.seat)) [
+    | inl out ↦ rw out rest
+    | inr stays ↦
+        let other : w.seat ≢ seat = λ same. (let both : true ≡ false = sym is ∙ (ap (is_in set) (sym same) ∙ stays) in absurd (cc)) in
+        rw stays (omega (arith, times_in-cons seat w (outside set ws), rest, ap one_if (ne_eqb w.seat seat other)))
+  ]
 
   pub gone_each : (set : Seats) (lists : List (List (Waiter C))) (seat : ℕ) → is_in set seat ≡ true → sum_by (times_in seat) (map (outside set) lists) ≡ 0
   gone_each set [] seat is = omega arith
@@ -88,6 +81,10 @@ module _ {C : Type 0} where
   each_outside set out [] is = refl
   each_outside set out (ws ∷ lists) is = rw (one_outside set out ws is, each_outside set out lists is) refl
 
+  pub without_one : (lists : Lists C) (lock : List (Waiter C)) (seat : ℕ) (none set : Seats) → ((n : ℕ) → is_in none n ≡ false) → ((n : ℕ) → is_in set n ≡ (is_in none n || eqb n seat)) → lock ≡ without_in seat lists.lock →
+      cvs_without set (record { lock = lock; cvs = lists.cvs }) ≡ without seat lists
+  without_one lists lock seat none set empty more is = rw (is, each_outside set seat lists.cvs (λ n. more n ∙ ap (λ b. b || eqb n seat) (empty n))) refl
+
   -- who stands at a place that is as it was has a seat
   pub place_low : (xs ys : List (Waiter C)) (i : ℕ) (w : Waiter C) → HaveSeats xs → drop i ys ≡ drop i xs → i < length ys → get_or ys i w ≡ w → w.seat < 64
   place_low xs ys i w below same within is =
@@ -96,15 +93,14 @@ module _ {C : Type 0} where
 
   -- ---- the lists
 
-  -- the lists without a set, and with no seat more often in the lock's
-  pub orderly_outside : (lock lock' : List (Waiter C)) (cvs cvs' : List (ArrayVec (Waiter C))) (set : Seats) → IsOrderly (shape lock cvs) → ((seat : ℕ) → times_in seat lock' ≤ times_in seat lock) →
-      map (λ u. u.items) cvs' ≡ map (outside set) (map (λ u. u.items) cvs) → IsOrderly (shape lock' cvs')
-  orderly_outside lock lock' cvs cvs' set orderly less are =
+  -- the lists, those of variables without a set
+  pub orderly_outside : (lock : List (Waiter C)) (cvs cvs' : List (ArrayVec (Waiter C))) (set : Seats) → IsOrderly (shape lock cvs) → map (λ u. u.items) cvs' ≡ map (outside set) (map (λ u. u.items) cvs) → IsOrderly (shape lock cvs')
+  orderly_outside lock cvs cvs' set orderly are =
       let items : List (List (Waiter C)) = map (λ (u : ArrayVec (Waiter C)). u.items) cvs in
-      let at : (k : ℕ) → k < 4 → waiters_of (shape lock' cvs') (Cv k) ≡ outside set (waiters_of (shape lock cvs) (Cv k)) = λ k low. ap (λ (vs : List (List (Waiter C))). get_or vs k []) are ∙ get_or-map (outside set) items k [] [] (omega (arith, orderly.four, low)) in
-      orderly_less (shape lock cvs) (shape lock' cvs') orderly (rw (are, length-map) orderly.four)
-      (λ seat k low. omega (arith, less seat, ap (times_in seat) (at k low), times_outside set (waiters_of (shape lock cvs) (Cv k)) seat))
-      (λ seat. omega (arith, less seat, ap (sum_by (times_in seat)) are, sums_outside set items seat))
+      let at : (k : ℕ) → k < 4 → waiters_of (shape lock cvs') (Cv k) ≡ outside set (waiters_of (shape lock cvs) (Cv k)) = λ k low. ap (λ (vs : List (List (Waiter C))). get_or vs k []) are ∙ get_or-map (outside set) items k [] [] (omega (arith, orderly.four, low)) in
+      orderly_less (shape lock cvs) (shape lock cvs') orderly (rw (are, length-map) orderly.four)
+      (λ seat k low. omega (arith, ap (times_in seat) (at k low), times_outside set (waiters_of (shape lock cvs) (Cv k)) seat))
+      (λ seat. omega (arith, ap (sum_by (times_in seat)) are, sums_outside set items seat))
 
   -- their lists of variables have seats
   pub all_below : (lock : List (Waiter C)) (cvs : List (ArrayVec (Waiter C))) → IsOrderly (shape lock cvs) → (seat : ℕ) → 64 ≤ seat → sum_by (times_in seat) (map (λ u. u.items) cvs) ≡ 0
@@ -122,12 +118,6 @@ module _ {C : Type 0} where
       let both : sum_by (times_in seat) (take i whole) + sum_by (times_in seat) (drop i whole) ≡ sum_by (times_in seat) whole = sum_by-take-drop (times_in seat) whole i in
       omega (arith, ap (times_in seat) at, part, sum, both, sums_outside set (take i whole) seat, none seat high)
 
-  -- what is left once those of a set are out of the lists of variables
-  pub left_outside : (lock : List (Waiter C)) (cvs cvs' : List (ArrayVec (Waiter C))) (set out : Seats) → set ≡ out → map (λ u. u.items) cvs' ≡ map (outside set) (map (λ u. u.items) cvs) → shape lock cvs' ≡ cvs_without out (shape lock cvs)
-  left_outside lock cvs cvs' set out is are =
-      let put : map (λ (u : ArrayVec (Waiter C)). u.items) cvs' ≡ map (outside out) (map (λ u. u.items) cvs) = are ∙ ap (λ s. map (outside s) (map (λ (u : ArrayVec (Waiter C)). u.items) cvs)) is in
-      λ i. record { lock = lock; cvs = put i }
-
   -- those whom a wake takes from a variable's list stand nowhere then
   pub gone_those : (lists : Lists C) (k : ℕ) (taken : List (Waiter C)) → IsOrderly lists → k < 4 → ((seat : ℕ) → times_in seat taken ≤ times_in seat (waiters_of lists (Cv k))) → (seat : ℕ) → 1 ≤ times_in seat taken → times seat (cvs_without (taken_set taken) lists) ≡ 0
   gone_those lists k taken orderly low part seat here = omega (arith, gone_each (taken_set taken) lists.cvs seat (in_list taken seat here), here, part seat, orderly.once seat k low)
@@ -139,13 +129,3 @@ module _ {C : Type 0} where
   same_each set [] none = refl
   same_each set (ws ∷ lists) none =
       rw (none_outside set ws (λ seat is. omega (arith, none seat is, sum_by-cons (times_in seat) ws lists)), same_each set lists (λ seat is. omega (arith, none seat is, sum_by-cons (times_in seat) ws lists))) refl
-
-  one_each : (out : Seats) (k : ℕ) (lists : List (List (Waiter C))) (kept : List (Waiter C)) → k < length lists → ((seat : ℕ) → sum_by (times_in seat) lists ≤ 1) → ((seat : ℕ) → is_in out seat ≡ true → 1 ≤ times_in seat (get_or lists k [])) →
-      outside out (get_or lists k []) ≡ kept → map (outside out) lists ≡ set lists k kept
-  one_each out k [] kept within most stand left = absurd (omega (arith, within))
-  one_each out zero (ws ∷ lists) kept within most stand left =
-      rw (left, same_each out lists (λ seat is. omega (arith, most seat, stand seat is, sum_by-cons (times_in seat) ws lists))) refl
-  one_each out (suc k) (ws ∷ lists) kept within most stand left =
-      let low : k < length lists = omega (arith, within) in
-      rw (none_outside out ws (λ seat is. let part = get_or-le-sum_by (times_in seat) lists k [] low in omega (arith, most seat, stand seat is, part, sum_by-cons (times_in seat) ws lists)))
-      (ap (λ (vs : List (List (Waiter C))). ws ∷ vs) (one_each out k lists kept low (λ seat. omega (arith, most seat, sum_by-cons (times_in seat) ws lists)) stand left))

@@ -1,12 +1,15 @@
 -- A place in a list: those in front of it, and those from it on.
 use Rattle.std.proofs.Common.{List, None, Some, [], ap, append-nil, append_assoc, arith, eq-eqb, inl, inr, length, length-append, ne_eqb, not, refl, subst, sym, ℕ, ◌++◌, ◌+◌, ◌<◌, ◌∙◌, ◌∷◌, ◌≡◌}
 use Rattle.ns_queue.proofs.Prelude.{IsRow, Waiter, ahead, behind, cases_eq, first_seat, from, is_of, one_if, seated, times_in, without_in}
-use Rattle.ns_queue.proofs.Seats.{few, own_times, times_in-cons, times_in-append}
-use Rattle.ns_queue.proofs.Inside.{times_in-filter}
+use Rattle.ns_queue.proofs.Seats.{few, none_without, own_times, stands_low, times_in-cons, times_in-append}
+use Rattle.ns_queue.proofs.Marking.{times_in-filter}
 use Rattle.ns_queue.proofs.Hops.{seated_rest, stands_not}
-use Rattle.ns_queue.proofs.Ringed.{stands_low, without_among}
 
 module _ {C : Type 0} where
+  without_among : (xs ys : List (Waiter C)) (w : Waiter C) → times_in w.seat xs ≡ 0 → times_in w.seat ys ≡ 0 → without_in w.seat (xs ++ w ∷ ys) ≡ xs ++ ys
+  without_among [] ys w out out' = rw (eq-eqb w.seat w.seat refl) (none_without w.seat ys out')
+  without_among (v ∷ xs) ys w out out' = let apart = stands_not w.seat v xs out in rw (ne_eqb v.seat w.seat (λ e. apart.0 (sym e))) (ap (λ vs. v ∷ vs) (without_among xs ys w apart.1 out'))
+
   pub split : (s : ℕ) (ws : List (Waiter C)) → ws ≡ ahead s ws ++ from s ws
   split s [] = refl
   split s (w ∷ ws) = elim (cases_eq w.seat s) [
@@ -35,13 +38,10 @@ module _ {C : Type 0} where
     pub from_is : from s ws ≡ w ∷ behind s ws
     pub is : ws ≡ ahead s ws ++ w ∷ behind s ws
 
-  some_same : (w v : Waiter C) → Some w ≡ Some v → w ≡ v
-  some_same w v e = cc
-
   pub found : (s : ℕ) (ws : List (Waiter C)) (w : Waiter C) → seated s ws ≡ Some w → Found s ws w
   found s [] w is = absurd (cc)
   found s (v ∷ ws) w is = elim (cases_eq v.seat s) [
-    | inl e ↦ let same : v ≡ w = some_same v w (rw (eq-eqb v.seat s e) at is) in
+    | inl e ↦ let here : Some v ≡ Some w = rw (eq-eqb v.seat s e) at is in let same : v ≡ w = cc in
         record { here = ap (λ u. u.seat) (sym same) ∙ e; from_is = rw (eq-eqb v.seat s e) (ap (λ u. u ∷ ws) same); is = rw (eq-eqb v.seat s e) (ap (λ u. u ∷ ws) same) }
     | inr ne ↦ let f = found s ws w (rw (ne_eqb v.seat s ne) at is) in
         record { here = f.here; from_is = rw (ne_eqb v.seat s ne) f.from_is; is = rw (ne_eqb v.seat s ne) (ap (λ us. v ∷ us) f.is) }

@@ -1,6 +1,7 @@
 -- The names that proofs cite, of specs and of what stands below, passed on from one place. Declares nothing.
 pub use Rattle.ns_model.proofs.Counts.{count_never, count_only, count_same, count_split}
 pub use Rattle.ns_model.proofs.Sets.{in_more, none_in, same_seats}
+pub use Rattle.ns_queue.proofs.Bounds.{at_most, bytes_136, bytes_72, entry_at, entry_there, last_in, less_within, list_small, lists_small, more_fits, neither, offset_fits, on_none, one_down, one_fits, one_in, place_fits, room_at, seat_place, still_in, told_no, told_yes}
 pub use Rattle.ns_queue.specs.Prelude.{Anybody, AreWaiting, ArrayVec, Asked, Cond, Counts, Cv, Cvs, DoCount, Ended, Every, HaveSeats, Holds, Hops, Idle, IsLegalBroadcast, IsLegalSignal, IsList, IsOrderly, IsRow, IsRuns, Left, Lists, Lock, MadeUpTo, Mode, Nobody, Phase, Reader, Readers}
 pub use Rattle.ns_queue.specs.Prelude.{ReadersAndWriter, Reading, RunLinks, RunsOn, Seats, Seeking, Shown, Sought, Stage, StandRuns, WaitFor, Waiter, Waiting, WaitsAmong, Wanted, Which, Woken, Writer, ahead, asked_for, asked_of, asking, begins_with_reader, behind, beside, counts_less, counts_more}
 pub use Rattle.ns_queue.specs.Prelude.{counts_of, cvs_without, ended, first_seat, foremost_of, from, goes_on, has, has_condition, is_in as has_seat, head_of, in_front, is_alike, is_eligible, is_in, is_long, is_of, is_satisfied, is_waiting, is_waiting_as, is_wanted, joins, last_run, last_seat}

@@ -1,7 +1,7 @@
 -- Whom a scan takes behind the first, and what it tests for that.
 use Rattle.std.proofs.Common.{Bool, Fits, List, None, Option, Some, [], ap, append-nil, append_assoc, arith, cond, drop, false, filter, get_or, inl, inr, is_some, length, length-append, length-drop, not, refl, suc, sym, take, take-append-drop, true, unwrap_or, w32, zero, ℕ, ◌&&◌, ◌++◌, ◌+◌, ◌<◌}
 use Rattle.std.proofs.Common.{◌||◌, ◌∙◌, ◌∷◌, ◌≡◌, ◌≤◌}
-use Rattle.ns_queue.proofs.Prelude.{IsRow, Reader, Sought, Waiter, Writer, asked_for, asking, begins_with_reader, behind, cases_Bool, first_seat, foremost_of, from, in_front, is_alike, is_eligible, left_by_writer, left_of, needs, reads, seated, seats_of, sought_of, sought_seat, stage_next}
+use Rattle.ns_queue.proofs.Prelude.{IsRow, Reader, Sought, Waiter, Writer, asked_for, asking, begins_with_reader, behind, cases_Bool, first_seat, foremost_of, from, in_front, is_alike, is_eligible, left_by_writer, left_of, Seeking, needs, reads, seated, seats_of, sought_of, sought_seat, stage_next}
 use Rattle.ns_queue.proofs.Prelude.{tests_from, tests_of, tests_seeking, without_all, without_in, woken_of, writes}
 use Rattle.ns_queue.specs.declared.scan.Foremost.TheVariants.{Nobody}
 use Rattle.ns_queue.proofs.Asking.{Enters, Knows, asking_most, knows_asked, knows_entered, met_entered, taken_asked}
@@ -51,14 +51,6 @@ module _ {C : Type 0} (same : C → C → Bool) (meets : C → Bool) where
     | inl alike ↦ rw (alike, need w, next (reads w && is_eligible meets w) w) (ap (λ n. cond (reads w && not known) 1 0 + n) (reading_tests stage first (reads w || known) ws need next))
     | inr other ↦ rw (other, need w, next (reads w && is_eligible meets w) w) (ap (λ n. cond (reads w && is_some w.cond) 1 0 + n) (reading_tests stage w.cond (reads w) ws need next))
   ]
-
-  quiet_total : (stage : _) (n : ℕ) (first : Option C) (known : Bool) (ws : List (Waiter C)) (total : ℕ) → n + tests_from same meets stage first known ws ≡ total →
-      ((v : Waiter C) → needs stage v ≡ false) → ((b : Bool) (v : Waiter C) → stage_next stage b v ≡ stage) → n ≡ total
-  quiet_total stage n first known ws total is need next = omega (arith, is, quiet_tests stage first known ws need next)
-
-  reading_total : (stage : _) (n : ℕ) (first : Option C) (known : Bool) (ws : List (Waiter C)) (total : ℕ) → n + tests_from same meets stage first known ws ≡ total →
-      ((v : Waiter C) → needs stage v ≡ reads v) → ((b : Bool) (v : Waiter C) → stage_next stage b v ≡ stage) → n + tests_reading first known ws ≡ total
-  reading_total stage n first known ws total is need next = omega (arith, is, reading_tests stage first known ws need next)
 
   count_alike : (needed : Bool) (truth : Option Bool) (o first : Option C) (R : Bool → ℕ) → is_alike same o first ≡ true →
       cond (needed && not (is_some truth)) 1 0 + R (needed || is_some truth) ≡ asking needed first truth + R (is_some (asked_for meets needed first truth))
@@ -155,19 +147,13 @@ module _ {C : Type 0} (same : C → C → Bool) (meets : C → Bool) where
     pub few : tests + length (from at ws) ≤ length ws
     pub some : length woken + length (from at ws) ≤ length ws
 
-  filter_yes : (w : Waiter C) (ws : List (Waiter C)) → goes_along meets w ≡ true → filter (goes_along meets) (w ∷ ws) ≡ w ∷ filter (goes_along meets) ws
-  filter_yes w ws goes = rw goes refl
-
-  filter_no : (w : Waiter C) (ws : List (Waiter C)) → goes_along meets w ≡ false → filter (goes_along meets) (w ∷ ws) ≡ filter (goes_along meets) ws
-  filter_no w ws stays = rw stays refl
-
   woken_on : (b : Bool) (at : ℕ) (woken woken' : List ℕ) (w : Waiter C) (old rest ws : List (Waiter C)) → b ≡ goes_along meets w → w.seat ≡ at → old ≡ w ∷ rest → woken' ≡ cond b (woken ++ at ∷ []) woken →
       woken ++ seats_of (filter (goes_along meets) old) ≡ seats_of (woken_of meets ws) → woken' ++ seats_of (filter (goes_along meets) rest) ≡ seats_of (woken_of meets ws)
   woken_on true at woken woken' w old rest ws told here cut got before =
-      let more = ap (λ vs. seats_of (filter (goes_along meets) vs)) cut ∙ ap seats_of (filter_yes w rest (sym told)) in
+      let more : seats_of (filter (goes_along meets) old) ≡ w.seat ∷ seats_of (filter (goes_along meets) rest) = rw (cut, ← told) refl in
       rw got (append_assoc woken (at ∷ []) (seats_of (filter (goes_along meets) rest)) ∙ ap (λ k. woken ++ k ∷ seats_of (filter (goes_along meets) rest)) (sym here) ∙ ap (λ vs. woken ++ vs) (sym more) ∙ before)
   woken_on false at woken woken' w old rest ws told here cut got before =
-      let more = ap (λ vs. seats_of (filter (goes_along meets) vs)) cut ∙ ap seats_of (filter_no w rest (sym told)) in
+      let more : seats_of (filter (goes_along meets) old) ≡ seats_of (filter (goes_along meets) rest) = rw (cut, ← told) refl in
       rw got (ap (λ vs. woken ++ vs) (sym more) ∙ before)
 
   some_on : (b : Bool) (at : ℕ) (woken woken' : List ℕ) → woken' ≡ cond b (woken ++ at ∷ []) woken → length woken' ≤ length woken + 1
@@ -216,11 +202,11 @@ module _ {C : Type 0} (same : C → C → Bool) (meets : C → Bool) where
           here = f.here;
           goes = r.goes;
           woken = r.woken;
-          alone = λ is_alone. counts ∙ quiet_total _ (tests_seeking same meets None ws) w.cond true (drop (suc k) ws) (tests_of same meets ws) whole (λ v. rw is_alone refl) (λ b v. rw is_alone refl);
+          alone = λ is_alone. omega (arith, counts, whole, quiet_tests (stage_next Seeking true w) w.cond true (drop (suc k) ws) (λ v. rw is_alone refl) (λ b v. rw is_alone refl));
           reader = λ is_reader.
-              let behind_it = reading_total _ (tests_seeking same meets None ws) w.cond true (drop (suc k) ws) (tests_of same meets ws) whole (λ v. rw is_reader refl) (λ b v. rw is_reader refl) in
+              let behind_it = reading_tests (stage_next Seeking true w) w.cond true (drop (suc k) ws) (λ v. rw is_reader refl) (λ b v. rw is_reader refl) in
               let cut = ap (tests_reading w.cond true) c.rest in
-              omega (arith, counts, behind_it, cut);
+              omega (arith, counts, whole, behind_it, cut);
           few = omega (arith, size, length-drop k ws, few_sought same meets ws k tests refl counts);
           some = omega (arith, size, length-drop k ws);
         }

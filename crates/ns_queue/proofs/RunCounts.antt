@@ -1,6 +1,8 @@
 -- A scan counts one test for each run in which some waiter's truth is asked for.
-use Rattle.std.proofs.Common.{Bool, List, None, Option, Some, [], ap, arith, cond, false, is_some, length, length-append, map, not, refl, sym, true, ℕ, ◌&&◌, ◌++◌, ◌+◌, ◌||◌, ◌∙◌, ◌∷◌, ◌≡◌, ◌≤◌}
-use Rattle.ns_queue.proofs.Prelude.{Asked, Ended, Reading, Seeking, Stage, Waiter, asked_of, count_by, count_by-le-length, ended, goes_on, is_alike, is_eligible, list_any, needs, one_if, reads, runs_after, runs_of, stage_after, started, sum_by-append, sum_by-cons, tests_from, tests_of, writes}
+use Rattle.std.proofs.Common.{Bool, List, None, Option, Some, [], ap, arith, cond, false, is_some, length, map, not, refl, sym, true, ℕ, ◌&&◌, ◌++◌, ◌+◌, ◌||◌, ◌∙◌, ◌∷◌, ◌≡◌, ◌≤◌}
+use Rattle.ns_queue.proofs.Asking.{alike_none}
+use Rattle.ns_queue.proofs.Seats.{at_most_one}
+use Rattle.ns_queue.proofs.Prelude.{Asked, Ended, Reading, Seeking, Stage, Waiter, asked_of, count_by, ended, goes_on, is_alike, is_eligible, list_any, needs, one_if, reads, runs_after, runs_of, stage_after, started, sum_by-append, sum_by-cons, tests_from, tests_of, writes}
 
 module _ {C : Type 0} where
   abbrev asks : List (Asked C) → Bool
@@ -20,14 +22,10 @@ module _ {C : Type 0} where
   count_ended (a ∷ run) = omega (arith, sum_by-cons (λ r. one_if (asks r)) (a ∷ run) [])
 
 module _ {C : Type 0} (same : C → C → Bool) (meets : C → Bool) where
-  alike_none : (o : Option C) → is_alike same o None ≡ false
-  alike_none (Some c) = refl
-  alike_none None = refl
-
   -- what is known of no run is of no use
   none_known : (stage : Stage) (known : Bool) (ws : List (Waiter C)) → tests_from same meets stage None known ws ≡ tests_from same meets stage None false ws
   none_known stage known [] = refl
-  none_known stage known (w ∷ ws) = rw (alike_none w.cond) refl
+  none_known stage known (w ∷ ws) = rw (alike_none same w.cond) refl
 
   abbrev asked_from : Stage → List (Waiter C) → List (Asked C)
   asked_from stage [] = []
@@ -60,7 +58,7 @@ module _ {C : Type 0} (same : C → C → Bool) (meets : C → Bool) where
   start_count w false R free None e = refl
 
   goes_is : (run : List (Asked C)) (a : Asked C) → goes_on same (λ x. x.waiter.cond) run a ≡ is_alike same a.waiter.cond (first_of run)
-  goes_is [] a = sym (alike_none a.waiter.cond)
+  goes_is [] a = sym (alike_none same a.waiter.cond)
   goes_is (b ∷ run) a = refl
 
   first_stays : (run : List (Asked C)) (a : Asked C) → goes_on same (λ x. x.waiter.cond) run a ≡ true → first_of (run ++ a ∷ []) ≡ first_of run
@@ -103,53 +101,38 @@ module _ {C : Type 0} (same : C → C → Bool) (meets : C → Bool) where
       let same_list = ap (λ xs. count_by asks (runs_of same (λ x. x.waiter.cond) xs)) (asked_is ws) in
       omega (arith, counted, same_list)
 
-  -- the runs are those of the waiters alone
-  goes_same : (run : List (Asked C)) (x : Asked C) → goes_on same (λ w. w.cond) (map (λ (y : Asked C). y.waiter) run) x.waiter ≡ goes_on same (λ (y : Asked C). y.waiter.cond) run x
-  goes_same [] x = refl
-  goes_same (a ∷ run) x = refl
+  -- ---- no more tests than runs
 
-  map_push : (run : List (Asked C)) (x : Asked C) → map (λ (y : Asked C). y.waiter) (run ++ x ∷ []) ≡ map (λ (y : Asked C). y.waiter) run ++ x.waiter ∷ []
-  map_push [] x = refl
-  map_push (a ∷ run) x = ap (λ vs. a.waiter ∷ vs) (map_push run x)
+  abbrev run_first : List (Waiter C) → Option C
+  run_first [] = None
+  run_first (w ∷ run) = w.cond
 
-  ended_alike : (run : List (Asked C)) → length (ended run) ≡ length (ended (map (λ (y : Asked C). y.waiter) run))
-  ended_alike [] = refl
-  ended_alike (a ∷ run) = refl
+  abbrev HasMost : Stage → List (Waiter C) → Type 0
+  HasMost stage ws = (run : List (Waiter C)) (known : Bool) → one_if known ≤ length (ended run) → one_if known + tests_from same meets stage (run_first run) known ws ≤ length (runs_after same (λ w. w.cond) run ws)
 
-  started_alike : (x : Asked C) → map (λ (y : Asked C). y.waiter) (started (λ (y : Asked C). y.waiter.cond) x) ≡ started (λ (w : Waiter C). w.cond) x.waiter
-  started_alike x = elim (is_some x.waiter.cond) as (λ b. map (λ (y : Asked C). y.waiter) (cond b (x ∷ []) []) ≡ cond b (x.waiter ∷ []) []) [ true ↦ refl | false ↦ refl ]
+  start_most : (stage : Stage) (ws : List (Waiter C)) → HasMost stage ws → (w : Waiter C) (n : Bool) (o : Option C) → w.cond ≡ o →
+      cond (n && is_some o) 1 0 + tests_from same meets stage o n ws ≤ length (runs_after same (λ v. v.cond) (cond (is_some o) (w ∷ []) []) ws)
+  start_most stage ws rest w true (Some c) e = omega (arith, rest (w ∷ []) true (omega arith), ap (λ o. tests_from same meets stage o true ws) e)
+  start_most stage ws rest w false (Some c) e = omega (arith, rest (w ∷ []) false (omega arith), ap (λ o. tests_from same meets stage o false ws) e)
+  start_most stage ws rest w true None e = omega (arith, rest [] false (omega arith), none_known stage true ws)
+  start_most stage ws rest w false None e = omega (arith, rest [] false (omega arith))
 
-  runs_alike_step : (xs : List (Asked C)) →
-      ((r : List (Asked C)) → length (runs_after same (λ (y : Asked C). y.waiter.cond) r xs) ≡ length (runs_after same (λ w. w.cond) (map (λ (y : Asked C). y.waiter) r) (map (λ (y : Asked C). y.waiter) xs))) →
-      (run : List (Asked C)) (x : Asked C) (b : Bool) → goes_on same (λ (y : Asked C). y.waiter.cond) run x ≡ b →
-      length (runs_after same (λ (y : Asked C). y.waiter.cond) run (x ∷ xs)) ≡ length (runs_after same (λ w. w.cond) (map (λ (y : Asked C). y.waiter) run) (map (λ (y : Asked C). y.waiter) (x ∷ xs)))
-  runs_alike_step xs rest run x true e =
-      let other = goes_same run x ∙ e in
-      rw (e, other) (rest (run ++ x ∷ []) ∙ ap (λ r. length (runs_after same (λ w. w.cond) r (map (λ (y : Asked C). y.waiter) xs))) (map_push run x))
-  runs_alike_step xs rest run x false e =
-      let other = goes_same run x ∙ e in
-      let after = rest (started (λ (y : Asked C). y.waiter.cond) x) ∙ ap (λ r. length (runs_after same (λ w. w.cond) r (map (λ (y : Asked C). y.waiter) xs))) (started_alike x) in
-      rw (e, other, length-append, length-append) (omega (arith, after, ended_alike run))
+  most_more : (stage : Stage) (w : Waiter C) (ws : List (Waiter C)) → HasMost (stage_after meets stage w) ws → HasMost stage (w ∷ ws)
+  most_more stage w ws rest [] known few =
+      let next = start_most (stage_after meets stage w) ws rest w (needs stage w) w.cond refl in
+      rw (alike_none same w.cond) (omega (arith, next, few))
+  most_more stage w ws rest (first ∷ run) known few = go (is_alike same w.cond first.cond) refl where
+    go : (b : Bool) → is_alike same w.cond first.cond ≡ b → one_if known + tests_from same meets stage first.cond known (w ∷ ws) ≤ length (runs_after same (λ v. v.cond) (first ∷ run) (w ∷ ws))
+    go true alike =
+        let next = rest (first ∷ (run ++ w ∷ [])) (needs stage w || known) (at_most_one (needs stage w || known)) in
+        rw alike (omega (arith, next, go_count known (needs stage w) (λ b. tests_from same meets (stage_after meets stage w) first.cond b ws)))
+    go false other =
+        let next = start_most (stage_after meets stage w) ws rest w (needs stage w) w.cond refl in
+        rw other (omega (arith, next, few))
 
-  runs_alike : (xs run : List (Asked C)) →
-      length (runs_after same (λ (y : Asked C). y.waiter.cond) run xs) ≡ length (runs_after same (λ w. w.cond) (map (λ (y : Asked C). y.waiter) run) (map (λ (y : Asked C). y.waiter) xs))
-  runs_alike [] run = ended_alike run
-  runs_alike (x ∷ xs) run = runs_alike_step xs (λ r. runs_alike xs r) run x (goes_on same (λ (y : Asked C). y.waiter.cond) run x) refl
-
-  map_waiters : (f : Waiter C → Bool) (ws : List (Waiter C)) → map (λ (y : Asked C). y.waiter) (map (λ v. record { waiter = v; is_needed = f v }) ws) ≡ ws
-  map_waiters f [] = refl
-  map_waiters f (w ∷ ws) = ap (λ vs. w ∷ vs) (map_waiters f ws)
-
-  asked_waiters : (ws : List (Waiter C)) → map (λ (y : Asked C). y.waiter) (asked_of meets ws) ≡ ws
-  asked_waiters [] = refl
-  asked_waiters (w ∷ ws) =
-      ap (λ vs. w ∷ vs)
-      (elim (is_eligible meets w) as (λ b. map (λ (y : Asked C). y.waiter) (cond b (map (λ v. record { waiter = v; is_needed = reads w && reads v }) ws) (asked_of meets ws)) ≡ ws)
-      [ true ↦ map_waiters (λ v. reads w && reads v) ws | false ↦ asked_waiters ws ])
+  most : (stage : Stage) (ws : List (Waiter C)) → HasMost stage ws
+  most stage [] run known few = omega (arith, few)
+  most stage (w ∷ ws) run known few = most_more stage w ws (most (stage_after meets stage w) ws) run known few
 
   pub tests_most : (ws : List (Waiter C)) → tests_of same meets ws ≤ length (runs_of same (λ w. w.cond) ws)
-  tests_most ws =
-      let most = count_by-le-length asks (runs_of same (λ x. x.waiter.cond) (asked_of meets ws)) in
-      let alike = runs_alike (asked_of meets ws) [] in
-      let those = ap (λ vs. length (runs_of same (λ (w : Waiter C). w.cond) vs)) (asked_waiters ws) in
-      omega (arith, most, alike, those)
+  tests_most ws = omega (arith, most Seeking ws [] false (omega arith), tests_is ws)

@@ -1,8 +1,9 @@
 -- From run to run where nobody is taken: one test a run, and the link from the run's last.
 use Rattle.std.proofs.Common.{Bool, Fits, List, None, Option, Some, [], ap, append_assoc, arith, cond, drop, false, get_or, inl, inr, is_some, length, refl, subst, sym, true, w32, ℕ, ◌++◌, ◌+◌, ◌<◌, ◌∙◌, ◌∷◌, ◌≡◌, ◌≤◌}
 use Rattle.ns_queue.proofs.Prelude.{IsRow, RunsOn, Waiter, ahead, behind, cases_Bool, first_seat, from, head_of, in_front, is_alike, is_eligible, is_satisfied, joins, one_if, place_of, seated, sought_of, sought_seat, tests_seeking, times_in}
-use Rattle.ns_queue.proofs.Seats.{few, own_times, times_in-append}
-use Rattle.ns_queue.proofs.Seeking.{Unmet, alike_unmet, at_most_one, front_no, front_yes, seeking_alike, seeking_found, seeking_other, unmet_of}
+use Rattle.ns_queue.proofs.Asking.{alike_none}
+use Rattle.ns_queue.proofs.Seats.{at_most_one, few, own_times, times_in-append}
+use Rattle.ns_queue.proofs.Seeking.{Unmet, alike_unmet, front_no, front_yes, seeking_alike, seeking_found, seeking_other, unmet_of}
 use Rattle.ns_queue.proofs.Hops.{stands_not}
 use Rattle.ns_queue.proofs.Places.{found, from_none, cut_at, own, parted, row_at, row_front, row_own, row_parts}
 use Rattle.ns_queue.proofs.Links.{head_yes, head_no, on_at, on_rest}
@@ -12,10 +13,6 @@ pub tests_fit : (tests more : ℕ) (b : Bool) → tests < 64 → more ≡ one_if
 tests_fit tests more b low is = omega (arith, low, is, at_most_one b)
 
 module _ {C : Type 0} (same : C → C → Bool) where
-  no_alike : (o : Option C) → is_alike same o None ≡ false
-  no_alike (Some c) = refl
-  no_alike None = refl
-
   -- the place of the last of a run of this first, whose last so far stands at a place
   abbrev run_end : Option (Waiter C) → ℕ → List (Waiter C) → ℕ
   run_end o p [] = p
@@ -144,8 +141,8 @@ module _ {C : Type 0} (same : C → C → Bool) where
     sought_behind first (w ∷ ws) unmet = elim (cases_Bool (is_alike same w.cond first.cond)) [
       | inl alike ↦ seeking_alike same meets w ws first.cond (alike_unmet same meets agree w.cond first.cond unmet alike) alike ∙ rw alike (sought_behind first ws unmet)
       | inr other ↦ elim (cases_Bool (is_eligible meets w)) [
-        | inl goes ↦ seeking_found same meets w ws first.cond goes other ∙ sym (seeking_found same meets w ws None goes (no_alike w.cond)) ∙ ap (tests_seeking same meets None) (sym (after_other (Some first) w ws other))
-        | inr stays ↦ seeking_other same meets w ws first.cond stays other ∙ sym (seeking_other same meets w ws None stays (no_alike w.cond)) ∙ ap (tests_seeking same meets None) (sym (after_other (Some first) w ws other))
+        | inl goes ↦ seeking_found same meets w ws first.cond goes other ∙ sym (seeking_found same meets w ws None goes (alike_none same w.cond)) ∙ ap (tests_seeking same meets None) (sym (after_other (Some first) w ws other))
+        | inr stays ↦ seeking_other same meets w ws first.cond stays other ∙ sym (seeking_other same meets w ws None stays (alike_none same w.cond)) ∙ ap (tests_seeking same meets None) (sym (after_other (Some first) w ws other))
       ]
     ]
 
@@ -168,7 +165,7 @@ module _ {C : Type 0} (same : C → C → Bool) where
         let on : from n ws ≡ after_run (Some w) ys = ap (λ k. from k ws) (next ∙ ap (first_seat 64) r.behind_is) ∙ r.on in
         let P : List (Waiter C) → Type 0 = λ vs. RunsOn same heads lasts None 64 vs in
         let runs : RunsOn same heads lasts None 64 (w ∷ ys) = subst P r.from_is h.runs in
-        let tested = ap (tests_seeking same meets None) r.from_is ∙ seeking_other same meets w ys None stays (no_alike w.cond) in
+        let tested = ap (tests_seeking same meets None) r.from_is ∙ seeking_other same meets w ys None stays (alike_none same w.cond) in
         record {
           place = next ∙ ap (first_seat 64) (r.behind_is ∙ sym on);
           runs = rw on (runs_behind heads lasts (Some w) w.seat ys start (on_rest same heads lasts None 64 w ys runs));
@@ -182,7 +179,7 @@ module _ {C : Type 0} (same : C → C → Bool) where
         record { seat = s; tests = tests + more } ≡ sought_of same meets ws
     sought_here heads lasts s tests more ws w is goes counts h =
         let f = found s ws w is in
-        let tested = ap (tests_seeking same meets None) f.from_is ∙ seeking_found same meets w (behind s ws) None goes (no_alike w.cond) in
+        let tested = ap (tests_seeking same meets None) f.from_is ∙ seeking_found same meets w (behind s ws) None goes (alike_none same w.cond) in
         let front : from_taken meets (w ∷ behind s ws) ≡ w ∷ behind s ws = rw (front_yes same meets w (behind s ws) goes) refl in
         let seat : s ≡ sought_seat meets ws = sym (ap (first_seat 64) (sym h.taken ∙ ap (from_taken meets) f.from_is ∙ front) ∙ f.here) in
         let total : tests + more ≡ tests_seeking same meets None ws = omega (arith, counts, tested, h.counted) in

@@ -1,24 +1,32 @@
 -- How often a seat stands in lists, and how many waiters a list can have.
-use Rattle.std.proofs.Common.{Bool, IsTrue, List, [], ap, arith, eq-eqb, eqb, false, get_or, inl, inr, le-ltb, length, lt-ltb, ltb, nat_lt, ne_eqb, refl, subst, suc, sym, take, take_all, true, zero, ℕ, ◌++◌, ◌+◌, ◌<◌, ◌||◌, ◌↔◌, ◌∙◌, ◌∷◌, ◌≡◌, ◌≢◌, ◌≤◌}
-use Rattle.ns_queue.proofs.Prelude.{Waiter, cases_eq, cases_lt, count_by, count_by_more_no, is_of, one_if, sum_by-append, sum_by-cons, sum_by_more_le, times_in, without_in}
+use Rattle.std.proofs.Common.{Bool, IsTrue, List, [], ap, arith, eq-eqb, eqb, false, get_or, inl, inr, length, lt-ltb, nat_lt, ne_eqb, refl, sym, take, take_all, true, ℕ, ◌++◌, ◌+◌, ◌<◌, ◌||◌, ◌↔◌, ◌∙◌, ◌∷◌, ◌≡◌, ◌≢◌, ◌≤◌}
+use Rattle.std.proofs.lemmas.Map.Steps.{length-le_from_distinct_below}
+use Rattle.std.specs.List.{AllByRecursion, IsDistinct}
+use Rattle.ns_queue.proofs.Prelude.{seats_of, list_any, length-map, HaveSeats, Waiter, cases_eq, cases_lt, count_by_more_no, is_of, one_if, sum_by-append, sum_by-cons, sum_by_more_le, times_in, without_in}
 
-low_none_at : (s : ℕ) → one_if (ltb s 0) ≡ 0
-low_none_at s = rw (le-ltb s 0 (omega arith)) refl
-
-low_here : (s n : ℕ) → one_if (ltb s (suc n)) ≡ one_if (ltb s n) + one_if (eqb s n)
-low_here s n =
-    elim (cases_lt s n) [
-      | inl lt ↦ rw (lt-ltb s (suc n) (omega arith), lt-ltb s n lt, ne_eqb s n (λ e. omega arith)) refl
-      | inr ge ↦ elim (cases_eq s n) [
-        | inl e ↦ rw (lt-ltb s (suc n) (omega arith), le-ltb s n ge, eq-eqb s n e) refl
-        | inr ne ↦ let above : suc n ≤ s = omega (arith, ne) in rw (le-ltb s (suc n) above, le-ltb s n ge, ne_eqb s n ne) refl
-      ]
-    ]
+-- a number that there is stays below what none is above
+pub low_of : (n seat : ℕ) → (64 ≤ seat → n ≡ 0) → 0 < n → seat < 64
+low_of n seat none some = elim (cases_lt seat 64) [ inl low ↦ low | inr high ↦ absurd (omega (arith, none high, some)) ]
 
 -- one more, or none, and others
 pub some_more : (b : Bool) (n : ℕ) → nat_lt 0 (one_if b + n) ≡ (b || nat_lt 0 n)
 some_more true n = lt-ltb 0 _ (omega arith)
 some_more false n = ap (nat_lt 0) (omega arith)
+
+pub at_most_one : (b : Bool) → one_if b ≤ 1
+at_most_one true = omega arith
+at_most_one false = omega arith
+
+-- one more of a number of which there was none
+pub one_more : (old new : ℕ → ℕ) (s : ℕ) → ((n : ℕ) → new n ≤ old n + one_if (eqb s n)) → old s ≡ 0 → ((n : ℕ) → old n ≤ 1) → (n : ℕ) → new n ≤ 1
+one_more old new s more free once n = elim (cases_eq s n) [
+  | inl e ↦ omega (arith, more n, at_most_one (eqb s n), sym (ap old e) ∙ free)
+  | inr ne ↦ omega (arith, more n, ap one_if (ne_eqb s n ne), once n)
+]
+
+-- and none of those above another that it is below
+pub none_more : (old new : ℕ → ℕ) (s most : ℕ) → ((n : ℕ) → new n ≤ old n + one_if (eqb s n)) → s < most → ((n : ℕ) → most ≤ n → old n ≡ 0) → (n : ℕ) → most ≤ n → new n ≡ 0
+none_more old new s most more low none n high = omega (arith, more n, ap one_if (ne_eqb s n (λ e. omega (arith, e, low, high))), none n high)
 
 module _ {C : Type 0} where
   pub times_in-cons : (seat : ℕ) (w : Waiter C) (ws : List (Waiter C)) → times_in seat (w ∷ ws) ≡ one_if (eqb w.seat seat) + times_in seat ws
@@ -61,44 +69,40 @@ module _ {C : Type 0} where
       let none : times_in seat ws ≡ 0 = sym (ap (times_in seat) (take_all i ws over)) ∙ before in
       (λ is. absurd (cc), λ some. absurd (omega (arith, none, some)))
 
-  -- how many have a seat below n
-  abbrev low : ℕ → List (Waiter C) → ℕ
-  low n ws = count_by (λ w. ltb w.seat n) ws
+  -- ---- how many there are
 
-  low-cons : (n : ℕ) (w : Waiter C) (ws : List (Waiter C)) → low n (w ∷ ws) ≡ one_if (ltb w.seat n) + low n ws
-  low-cons n w ws = sum_by-cons (λ v. one_if (ltb v.seat n)) w ws
+  apart : (seat : ℕ) (ws : List (Waiter C)) → times_in seat ws ≡ 0 → AllByRecursion (λ n. eqb seat n ≡ false) (seats_of ws)
+  apart seat [] none = tt
+  apart seat (w ∷ ws) none = elim (cases_eq seat w.seat) [
+    | inl e ↦ absurd (omega (arith, none, times_in-cons seat w ws, ap one_if (eq-eqb w.seat seat (sym e))))
+    | inr ne ↦ (ne_eqb seat w.seat ne, apart seat ws (omega (arith, none, times_in-cons seat w ws)))
+  ]
 
-  low_none : (ws : List (Waiter C)) → low 0 ws ≡ 0
-  low_none [] = refl
-  low_none (w ∷ ws) = omega (arith, low-cons 0 w ws, low_none ws, low_none_at w.seat)
+  distinct : (ws : List (Waiter C)) → ((seat : ℕ) → times_in seat ws ≤ 1) → IsDistinct eqb (seats_of ws)
+  unfolding IsDistinct
+  distinct [] once = tt
+  distinct (w ∷ ws) once = (apart w.seat ws (omega (arith, once w.seat, own_times w ws)), distinct ws (λ seat. omega (arith, once seat, times_in-cons seat w ws)))
 
-  low_more : (n : ℕ) (ws : List (Waiter C)) → low (suc n) ws ≡ low n ws + times_in n ws
-  low_more n [] = refl
-  low_more n (w ∷ ws) = omega (arith, low-cons (suc n) w ws, low-cons n w ws, times_in-cons n w ws, low_more n ws, low_here w.seat n)
-
-  low_most : (ws : List (Waiter C)) → ((seat : ℕ) → times_in seat ws ≤ 1) → (n : ℕ) → low n ws ≤ n
-  low_most ws once zero = omega (arith, low_none ws)
-  low_most ws once (suc n) = omega (arith, low_more n ws, low_most ws once n, once n)
-
-  low_all : (n : ℕ) (ws : List (Waiter C)) → ((seat : ℕ) → n ≤ seat → times_in seat ws ≡ 0) → low n ws ≡ length ws
-  low_all n [] none = refl
-  low_all n (w ∷ ws) none =
-      let rest = low_all n ws (λ seat high. omega (arith, times_in-cons seat w ws, none seat high)) in
-      elim (cases_lt w.seat n) [
-        | inl lt ↦ let one : one_if (ltb w.seat n) ≡ 1 = rw (lt-ltb w.seat n lt) refl in omega (arith, low-cons n w ws, rest, one)
-        | inr ge ↦ let one : one_if (eqb w.seat w.seat) ≡ 1 = rw (eq-eqb w.seat w.seat refl) refl in absurd (omega (arith, times_in-cons w.seat w ws, none w.seat ge, one))
-      ]
+  stands : (seat : ℕ) (ws : List (Waiter C)) → list_any (eqb seat) (seats_of ws) ≡ true → 1 ≤ times_in seat ws
+  stands seat [] is = absurd (cc)
+  stands seat (w ∷ ws) is = elim (cases_eq seat w.seat) [
+    | inl e ↦ omega (arith, times_in-cons seat w ws, ap one_if (eq-eqb w.seat seat (sym e)))
+    | inr ne ↦ omega (arith, times_in-cons seat w ws, stands seat ws (rw (ne_eqb seat w.seat ne) at is))
+  ]
 
   -- a list of distinct numbers below n has at most n of them
   pub few : (n : ℕ) (ws : List (Waiter C)) → ((seat : ℕ) → times_in seat ws ≤ 1) → ((seat : ℕ) → n ≤ seat → times_in seat ws ≡ 0) → length ws ≤ n
-  few n ws once below = omega (arith, low_all n ws below, low_most ws once n)
+  few n ws once below =
+      let low : (seat : ℕ) → list_any (eqb seat) (seats_of ws) ≡ true → seat < n = λ seat is. elim (cases_lt seat n) [ inl lt ↦ lt | inr high ↦ absurd (omega (arith, stands seat ws is, below seat high)) ] in
+      omega (arith, length-le_from_distinct_below (seats_of ws) n (distinct ws once) low, length-map ws (λ w. w.seat))
 
   -- so one that lacks a number below n has room
   pub room_for : (n : ℕ) (ws : List (Waiter C)) (w : Waiter C) → ((seat : ℕ) → times_in seat ws ≤ 1) → ((seat : ℕ) → n ≤ seat → times_in seat ws ≡ 0) → w.seat < n → times_in w.seat ws ≡ 0 → length ws < n
   room_for n ws w once below low free =
-      let more = few n (w ∷ ws) (λ seat. elim (cases_eq w.seat seat) [
-        | inl e ↦ (let P : ℕ → Type 0 = λ s. times_in s (w ∷ ws) ≤ 1 in subst P e (let most : one_if (eqb w.seat w.seat) ≤ 1 = rw (eq-eqb w.seat w.seat refl) (omega arith) in omega (arith, times_in-cons w.seat w ws, free, most)))
-        | inr ne ↦ (let no : one_if (eqb w.seat seat) ≡ 0 = rw (ne_eqb w.seat seat ne) refl in omega (arith, times_in-cons seat w ws, once seat, no))
-      ])
-      (λ seat high. let no : one_if (eqb w.seat seat) ≡ 0 = rw (ne_eqb w.seat seat (λ e. omega arith)) refl in omega (arith, times_in-cons seat w ws, below seat high, no)) in
-      omega (arith, more)
+      let more : (seat : ℕ) → times_in seat (w ∷ ws) ≤ times_in seat ws + one_if (eqb w.seat seat) = λ seat. omega (arith, times_in-cons seat w ws) in
+      let most = few n (w ∷ ws) (one_more (λ s. times_in s ws) (λ s. times_in s (w ∷ ws)) w.seat more free once) (none_more (λ s. times_in s ws) (λ s. times_in s (w ∷ ws)) w.seat n more low below) in
+      omega (arith, most)
+
+  -- a seat that stands somewhere is below 64, where nobody's is above
+  pub stands_low : (s : ℕ) (ws : List (Waiter C)) → HaveSeats ws → 1 ≤ times_in s ws → s < 64
+  stands_low s ws below here = low_of (times_in s ws) s (below s) here

@@ -1,10 +1,7 @@
 -- Whom a scan takes first, and how many conditions it tests to find that one, or nobody.
 use Rattle.std.proofs.Common.{Bool, IfSome, List, None, Option, Some, [], ap, arith, cond, drop, false, get_or, inl, inr, is_some, length, not, refl, suc, sym, take, true, zero, ℕ, ◌&&◌, ◌+◌, ◌<◌, ◌||◌, ◌∙◌, ◌∷◌, ◌≡◌, ◌≤◌}
+use Rattle.ns_queue.proofs.Seats.{at_most_one}
 use Rattle.ns_queue.proofs.Prelude.{Seeking, Stage, Waiter, cases_Bool, in_front, is_alike, is_eligible, is_satisfied, needs, one_if, reads, stage_after, stage_next, tests_from, tests_seeking, woken_of}
-
-pub at_most_one : (b : Bool) → cond b 1 0 ≤ 1
-at_most_one true = omega arith
-at_most_one false = omega arith
 
 few_taken : {A : Type 0} (n : ℕ) (xs : List A) → length (take n xs) ≤ n
 few_taken zero xs = omega arith

@@ -1,16 +1,11 @@
 -- What a wake takes of a list, and what it leaves there.
-use Rattle.std.proofs.Common.{Bool, List, Some, [], ap, arith, eq-eqb, eqb, false, get_or, inl, inr, le-ltb, length, lt-ltb, ltb-true, nat_lt, ne_eqb, refl, subst, suc, sym, take, true, zero, ℕ, ◌+◌, ◌<◌, ◌||◌, ◌∙◌, ◌∷◌, ◌≡◌, ◌≤◌}
-use Rattle.ns_queue.proofs.Prelude.{Anybody, Every, HaveSeats, Seats, Waiter, cases_eq, cases_lt, in_more, is_in, marked, none_in, one_if, or_comm, same_seats, seats_of, signal_marks, signaled_of, sole_of, take_more, taken_set, times_in, unmarked, unsignaled_of}
-use Rattle.ns_queue.proofs.Seats.{some_more, times_in-cons, times_in_push}
+use Rattle.std.proofs.Common.{List, Some, [], ap, arith, eq-eqb, eqb, false, get_or, inl, inr, le-ltb, length, lt-ltb, ltb-true, nat_lt, ne_eqb, refl, subst, suc, sym, take, true, zero, ℕ, ◌+◌, ◌<◌, ◌||◌, ◌∙◌, ◌∷◌, ◌≡◌, ◌≤◌}
+use Rattle.ns_queue.proofs.Prelude.{Anybody, Every, HaveSeats, Seats, Waiter, cases_eq, in_more, is_in, none_in, one_if, or_comm, same_seats, seats_of, signal_marks, signaled_of, sole_of, take_more, taken_set, times_in, unsignaled_of}
+use Rattle.ns_queue.proofs.Seats.{stands_low, some_more, times_in-cons, times_in_push}
+use Rattle.ns_queue.proofs.Marking.{every_marked, times_parted}
 use Rattle.ns_queue.proofs.Meaning.{signal_takes, signal_leaves}
 
 module _ {C : Type 0} where
-  pub times_parted : (ms : List Bool) (ws : List (Waiter C)) (seat : ℕ) → times_in seat (marked ms ws) + times_in seat (unmarked ms ws) ≡ times_in seat ws
-  times_parted [] ws seat = omega arith
-  times_parted (m ∷ ms) [] seat = omega arith
-  times_parted (true ∷ ms) (w ∷ ws) seat = omega (arith, times_in-cons seat w ws, times_in-cons seat w (marked ms ws), times_parted ms ws seat)
-  times_parted (false ∷ ms) (w ∷ ws) seat = omega (arith, times_in-cons seat w ws, times_in-cons seat w (unmarked ms ws), times_parted ms ws seat)
-
   -- a signal takes some and leaves the others
   pub times_signaled : (ws : List (Waiter C)) (seat : ℕ) → times_in seat (signaled_of ws) + times_in seat (unsignaled_of ws) ≡ times_in seat ws
   times_signaled ws seat = rw (← signal_takes ws, ← signal_leaves ws) (times_parted (signal_marks Anybody ws) ws seat)
@@ -22,19 +17,6 @@ module _ {C : Type 0} where
   -- and has a seat below 64, where everybody in the list has
   pub below_signaled : (ws : List (Waiter C)) → HaveSeats ws → HaveSeats (signaled_of ws)
   below_signaled ws below seat high = omega (arith, times_signaled ws seat, below seat high)
-
-module _ {A : Type 0} (P : A → Type 0) where
-  every_marked : (ms : List Bool) (xs : List A) → Every P xs → Every P (marked ms xs)
-  every_marked [] xs p = tt
-  every_marked (m ∷ ms) [] p = tt
-  every_marked (true ∷ ms) (x ∷ xs) p = (p.0, every_marked ms xs p.1)
-  every_marked (false ∷ ms) (x ∷ xs) p = every_marked ms xs p.1
-
-  every_unmarked : (ms : List Bool) (xs : List A) → Every P xs → Every P (unmarked ms xs)
-  every_unmarked [] xs p = p
-  every_unmarked (m ∷ ms) [] p = tt
-  every_unmarked (true ∷ ms) (x ∷ xs) p = every_unmarked ms xs p.1
-  every_unmarked (false ∷ ms) (x ∷ xs) p = (p.0, every_unmarked ms xs p.1)
 
 module _ {C : Type 0} (P : Waiter C → Type 0) where
   -- what holds of each waiter holds of those whom a signal takes
@@ -72,9 +54,7 @@ module _ {C : Type 0} where
 
   -- a waiter of the list has a seat below 64
   pub low_at : (ws : List (Waiter C)) (i : ℕ) (w : Waiter C) → HaveSeats ws → i < length ws → w ≡ get_or ws i w → w.seat < 64
-  low_at ws i w low within is =
-      let here = stands_at ws i w within is in
-      elim (cases_lt w.seat 64) [ inl lt ↦ lt | inr high ↦ absurd (omega (arith, low w.seat high, here)) ]
+  low_at ws i w low within is = stands_low w.seat ws low (stands_at ws i w within is)
 
   count_on : (ws : List (Waiter C)) (i : ℕ) (w : Waiter C) (n : ℕ) → i < length ws → w ≡ get_or ws i w → times_in n (take (i + 1) ws) ≡ one_if (eqb n w.seat) + times_in n (take i ws)
   count_on ws i w n within is =

@@ -1,9 +1,10 @@
 -- Which variables those name whom a scan takes.
-use Rattle.std.proofs.Common.{Bool, List, Option, Some, [], ap, arith, filter, get_or, inl, inr, length, length-take, map, refl, sym, take, ℕ, ◌++◌, ◌+◌, ◌<◌, ◌∙◌, ◌∷◌, ◌≡◌}
-use Rattle.ns_queue.proofs.Prelude.{Every, IsRow, Waiter, cases_Bool, is_eligible, length-map, map-append, seated, seats_of, take_more, times_in, via_in, woken_of, writes}
+use Rattle.std.proofs.Common.{Bool, List, Option, Some, [], ap, arith, filter, get_or, length, length-take, map, refl, sym, take, ℕ, ◌++◌, ◌+◌, ◌<◌, ◌∙◌, ◌∷◌, ◌≡◌}
+use Rattle.ns_queue.proofs.Prelude.{Every, IsRow, Waiter, length-map, map-append, seated, seats_of, take_more, times_in, via_in, woken_of}
 use Rattle.ns_queue.proofs.Hops.{seated_first, seated_rest, stands_not}
+use Rattle.ns_queue.proofs.Leaving.{scan_is, scan_marks}
+use Rattle.ns_queue.proofs.Marking.{every_marked, filter_marks}
 use Rattle.ns_queue.proofs.Places.{row_own, row_rest}
-use Rattle.ns_queue.proofs.Seeking.{goes_along}
 
 -- one more of them
 pub vias_on : (f : ℕ → Option ℕ) (seats : List ℕ) (i : ℕ) (got new : List (Option ℕ)) (via : Option ℕ) → i < length seats → via ≡ f (get_or seats i 0) → new ≡ got ++ via ∷ [] → got ≡ map f (take i seats) → new ≡ map f (take (i + 1) seats)
@@ -32,22 +33,11 @@ module _ {C : Type 0} where
 
   module _ (P : Waiter C → Type 0) where
     pub every_filter : (test : Waiter C → Bool) (ws : List (Waiter C)) → Every P ws → Every P (filter test ws)
-    every_filter test [] p = tt
-    every_filter test (w ∷ ws) p = elim (cases_Bool (test w)) [
-      | inl goes ↦ rw goes (p.0, every_filter test ws p.1)
-      | inr stays ↦ rw stays (every_filter test ws p.1)
-    ]
+    every_filter test ws p = rw (filter_marks test ws).0 (every_marked P (map test ws) ws p)
 
     -- whatever holds of all holds of those whom a scan takes
     pub every_woken : (meets : C → Bool) (ws : List (Waiter C)) → Every P ws → Every P (woken_of meets ws)
-    every_woken meets [] p = tt
-    every_woken meets (w ∷ ws) p = elim (cases_Bool (is_eligible meets w)) [
-      | inl goes ↦ elim (cases_Bool (writes w)) [
-        | inl alone ↦ rw (goes, alone) (p.0, tt)
-        | inr reader ↦ rw (goes, reader) (p.0, every_filter (goes_along meets) ws p.1)
-      ]
-      | inr stays ↦ rw stays (every_woken meets ws p.1)
-    ]
+    every_woken meets ws p = rw (scan_is meets ws).0 (every_marked P (scan_marks meets ws) ws p)
 
   -- those whom a scan takes, found by their seats
   pub vias_woken : (meets : C → Bool) (ws : List (Waiter C)) → IsRow ws → map (λ s. via_in (seated s ws)) (seats_of (woken_of meets ws)) ≡ map (λ (w : Waiter C). w.via) (woken_of meets ws)

@@ -1,8 +1,8 @@
 -- Which wakes the list of a variable allows.
-use Rattle.std.proofs.Common.{Bool, List, [], ap, arith, eqb, eqb-true, false, inl, inr, min, ne_eqb, not, refl, subst, true, ℕ, ◌&&◌, ◌+◌, ◌<◌, ◌||◌, ◌∙◌, ◌∷◌, ◌≡◌, ◌≤◌, ◌⊎◌}
-use Rattle.ns_queue.proofs.Prelude.{AreWaiting, Cond, HaveSeats, Idle, IsLegalBroadcast, IsLegalSignal, Left, Mode, Phase, WaitFor, Waiter, Waiting, WaitsAmong, Woken, beq, cases_eq, cases_lt, count_never, count_only, count_same, count_split, filter, has, in_more, is_in, is_waiting, is_waiting_as}
+use Rattle.std.proofs.Common.{Bool, List, [], ap, arith, eqb, eqb-true, false, inl, inr, min, ne_eqb, not, refl, subst, true, ℕ, ◌&&◌, ◌+◌, ◌||◌, ◌∙◌, ◌∷◌, ◌≡◌, ◌≤◌, ◌⊎◌}
+use Rattle.ns_queue.proofs.Prelude.{cases_Bool, AreWaiting, Cond, HaveSeats, Idle, IsLegalBroadcast, IsLegalSignal, Left, Mode, Phase, WaitFor, Waiter, Waiting, WaitsAmong, Woken, beq, cases_eq, count_never, count_only, count_same, count_split, filter, has, in_more, is_in, is_waiting, is_waiting_as}
 use Rattle.ns_queue.proofs.Prelude.{none_in, one_if, readers_and_a_writer, reads, seats_of, signaled_of, taken_set, times_in, total, waiting_as, woken_as, woken_strangers, writes}
-use Rattle.ns_queue.proofs.Seats.{own_times, times_in-cons}
+use Rattle.ns_queue.proofs.Seats.{own_times, stands_low, times_in-cons}
 use Rattle.ns_queue.proofs.Taken.{in_list, not_in_list, in_stands, once_signaled, below_signaled, every_signaled}
 
 -- ---- tests of seats
@@ -47,13 +47,13 @@ module _ {C : Type 0} where
 
   only_readers : (ws : List (Waiter C)) → HasReaders ws
   only_readers [] = (refl, refl)
-  only_readers (w ∷ ws) = go (only_readers ws) (writes w) refl where
-    go : HasReaders ws → (b : Bool) → writes w ≡ b → HasReaders (w ∷ ws)
-    go rest true e = rw e (omega (arith, rest.0), omega (arith, rest.1))
-    go rest false e =
-        let none : ◌≡◌ {A = ℕ} (one_if (beq true (writes w))) 0 = ap (λ b. one_if (beq true b)) e in
-        let one : ◌≡◌ {A = ℕ} (one_if (beq false (writes w))) 1 = ap (λ b. one_if (beq false b)) e in
-        rw e (omega (arith, rest.0, none), omega (arith, rest.1, one))
+  only_readers (w ∷ ws) = let rest = only_readers ws in elim (cases_Bool (writes w)) [
+    | inl alone ↦ rw alone (omega (arith, rest.0), omega (arith, rest.1))
+    | inr reader ↦
+        let none : ◌≡◌ {A = ℕ} (one_if (beq true (writes w))) 0 = ap (λ b. one_if (beq true b)) reader in
+        let one : ◌≡◌ {A = ℕ} (one_if (beq false (writes w))) 1 = ap (λ b. one_if (beq false b)) reader in
+        rw reader (omega (arith, rest.0, none), omega (arith, rest.1, one))
+  ]
 
   -- the readers and a writer
   abbrev HasReadersAndWriter : List (Waiter C) → Type 0
@@ -61,18 +61,18 @@ module _ {C : Type 0} where
 
   with_a_writer : (ws : List (Waiter C)) → HasReadersAndWriter ws
   with_a_writer [] = (omega arith, refl)
-  with_a_writer (w ∷ ws) = go (with_a_writer ws) (writes w) refl where
-    go : HasReadersAndWriter ws → (b : Bool) → writes w ≡ b → HasReadersAndWriter (w ∷ ws)
-    go rest true e = let readers = only_readers ws in rw e (omega (arith, readers.0), omega (arith, readers.1))
-    go rest false e = rw e (omega (arith, rest.0), omega (arith, rest.1))
+  with_a_writer (w ∷ ws) = elim (cases_Bool (writes w)) [
+    | inl alone ↦ let readers = only_readers ws in rw alone (omega (arith, readers.0), omega (arith, readers.1))
+    | inr reader ↦ let rest = with_a_writer ws in rw reader (omega (arith, rest.0), omega (arith, rest.1))
+  ]
 
   -- a signal's choice is fair
   fair_choice : (ws : List (Waiter C)) → IsFairChoice (signaled_of ws) ws
   fair_choice [] = inr (omega arith, refl)
-  fair_choice (w ∷ ws) = go (writes w) refl where
-    go : (b : Bool) → writes w ≡ b → IsFairChoice (signaled_of (w ∷ ws)) (w ∷ ws)
-    go true e = rw e (inl (omega arith, omega arith))
-    go false e = let rest = with_a_writer ws in rw e (inr (omega (arith, rest.0), omega (arith, rest.1)))
+  fair_choice (w ∷ ws) = elim (cases_Bool (writes w)) [
+    | inl alone ↦ rw alone (inl (omega arith, omega arith))
+    | inr reader ↦ let rest = with_a_writer ws in rw reader (inr (omega (arith, rest.0), omega (arith, rest.1)))
+  ]
 
 -- ---- the counts over the seats are tallies of the list
 
@@ -86,9 +86,6 @@ module _ {C : Type 0} where
 
   first_apart : (w : Waiter C) (ws : List (Waiter C)) → times_in w.seat (w ∷ ws) ≤ 1 → (seat : ℕ) → eqb w.seat seat ≡ true → is_in (taken_set ws) seat ≡ false
   first_apart w ws once seat e = not_in_list ws seat (subst (λ s. times_in s ws ≡ 0) (eqb-true w.seat seat e) (omega (arith, own_times w ws, once)))
-
-  first_low : (w : Waiter C) (ws : List (Waiter C)) → HaveSeats (w ∷ ws) → w.seat < 64
-  first_low w ws below = elim (cases_lt w.seat 64) [ inl low ↦ low | inr high ↦ absurd (omega (arith, own_times w ws, below w.seat high)) ]
 
 module _ {C : Type 0} (k : ℕ) (phases : ℕ → Phase C) where
   -- a seat that stands in the list waits
@@ -114,7 +111,7 @@ module _ {C : Type 0} (k : ℕ) (phases : ℕ → Phase C) where
       let rest = woken_tally kind ws own.1 (λ seat. omega (arith, once seat, times_in-cons seat w ws)) (λ seat high. omega (arith, below seat high, times_in-cons seat w ws)) in
       let split = count_split 64 (λ seat. is_in (taken_set (w ∷ ws)) seat && waits seat) (λ seat. eqb w.seat seat && waits seat) (λ seat. is_in (taken_set ws) seat && waits seat)
       (λ seat. rw (in_more w.seat (seats_of ws) seat) (one_of_both (eqb w.seat seat) (is_in (taken_set ws) seat) (waits seat) (first_apart w ws (once w.seat) seat))) in
-      let first = count_only 64 w.seat waits (first_low w ws below) ∙ ap one_if (waits_as kind w own.0) in
+      let first = count_only 64 w.seat waits (stands_low w.seat (w ∷ ws) below (omega (arith, own_times w ws))) ∙ ap one_if (waits_as kind w own.0) in
       split ∙ omega (arith, first, rest)
 
   -- all who wait to write, or to read

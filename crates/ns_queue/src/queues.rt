@@ -3,7 +3,7 @@
 ghost use Rattle.std.specs.Prelude.{◌≡◌, ◌<◌, ℕ, ◌+◌, ◌≤◌, ◌↔◌, ◌&&◌, not, [], ◌∷◌, ◌++◌, length, map, nat_lt, replicate, sum_by, take, IsTrue};
 ghost use Rattle.std.specs.Bool.{OnFalse, OnTrue};
 ghost use Rattle.std.specs.List.{list_any};
-ghost use Rattle.ns_queue.specs.Queues.{IsList, IsOrderly, beside, times, waiters_of, with_waiters, without};
+ghost use Rattle.ns_queue.specs.Queues.{IsList, IsOrderly, beside, cvs_without, times, waiters_of, with_waiters, without};
 ghost use Rattle.ns_queue.specs.Waiters.{HaveSeats, has_condition, is_long, outside, shown_of, times_in, writes};
 
 use crate::lock_list::LockList;
@@ -61,8 +61,40 @@ impl<C: Queueable<N>, const N: usize> Queues<C, N> {
     {
         match list {
             Which::Lock => self.lock.waiters(),
-            Which::Cv(k) => copied(&self.cvs[k as usize]),
+            Which::Cv(k) => self.copied_list(k),
         }
+    }
+
+    /// The list of a variable, as it lies there.
+    ///
+    /// Needs a number below 4.
+    pub(crate) fn variable(&self, k: u8) -> &[Waiter<C>]
+        requires { k < 4 }
+        ensures list { result.now ≡ waiters_of self.now (Which.Cv k) }
+        ensures below { HaveSeats result.now }
+        ensures few { length result.now ≤ 64 }
+        ensures orderly { IsOrderly self.now }
+    {
+        self.cvs[k as usize].as_slice()
+    }
+
+    /// The list of a variable once more.
+    ///
+    /// Needs a number below 4.
+    pub(crate) fn copied_list(&self, k: u8) -> ArrayVec<Waiter<C>, 64>
+        requires { k < 4 }
+        ensures list { result.items ≡ waiters_of self.now (Which.Cv k) }
+        ensures below { HaveSeats result.items }
+        ensures orderly { IsOrderly self.now }
+    {
+        copied(self.variable(k))
+    }
+
+    /// Takes those of the set out of the lists of the variables.
+    pub(crate) fn drop_from_variables(&mut self, set: Seats)
+        ensures { self.new ≡ cvs_without set self.old }
+    {
+        drop_from_all(&mut self.cvs, set);
     }
 
     /// The waiters of a list, front first, in the form in which they are shown. None is copied.
@@ -75,7 +107,7 @@ impl<C: Queueable<N>, const N: usize> Queues<C, N> {
     {
         match list {
             Which::Lock => self.lock.shown(),
-            Which::Cv(k) => shown_slice(self.cvs[k as usize].as_slice()),
+            Which::Cv(k) => shown_slice(self.variable(k)),
         }
     }
 
@@ -87,10 +119,10 @@ impl<C: Queueable<N>, const N: usize> Queues<C, N> {
         Queues {
             lock: self.lock.copied(),
             cvs: [
-                copied(&self.cvs[0]),
-                copied(&self.cvs[1]),
-                copied(&self.cvs[2]),
-                copied(&self.cvs[3]),
+                self.copied_list(0),
+                self.copied_list(1),
+                self.copied_list(2),
+                self.copied_list(3),
             ],
         }
     }
@@ -121,7 +153,7 @@ impl<C: Queueable<N>, const N: usize> Queues<C, N> {
     {
         match list {
             Which::Lock => self.lock.holds(seat),
-            Which::Cv(k) => stands_in(self.cvs[k as usize].as_slice(), seat),
+            Which::Cv(k) => stands_in(self.variable(k), seat),
         }
     }
 
@@ -194,7 +226,7 @@ impl<C: Queueable<N>, const N: usize> Queues<C, N> {
         if !stands_in_any(&self.cvs, seat) {
             return false;
         }
-        drop_from_all(&mut self.cvs, Seats::none().with(seat));
+        self.drop_from_variables(Seats::none().with(seat));
         true
     }
 
@@ -252,13 +284,12 @@ pub(crate) fn drop_from_all<C: Queueable<N>, const N: usize>(
 }
 
 /// The same list once more.
-pub(crate) fn copied<C: Queueable<N>, const N: usize>(
-    waiters: &ArrayVec<Waiter<C>, 64>,
-) -> ArrayVec<Waiter<C>, 64>
-    ensures { result.items ≡ waiters.now.items }
+fn copied<C: Queueable<N>, const N: usize>(waiters: &[Waiter<C>]) -> ArrayVec<Waiter<C>, 64>
+    requires { length waiters.now ≤ 64 }
+    ensures { result.items ≡ waiters.now }
 {
     let mut copy = ArrayVec::new();
-    let _ = copy.try_extend_from_slice(waiters.as_slice());
+    let _ = copy.try_extend_from_slice(waiters);
     copy
 }
 

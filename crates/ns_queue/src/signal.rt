@@ -8,7 +8,7 @@ ghost use Rattle.ns_queue.specs.Waiters.{HaveSeats};
 ghost use Rattle.ns_queue.specs.declared.signal.Wanted.TheVariants.{Anybody};
 
 use crate::marks::marked;
-use crate::queues::{Queues, copied, drop_from_all};
+use crate::queues::Queues;
 use crate::room::Queueable;
 use crate::waiter::{Waiter, Which};
 use arrayvec::ArrayVec;
@@ -68,13 +68,12 @@ fn marks_of<C: Queueable<N>, const N: usize>(waiters: &[Waiter<C>]) -> ArrayVec<
 }
 
 /// Those of the list whom a signal wakes, in order.
-fn signaled<C: Queueable<N>, const N: usize>(
-    waiters: &ArrayVec<Waiter<C>, 64>,
-) -> ArrayVec<Waiter<C>, 64>
-    ensures { result.items ≡ signaled_of waiters.now.items }
+fn signaled<C: Queueable<N>, const N: usize>(waiters: &[Waiter<C>]) -> ArrayVec<Waiter<C>, 64>
+    requires { length waiters.now ≤ 64 }
+    ensures { result.items ≡ signaled_of waiters.now }
 {
-    let marks = marks_of(waiters.as_slice());
-    marked(waiters.as_slice(), marks.as_slice())
+    let marks = marks_of(waiters);
+    marked(waiters, marks.as_slice())
 }
 
 /// The waiter of a list that has just one.
@@ -114,8 +113,8 @@ impl<C: Queueable<N>, const N: usize> Queues<C, N> {
         ensures left { self.new ≡ cvs_without (taken_set (signaled_of (waiters_of self.old (Which.Cv k)))) self.old }
         ensures orderly { IsOrderly self.old }
     {
-        let taken = signaled(&self.cvs[k as usize]);
-        drop_from_all(&mut self.cvs, taken_set(taken.as_slice()));
+        let taken = signaled(self.variable(k));
+        self.drop_from_variables(taken_set(taken.as_slice()));
         taken
     }
 
@@ -129,8 +128,8 @@ impl<C: Queueable<N>, const N: usize> Queues<C, N> {
         ensures left { self.new ≡ cvs_without (taken_set (waiters_of self.old (Which.Cv k))) self.old }
         ensures orderly { IsOrderly self.old }
     {
-        let all = copied(&self.cvs[k as usize]);
-        drop_from_all(&mut self.cvs, taken_set(all.as_slice()));
+        let all = self.copied_list(k);
+        self.drop_from_variables(taken_set(all.as_slice()));
         all
     }
 
@@ -146,9 +145,9 @@ impl<C: Queueable<N>, const N: usize> Queues<C, N> {
         ensures same { IfNone result (self.new ≡ self.old) }
         ensures orderly { IsOrderly self.old }
     {
-        match sole_in(self.cvs[k as usize].as_slice()) {
+        match sole_in(self.variable(k)) {
             Some(sole) => {
-                drop_from_all(&mut self.cvs, Seats::none().with(sole.seat));
+                self.drop_from_variables(Seats::none().with(sole.seat));
                 Some(sole)
             }
             None => None,
@@ -162,7 +161,7 @@ impl<C: Queueable<N>, const N: usize> Queues<C, N> {
         requires { k < 4 }
         ensures { result ≡ taken_set (signaled_of (waiters_of self.now (Which.Cv k))) }
     {
-        taken_set(signaled(&self.cvs[k as usize]).as_slice())
+        taken_set(signaled(self.variable(k)).as_slice())
     }
 
     /// The set of the seats whom a broadcast of the variable would take, which is everybody who waits
@@ -173,6 +172,6 @@ impl<C: Queueable<N>, const N: usize> Queues<C, N> {
         requires { k < 4 }
         ensures { result ≡ taken_set (waiters_of self.now (Which.Cv k)) }
     {
-        taken_set(self.cvs[k as usize].as_slice())
+        taken_set(self.variable(k))
     }
 }

@@ -2,7 +2,7 @@
 pub use Rattle.ns_model.proofs.Histories.{legal_append, standing_from-append}
 pub use Rattle.ns_model.proofs.Tallies.{every-append, every_join, every_map, every_parts, one_most, total_amid}
 pub use Rattle.ns_model.specs.Tallies.{total}
-pub use Rattle.ns_queue.proofs.Orders.{list_small}
+pub use Rattle.ns_queue.proofs.Bounds.{list_small}
 pub use Rattle.ns_queue.proofs.Outside.{broadcast_outside, gone_each, gone_outside, gone_those, signal_outside, times_outside}
 pub use Rattle.ns_queue.proofs.Parts.{below_in, four_kept, lists_without, once_in, read_apart, read_back, times_at_most}
 pub use Rattle.ns_queue.proofs.Seats.{few, none_without, own_times, room_for, times_in-append, times_in-cons}

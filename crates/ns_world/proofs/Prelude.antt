@@ -34,7 +34,7 @@ pub use Rattle.ns_env.proofs.Ranges.{asks_in_range}
 pub use Rattle.ns_env.specs.declared.walk.EnvNext.TheVariants.{Over}
 pub use Rattle.ns_model.proofs.Tallies.{one_most}
 pub use Rattle.ns_model.specs.declared.condition.Condition.{Ghosts}
-pub use Rattle.ns_queue.proofs.Orders.{list_small}
+pub use Rattle.ns_queue.proofs.Bounds.{list_small}
 pub use Rattle.ns_queue.proofs.Seats.{few, times_in-cons}
 pub use Rattle.ns_queue.proofs.Shown.{each_shown}
 pub use Rattle.ns_queue.specs.Sizes.{queues_room, row_fits}

@@ -1,4 +1,4 @@
-use Rattle.ns_queue.proofs.Ringed.{one_fits, more_fits}
+use Rattle.ns_queue.proofs.Prelude.{more_fits, one_fits}
 use Rattle.ns_queue.proofs.counts.with_one.Goals as goal
 
 pub overflow_add-result : goal.overflow_add-result

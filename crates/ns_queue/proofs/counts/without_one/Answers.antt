@@ -1,5 +1,4 @@
-use Rattle.ns_queue.proofs.Ringed.{one_in}
-use Rattle.ns_queue.proofs.Prelude.{refl}
+use Rattle.ns_queue.proofs.Prelude.{one_in, refl}
 use Rattle.ns_queue.proofs.counts.without_one.Goals as goal
 
 pub overflow_sub-result : goal.overflow_sub-result

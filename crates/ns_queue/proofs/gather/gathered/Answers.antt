@@ -1,7 +1,6 @@
 use Rattle.std.proofs.Common.{[], ap, sym, ◌++◌, ◌∙◌, ◌∷◌}
-use Rattle.ns_queue.proofs.Prelude.{number, ring_fits}
+use Rattle.ns_queue.proofs.Prelude.{list_small, number, ring_fits}
 use Rattle.ns_queue.proofs.Places.{ahead_few, from_none, own, seated_stands, smaller, stepped}
-use Rattle.ns_queue.proofs.Orders.{list_small}
 use Rattle.ns_queue.proofs.gather.gathered.Goals as goal
 
 pub loop-waiter-init : goal.loop-waiter-init

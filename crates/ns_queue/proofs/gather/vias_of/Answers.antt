@@ -1,6 +1,5 @@
 use Rattle.std.proofs.Common.{ap, falls, length, map, take_all, ◌∙◌}
-use Rattle.ns_queue.proofs.Prelude.{number, ring_fits, seated, via_in}
-use Rattle.ns_queue.proofs.Orders.{room_at, bytes_136}
+use Rattle.ns_queue.proofs.Prelude.{bytes_136, number, ring_fits, room_at, seated, via_in}
 use Rattle.ns_queue.proofs.Vias.{vias_on, vias_count}
 use Rattle.ns_queue.proofs.gather.vias_of.Goals as goal
 

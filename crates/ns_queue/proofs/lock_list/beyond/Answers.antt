@@ -1,11 +1,11 @@
 use Rattle.ns_queue.proofs.Prelude.{arith, number, ring_fits}
-use Rattle.ns_queue.proofs.Making.{next_place}
+use Rattle.ns_queue.proofs.Ringed.{places_low}
 use Rattle.ns_queue.proofs.Places.{seated_low, standing}
 use Rattle.ns_queue.proofs.Running.{next_begins, next_run}
 use Rattle.ns_queue.proofs.lock_list.beyond.Goals as goal
 
 pub bounds-heads-next : goal.bounds-heads-next
-bounds-heads-next g c = next_place c.args.ring.now c.args.seat c.next-next.result c.requires.row c.requires.stands c.next-next.ensures
+bounds-heads-next g c = rw c.next-next.ensures (places_low c.args.seat c.args.ring.now c.requires.row c.requires.stands).1
 
 pub returns-then-heads-next : goal.returns-then-heads-next
 returns-then-heads-next g c =

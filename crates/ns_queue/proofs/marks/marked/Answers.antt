@@ -1,7 +1,7 @@
 use Rattle.std.proofs.Common.{arith, falls, length, sym, ℕ, ◌<◌, ◌≤◌}
-use Rattle.ns_queue.proofs.Orders.{list_small, at_most, still_in}
 use Rattle.ns_queue.proofs.Marking.{pushed_on, skipped_on, marked_yes, marked_no}
 use Rattle.ns_queue.proofs.marks.marked.Goals.{then-marks-i, else-marks-i}
+use Rattle.ns_queue.proofs.Prelude.{at_most, list_small, still_in}
 use Rattle.ns_queue.proofs.marks.marked.Goals as goal
 
 pub loop-i-preserved : goal.loop-i-preserved

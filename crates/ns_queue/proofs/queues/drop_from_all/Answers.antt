@@ -1,5 +1,4 @@
-use Rattle.ns_queue.proofs.Prelude.{falls, length, outside, refl}
-use Rattle.ns_queue.proofs.Orders.{list_small, still_in}
+use Rattle.ns_queue.proofs.Prelude.{falls, length, list_small, outside, refl, still_in}
 use Rattle.ns_queue.proofs.Inside.{lists_more}
 use Rattle.ns_queue.proofs.Outside.{next_below}
 use Rattle.ns_queue.proofs.queues.drop_from_all.Goals as goal

@@ -1,6 +1,5 @@
 use Rattle.std.proofs.Common.{ap, ◌∙◌}
-use Rattle.ns_queue.proofs.Prelude.{times_in}
-use Rattle.ns_queue.proofs.Orders.{list_small}
+use Rattle.ns_queue.proofs.Prelude.{list_small, times_in}
 use Rattle.ns_queue.proofs.queues.drop_those.Goals as goal
 
 pub keep_outside-kept-requires : goal.keep_outside-kept-requires

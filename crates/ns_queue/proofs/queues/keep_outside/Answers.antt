@@ -1,24 +1,20 @@
 use Rattle.std.proofs.Common.{arith, get_or, length, refl, rules, sym, ℕ, ◌<◌, ◌∙◌, ◌≡◌, ◌≤◌}
-use Rattle.ns_queue.proofs.Prelude.{FiltersInPlace-all, FiltersInPlace-more_here, FiltersInPlace-more_no, FiltersInPlace-more_set, get_or_default, scaled_Fits}
+use Rattle.ns_queue.proofs.Prelude.{FiltersInPlace-all, FiltersInPlace-more_here, FiltersInPlace-more_no, FiltersInPlace-more_set, get_or_default, scaled_Fits, still_in}
 use Rattle.ns_queue.proofs.Outside.{place_low}
 use Rattle.ns_queue.proofs.queues.keep_outside.Goals.{then-not-contains, else-not-contains, then-kept-i, else-kept-i}
 use Rattle.ns_queue.proofs.queues.keep_outside.Goals as goal
-
--- each place up to the loop's is one of the list's
-inside : (i n m : ℕ) → i < n → m ≡ n → i < m
-inside i n m low same = omega arith
 
 kept_inside : (kept i n m : ℕ) → kept ≤ i → i < n → m ≡ n → kept < m
 kept_inside kept i n m behind low same = omega arith
 
 pub bounds-waiters-i : goal.bounds-waiters-i
-bounds-waiters-i g c = inside _ _ _ c.loop-i-test.true c.loop-i.auto.waiters
+bounds-waiters-i g c = still_in _ _ _ c.loop-i-test.true c.loop-i.auto.waiters
 
 pub bounds-waiters-i-in-loop-i : goal.bounds-waiters-i-in-loop-i
-bounds-waiters-i-in-loop-i g c = inside _ _ _ c.loop-i-test.true c.loop-i.auto.waiters
+bounds-waiters-i-in-loop-i g c = still_in _ _ _ c.loop-i-test.true c.loop-i.auto.waiters
 
 pub bounds-waiters-i-then-kept-i : goal.bounds-waiters-i-then-kept-i
-bounds-waiters-i-then-kept-i g c = inside _ _ _ c.loop-i-test.true c.loop-i.auto.waiters
+bounds-waiters-i-then-kept-i g c = still_in _ _ _ c.loop-i-test.true c.loop-i.auto.waiters
 
 pub bounds-waiters-kept : goal.bounds-waiters-kept
 bounds-waiters-kept g c = kept_inside _ _ _ _ c.loop-i.invariant.behind c.loop-i-test.true c.loop-i.auto.waiters

@@ -1,6 +1,5 @@
-use Rattle.ns_queue.proofs.Prelude.{falls, refl}
-use Rattle.ns_queue.proofs.Inside.{some_list, more_lists, told_yes, told_no}
-use Rattle.ns_queue.proofs.Orders.{list_small, offset_fits, still_in}
+use Rattle.ns_queue.proofs.Prelude.{falls, list_small, offset_fits, refl, still_in, told_no, told_yes}
+use Rattle.ns_queue.proofs.Inside.{some_list, more_lists}
 use Rattle.ns_queue.proofs.queues.stands_in_any.Goals as goal
 
 pub returns-then-stands_in : goal.returns-then-stands_in

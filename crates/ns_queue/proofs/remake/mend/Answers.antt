@@ -1,17 +1,18 @@
 use Rattle.std.proofs.Common.{ap, arith, get_or, sym, ◌∙◌}
 use Rattle.ns_queue.proofs.Prelude.{number, ring_fits}
-use Rattle.ns_queue.proofs.Making.{dropped, inner, next_place, prev_place}
-use Rattle.ns_queue.proofs.Ringed.{stands_low}
+use Rattle.ns_queue.proofs.Making.{dropped, inner}
+use Rattle.ns_queue.proofs.Ringed.{places_low}
+use Rattle.ns_queue.proofs.Seats.{stands_low}
 use Rattle.ns_queue.proofs.remake.mend.Goals as goal
 
 pub bounds-heads-seat : goal.bounds-heads-seat
 bounds-heads-seat g c = let low = stands_low c.args.seat c.requires.was c.requires.row.below c.requires.stood in omega (arith, low)
 
 pub bounds-heads-before : goal.bounds-heads-before
-bounds-heads-before g c = prev_place c.requires.was c.args.seat c.args.before c.requires.row c.requires.stood c.requires.before_is
+bounds-heads-before g c = rw c.requires.before_is (places_low c.args.seat c.requires.was c.requires.row c.requires.stood).0
 
 pub bounds-heads-behind : goal.bounds-heads-behind
-bounds-heads-behind g c = next_place c.requires.was c.args.seat c.args.behind c.requires.row c.requires.stood c.requires.next_is
+bounds-heads-behind g c = rw c.requires.next_is (places_low c.args.seat c.requires.was c.requires.row c.requires.stood).1
 
 pub bounds-lasts-first : goal.bounds-lasts-first
 bounds-lasts-first g c =

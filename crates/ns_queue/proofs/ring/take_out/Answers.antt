@@ -1,9 +1,7 @@
 use Rattle.std.proofs.Common.{arith, slice_index, sym, ◌-◌}
-use Rattle.ns_queue.proofs.Prelude.{number, ring_fits, times_in}
-use Rattle.ns_queue.proofs.Inside.{told_no, told_yes}
+use Rattle.ns_queue.proofs.Prelude.{last_in, less_within, number, one_down, ring_fits, times_in, told_no, told_yes}
 use Rattle.ns_queue.proofs.Leaving.{all_on}
 use Rattle.ns_queue.proofs.Seats.{none_without}
-use Rattle.ns_queue.proofs.Orders.{last_in, one_down, less_within}
 use Rattle.ns_queue.proofs.ring.take_out.Goals as goal
 
 pub loop-left-preserved : goal.loop-left-preserved

@@ -1,35 +1,24 @@
 use Rattle.std.proofs.Common.{[], ap, inl, inr, sym, ◌++◌, ◌∙◌, ◌∷◌}
-use Rattle.ns_queue.proofs.Prelude.{Sought, number, option_copied, reads, ring_fits, row_fits}
+use Rattle.ns_queue.proofs.Prelude.{Sought, bytes_72, number, option_copied, reads, ring_fits, row_fits}
 use Rattle.ns_queue.proofs.Asking.{Enters}
 use Rattle.ns_queue.proofs.Places.{seated_stands, smaller}
 use Rattle.ns_queue.proofs.Reading.{look_fits, none_taken, reads_end, reads_few, reads_on, reads_start, writer_taken}
-use Rattle.ns_queue.proofs.Orders.{bytes_72}
 use Rattle.ns_queue.proofs.scan.choose.Goals.{then-not-is_alike, else-not-is_alike}
 use Rattle.ns_queue.proofs.scan.choose.Goals as goal
 
-pub returns-in_default-clause-woken : goal.returns-in_default-clause-woken
-returns-in_default-clause-woken g c =
+pub returns-in_default : goal.returns-in_default
+returns-in_default g c =
     let meets = λ (d : g.row.C.Denot). g.C.Condition.means.holds d c.args.row.now in
-    c.new-woken.ensures ∙ (none_taken g.C.Condition.means.same meets c.args.sought.seat c.args.sought.tests c.args.ring.now c.get.ensures.orderly (ap (λ (o : Sought). o.seat) c.requires) (sym c.in_default.ensures.waiter) (ap (λ (o : Sought). o.tests) c.requires)).0
+    let none = none_taken g.C.Condition.means.same meets c.args.sought.seat c.args.sought.tests c.args.ring.now c.get.ensures.orderly (ap (λ (o : Sought). o.seat) c.requires) (sym c.in_default.ensures.waiter) (ap (λ (o : Sought). o.tests) c.requires) in
+    record { woken = c.new-woken.ensures ∙ none.0; tests = none.1; orderly = c.get.ensures.orderly }
 
-pub returns-in_default-clause-tests : goal.returns-in_default-clause-tests
-returns-in_default-clause-tests g c =
-    let meets = λ (d : g.row.C.Denot). g.C.Condition.means.holds d c.args.row.now in
-    (none_taken g.C.Condition.means.same meets c.args.sought.seat c.args.sought.tests c.args.ring.now c.get.ensures.orderly (ap (λ (o : Sought). o.seat) c.requires) (sym c.in_default.ensures.waiter) (ap (λ (o : Sought). o.tests) c.requires)).1
-
-pub returns-then-is_write-clause-woken : goal.returns-then-is_write-clause-woken
-returns-then-is_write-clause-woken g c =
+pub returns-then-is_write : goal.returns-then-is_write
+returns-then-is_write g c =
     let meets = λ (d : g.row.C.Denot). g.C.Condition.means.holds d c.args.row.now in
     let got = c.push.ensures.items ∙ ap (λ vs. vs ++ c.args.sought.seat ∷ []) c.new-woken.ensures in
-    (writer_taken g.C.Condition.means.same meets (λ d e is. g.met.C.Condition.same_agrees d e c.args.row.now c.told-row is) c.args.sought.seat c.args.sought.tests _ c.args.ring.now c.in-Some.found.now
-    c.get.ensures.orderly (ap (λ (o : Sought). o.seat) c.requires) (sym c.in-Some.ensures.waiter) (ap (λ (o : Sought). o.tests) c.requires) (sym c.is_write.ensures ∙ c.if-is_write.true) got).0
-
-pub returns-then-is_write-clause-tests : goal.returns-then-is_write-clause-tests
-returns-then-is_write-clause-tests g c =
-    let meets = λ (d : g.row.C.Denot). g.C.Condition.means.holds d c.args.row.now in
-    let got = c.push.ensures.items ∙ ap (λ vs. vs ++ c.args.sought.seat ∷ []) c.new-woken.ensures in
-    (writer_taken g.C.Condition.means.same meets (λ d e is. g.met.C.Condition.same_agrees d e c.args.row.now c.told-row is) c.args.sought.seat c.args.sought.tests _ c.args.ring.now c.in-Some.found.now
-    c.get.ensures.orderly (ap (λ (o : Sought). o.seat) c.requires) (sym c.in-Some.ensures.waiter) (ap (λ (o : Sought). o.tests) c.requires) (sym c.is_write.ensures ∙ c.if-is_write.true) got).1
+    let one = writer_taken g.C.Condition.means.same meets (λ d e is. g.met.C.Condition.same_agrees d e c.args.row.now c.told-row is) c.args.sought.seat c.args.sought.tests _ c.args.ring.now c.in-Some.found.now
+    c.get.ensures.orderly (ap (λ (o : Sought). o.seat) c.requires) (sym c.in-Some.ensures.waiter) (ap (λ (o : Sought). o.tests) c.requires) (sym c.is_write.ensures ∙ c.if-is_write.true) got in
+    record { woken = one.0; tests = one.1; orderly = c.get.ensures.orderly }
 
 pub next-at-requires : goal.next-at-requires
 next-at-requires g c = (ring_fits g.row.C (number g.row.N) g.met.C.Condition.has_room, seated_stands c.args.sought.seat c.args.ring.now c.in-Some.found.now (sym c.in-Some.ensures.waiter))
@@ -72,30 +61,17 @@ loop-waiter-preserved g c =
     c.loop-waiter.at c.next-at-in-Some-get.result c.loop-waiter.tests c.look_at-seen.result.tests c.look_at-seen.result.taken c.loop-waiter.woken.items c.push_if.new.woken.items c.args.ring.now w
     c.get.ensures.orderly (sym c.in-Some-get.ensures.waiter) c.next-at-in-Some-get.ensures enters c.look_at-seen.ensures.truth c.look_at-seen.ensures.tests c.look_at-seen.ensures.taken c.push_if.ensures c.loop-waiter.invariant
 
-pub returns-clause-woken : goal.returns-clause-woken
-returns-clause-woken g c =
+pub returns : goal.returns
+returns g c =
     let meets = λ (d : g.row.C.Denot). g.C.Condition.means.holds d c.args.row.now in
-    (reads_end g.C.Condition.means.same meets (option_copied c.loop-waiter.first) c.loop-waiter.truth c.loop-waiter.at c.loop-waiter.tests c.loop-waiter.woken.items c.args.ring.now (sym c.in_default-get.ensures.waiter) c.loop-waiter.invariant).0
-
-pub returns-clause-tests : goal.returns-clause-tests
-returns-clause-tests g c =
-    let meets = λ (d : g.row.C.Denot). g.C.Condition.means.holds d c.args.row.now in
-    (reads_end g.C.Condition.means.same meets (option_copied c.loop-waiter.first) c.loop-waiter.truth c.loop-waiter.at c.loop-waiter.tests c.loop-waiter.woken.items c.args.ring.now (sym c.in_default-get.ensures.waiter) c.loop-waiter.invariant).1
+    let all = reads_end g.C.Condition.means.same meets (option_copied c.loop-waiter.first) c.loop-waiter.truth c.loop-waiter.at c.loop-waiter.tests c.loop-waiter.woken.items c.args.ring.now (sym c.in_default-get.ensures.waiter) c.loop-waiter.invariant in
+    record { woken = all.0; tests = all.1; orderly = c.get.ensures.orderly }
 
 pub get-requires : goal.get-requires
 get-requires g c = ring_fits g.row.C (number g.row.N) g.met.C.Condition.has_room
 
 pub get-requires-in-loop-waiter : goal.get-requires-in-loop-waiter
 get-requires-in-loop-waiter g c = ring_fits g.row.C (number g.row.N) g.met.C.Condition.has_room
-
-pub returns-in_default-clause-orderly : goal.returns-in_default-clause-orderly
-returns-in_default-clause-orderly g c = c.get.ensures.orderly
-
-pub returns-then-is_write-clause-orderly : goal.returns-then-is_write-clause-orderly
-returns-then-is_write-clause-orderly g c = c.get.ensures.orderly
-
-pub returns-clause-orderly : goal.returns-clause-orderly
-returns-clause-orderly g c = c.get.ensures.orderly
 
 pub look_at-seen-requires : goal.look_at-seen-requires
 look_at-seen-requires g c = row_fits g.row.C (number g.row.N) g.met.C.Condition.has_room

@@ -1,6 +1,5 @@
-use Rattle.ns_queue.proofs.Prelude.{arith, falls, length, refl}
+use Rattle.ns_queue.proofs.Prelude.{arith, at_most, bytes_72, falls, length, refl, room_at}
 use Rattle.ns_queue.proofs.Marking.{signal_on}
-use Rattle.ns_queue.proofs.Orders.{at_most, room_at, bytes_72}
 use Rattle.ns_queue.proofs.signal.marks_of.Goals as goal
 
 pub loop-waiter-preserved : goal.loop-waiter-preserved

@@ -1,6 +1,6 @@
 use Rattle.ns_queue.proofs.Making.{goes_low, pushed}
-use Rattle.ns_queue.proofs.Ringed.{row_back, seat_place, place_fits}
-use Rattle.ns_queue.proofs.Prelude.{lock_fits, number, ring_fits}
+use Rattle.ns_queue.proofs.Ringed.{row_back}
+use Rattle.ns_queue.proofs.Prelude.{lock_fits, number, place_fits, ring_fits, seat_place}
 use Rattle.ns_queue.proofs.lock_list.LockList.push_back.Goals as goal
 
 pub bounds-self-inside-head : goal.bounds-self-inside-head

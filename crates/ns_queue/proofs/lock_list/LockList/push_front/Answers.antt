@@ -1,6 +1,6 @@
-use Rattle.ns_queue.proofs.Prelude.{[], number, ring_fits}
+use Rattle.ns_queue.proofs.Prelude.{[], number, place_fits, ring_fits, seat_place}
 use Rattle.ns_queue.proofs.Making.{fronted}
-use Rattle.ns_queue.proofs.Ringed.{row_more, seat_place, place_fits}
+use Rattle.ns_queue.proofs.Ringed.{row_more}
 use Rattle.ns_queue.proofs.lock_list.LockList.push_front.Goals as goal
 
 pub remake-requires : goal.remake-requires

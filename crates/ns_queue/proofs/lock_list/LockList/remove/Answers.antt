@@ -1,5 +1,4 @@
-use Rattle.ns_queue.proofs.Prelude.{number, refl, ring_fits, sym, times_in}
-use Rattle.ns_queue.proofs.Inside.{told_no, told_yes}
+use Rattle.ns_queue.proofs.Prelude.{number, refl, ring_fits, sym, times_in, told_no, told_yes}
 use Rattle.ns_queue.proofs.Seats.{none_without}
 use Rattle.ns_queue.proofs.lock_list.LockList.remove.Goals as goal
 
@@ -9,13 +8,12 @@ returns-then-not-holds-clause-removed g c =
     rw (← c.self.view_is) (sym (none_without c.args.seat c.self.inside.ring out))
 
 pub invariant_of-self : goal.invariant_of-self
-invariant_of-self g c = record { on = c.mend.ensures.on; end = c.mend.ensures.end; heads_all = c.mend.ensures.heads_all; lasts_all = c.mend.ensures.lasts_all }
+invariant_of-self g c = c.mend.ensures
 
-pub returns-clause-removed : goal.returns-clause-removed
-returns-clause-removed g c = rw (← c.self.view_is) c.remove.ensures
-
-pub returns-clause-absent : goal.returns-clause-absent
-returns-clause-absent g c = tt
+pub returns : goal.returns
+returns g c =
+    let here = told_yes c.holds.result _ c.if-not-holds.false c.holds.ensures.stands.0 in
+    rw (← c.self.view_is) (record { stood = (λ yes. here, λ stands. refl); removed = c.remove.ensures; absent = tt })
 
 pub holds-requires : goal.holds-requires
 holds-requires g c = ring_fits g.row.C (number g.row.N) g.met.C.Condition.has_room
@@ -45,6 +43,3 @@ mend-requires g c = (
 
 pub returns-then-not-holds-clause-absent : goal.returns-then-not-holds-clause-absent
 returns-then-not-holds-clause-absent g c = refl
-
-pub returns-clause-stood : goal.returns-clause-stood
-returns-clause-stood g c = let here = told_yes c.holds.result _ c.if-not-holds.false c.holds.ensures.stands.0 in rw (← c.self.view_is) (λ yes. here, λ stands. refl)

@@ -3,41 +3,24 @@ use Rattle.ns_queue.proofs.Prelude.{lock_fits, number, ring_fits, row_fits}
 use Rattle.ns_queue.proofs.Reading.{nobody_first, reader_first, writer_first}
 use Rattle.ns_queue.proofs.lock_list.LockList.take_writer.Goals as goal
 
-pub returns-in_default-clause-told : goal.returns-in_default-clause-told
-returns-in_default-clause-told g c =
+pub returns-in_default : goal.returns-in_default
+returns-in_default g c =
     let meets = λ (d : g.row.C.Denot). g.C.Condition.means.holds d c.args.row.now in
-    rw (← c.self.view_is) (nobody_first g.C.Condition.means.same meets c.seek-sought.result c.self.inside.ring c.get.ensures.orderly (rw (← c.self.view_is) at c.seek-sought.ensures) (sym c.in_default.ensures.waiter)).0
+    let none = nobody_first g.C.Condition.means.same meets c.seek-sought.result c.self.inside.ring c.get.ensures.orderly (rw (← c.self.view_is) at c.seek-sought.ensures) (sym c.in_default.ensures.waiter) in
+    rw (← c.self.view_is) (record { told = none.0; left = none.1 })
 
-pub returns-in_default-clause-left : goal.returns-in_default-clause-left
-returns-in_default-clause-left g c =
+pub returns-then-not-is_write : goal.returns-then-not-is_write
+returns-then-not-is_write g c =
     let meets = λ (d : g.row.C.Denot). g.C.Condition.means.holds d c.args.row.now in
-    rw (← c.self.view_is) (nobody_first g.C.Condition.means.same meets c.seek-sought.result c.self.inside.ring c.get.ensures.orderly (rw (← c.self.view_is) at c.seek-sought.ensures) (sym c.in_default.ensures.waiter)).1
+    let reader = reader_first g.C.Condition.means.same meets c.seek-sought.result c.self.inside.ring c.in-Some.found.now c.get.ensures.orderly (rw (← c.self.view_is) at c.seek-sought.ensures) (sym c.in-Some.ensures.waiter) (sym c.is_write.ensures ∙ c.if-not-is_write.true) in
+    rw (← c.self.view_is) (record { told = reader.0; left = reader.1 })
 
-pub returns-then-not-is_write-clause-told : goal.returns-then-not-is_write-clause-told
-returns-then-not-is_write-clause-told g c =
+pub returns : goal.returns
+returns g c =
     let meets = λ (d : g.row.C.Denot). g.C.Condition.means.holds d c.args.row.now in
-    let reader = sym c.is_write.ensures ∙ c.if-not-is_write.true in
-    rw (← c.self.view_is) (reader_first g.C.Condition.means.same meets c.seek-sought.result c.self.inside.ring c.in-Some.found.now c.get.ensures.orderly (rw (← c.self.view_is) at c.seek-sought.ensures) (sym c.in-Some.ensures.waiter) reader).0
-
-pub returns-then-not-is_write-clause-left : goal.returns-then-not-is_write-clause-left
-returns-then-not-is_write-clause-left g c =
-    let meets = λ (d : g.row.C.Denot). g.C.Condition.means.holds d c.args.row.now in
-    let reader = sym c.is_write.ensures ∙ c.if-not-is_write.true in
-    rw (← c.self.view_is) (reader_first g.C.Condition.means.same meets c.seek-sought.result c.self.inside.ring c.in-Some.found.now c.get.ensures.orderly (rw (← c.self.view_is) at c.seek-sought.ensures) (sym c.in-Some.ensures.waiter) reader).1
-
-pub returns-clause-told : goal.returns-clause-told
-returns-clause-told g c =
-    let meets = λ (d : g.row.C.Denot). g.C.Condition.means.holds d c.args.row.now in
-    let alone = sym c.is_write.ensures ∙ c.if-not-is_write.false in
-    rw (← c.self.view_is) (writer_first g.C.Condition.means.same meets c.seek-sought.result c.in-Some.found.now.via c.self.inside.ring _ c.in-Some.found.now c.get.ensures.orderly
-    (rw (← c.self.view_is) at c.seek-sought.ensures) (sym c.in-Some.ensures.waiter) alone refl (rw (← c.self.view_is) at c.remove.ensures.removed)).0
-
-pub returns-clause-left : goal.returns-clause-left
-returns-clause-left g c =
-    let meets = λ (d : g.row.C.Denot). g.C.Condition.means.holds d c.args.row.now in
-    let alone = sym c.is_write.ensures ∙ c.if-not-is_write.false in
-    rw (← c.self.view_is) (writer_first g.C.Condition.means.same meets c.seek-sought.result c.in-Some.found.now.via c.self.inside.ring _ c.in-Some.found.now c.get.ensures.orderly
-    (rw (← c.self.view_is) at c.seek-sought.ensures) (sym c.in-Some.ensures.waiter) alone refl (rw (← c.self.view_is) at c.remove.ensures.removed)).1
+    let writer = writer_first g.C.Condition.means.same meets c.seek-sought.result c.in-Some.found.now.via c.self.inside.ring _ c.in-Some.found.now c.get.ensures.orderly
+    (rw (← c.self.view_is) at c.seek-sought.ensures) (sym c.in-Some.ensures.waiter) (sym c.is_write.ensures ∙ c.if-not-is_write.false) refl (rw (← c.self.view_is) at c.remove.ensures.removed) in
+    rw (← c.self.view_is) (record { told = writer.0; left = writer.1 })
 
 pub seek-sought-requires : goal.seek-sought-requires
 seek-sought-requires g c = (lock_fits g.row.C (number g.row.N) g.met.C.Condition.has_room g.C.Condition, row_fits g.row.C (number g.row.N) g.met.C.Condition.has_room)

@@ -1,5 +1,4 @@
-use Rattle.ns_queue.proofs.Prelude.{number, ring_fits}
-use Rattle.ns_queue.proofs.Orders.{list_small}
+use Rattle.ns_queue.proofs.Prelude.{list_small, number, ring_fits}
 use Rattle.ns_queue.proofs.lock_list.LockList.waiters.Goals as goal
 
 pub gathered-requires : goal.gathered-requires

@@ -1,7 +1,6 @@
 use Rattle.ns_queue.proofs.Appended.{next_free}
 use Rattle.ns_queue.proofs.Taken.{low_at}
-use Rattle.ns_queue.proofs.Prelude.{falls, length, number, queues_fit}
-use Rattle.ns_queue.proofs.Orders.{at_most}
+use Rattle.ns_queue.proofs.Prelude.{at_most, falls, length, number, queues_fit}
 use Rattle.ns_queue.proofs.queues.Queues.append.Goals as goal
 
 pub push_back-requires : goal.push_back-requires

@@ -1,5 +1,5 @@
-use Rattle.ns_queue.proofs.Orders.{list_small, orderly_fresh}
-use Rattle.ns_queue.proofs.Prelude.{lock_fits, number}
+use Rattle.ns_queue.proofs.Orders.{orderly_fresh}
+use Rattle.ns_queue.proofs.Prelude.{list_small, lock_fits, number}
 use Rattle.ns_queue.proofs.queues.Queues.new.Goals as goal
 
 pub new-requires-2 : goal.new-requires-2

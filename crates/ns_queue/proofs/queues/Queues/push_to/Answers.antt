@@ -1,5 +1,5 @@
-use Rattle.ns_queue.proofs.Orders.{offset_fits, list_small}
 use Rattle.ns_queue.proofs.Inside.{list_has_room, list_pushed, list_at, list_put}
+use Rattle.ns_queue.proofs.Prelude.{list_small, offset_fits}
 use Rattle.ns_queue.proofs.queues.Queues.push_to.Goals as goal
 
 pub offset_bounds-self-inside-k : goal.offset_bounds-self-inside-k

@@ -9,17 +9,7 @@ invariant_of-self g c = lock_lessened _ _ _ c.self.invariant (λ seat. rw c.scan
 pub scan_from-requires : goal.scan_from-requires
 scan_from-requires g c = (lock_fits g.row.C (number g.row.N) g.met.C.Condition.has_room g.C.Condition, (row_fits g.row.C (number g.row.N) g.met.C.Condition.has_room, rw (← c.self.view_is) at c.requires))
 
-pub returns-clause-woken : goal.returns-clause-woken
-returns-clause-woken g c = rw (← c.self.view_is) c.scan_from.ensures.woken
-
-pub returns-clause-left : goal.returns-clause-left
-returns-clause-left g c = rw (← c.self.view_is, c.scan_from.ensures.left) refl
-
-pub returns-clause-tests : goal.returns-clause-tests
-returns-clause-tests g c = rw (← c.self.view_is) c.scan_from.ensures.tests
-
-pub returns-clause-at_most_runs : goal.returns-clause-at_most_runs
-returns-clause-at_most_runs g c = rw (← c.self.view_is) c.scan_from.ensures.at_most_runs
-
-pub returns-clause-vias : goal.returns-clause-vias
-returns-clause-vias g c = rw (← c.self.view_is) c.scan_from.ensures.vias
+pub returns : goal.returns
+returns g c =
+    let e = c.scan_from.ensures in
+    rw (← c.self.view_is) (record { woken = e.woken; vias = e.vias; left = rw e.left refl; tests = e.tests; at_most_runs = e.at_most_runs })

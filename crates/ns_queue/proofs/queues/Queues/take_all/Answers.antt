@@ -1,43 +1,20 @@
-use Rattle.std.proofs.Common.{ap, arith, sym, ◌∙◌}
-use Rattle.ns_queue.proofs.Prelude.{Cv, taken_set, waiters_of}
-use Rattle.ns_queue.proofs.Appended.{have_seats_at}
-use Rattle.ns_queue.proofs.Orders.{offset_fits, list_small}
-use Rattle.ns_queue.proofs.Inside.{list_at, shape, list_there}
-use Rattle.ns_queue.proofs.Outside.{all_below, left_outside, orderly_outside}
+use Rattle.std.proofs.Common.{ap, ◌∙◌}
+use Rattle.ns_queue.proofs.Prelude.{cvs_without, list_small, number, queues_fit, taken_set}
 use Rattle.ns_queue.proofs.queues.Queues.take_all.Goals as goal
 
-pub offset_bounds-self-inside-k : goal.offset_bounds-self-inside-k
-offset_bounds-self-inside-k g c = offset_fits c.args.k _ c.requires g.met.C.Queueable.list_fits
-
-pub copied-all-requires : goal.copied-all-requires
-copied-all-requires g c = list_small _ g.met.C.Queueable.list_fits
-
-pub taken_set-requires : goal.taken_set-requires
-taken_set-requires g c = rw (c.as_slice.ensures.value, c.copied-all.ensures) (have_seats_at _ _ c.args.k c.index-self-k.result c.self.invariant c.requires)
-
-pub drop_from_all-requires : goal.drop_from_all-requires
-drop_from_all-requires g c = (list_small _ g.met.C.Queueable.list_fits, all_below c.self.inside.lock c.self.inside.cvs c.self.invariant)
-
-pub invariant_of-self : goal.invariant_of-self
-invariant_of-self g c = orderly_outside c.self.inside.lock c.self.inside.lock c.self.inside.cvs _ c.taken_set.result c.self.invariant (λ seat. omega arith) c.drop_from_all.ensures
-
-pub returns-clause-taken : goal.returns-clause-taken
-returns-clause-taken g c = rw (← c.self.view_is, list_at _ _ c.args.k c.index-self-k.result c.self.invariant c.requires) c.copied-all.ensures
-
-pub returns-clause-left : goal.returns-clause-left
-returns-clause-left g c =
-    let lock = c.self.inside.lock in let cvs = c.self.inside.cvs in let ws = waiters_of (shape lock cvs) (Cv c.args.k) in
-    rw (← c.self.view_is) (left_outside lock cvs _ c.taken_set.result _
-    (c.taken_set.ensures ∙ ap taken_set (c.as_slice.ensures.value ∙ (c.copied-all.ensures ∙ sym (list_at lock cvs c.args.k c.index-self-k.result c.self.invariant c.requires)))) c.drop_from_all.ensures)
-
-pub listed : goal.listed
-listed g c = list_there c.self.inside.lock c.self.inside.cvs c.args.k c.self.invariant c.requires
-
-pub bounds-self-inside-k : goal.bounds-self-inside-k
-bounds-self-inside-k g c = c.requires
+pub copied_list-all-requires : goal.copied_list-all-requires
+copied_list-all-requires g c = (queues_fit g.row.C (number g.row.N) g.met.C.Condition.has_room g.C.Condition, (list_small _ g.met.C.Queueable.list_fits, c.requires))
 
 pub as_slice-requires : goal.as_slice-requires
 as_slice-requires g c = list_small _ g.met.C.Queueable.list_fits
 
-pub returns-clause-orderly : goal.returns-clause-orderly
-returns-clause-orderly g c = rw (← c.self.view_is) c.self.invariant
+pub taken_set-requires : goal.taken_set-requires
+taken_set-requires g c = rw c.as_slice.ensures.value c.copied_list-all.ensures.below
+
+pub drop_from_variables-requires : goal.drop_from_variables-requires
+drop_from_variables-requires g c = queues_fit g.row.C (number g.row.N) g.met.C.Condition.has_room g.C.Condition
+
+pub returns : goal.returns
+returns g c =
+    let taken = c.copied_list-all.ensures.list in
+    record { taken = taken; left = c.drop_from_variables.ensures ∙ ap (λ set. cvs_without set c.args.self.now) (c.taken_set.ensures ∙ ap taken_set (c.as_slice.ensures.value ∙ taken)); orderly = c.copied_list-all.ensures.orderly }

@@ -6,11 +6,8 @@ use Rattle.ns_queue.proofs.queues.Queues.take_writer.Goals as goal
 pub invariant_of-self : goal.invariant_of-self
 invariant_of-self g c = lock_lessened _ _ _ c.self.invariant (λ seat. rw c.take_writer.ensures.left (times_left_by_writer (λ d. g.C.Condition.means.holds d c.args.row.now) c.self.inside.lock seat))
 
-pub returns-clause-told : goal.returns-clause-told
-returns-clause-told g c = rw (← c.self.view_is) c.take_writer.ensures.told
-
-pub returns-clause-left : goal.returns-clause-left
-returns-clause-left g c = rw (← c.self.view_is, c.take_writer.ensures.left) refl
+pub returns : goal.returns
+returns g c = rw (← c.self.view_is) (record { told = c.take_writer.ensures.told; left = rw c.take_writer.ensures.left refl })
 
 pub take_writer-requires : goal.take_writer-requires
 take_writer-requires g c = (lock_fits g.row.C (number g.row.N) g.met.C.Condition.has_room g.C.Condition, row_fits g.row.C (number g.row.N) g.met.C.Condition.has_room)

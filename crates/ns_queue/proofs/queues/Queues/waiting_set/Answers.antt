@@ -1,24 +1,12 @@
-use Rattle.ns_queue.proofs.Orders.{offset_fits, list_small}
-use Rattle.ns_queue.proofs.Appended.{have_seats_at}
-use Rattle.ns_queue.proofs.Inside.{list_there, list_at}
 use Rattle.std.proofs.Common.{ap, ◌∙◌}
-use Rattle.ns_queue.proofs.Prelude.{taken_set}
+use Rattle.ns_queue.proofs.Prelude.{number, queues_fit, taken_set}
 use Rattle.ns_queue.proofs.queues.Queues.waiting_set.Goals as goal
 
-pub offset_bounds-self-inside-k : goal.offset_bounds-self-inside-k
-offset_bounds-self-inside-k g c = offset_fits c.args.k _ c.requires g.met.C.Queueable.list_fits
+pub variable-requires : goal.variable-requires
+variable-requires g c = (queues_fit g.row.C (number g.row.N) g.met.C.Condition.has_room g.C.Condition, c.requires)
 
 pub taken_set-requires : goal.taken_set-requires
-taken_set-requires g c = rw c.as_slice.ensures.value (have_seats_at _ _ c.args.k c.index-self-k.result c.self.invariant c.requires)
-
-pub listed : goal.listed
-listed g c = list_there c.self.inside.lock c.self.inside.cvs c.args.k c.self.invariant c.requires
-
-pub bounds-self-inside-k : goal.bounds-self-inside-k
-bounds-self-inside-k g c = c.requires
-
-pub as_slice-requires : goal.as_slice-requires
-as_slice-requires g c = list_small _ g.met.C.Queueable.list_fits
+taken_set-requires g c = c.variable.ensures.below
 
 pub returns : goal.returns
-returns g c = rw (← c.self.view_is, list_at _ _ c.args.k c.index-self-k.result c.self.invariant c.requires) (c.taken_set.ensures ∙ ap taken_set c.as_slice.ensures.value)
+returns g c = c.taken_set.ensures ∙ ap taken_set c.variable.ensures.list

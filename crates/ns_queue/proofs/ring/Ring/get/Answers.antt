@@ -1,12 +1,10 @@
 use Rattle.std.proofs.Common.{arith, ◌<◌}
-use Rattle.ns_queue.proofs.Ringed.{entry_at, nobody_above, row_of}
+use Rattle.ns_queue.proofs.Ringed.{nobody_above, row_of}
+use Rattle.ns_queue.proofs.Prelude.{entry_at}
 use Rattle.ns_queue.proofs.ring.Ring.get.Goals as goal
 
-pub returns-then-seat-ge64-clause-waiter : goal.returns-then-seat-ge64-clause-waiter
-returns-then-seat-ge64-clause-waiter g c = rw (← c.self.view_is) (nobody_above _ _ _ _ _ c.args.seat c.self.invariant c.if-seat-ge64.true)
-
-pub returns-then-seat-ge64-clause-orderly : goal.returns-then-seat-ge64-clause-orderly
-returns-then-seat-ge64-clause-orderly g c = rw (← c.self.view_is) (row_of _ _ _ _ _ c.self.invariant)
+pub returns-then-seat-ge64 : goal.returns-then-seat-ge64
+returns-then-seat-ge64 g c = rw (← c.self.view_is) (record { waiter = nobody_above _ _ _ _ _ c.args.seat c.self.invariant c.if-seat-ge64.true; orderly = row_of _ _ _ _ _ c.self.invariant })
 
 pub returns-clause-orderly : goal.returns-clause-orderly
 returns-clause-orderly g c = rw (← c.self.view_is) (row_of _ _ _ _ _ c.self.invariant)

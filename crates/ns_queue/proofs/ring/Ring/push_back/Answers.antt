@@ -1,5 +1,5 @@
-use Rattle.ns_queue.proofs.Prelude.{refl}
-use Rattle.ns_queue.proofs.Ringed.{closes, entry_at, back_low, has_room, pushed_back, view_of, seat_place, place_fits, entry_there, are_counts}
+use Rattle.ns_queue.proofs.Prelude.{entry_at, entry_there, place_fits, refl, seat_place}
+use Rattle.ns_queue.proofs.Ringed.{closes, back_low, has_room, pushed_back, view_of, are_counts}
 use Rattle.ns_queue.proofs.ring.Ring.push_back.Goals as goal
 
 pub link-requires-clause-before : goal.link-requires-clause-before

@@ -1,5 +1,5 @@
-use Rattle.ns_queue.proofs.Prelude.{refl}
-use Rattle.ns_queue.proofs.Ringed.{closes, entry_at, front_low, has_room, pushed_front, view_of, seat_place, place_fits, entry_there, are_counts}
+use Rattle.ns_queue.proofs.Prelude.{entry_at, entry_there, place_fits, refl, seat_place}
+use Rattle.ns_queue.proofs.Ringed.{closes, front_low, has_room, pushed_front, view_of, are_counts}
 use Rattle.ns_queue.proofs.ring.Ring.push_front.Goals as goal
 
 pub link-requires-clause-behind : goal.link-requires-clause-behind

@@ -1,5 +1,6 @@
 use Rattle.std.proofs.Common.{arith, refl, ◌∙◌}
-use Rattle.ns_queue.proofs.Ringed.{closes, counts_it, entry_at, entry_read, links_low, not_empty, place_low, removed, view_of}
+use Rattle.ns_queue.proofs.Ringed.{closes, counts_it, entry_read, links_low, not_empty, place_low, removed, view_of}
+use Rattle.ns_queue.proofs.Prelude.{entry_at}
 use Rattle.ns_queue.proofs.ring.Ring.remove.Goals as goal
 
 pub listed : goal.listed
@@ -29,7 +30,7 @@ returns-in_default g c = absurd (not_empty _ _ _ _ _ c.args.seat c.self.invarian
     ∙ c.index-self-seat.is ∙ c.in_default.is))
 
 pub without_one-self-inside-requires : goal.without_one-self-inside-requires
-without_one-self-inside-requires g c = counts_it _ _ _ _ _ c.args.seat c.in-Some.waiter c.self.invariant (rw (← c.self.view_is) at c.requires)
+without_one-self-inside-requires g c = counts_it _ _ _ _ _ c.args.seat c.in-Some.waiter c.self.invariant
     (entry_read _ _ _ _ _ c.args.seat _ c.self.invariant (place_low _ _ _ _ _ c.args.seat c.self.invariant (rw (← c.self.view_is) at c.requires)) c.index-self-seat.is
     ∙ c.index-self-seat.is ∙ c.in-Some.is)
 
