@@ -7,6 +7,7 @@ use crate::never::{OneCell, OneHandle};
 use ns_fixtures::Never;
 use ns_monitor::Answer;
 use ns_note::env::Env;
+use ns_note::note::LAST_MOMENT;
 use ns_note::watcher::Watcher;
 use std::alloc::Global;
 use std::sync::Wait;
@@ -16,15 +17,12 @@ use std::time::{Clock, Duration};
 /// How many ticks ahead a deadline is.
 const AHEAD: u64 = 50;
 
-/// The last moment of a clock.
-const LAST: u64 = (1 << 54) - 1;
-
 /// Waits so many times, and counts how often the deadline has ended it. Then it says in the cell that it is through.
 fn wait_often<R: Wait>(rt: &R, handle: OneHandle<'_>, mut watcher: Watcher<'_>, times: u64) -> u64 {
     let mut held = handle.lock(rt);
     let mut count = 0u64;
     for _ in 0..times {
-        let deadline = watcher.now().saturating_add(AHEAD).min(LAST);
+        let deadline = watcher.now().saturating_add(AHEAD).min(LAST_MOMENT);
         let (back, answer) = held.wait_with_deadline(rt, Never, Some(deadline), None, &mut watcher);
         held = back;
         if answer == Answer::TimedOut {
@@ -47,7 +45,7 @@ fn tick<R: Wait + Clock>(rt: &R, mut handle: OneHandle<'_>, mut watcher: Watcher
         }
         sleep(rt, Duration::from_millis(1));
         let now = watcher.now();
-        watcher.advance(now.saturating_add(1).min(LAST));
+        watcher.advance(now.saturating_add(1).min(LAST_MOMENT));
     }
     unreachable!()
 }

@@ -9,7 +9,7 @@ use ns_model::event::Answer;
 use ns_monitor::handles::Handles;
 use ns_monitor::{Handle, Monitor};
 use ns_note::env::Env;
-use ns_note::note::Note;
+use ns_note::note::{LAST_MOMENT, Note};
 use ns_note::watcher::{Watcher, Watchers};
 use std::alloc::Global;
 use std::io;
@@ -62,9 +62,6 @@ fn deadline<R: Threads + Wait + Sync>(
     Some(wait_and_advance(rt, lock, here, there))
 }
 
-/// The last moment of a clock.
-const LAST: u64 = (1 << 54) - 1;
-
 /// Moves the clock to the milliseconds that have passed, about each millisecond, until it is told to end.
 fn run_clock<R: Wait + Clock>(
     rt: &R,
@@ -77,8 +74,8 @@ fn run_clock<R: Wait + Clock>(
             return Ok(());
         }
         sleep(rt, Duration::from_millis(1));
-        let passed = u64::try_from(start.elapsed(rt)?.as_millis()).unwrap_or(LAST);
-        watcher.advance(passed.min(LAST));
+        let passed = u64::try_from(start.elapsed(rt)?.as_millis()).unwrap_or(LAST_MOMENT);
+        watcher.advance(passed.min(LAST_MOMENT));
     }
     unreachable!()
 }
@@ -105,7 +102,7 @@ fn wait_and_run<R: Threads + Wait + Sync + Clock>(
             requires { IsSync R.row }
         {
             let ran = run_clock(rt, &mut there, ending);
-            there.advance(LAST); // nobody waits for a clock that has stopped
+            there.advance(LAST_MOMENT); // nobody waits for a clock that has stopped
             ran
         },
     )

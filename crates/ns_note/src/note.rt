@@ -65,8 +65,11 @@ fn deadline_of_bits(bits: u64) -> Option<u64>
     }
 }
 
-/// One past the last moment, and the bit that tells of a deadline.
-const DEADLINE: u64 = 1 << 54;
+/// The last moment of a clock, in ticks.
+pub const LAST_MOMENT: u64 = (1 << 54) - 1;
+
+/// The bit of a note's word that tells of a deadline, above each moment.
+const DEADLINE: u64 = LAST_MOMENT + 1;
 
 /// The word of a note.
 ///
