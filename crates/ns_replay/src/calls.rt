@@ -35,46 +35,16 @@ fn short_call(name: &str, word: &str, declared: Declared) -> Option<Call<ScriptC
     ensures { result ≡ short_call_of declared name.now word.now }
 {
     match name {
-        "get" => {
-            let cell = number_below(word, CELLS)?;
-            Some(Call::Get(cell))
-        }
-        "notify" => {
-            let note = number_below(word, NOTES)?;
-            Some(Call::Notify(note))
-        }
-        "advance" => {
-            let moment = moment(word)?;
-            Some(Call::Advance(moment))
-        }
-        "isnotified" => {
-            let note = number_below(word, NOTES)?;
-            Some(Call::IsNotified(note))
-        }
-        "expiry" => {
-            let note = number_below(word, NOTES)?;
-            Some(Call::Expiry(note))
-        }
-        "signal" => {
-            let k = number_below(word, declared.cvs)?;
-            Some(Call::Signal(k))
-        }
-        "broadcast" => {
-            let k = number_below(word, declared.cvs)?;
-            Some(Call::Broadcast(k))
-        }
-        "value" => {
-            let counter = number_below(word, declared.counters)?;
-            Some(Call::Value(counter))
-        }
-        "once" => {
-            let once = number_below(word, declared.onces)?;
-            Some(Call::Once(once))
-        }
-        "done" => {
-            let once = number_below(word, declared.onces)?;
-            Some(Call::Done(once))
-        }
+        "get" => Some(Call::Get(number_below(word, CELLS)?)),
+        "notify" => Some(Call::Notify(number_below(word, NOTES)?)),
+        "advance" => Some(Call::Advance(moment(word)?)),
+        "isnotified" => Some(Call::IsNotified(number_below(word, NOTES)?)),
+        "expiry" => Some(Call::Expiry(number_below(word, NOTES)?)),
+        "signal" => Some(Call::Signal(number_below(word, declared.cvs)?)),
+        "broadcast" => Some(Call::Broadcast(number_below(word, declared.cvs)?)),
+        "value" => Some(Call::Value(number_below(word, declared.counters)?)),
+        "once" => Some(Call::Once(number_below(word, declared.onces)?)),
+        "done" => Some(Call::Done(number_below(word, declared.onces)?)),
         _ => None,
     }
 }
@@ -89,26 +59,13 @@ fn long_call(
     ensures { result ≡ long_call_of declared name.now first.now second.now }
 {
     match name {
-        "set" => {
-            let cell = number_below(first, CELLS)?;
-            let value = number(second)?;
-            Some(Call::Set(cell, value))
-        }
-        "newnote" => {
-            let parent = note_or_none(first)?;
-            let deadline = moment_or_none(second)?;
-            Some(Call::NewNote(parent, deadline))
-        }
-        "notewait" => {
-            let note = number_below(first, NOTES)?;
-            let deadline = moment_or_none(second)?;
-            Some(Call::NoteWait(note, deadline))
-        }
-        "cwait" => {
-            let counter = number_below(first, declared.counters)?;
-            let deadline = moment_or_none(second)?;
-            Some(Call::CounterWait(counter, deadline))
-        }
+        "set" => Some(Call::Set(number_below(first, CELLS)?, number(second)?)),
+        "newnote" => Some(Call::NewNote(note_or_none(first)?, moment_or_none(second)?)),
+        "notewait" => Some(Call::NoteWait(number_below(first, NOTES)?, moment_or_none(second)?)),
+        "cwait" => Some(Call::CounterWait(
+            number_below(first, declared.counters)?,
+            moment_or_none(second)?,
+        )),
         _ => None,
     }
 }
@@ -189,14 +146,10 @@ pub fn actor(words: &[&str], threads: u8) -> Option<(u8, bool)>
     ensures { result ≡ actor_of threads (map (λ x. x.now) words.now) }
 {
     match words {
-        [thread] => {
-            let thread = number_below(thread, threads)?;
-            Some((thread, false))
-        }
+        [thread] => Some((number_below(thread, threads)?, false)),
         [thread, rest] => {
             if rest.is_empty() {
-                let thread = number_below(thread, threads)?;
-                Some((thread, true))
+                Some((number_below(thread, threads)?, true))
             } else {
                 None
             }

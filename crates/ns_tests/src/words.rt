@@ -54,46 +54,21 @@ fn words_have_their_numbers(rt: HostRuntime) {
 
 #[test]
 fn each_bit_has_its_value(rt: HostRuntime) {
-    let free = Word::FREE;
-    assert!(rt; has_number(Word { spin: true, ..free }, 2));
-    assert!(rt;
-        has_number(
-            Word {
-                waiting: true,
-                ..free
-            },
-            4
-        )
-    );
-    assert!(rt;
-        has_number(
-            Word {
-                desig: true,
-                ..free
-            },
-            8
-        )
-    );
-    assert!(rt; has_number(Word { cond: true, ..free }, 16));
-    assert!(rt;
-        has_number(
-            Word {
-                writer_waits: true,
-                ..free
-            },
-            32
-        )
-    );
-    assert!(rt;
-        has_number(
-            Word {
-                all_false: true,
-                ..free
-            },
-            64
-        )
-    );
-    assert!(rt; has_number(Word { long: true, ..free }, 128));
+    let mut word = Word::FREE; // one bit more at a time
+    word.spin = true;
+    assert!(rt; has_number(word, 2));
+    word.waiting = true;
+    assert!(rt; has_number(word, 2 + 4));
+    word.desig = true;
+    assert!(rt; has_number(word, 2 + 4 + 8));
+    word.cond = true;
+    assert!(rt; has_number(word, 2 + 4 + 8 + 16));
+    word.writer_waits = true;
+    assert!(rt; has_number(word, 2 + 4 + 8 + 16 + 32));
+    word.all_false = true;
+    assert!(rt; has_number(word, 2 + 4 + 8 + 16 + 32 + 64));
+    word.long = true;
+    assert!(rt; has_number(word, 2 + 4 + 8 + 16 + 32 + 64 + 128));
     assert!(rt; has_number(read_by(1), 256));
 }
 
