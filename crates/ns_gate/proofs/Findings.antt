@@ -2,28 +2,12 @@
 use Rattle.std.proofs.Common.{Bool, List, None, Option, Result, Some, [], ap, cond, inl, inr, ne_eqb, refl, slice_index, subst, sym, ℕ, ◌++◌, ◌<◌, ◌∙◌, ◌∷◌, ◌≡◌}
 use Rattle.ns_gate.proofs.Prelude.{Acquire, Act, ActFits, BeginsIf, CanStep, Cell, Changed, Effect, Flag, Found, GateView, HasStepped, Held, IsExchange, IsOwedNext, IsPackable, JudgeMet, JudgeQuiet, Lists, LoadCell, LoadFlag, LoadWord, LockState, Made, MayExchange, Me, Owed, Part, Performed}
 use Rattle.ns_gate.proofs.Prelude.{PerformedWith, Release, ReleaseReturning, ReturnQueues, Returning, Saw, SeatView, SectionFits, TakeQueues, Truths, WaitReturning, Walk, Word, act_by, act_fits, act_of, act_returning, cases_eq, change_found, decoded, exchanged, found_fits, found_of, found_returned}
-use Rattle.ns_gate.proofs.Prelude.{got_of, made_by, next_owed, number_of, packable, part_of, rest, row_in, scanned, standing_after, the, tried_for, view_fits, view_in, walk_after, walk_by, want_of, word_of}
+use Rattle.ns_gate.proofs.Prelude.{got_of, made_by, next_owed, number_of, packable, part_of, row_in, scanned, standing_after, the, tried_for, view_fits, view_in, walk_after, walk_by, want_of, word_of}
 
 -- the wake that is owed next
 pub owed_next : (wake : Owed) (owed : List Owed) → IsOwedNext wake owed → wake ≡ next_owed owed
 owed_next wake [] is = absurd is
 owed_next wake (next ∷ others) is = sym is
-
--- a seat that has the queues in hand may be lent them
-pub has_slot : {C : Type 0} (lists : Lists C) (slots : List (ℕ × Lists C)) → slots ≡ (0, lists) ∷ [] → (was : Lists C) × (slots ≡ (0, was) ∷ rest slots)
-has_slot lists slots carries = (lists, carries ∙ ap (λ xs. (0, lists) ∷ xs) (sym (ap rest carries)))
-
-abbrev first_slot : {C : Type 0} → Lists C → List (ℕ × Lists C) → Lists C
-first_slot lists [] = lists
-first_slot lists (slot ∷ slots) = slot.1
-
--- what is lent are these lists
-pub was_in_hand : {C : Type 0} (lists slot was : Lists C) (slots : List (ℕ × Lists C)) → slots ≡ (0, lists) ∷ [] → slots ≡ (0, slot) ∷ rest slots → was ≡ slot → was ≡ lists
-was_in_hand lists slot was slots carries value lent = lent ∙ ap (first_slot lists) (sym value ∙ carries)
-
--- and once it is given back, what was made of them is in hand
-pub now_in_hand : {C : Type 0} (lists now wanted : Lists C) (slots : List (ℕ × Lists C)) → slots ≡ (0, lists) ∷ [] → now ≡ wanted → (0, now) ∷ rest slots ≡ (0, wanted) ∷ []
-now_in_hand lists now wanted slots carries is = λ i. (0, is i) ∷ (ap rest carries) i
 
 module _ {C : Type 0} {N : ℕ} (truths : Truths C) where
   -- a call that begins leaves the word

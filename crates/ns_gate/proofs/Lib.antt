@@ -1,14 +1,13 @@
 pub mod Allowed
-pub mod Besides
 pub mod Calls
 pub mod Endings
 pub mod Findings
 pub mod Guesses
+pub mod Hands
 pub mod Keeps
 pub mod Looks
 pub mod Meets
 pub mod Prelude
-pub mod Room
 pub mod Scans
 pub mod Starts
 pub mod Stays

@@ -1,5 +1,6 @@
 -- The names that proofs cite, of specs and of what stands below, passed on from one place. Declares nothing.
 pub use Rattle.ns_env.proofs.Asks.{set_here, set_there}
+pub use Rattle.ns_gate.proofs.Hands.{beside_fits, has_slot, now_in_hand, queues_fit, was_in_hand}
 pub use Rattle.ns_gate.specs.Prelude.{Acquire, Act, ActFits, Allows, ArePair, ArmFlag, Arrival, AtHome, BeginsIf, BeginsWith, Bits, Broadcasting, CallGoes, CameByGuess, CanLeave, CanStep, CanWait, Carries, Cause, Cell, Change, Changed, Course, Cv, Done, Effect, EndsAs, Event, Every, Final, Fits}
 pub use Rattle.ns_gate.specs.Prelude.{Flag, Foremost, Found, GateView, GetLoad, Ghosts, HasCome, HasGuessed, HasLearned, HasLooked, HasMadeBoth, HasMode, HasReached, HasRoom, HasSight, HasSince, HasStepped, HaveLearned, HaveMet, HaveSeats, Held, Holds, Homes, Idle, InAcquire, InCells, InLeaving}
 pub use Rattle.ns_gate.specs.Prelude.{InQueuing, InRelease, InShow, InSignal, InTry, InWait, IsAtPlace, IsAtRest, IsBySeats, IsBySums, IsExchange, IsLawful, IsLoad, IsOnWord, IsOne, IsOrderly, IsOwedNext, IsPackable, IsPlainExchange, IsRuled, IsSettled, IsStoreOf, IsTold, IsTrueToHistory, IsWide}
@@ -23,7 +24,7 @@ pub use Rattle.ns_model.specs.Room.{room_enough}
 pub use Rattle.ns_queue.proofs.Bounds.{list_small, told_no}
 pub use Rattle.ns_queue.proofs.Marking.{drop_step}
 pub use Rattle.ns_queue.proofs.Outside.{gone_those, same_each}
-pub use Rattle.ns_queue.proofs.Parts.{below_in, once_in}
+pub use Rattle.ns_queue.proofs.Parts.{below_in, lists_without, once_in}
 pub use Rattle.ns_queue.proofs.Seats.{none_without, own_times, times_in-cons}
 pub use Rattle.ns_queue.proofs.Shown.{each_shown}
 pub use Rattle.ns_queue.proofs.Taken.{sole_is, times_signaled}

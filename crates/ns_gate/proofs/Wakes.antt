@@ -1,8 +1,8 @@
 -- Those whom a signal or a broadcast takes: where they may go, how they come back, and to whom a wake is owed.
 use Rattle.std.proofs.Common.{Bool, IsTrue, List, None, Option, Some, [], ap, append-nil, arith, drop, eq-eqb, eqb, false, get_or, if◌then◌else◌, inl, inr, length, map, ne_eqb, not, refl, subst, sym, true, ℕ, ◌&&◌, ◌++◌, ◌+◌, ◌<◌, ◌↔◌, ◌∙◌, ◌∷◌, ◌≡◌, ◌≤◌}
 use Rattle.ns_gate.proofs.Prelude.{Act, Broadcasting, Carries, Cv, Found, HaveSeats, IsOrderly, Lists, Lock, OnFalse, OnTrue, Part, Performed, ReturnQueues, SeatOf, SeatView, Signaling, Truths, Turned, Waiter, WakeWaiters, Waking, Walk, Woke, Word, and-true, below_in, bit_at, bits_of, cases_Bool}
-use Rattle.ns_gate.proofs.Prelude.{cases_eq, change_found, cvs_without, drop_step, filter-append, gone_those, has_queues, has_some, in_more, is_held, is_of, kept_by, lists_left, lists_orderly, lists_woken, moved_to, none_in, none_without, once_in, option_map, outside, owed_woken, own_times}
-use Rattle.ns_gate.proofs.Prelude.{same_each, seats_of, sole_is, sole_of, sum_by, sum_by-cons, taken_by, taken_from, taken_set, the, times, times_in, times_in-cons, times_signaled, told_no, turned_to, waiters_of, wakes_of, with_waiters, without, without_each, without_in, woken_nobody, woken_sole}
+use Rattle.ns_gate.proofs.Prelude.{cases_eq, change_found, cvs_without, drop_step, filter-append, gone_those, has_queues, has_some, in_more, is_held, is_of, kept_by, lists_left, lists_orderly, lists_without, lists_woken, moved_to, none_in, none_without, once_in, option_map, outside, owed_woken, own_times}
+use Rattle.ns_gate.proofs.Prelude.{same_each, seats_of, sole_is, sole_of, taken_by, taken_from, taken_set, the, times, times_in, times_in-cons, times_signaled, told_no, turned_to, waiters_of, wakes_of, with_waiters, without, without_each, woken_nobody, woken_sole}
 use Rattle.ns_gate.proofs.Prelude.{writes}
 use Rattle.ns_gate.proofs.Stays.{HasKeptItsQueues, effect_of, still_carries}
 
@@ -36,15 +36,8 @@ module _ {C : Type 0} where
 
   -- ---- how they come back
 
-  -- lists without one who stands in none
-  lists_same : (seat : ℕ) (lists : List (List (Waiter C))) → sum_by (times_in seat) lists ≡ 0 → map (without_in seat) lists ≡ lists
-  lists_same seat [] none = refl
-  lists_same seat (ws ∷ lists) none =
-      let sum = sum_by-cons (times_in seat) ws lists in
-      rw (none_without seat ws (omega (arith, sum, none)), lists_same seat lists (omega (arith, sum, none))) refl
-
   absent : (seat : ℕ) (lists : Lists C) → times seat lists ≡ 0 → without seat lists ≡ lists
-  absent seat lists none = rw (none_without seat lists.lock (omega (arith, none)), lists_same seat lists.cvs (omega (arith, none))) refl
+  absent seat lists none = rw (none_without seat lists.lock (omega (arith, none)), lists_without seat lists.cvs (omega (arith, none))) refl
 
   -- one who is told to be removed is in none of the lists, whether it stood there or not
   pub removed_so : (seat : ℕ) (old new : Lists C) (gone : Bool) → (IsTrue gone ↔ (0 < times seat old)) → OnTrue gone (new ≡ without seat old) → OnFalse gone (new ≡ old) → new ≡ without seat old
@@ -59,7 +52,7 @@ module _ {C : Type 0} where
   -- the first of those at the back, who stands nowhere else, is out of the lists
   first_out : (lists : Lists C) (w : Waiter C) (ws : List (Waiter C)) → times_in w.seat ws ≡ 0 → times w.seat lists ≡ 0 → without w.seat (with_waiters lists Lock (lists.lock ++ w ∷ ws)) ≡ with_waiters lists Lock (lists.lock ++ ws)
   first_out lists w ws none free =
-      rw (filter-append (λ v. not (is_of w.seat v)) lists.lock (w ∷ ws), eq-eqb w.seat w.seat refl, none_without w.seat lists.lock (omega (arith, free)), none_without w.seat ws none, lists_same w.seat lists.cvs (omega (arith, free))) refl
+      rw (filter-append (λ v. not (is_of w.seat v)) lists.lock (w ∷ ws), eq-eqb w.seat w.seat refl, none_without w.seat lists.lock (omega (arith, free)), none_without w.seat ws none, lists_without w.seat lists.cvs (omega (arith, free))) refl
 
   -- Those who stand in none of the lists are put at the back of the lock's and taken out again: the lists are as they were.
   pub back_again : (lists : Lists C) (ws : List (Waiter C)) → ((seat : ℕ) → times_in seat ws ≤ 1) → ((seat : ℕ) → 1 ≤ times_in seat ws → times seat lists ≡ 0) → without_each ws (moved_to true ws lists) ≡ lists

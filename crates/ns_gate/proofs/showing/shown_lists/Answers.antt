@@ -1,5 +1,4 @@
-use Rattle.ns_gate.proofs.Prelude.{arith, each_shown}
-use Rattle.ns_gate.proofs.Room.{queues_fit}
+use Rattle.ns_gate.proofs.Prelude.{arith, each_shown, queues_fit}
 use Rattle.ns_gate.proofs.showing.shown_lists.Goals as goal
 
 pub returns : goal.returns

@@ -1,7 +1,6 @@
 use Rattle.std.proofs.Common.{ap, eqb, not, ◌∙◌}
-use Rattle.ns_gate.proofs.Prelude.{Cv, waiters_of}
+use Rattle.ns_gate.proofs.Prelude.{Cv, queues_fit, waiters_of}
 use Rattle.ns_gate.proofs.Wakes.{has_bits}
-use Rattle.ns_gate.proofs.Room.{queues_fit}
 use Rattle.ns_gate.proofs.waking.has_waiters.Goals as goal
 
 pub waiting_set-requires : goal.waiting_set-requires

@@ -1,4 +1,4 @@
-use Rattle.ns_gate.proofs.Room.{queues_fit}
+use Rattle.ns_gate.proofs.Prelude.{queues_fit}
 use Rattle.ns_gate.proofs.waking.move_if.Goals as goal
 
 pub append-requires : goal.append-requires

@@ -1,5 +1,5 @@
 use Rattle.ns_gate.proofs.Wakes.{one_out, removed_so}
-use Rattle.ns_gate.proofs.Room.{queues_fit}
+use Rattle.ns_gate.proofs.Prelude.{queues_fit}
 use Rattle.ns_gate.proofs.waking.take_back.Goals as goal
 
 pub loop-waiter-preserved : goal.loop-waiter-preserved

@@ -1,5 +1,4 @@
-use Rattle.ns_gate.proofs.Prelude.{list_small}
-use Rattle.ns_gate.proofs.Room.{queues_fit}
+use Rattle.ns_gate.proofs.Prelude.{list_small, queues_fit}
 use Rattle.ns_gate.proofs.waking.take_waiters.Goals as goal
 
 pub take_signal-requires : goal.take_signal-requires

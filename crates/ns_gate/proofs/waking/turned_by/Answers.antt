@@ -1,4 +1,4 @@
-use Rattle.ns_gate.proofs.Room.{queues_fit}
+use Rattle.ns_gate.proofs.Prelude.{queues_fit}
 use Rattle.ns_gate.proofs.waking.turned_by.Goals as goal
 
 pub bits-requires : goal.bits-requires

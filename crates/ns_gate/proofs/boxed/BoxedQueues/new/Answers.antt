@@ -1,4 +1,4 @@
-use Rattle.ns_gate.proofs.Room.{queues_fit}
+use Rattle.ns_gate.proofs.Prelude.{queues_fit}
 use Rattle.ns_gate.proofs.boxed.BoxedQueues.new.Goals as goal
 
 pub new-requires : goal.new-requires

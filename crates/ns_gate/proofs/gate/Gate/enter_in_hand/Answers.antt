@@ -1,7 +1,5 @@
 use Rattle.std.proofs.Common.{ap, arith, refl, sym, ◌∙◌}
-use Rattle.ns_gate.proofs.Prelude.{TableId, bits_of, times, waits_at}
-use Rattle.ns_gate.proofs.Findings.{has_slot, now_in_hand, was_in_hand}
-use Rattle.ns_gate.proofs.Room.{queues_fit}
+use Rattle.ns_gate.proofs.Prelude.{TableId, bits_of, has_slot, now_in_hand, queues_fit, times, waits_at, was_in_hand}
 use Rattle.ns_gate.proofs.gate.Gate.enter_in_hand.Goals as goal
 
 pub slot_mut-requires : goal.slot_mut-requires

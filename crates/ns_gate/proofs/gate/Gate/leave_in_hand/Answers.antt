@@ -1,7 +1,5 @@
 use Rattle.std.proofs.Common.{ap, arith, refl, sym, ◌∙◌}
-use Rattle.ns_gate.proofs.Prelude.{LeaveSelf, TableId, bits_of, changed, stands_at, the}
-use Rattle.ns_gate.proofs.Findings.{has_slot, was_in_hand, now_in_hand}
-use Rattle.ns_gate.proofs.Room.{queues_fit}
+use Rattle.ns_gate.proofs.Prelude.{LeaveSelf, TableId, bits_of, changed, has_slot, now_in_hand, queues_fit, stands_at, the, was_in_hand}
 use Rattle.ns_gate.proofs.gate.Gate.leave_in_hand.Goals as goal
 
 pub slot_mut-requires : goal.slot_mut-requires

@@ -1,6 +1,5 @@
 use Rattle.std.proofs.Common.{Bool, List, arith, refl, slice_index, slice_set, ℕ, ◌≡◌}
-use Rattle.ns_gate.proofs.Prelude.{Act, ArmFlag, IsOnWord, JudgeMet, JudgeQuiet, Limits, LoadCell, LoadFlag, LoadWord, Look, PayWake, StoreCell, before_in, row_in, the}
-use Rattle.ns_gate.proofs.Besides.{beside_fits}
+use Rattle.ns_gate.proofs.Prelude.{Act, ArmFlag, IsOnWord, JudgeMet, JudgeQuiet, Limits, LoadCell, LoadFlag, LoadWord, Look, PayWake, StoreCell, before_in, beside_fits, row_in, the}
 use Rattle.ns_gate.proofs.gate.Gate.perform.Goals as goal
 
 -- what a test says of a row in which this cell was set, it says of the whole row

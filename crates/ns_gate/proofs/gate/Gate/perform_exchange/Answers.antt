@@ -1,6 +1,5 @@
 use Rattle.std.proofs.Common.{Bool, arith, refl, ◌≡◌}
-use Rattle.ns_gate.proofs.Prelude.{Acquire, Act, Aim, Arrival, Change, IsOnWord, Release, ReleaseReturning, Releasing, ReturnQueues, TakeQueues, Taking, Wait, WaitReturning, Word}
-use Rattle.ns_gate.proofs.Besides.{beside_fits}
+use Rattle.ns_gate.proofs.Prelude.{Acquire, Act, Aim, Arrival, Change, IsOnWord, Release, ReleaseReturning, Releasing, ReturnQueues, TakeQueues, Taking, Wait, WaitReturning, Word, beside_fits}
 use Rattle.ns_gate.proofs.gate.Gate.perform_exchange.Goals as goal
 
 -- an exchange is one of these

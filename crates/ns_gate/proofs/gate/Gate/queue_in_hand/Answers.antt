@@ -1,7 +1,5 @@
 use Rattle.std.proofs.Common.{ap, arith, refl, sym, ◌∙◌}
-use Rattle.ns_gate.proofs.Prelude.{QueueSelf, TableId, bits_of, changed, the, times}
-use Rattle.ns_gate.proofs.Findings.{has_slot, was_in_hand, now_in_hand}
-use Rattle.ns_gate.proofs.Room.{queues_fit}
+use Rattle.ns_gate.proofs.Prelude.{QueueSelf, TableId, bits_of, changed, has_slot, now_in_hand, queues_fit, the, times, was_in_hand}
 use Rattle.ns_gate.proofs.gate.Gate.queue_in_hand.Goals as goal
 
 pub slot_mut-requires : goal.slot_mut-requires

@@ -1,8 +1,6 @@
 use Rattle.std.proofs.Common.{ap, arith, not, refl, rules, sym, ◌∙◌}
-use Rattle.ns_gate.proofs.Prelude.{TableId, bits_of, lists_woken, the}
-use Rattle.ns_gate.proofs.Findings.{has_slot, was_in_hand, now_in_hand}
+use Rattle.ns_gate.proofs.Prelude.{TableId, bits_of, has_slot, lists_woken, now_in_hand, queues_fit, the, was_in_hand}
 use Rattle.ns_gate.proofs.Wakes.{may_turn, turned_over}
-use Rattle.ns_gate.proofs.Room.{queues_fit}
 use Rattle.ns_gate.proofs.gate.Gate.turn_in_hand.Goals as goal
 
 pub slot_mut-requires : goal.slot_mut-requires
