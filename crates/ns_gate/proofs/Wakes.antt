@@ -1,9 +1,9 @@
 -- Those whom a signal or a broadcast takes: where they may go, how they come back, and to whom a wake is owed.
 use Rattle.std.proofs.Common.{Bool, IsTrue, List, None, Option, Some, [], ap, append-nil, arith, drop, eq-eqb, eqb, false, get_or, if◌then◌else◌, inl, inr, length, map, ne_eqb, not, refl, subst, sym, true, ℕ, ◌&&◌, ◌++◌, ◌+◌, ◌<◌, ◌↔◌, ◌∙◌, ◌∷◌, ◌≡◌, ◌≤◌}
 use Rattle.ns_gate.proofs.Prelude.{Act, Broadcasting, Carries, Cv, Found, HaveSeats, IsOrderly, Lists, Lock, OnFalse, OnTrue, Part, Performed, ReturnQueues, SeatOf, SeatView, Signaling, Truths, Turned, Waiter, WakeWaiters, Waking, Walk, Woke, Word, and-true, below_in, bit_at, bits_of, cases_Bool}
-use Rattle.ns_gate.proofs.Prelude.{cases_eq, change_found, cvs_without, drop_step, filter-append, gone_those, has_queues, has_some, in_more, is_held, is_of, kept_by, lists_left, lists_orderly, lists_without, lists_woken, moved_to, none_in, none_without, once_in, option_map, outside, owed_woken, own_times}
+use Rattle.ns_gate.proofs.Prelude.{cases_eq, change_found, cvs_without, drop_step, filter-append, gone_those, has_queues, has_some, in_more, is_held, is_of, kept_by, lists_left, lists_orderly, lists_woken, moved_to, none_in, none_without, once_in, option_map, outside, owed_woken, own_times}
 use Rattle.ns_gate.proofs.Prelude.{same_each, seats_of, sole_is, sole_of, taken_by, taken_from, taken_set, the, times, times_in, times_in-cons, times_signaled, told_no, turned_to, waiters_of, wakes_of, with_waiters, without, without_each, woken_nobody, woken_sole}
-use Rattle.ns_gate.proofs.Prelude.{writes}
+use Rattle.ns_gate.proofs.Prelude.{lists_without, writes}
 use Rattle.ns_gate.proofs.Stays.{HasKeptItsQueues, effect_of, still_carries}
 
 module _ {C : Type 0} where

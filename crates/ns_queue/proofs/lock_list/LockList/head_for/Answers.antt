@@ -6,10 +6,14 @@ pub bounds-self-inside-back : goal.bounds-self-inside-back
 bounds-self-inside-back g c = back_place c.self.inside.ring c.back.result c.back.ensures.orderly c.back.ensures.place
 
 pub returns-then-joins : goal.returns-then-joins
-returns-then-joins g c = rw (← c.self.view_is) (record { head = rw c.if-joins.true at (head_told g.C.Condition.means.same c.self.inside.heads c.self.inside.lasts c.back.result c.self.inside.ring c.args.waiter.now c.joins.result (option_copied c.get.result) c.back.ensures.place c.back.ensures.orderly c.self.invariant c.joins.ensures c.get.ensures.waiter); orderly = c.back.ensures.orderly })
+returns-then-joins g c =
+    let told = head_told g.C.Condition.means.same c.self.inside.heads c.self.inside.lasts c.back.result c.self.inside.ring c.args.waiter.now c.joins.result (option_copied c.get.result) c.back.ensures.place c.back.ensures.orderly c.self.invariant c.joins.ensures c.get.ensures.waiter in
+    rw (← c.self.view_is) (record { head = rw c.if-joins.true at told; orderly = c.back.ensures.orderly })
 
 pub returns-else-joins : goal.returns-else-joins
-returns-else-joins g c = rw (← c.self.view_is) (record { head = rw c.if-joins.false at (head_told g.C.Condition.means.same c.self.inside.heads c.self.inside.lasts c.back.result c.self.inside.ring c.args.waiter.now c.joins.result (option_copied c.get.result) c.back.ensures.place c.back.ensures.orderly c.self.invariant c.joins.ensures c.get.ensures.waiter); orderly = c.back.ensures.orderly })
+returns-else-joins g c =
+    let told = head_told g.C.Condition.means.same c.self.inside.heads c.self.inside.lasts c.back.result c.self.inside.ring c.args.waiter.now c.joins.result (option_copied c.get.result) c.back.ensures.place c.back.ensures.orderly c.self.invariant c.joins.ensures c.get.ensures.waiter in
+    rw (← c.self.view_is) (record { head = rw c.if-joins.false at told; orderly = c.back.ensures.orderly })
 
 pub back-requires : goal.back-requires
 back-requires g c = ring_fits g.row.C (number g.row.N) g.met.C.Condition.has_room
