@@ -110,7 +110,9 @@ fits_fresh N mode held fits each h = let section = hand_of (IsFreshIn N mode) he
 -- it was told the note's number, and left its section only once a look had shown nothing, to a seat that has seen this
 pub looked_by : (P : Type 0) (note : Option Note) (deadline number : Option ℕ) (old new : EnvKnown) (seen : List EnvEvent) → seen ≡ new.seen → number ≡ option_map (λ n. n.index) note →
     (is_limited (record { deadline = deadline; note = number }) ≡ true → P ⊎ LookShows (record { deadline = deadline; note = number }) old new None) → is_some deadline || is_some note ≡ true → P ⊎ HadLooked note deadline old.seen seen
-looked_by P given deadline number old new seen same is before limited = ⊎_elim (λ kept. inl kept) (λ shown. inr (record { none = subst (λ (x : List EnvEvent × Option ℕ). HasLooked (record { deadline = deadline; note = x.1 }) None old.seen x.0) (λ i. (sym same i, is i)) shown })) (before (ap (λ o. is_limited (record { deadline = deadline; note = o })) is ∙ named given limited)) where
-  named : (o : Option Note) → is_some deadline || is_some o ≡ true → is_limited (limits_of deadline o) ≡ true
-  named None l = l
-  named (Some n) l = l
+looked_by P given deadline number old new seen same is before limited =
+    let none = subst (λ (x : List EnvEvent × Option ℕ). HasLooked (record { deadline = deadline; note = x.1 }) None old.seen x.0) (λ i. (sym same i, is i)) in
+    ⊎_elim (λ kept. inl kept) (λ shown. inr (record { none = none shown })) (before (ap (λ o. is_limited (record { deadline = deadline; note = o })) is ∙ named given limited)) where
+      named : (o : Option Note) → is_some deadline || is_some o ≡ true → is_limited (limits_of deadline o) ≡ true
+      named None l = l
+      named (Some n) l = l

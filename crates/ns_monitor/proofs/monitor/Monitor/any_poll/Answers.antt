@@ -1,5 +1,6 @@
 use Rattle.std.proofs.Common.{None, Some, ap, false, refl, subst, sym, ◌∙◌}
-use Rattle.ns_monitor.proofs.Prelude.{in_room, AcquireLoad, Await, AwaitWakeInWait, CanStep, Flag, ForWait, HasAcquired, HasAnswered, HasSince, InAcquire, InWait, IsAtPlace, IsWaitingForAny, Limits, LoadFlag, Look, LookOut, Looked, Performed, TableId, Wait, WaitKnown, Woken, WokenBy, at_will, can_go, goes}
+use Rattle.ns_monitor.proofs.Prelude.{in_room, AcquireLoad, Await, AwaitWakeInWait, CanStep, Flag, ForWait, HasAcquired, HasAnswered, HasSince, InAcquire, InWait, IsAtPlace, IsWaitingForAny, Limits, LoadFlag, Look}
+use Rattle.ns_monitor.proofs.Prelude.{LookOut, Looked, Performed, TableId, Wait, WaitKnown, Woken, WokenBy, at_will, can_go, goes}
 use Rattle.ns_monitor.proofs.Prelude.{got_of, since, since_then, the, waits_for_any}
 use Rattle.ns_monitor.proofs.SeveralWaits.{has_come_back, still_waits, tells_still}
 use Rattle.ns_monitor.proofs.Standing.{same_number}
