@@ -1,14 +1,13 @@
 -- No seat is past its last call.
-use Rattle.std.proofs.Common.{All, Bool, Global, IfSome, List, None, Option, Some, Vec, [], ap, arith, cond, false, inl, inr, is_some, length, map, refl, replicate, slice_get, slice_index, slice_set, subst, suc, sym, true, zero, ℕ, ◌++◌, ◌+◌, ◌<◌, ◌||◌, ◌∙◌, ◌∷◌, ◌≡◌, ◌≢◌, ◌≤◌}
-use Rattle.ns_world.proofs.Prelude.{All-head, All-nil, All-tail, AnyWait, Call, CallInRange, Counts, EnvNext, Finished, Go, GoesOnOrBegins, InRound, IsCounted, Line, ListFits, LookOver, MovesFrom, Next, ObjectNext, ObjectWalk, Over, Progress, Reply, Seat, SeatLooks, SeatMakes, SeatView, Sees, Step}
-use Rattle.ns_world.proofs.Prelude.{ToldIf, TurnOf, Walk, Whole, WholeMoves, calls_of, cases_eq, env_got_of, env_step_of, env_walk_after, get_or-set_other, get_or-set_same, got_of, in_call, is_for_lock, length-set, look_of, object_after, object_got, object_step_of, option_map_or, progress}
-use Rattle.ns_world.proofs.Prelude.{progressed, set_there, slice_get_within, step_of, tests_at, tests_told, told_to, walk_after, whole_busy}
+use Rattle.std.proofs.Common.{All, Bool, Global, IfSome, List, None, Option, Some, Vec, [], ap, arith, cond, false, inl, inr, length, map, refl, replicate, slice_get, slice_index, slice_set, subst, suc, sym, true, zero, ℕ, ◌++◌, ◌+◌, ◌<◌, ◌∙◌, ◌∷◌, ◌≡◌, ◌≢◌, ◌≤◌}
+use Rattle.ns_world.proofs.Prelude.{All-head, All-nil, All-tail, AnyWait, Call, CallInRange, Counts, EnvNext, Finished, Go, GoesOnOrBegins, IsCounted, Line, ListFits, LookOver, Looked, Next, ObjectLeads, ObjectNext, OnNotes, OnObjects, Over, Progress, Reply, Round, RoundLeads, Seat}
+use Rattle.ns_world.proofs.Prelude.{SeatLooks, SeatMakes, Sees, Step, TurnOf, Walk, Whole, WholeMoves, calls_of, cases_eq, doing_after, env_got_of, env_step_of, env_walk_after, few, get_or-set_other, get_or-set_same, got_of, in_call, is_call, length-set, most, object_after}
+use Rattle.ns_world.proofs.Prelude.{object_step_of, option_map_or, progress, progressed, set_there, slice_get_within, step_of, tests_at, tests_told, there, waits_then, whole_busy}
 use Rattle.ns_word.specs.declared.walk.Next.TheVariants.{Done}
-use Rattle.ns_word.specs.declared.act.Found.TheVariants as TheFound
 use Rattle.ns_world.proofs.Fresh.{each_same}
 use Rattle.ns_world.proofs.SeatSet.{here_then, others_stay}
-use Rattle.ns_world.proofs.StepKinds.{look_due, waited_operating, waited_view}
 use Rattle.ns_world.proofs.Turns.{busy_at}
+use Rattle.ns_word.specs.declared.act.Found.TheVariants as TheFound
 use Rattle.ns_counters.specs.declared.walk.ObjectNext.TheVariants as TheObject
 
 -- ---- the lists
@@ -32,33 +31,18 @@ bit_most true = omega arith
 bit_most false = omega arith
 
 -- a call that is over leaves its seat idle
-over_idle : {C : Type 0} (next : Next C) (reply : Reply) → Finished reply ≡ step_of next → walk_after next ≡ None
-over_idle (Done answer) reply e = refl
-over_idle next reply e = absurd (cc)
+lock_over : {C : Type 0} (wait : Option AnyWait) (next : Next C) (reply : Reply) → Finished reply ≡ step_of wait next → is_call (doing_after wait next) ≡ false
+lock_over wait (Done answer) reply e = refl
+lock_over wait next reply e = absurd (cc)
 
-over_unasked : (next : EnvNext) (reply : Reply) → Finished reply ≡ env_step_of next → env_walk_after next ≡ None
-over_unasked (Over answer) reply e = refl
-over_unasked (LookOver cause) reply e = refl
-over_unasked next reply e = absurd (cc)
+notes_over : (C : Type 0) (next : EnvNext) (reply : Reply) → Finished reply ≡ env_step_of next → is_call {C = C} (there OnNotes (env_walk_after next)) ≡ false
+notes_over C (Over answer) reply e = refl
+notes_over C (LookOver cause) reply e = refl
+notes_over C next reply e = absurd (cc)
 
--- a call on counters and once cells that is over leaves its seat nowhere
-over_nowhere : (next : ObjectNext) (reply : Reply) → Finished reply ≡ object_step_of next → object_after next ≡ None
-over_nowhere (TheObject.Over answer) reply e = refl
-over_nowhere next reply e = absurd (cc)
-
--- who waits for a set of variables is told nothing by the last step of a round
-waits_nowhere : (wait : Option AnyWait) (walk : ObjectWalk) (reply : Reply) → is_for_lock wait walk (Finished reply) ≡ false → wait ≡ None
-waits_nowhere None walk reply not = refl
-waits_nowhere (Some wait) walk reply not = absurd (cc)
-
-look_due_none : (C : Type 0) (wait : Option AnyWait) → look_due {C = C} wait None ≡ None
-look_due_none C None = refl
-look_due_none C (Some wait) = refl
-
-told_over : (wait : Option AnyWait) (told : Step) (reply : Reply) → Finished reply ≡ told_to wait told → (answer : Reply) × (Finished answer ≡ told)
-told_over None told reply e = (reply, e)
-told_over (Some wait) (Finished answer) reply e = (answer, refl)
-told_over (Some wait) told reply e = absurd (cc)
+objects_over : (C : Type 0) (next : ObjectNext) (reply : Reply) → Finished reply ≡ object_step_of next → is_call {C = C} (there OnObjects (object_after next)) ≡ false
+objects_over C (TheObject.Over answer) reply e = refl
+objects_over C next reply e = absurd (cc)
 
 module _ {C : Type 0} {N : ℕ} where
   -- a seat and its count change, and no other's
@@ -84,39 +68,25 @@ module _ {C : Type 0} {N : ℕ} where
 
   -- ---- what the last step of a call leaves of its seat
 
-  nowhere_idle : (seat : Seat C N) → seat.walk ≡ None → seat.asking ≡ None → seat.operating ≡ None → in_call seat ≡ false
-  nowhere_idle seat over unasked nowhere = λ i. (is_some (over i) || is_some (unasked i)) || is_some (nowhere i)
-
-  sees_over : (seat next : Seat C N) (walk : Walk C) (cause : _) (reply : Reply) → Sees seat walk cause next (Finished reply) → seat.operating ≡ None → in_call next ≡ false
-  sees_over seat next walk cause reply q nowhere =
-      let over = over_idle (got_of N walk (TheFound.Looked cause)) reply q.answers in
-      nowhere_idle next (ap (λ (s : Seat C N). s.walk) q.goes ∙ over) (ap (λ (s : Seat C N). s.asking) q.goes ∙ ap look_of over) (ap (λ (s : Seat C N). s.operating) q.goes ∙ nowhere)
+  sees_over : (seat next : Seat C N) (walk : Walk C) (wait : Option AnyWait) (cause : _) (reply : Reply) → Sees seat walk wait cause next (Finished reply) → in_call next ≡ false
+  sees_over seat next walk wait cause reply q = ap in_call q.goes ∙ lock_over wait (got_of N walk (TheFound.Looked cause)) reply q.answers
 
   makes_over : (old new : Whole C N) (here next : Seat C N) (reply : Reply) → SeatMakes old new here next (Finished reply) → in_call next ≡ false
-  makes_over old new here next reply (inl p) =
-      let told = told_over p.then.awaits p.told reply p.answers in
-      let over = over_idle (got_of N p.walk p.performs.found) told.0 (told.1 ∙ p.performs.answers) in
-      let walk : p.then.walk ≡ None = ap (λ (s : Seat C N). s.walk) p.performs.goes ∙ over in
-      let view = waited_view p.then.awaits p.then.walk p.then in
-      nowhere_idle next (ap (λ (s : Seat C N). s.walk) p.goes ∙ ap (λ (v : SeatView C N). v.walk) view.0 ∙ walk) (ap (λ (s : Seat C N). s.asking) p.goes ∙ view.1 ∙ ap (λ (s : Seat C N). s.asking) p.performs.goes ∙ ap look_of over)
-      (ap (λ (s : Seat C N). s.operating) p.goes ∙ waited_operating p.then.awaits p.then.walk p.then (ap (λ (s : Seat C N). s.operating) p.performs.goes ∙ p.nowhere) ∙ ap (look_due p.then.awaits) walk ∙ look_due_none C p.then.awaits)
-  makes_over old new here next reply (inr (inl p)) = by here.walk refl p.moves where
-    by : (walk : Option (Walk C)) → here.walk ≡ walk → MovesFrom walk old.env new.env here p.place next (Finished reply) → in_call next ≡ false
-    by None over q = nowhere_idle next (ap (λ (s : Seat C N). s.walk) q.goes ∙ over) (ap (λ (s : Seat C N). s.asking) q.goes ∙ over_unasked (env_got_of p.place q.found) reply q.answers) (ap (λ (s : Seat C N). s.operating) q.goes ∙ p.nowhere)
-    by (Some walk) walks q = looked (env_got_of p.place q.found) q.goes where
-      looked : (n : EnvNext) → SeatLooks n here walk next (Finished reply) → in_call next ≡ false
-      looked (Go place) g = let e = g.1 in absurd (cc)
-      looked (LookOver cause) g = sees_over here next walk cause reply g p.nowhere
-      looked n g = absurd g
-  makes_over old new here next reply (inr (inr p)) = by (is_for_lock here.awaits p.walk p.told) refl here.awaits refl p.walk p.tells where
-    by : (b : Bool) → is_for_lock here.awaits p.walk p.told ≡ b → (wait : Option AnyWait) → here.awaits ≡ wait → (walk : ObjectWalk) → ToldIf b wait p.then walk p.told next (Finished reply) → in_call next ≡ false
-    by false not wait is walk q =
-        let rests = p.alone (waits_nowhere here.awaits p.walk reply (ap (is_for_lock here.awaits p.walk) q.1 ∙ not)) in
-        nowhere_idle next (ap (λ (s : Seat C N). s.walk) (q.0 ∙ p.operates.goes) ∙ rests.0) (ap (λ (s : Seat C N). s.asking) (q.0 ∙ p.operates.goes) ∙ rests.1)
-        (ap (λ (s : Seat C N). s.operating) (q.0 ∙ p.operates.goes) ∙ over_nowhere (object_got p.walk p.operates.found) reply (q.1 ∙ p.operates.answers))
-    by true for_lock (Some wait) is walk q = sees_over _ next q.0 _ reply q.2 refl
-    by true for_lock None is (InRound round place) q = let e = q.4 in absurd (cc)
-    by true for_lock None is walk q = absurd q
+  makes_over old new here next reply (inl p) = ap in_call p.performs.goes ∙ lock_over p.wait (got_of N p.walk p.found) reply p.performs.answers
+  makes_over old new here next reply (inr (inl p)) = by (env_got_of p.place p.looks.found) p.looks.goes where
+    by : (n : EnvNext) → SeatLooks n here p.walk next (Finished reply) → in_call next ≡ false
+    by (Go place) g = let e = g.1 in absurd (cc)
+    by (LookOver cause) g = sees_over here next p.walk None cause reply g
+    by n g = absurd g
+  makes_over old new here next reply (inr (inr (inl p))) = by p.leads p.goes where
+    by : (n : ObjectNext) → RoundLeads n here p.walk p.wait next (Finished reply) → in_call next ≡ false
+    by (TheObject.Go round) g = let e = g.1 in absurd (cc)
+    by n g = sees_over here next p.walk _ _ reply g
+  makes_over old new here next reply (inr (inr (inr (inl p)))) = ap in_call p.asks.goes ∙ notes_over C (env_got_of p.walk p.asks.found) reply p.asks.answers
+  makes_over old new here next reply (inr (inr (inr (inr p)))) = by (waits_then p.walk p.leads) p.goes where
+    by : (round : Option Round) → ObjectLeads round p.leads here next (Finished reply) → in_call next ≡ false
+    by (Some round) g = let e = g.answers in absurd (cc)
+    by None g = ap in_call g.0 ∙ objects_over C p.leads reply g.1
 
   whole_over : (old new : Whole C N) (seat : ℕ) (reply : Reply) → WholeMoves old new seat (Finished reply) → whole_busy new seat ≡ false
   whole_over old new seat reply p = busy_at new seat p.next false (here_then old new seat p.here p.next p.at p.seats) (makes_over old new p.here p.next reply p.makes)

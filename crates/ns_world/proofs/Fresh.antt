@@ -1,7 +1,8 @@
 -- A new world: its seats, one after another, and its law.
 use Rattle.std.proofs.Common.{List, None, Option, Some, [], ap, arith, false, get_or, length, map, refl, replicate, slice_get, slice_index, sub-one, suc, sym, zero, ℕ, ◌++◌, ◌+◌, ◌-◌, ◌<◌, ◌∙◌, ◌∷◌, ◌≡◌, ◌≤◌}
-use Rattle.ns_world.proofs.Prelude.{AreNumbered, IsLawfulWhole, NoteStanding, ObjectWalk, Seat, Truths, append_assoc, flag_at, fresh_lawful, fresh_seat, fresh_seats, fresh_views, fresh_whole, in_call, lawful_fresh, most, new_lawful, no_note, note_at, option_map_or, same_Some, standing_of, state_of}
-use Rattle.ns_world.proofs.Prelude.{view_of, walk_in}
+use Rattle.ns_world.proofs.Prelude.{AreNumbered, IsLawfulWhole, NoteStanding, ObjectWalk, Seat, Truths, append_assoc, asking_of, flag_at, fresh_lawful, fresh_seat, fresh_seats, fresh_views, fresh_whole, in_call, lawful_fresh, most, new_lawful, no_note, note_at, operating_of}
+use Rattle.ns_world.proofs.Prelude.{option_map_or, same_Some, standing_of, state_of, view_of, walk_in}
+use Rattle.ns_world.proofs.Exchanged.{made}
 
 -- where all are the same, so is each
 pub each_same : {A : Type 0} (x : A) (n i : ℕ) → get_or (replicate n x) i x ≡ x
@@ -57,15 +58,15 @@ whole_new C N truths seats counters onces few short cells values = record {
   numbered = numbered C N 0 seats;
   counted = sym (length_seats C N 0 seats);
   lawful = rw (length_seats C N 0 seats, views_are {C = C} {N = N} 0 seats) (lawful_fresh C N truths seats few);
-  stands = λ i seat at. rw (each_fresh 0 seats i seat at) (record { right = tt; noted = tt; by = record { alone = refl; apart = λ some. absurd (cc); may = tt } });
+  stands = λ i seat at. rw (each_fresh 0 seats i seat at) tt;
   past = record { notes = []; objects = [] };
   led = (
-    rw (places_are {C = C} {N = N} (λ s. s.asking) (λ number. refl) 0 seats) (fresh_lawful seats),
+    rw (places_are {C = C} {N = N} (λ s. asking_of s.doing) (λ number. refl) 0 seats) (fresh_lawful seats),
     record { lawful = new_lawful seats counters onces few short cells values; within = λ i walk at. absurd (none i walk at); each = λ i walk at. absurd (none i walk at) },
   );
 } where
-  none : (i : ℕ) (walk : ObjectWalk) → walk_in (map (λ s. s.operating) (fresh_seats {C = C} {N = N} 0 seats)) i ≡ Some walk → ⊥
-  none i walk at = none_stand seats i walk (ap (λ ws. walk_in ws i) (sym (places_are {C = C} {N = N} (λ s. s.operating) (λ number. refl) 0 seats)) ∙ at)
+  none : (i : ℕ) (walk : ObjectWalk) → walk_in (map (λ s. operating_of s.doing) (fresh_seats {C = C} {N = N} 0 seats)) i ≡ Some walk → ⊥
+  none i walk at = none_stand seats i walk (ap (λ ws. walk_in ws i) (sym (places_are {C = C} {N = N} (λ s. operating_of s.doing) (λ number. refl) 0 seats)) ∙ at)
 
 -- none of its seats is in a call
 pub none_busy : (C : Type 0) (N first n seat : ℕ) → option_map_or in_call (slice_get (fresh_seats {C = C} {N = N} first n) seat) false ≡ false

@@ -1,10 +1,13 @@
 -- How far a call has come that is under way: what its seat's place says, with what has happened since it began.
-use Rattle.std.proofs.Common.{List, None, Option, Some, [], ap, inl, inr, refl, slice_get, subst, sym, true, ℕ, ◌++◌, ◌<◌, ◌∙◌, ◌≡◌, ◌⊎◌}
-use Rattle.ns_world.proofs.Prelude.{AnswersOfLock, AnswersOfNotes, AnswersTo, AnyAnswers, AreAmong, Asked, BeginsWith, Cause, Course, Cvs, EnvCourse, EnvEvent, EnvRequest, EnvSoFar, EnvWalk, Event, Finished, FirstClock, HasLedTo, HaveShownNothing, InRound, IsLater, IsReady, IsUnfinished}
-use Rattle.ns_world.proofs.Prelude.{ObjectEvent, ObjectSoFar, ObjectWalk, OfLock, OfNotes, OfObjects, Past, Reply, Request, Round, RoundShows, RoundSoFar, Seat, SoFar, Step, Walk, WasShown, WereThere, Whole, any_on, append-nil, asked_of, cause_of, env_asked_of, env_own, held_at, is_among, items_of}
-use Rattle.ns_world.proofs.Prelude.{later_and, later_through, limits_of, mode_of, mode_waited, nothing_on, object_asked, objects_own, others_leave_course, own, past_and, round_on, so_far_on, waits_for_any}
+use Rattle.std.proofs.Common.{List, None, Option, Some, [], ap, slice_get, true, ℕ, ◌++◌, ◌<◌, ◌∙◌, ◌≡◌}
+use Rattle.ns_world.proofs.Prelude.{AnswersOfLock, AnswersTo, AnyAnswers, AnyWait, AreAmong, Asked, Await, BeginsWith, Cause, Course, Cvs, Doing, EnvCourse, EnvEvent, EnvRequest, EnvSoFar, EnvWalk, Event, Finished, FirstClock, HasLedTo, HaveShownNothing, Held, InRound, IsLater, IsReady}
+use Rattle.ns_world.proofs.Prelude.{IsUnfinished, LooksByLimits, LooksByRound, Next, ObjectEvent, ObjectSoFar, ObjectWalk, OfLock, OfNotes, OfObjects, On, OnLock, OnNotes, OnObjects, Past, Reply, Request, Round, RoundShows, RoundSoFar, Seat, SoFar, Step, Walk, WasShown, WereThere, Whole}
+use Rattle.ns_world.proofs.Prelude.{any_on, append-nil, asked_of, cause_of, env_asked_of, env_own, held_at, is_among, items_of, later_and, later_through, limits_of, mode_of, mode_waited, nothing_on, object_asked, objects_own, others_leave_course, own, past_and, round_on, so_far_on}
+use Rattle.ns_world.proofs.Prelude.{waits_for_any}
 use Rattle.ns_world.proofs.Places.{IsNoLook}
 use Rattle.ns_world.proofs.Shown.{LookSoFar, look_on, shown_on}
+use Rattle.ns_word.specs.declared.walk.Next.TheVariants.{Done, Idle}
+use Rattle.ns_world.specs.Replies.{told}
 use Rattle.ns_word.specs.declared.request.Request.TheVariants as TheRequest
 
 -- what the last look has shown to the lock of a call that waits there, its last round has shown
@@ -22,58 +25,39 @@ pub unfinished : (Ends : Reply → Type 0) (Goes : Type 0) (step : Step) → IsU
 unfinished Ends Goes (Finished reply) goes o = absurd goes
 unfinished Ends Goes other goes o = o
 
-pub goes_so : (Ends : Reply → Type 0) (Goes : Type 0) (step : Step) → IsUnfinished step → Goes → StepLeads Ends Goes step
-goes_so Ends Goes (Finished reply) goes o = absurd goes
-goes_so Ends Goes other goes o = o
-
-pub leads_as : (Ends Ends' : Reply → Type 0) (Goes Goes' : Type 0) (step : Step) → ((reply : Reply) → Ends reply → Ends' reply) → (Goes → Goes') → StepLeads Ends Goes step → StepLeads Ends' Goes' step
-leads_as Ends Ends' Goes Goes' (Finished reply) ends goes o = ends reply o
-leads_as Ends Ends' Goes Goes' other ends goes o = goes o
-
 module _ {C : Type 0} {N : ℕ} (before : Whole C N) (earlier : Past) (seat : ℕ) where
   -- ---- how far a call has come
 
-  -- one on the lock has come so far, and so has its look, if it is looking
-  pub record LockUnderway (request : Request C) (events : List EnvEvent) (history : List (Event C N)) (here : Seat C N) : Type 0 where
-    pub walk : Walk C
-    pub walks : here.walk ≡ Some walk
+  -- one on the lock has come so far, at this place
+  pub record LockUnderway (request : Request C) (events : List EnvEvent) (history : List (Event C N)) (walk : Walk C) (held : Option (Held C N)) : Type 0 where
     pub asked : asked_of walk ≡ request
     pub course : Course C N
     pub began : course.began ≡ held_at before seat
     pub added : own history seat ≡ own before.history seat ++ course.committed
-    pub so_far : SoFar before.truths seat course walk here.held
+    pub so_far : SoFar before.truths seat course walk held
     pub shown : WasShown earlier.notes events (limits_of request) course.looked
-    pub looking : LookSoFar earlier.notes seat events here.asking
     pub still : env_own events seat ≡ env_own earlier.notes seat
 
+  -- nothing has been done to counters and once cells
+  abbrev pub Untouched : Past → Type 0
+  Untouched past = objects_own past.objects seat ≡ objects_own earlier.objects seat
+
   -- one on the clock and the notes has come so far
-  pub record NotesUnderway (request : EnvRequest) (events : List EnvEvent) (history : List (Event C N)) (here : Seat C N) : Type 0 where
-    pub over : here.walk ≡ None
-    pub walk : EnvWalk
-    pub walks : here.asking ≡ Some walk
+  pub record NotesUnderway (request : EnvRequest) (events : List EnvEvent) (history : List (Event C N)) (held : Option (Held C N)) (walk : EnvWalk) : Type 0 where
     pub asked : env_asked_of walk ≡ request
     pub course : EnvCourse
     pub began : course.before ≡ earlier.notes
     pub added : env_own events seat ≡ env_own earlier.notes seat ++ course.events
     pub so_far : EnvSoFar events seat course walk
-    pub same : here.held ≡ held_at before seat
+    pub same : held ≡ held_at before seat
     pub silent : own history seat ≡ own before.history seat
     pub no_look : IsNoLook request
 
-  -- while one of these is under way, its seat does nothing to counters and once cells
-  pub record LeavesObjects (past : Past) (here : Seat C N) : Type 0 where
-    pub nowhere : here.operating ≡ None
-    pub waits_not : here.awaits ≡ None
-    pub untouched : objects_own past.objects seat ≡ objects_own earlier.objects seat
-
-  -- one on counters and once cells has come so far; its seat is in no other, and does nothing else
-  pub record ObjectsUnderway (asked : ObjectWalk) (past : Past) (history : List (Event C N)) (here : Seat C N) : Type 0 where
-    pub same : here.held ≡ held_at before seat
+  -- one on counters and once cells has come so far; its seat does nothing else
+  pub record ObjectsUnderway (asked : ObjectWalk) (past : Past) (history : List (Event C N)) (held : Option (Held C N)) (walk : ObjectWalk) : Type 0 where
+    pub same : held ≡ held_at before seat
     pub silent : own history seat ≡ own before.history seat
     pub still : env_own past.notes seat ≡ env_own earlier.notes seat
-    pub walk : ObjectWalk
-    pub walks : here.operating ≡ Some walk
-    pub waits_not : here.awaits ≡ None
     pub is_asked : object_asked walk ≡ asked
     pub events : List ObjectEvent
     pub added : objects_own past.objects seat ≡ objects_own earlier.objects seat ++ events
@@ -103,26 +87,27 @@ module _ {C : Type 0} {N : ℕ} (before : Whole C N) (earlier : Past) (seat : �
     pub first : RoundShows (IsReady before.objects.setup) (items_of round.items) round.deadline earlier mid None
     pub were_there : WereThere before.objects.setup mid round.items
 
-  -- A call on counters and once cells has gone on to wait on the lock, and has come so far: by this round it looks, for these variables it waits, and its last round has shown this.
-  pub record Awaiting (asked : ObjectWalk) (past : Past) (history : List (Event C N)) (here : Seat C N) : Type 0 where
-    pub round : Round
+  -- a call on counters and once cells has gone on to wait on the lock, and has come so far: its last round has shown what the wait says
+  pub record Awaiting (asked : ObjectWalk) (past : Past) (history : List (Event C N)) (held : Option (Held C N)) (walk : Walk C) (wait : AnyWait) (round : Option ObjectWalk) : Type 0 where
     pub cvs : Cvs
-    pub shown : Option ℕ
-    pub is : InRound round FirstClock ≡ asked
-    pub left : LeftSection round cvs
-    pub waits : here.awaits ≡ Some (record { round = round; shown = shown })
-    pub lock : LockUnderway (wait_for cvs) past.notes history here
-    pub looked : AsShown shown lock.course.looked
+    pub is : InRound wait.round FirstClock ≡ asked
+    pub left : LeftSection wait.round cvs
+    pub lock : LockUnderway (wait_for cvs) past.notes history walk held
+    pub looked : AsShown wait.shown lock.course.looked
     pub until : IsLater left.mid past
-    pub was_shown : ShownOn round left.mid past shown
-    pub looks : RoundOn round left.mid past here.operating
-    pub untouched : objects_own past.objects seat ≡ objects_own earlier.objects seat
+    pub was_shown : ShownOn wait.round left.mid past wait.shown
+    pub looks : RoundOn wait.round left.mid past round
+    pub untouched : Untouched past
 
-  -- any call has come so far
-  abbrev pub HasCome : Asked C → Past → List (Event C N) → Seat C N → Type 0
-  HasCome (OfLock request) past history here = LockUnderway request past.notes history here × LeavesObjects past here
-  HasCome (OfNotes request) past history here = NotesUnderway request past.notes history here × LeavesObjects past here
-  HasCome (OfObjects asked) past history here = ObjectsUnderway asked past history here ⊎ Awaiting asked past history here
+  -- any call has come so far, whose seat is doing this
+  abbrev pub HasCome : Asked C → Past → List (Event C N) → Option (Held C N) → Doing C → Type 0
+  HasCome (OfLock request) past history held (OnLock walk None) = LockUnderway request past.notes history walk held × Untouched past
+  HasCome (OfLock request) past history held (LooksByLimits walk place) = LockUnderway request past.notes history walk held × Untouched past × LookSoFar earlier.notes seat past.notes place
+  HasCome (OfNotes request) past history held (OnNotes walk) = NotesUnderway request past.notes history held walk × Untouched past
+  HasCome (OfObjects asked) past history held (OnObjects walk) = ObjectsUnderway asked past history held walk
+  HasCome (OfObjects asked) past history held (OnLock walk (Some wait)) = Awaiting asked past history held walk wait None
+  HasCome (OfObjects asked) past history held (LooksByRound walk wait round) = Awaiting asked past history held walk wait (Some round)
+  HasCome asked past history held doing = ⊥
 
   -- this has led to a world in which the call is under way
   pub record UnderwayIn (asked : Asked C) (past : Past) (world : Whole C N) : Type 0 where
@@ -133,22 +118,19 @@ module _ {C : Type 0} {N : ℕ} (before : Whole C N) (earlier : Past) (seat : �
     pub since : BeginsWith past.objects earlier.objects
     pub since_notes : BeginsWith past.notes earlier.notes
     pub led : HasLedTo past world
-    pub has : HasCome asked past world.history here
+    pub has : HasCome asked past world.history here.held here.doing
 
   -- ---- after a step of its own
 
   -- it has come so far, or has its answer
   abbrev pub Outcome : Asked C → Step → Past → Whole C N → Seat C N → Type 0
-  Outcome asked step past world here = StepLeads (λ reply. AnswersTo before earlier seat asked reply world past) (HasCome asked past world.history here) step
+  Outcome asked step past world here = StepLeads (λ reply. AnswersTo before earlier seat asked reply world past) (HasCome asked past world.history here.held here.doing) step
 
-  -- the same of one on the lock, whose last look has shown this
-  abbrev pub LockOutcome : Request C → Step → List EnvEvent → Whole C N → Seat C N → Option (Option Cause) → Type 0
-  LockOutcome request step events world here looked =
-      StepLeads (λ reply. (answers : AnswersOfLock before earlier.notes seat request reply world events) × (answers.course.looked ≡ looked)) ((u : LockUnderway request events world.history here) × (u.course.looked ≡ looked)) step
-
-  -- and of one on the clock and the notes
-  abbrev pub NotesOutcome : EnvRequest → Step → List EnvEvent → Whole C N → Seat C N → Type 0
-  NotesOutcome request step events world here = StepLeads (λ reply. AnswersOfNotes before earlier.notes seat request reply world events) (NotesUnderway request events world.history here) step
+  -- the same of the walk of one on the lock, whose last look has shown this
+  abbrev pub LockLeads : Request C → List EnvEvent → Whole C N → Option (Held C N) → Option (Option Cause) → Next C → Type 0
+  LockLeads request events world held looked (Done reply) = (answers : AnswersOfLock before earlier.notes seat request (told reply) world events) × (answers.course.looked ≡ looked)
+  LockLeads request events world held looked (On walk) = (u : LockUnderway request events world.history walk held) × (u.course.looked ≡ looked)
+  LockLeads request events world held looked (Idle walk) = (u : LockUnderway request events world.history walk held) × (u.course.looked ≡ looked)
 
   -- ---- what others do
 
@@ -158,18 +140,15 @@ module _ {C : Type 0} {N : ℕ} (before : Whole C N) (earlier : Past) (seat : �
     pub notes : env_own (past.notes ++ more.notes) seat ≡ env_own past.notes seat
     pub objects : objects_own (past.objects ++ more.objects) seat ≡ objects_own past.objects seat
 
-  unfoldable pub lock_rests : (request : Request C) (events more : List EnvEvent) (history later : List (Event C N)) (here : Seat C N) → own later seat ≡ own history seat → env_own (events ++ more) seat ≡ env_own events seat →
-      LockUnderway request events history here → LockUnderway request (events ++ more) later here
-  lock_rests request events more history later here row own_same u = record {
-    walk = u.walk;
-    walks = u.walks;
+  unfoldable pub lock_rests : (request : Request C) (events more : List EnvEvent) (history later : List (Event C N)) (walk : Walk C) (held : Option (Held C N)) → own later seat ≡ own history seat → env_own (events ++ more) seat ≡ env_own events seat →
+      LockUnderway request events history walk held → LockUnderway request (events ++ more) later walk held
+  lock_rests request events more history later walk held row own_same u = record {
     asked = u.asked;
     course = u.course;
     began = u.began;
     added = row ∙ u.added;
     so_far = u.so_far;
     shown = shown_on earlier.notes events more (limits_of request) u.course.looked u.shown;
-    looking = look_on earlier.notes seat events more here.asking u.looking;
     still = own_same ∙ u.still;
   }
 
@@ -185,59 +164,51 @@ module _ {C : Type 0} {N : ℕ} (before : Whole C N) (earlier : Past) (seat : �
   pub until_rests : (mid past more : Past) → IsLater mid past → IsLater mid (past_and past more)
   until_rests mid past more until = later_through mid past (past_and past more) until (later_and past more)
 
-  -- a call that waits on the lock goes on with it, where its last round has shown this now
-  pub waits_on : (asked : ObjectWalk) (past more : Past) (history later : List (Event C N)) (here next : Seat C N) (o : Awaiting asked past history here) (shown : Option ℕ) → objects_own (past.objects ++ more.objects) seat ≡ objects_own past.objects seat →
-      (lock : LockUnderway (wait_for o.cvs) (past.notes ++ more.notes) later next) → AsShown shown lock.course.looked → next.awaits ≡ Some (record { round = o.round; shown = shown }) → ShownOn o.round o.left.mid (past_and past more) shown →
-      (at : Option ObjectWalk) → next.operating ≡ at → RoundOn o.round o.left.mid (past_and past more) at → Awaiting asked (past_and past more) later next
-  waits_on asked past more history later here next o shown own_same lock looked waits was_shown at stands looks = record {
-    round = o.round;
+  -- where another has moved, a call that waits on the lock has come as far
+  await_rests : (asked : ObjectWalk) (past more : Past) (history later : List (Event C N)) (held : Option (Held C N)) (walk : Walk C) (wait : AnyWait) (round : Option ObjectWalk) → AddsNothing past more history later → Awaiting asked past history held walk wait round →
+      Awaiting asked (past_and past more) later held walk wait round
+  unfolding lock_rests
+  await_rests asked past more history later held walk wait round r o = record {
     cvs = o.cvs;
-    shown = shown;
     is = o.is;
     left = o.left;
-    waits = waits;
-    lock = lock;
-    looked = looked;
+    lock = lock_rests (wait_for o.cvs) past.notes more.notes history later walk held r.row r.notes o.lock;
+    looked = o.looked;
     until = until_rests o.left.mid past more o.until;
-    was_shown = was_shown;
-    looks = subst (RoundOn o.round o.left.mid (past_and past more)) (sym stands) looks;
-    untouched = own_same ∙ o.untouched;
+    was_shown = shown_rests wait.round o.left.mid past more wait.shown o.was_shown;
+    looks = round_rests wait.round o.left.mid past more round o.looks;
+    untouched = r.objects ∙ o.untouched;
   }
 
-  -- where another has moved, the call has come as far
-  pub has_rests : (asked : Asked C) (past more : Past) (history later : List (Event C N)) (here : Seat C N) → AddsNothing past more history later → HasCome asked past history here → HasCome asked (past_and past more) later here
-  unfolding lock_rests
-  has_rests (OfLock request) past more history later here r u = (lock_rests request past.notes more.notes history later here r.row r.notes u.0, record { nowhere = u.1.nowhere; waits_not = u.1.waits_not; untouched = r.objects ∙ u.1.untouched })
-  has_rests (OfNotes request) past more history later here r u = (
+  -- so has any call
+  pub has_rests : (asked : Asked C) (past more : Past) (history later : List (Event C N)) (held : Option (Held C N)) (doing : Doing C) → AddsNothing past more history later → HasCome asked past history held doing → HasCome asked (past_and past more) later held doing
+  has_rests (OfLock request) past more history later held (OnLock walk None) r u = (lock_rests request past.notes more.notes history later walk held r.row r.notes u.0, r.objects ∙ u.1)
+  has_rests (OfLock request) past more history later held (LooksByLimits walk place) r u = (lock_rests request past.notes more.notes history later walk held r.row r.notes u.0, r.objects ∙ u.1, look_on earlier.notes seat past.notes more.notes place u.2)
+  has_rests (OfNotes request) past more history later held (OnNotes walk) r u = (
     record {
-      over = u.0.over;
-      walk = u.0.walk;
-      walks = u.0.walks;
       asked = u.0.asked;
       course = u.0.course;
       began = u.0.began;
       added = r.notes ∙ u.0.added;
-      so_far = others_leave_course past.notes more.notes seat u.0.course u.0.walk u.0.so_far;
+      so_far = others_leave_course past.notes more.notes seat u.0.course walk u.0.so_far;
       same = u.0.same;
       silent = r.row ∙ u.0.silent;
       no_look = u.0.no_look;
     },
-    record { nowhere = u.1.nowhere; waits_not = u.1.waits_not; untouched = r.objects ∙ u.1.untouched },
+    r.objects ∙ u.1,
   )
-  has_rests (OfObjects asked) past more history later here r (inl u) = inl (record {
+  has_rests (OfObjects asked) past more history later held (OnObjects walk) r u = record {
     same = u.same;
     silent = r.row ∙ u.silent;
     still = r.notes ∙ u.still;
-    walk = u.walk;
-    walks = u.walks;
-    waits_not = u.waits_not;
     is_asked = u.is_asked;
     events = u.events;
     added = r.objects ∙ u.added;
-    so_far = so_far_on before.objects.setup earlier seat past more u.events u.walk u.so_far;
-  })
-  has_rests (OfObjects asked) past more history later here r (inr u) = inr (waits_on asked past more history later here here u u.shown r.objects (lock_rests (wait_for u.cvs) past.notes more.notes history later here r.row r.notes u.lock) u.looked u.waits
-      (shown_rests u.round u.left.mid past more u.shown u.was_shown) here.operating refl (round_rests u.round u.left.mid past more here.operating u.looks))
+    so_far = so_far_on before.objects.setup earlier seat past more u.events walk u.so_far;
+  }
+  has_rests (OfObjects asked) past more history later held (OnLock walk (Some wait)) r u = await_rests asked past more history later held walk wait None r u
+  has_rests (OfObjects asked) past more history later held (LooksByRound walk wait round) r u = await_rests asked past more history later held walk wait (Some round) r u
+  has_rests asked past more history later held doing r u = absurd u
 
   -- nothing more has been done there
   pub no_own_notes : (past : List EnvEvent) → env_own (past ++ []) seat ≡ env_own past seat

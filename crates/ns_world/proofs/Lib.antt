@@ -10,6 +10,7 @@ pub mod Mapped
 pub mod OwnRounds
 pub mod OwnSteps
 pub mod Places
+pub mod Placing
 pub mod Prelude
 pub mod Schedules
 pub mod SeatSet
@@ -17,7 +18,6 @@ pub mod Showing
 pub mod Shown
 pub mod Sizes
 pub mod States
-pub mod StepKinds
 pub mod Tells
 pub mod Turns
 pub mod Underway

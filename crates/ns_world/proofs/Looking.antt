@@ -1,17 +1,9 @@
 -- The looks of a wait, over plain data: where a wait goes that looks, and what it needs of the notes. A wait for any of a set of variables looks as it rests, and nowhere else; and while it does, its seat stands nowhere on the clock and the notes.
-use Rattle.std.proofs.Common.{Bool, IsSome, List, None, Option, Some, [], ap, cond, false, refl, subst, sym, true, ℕ, ◌∙◌, ◌≡◌}
-use Rattle.ns_world.proofs.Prelude.{Act, AsksFor, Await, AwaitWakeInWait, Cause, ClockLoad, Cvs, Effect, EnvEffect, EnvEvent, EnvFound, EnvNext, EnvPlain, EnvWalk, Expired, ForLook, Found, Go, Held, IfMade, InLeaving, InQueuing, InWait, IsFirstAsk, IsForCondition, IsUnfinished, LeaveLoad, Limits}
-use Rattle.ns_world.proofs.Prelude.{Look, LookFits, LookIn, LookOut, LookOver, Looked, MayShow, Mode, NoteLoad, NoteStanding, Part, PlaceFits, Truths, Wait, Walk, asked_of, asked_stays, asks_for_any, came_back, env_got_of, env_want_of, got_of, held_after, is_due, is_over, look_of, look_place}
-use Rattle.ns_world.proofs.Prelude.{looks_at, looks_by_asked, marks_at, marks_of, note_asked, note_in, outcome, passed, same_Some, step_of, stopped, up_to, waits_among, waits_for_any, walk_after, want_of}
-
--- ---- the note that may end a wait
-
--- a wait keeps its note, since a call stays what it was asked: what holds of the note that may end the wait, and of none, holds after a step
-pub noted : {C : Type 0} (N : ℕ) (P : Option ℕ → Type 0) (walk : Walk C) (found : Found) → P None → P (note_in (Some walk)) → P (note_in (walk_after (got_of N walk found)))
-noted {C} N P walk found none p = by (walk_after (got_of N walk found)) refl where
-  by : (next : Option (Walk C)) → walk_after (got_of N walk found) ≡ next → P (note_in next)
-  by None e = none
-  by (Some next) e = subst (λ asked. P (note_asked asked)) (sym (asked_stays C N walk found next e)) p
+use Rattle.ns_counters.specs.declared.walk.ObjectNext.TheVariants as TheObject
+use Rattle.std.proofs.Common.{Bool, IsSome, List, None, Option, Some, [], ap, cond, false, inl, inr, refl, subst, sym, true, ℕ, ◌∙◌, ◌≡◌, ◌⊎◌}
+use Rattle.ns_world.proofs.Prelude.{Act, AnyWait, Await, Cause, ClockLoad, Cvs, Effect, EnvEffect, EnvEvent, EnvFound, EnvNext, EnvPlain, EnvWalk, Expired, ForLook, Found, Go, GoesRound, InRound, IsFirstAsk, IsLoad, Limits, Look, LookFits, LookOver, Looked, Looks, LooksAt, LooksByLimits}
+use Rattle.ns_world.proofs.Prelude.{LooksByRound, MayShow, Mode, NoteLoad, NoteStanding, ObjectNext, ObjectWalk, ObjectWords, Part, Performs, Repeat, Round, RoundLeads, RoundPlace, Seat, SeatLooks, SeatMakes, Sees, Step, Truths, Wait, WaitsFor, Walk, Went, Whole, append-nil, asked_of}
+use Rattle.ns_world.proofs.Prelude.{at_will, came_back, cause_of, doing_after, env_got_of, env_want_of, got_of, have_variable, held_after, is_due, is_over, looks_at, looks_by_asked, outcome, part_in, passed, same_Some, shown_by, stopped, up_to, waits_for_any, waits_then, want_of}
 
 -- ---- where a look begins
 
@@ -20,49 +12,18 @@ abbrev pub FirstIf : (ℕ → NoteStanding) → Option EnvWalk → Type 0
 FirstIf notes None = Unit {0}
 FirstIf notes (Some place) = IsFirstAsk notes place
 
-first_by : (notes : ℕ → NoteStanding) (b : Bool) (place : Option EnvWalk) → FirstIf notes place → FirstIf notes (cond b None place)
-first_by notes true place p = tt
-first_by notes false place p = p
-
-module _ {C : Type 0} where
-  -- a wait looks by the limits that it was asked with
-  first_look : (notes : ℕ → NoteStanding) (walk : Walk C) → IfMade notes (note_in (Some walk)) → FirstIf notes (look_place (want_of walk))
-  first_look notes walk p = by (want_of walk) refl where
-    by : (act : Act C) → want_of walk ≡ act → FirstIf notes (look_place act)
-    by (Look limits again) e = let looks = looks_by_asked limits again walk e in
-        subst (λ (l : Limits). IfMade notes l.note) looks.2 (subst (λ asked. IfMade notes (note_asked asked)) looks.1 p)
-    by act e = tt
-
-  pub first_if : (notes : ℕ → NoteStanding) (walk : Option (Walk C)) → IfMade notes (note_in walk) → FirstIf notes (look_of walk)
-  first_if notes None p = tt
-  first_if notes (Some walk) p = first_by notes (waits_among walk) (look_place (want_of walk)) (first_look notes walk p)
-
-  right_by : (walk : Walk C) (act : Act C) → want_of walk ≡ act → AsksFor (Some walk) (look_place act)
-  right_by walk (Look limits again) e = (limits, ap looks_at e, refl)
-  right_by walk act e = λ not. ap looks_at e
-
-  right_among : (walk : Walk C) (b : Bool) → waits_among walk ≡ b → AsksFor (Some walk) (cond b None (look_place (want_of walk)))
-  right_among walk true among = λ not. let no = sym among ∙ not in absurd (cc)
-  right_among walk false among = right_by walk (want_of walk) refl
-
-  pub right_here : (walk : Option (Walk C)) → AsksFor walk (look_of walk)
-  right_here None = tt
-  right_here (Some walk) = right_among walk (waits_among walk) refl
-
 -- ---- a step of a look
 
--- it is a load, and no event
-pub look_effect : (limits : Limits) (place : EnvWalk) → LookFits limits place → (seat : ℕ) (old new : EnvPlain) (found : EnvFound) → EnvEffect seat (env_want_of place) old found new (outcome seat (env_want_of place) old).events →
-    EnvEffect seat (env_want_of place) old found new [] × (new ≡ old)
-look_effect limits (ClockLoad (ForLook by)) fits seat old new found e = (e, e.leaves)
-look_effect limits (NoteLoad (ForLook by) clock note) fits seat old new found e = (e, e.leaves)
-look_effect limits place fits seat old new found e = absurd fits
+-- which it is
+which : {A : Type 0} (o : Option A) → IsSome o → (x : A) × (o ≡ Some x)
+which (Some x) some = (x, refl)
+which None some = absurd (cc)
 
--- so it leaves the clock and the notes as they are
-pub look_stays : (limits : Limits) (place : EnvWalk) → LookFits limits place → (seat : ℕ) (old new : EnvPlain) (found : EnvFound) → EnvEffect seat (env_want_of place) old found new [] → new ≡ old
-look_stays limits (ClockLoad (ForLook by)) fits seat old new found e = e.leaves
-look_stays limits (NoteLoad (ForLook by) clock note) fits seat old new found e = e.leaves
-look_stays limits place fits seat old new found e = absurd fits
+-- it is a load
+pub look_loads : (limits : Limits) (place : EnvWalk) → LookFits limits place → IsLoad (env_want_of place)
+look_loads limits (ClockLoad (ForLook by)) fits = tt
+look_loads limits (NoteLoad (ForLook by) clock note) fits = tt
+look_loads limits place fits = absurd fits
 
 -- it goes on, or shows what its limits may show
 abbrev pub LookLeads : Limits → EnvNext → Type 0
@@ -102,58 +63,99 @@ pub shown_effect : {C : Type 0} {N : ℕ} (truths : Truths C) (seat : ℕ) (act 
 shown_effect truths seat (Look by again) limits cause part e may = let is : by ≡ limits = same_Some _ _ (e) in (subst (λ l. MayShow l cause) (sym is) may, refl, refl)
 shown_effect truths seat act limits cause part e may = absurd (cc)
 
-nowhere : (b : Bool) (place : Option EnvWalk) → place ≡ None → cond b None place ≡ None
-nowhere true place is = refl
-nowhere false place is = is
+-- ---- where a look leads
 
-module _ {C : Type 0} where
-  -- ---- where a wait looks
+-- what a look goes by is what may end the wait that was asked
+is_look : {C : Type 0} (act : Act C) (limits : Limits) → looks_at act ≡ Some limits → (again : Bool) × (act ≡ Look limits again)
+is_look (Look by again) limits e = let same : by ≡ limits = cc in (again, ap (λ l. Look l again) same)
+is_look other limits e = absurd (cc)
 
-  no_look : (act : Act C) (limits : Limits) → (marks_of act).0 ≡ None → looks_at act ≡ Some limits → ⊥
-  no_look (Look by again) limits e f = absurd (cc)
-  no_look act limits e f = absurd (cc)
+pub looks_asked : {C : Type 0} (walk : Walk C) (limits : Limits) → looks_at (want_of walk) ≡ Some limits → (wait : Wait C) × (asked_of walk ≡ Await wait) × (wait.limits ≡ limits)
+looks_asked walk limits e = let look = is_look (want_of walk) limits e in let found = looks_by_asked limits look.0 walk look.1 in (found.0, found.1, found.2)
 
-  -- what holds of a wait that looks before it queues, and of one that looks as it rests, holds of each walk that looks
-  where_looks : (P : Walk C → Type 0) → ((wait : Wait C) (again : Bool) → P (InWait wait (InQueuing again LookIn))) → ((wait : Wait C) → P (InWait wait LookOut)) → (walk : Walk C) (limits : Limits) → looks_at (want_of walk) ≡ Some limits → P walk
-  where_looks P queues rests (InWait wait (InQueuing again LookIn)) limits e = queues wait again
-  where_looks P queues rests (InWait wait LookOut) limits e = rests wait
-  where_looks P queues rests walk limits e = absurd (no_look (want_of walk) limits (ap (λ marks. marks.0) (marks_at walk)) e)
+may_show : (shown : Option ℕ) → MayShow at_will (cause_of shown)
+may_show None = tt
+may_show (Some place) = refl
 
-  -- the walk is a wait that looks as it rests
-  pub record LooksOut (walk : Walk C) : Type 0 where
-    pub wait : Wait C
-    pub is : walk ≡ InWait wait LookOut
+-- a look by a round may show anything, since what such a wait goes by is for its caller to say
+pub round_shows : {C : Type 0} (mode : Mode) (cvs : Cvs) (walk : Walk C) (limits : Limits) (shown : Option ℕ) → looks_at (want_of walk) ≡ Some limits → asked_of walk ≡ Await (waits_for_any mode cvs) → MayShow limits (cause_of shown)
+round_shows mode cvs walk limits shown e asked =
+    let look = looks_asked walk limits e in
+    let for : Await look.0 ≡ Await (waits_for_any mode cvs) = sym look.1 ∙ asked in
+    let is : look.0 ≡ waits_for_any mode cvs = cc in
+    subst (λ l. MayShow l (cause_of shown)) (sym (ap (λ (w : Wait _). w.limits) is) ∙ look.2) (may_show shown)
 
-  -- a wait for any of a set of variables looks there alone
-  pub looks_out : {N : ℕ} (truths : Truths C) (held : Option (Held C N)) (mode : Mode) (cvs : Cvs) (walk : Walk C) (limits : Limits) → looks_at (want_of walk) ≡ Some limits → asked_of walk ≡ Await (waits_for_any mode cvs) → PlaceFits truths (Some walk) held → LooksOut walk
-  looks_out {N} truths held mode cvs walk limits looks = where_looks (λ w. asked_of w ≡ Await (waits_for_any mode cvs) → PlaceFits truths (Some w) held → LooksOut w) queues rests walk limits looks where
-    queues : (wait : Wait C) (again : Bool) → asked_of (InWait wait (InQueuing again LookIn)) ≡ Await (waits_for_any mode cvs) → PlaceFits truths (Some (InWait wait (InQueuing again LookIn))) held → LooksOut (InWait wait (InQueuing again LookIn))
-    queues wait again asked fits = let for : Await wait ≡ Await (waits_for_any mode cvs) = asked in let is : wait ≡ waits_for_any mode cvs = cc in absurd (subst (λ (w : Wait C). IsForCondition w.on) is fits.0.1)
+-- the lock has stayed
+abbrev pub LockStays : {C : Type 0} {N : ℕ} → Whole C N → Whole C N → Type 0
+LockStays old new = new ≡ record old { env = new.env; seats = new.seats; objects = new.objects }
 
-    rests : (wait : Wait C) → asked_of (InWait wait LookOut) ≡ Await (waits_for_any mode cvs) → PlaceFits truths (Some (InWait wait LookOut)) held → LooksOut (InWait wait LookOut)
-    rests wait asked fits = record { wait = wait; is = refl }
+pub lock_stays : {C : Type 0} {N : ℕ} (old new : Whole C N) (env : EnvPlain) (objects : ObjectWords) → new ≡ record old { env = env; seats = new.seats; objects = objects } → LockStays old new
+lock_stays {C} {N} old new env objects same = same ∙ (λ k. record old { env = sym (ap (λ (w : Whole C N). w.env) same) k; seats = new.seats; objects = sym (ap (λ (w : Whole C N). w.objects) same) k })
 
-  -- ---- where a look leads
+-- a step of the seat on the lock, from this place of its walk, which has found this
+abbrev pub Acts : {C : Type 0} {N : ℕ} → Whole C N → Whole C N → Seat C N → Seat C N → Step → Walk C → Option AnyWait → Found → Type 0
+Acts old new here next step walk wait found = Performs old.truths (part_in old here) here old.history walk wait found (part_in new next) next new.history step
 
-  -- a look leads the walk on, to a place that doesn't look
-  pub record LeadsOn (N : ℕ) (walk : Walk C) (cause : Option Cause) : Type 0 where
-    pub after : Walk C
-    pub is : walk_after (got_of N walk (Looked cause)) ≡ Some after
-    pub looks_not : looks_at (want_of after) ≡ None
-    pub unfinished : IsUnfinished (step_of (got_of N walk (Looked cause)))
+-- what a look shows is a step of the wait
+sees_acts : {C : Type 0} {N : ℕ} (old new : Whole C N) (here next : Seat C N) (step : Step) (walk : Walk C) (wait : Option AnyWait) (limits : Limits) (cause : Option Cause) → looks_at (want_of walk) ≡ Some limits → MayShow limits cause → LockStays old new →
+    Sees here walk wait cause next step → Acts old new here next step walk wait (Looked cause)
+sees_acts {C} {N} old new here next step walk wait limits cause looks may same q = record {
+  commits = [];
+  effect = subst (λ (part : Part C N). Effect old.truths here.number (want_of walk) (part_in old here) (Looked cause) part []) (sym part) (shown_effect old.truths here.number (want_of walk) limits cause (part_in old here) looks may);
+  goes = q.goes ∙ (λ k. record here { doing = doing_after wait (got_of N walk (Looked cause)); held = sym held k; owed = sym owed k });
+  grows = ap (λ (w : Whole C N). w.history) same ∙ sym (append-nil old.history);
+  answers = q.answers;
+} where
+  held : next.held ≡ held_after (came_back (want_of walk)) cause here.held
+  held = ap (λ (s : Seat C N). s.held) q.goes
 
-  pub leads_on : (N : ℕ) (walk : Walk C) (cause : Option Cause) → LooksOut walk → LeadsOn N walk cause
-  leads_on N walk cause out = subst (λ w. LeadsOn N w cause) (sym out.is) (by cause) where
-    by : (cause : Option Cause) → LeadsOn N (InWait out.wait LookOut) cause
-    by None = record { after = InWait out.wait AwaitWakeInWait; is = refl; looks_not = refl; unfinished = tt }
-    by (Some cause) = record { after = InWait out.wait (InLeaving cause LeaveLoad); is = refl; looks_not = refl; unfinished = tt }
+  owed : next.owed ≡ here.owed
+  owed = ap (λ (s : Seat C N). s.owed) q.goes
 
-  -- ---- where its seat stands on the clock and the notes
+  part : part_in new next ≡ record (part_in old here) { held = held_after (came_back (want_of walk)) cause here.held }
+  part = λ k. record (part_in (same k) here) { held = held k; owed = (owed k).items }
 
-  -- nowhere
-  pub unlooked : (walk : Walk C) → asks_for_any (asked_of walk) ≡ true → look_of (Some walk) ≡ None
-  unlooked walk e = by (want_of walk) refl where
-    by : (act : Act C) → want_of walk ≡ act → look_of (Some walk) ≡ None
-    by (Look limits again) is = where_looks (λ w. asks_for_any (asked_of w) ≡ true → look_of (Some w) ≡ None)
-        (λ wait again e. ap (λ b. cond b None (look_place (want_of (InWait wait (InQueuing again LookIn))))) e) (λ wait e. ap (λ b. cond b None (look_place (want_of (InWait wait LookOut)))) e) walk limits (ap looks_at is) e
-    by act is = nowhere (waits_among walk) (look_place (want_of walk)) (ap look_place is)
+module _ {C : Type 0} {N : ℕ} (old new : Whole C N) (here next : Seat C N) (step : Step) where
+  -- a step of a look at the clock and the notes goes on to a place there, or is one of the wait
+  pub look_goes : (p : Looks old new here next step) → (for : LooksAt (want_of p.walk) p.place) →
+      ((place : EnvWalk) × (env_got_of p.place p.looks.found ≡ Go place) × LookFits for.0 place × (next ≡ record here { doing = LooksByLimits p.walk place }) × (step ≡ Went))
+      ⊎ ((cause : Option Cause) × (env_got_of p.place p.looks.found ≡ LookOver cause) × Acts old new here next step p.walk None (Looked cause))
+  look_goes p for = by (env_got_of p.place p.looks.found) refl (look_leads for.0 p.place for.2 here.number old.env old.env p.looks.found [] p.looks.effect) p.looks.goes where
+    by : (n : EnvNext) → env_got_of p.place p.looks.found ≡ n → LookLeads for.0 n → SeatLooks n here p.walk next step →
+        ((place : EnvWalk) × (env_got_of p.place p.looks.found ≡ Go place) × LookFits for.0 place × (next ≡ record here { doing = LooksByLimits p.walk place }) × (step ≡ Went))
+        ⊎ ((cause : Option Cause) × (env_got_of p.place p.looks.found ≡ LookOver cause) × Acts old new here next step p.walk None (Looked cause))
+    by (Go place) is fits g = inl (place, is, fits, g.0, g.1)
+    by (LookOver cause) is may g = inr (cause, is, sees_acts old new here next step p.walk None for.0 cause for.1 may (lock_stays old new old.env old.objects p.same) g)
+    by n is may g = absurd may
+
+  -- so does a step of a round by which a wait looks
+  pub round_goes : (p : GoesRound old new here next step) → WaitsFor old.objects.setup old.env.notes (asked_of p.walk) (Some p.wait) → IsSome (looks_at (want_of p.walk)) →
+      ((round : ObjectWalk) × (p.leads ≡ TheObject.Go round) × (next ≡ record here { doing = LooksByRound p.walk p.wait round }) × (step ≡ Went))
+      ⊎ Acts old new here next step p.walk (Some (record { round = p.wait.round; shown = shown_by p.leads })) (Looked (cause_of (shown_by p.leads)))
+  round_goes p for looks = by p.leads refl p.goes where
+    over : Sees here p.walk (Some (record { round = p.wait.round; shown = shown_by p.leads })) (cause_of (shown_by p.leads)) next step → Acts old new here next step p.walk (Some (record { round = p.wait.round; shown = shown_by p.leads })) (Looked (cause_of (shown_by p.leads)))
+    over q =
+        let limits = which (looks_at (want_of p.walk)) looks in
+        sees_acts old new here next step p.walk _ limits.0 _ limits.1 (round_shows for.mode for.cvs p.walk limits.0 (shown_by p.leads) limits.1 for.asked) (lock_stays old new old.env new.objects p.same) q
+
+    by : (n : ObjectNext) → p.leads ≡ n → RoundLeads n here p.walk p.wait next step →
+        ((round : ObjectWalk) × (p.leads ≡ TheObject.Go round) × (next ≡ record here { doing = LooksByRound p.walk p.wait round }) × (step ≡ Went))
+        ⊎ Acts old new here next step p.walk (Some (record { round = p.wait.round; shown = shown_by p.leads })) (Looked (cause_of (shown_by p.leads)))
+    by (TheObject.Go round) is g = inl (round, is, g.0, g.1)
+    by n is g = inr (over (subst (λ m. Sees here p.walk (Some (record { round = p.wait.round; shown = shown_by m })) (cause_of (shown_by m)) next step) (sym is) g))
+
+-- a call goes on to wait on the lock after a round over objects with variables among them, which it would repeat
+pub waits_is : (walk : ObjectWalk) (leads : ObjectNext) (round : Round) → waits_then walk leads ≡ Some round → (place : RoundPlace) × (later : ObjectWalk) × (walk ≡ InRound round place) × (leads ≡ Repeat later) × (have_variable round.items ≡ true)
+waits_is (InRound by place) (Repeat later) round e = at (have_variable by.items) refl e where
+  at : (b : Bool) → have_variable by.items ≡ b → cond b (Some by) None ≡ Some round → (x : RoundPlace) × (y : ObjectWalk) × (InRound by place ≡ InRound round x) × (Repeat later ≡ Repeat y) × (have_variable round.items ≡ true)
+  at true is e = let same : by ≡ round = same_Some _ _ e in (place, later, ap (λ r. InRound r place) same, refl, ap (λ (r : Round). have_variable r.items) (sym same) ∙ is)
+  at false is e = absurd (cc)
+waits_is walk leads round e = absurd (cc)
+
+-- what a step leaves of what the conditions mean, and of how the objects began
+pub makes_means : {C : Type 0} {N : ℕ} (old new : Whole C N) (here next : Seat C N) (step : Step) → SeatMakes old new here next step → (new.truths ≡ old.truths) × (new.objects.setup ≡ old.objects.setup)
+makes_means {C} {N} old new here next step (inl p) = (ap (λ (w : Whole C N). w.truths) p.same, ap (λ (w : Whole C N). w.objects.setup) p.same)
+makes_means {C} {N} old new here next step (inr (inl p)) = (ap (λ (w : Whole C N). w.truths) p.same, ap (λ (w : Whole C N). w.objects.setup) p.same)
+makes_means {C} {N} old new here next step (inr (inr (inl p))) = (ap (λ (w : Whole C N). w.truths) p.same, ap (λ o. o.setup) p.operates.becomes)
+makes_means {C} {N} old new here next step (inr (inr (inr (inl p)))) = (ap (λ (w : Whole C N). w.truths) p.same, ap (λ (w : Whole C N). w.objects.setup) p.same)
+makes_means {C} {N} old new here next step (inr (inr (inr (inr p)))) = (ap (λ (w : Whole C N). w.truths) p.same, ap (λ o. o.setup) p.operates.becomes)

@@ -1,25 +1,30 @@
 -- Where calls begin, and what acts may be made.
-use Rattle.std.proofs.Common.{Bool, IsSome, List, MatchOption, None, Option, Some, [], ap, arith, cond, false, nat_lt, not, refl, subst, sym, true, ℕ, ◌-◌, ◌<◌, ◌∷◌, ◌≡◌, ◌≤◌}
-use Rattle.ns_world.proofs.Prelude.{Act, ActFits, Add, Advance, Any, AreVariables, ArmFlag, Ask, Broadcast, Call, CallFits, CallInRange, CanLeave, CounterWait, CvWait, Cvs, Done, EnvRequest, EnvWalk, Expiry, Fit, Get, HasMode, Held, IfMade, InCells, InQueuing, InWait, IsFirst, IsFirstAsk}
-use Rattle.ns_world.proofs.Prelude.{IsNotified, IsSettled, Limits, Load, LoadFlag, MayWait, MayWaitOnLock, Mode, NewNote, NoteStanding, NoteWait, Notify, ObjectStanding, ObjectWalk, OnCondition, OnEntry, OnLock, OnObjects, OnVariables, Once, Only, Owed, OwesOne, Part, PayWake, PlaceFits}
-use Rattle.ns_world.proofs.Prelude.{QuietCells, QuietLast, RLock, RUnlock, Read, Reader, ReturnQueues, Set, Setup, Signal, Start, Subject, TestCells, TestLast, ToRelease, Truths, TryLock, TryRLock, Unlock, UnlockQuiet, Value, WaitAny, WaitFor, WaitReturning, Write, Writer, asks_for_any}
-use Rattle.ns_world.proofs.Prelude.{env_asked_of, is_alone, items_of, looks_at, mode_of, mode_waited, nat_tests, note_in, quiet_asks, quiet_is_first, some_among, start_of, test_asks, wait_first, wait_is_first, waits_for_any, want_of}
+use Rattle.std.proofs.Common.{Bool, IsSome, List, MatchOption, None, Option, Some, [], ap, arith, cond, false, nat_lt, refl, subst, sym, true, ℕ, ◌-◌, ◌<◌, ◌∷◌, ◌≡◌, ◌≤◌}
+use Rattle.ns_world.proofs.Prelude.{Act, ActFits, Add, Advance, Any, AreVariables, ArmFlag, Broadcast, Call, CallFits, CallInRange, CanLeave, CounterWait, CvWait, Cvs, Doing, Done, EnvRequest, Expiry, Fit, Get, HasMode, Held, IfMade, InCells, InQueuing, InWait, IsFirst, IsFirstAsk}
+use Rattle.ns_world.proofs.Prelude.{IsNotified, IsSettled, Limits, Load, LoadFlag, MayWait, Mode, NeedsSection, NewNote, NoteStanding, NoteWait, Notify, ObjectStanding, OnCondition, OnEntry, OnLock, OnNotes, OnObjects, OnVariables, Once, Only, Owed, OwesOne, Part, PayWake}
+use Rattle.ns_world.proofs.Prelude.{PlaceFits, QuietCells, QuietLast, RLock, RUnlock, Read, Reader, ReturnQueues, Set, Setup, Signal, Subject, TestCells, TestLast, ToRelease, Truths, TryLock, TryRLock, Unlock, UnlockQuiet, Value, WaitAny, WaitFor, WaitReturning, Write, Writer, asked_of}
+use Rattle.ns_world.proofs.Prelude.{asks_for_any, env_asked_of, few, items_of, looks_at, mode_of, mode_waited, nat_tests, note_asked, object_asked, operating_of, part, quiet_asks, quiet_is_first, some_among, start_of, test_asks, there, wait_first, wait_is_first, waits_for_any, want_of}
+use Rattle.ns_world.specs.Prelude.{Lock, Wait}
+use Rattle.ns_world.proofs.Exchanged.{made}
 use Rattle.ns_env.specs.declared.request.EnvRequest.TheVariants as TheEnvRequest
-use Rattle.ns_world.specs.Prelude.{Lock}
-use Rattle.ns_world.specs.Prelude.{Wait}
 
 -- a call that begins where a test says that its need is met
-pub begins_where : {C : Type 0} (n : ℕ) (setup : Setup) (notes : ℕ → NoteStanding) (call : Call C) (mode : Option Mode) (met : Bool) (start : Start C) (r : Option (Start C)) → r ≡ cond met (Some start) None →
+pub begins_where : {C : Type 0} (n : ℕ) (setup : Setup) (notes : ℕ → NoteStanding) (call : Call C) (mode : Option Mode) (met : Bool) (start : Doing C) (r : Option (Doing C)) → r ≡ cond met (Some start) None →
     start ≡ start_of n mode call → (met ≡ true → CallFits setup notes call mode) → (CallFits setup notes call mode → met ≡ true) →
     MatchOption r (CallFits setup notes call mode → ⊥) (λ s. (s ≡ start_of n mode call) × CallFits setup notes call mode)
 begins_where n setup notes call mode true start r e is fits needs = subst (λ o. MatchOption o (CallFits setup notes call mode → ⊥) (λ s. (s ≡ start_of n mode call) × CallFits setup notes call mode)) (sym e) (is, fits refl)
 begins_where n setup notes call mode false start r e is fits needs = subst (λ o. MatchOption o (CallFits setup notes call mode → ⊥) (λ s. (s ≡ start_of n mode call) × CallFits setup notes call mode)) (sym e) (λ p. let no = needs p in absurd (cc))
 
 -- the first place of a call goes with the seat and the notes
-abbrev pub StartFits : {C : Type 0} {N : ℕ} → Truths C → (ℕ → NoteStanding) → Start C → Option (Held C N) → Type 0
-StartFits {C} {N} truths notes (OnLock walk) held = IsFirst N walk × PlaceFits truths (Some walk) held × IfMade notes (note_in (Some walk)) × (looks_at (want_of walk) ≡ None)
-StartFits truths notes (Ask walk) held = IsFirstAsk notes walk
-StartFits truths notes (OnObjects walk) held = Unit {0}
+abbrev pub StartFits : {C : Type 0} {N : ℕ} → Truths C → (ℕ → NoteStanding) → Doing C → Option (Held C N) → Type 0
+StartFits {C} {N} truths notes (OnLock walk None) held = IsFirst N walk × PlaceFits truths (Some walk) held × IfMade notes (note_asked (asked_of walk)) × (looks_at (want_of walk) ≡ None)
+StartFits truths notes (OnNotes walk) held = IsFirstAsk notes walk
+StartFits truths notes (OnObjects walk) held = NeedsSection (object_asked walk) held
+StartFits truths notes doing held = ⊥
+
+some_held : {C : Type 0} {N : ℕ} (held : Option (Held C N)) → IsSome (mode_of held) → IsSome held
+some_held None some = some
+some_held (Some section) some = refl
 
 owes_more : (few many : ℕ) (owed : List Owed) → few ≤ many → OwesOne few owed → OwesOne many owed
 owes_more few many [] le p = p
@@ -43,7 +48,7 @@ module _ {C : Type 0} {N : ℕ} (truths : Truths C) (notes : ℕ → NoteStandin
   can_read (Some held) e settled = (cc, tt, settled)
 
   quiet_fits : (held : Option (Held C N)) (more : Bool) → nat_lt 0 (N - 1) ≡ more → 1 ≤ N → HasMode Write held → IsSettled truths held →
-      StartFits truths notes (OnLock (InCells (cond more (QuietCells ToRelease 0) (QuietLast ToRelease (N - 1))))) held
+      StartFits truths notes (OnLock (InCells (cond more (QuietCells ToRelease 0) (QuietLast ToRelease (N - 1)))) None) held
   quiet_fits held true e some mode settled = (refl, ((mode, grind (arith, nat_tests)), settled), tt, refl)
   quiet_fits held false e some mode settled = (grind (arith, nat_tests), ((mode, omega (arith, some)), settled), tt, refl)
 
@@ -52,12 +57,12 @@ module _ {C : Type 0} {N : ℕ} (truths : Truths C) (notes : ℕ → NoteStandin
   wait_for held on limits = record { mode = held.mode; on = on; limits = limits }
 
   wait_fits : (c : C) (limits : Limits) (held : Held C N) (more : Bool) → nat_lt 0 (N - 1) ≡ more → 1 ≤ N → IfMade notes limits.note → IsSettled truths (Some held) →
-      StartFits truths notes (OnLock (cond more (InWait (wait_for held (OnCondition c) limits) (TestCells OnEntry 0)) (InWait (wait_for held (OnCondition c) limits) (TestLast OnEntry (N - 1))))) (Some held)
+      StartFits truths notes (OnLock (cond more (InWait (wait_for held (OnCondition c) limits) (TestCells OnEntry 0)) (InWait (wait_for held (OnCondition c) limits) (TestLast OnEntry (N - 1)))) None) (Some held)
   wait_fits c limits held true e some made settled = (refl, (((refl, settled), grind (arith, nat_tests), tt), tt), made, refl)
   wait_fits c limits held false e some made settled = (grind (arith, nat_tests), (((refl, settled), omega (arith, some), tt), tt), made, refl)
 
   cv_wait_fits : (k : ℕ) (limits : Limits) (held : Held C N) → k < 4 → IfMade notes limits.note → IsSettled truths (Some held) →
-      StartFits truths notes (OnLock (InWait (wait_for held (OnVariables (Only k)) limits) (InQueuing false Load))) (Some held)
+      StartFits truths notes (OnLock (InWait (wait_for held (OnVariables (Only k)) limits) (InQueuing false Load)) None) (Some held)
   cv_wait_fits k limits held few made settled =
       let may : MayWait truths (wait_for held (OnVariables (Only k)) limits) false held = record { mode = refl; unmet = few; settled = λ e. settled; back = λ e. absurd (cc) } in
       ((refl, tt), ((may, tt), tt), made, refl)
@@ -85,6 +90,7 @@ module _ {C : Type 0} {N : ℕ} (truths : Truths C) (notes : ℕ → NoteStandin
   start_fits setup (IsNotified note) held some range fits settled = fits
   start_fits setup (Expiry note) held some range fits settled = (refl, refl, fits)
   start_fits setup (NoteWait note deadline) held some range fits settled = fits
+  start_fits setup (WaitAny items deadline) held some range fits settled = λ named. let one = some_among (items_of items) named in some_held held (fits.1 one.0 one.1)
   start_fits setup other held some range fits settled = tt
 
 module _ {C : Type 0} {N : ℕ} (truths : Truths C) where
@@ -99,26 +105,17 @@ module _ {C : Type 0} {N : ℕ} (truths : Truths C) where
 
 -- ---- what the first place of a call is to its seat
 
--- the place on counters and once cells at which a call begins, if it is one on them
-abbrev pub place_of : {C : Type 0} → Start C → Option ObjectWalk
-place_of (OnObjects walk) = Some walk
-place_of start = None
-
--- the same on the clock and the notes
-abbrev pub ask_of : {C : Type 0} → Start C → Option EnvWalk
-ask_of (Ask walk) = Some walk
-ask_of start = None
-
 -- only a wait looks; a call of its own on the clock and the notes doesn't
 abbrev pub IsNoLook : EnvRequest → Type 0
 IsNoLook (TheEnvRequest.Look limits) = ⊥
 IsNoLook request = Unit {0}
 
 -- it is a first place
-abbrev pub IsFirstAt : {C : Type 0} → ℕ → (ℕ → NoteStanding) → Start C → Type 0
-IsFirstAt N notes (OnLock walk) = IsFirst N walk
-IsFirstAt N notes (Ask walk) = IsFirstAsk notes walk × IsNoLook (env_asked_of walk)
+abbrev pub IsFirstAt : {C : Type 0} → ℕ → (ℕ → NoteStanding) → Doing C → Type 0
+IsFirstAt N notes (OnLock walk None) = IsFirst N walk
+IsFirstAt N notes (OnNotes walk) = IsFirstAsk notes walk × IsNoLook (env_asked_of walk)
 IsFirstAt N notes (OnObjects walk) = Unit {0}
+IsFirstAt N notes doing = ⊥
 
 pub first_at : {C : Type 0} (N : ℕ) (setup : Setup) (notes : ℕ → NoteStanding) (mode : Option Mode) (call : Call C) → CallFits setup notes call mode → IsFirstAt N notes (start_of N mode call)
 first_at {C} N setup notes mode Lock fits = refl
@@ -135,27 +132,17 @@ first_at {C} N setup notes mode (NoteWait note deadline) fits = (fits, tt)
 first_at {C} N setup notes mode other fits = tt
 
 -- a call begins at no wait for a set of variables
-abbrev pub begins_alone : {C : Type 0} → Start C → Bool
-begins_alone (OnLock walk) = is_alone (Some walk)
-begins_alone start = true
+abbrev pub begins_among : {C : Type 0} → Doing C → Bool
+begins_among (OnLock walk wait) = asks_for_any (asked_of walk)
+begins_among doing = false
 
-pub start_alone : {C : Type 0} (N : ℕ) (mode : Option Mode) (call : Call C) → begins_alone (start_of N mode call) ≡ true
-start_alone {C} N mode UnlockQuiet = ap (λ r. not (asks_for_any r)) (quiet_asks C N ToRelease 0)
-start_alone {C} N mode (Wait c limits) = ap (λ r. not (asks_for_any r)) (test_asks C N (record { mode = mode_waited mode; on = OnCondition c; limits = limits }) OnEntry 0)
+pub start_alone : {C : Type 0} (N : ℕ) (mode : Option Mode) (call : Call C) → begins_among (start_of N mode call) ≡ false
+start_alone {C} N mode UnlockQuiet = ap asks_for_any (quiet_asks C N ToRelease 0)
+start_alone {C} N mode (Wait c limits) = ap asks_for_any (test_asks C N (record { mode = mode_waited mode; on = OnCondition c; limits = limits }) OnEntry 0)
 start_alone N mode other = refl
 
-some_held : {C : Type 0} {N : ℕ} (held : Option (Held C N)) → IsSome (mode_of held) → IsSome held
-some_held None some = some
-some_held (Some section) some = refl
-
--- a call that may go on to wait for condition variables begins with a section in hand
-pub start_may : {C : Type 0} {N : ℕ} (setup : Setup) (notes : ℕ → NoteStanding) (call : Call C) (held : Option (Held C N)) → CallFits setup notes call (mode_of held) → MayWaitOnLock (place_of (start_of N (mode_of held) call)) held
-start_may setup notes (WaitAny items deadline) held fits = λ named. let one = some_among (items_of items) named in some_held held (fits.1 one.0 one.1)
-start_may setup notes Lock held fits = tt
-start_may setup notes other held fits = tt
-
 -- the objects that a call names are there
-pub first_fits : {C : Type 0} (N : ℕ) (setup : Setup) (now : ObjectStanding) (notes : ℕ → NoteStanding) (mode : Option Mode) (seat : ℕ) (call : Call C) → CallFits setup notes call mode → Fit setup now notes seat (place_of (start_of N mode call))
+pub first_fits : {C : Type 0} (N : ℕ) (setup : Setup) (now : ObjectStanding) (notes : ℕ → NoteStanding) (mode : Option Mode) (seat : ℕ) (call : Call C) → CallFits setup notes call mode → Fit setup now notes seat (operating_of (start_of N mode call))
 first_fits N setup now notes mode seat (Add counter delta) fits = fits
 first_fits N setup now notes mode seat (Value counter) fits = fits
 first_fits N setup now notes mode seat (CounterWait counter deadline) fits = fits
@@ -165,8 +152,8 @@ first_fits N setup now notes mode seat (WaitAny items deadline) fits = (fits.0, 
 first_fits N setup now notes mode seat other fits = tt
 
 -- a wait for variables begins where there is a section in hand
-pub section_fits : {C : Type 0} {N : ℕ} (truths : Truths C) (notes : ℕ → NoteStanding) (cvs : Cvs) (held : Option (Held C N)) → IsSome held → AreVariables (Any cvs) → IsSettled truths held → StartFits truths notes (OnLock (wait_first N (waits_for_any (mode_waited (mode_of held)) cvs))) held
-section_fits truths notes cvs None some there settled = absurd (cc)
-section_fits truths notes cvs (Some section) some there settled =
+pub section_fits : {C : Type 0} {N : ℕ} (truths : Truths C) (cvs : Cvs) (held : Option (Held C N)) → IsSome held → AreVariables (Any cvs) → IsSettled truths held → PlaceFits truths (Some (wait_first N (waits_for_any (mode_waited (mode_of held)) cvs))) held
+section_fits truths cvs None some there settled = absurd (cc)
+section_fits truths cvs (Some section) some there settled =
     let may : MayWait truths (waits_for_any section.mode cvs) false section = record { mode = refl; unmet = there; settled = λ e. settled; back = λ e. absurd (cc) } in
-    ((refl, tt), ((may, tt), tt), tt, refl)
+    ((may, tt), tt)

@@ -43,7 +43,6 @@ pub use Rattle.ns_queue.specs.declared.waiter.Which.TheVariants.{Lock}
 pub use Rattle.ns_word.proofs.Courses.{begins_unchanged, takes_on}
 pub use Rattle.ns_word.proofs.Dispatch.{keeps}
 pub use Rattle.ns_word.proofs.Enters.{are_some}
-pub use Rattle.ns_word.proofs.Looks.{marks_at, marks_of}
 pub use Rattle.ns_word.proofs.Ranges.{placed_below}
 pub use Rattle.ns_word.proofs.ToldAfter.{own_all, own_append, own_append as own_row_append, own_none as own_row_none, step_by}
 pub use Rattle.ns_word.proofs.Waits.{unqueued}
@@ -51,25 +50,25 @@ pub use Rattle.ns_word.specs.Lawful.{IsLawful}
 pub use Rattle.ns_word.specs.Names.{Variables}
 pub use Rattle.ns_word.specs.declared.act.Change.TheVariants.{Nothing}
 pub use Rattle.ns_word.specs.declared.wait.Wait.{Wait}
+pub use Rattle.ns_counters.specs.Asks.{IsLoad}
 pub use Rattle.ns_world.specs.Names.{HasRoom, ObjectEffect, Steps, object_want, room, small_by}
-pub use Rattle.ns_world.specs.Prelude.{Act, ActFits, Add, Advance, Advances, Advancing, Answer, AnswersCall, AnswersOfLock, AnswersOfNotes, AnswersTo, Any, AnyAnswers, AnyMeans, AnyWait, AreAmong, AreBy, AreEnvBy, AreNumbered, AreObjectsBy, AreThere, AreVariables, ArmFlag, Arrival, Ask, Asked}
-pub use Rattle.ns_world.specs.Prelude.{AsksFor, AtLock, AtSomePoint, AtVariables, Await, AwaitWakeInWait, BeginsWith, Bits, Broadcast, Broadcasting, Call, CallFits, CallGoes, CallInRange, CanLeave, CanTell, CanWait, Cause, Change, ChangeFits, ClockLoad, Commits, CounterWait, Counts, Course, Cv}
-pub use Rattle.ns_world.specs.Prelude.{CvWait, Cvs, Done, Effect, EndFinished, EnvAct, EnvActFits, EnvCourse, EnvEffect, EnvEvent, EnvFound, EnvGoes, EnvGoesOn, EnvNext, EnvPlain, EnvRequest, EnvSoFar, EnvWalk, Event, Every, Expired, Expiry, ExpiryLoad, Fault, Finished, FirstClock, ForIsNotified}
-pub use Rattle.ns_world.specs.Prelude.{ForLook, ForNoteWait, Found, Get, Go, GoesOn, GoesOnOrBegins, Happens, HasLedTo, HasList, HasMode, HasTold, HaveLedTo, HaveShownNothing, Held, Home, Idle, IfMade, InCells, InHand, InLeaving, InQueuing, InRound}
-pub use Rattle.ns_world.specs.Prelude.{InWait, IsCounted, IsFew, IsFinished, IsFirst, IsFirstAsk, IsForCondition, IsInRange, IsLater, IsLawfulEnv, IsLawfulObjects, IsLawfulWhole, IsLow, IsNotified, IsReady, IsSettled, IsUnfinished, IsUnmet, Items, LeaveLoad, LeaveSelf, LedTo, Left, Limits, Line}
-pub use Rattle.ns_world.specs.Prelude.{ListFits, Lists, Load, LoadFlag, LockState, LockSteps, Look, LookFits, LookIn, LookMeans, LookOut, LookOver, LookStep, Looked, LooksWhere, Made, Makes, MayEnd, MayShow, MayWait, MayWaitOnLock, Means, Meanwhile, Mode, MovesFrom, NamesAll, NeedsSection, NewNote}
-pub use Rattle.ns_world.specs.Prelude.{Next, NextLoad, NoSuchSeat, NoteLoad, NoteStanding, NoteWait, NotesSteps, Notify, Notifying, Number, ObjectEvent, ObjectFound, ObjectGoes, ObjectNext, ObjectSoFar, ObjectStanding, ObjectWalk, ObjectWords, ObjectsSteps, OfLock, OfNotes, OfObjects, On}
-pub use Rattle.ns_world.specs.Prelude.{OnCondition, OnEntry, OnLock, OnObjects, OnVariable, OnVariables, Once, Only, OutOfMemory, Owed, OwesOne, Part, Past, PayWake, PlaceBy, PlaceFits, Plain, Progress, QueueSelf, QuietCells, QuietKeeps, QuietLast, RLock, RUnlock, Read, Reader, Release}
-pub use Rattle.ns_world.specs.Prelude.{ReleaseReturning, Releasing, Repeat, Reply, Request, ReturnQueues, Round, RoundGo, RoundNext, RoundOver, RoundPlace, RoundShows, RoundSoFar, Scanned, Seat, SeatLooks, SeatMakes, SeatStands, SeatView, Sees, Set, Setup, Shows, Signal, Signaling, SoFar}
-pub use Rattle.ns_world.specs.Prelude.{StandsAlone, StandsBy, Start, Started, Step, StepFits, Stops, StopsFor, Subject, TestCells, TestLast, ToRelease, ToldIf, Truths, TryLock, TryRLock, Turn, TurnFault, TurnOf, Turned, TurnsOf, TurnsWith, Unlock, UnlockQuiet, Value, WaitAny, WaitFor, WaitMeans}
-pub use Rattle.ns_world.specs.Prelude.{WaitReturning, Waiter, WaitsOnLock, WakeWaiters, Waking, Walk, WalkFits, WalkReply, WasShown, Went, WereThere, Whole, WholeBegins, WholeFault, WholeIsBusy, WholeIsIdle, WholeMoves, WholeStarts, WholeStep, Woke, Word, Write, Writer, asked_of, asks_for_any}
-pub use Rattle.ns_world.specs.Prelude.{asks_of, at_will, bits_of, by_round, called_by, called_of, calls_of, came_back, cause_of, change_commits, changed, counts_in, course_after, course_from, cvs_without, done_by, done_in, env_after, env_asked_of, env_course_after, env_course_at, env_got_of}
-pub use Rattle.ns_world.specs.Prelude.{env_own, env_state, env_step_of, env_walk_after, env_want_of, exit_for, finds, flag_at, fresh_seat, fresh_seats, fresh_views, fresh_whole, got_of, hand_of, happened, has_armed, has_queues, has_some, have_variable, held_after, held_at, in_call, is_alone}
-pub use Rattle.ns_world.specs.Prelude.{is_among, is_due, is_end, is_for_lock, is_held, is_in, is_over, is_there, is_unwoken, items_of, kept, leave_of, left_of, limits_for, limits_of, lists_by, lock_of, look_of, look_place, looked_after, looks_at, meets_at, mode_of, mode_waited, most}
-pub use Rattle.ns_world.specs.Prelude.{moved_to, no_note, note_asked, note_at, note_in, notes_by, notes_of, nothing_done, object_after, object_asked, object_got, object_place, object_start, object_step_of, objects_after, objects_by, objects_of, objects_own, outcome, owed_to, own, part, part_in}
-pub use Rattle.ns_world.specs.Prelude.{passed, past_and, place_told, placed, plain_of, progress, progressed, releasing_of, reply_of_lock, reply_told, rest_of, round_due, round_got, row_after, section_of, shown_by, shown_of, standing_of, stands_at, start_of, state_of, step_of, step_told, stopped}
-pub use Rattle.ns_world.specs.Prelude.{taken_by, taken_set, tests_after, tests_at, tests_of, times, times_among, times_in, told_to, up_to, view_of, wait_first, waited_in, waited_seat, waiters_of, waits_among, waits_for_any, wakes_by, wakes_of, wakes_owed, walk_after, walk_at, walk_in}
-pub use Rattle.ns_world.specs.Prelude.{want_of, whole_busy, whole_of, with_waiters, woken_by, woken_of, word_at, word_items, word_released, word_released_returning, word_returned}
+pub use Rattle.ns_world.specs.Prelude.{Act, ActFits, Add, Advance, Advances, Advancing, Answer, AnswersCall, AnswersOfLock, AnswersOfNotes, AnswersTo, Any, AnyAnswers, AnyMeans, AnyWait, AreAmong, AreBy, AreEnvBy, AreNumbered, AreObjectsBy, AreThere, AreVariables, ArmFlag, Arrival, Asked, AtLock, AtRest}
+pub use Rattle.ns_world.specs.Prelude.{AtSomePoint, AtVariables, Await, AwaitWakeInWait, BeginsWith, Bits, Broadcast, Broadcasting, Call, CallFits, CallGoes, CallInRange, CanLeave, CanWait, Cause, Change, ChangeFits, ClockLoad, Commits, CounterWait, Counts, Course, Cv, CvWait, Cvs, Doing, DoingFits, Done}
+pub use Rattle.ns_world.specs.Prelude.{Effect, EndFinished, EnvAct, EnvActFits, EnvCourse, EnvEffect, EnvEvent, EnvFound, EnvGoes, EnvGoesOn, EnvNext, EnvPlain, EnvRequest, EnvSoFar, EnvWalk, Event, Every, Expired, Expiry, ExpiryLoad, Fault, Finished, FirstClock, ForIsNotified, ForLook, ForNoteWait, Found}
+pub use Rattle.ns_world.specs.Prelude.{Get, Go, GoesOn, GoesOnOrBegins, GoesRound, Happens, HasLedTo, HasList, HasMode, HaveLedTo, HaveShownNothing, Held, Home, Idle, IfMade, InCells, InHand, InLeaving, InQueuing, InRound, InWait, IsCounted, IsFew, IsFinished, IsFirst, IsFirstAsk, IsForCondition, IsInRange}
+pub use Rattle.ns_world.specs.Prelude.{IsLater, IsLawfulEnv, IsLawfulObjects, IsLawfulWhole, IsLow, IsNotified, IsReady, IsSettled, IsUnfinished, IsUnmet, Items, LeaveLoad, LeaveSelf, LedTo, Left, Limits, Line, ListFits, Lists, Load, LoadFlag, LockState, LockSteps, Look, LookBy, LookFits, LookIn, LookMeans}
+pub use Rattle.ns_world.specs.Prelude.{LookOut, LookOver, Looked, Looks, LooksAt, LooksByLimits, LooksByRound, Made, Makes, MayEnd, MayGoOn, MayShow, MayWait, Means, Meanwhile, Mode, NamesAll, NeedsSection, NewNote, Next, NextLoad, NoSuchSeat, NoteLoad, NoteStanding, NoteWait, NotesSteps, Notify, Notifying}
+pub use Rattle.ns_world.specs.Prelude.{Number, ObjectEvent, ObjectFound, ObjectGoes, ObjectLeads, ObjectNext, ObjectSoFar, ObjectStanding, ObjectWalk, ObjectWords, ObjectsSteps, OfLock, OfNotes, OfObjects, On, OnCondition, OnEntry, OnLock, OnNotes, OnObjects, OnVariable, OnVariables, Once, Only, Operates}
+pub use Rattle.ns_world.specs.Prelude.{OutOfMemory, Owed, OwesOne, Part, Past, PayWake, Performs, PlaceBy, PlaceFits, Plain, Progress, QueueSelf, QuietCells, QuietKeeps, QuietLast, RLock, RUnlock, Read, Reader, Release, ReleaseReturning, Releasing, Repeat, Reply, Request, ReturnQueues, Round, RoundGo}
+pub use Rattle.ns_world.specs.Prelude.{RoundLeads, RoundNext, RoundOver, RoundPlace, RoundShows, RoundSoFar, Scanned, Seat, SeatLooks, SeatMakes, SeatView, Sees, Set, Setup, Shows, Signal, Signaling, SoFar, Started, Step, StepFits, Stops, StopsFor, Subject, TestCells, TestLast, ToRelease, Truths, TryLock}
+pub use Rattle.ns_world.specs.Prelude.{TryRLock, Turn, TurnFault, TurnOf, Turned, TurnsOf, TurnsWith, Unlock, UnlockQuiet, Value, WaitAny, WaitFor, WaitMeans, WaitReturning, Waiter, WaitsAmong, WaitsFor, WakeWaiters, Waking, Walk, WalkFits, WalkReply, WasShown, Went, WereThere, Whole, WholeBegins, WholeFault}
+pub use Rattle.ns_world.specs.Prelude.{WholeIsBusy, WholeIsIdle, WholeMoves, WholeStarts, WholeStep, Woke, Word, Write, Writer, asked_of, asking_of, asks_for_any, asks_of, at_will, bits_of, by_round, called_by, called_of, calls_of, came_back, cause_of, change_commits, changed, counts_in, course_after}
+pub use Rattle.ns_world.specs.Prelude.{course_from, cvs_without, doing_after, doing_at, doing_by, done_by, done_in, env_after, env_asked_of, env_course_after, env_course_at, env_got_of, env_own, env_state, env_step_of, env_walk_after, env_want_of, exit_for, finds, flag_at, fresh_seat, fresh_seats}
+pub use Rattle.ns_world.specs.Prelude.{fresh_views, fresh_whole, got_of, hand_of, happened, has_armed, has_queues, has_some, have_variable, held_after, held_at, in_call, is_among, is_call, is_due, is_end, is_held, is_in, is_over, is_there, is_unwoken, items_of, kept, leave_of, left_of, limits_for, limits_of}
+pub use Rattle.ns_world.specs.Prelude.{lists_by, lock_of, look_in, looked_after, looks_at, meets_at, mode_of, mode_waited, most, moved_to, no_note, note_asked, note_at, notes_by, notes_of, nothing_done, object_after, object_asked, object_got, object_place, object_start, object_step_of, objects_after}
+pub use Rattle.ns_world.specs.Prelude.{objects_by, objects_of, objects_own, operating_of, outcome, owed_to, own, part, part_in, passed, past_and, place_told, placed, plain_of, progress, progressed, releasing_of, reply_for, reply_of_lock, reply_told, rest_of, round_got, row_after, section_of, shown_by}
+pub use Rattle.ns_world.specs.Prelude.{shown_of, standing_of, stands_at, start_of, state_of, step_of, stopped, taken_by, taken_set, tests_after, tests_at, tests_of, there, times, times_among, times_in, up_to, view_of, wait_first, waited_in, waiters_of, waits_for_any, waits_then, wakes_by, wakes_of}
+pub use Rattle.ns_world.specs.Prelude.{wakes_owed, walk_after, walk_at, walk_in, walk_of, want_of, whole_busy, whole_of, with_waiters, woken_by, woken_of, word_at, word_items, word_released, word_released_returning, word_returned}
 pub use Rattle.ns_world.specs.Runs.{Item, tests_told}
 pub use Rattle.ns_world.specs.contracts.world.World.{the_row as world_row}
 pub use Rattle.ns_world.specs.declared.world.World.TheInside.{Inside}

@@ -1,8 +1,9 @@
 -- A world with one of its seats set: what each machine sees of it, and the law.
 use Rattle.std.proofs.Common.{List, None, Option, Some, ap, drop, inl, inr, length, map, refl, slice_get, slice_set, subst, suc, sym, take, true, zero-add, ℕ, ◌++◌, ◌<◌, ◌∙◌, ◌∷◌, ◌≡◌, ◌≢◌, ◌≤◌}
-use Rattle.ns_world.proofs.Prelude.{AnyWait, AreNumbered, HasLedTo, IfMade, IsLawful, IsLawfulWhole, IsSettled, NoteStanding, Past, PlaceFits, Seat, SeatStands, SeatView, Setup, StandsBy, Whole, cases_eq, length-set, lock_of, map-set, note_in, number_at, numbers_stay, same_Some, set_here, set_same}
-use Rattle.ns_world.proofs.Prelude.{set_there, slice_get_within, split_at, there_more, view_fits, view_of}
+use Rattle.ns_world.proofs.Prelude.{AnyWait, AreNumbered, Doing, DoingFits, HasLedTo, Held, IfMade, IsLawful, IsLawfulWhole, IsSettled, LooksByLimits, LooksByRound, NoteStanding, OnLock, Past, PlaceFits, Request, Seat, SeatView, Setup, WaitsFor, Whole, asked_of, cases_eq, kept}
+use Rattle.ns_world.proofs.Prelude.{length-set, lock_of, map-set, note_asked, number, number_at, numbers_stay, same_Some, set_here, set_same, set_there, slice_get_within, split_at, there_more, view_fits, view_of, walk_of}
 use Rattle.ns_world.proofs.Mapped.{got-map}
+use Rattle.ns_world.proofs.Exchanged.{made}
 
 -- ---- the seats
 
@@ -33,14 +34,17 @@ if_more : (notes later : ℕ → NoteStanding) → ((n : ℕ) → (notes n).made
 if_more notes later more None made = tt
 if_more notes later more (Some n) made = more n made
 
-module _ {C : Type 0} {N : ℕ} (setup : Setup) (notes later : ℕ → NoteStanding) (more : (n : ℕ) → (notes n).made ≡ true → (later n).made ≡ true) where
-  by_more : (seat : Seat C N) (wait : Option AnyWait) → StandsBy setup notes seat wait → StandsBy setup later seat wait
-  by_more seat None s = s
-  by_more seat (Some wait) s = record { walk = s.walk; walks = s.walks; mode = s.mode; cvs = s.cvs; asked = s.asked; among = s.among; unasked = s.unasked; there = there_more setup notes later more wait.round.items s.there; looks = s.looks }
+module _ {C : Type 0} (setup : Setup) (notes later : ℕ → NoteStanding) (more : (n : ℕ) → (notes n).made ≡ true → (later n).made ≡ true) where
+  for_more : (request : Request C) (wait : Option AnyWait) → WaitsFor setup notes request wait → WaitsFor setup later request wait
+  for_more request None p = (p.0, if_more notes later more (note_asked request) p.1)
+  for_more request (Some wait) p = record { mode = p.mode; cvs = p.cvs; asked = p.asked; among = p.among; there = there_more setup notes later more wait.round.items p.there }
 
   -- a seat stands as it stood where more notes are made
-  pub stands_more : (seat : Seat C N) → SeatStands setup notes seat → SeatStands setup later seat
-  stands_more seat s = record { right = s.right; noted = if_more notes later more (note_in seat.walk) s.noted; by = by_more seat seat.awaits s.by }
+  pub stands_more : {N : ℕ} (held : Option (Held C N)) (doing : Doing C) → DoingFits setup notes held doing → DoingFits setup later held doing
+  stands_more held (OnLock walk wait) p = (for_more (asked_of walk) wait p.0, p.1)
+  stands_more held (LooksByLimits walk place) p = (for_more (asked_of walk) None p.0, p.1)
+  stands_more held (LooksByRound walk wait round) p = (for_more (asked_of walk) (Some wait) p.0, p.1, p.2)
+  stands_more held other p = p
 
 -- ---- the law
 
@@ -58,24 +62,24 @@ module _ {C : Type 0} {N : ℕ} (old : Whole C N) (lawful : IsLawfulWhole old) (
   split_here = split_at views i (view_of here) view_at
 
   -- what the law says of the seat's place on the lock
-  pub place_here : PlaceFits old.truths here.walk here.held
+  pub place_here : PlaceFits old.truths (walk_of here.doing) here.held
   place_here = (view_fits old.truths (length old.seats) lawful.few old.history (lock_of old) (take i views) (view_of here) (drop (suc i) views) split_here lawful.lawful).place
 
   -- between calls the section in hand is settled
-  pub settled_here : here.walk ≡ None → IsSettled old.truths here.held
+  pub settled_here : walk_of here.doing ≡ None → IsSettled old.truths here.held
   settled_here over = subst (λ w. PlaceFits old.truths w here.held) over place_here
 
 -- The law holds where the seat stands as it may, and each machine's law does.
 pub lawful_set : {C : Type 0} {N : ℕ} (old new : Whole C N) (i : ℕ) (here next : Seat C N) → IsLawfulWhole old → slice_get old.seats i ≡ Some here → new.seats ≡ slice_set old.seats i next → next.number ≡ here.number → new.objects.setup ≡ old.objects.setup →
-    ((n : ℕ) → (old.env.notes n).made ≡ true → (new.env.notes n).made ≡ true) → SeatStands old.objects.setup new.env.notes next → IsLawful new.truths (length old.seats) new.history (lock_of new) → (past : Past) → HasLedTo past new → IsLawfulWhole new
+    ((n : ℕ) → (old.env.notes n).made ≡ true → (new.env.notes n).made ≡ true) → DoingFits old.objects.setup new.env.notes next.held next.doing → IsLawful new.truths (length old.seats) new.history (lock_of new) → (past : Past) → HasLedTo past new → IsLawfulWhole new
 lawful_set {C} {N} old new i here next lawful at seats number setup more stands kept past led = record {
   few = subst (λ n. n ≤ 64) (sym long) lawful.few;
   numbered = subst (λ (vs : List (SeatView C N)). AreNumbered 0 vs) (sym (reads old new i here next at seats view_of refl)) (numbers_stay 0 (map view_of old.seats) i (view_of next) (number ∙ number_here old lawful i here at ∙ sym (zero-add i)) lawful.numbered);
   counted = ap (λ (s : Setup). s.seats) setup ∙ lawful.counted ∙ sym long;
   lawful = subst (λ n. IsLawful new.truths n new.history (lock_of new)) (sym long) kept;
-  stands = λ other seat is. subst (λ s. SeatStands s new.env.notes seat) (sym setup) (elim (cases_eq other i) [
-    | inl e ↦ subst (SeatStands old.objects.setup new.env.notes) (same_Some _ _ (sym (here_then old new i here next at seats) ∙ ap (slice_get new.seats) (sym e) ∙ is)) stands
-    | inr ne ↦ stands_more old.objects.setup old.env.notes new.env.notes more seat (lawful.stands other seat (sym (others_stay old new i here next at seats other ne) ∙ is))
+  stands = λ other seat is. subst (λ s. DoingFits s new.env.notes seat.held seat.doing) (sym setup) (elim (cases_eq other i) [
+    | inl e ↦ subst (λ (s : Seat C N). DoingFits old.objects.setup new.env.notes s.held s.doing) (same_Some _ _ (sym (here_then old new i here next at seats) ∙ ap (slice_get new.seats) (sym e) ∙ is)) stands
+    | inr ne ↦ stands_more old.objects.setup old.env.notes new.env.notes more seat.held seat.doing (lawful.stands other seat (sym (others_stay old new i here next at seats other ne) ∙ is))
   ]);
   past = past;
   led = led;

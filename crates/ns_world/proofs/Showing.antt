@@ -1,6 +1,6 @@
 -- What is shown of a front of the seats, and of the rest.
 use Rattle.std.proofs.Common.{Bool, List, [], ap, arith, cond, drop, drop-cons, false, get_or, length, map, refl, suc, sym, take, true, ℕ, ◌++◌, ◌+◌, ◌<◌, ◌∙◌, ◌∷◌, ◌≡◌, ◌≤◌}
-use Rattle.ns_world.proofs.Prelude.{Lists, Seat, Truths, append-nil, drop_all, flat_map-append, hand_of, has_queues, length-append, lists_by, take-append-drop, take_more, wakes_by, wakes_owed}
+use Rattle.ns_world.proofs.Prelude.{Lists, Seat, Truths, append-nil, drop_all, flat_map-append, hand_of, has_queues, length-append, lists_by, take-append-drop, take_more, wakes_by, wakes_owed, walk_of}
 
 module _ {C : Type 0} {N : ℕ} (seats : List (Seat C N)) (i : ℕ) (seat : Seat C N) (within : i < length seats) (is : seat ≡ get_or seats i seat) where
   pub wakes_more : wakes_owed (take (i + 1) seats) ≡ wakes_owed (take i seats) ++ map (λ wake. (seat.number, wake.seat)) seat.owed.items
@@ -8,15 +8,15 @@ module _ {C : Type 0} {N : ℕ} (seats : List (Seat C N)) (i : ℕ) (seat : Seat
       ap wakes_owed (take_more seats i seat within ∙ ap (λ s. take i seats ++ s ∷ []) (sym is)) ∙ flat_map-append wakes_by (take i seats) (seat ∷ []) ∙ ap (λ ws. wakes_owed (take i seats) ++ ws) (append-nil (wakes_by seat))
 
   module _ (truths : Truths C) (row : List ℕ) (lists : Lists C) where
-    by_bit : (b : Bool) → has_queues seat.walk ≡ b → lists_by truths row lists (drop i seats) ≡ cond b (hand_of truths seat.number seat.walk row lists) (lists_by truths row lists (drop (suc i) seats))
-    by_bit b e = ap (lists_by truths row lists) (drop-cons seats i seat within ∙ ap (λ s. s ∷ drop (suc i) seats) (sym is)) ∙ ap (λ b. cond b (hand_of truths seat.number seat.walk row lists) (lists_by truths row lists (drop (suc i) seats))) e
+    by_bit : (b : Bool) → has_queues (walk_of seat.doing) ≡ b → lists_by truths row lists (drop i seats) ≡ cond b (hand_of truths seat.number (walk_of seat.doing) row lists) (lists_by truths row lists (drop (suc i) seats))
+    by_bit b e = ap (lists_by truths row lists) (drop-cons seats i seat within ∙ ap (λ s. s ∷ drop (suc i) seats) (sym is)) ∙ ap (λ b. cond b (hand_of truths seat.number (walk_of seat.doing) row lists) (lists_by truths row lists (drop (suc i) seats))) e
 
     -- the lists as this seat has them, where it has them
-    pub queues_here : has_queues seat.walk ≡ true → lists_by truths row lists (drop i seats) ≡ hand_of truths seat.number seat.walk row lists
+    pub queues_here : has_queues (walk_of seat.doing) ≡ true → lists_by truths row lists (drop i seats) ≡ hand_of truths seat.number (walk_of seat.doing) row lists
     queues_here e = by_bit true e
 
     -- and as a later one has them, where it has not
-    pub queues_later : has_queues seat.walk ≡ false → lists_by truths row lists (drop i seats) ≡ lists_by truths row lists (drop (suc i) seats)
+    pub queues_later : has_queues (walk_of seat.doing) ≡ false → lists_by truths row lists (drop i seats) ≡ lists_by truths row lists (drop (suc i) seats)
     queues_later e = by_bit false e
 
 -- a front of the seats owes no more than all

@@ -1,8 +1,8 @@
 -- What the looks of a wait have shown, over plain data.
-use Rattle.std.proofs.Common.{Bool, List, None, Option, Some, ap, refl, subst, sym, ℕ, ◌++◌, ◌∙◌, ◌≡◌}
-use Rattle.ns_world.proofs.Prelude.{Act, Any, AtSomePoint, BeginsWith, Cause, ClockLoad, EnvCourse, EnvEvent, EnvRequest, EnvSoFar, EnvWalk, ForLook, Limits, Look, LookFits, LookMeans, NoteLoad, NoteStanding, OnVariables, Request, Shows, Subject, Walk, WasShown, asked_of, begins_course}
-use Rattle.ns_world.proofs.Prelude.{begins_through, env_asked_of, env_course_at, limits_for, limits_of, looked_shows, looks_at, looks_by_asked, others_leave_course, want_of}
-use Rattle.ns_world.proofs.Looking.{FirstIf}
+use Rattle.std.proofs.Common.{List, None, Option, Some, ap, refl, subst, sym, ℕ, ◌++◌, ◌∙◌, ◌≡◌}
+use Rattle.ns_world.proofs.Prelude.{Any, AtSomePoint, BeginsWith, Cause, ClockLoad, EnvCourse, EnvEvent, EnvRequest, EnvSoFar, EnvWalk, ForLook, IsFirstAsk, Limits, LookFits, LookMeans, NoteLoad, NoteStanding, OnVariables, Request, Shows, Subject, Walk, WasShown, asked_of, begins}
+use Rattle.ns_world.proofs.Prelude.{begins_course, begins_through, env_asked_of, env_course_at, limits_for, limits_of, looked_shows, looks_at, others_leave_course, want_of}
+use Rattle.ns_world.proofs.Looking.{looks_asked}
 use Rattle.ns_world.proofs.Places.{IsNoLook}
 use Rattle.ns_env.specs.declared.request.EnvRequest.TheVariants as TheEnvRequest
 
@@ -39,18 +39,15 @@ shown_none earlier now None (Some cause) e = tt
 shown_none earlier now (Some by) (Some cause) e = absurd (cc)
 
 -- what a look of a wait has come to that is under way, and began after the wait
-abbrev pub LookSoFar : List EnvEvent → ℕ → List EnvEvent → Option EnvWalk → Type 0
-LookSoFar earlier seat events None = Unit {0}
-LookSoFar earlier seat events (Some place) = (course : EnvCourse) × BeginsWith course.before earlier × EnvSoFar events seat course place
+abbrev pub LookSoFar : List EnvEvent → ℕ → List EnvEvent → EnvWalk → Type 0
+LookSoFar earlier seat events place = (course : EnvCourse) × BeginsWith course.before earlier × EnvSoFar events seat course place
 
-pub look_on : (earlier : List EnvEvent) (seat : ℕ) (events more : List EnvEvent) (asking : Option EnvWalk) → LookSoFar earlier seat events asking → LookSoFar earlier seat (events ++ more) asking
-look_on earlier seat events more None so = tt
-look_on earlier seat events more (Some place) so = (so.0, so.1, others_leave_course events more seat so.0 place so.2)
+pub look_on : (earlier : List EnvEvent) (seat : ℕ) (events more : List EnvEvent) (place : EnvWalk) → LookSoFar earlier seat events place → LookSoFar earlier seat (events ++ more) place
+look_on earlier seat events more place so = (so.0, so.1, others_leave_course events more seat so.0 place so.2)
 
 -- a look that begins now
-pub look_begins : (earlier : List EnvEvent) (seat : ℕ) (events : List EnvEvent) (notes : ℕ → NoteStanding) (asking : Option EnvWalk) → BeginsWith events earlier → FirstIf notes asking → LookSoFar earlier seat events asking
-look_begins earlier seat events notes None since first = tt
-look_begins earlier seat events notes (Some place) since first = (env_course_at events, since, begins_course events notes seat place first)
+pub look_begins : (earlier : List EnvEvent) (seat : ℕ) (events : List EnvEvent) (notes : ℕ → NoteStanding) (place : EnvWalk) → BeginsWith events earlier → IsFirstAsk notes place → LookSoFar earlier seat events place
+look_begins earlier seat events notes place since first = (env_course_at events, since, begins_course events notes seat place first)
 
 -- ---- a look
 
@@ -59,14 +56,9 @@ means_no_look now (TheEnvRequest.Look limits) course cause own_call means = own_
 means_no_look now request course cause own_call means = means
 
 -- what a look goes by is what may end the wait that was asked
-is_look : {C : Type 0} (act : Act C) (limits : Limits) → looks_at act ≡ Some limits → (again : Bool) × (act ≡ Look limits again)
-is_look (Look by again) limits e = let same : by ≡ limits = cc in (again, ap (λ l. Look l again) same)
-is_look other limits e = absurd (cc)
-
 pub limits_are : {C : Type 0} (walk : Walk C) (request : Request C) (limits : Limits) → asked_of walk ≡ request → looks_at (want_of walk) ≡ Some limits → Says (limits_of request) limits
 limits_are walk request limits asked e =
-    let look = is_look (want_of walk) limits e in
-    let found = looks_by_asked limits look.0 walk look.1 in
+    let found = looks_asked walk limits e in
     subst (λ r. Says (limits_of r) limits) (sym (sym asked ∙ found.1)) (says_for found.0.on found.0.limits limits found.2)
 
 pub place_asks : (limits : Limits) (place : EnvWalk) → LookFits limits place → env_asked_of place ≡ TheEnvRequest.Look limits

@@ -1,26 +1,24 @@
 -- A turn of a run, by what beginning a call and a step promise.
-use Rattle.std.proofs.Common.{Bool, Err, IfErr, IfOk, List, None, Ok, Option, Result, Some, [], ap, arith, cond, false, inl, inr, is_some, length, nat_lt, refl, slice_get, subst, sym, true, ℕ, ◌-◌, ◌||◌, ◌∙◌, ◌∷◌, ◌≡◌, ◌≢◌}
-use Rattle.ns_world.proofs.Prelude.{AnyWait, Ask, Call, Commits, EnvNext, Fault, Go, GoesOnOrBegins, InCells, InRound, Lists, LookOver, Mode, MovesFrom, Next, NoSuchSeat, ObjectNext, ObjectWalk, On, OnLock, OnObjects, OutOfMemory, Progress, Seat, SeatLooks, SeatMakes, Sees, Start, Step, ToldIf}
-use Rattle.ns_world.proofs.Prelude.{TurnOf, Turned, TurnsOf, TurnsWith, UnlockQuiet, Walk, Went, Whole, WholeFault, WholeIsBusy, WholeIsIdle, WholeMoves, WholeStarts, WholeStep, Word, env_got_of, env_step_of, got_of, in_call, is_for_lock, length-set, mode_of, object_got, object_step_of}
-use Rattle.ns_world.proofs.Prelude.{option_map_or, or-true, placed, progress, progressed, same_Some, set_here, slice_get_within, start_of, step_of, told_to, want_of, whole_busy}
-use Rattle.ns_world.specs.Prelude.{Nothing}
-use Rattle.ns_world.specs.Prelude.{Wait}
+use Rattle.std.proofs.Common.{Bool, Err, IfErr, IfOk, List, None, Ok, Option, Result, Some, [], ap, arith, cond, false, inl, inr, length, nat_lt, not, refl, slice_get, subst, sym, true, ℕ, ◌-◌, ◌∙◌, ◌∷◌, ◌≡◌, ◌≢◌}
+use Rattle.ns_world.proofs.Prelude.{AnyWait, Call, Commits, EnvNext, Fault, Go, GoesOnOrBegins, InCells, Lists, LookOver, Looked, Mode, Next, NoSuchSeat, ObjectLeads, ObjectNext, On, OutOfMemory, Progress, Round, RoundLeads, Seat, SeatLooks, SeatMakes, Sees, Step, TurnOf, Turned, TurnsOf}
+use Rattle.ns_world.proofs.Prelude.{TurnsWith, UnlockQuiet, Walk, Went, Whole, WholeFault, WholeIsBusy, WholeIsIdle, WholeMoves, WholeStarts, WholeStep, Word, env_got_of, env_step_of, got_of, in_call, is_call, length-set, mode_of, object_step_of, option_map_or, placed, progress}
+use Rattle.ns_world.proofs.Prelude.{progressed, same_Some, set_here, slice_get_within, start_of, step_of, waits_then, walk_of, want_of, whole_busy}
+use Rattle.ns_world.specs.Prelude.{Nothing, Wait}
 use Rattle.ns_world.proofs.SeatSet.{as_many}
-use Rattle.ns_world.proofs.StepKinds.{resting}
 use Rattle.ns_counters.specs.declared.walk.ObjectNext.TheVariants as TheObject
 use Rattle.ns_word.specs.declared.act.Found.TheVariants as TheFound
 
--- the first step of a call may commit an event
-abbrev StartCommits : {C : Type 0} → ℕ → Start C → Word → Lists C → Type 0
-StartCommits seat (OnLock walk) word lists = Commits seat (want_of walk) word lists
-StartCommits seat start word lists = ⊥
+-- a step at this place may commit an event
+abbrev CommitsAt : {C : Type 0} → ℕ → Option (Walk C) → Word → Lists C → Type 0
+CommitsAt seat None word lists = ⊥
+CommitsAt seat (Some walk) word lists = Commits seat (want_of walk) word lists
 
 by_either : {A : Type 0} (P : A → Type 0) (b : Bool) {x y : A} → (P x → ⊥) → (P y → ⊥) → P (cond b x y) → ⊥
 by_either P true one other p = one p
 by_either P false one other p = other p
 
 -- no call's first step commits an event
-starts_apart : {C : Type 0} (N : ℕ) (mode : Option Mode) (call : Call C) (seat : ℕ) (word : Word) (lists : Lists C) → StartCommits seat (start_of N mode call) word lists → ⊥
+starts_apart : {C : Type 0} (N : ℕ) (mode : Option Mode) (call : Call C) (seat : ℕ) (word : Word) (lists : Lists C) → CommitsAt seat (walk_of (start_of N mode call)) word lists → ⊥
 starts_apart {C} N mode UnlockQuiet seat word lists p = by_either (λ place. Commits {C = C} seat (want_of (InCells place)) word lists) (nat_lt 0 (N - 1)) (λ q. q) (λ q. q) p
 starts_apart {C} N mode (Wait c limits) seat word lists p = by_either (λ (walk : Walk C). Commits seat (want_of walk) word lists) (nat_lt 0 (N - 1)) (λ q. q) (λ q. q) p
 starts_apart N mode other seat word lists p = p
@@ -40,9 +38,9 @@ abbrev IsMade : Step → Type 0
 IsMade Nothing = ⊥
 IsMade step = Unit {0}
 
-step_made : {C : Type 0} (next : Next C) → IsMade (step_of next)
-step_made (On walk) = tt
-step_made next = tt
+step_made : {C : Type 0} (wait : Option AnyWait) (next : Next C) → IsMade (step_of wait next)
+step_made wait (On walk) = tt
+step_made wait next = tt
 
 ask_made : (next : EnvNext) → IsMade (env_step_of next)
 ask_made (Go walk) = tt
@@ -52,34 +50,31 @@ object_made : (next : ObjectNext) → IsMade (object_step_of next)
 object_made (TheObject.Go walk) = tt
 object_made next = tt
 
-told_made : (wait : Option AnyWait) (told : Step) → IsMade told → IsMade (told_to wait told)
-told_made None told made = made
-told_made (Some wait) Nothing made = made
-told_made (Some wait) Went made = tt
-told_made (Some wait) told made = tt
+-- every call's first place is one
+starts_call : {C : Type 0} (N : ℕ) (mode : Option Mode) (call : Call C) → is_call (start_of N mode call) ≡ true
+starts_call N mode UnlockQuiet = refl
+starts_call N mode other = refl
 
 module _ {C : Type 0} {N : ℕ} where
-  sees_made : (seat next : Seat C N) (walk : Walk C) (cause : _) (step : Step) → Sees seat walk cause next step → IsMade step
-  sees_made seat next walk cause step q = subst IsMade (sym q.answers) (step_made (got_of N walk (TheFound.Looked cause)))
-
-  look_made : (n : EnvNext) (seat next : Seat C N) (walk : Walk C) (step : Step) → SeatLooks n seat walk next step → IsMade step
-  look_made (Go place) seat next walk step q = subst IsMade (sym q.1) tt
-  look_made (LookOver cause) seat next walk step q = sees_made seat next walk cause step q
-  look_made n seat next walk step q = absurd q
-
-  told_if_made : (b : Bool) (wait : Option AnyWait) (then next : Seat C N) (walk : ObjectWalk) (told step : Step) → IsMade told → ToldIf b wait then walk told next step → IsMade step
-  told_if_made false wait then next walk told step made q = subst IsMade (sym q.1) made
-  told_if_made true (Some wait) then next walk told step made q = sees_made _ next q.0 _ step q.2
-  told_if_made true None then next (InRound round place) told step made q = subst IsMade (sym q.4) tt
-  told_if_made true None then next walk told step made q = absurd q
+  sees_made : (seat next : Seat C N) (walk : Walk C) (wait : Option AnyWait) (cause : _) (step : Step) → Sees seat walk wait cause next step → IsMade step
+  sees_made seat next walk wait cause step q = subst IsMade (sym q.answers) (step_made wait (got_of N walk (TheFound.Looked cause)))
 
   makes_made : (old new : Whole C N) (here next : Seat C N) (step : Step) → SeatMakes old new here next step → IsMade step
-  makes_made old new here next step (inl p) = subst IsMade (sym p.answers) (told_made p.then.awaits p.told (subst IsMade (sym p.performs.answers) (step_made (got_of N p.walk p.performs.found))))
-  makes_made old new here next step (inr (inl p)) = by here.walk p.moves where
-    by : (walk : Option (Walk C)) → MovesFrom walk old.env new.env here p.place next step → IsMade step
-    by None q = subst IsMade (sym q.answers) (ask_made (env_got_of p.place q.found))
-    by (Some walk) q = look_made (env_got_of p.place q.found) here next walk step q.goes
-  makes_made old new here next step (inr (inr p)) = told_if_made (is_for_lock here.awaits p.walk p.told) here.awaits p.then next p.walk p.told step (subst IsMade (sym p.operates.answers) (object_made (object_got p.walk p.operates.found))) p.tells
+  makes_made old new here next step (inl p) = subst IsMade (sym p.performs.answers) (step_made p.wait (got_of N p.walk p.found))
+  makes_made old new here next step (inr (inl p)) = by (env_got_of p.place p.looks.found) p.looks.goes where
+    by : (n : EnvNext) → SeatLooks n here p.walk next step → IsMade step
+    by (Go place) g = subst IsMade (sym g.1) tt
+    by (LookOver cause) g = sees_made here next p.walk None cause step g
+    by n g = absurd g
+  makes_made old new here next step (inr (inr (inl p))) = by p.leads p.goes where
+    by : (n : ObjectNext) → RoundLeads n here p.walk p.wait next step → IsMade step
+    by (TheObject.Go round) g = subst IsMade (sym g.1) tt
+    by n g = sees_made here next p.walk _ _ step g
+  makes_made old new here next step (inr (inr (inr (inl p)))) = subst IsMade (sym p.asks.answers) (ask_made (env_got_of p.walk p.asks.found))
+  makes_made old new here next step (inr (inr (inr (inr p)))) = by (waits_then p.walk p.leads) p.goes where
+    by : (round : Option Round) → ObjectLeads round p.leads here next step → IsMade step
+    by (Some round) g = subst IsMade (sym g.answers) tt
+    by None g = subst IsMade (sym g.1) (object_made p.leads)
 
   pub whole_some : (old new : Whole C N) (seat : ℕ) (step : Step) → WholeMoves old new seat step → step ≢ Nothing
   whole_some old new seat step p = λ e. subst IsMade e (makes_made old new p.here p.next step p.makes)
@@ -92,9 +87,11 @@ module _ {C : Type 0} {N : ℕ} where
   -- ---- who is busy
 
   makes_busy : (old new : Whole C N) (here next : Seat C N) (step : Step) → SeatMakes old new here next step → in_call here ≡ true
-  makes_busy old new here next step (inl p) = λ i. (is_some (p.walks i) || is_some (p.unasked i)) || is_some (p.nowhere i)
-  makes_busy old new here next step (inr (inl p)) = (λ i. (is_some here.walk || is_some (p.stands i)) || is_some (p.nowhere i)) ∙ ap (λ b. b || false) (or-true (is_some here.walk))
-  makes_busy old new here next step (inr (inr p)) = ap (λ w. (is_some here.walk || is_some here.asking) || is_some w) p.walks ∙ or-true (is_some here.walk || is_some here.asking)
+  makes_busy old new here next step (inl p) = ap is_call p.stands
+  makes_busy old new here next step (inr (inl p)) = ap is_call p.stands
+  makes_busy old new here next step (inr (inr (inl p))) = ap is_call p.stands
+  makes_busy old new here next step (inr (inr (inr (inl p)))) = ap is_call p.stands
+  makes_busy old new here next step (inr (inr (inr (inr p)))) = ap is_call p.stands
 
   -- what is so of a seat's calls is so of its number
   pub busy_at : (world : Whole C N) (i : ℕ) (seat : Seat C N) (b : Bool) → slice_get world.seats i ≡ Some seat → in_call seat ≡ b → whole_busy world i ≡ b
@@ -104,16 +101,11 @@ module _ {C : Type 0} {N : ℕ} where
   idle_clash : {A : Type 0} (world : Whole C N) (i : ℕ) → whole_busy world i ≡ true → WholeIsIdle world i → A
   idle_clash world i busy p = let idle = busy_at world i p.0 false p.1 p.2 in absurd (cc)
 
-  placed_busy : (here : Seat C N) (start : Start C) → in_call (placed here start) ≡ true
-  placed_busy here (OnLock walk) = refl
-  placed_busy here (Ask walk) = ap (λ b. b || is_some here.operating) (or-true (is_some here.walk))
-  placed_busy here (OnObjects walk) = or-true (is_some here.walk || is_some here.asking)
-
   placed_at : (old new : Whole C N) (seat : ℕ) (call : Call C) (p : WholeStarts old new seat call) → slice_get new.seats seat ≡ Some (placed p.here (start_of N (mode_of p.here.held) call))
   placed_at old new seat call p = ap (λ (w : Whole C N). slice_get w.seats seat) p.begins ∙ set_here old.seats seat (placed p.here (start_of N (mode_of p.here.held) call)) (slice_get_within old.seats seat p.here p.at)
 
   started_busy : (old new : Whole C N) (seat : ℕ) (call : Call C) → WholeStarts old new seat call → whole_busy new seat ≡ true
-  started_busy old new seat call p = busy_at new seat _ true (placed_at old new seat call p) (placed_busy p.here (start_of N (mode_of p.here.held) call))
+  started_busy old new seat call p = busy_at new seat _ true (placed_at old new seat call p) (starts_call N (mode_of p.here.held) call)
 
   -- ---- turns
 
@@ -139,18 +131,12 @@ module _ {C : Type 0} {N : ℕ} where
   turns_busy old begun new seat call step s (inl p) = idle_clash begun seat (ap (λ (world : Whole C N). whole_busy world seat) s.0 ∙ busy_at old seat s.1.0 true s.1.1 s.1.2) p.2
   turns_busy old begun new seat call step s (inr p) = λ lists over lines e. inl (record { begun = begun; leads = inl (s.1, s.0); world = new; moves = p; after = refl })
 
-  -- a seat at the first place of a call is about to make no release
-  begun_steps : (here : Seat C N) (start : Start C) (walk : Walk C) (seat : ℕ) (word : Word) (lists : Lists C) → here.walk ≡ None → (placed here start).walk ≡ Some walk → Commits seat (want_of walk) word lists → StartCommits seat start word lists
-  begun_steps here (OnLock w) walk seat word lists over is p = subst (λ x. Commits seat (want_of x) word lists) (sym (same_Some _ _ is)) p
-  begun_steps here (Ask w) walk seat word lists over is p = absurd (cc)
-  begun_steps here (OnObjects w) walk seat word lists over is p = absurd (cc)
-
   -- a call's first step is never refused
   pub started_steps : (old begun : Whole C N) (seat : ℕ) (call : Call C) (fault : Fault) → WholeStarts old begun seat call → WholeFault begun seat fault → ⊥
   started_steps old begun seat call OutOfMemory p refused =
       let start = start_of N (mode_of p.here.held) call in
       let is : placed p.here start ≡ refused.seat = same_Some _ _ (sym (placed_at old begun seat call p) ∙ refused.at) in
-      starts_apart N (mode_of p.here.held) call seat begun.word begun.queues (begun_steps p.here start refused.walk seat begun.word begun.queues (resting p.here p.idle).0 (ap (λ (s : Seat C N). s.walk) is ∙ refused.walks) refused.commits)
+      starts_apart N (mode_of p.here.held) call seat begun.word begun.queues (subst (λ w. CommitsAt seat w begun.word begun.queues) (sym (ap (λ (s : Seat C N). walk_of s.doing) is ∙ refused.walks)) refused.commits)
   started_steps old begun seat call NoSuchSeat p refused = let within = slice_get_within begun.seats seat _ (placed_at old begun seat call p) in absurd (omega (arith, within, refused))
   started_steps old begun seat call other p refused = refused
 

@@ -1,30 +1,32 @@
 -- From its beginning to its answer a call is under way, whatever others do, and its answer means what it says.
 use Rattle.std.proofs.Common.{List, None, Option, Some, [], ap, false, inl, inr, refl, slice_get, slice_set, subst, suc, sym, zero, ℕ, ◌++◌, ◌∙◌, ◌≡◌, ◌≢◌, ◌⊎◌}
-use Rattle.ns_world.proofs.Prelude.{Add, AnswersCall, AreEnvBy, AreObjectsBy, AreThere, Ask, Asked, Call, CallFits, CounterWait, Done, EnvEvent, Event, Finished, Happens, HasLedTo, IsLawfulWhole, IsUnfinished, Meanwhile, Mode, ObjectEvent, ObjectSoFar, OfLock, OfNotes, OfObjects, OnCondition}
-use Rattle.ns_world.proofs.Prelude.{OnEntry, OnLock, OnObjects, Once, Past, Reply, Seat, SeatMakes, Start, Started, Step, ToRelease, UnlockQuiet, Value, WaitAny, Whole, WholeBegins, WholeMoves, WholeStarts, WholeStep, append-nil, append_assoc, asked_of, asks_of, begins_course, begins_itself}
-use Rattle.ns_world.proofs.Prelude.{begins_unchanged, cases_eq, course_from, done_by, done_in, env_after, env_asked_of, env_course_at, env_own, env_own-append, env_own_none, happened, held_at, in_call, later_itself, mode_of, mode_waited, notes_by, nothing_done, object_asked, objects_by}
-use Rattle.ns_world.proofs.Prelude.{objects_own, option_map_or, own, own-append, own_none, own_row_append, own_row_none, past_and, placed, quiet_asks, same_Some, set_here, set_there, slice_get_within, start_of, step_by, test_asks, view_of}
+use Rattle.ns_world.proofs.Prelude.{Add, AnswersCall, AnyWait, AreEnvBy, AreObjectsBy, AreThere, Asked, AtRest, Call, CallFits, CounterWait, Doing, Done, Event, Finished, Found, Happens, HasLedTo, IsLawfulWhole, IsUnfinished, Meanwhile, Mode, ObjectSoFar, OfLock, OfNotes, OfObjects}
+use Rattle.ns_world.proofs.Prelude.{OnCondition, OnEntry, OnLock, OnNotes, OnObjects, Once, Past, Reply, Seat, SeatMakes, Started, Step, ToRelease, UnlockQuiet, Value, WaitAny, Walk, Whole, WholeBegins, WholeMoves, WholeStarts, WholeStep, append-nil, append_assoc, asked_of, asks_of}
+use Rattle.ns_world.proofs.Prelude.{begins_course, begins_itself, begins_unchanged, cases_eq, course_from, done_by, done_in, env_after, env_asked_of, env_course_at, env_own, env_own-append, env_own_none, happened, held_at, in_call, is_call, later_itself, mode_of, mode_waited, notes_by}
+use Rattle.ns_world.proofs.Prelude.{nothing_done, object_asked, objects_by, objects_own, option_map_or, own, own-append, own_none, own_row_append, own_row_none, past_and, placed, quiet_asks, same_Some, set_here, set_there, slice_get_within, start_of, step_by, test_asks, view_of, walk_of}
 use Rattle.ns_world.proofs.HowFar.{AddsNothing, HasCome, Outcome, UnderwayIn, has_rests, no_own, no_own_notes, unfinished}
 use Rattle.ns_world.proofs.Laws.{moves_led, no_more, starts_led, steps_led}
 use Rattle.ns_world.proofs.OwnRounds.{objects_take_on}
 use Rattle.ns_world.proofs.OwnSteps.{lock_takes_on, notes_take_on}
 use Rattle.ns_world.proofs.Places.{IsFirstAt, IsNoLook, first_at}
 use Rattle.ns_world.proofs.SeatSet.{here_then, number_here, others_stay}
-use Rattle.ns_world.proofs.Shown.{LookSoFar, begins_on}
-use Rattle.ns_world.proofs.StepKinds.{awaits_not, clash, kind_of, resting}
+use Rattle.ns_world.proofs.Shown.{begins_on}
 use Rattle.ns_world.specs.Prelude.{Wait}
-use Rattle.ns_world.proofs.StepKinds.{Goes, Kind, goes_steps, lock_kind, makes_means}
+use Rattle.ns_world.proofs.Placing.{act_steps}
+use Rattle.ns_world.proofs.Looking.{Acts, makes_means}
 
 -- what another's step adds to the row's history is none of the seat's
 module _ {C : Type 0} {N : ℕ} (old new : Whole C N) (lawful : IsLawfulWhole old) (other : ℕ) (here next : Seat C N) (at : slice_get old.seats other ≡ Some here) (seats : new.seats ≡ slice_set old.seats other next) (seat : ℕ) (ne : other ≢ seat) where
-  goes_row : {told : Step} → Goes old new here next told → own new.history seat ≡ own old.history seat
-  goes_row {told} g = ap (λ h. own h seat) g.grows ∙ own_row_append seat old.history g.commits
-      ∙ ap (λ es. own old.history seat ++ es) (own_row_none here.number seat g.commits (λ e. ne (sym (number_here old lawful other here at) ∙ e)) (step_by old.truths _ (view_of here) g.found _ g.commits (goes_steps old new other here next told at seats g))) ∙ append-nil (own old.history seat)
+  acts_row : (step : Step) (walk : Walk C) (wait : Option AnyWait) (found : Found) → walk_of here.doing ≡ Some walk → Acts old new here next step walk wait found → own new.history seat ≡ own old.history seat
+  acts_row step walk wait found walks p = ap (λ h. own h seat) p.grows ∙ own_row_append seat old.history p.commits
+      ∙ ap (λ es. own old.history seat ++ es) (own_row_none here.number seat p.commits (λ e. ne (sym (number_here old lawful other here at) ∙ e)) (step_by old.truths _ (view_of here) found _ p.commits (act_steps old new other here next step walk wait found at seats walks p))) ∙ append-nil (own old.history seat)
 
   makes_row : (step : Step) → SeatMakes old new here next step → own new.history seat ≡ own old.history seat
-  makes_row step (inl p) = goes_row (lock_kind old new lawful other step here next at p).goes
+  makes_row step (inl p) = acts_row step p.walk p.wait p.found (ap walk_of p.stands) p.performs
   makes_row step (inr (inl p)) = ap (λ (w : Whole C N). own w.history seat) p.same
-  makes_row step (inr (inr p)) = ap (λ (w : Whole C N). own w.history seat) p.same
+  makes_row step (inr (inr (inl p))) = ap (λ (w : Whole C N). own w.history seat) p.same
+  makes_row step (inr (inr (inr (inl p)))) = ap (λ (w : Whole C N). own w.history seat) p.same
+  makes_row step (inr (inr (inr (inr p)))) = ap (λ (w : Whole C N). own w.history seat) p.same
 
 -- what a step leaves of what the conditions mean, and of how the objects began
 step_means : {C : Type 0} {N : ℕ} (old new : Whole C N) (seat : ℕ) (step : Step) → WholeStep old new seat step → (new.truths ≡ old.truths) × (new.objects.setup ≡ old.objects.setup)
@@ -37,7 +39,7 @@ past_assoc past one two = λ i. record { notes = append_assoc past.notes one.not
 module _ (C : Type 0) (N : ℕ) (before : Whole C N) (earlier : Past) (seat : ℕ) where
   -- it is under way in the world after, where its seat has come so far there
   on_in : (asked : Asked C) (past more : Past) (old new : Whole C N) (here : Seat C N) → slice_get new.seats seat ≡ Some here → (new.truths ≡ old.truths) × (new.objects.setup ≡ old.objects.setup) → HasLedTo (past_and past more) new → UnderwayIn before earlier seat asked past old →
-      HasCome before earlier seat asked (past_and past more) new.history here → UnderwayIn before earlier seat asked (past_and past more) new
+      HasCome before earlier seat asked (past_and past more) new.history here.held here.doing → UnderwayIn before earlier seat asked (past_and past more) new
   on_in asked past more old new here at same led u has = record {
     here = here;
     at = at;
@@ -52,7 +54,7 @@ module _ (C : Type 0) (N : ℕ) (before : Whole C N) (earlier : Past) (seat : �
   -- so it is where its seat rests
   rests_in : (asked : Asked C) (past more : Past) (old new : Whole C N) → slice_get new.seats seat ≡ slice_get old.seats seat → (new.truths ≡ old.truths) × (new.objects.setup ≡ old.objects.setup) → HasLedTo (past_and past more) new →
       AddsNothing before earlier seat past more old.history new.history → UnderwayIn before earlier seat asked past old → UnderwayIn before earlier seat asked (past_and past more) new
-  rests_in asked past more old new still same led r u = on_in asked past more old new u.here (still ∙ u.at) same led u (has_rests before earlier seat asked past more old.history new.history u.here r u.has)
+  rests_in asked past more old new still same led r u = on_in asked past more old new u.here (still ∙ u.at) same led u (has_rests before earlier seat asked past more old.history new.history u.here.held u.here.doing r u.has)
 
   nothing_added : (past : Past) (old new : Whole C N) → own new.history seat ≡ own old.history seat → AddsNothing before earlier seat past nothing_done old.history new.history
   nothing_added past old new row = record { row = row; notes = no_own_notes before earlier seat past.notes; objects = no_own before earlier seat past.objects [] refl }
@@ -87,9 +89,9 @@ module _ (C : Type 0) (N : ℕ) (before : Whole C N) (earlier : Past) (seat : �
   -- ---- how a call begins
 
   -- the first place of a call is one of what it was asked
-  abbrev IsAskedAt : Asked C → Start C → Type 0
-  IsAskedAt (OfLock request) (OnLock walk) = asked_of walk ≡ request
-  IsAskedAt (OfNotes request) (Ask walk) = env_asked_of walk ≡ request
+  abbrev IsAskedAt : Asked C → Doing C → Type 0
+  IsAskedAt (OfLock request) (OnLock walk None) = asked_of walk ≡ request
+  IsAskedAt (OfNotes request) (OnNotes walk) = env_asked_of walk ≡ request
   IsAskedAt (OfObjects asked) (OnObjects walk) = walk ≡ asked
   IsAskedAt asked start = ⊥
 
@@ -99,7 +101,7 @@ module _ (C : Type 0) (N : ℕ) (before : Whole C N) (earlier : Past) (seat : �
   asked_at mode other = refl
 
   -- what a call on counters and once cells has come to as it begins
-  abbrev IsBegunAt : Start C → Type 0
+  abbrev IsBegunAt : Doing C → Type 0
   IsBegunAt (OnObjects walk) = (object_asked walk ≡ walk) × ObjectSoFar before.objects.setup earlier earlier seat [] walk
   IsBegunAt start = Unit {0}
 
@@ -113,31 +115,25 @@ module _ (C : Type 0) (N : ℕ) (before : Whole C N) (earlier : Past) (seat : �
   begun_on mode other notes fits = tt
 
   -- any call, as it begins
-  module _ (here : Seat C N) (at : slice_get before.seats seat ≡ Some here) (rests : (here.walk ≡ None) × (here.asking ≡ None) × (here.operating ≡ None)) (waits_not : here.awaits ≡ None) where
+  module _ (here : Seat C N) (at : slice_get before.seats seat ≡ Some here) where
     held : here.held ≡ held_at before seat
     held = sym (ap (λ o. option_map_or (λ s. s.held) o None) at)
 
-    starts_at : (asked : Asked C) (start : Start C) → IsAskedAt asked start → IsFirstAt N before.env.notes start → IsBegunAt start → HasCome before earlier seat asked earlier before.history (placed here start)
-    starts_at (OfLock request) (OnLock walk) asked first begun = (
+    starts_at : (asked : Asked C) (start : Doing C) → IsAskedAt asked start → IsFirstAt N before.env.notes start → IsBegunAt start → HasCome before earlier seat asked earlier before.history here.held start
+    starts_at (OfLock request) (OnLock walk None) asked first begun = (
       record {
-        walk = walk;
-        walks = refl;
         asked = asked;
         course = course_from here.held;
         began = held;
         added = sym (append-nil (own before.history seat));
         so_far = begins_unchanged C N before.truths seat here.held walk first;
         shown = tt;
-        looking = subst (LookSoFar earlier.notes seat earlier.notes) (sym rests.1) tt;
         still = refl;
       },
-      record { nowhere = rests.2; waits_not = waits_not; untouched = refl },
+      refl,
     )
-    starts_at (OfNotes request) (Ask walk) asked first begun = (
+    starts_at (OfNotes request) (OnNotes walk) asked first begun = (
       record {
-        over = rests.0;
-        walk = walk;
-        walks = refl;
         asked = asked;
         course = env_course_at earlier.notes;
         began = refl;
@@ -147,30 +143,25 @@ module _ (C : Type 0) (N : ℕ) (before : Whole C N) (earlier : Past) (seat : �
         silent = refl;
         no_look = subst IsNoLook asked first.1;
       },
-      record { nowhere = rests.2; waits_not = waits_not; untouched = refl },
+      refl,
     )
-    starts_at (OfObjects place) (OnObjects walk) asked first begun = inl (record {
+    starts_at (OfObjects place) (OnObjects walk) asked first begun = record {
       same = held;
       silent = refl;
       still = refl;
-      walk = walk;
-      walks = refl;
-      waits_not = waits_not;
       is_asked = begun.0 ∙ asked;
       events = [];
       added = sym (append-nil (objects_own earlier.objects seat));
       so_far = begun.1;
-    })
+    }
     starts_at other start asked first begun = absurd asked
 
   begins_in : (begun : Whole C N) (call : Call C) → IsLawfulWhole before → HasLedTo earlier before → WholeStarts before begun seat call → UnderwayIn before earlier seat (asks_of (mode_of (held_at before seat)) call) earlier begun
   begins_in begun call lawful led p =
       let mode = mode_of p.here.held in
       let start = start_of N mode call in
-      let rests = resting p.here p.idle in
-      let waits_not = awaits_not before.objects.setup before.env.notes p.here (lawful.stands seat p.here p.at) (inl rests.0) in
-      let has = starts_at p.here p.at rests waits_not (asks_of mode call) start (asked_at mode call) (first_at N before.objects.setup before.env.notes mode call p.fits) (begun_on mode call led.0.lawful.meets.notes p.fits) in
-      subst (λ held. UnderwayIn before earlier seat (asks_of (mode_of held) call) earlier begun) (held p.here p.at rests waits_not) (record {
+      let has = starts_at p.here p.at (asks_of mode call) start (asked_at mode call) (first_at N before.objects.setup before.env.notes mode call p.fits) (begun_on mode call led.0.lawful.meets.notes p.fits) in
+      subst (λ held. UnderwayIn before earlier seat (asks_of (mode_of held) call) earlier begun) (held p.here p.at) (record {
         here = placed p.here start;
         at = ap (λ (w : Whole C N). slice_get w.seats seat) p.begins ∙ set_here before.seats seat (placed p.here start) (slice_get_within before.seats seat p.here p.at);
         setup = ap (λ (w : Whole C N). w.objects.setup) p.begins;
@@ -178,20 +169,20 @@ module _ (C : Type 0) (N : ℕ) (before : Whole C N) (earlier : Past) (seat : �
         since = begins_itself earlier.objects;
         since_notes = begins_itself earlier.notes;
         led = starts_led before begun lawful seat call p earlier led;
-        has = subst (λ h. HasCome before earlier seat (asks_of mode call) earlier h (placed p.here start)) (sym (ap (λ (w : Whole C N). w.history) p.begins)) has;
+        has = subst (λ h. HasCome before earlier seat (asks_of mode call) earlier h p.here.held start) (sym (ap (λ (w : Whole C N). w.history) p.begins)) has;
       })
 
   -- ---- from the beginning to the answer
 
   -- a seat whose call is under way isn't idle
-  busy_in : (asked : Asked C) (past : Past) (history : List (Event C N)) (here : Seat C N) → HasCome before earlier seat asked past history here → in_call here ≡ false → ⊥
-  busy_in (OfLock request) past history here u idle = clash (resting here idle).0 u.0.walks
-  busy_in (OfNotes request) past history here u idle = clash (resting here idle).1 u.0.walks
-  busy_in (OfObjects asked) past history here (inl u) idle = clash (resting here idle).2 u.walks
-  busy_in (OfObjects asked) past history here (inr u) idle = clash (resting here idle).0 u.lock.walks
+  busy_in : (asked : Asked C) (past : Past) (history : List (Event C N)) (held : _) (doing : Doing C) → HasCome before earlier seat asked past history held doing → is_call doing ≡ false → ⊥
+  busy_in (OfLock request) past history held AtRest u idle = u
+  busy_in (OfNotes request) past history held AtRest u idle = u
+  busy_in (OfObjects asked) past history held AtRest u idle = u
+  busy_in asked past history held doing u idle = absurd (cc)
 
   idle_not : (asked : Asked C) (past : Past) (world : Whole C N) (here : Seat C N) → UnderwayIn before earlier seat asked past world → slice_get world.seats seat ≡ Some here → in_call here ≡ false → ⊥
-  idle_not asked past world here u at idle = busy_in asked past world.history u.here u.has (ap in_call (same_Some _ _ (sym u.at ∙ at)) ∙ idle)
+  idle_not asked past world here u at idle = busy_in asked past world.history u.here.held u.here.doing u.has (ap in_call (same_Some _ _ (sym u.at ∙ at)) ∙ idle)
 
   -- a step of the seat itself: its call has come so far, or has its answer
   abbrev StepsTo : Asked C → Step → Past → Whole C N → Type 0
@@ -199,23 +190,14 @@ module _ (C : Type 0) (N : ℕ) (before : Whole C N) (earlier : Past) (seat : �
 
   moves_here : (asked : Asked C) (past : Past) (old new : Whole C N) (step : Step) → IsLawfulWhole old → (p : WholeMoves old new seat step) → UnderwayIn before earlier seat asked past old →
       StepsTo asked step (past_and past (record { notes = notes_by seat p.makes; objects = objects_by p.makes })) new
-  moves_here asked past old new step lawful p u = (led.2, (p.next, here_then old new seat p.here p.next p.at p.seats, by asked (subst (HasCome before earlier seat asked past old.history) (same_Some _ _ (sym u.at ∙ p.at)) u.has))) where
-    notes : List EnvEvent
-    notes = notes_by seat p.makes
-
-    events : List ObjectEvent
-    events = objects_by p.makes
-
+  moves_here asked past old new step lawful p u = (led.2, (p.next, here_then old new seat p.here p.next p.at p.seats, by asked (subst (λ (s : Seat C N). HasCome before earlier seat asked past old.history s.held s.doing) (same_Some _ _ (sym u.at ∙ p.at)) u.has))) where
     led : AreEnvBy seat (notes_by seat p.makes) × AreObjectsBy seat (objects_by p.makes) × HasLedTo (past_and past (record { notes = notes_by seat p.makes; objects = objects_by p.makes })) new
     led = moves_led old new lawful seat step past u.led p
 
-    kind : Kind old new seat p.here p.next step (notes_by seat p.makes) (objects_by p.makes)
-    kind = kind_of old new lawful seat step p.here p.next p.at p.makes
-
-    by : (asked : Asked C) → HasCome before earlier seat asked past old.history p.here → Outcome before earlier seat asked step (past_and past (record { notes = notes_by seat p.makes; objects = objects_by p.makes })) new p.next
-    by (OfLock request) has = lock_takes_on before earlier seat old new lawful u.means p.here p.next p.at p.seats request past u.since_notes u.led.0 step notes events has kind
-    by (OfNotes request) has = notes_take_on before earlier seat old new lawful u.means p.here p.next p.at p.seats request past u.led.0 step notes events has kind
-    by (OfObjects asked) has = objects_take_on before earlier seat past old new lawful u.setup u.means u.since u.since_notes u.led p.here p.next p.at p.seats step notes events asked kind has led.1 led.2
+    by : (asked : Asked C) → HasCome before earlier seat asked past old.history p.here.held p.here.doing → Outcome before earlier seat asked step (past_and past (record { notes = notes_by seat p.makes; objects = objects_by p.makes })) new p.next
+    by (OfLock request) has = lock_takes_on before earlier seat old new lawful u.means p.here p.next p.at p.seats step request past u.since_notes u.led.0 p.makes has
+    by (OfNotes request) has = notes_take_on before earlier seat old new lawful u.means p.here p.next p.at p.seats step request past u.led.0 p.makes has
+    by (OfObjects asked) has = objects_take_on before earlier seat past old new lawful u.setup u.means u.since u.since_notes u.led p.here p.next p.at p.seats step asked p.makes has led.1 led.2
 
   step_here : (asked : Asked C) (past : Past) (old new : Whole C N) (step : Step) → IsLawfulWhole old → (p : WholeStep old new seat step) → UnderwayIn before earlier seat asked past old → StepsTo asked step (past_and past (done_in old new seat step p)) new
   step_here asked past old new step lawful (inl p) u = absurd (idle_not asked past old p.2.0 u p.2.1 p.2.2)

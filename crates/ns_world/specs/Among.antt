@@ -1,14 +1,16 @@
 -- Waits for condition variables among notes and counters. As such a call begins, a round looks at the notes and counters; where that shows nothing, the call leaves its section and waits on the lock for the variables; and whenever that wait looks, another round does so.
-use Rattle.std.specs.Prelude.{Bool, IsSome, None, Option, Some, false, if◌then◌else◌, is_some, true, unwrap_or, ℕ, ◌≡◌, ◌≤◌}
-use Rattle.ns_world.specs.Names.{Any, AnyWait, AreAmong, AreVariables, Cause, Cvs, Every, Expired, Finished, FirstClock, Idle, InRound, IsLow, Limits, Mode, Number, ObjectWalk, OnLock, OnVariables, Reply, Request, Seat, Step, Walk, Went, have_variable, items_of, place_in, wait_first, want_of}
+use Rattle.std.specs.Prelude.{Bool, IsSome, None, Option, Some, false, if◌then◌else◌, true, unwrap_or, ℕ, ◌≡◌, ◌≤◌}
+use Rattle.ns_world.specs.Names.{Any, AnyWait, AreAmong, AreVariables, Await, Cause, Cvs, Every, Expired, Held, InRound, IsLow, Limits, Mode, Number, ObjectNext, ObjectWalk, OnLock, OnVariables, Over, Repeat, Reply, Request, Round, Seat, Step, Subject, Went, have_variable, items_of}
+use Rattle.ns_world.specs.Names.{place_in, wait_first}
 use Rattle.ns_word.specs.declared.wait.Wait.{Wait}
-use Rattle.ns_world.specs.Begins.{placed}
 use Rattle.ns_world.specs.Calls.{mode_of, mode_waited}
-use Rattle.ns_world.specs.Looked.{Sees}
-use Rattle.ns_world.specs.Looks.{is_for_any, looks_at}
+use Rattle.ns_world.specs.Doings.{placed}
+use Rattle.ns_counters.specs.declared.reply.ObjectReply.TheVariants as TheObject
 use Rattle.ns_word.specs.declared.request.Request.TheVariants as TheRequest
 
--- What ends such a wait early is for its caller to say: a deadline that has always come lets each of its looks end it.
+-- ---- the wait on the lock
+
+-- What ends such a wait early is for its caller to say: a deadline that has always come lets each of its looks end it. The round loads the clock by itself. So `WasShown` says nothing of such a look; what its rounds have shown is said of the objects (`AnswersOfWaiting`).
 abbrev pub at_will : Limits
 at_will = record { deadline = Some 0; note = None }
 
@@ -16,36 +18,17 @@ at_will = record { deadline = Some 0; note = None }
 abbrev pub waits_for_any : {C : Type 0} → Mode → Cvs → Wait C
 waits_for_any mode cvs = record { mode = mode; on = OnVariables (Any cvs); limits = at_will }
 
--- what it tells the lock that a round has shown this
-abbrev pub cause_of : Option ℕ → Option Cause
-cause_of None = None
-cause_of (Some place) = Some Expired
+-- what is waited for is any of a set of variables
+abbrev pub is_for_any : {C : Type 0} → Subject C → Bool
+is_for_any (OnVariables (Any cvs)) = true
+is_for_any on = false
 
 -- whether the call is one on the lock that waits for any of a set of variables
 abbrev pub asks_for_any : {C : Type 0} → Request C → Bool
 asks_for_any (TheRequest.Await wait) = is_for_any wait.on
 asks_for_any request = false
 
--- What a round's last step has told is for the lock: where its call waits there, whatever that is; else where it has found nothing, and condition variables are among the objects.
-abbrev pub is_for_lock : Option AnyWait → ObjectWalk → Step → Bool
-is_for_lock (Some wait) walk Idle = true
-is_for_lock (Some wait) walk (Finished reply) = true
-is_for_lock None (InRound round place) Idle = have_variable round.items
-is_for_lock wait walk told = false
-
--- of several objects there are at most 16
-abbrev pub IsFew : ObjectWalk → Type 0
-IsFew (InRound round place) = round.items.count ≤ 16
-IsFew walk = Unit {0}
-
--- what a round has shown, by what its last step has told
-abbrev pub shown_by : Step → Option ℕ
-shown_by (Finished (Number place)) = Some place
-shown_by told = None
-
--- where a seat is to look at the objects, whose wait on the lock has come to this place
-abbrev pub round_due : {C : Type 0} → AnyWait → Walk C → Option ObjectWalk
-round_due wait walk = if is_some (looks_at (want_of walk)) then Some (InRound wait.round FirstClock) else None
+-- ---- what it answers
 
 -- the place that is answered: where a variable has woken the wait, that of the first item that is this one; else what its last round has shown
 abbrev pub place_told : AnyWait → Option ℕ → ℕ
@@ -61,39 +44,46 @@ woken_by reply = None
 abbrev pub reply_told : AnyWait → Reply → Reply
 reply_told wait reply = Number (place_told wait (woken_by reply))
 
--- what a step on the lock is for the call
-abbrev pub step_told : AnyWait → Step → Step
-step_told wait (Finished reply) = Finished (reply_told wait reply)
-step_told wait told = told
-
 -- the same where it may be in no such wait
-abbrev pub told_to : Option AnyWait → Step → Step
-told_to None told = told
-told_to (Some wait) told = step_told wait told
+abbrev pub reply_for : Option AnyWait → Reply → Reply
+reply_for None reply = reply
+reply_for (Some wait) reply = reply_told wait reply
 
--- what a step on the lock leaves of a seat, by its wait and by where it stands
-abbrev pub waited_seat : {C : Type 0} {N : ℕ} → Option AnyWait → Option (Walk C) → Seat C N → Seat C N
-waited_seat None walk seat = seat
-waited_seat (Some wait) None seat = record seat { operating = None; awaits = None }
-waited_seat (Some wait) (Some walk) seat = record seat { operating = round_due wait walk }
+-- there are at most 16 objects
+abbrev pub IsFew : AnyWait → Type 0
+IsFew wait = wait.round.items.count ≤ 16
 
--- ---- what a round tells the lock
+-- ---- what a round shows
 
--- A round may tell the lock what it has shown: of a call that waits there, or of one that has a section in hand, and condition variables among its objects.
-abbrev pub CanTell : {C : Type 0} {N : ℕ} → Option AnyWait → Seat C N → ObjectWalk → Type 0
-CanTell (Some wait) seat walk = IsSome seat.walk
-CanTell {C} {N} None seat (InRound round place) = (N ≤ 16) × IsSome seat.held × (round.items.count ≤ 16) × Every IsLow (items_of round.items) × (have_variable round.items ≡ true)
-CanTell None seat walk = ⊥
+-- what a round has shown, by where its last step leads
+abbrev pub shown_by : ObjectNext → Option ℕ
+shown_by (Over (TheObject.Number place)) = Some place
+shown_by next = None
 
--- The seat has told what its round has shown, and it stands on the lock: its wait has seen that, or it begins to wait for just the variables among the objects.
-abbrev pub HasTold : {C : Type 0} {N : ℕ} → Option AnyWait → Seat C N → ObjectWalk → Step → Seat C N → Step → Type 0
-HasTold {C} {N} (Some wait) seat walk told seat' step = (place : Walk C) × (seat.walk ≡ Some place)
-    × Sees (record seat { operating = None; awaits = Some (record { round = wait.round; shown = shown_by told }) }) place (cause_of (shown_by told)) seat' step
-HasTold {C} {N} None seat (InRound round place) told seat' step = (cvs : Cvs) × AreAmong cvs (items_of round.items) × AreVariables (Any cvs)
-    × (seat' ≡ record (placed seat (OnLock (wait_first N (waits_for_any (mode_waited (mode_of seat.held)) cvs)))) { operating = None; awaits = Some (record { round = round; shown = None }) }) × (step ≡ Went)
-HasTold None seat walk told seat' step = ⊥
+-- what it tells the lock that a round has shown this
+abbrev pub cause_of : Option ℕ → Option Cause
+cause_of None = None
+cause_of (Some place) = Some Expired
 
--- it has told the lock, where that is so, and else it stands where its round has led
-abbrev pub ToldIf : {C : Type 0} {N : ℕ} → Bool → Option AnyWait → Seat C N → ObjectWalk → Step → Seat C N → Step → Type 0
-ToldIf true wait seat walk told seat' step = HasTold wait seat walk told seat' step
-ToldIf false wait seat walk told seat' step = (seat' ≡ seat) × (step ≡ told)
+-- the round after which the call waits on the lock: it has found nothing, and condition variables are among its objects
+abbrev pub waits_then : ObjectWalk → ObjectNext → Option Round
+waits_then (InRound round place) (Repeat walk) = if have_variable round.items then Some round else None
+waits_then walk next = None
+
+-- of several objects there are at most 16
+abbrev pub NamesFew : ObjectWalk → Type 0
+NamesFew (InRound round place) = round.items.count ≤ 16
+NamesFew walk = Unit {0}
+
+-- a call that may go on to wait on the lock has a section in hand then, and there are few objects, and each variable that there is
+abbrev pub MayGoOn : {C : Type 0} {N : ℕ} → Option (Held C N) → ObjectWalk → Type 0
+MayGoOn held (InRound round place) = (round.items.count ≤ 16) × Every IsLow (items_of round.items) × (have_variable round.items ≡ true → IsSome held)
+MayGoOn held walk = Unit {0}
+
+-- the call goes on as a wait on the lock for just the variables among the objects of this round
+pub record BeginsToWait {C : Type 0} {N : ℕ} (here : Seat C N) (round : Round) (next : Seat C N) (step : Step) : Type 0 where
+  pub cvs : Cvs
+  pub among : AreAmong cvs (items_of round.items)
+  pub variables : AreVariables (Any cvs)
+  pub goes : next ≡ placed here (OnLock (wait_first N (waits_for_any (mode_waited (mode_of here.held)) cvs)) (Some (record { round = round; shown = None })))
+  pub answers : step ≡ Went

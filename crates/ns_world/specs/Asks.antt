@@ -1,7 +1,8 @@
 -- The clock and the notes of a world, and one step on them.
 use Rattle.std.specs.Prelude.{List, Option, get_or, ℕ, ◌≡◌}
-use Rattle.ns_world.specs.Names.{EnvEffect, EnvFound, EnvNext, EnvPlain, EnvState, EnvWalk, Environment, Finished, Go, Idle, LookOver, NoteStanding, NoteWord, Seat, Step, Went, env_got_of, env_walk_after, env_want_of, no_note, outcome, standing_of, state_of}
-use Rattle.ns_env.specs.declared.walk.EnvNext.TheVariants.{Repeat, Over}
+use Rattle.ns_world.specs.Names.{EnvEffect, EnvFound, EnvNext, EnvPlain, EnvState, EnvWalk, Environment, Finished, Go, Idle, LookOver, NoteStanding, NoteWord, OnNotes, Seat, Step, Went, env_got_of, env_walk_after, env_want_of, no_note, outcome, standing_of, state_of}
+use Rattle.ns_env.specs.declared.walk.EnvNext.TheVariants.{Over, Repeat}
+use Rattle.ns_world.specs.Doings.{there}
 use Rattle.ns_world.specs.Replies.{env_told}
 
 -- the notes of a list
@@ -27,5 +28,5 @@ env_step_of (LookOver cause) = Went
 pub record Asked {C : Type 0} {N : ℕ} (old new : EnvPlain) (seat : Seat C N) (walk : EnvWalk) (seat' : Seat C N) (step : Step) : Type 0 where
   pub found : EnvFound
   pub effect : EnvEffect seat.number (env_want_of walk) old found new (outcome seat.number (env_want_of walk) old).events
-  pub goes : seat' ≡ record seat { asking = env_walk_after (env_got_of walk found) }
+  pub goes : seat' ≡ record seat { doing = there OnNotes (env_walk_after (env_got_of walk found)) }
   pub answers : step ≡ env_step_of (env_got_of walk found)

@@ -1,9 +1,10 @@
 -- Where a call begins, and the section that it needs.
 use Rattle.std.specs.List.{list_all}
 use Rattle.std.specs.Prelude.{Bool, IfSome, IsSome, None, Option, Some, is_some, length, nat_lt, not, true, ℕ, ◌&&◌, ◌<◌, ◌^◌, ◌||◌, ◌≡◌, ◌≤◌}
-use Rattle.ns_world.specs.Names.{AcquireLoad, Add, AddLoad, Advance, Advancing, AreThere, AsFresh, Ask, Broadcast, Broadcasting, Call, ClockLoad, CounterWait, CvWait, Done, DoneLoad, Expiry, ExpiryLoad, FirstClock, ForIsNotified, ForLock, ForNoteWait, Get, GetLoad, Held, IfMade, InAcquire, InCells}
-use Rattle.ns_world.specs.Names.{InRelease, InRound, InSignal, InTry, IsNotified, Lock, Mode, NewNote, NextLoad, NoteStanding, NoteWait, Notify, Notifying, ObjectWalk, OnCondition, OnLock, OnObjects, OnVariables, Once, OnceLoad, Only, RLock, RUnlock, Read, Reader, ReleaseLoad, Set, SetLoad, Setup}
-use Rattle.ns_world.specs.Names.{Signal, SignalLoad, Signaling, Start, ToRelease, TryLoad, TryLock, TryRLock, Unlock, UnlockQuiet, Value, ValueLoad, Wait, WaitAny, WaitMark, Write, Writer, have_variable, is_among, is_there, items_of, quiet_first, wait_first}
+use Rattle.ns_world.specs.Names.{AcquireLoad, Add, AddLoad, Advance, Advancing, AreThere, AsFresh, Broadcast, Broadcasting, Call, ClockLoad, CounterWait, CvWait, Doing, Done, DoneLoad, Expiry, ExpiryLoad, FirstClock, ForIsNotified, ForLock, ForNoteWait, Get, GetLoad, Held, IfMade}
+use Rattle.ns_world.specs.Names.{InAcquire, InCells, InRelease, InRound, InSignal, InTry, IsNotified, Lock, Mode, NewNote, NextLoad, NoteStanding, NoteWait, Notify, Notifying, ObjectWalk, OnCondition, OnLock, OnNotes, OnObjects, OnVariables, Once, OnceLoad, Only, RLock, RUnlock, Read}
+use Rattle.ns_world.specs.Names.{Reader, ReleaseLoad, Set, SetLoad, Setup, Signal, SignalLoad, Signaling, ToRelease, TryLoad, TryLock, TryRLock, Unlock, UnlockQuiet, Value, ValueLoad, Wait, WaitAny, WaitMark, Write, Writer, have_variable, is_among, is_there, items_of, quiet_first}
+use Rattle.ns_world.specs.Names.{wait_first}
 
 -- the mode of the section that a wait leaves
 abbrev pub mode_waited : Option Mode → Mode
@@ -16,26 +17,26 @@ NamesAll (WaitAny items deadline) = length (items_of items) ≡ items.count
 NamesAll call = Unit {0}
 
 -- the first place of the call's walk, over a row of N cells, with a section in hand of this mode, or with none
-abbrev pub start_of : {C : Type 0} → ℕ → Option Mode → Call C → Start C
-start_of N mode Lock = OnLock (InAcquire (ForLock Write) (AcquireLoad AsFresh))
-start_of N mode RLock = OnLock (InAcquire (ForLock Read) (AcquireLoad AsFresh))
-start_of N mode TryLock = OnLock (InTry Write TryLoad)
-start_of N mode TryRLock = OnLock (InTry Read TryLoad)
-start_of N mode Unlock = OnLock (InRelease Writer ReleaseLoad)
-start_of N mode RUnlock = OnLock (InRelease Reader ReleaseLoad)
-start_of N mode UnlockQuiet = OnLock (quiet_first N ToRelease)
-start_of N mode (Get i) = OnLock (InCells (GetLoad i))
-start_of N mode (Set i v) = OnLock (InCells (SetLoad i v))
-start_of N mode (Wait c limits) = OnLock (wait_first N (record { mode = mode_waited mode; on = OnCondition c; limits = limits }))
-start_of N mode (CvWait k limits) = OnLock (wait_first N (record { mode = mode_waited mode; on = OnVariables (Only k); limits = limits }))
-start_of N mode (Signal k) = OnLock (InSignal Signaling k SignalLoad)
-start_of N mode (Broadcast k) = OnLock (InSignal Broadcasting k SignalLoad)
-start_of N mode (NewNote parent deadline) = Ask (NextLoad parent deadline)
-start_of N mode (Notify note) = Ask (Notifying note)
-start_of N mode (Advance moment) = Ask (Advancing moment)
-start_of N mode (IsNotified note) = Ask (ClockLoad (ForIsNotified note))
-start_of N mode (Expiry note) = Ask (ExpiryLoad note note None)
-start_of N mode (NoteWait note deadline) = Ask (ClockLoad (ForNoteWait note deadline))
+abbrev pub start_of : {C : Type 0} → ℕ → Option Mode → Call C → Doing C
+start_of N mode Lock = OnLock (InAcquire (ForLock Write) (AcquireLoad AsFresh)) None
+start_of N mode RLock = OnLock (InAcquire (ForLock Read) (AcquireLoad AsFresh)) None
+start_of N mode TryLock = OnLock (InTry Write TryLoad) None
+start_of N mode TryRLock = OnLock (InTry Read TryLoad) None
+start_of N mode Unlock = OnLock (InRelease Writer ReleaseLoad) None
+start_of N mode RUnlock = OnLock (InRelease Reader ReleaseLoad) None
+start_of N mode UnlockQuiet = OnLock (quiet_first N ToRelease) None
+start_of N mode (Get i) = OnLock (InCells (GetLoad i)) None
+start_of N mode (Set i v) = OnLock (InCells (SetLoad i v)) None
+start_of N mode (Wait c limits) = OnLock (wait_first N (record { mode = mode_waited mode; on = OnCondition c; limits = limits })) None
+start_of N mode (CvWait k limits) = OnLock (wait_first N (record { mode = mode_waited mode; on = OnVariables (Only k); limits = limits })) None
+start_of N mode (Signal k) = OnLock (InSignal Signaling k SignalLoad) None
+start_of N mode (Broadcast k) = OnLock (InSignal Broadcasting k SignalLoad) None
+start_of N mode (NewNote parent deadline) = OnNotes (NextLoad parent deadline)
+start_of N mode (Notify note) = OnNotes (Notifying note)
+start_of N mode (Advance moment) = OnNotes (Advancing moment)
+start_of N mode (IsNotified note) = OnNotes (ClockLoad (ForIsNotified note))
+start_of N mode (Expiry note) = OnNotes (ExpiryLoad note note None)
+start_of N mode (NoteWait note deadline) = OnNotes (ClockLoad (ForNoteWait note deadline))
 start_of N mode (Add counter delta) = OnObjects (AddLoad counter delta)
 start_of N mode (Value counter) = OnObjects (ValueLoad counter)
 start_of N mode (CounterWait counter deadline) = OnObjects (WaitMark counter deadline)
@@ -113,8 +114,8 @@ IsVariable k = k < 4
 abbrev pub IsMoment : ℕ → Type 0
 IsMoment moment = moment < 2 ^ 54
 
--- The call's cell, if it names one, is one of n, its variable one of 4, its notes are of 64, its moments are below 2^54, and of several objects there are at most 16. Those that name none of these are `lock`, `rlock`, `trylock`, `tryrlock`, `unlock`, `runlock`, `unlock_quiet`, `add`,
--- `value`, `once` and `done`.
+-- The call's cell, if it names one, is one of n, its variable one of 4, its notes are of 64, its moments are below 2^54, and of several objects there are at most 16. Those that name none of these are `Lock`, `RLock`, `TryLock`, `TryRLock`, `Unlock`, `RUnlock`, `UnlockQuiet`, `Add`,
+-- `Value`, `Once` and `Done`.
 abbrev pub CallInRange : {C : Type 0} → ℕ → Call C → Type 0
 CallInRange n (Get i) = i < n
 CallInRange n (Set i v) = i < n

@@ -1,8 +1,8 @@
 pub mod Among
 pub mod Asks
-pub mod Begins
 pub mod Calls
 pub mod Commits
+pub mod Doings
 pub mod Looked
 pub mod Looks
 pub mod Meanings

@@ -1,6 +1,7 @@
--- The looks of a wait: where a seat stands on the clock and the notes while its wait looks.
-use Rattle.std.specs.Prelude.{Bool, IsSome, None, Option, Some, false, if◌then◌else◌, true, ℕ, ◌≡◌}
-use Rattle.ns_world.specs.Names.{Act, Any, ClockLoad, EnvWalk, ForLook, InWait, Limits, Look, LookBy, NoteLoad, OnVariables, Request, Subject, Walk, asked_of, want_of}
+-- The looks of a wait: what it looks at, and where its seat stands then.
+use Rattle.std.specs.Prelude.{Bool, IsSome, None, Option, Some, false, ℕ, ◌≡◌}
+use Rattle.ns_world.specs.Names.{Act, AnyWait, AtRest, Await, ClockLoad, Doing, EnvWalk, FirstClock, ForLook, InRound, Limits, Look, LookBy, LooksByLimits, LooksByRound, Next, NoteLoad, On, OnLock, Request, Walk, want_of}
+use Rattle.ns_word.specs.declared.walk.Next.TheVariants.{Done, Idle}
 use Rattle.ns_word.specs.declared.request.Request.TheVariants as TheRequest
 
 -- what a look goes by, where the act is one
@@ -13,31 +14,25 @@ abbrev pub came_back : {C : Type 0} → Act C → Bool
 came_back (Look limits again) = again
 came_back act = false
 
--- the first place of the look that the act is, if it is one
-abbrev pub look_place : {C : Type 0} → Act C → Option EnvWalk
-look_place (Look limits again) = Some (ClockLoad (ForLook limits))
-look_place act = None
-
 -- the look that the act is, if it is one: what it goes by, and whether the wait has come back
 abbrev pub look_in : {C : Type 0} → Act C → Option LookBy
 look_in (Look limits again) = Some (record { limits = limits; again = again })
 look_in act = None
 
--- what is waited for is any of a set of variables
-abbrev pub is_for_any : {C : Type 0} → Subject C → Bool
-is_for_any (OnVariables (Any cvs)) = true
-is_for_any on = false
+-- Where a call on the lock stands at this place: where its wait is to look, at the beginning of the look; one for condition variables among notes and counters looks at these by a round, and any other at the clock and the notes.
+abbrev pub doing_by : {C : Type 0} → Option LookBy → Option AnyWait → Walk C → Doing C
+doing_by None wait walk = OnLock walk wait
+doing_by (Some look) None walk = LooksByLimits walk (ClockLoad (ForLook look.limits))
+doing_by (Some look) (Some wait) walk = LooksByRound walk wait (InRound wait.round FirstClock)
 
--- The walk waits for any of a set of variables. Such a wait looks at the objects among which they are, and not at the clock and the notes by itself. What such a look's limits say is for its caller to fill (`at_will`), and the round loads the clock by itself. So
--- `WasShown` says nothing of it; what its rounds have shown is said of the objects (`AnswersOfWaiting`).
-abbrev pub waits_among : {C : Type 0} → Walk C → Bool
-waits_among (InWait wait place) = is_for_any wait.on
-waits_among walk = false
+abbrev pub doing_at : {C : Type 0} → Option AnyWait → Walk C → Doing C
+doing_at wait walk = doing_by (look_in (want_of walk)) wait walk
 
--- where a seat stands on the clock and the notes that has come to this place in its call on the lock
-abbrev pub look_of : {C : Type 0} → Option (Walk C) → Option EnvWalk
-look_of None = None
-look_of (Some walk) = if waits_among walk then None else look_place (want_of walk)
+-- where a step on the lock leads
+abbrev pub doing_after : {C : Type 0} → Option AnyWait → Next C → Doing C
+doing_after wait (On walk) = doing_at wait walk
+doing_after wait (Idle walk) = doing_at wait walk
+doing_after wait (Done reply) = AtRest
 
 -- a place in a look by these limits
 abbrev pub LookFits : Limits → EnvWalk → Type 0
@@ -45,18 +40,11 @@ LookFits limits (ClockLoad (ForLook by)) = by ≡ limits
 LookFits limits (NoteLoad (ForLook by) clock note) = (by ≡ limits) × IsSome limits.note
 LookFits limits walk = ⊥
 
--- A seat stands in a call of its own on the clock and the notes where it is in none on the lock; else it stands there only where its wait looks, and always then, if that isn't one for any of a set of variables.
-abbrev pub AsksFor : {C : Type 0} → Option (Walk C) → Option EnvWalk → Type 0
-AsksFor None asking = Unit {0}
-AsksFor (Some walk) None = waits_among walk ≡ false → looks_at (want_of walk) ≡ None
-AsksFor (Some walk) (Some place) = (limits : Limits) × (looks_at (want_of walk) ≡ Some limits) × LookFits limits place
+-- the act is a look, and this is a place in it
+abbrev pub LooksAt : {C : Type 0} → Act C → EnvWalk → Type 0
+LooksAt act place = (limits : Limits) × (looks_at act ≡ Some limits) × LookFits limits place
 
 -- the note that may end what was asked, where that is a wait and a note was given
 abbrev pub note_asked : {C : Type 0} → Request C → Option ℕ
 note_asked (TheRequest.Await wait) = wait.limits.note
 note_asked request = None
-
--- the same of a seat at this place, if it is in a call
-abbrev pub note_in : {C : Type 0} → Option (Walk C) → Option ℕ
-note_in None = None
-note_in (Some walk) = note_asked (asked_of walk)

@@ -1,14 +1,16 @@
 -- How a call begins in a world, and what one step of a seat is.
 use Rattle.std.proofs.Common.{inl, inr}
-use Rattle.std.specs.Prelude.{List, None, Some, [], false, length, slice_get, slice_set, ℕ, ◌≡◌, ◌≤◌, ◌⊎◌}
-use Rattle.ns_world.specs.Names.{Begun, Busy, Call, EnvEvent, EnvWalk, Every, Fault, Misuse, NoSuchSeat, Nothing, ObjectEvent, ObjectWalk, OutOfMemory, Seat, Started, Step, Walk, env_want_of, env_who, object_who, outcome, want_of}
-use Rattle.ns_world.specs.Among.{ToldIf, is_for_lock, told_to, waited_seat}
-use Rattle.ns_world.specs.Begins.{placed}
+use Rattle.std.specs.Prelude.{List, None, Option, Some, [], false, length, slice_get, slice_set, ℕ, ◌≡◌, ◌≤◌, ◌⊎◌}
+use Rattle.ns_world.specs.Names.{AnyWait, Begun, Busy, Call, EnvEvent, EnvWalk, Every, Fault, Found, LooksByLimits, LooksByRound, Misuse, NoSuchSeat, Nothing, ObjectEvent, ObjectNext, ObjectWalk, OnLock, OnNotes, OnObjects, OutOfMemory, Seat, Started, Step, Walk, env_want_of, env_who}
+use Rattle.ns_world.specs.Names.{object_who, outcome, want_of}
+use Rattle.ns_world.specs.Among.{waits_then}
+use Rattle.ns_world.specs.Asks.{Asked}
 use Rattle.ns_world.specs.Calls.{CallFits, mode_of, start_of}
 use Rattle.ns_world.specs.Commits.{Commits}
-use Rattle.ns_world.specs.Looked.{EnvMoves}
+use Rattle.ns_world.specs.Doings.{placed, walk_of}
+use Rattle.ns_world.specs.Looked.{LookStep, RoundLeads}
 use Rattle.ns_world.specs.Looks.{looks_at}
-use Rattle.ns_world.specs.Objects.{SeatOperates}
+use Rattle.ns_world.specs.Objects.{ObjectLeads, Operates}
 use Rattle.ns_world.specs.Performs.{Performs}
 use Rattle.ns_world.specs.Whole.{Whole, WholeIsBusy, WholeIsIdle, in_call, part_in}
 
@@ -42,42 +44,54 @@ BeginFault old seat fault = ⊥
 
 -- ---- a step
 
--- The seat makes one step on the lock, and it was this: no look of a wait, and the seat stands nowhere on the clock, the notes, the counters and once cells, which stay. In a wait for variables among objects it looks at these where that is to look, and answers a place where that is over.
+-- The seat makes one step on the lock, and it was this: no look of a wait. Its call goes on where that leads, or it is over. The clock, the notes, the counters and once cells stay.
 pub record LockSteps {C : Type 0} {N : ℕ} (old new : Whole C N) (here next : Seat C N) (step : Step) : Type 0 where
-  pub nowhere : here.operating ≡ None
-  pub unasked : here.asking ≡ None
   pub walk : Walk C
-  pub walks : here.walk ≡ Some walk
+  pub wait : Option AnyWait
+  pub stands : here.doing ≡ OnLock walk wait
   pub is_no_look : looks_at (want_of walk) ≡ None
-  pub then : Seat C N
-  pub told : Step
-  pub performs : Performs old.truths (part_in old here) here old.history walk (part_in new then) then new.history told
-  pub goes : next ≡ waited_seat then.awaits then.walk then
-  pub answers : step ≡ told_to then.awaits told
+  pub found : Found
+  pub performs : Performs old.truths (part_in old here) here old.history walk wait found (part_in new next) next new.history step
   pub same : new ≡ record old { word = new.word; row = new.row; queues = new.queues; flags = new.flags; seats = new.seats; history = new.history }
 
--- The seat makes one step on the clock and the notes, and it was this: one of a call of its own, or of the look of its wait, after which the wait goes on. Nothing else changes.
-pub record NotesSteps {C : Type 0} {N : ℕ} (old new : Whole C N) (here next : Seat C N) (step : Step) : Type 0 where
-  pub nowhere : here.operating ≡ None
+-- The seat makes one step of the look of its wait at the clock and the notes, and it was this. Nothing else changes.
+pub record Looks {C : Type 0} {N : ℕ} (old new : Whole C N) (here next : Seat C N) (step : Step) : Type 0 where
+  pub walk : Walk C
   pub place : EnvWalk
-  pub stands : here.asking ≡ Some place
-  pub moves : EnvMoves old.env new.env here place next step
-  pub same : new ≡ record old { env = new.env; seats = new.seats }
+  pub stands : here.doing ≡ LooksByLimits walk place
+  pub looks : LookStep old.env here walk place next step
+  pub same : new ≡ record old { seats = new.seats }
 
--- The seat makes one step on the counters and once cells, and it was this. Unless its call waits on the lock, it is in no other. Where it is the last one of a round, whose call waits on the lock or goes on to wait there, that is told what the round has shown. Nothing else changes.
-pub record ObjectsSteps {C : Type 0} {N : ℕ} (old new : Whole C N) (here next : Seat C N) (step : Step) : Type 0 where
-  pub walk : ObjectWalk
-  pub walks : here.operating ≡ Some walk
-  pub alone : here.awaits ≡ None → (here.walk ≡ None) × (here.asking ≡ None)
-  pub then : Seat C N
-  pub told : Step
-  pub operates : SeatOperates old.env old.objects here walk new.objects then told
-  pub tells : ToldIf (is_for_lock here.awaits walk told) here.awaits then walk told next step
+-- The seat makes one step of the round by which its wait looks, and it was this. Nothing else changes.
+pub record GoesRound {C : Type 0} {N : ℕ} (old new : Whole C N) (here next : Seat C N) (step : Step) : Type 0 where
+  pub walk : Walk C
+  pub wait : AnyWait
+  pub round : ObjectWalk
+  pub stands : here.doing ≡ LooksByRound walk wait round
+  pub leads : ObjectNext
+  pub operates : Operates old.env old.objects here.number round new.objects leads
+  pub goes : RoundLeads leads here walk wait next step
   pub same : new ≡ record old { seats = new.seats; objects = new.objects }
 
--- the seat makes one step of its call, by one of the machines
+-- The seat makes one step of a call on the clock and the notes, and it was this. Nothing else changes.
+pub record NotesSteps {C : Type 0} {N : ℕ} (old new : Whole C N) (here next : Seat C N) (step : Step) : Type 0 where
+  pub walk : EnvWalk
+  pub stands : here.doing ≡ OnNotes walk
+  pub asks : Asked old.env new.env here walk next step
+  pub same : new ≡ record old { env = new.env; seats = new.seats }
+
+-- The seat makes one step of a call on the counters and once cells, and it was this. The call may go on to wait on the lock. Nothing else changes.
+pub record ObjectsSteps {C : Type 0} {N : ℕ} (old new : Whole C N) (here next : Seat C N) (step : Step) : Type 0 where
+  pub walk : ObjectWalk
+  pub stands : here.doing ≡ OnObjects walk
+  pub leads : ObjectNext
+  pub operates : Operates old.env old.objects here.number walk new.objects leads
+  pub goes : ObjectLeads (waits_then walk leads) leads here next step
+  pub same : new ≡ record old { seats = new.seats; objects = new.objects }
+
+-- the seat makes one step, by what it is doing
 abbrev pub SeatMakes : {C : Type 0} {N : ℕ} → Whole C N → Whole C N → Seat C N → Seat C N → Step → Type 0
-SeatMakes old new here next step = LockSteps old new here next step ⊎ (NotesSteps old new here next step ⊎ ObjectsSteps old new here next step)
+SeatMakes old new here next step = LockSteps old new here next step ⊎ (Looks old new here next step ⊎ (GoesRound old new here next step ⊎ (NotesSteps old new here next step ⊎ ObjectsSteps old new here next step)))
 
 -- The same in its world, where no other seat changes.
 pub record WholeMoves {C : Type 0} {N : ℕ} (old new : Whole C N) (seat : ℕ) (step : Step) : Type 0 where
@@ -93,12 +107,13 @@ WholeStep old new seat step = ((step ≡ Nothing) × (new ≡ old) × WholeIsIdl
 
 -- the events that a step of the seat is on the clock and the notes
 abbrev pub notes_by : {C : Type 0} {N : ℕ} {old new : Whole C N} {here next : Seat C N} {step : Step} → ℕ → SeatMakes old new here next step → List EnvEvent
-notes_by {old = old} seat (inr (inl p)) = (outcome seat (env_want_of p.place) old.env).events
+notes_by {old = old} seat (inr (inr (inr (inl p)))) = (outcome seat (env_want_of p.walk) old.env).events
 notes_by seat p = []
 
 -- the events that it is on the counters and once cells
 abbrev pub objects_by : {C : Type 0} {N : ℕ} {old new : Whole C N} {here next : Seat C N} {step : Step} → SeatMakes old new here next step → List ObjectEvent
-objects_by (inr (inr p)) = p.operates.events
+objects_by (inr (inr (inl p))) = p.operates.events
+objects_by (inr (inr (inr (inr p)))) = p.operates.events
 objects_by p = []
 
 -- all these events of the clock and the notes are the seat's
@@ -114,7 +129,7 @@ pub record WholeCommits {C : Type 0} {N : ℕ} (world : Whole C N) (i : ℕ) : T
   pub seat : Seat C N
   pub at : slice_get world.seats i ≡ Some seat
   pub walk : Walk C
-  pub walks : seat.walk ≡ Some walk
+  pub walks : walk_of seat.doing ≡ Some walk
   pub commits : Commits i (want_of walk) world.word world.queues
 
 -- why a step is refused: the number is no seat's, or there was no memory for the event that it commits

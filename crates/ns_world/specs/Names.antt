@@ -102,8 +102,6 @@ pub use Rattle.ns_world.specs.declared.call.Asked.{Asked}
 pub use Rattle.ns_world.specs.declared.call.Asked.TheVariants.{OfLock, OfNotes, OfObjects}
 pub use Rattle.ns_world.specs.declared.call.Call.{Call}
 pub use Rattle.ns_world.specs.declared.call.Call.TheVariants.{Add, Advance, Broadcast, CounterWait, CvWait, Done, Expiry, Get, IsNotified, Lock, NewNote, NoteWait, Notify, Once, RLock, RUnlock, Set, Signal, TryLock, TryRLock, Unlock, UnlockQuiet, Value, Wait, WaitAny}
-pub use Rattle.ns_world.specs.declared.call.Start.{Start}
-pub use Rattle.ns_world.specs.declared.call.Start.TheVariants.{Ask, OnLock, OnObjects}
 pub use Rattle.ns_world.specs.declared.environment.Environment.{Environment}
 pub use Rattle.ns_world.specs.declared.fault.Fault.{Fault}
 pub use Rattle.ns_world.specs.declared.fault.Fault.TheVariants.{NoSuchSeat, OutOfMemory, StepLimit, TooManySeats}
@@ -113,6 +111,8 @@ pub use Rattle.ns_world.specs.declared.reply.Reply.{Reply}
 pub use Rattle.ns_world.specs.declared.reply.Reply.TheVariants.{Already, Answered, Is, Noisy, NotesFull, Number, Ran, Refused, Succeeded}
 pub use Rattle.ns_world.specs.declared.schedule.Line.{Line}
 pub use Rattle.ns_world.specs.declared.schedule.Turn.{Turn}
+pub use Rattle.ns_world.specs.declared.seat.Doing.{Doing}
+pub use Rattle.ns_world.specs.declared.seat.Doing.TheVariants.{AtRest, LooksByLimits, LooksByRound, OnLock, OnNotes, OnObjects}
 pub use Rattle.ns_world.specs.declared.seat.Seat.{Seat}
 pub use Rattle.ns_world.specs.declared.step.Begun.{Begun}
 pub use Rattle.ns_world.specs.declared.step.Begun.TheVariants.{Busy, Misuse, Started}

@@ -1,6 +1,8 @@
 -- The counters and once cells of a world, and one step of a seat in a call on them.
-use Rattle.std.specs.Prelude.{List, Some, ℕ, ◌≡◌}
-use Rattle.ns_world.specs.Names.{EnvPlain, Finished, Idle, ObjectEffect, ObjectEvent, ObjectFound, ObjectNext, ObjectWalk, ObjectWords, Over, Repeat, Seat, Step, Went, first_words, object_after, object_got, object_place, object_want, padded, setup_of}
+use Rattle.std.specs.Prelude.{List, None, Option, Some, ℕ, ◌≡◌}
+use Rattle.ns_world.specs.Names.{EnvPlain, Finished, Idle, ObjectEffect, ObjectEvent, ObjectFound, ObjectNext, ObjectWalk, ObjectWords, OnObjects, Over, Repeat, Round, Seat, Step, Went, first_words, object_after, object_got, object_place, object_want, padded, setup_of}
+use Rattle.ns_world.specs.Among.{BeginsToWait}
+use Rattle.ns_world.specs.Doings.{there}
 use Rattle.ns_world.specs.Replies.{object_told}
 use Rattle.ns_counters.specs.declared.walk.ObjectNext.TheVariants.{Go}
 
@@ -14,11 +16,15 @@ object_step_of (Go walk) = Went
 object_step_of (Repeat walk) = Idle
 object_step_of (Over reply) = Finished (object_told reply)
 
--- The seat has made the step that its walk wants, and it was this: it stands where that leads.
-pub record SeatOperates {C : Type 0} {N : ℕ} (env : EnvPlain) (old : ObjectWords) (seat : Seat C N) (walk : ObjectWalk) (new : ObjectWords) (seat' : Seat C N) (step : Step) : Type 0 where
+-- the seat's step was made that the walk wants, and it leads there
+pub record Operates (env : EnvPlain) (old : ObjectWords) (seat : ℕ) (walk : ObjectWalk) (new : ObjectWords) (next : ObjectNext) : Type 0 where
   pub found : ObjectFound
   pub events : List ObjectEvent
-  pub effect : ObjectEffect seat.number (object_place (Some walk)) (object_want walk) old.words env found new.words events
+  pub effect : ObjectEffect seat (object_place (Some walk)) (object_want walk) old.words env found new.words events
   pub becomes : new ≡ record old { words = new.words }
-  pub goes : seat' ≡ record seat { operating = object_after (object_got walk found) }
-  pub answers : step ≡ object_step_of (object_got walk found)
+  pub leads : next ≡ object_got walk found
+
+-- where it leads the seat: to a wait on the lock, or where the walk goes
+abbrev pub ObjectLeads : {C : Type 0} {N : ℕ} → Option Round → ObjectNext → Seat C N → Seat C N → Step → Type 0
+ObjectLeads (Some round) next seat seat' step = BeginsToWait seat round seat' step
+ObjectLeads None next seat seat' step = (seat' ≡ record seat { doing = there OnObjects (object_after next) }) × (step ≡ object_step_of next)

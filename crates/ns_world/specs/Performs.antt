@@ -1,14 +1,16 @@
 -- One step on the parts of a world.
 use Rattle.std.specs.Prelude.{List, Option, get_or, ℕ, ◌++◌, ◌≡◌}
-use Rattle.ns_world.specs.Names.{Act, Effect, Event, Finished, Found, Held, Idle, Lists, Next, On, Owed, Part, Scanned, Seat, SeatView, Step, Truths, Walk, Went, Word, got_of, walk_after, want_of}
+use Rattle.ns_world.specs.Names.{Act, AnyWait, Effect, Event, Finished, Found, Held, Idle, Lists, Next, On, Owed, Part, Scanned, Seat, SeatView, Step, Truths, Walk, Went, Word, got_of, want_of}
 use Rattle.ns_word.specs.declared.walk.Next.TheVariants.{Done}
-use Rattle.ns_world.specs.Looks.{look_of}
+use Rattle.ns_world.specs.Among.{reply_for}
+use Rattle.ns_world.specs.Doings.{walk_of}
+use Rattle.ns_world.specs.Looks.{doing_after}
 use Rattle.ns_world.specs.Replies.{told}
 use Rattle.ns_word.specs.declared.walk.Next.TheVariants as TheNext
 
 -- the machine's view of a seat
 abbrev pub view_of : {C : Type 0} {N : ℕ} → Seat C N → SeatView C N
-view_of seat = record { seat = seat.number; walk = seat.walk; held = seat.held; owed = seat.owed.items }
+view_of seat = record { seat = seat.number; walk = walk_of seat.doing; held = seat.held; owed = seat.owed.items }
 
 -- the flags of a list
 abbrev pub flag_at : List ℕ → ℕ → ℕ
@@ -33,27 +35,20 @@ abbrev pub tests_after : Found → ℕ → ℕ
 tests_after (Scanned owes tests) before = tests
 tests_after found before = before
 
--- what a step was, by where it leads
-abbrev pub step_of : {C : Type 0} → Next C → Step
-step_of (On walk) = Went
-step_of (TheNext.Idle walk) = Idle
-step_of (Done reply) = Finished (told reply)
+-- what a step was for the call, by where it leads
+abbrev pub step_of : {C : Type 0} → Option AnyWait → Next C → Step
+step_of wait (On walk) = Went
+step_of wait (TheNext.Idle walk) = Idle
+step_of wait (Done reply) = Finished (reply_for wait (told reply))
 
 -- a seat's part of a world
 abbrev pub seat_part : {C : Type 0} {N : ℕ} → Word → List ℕ → Lists C → List ℕ → Seat C N → Part C N
 seat_part word row queues flags seat = part word row queues flags seat.held seat.owed.items
 
--- the step of the walk was made, and the seat is where it leads
-pub record Performs {C : Type 0} {N : ℕ} (truths : Truths C) (old : Part C N) (seat : Seat C N) (history : List (Event C N)) (walk : Walk C) (new : Part C N) (seat' : Seat C N) (history' : List (Event C N)) (step : Step) : Type 0 where
-  pub found : Found
+-- the step of the walk was made and has found this, and the seat is where it leads
+pub record Performs {C : Type 0} {N : ℕ} (truths : Truths C) (old : Part C N) (seat : Seat C N) (history : List (Event C N)) (walk : Walk C) (wait : Option AnyWait) (found : Found) (new : Part C N) (seat' : Seat C N) (history' : List (Event C N)) (step : Step) : Type 0 where
   pub commits : List (Event C N)
   pub effect : Effect truths seat.number (want_of walk) old found new commits
-  pub goes : seat' ≡ record seat {
-    walk = walk_after (got_of N walk found);
-    asking = look_of (walk_after (got_of N walk found));
-    tests = tests_after found seat.tests;
-    held = seat'.held;
-    owed = seat'.owed;
-  }
+  pub goes : seat' ≡ record seat { doing = doing_after wait (got_of N walk found); tests = tests_after found seat.tests; held = seat'.held; owed = seat'.owed }
   pub grows : history' ≡ history ++ commits
-  pub answers : step ≡ step_of (got_of N walk found)
+  pub answers : step ≡ step_of wait (got_of N walk found)

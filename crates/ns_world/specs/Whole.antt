@@ -1,11 +1,12 @@
 -- A world as a contract sees it, and what holds of it between any two steps.
 use Rattle.std.specs.Option.{option_map_or}
-use Rattle.std.specs.Prelude.{Bool, IsSome, List, None, Option, Some, [], false, is_some, length, map, not, slice_get, suc, true, zero, ℕ, ◌+◌, ◌||◌, ◌∷◌, ◌≡◌, ◌≤◌}
-use Rattle.ns_world.specs.Names.{Act, AnyWait, AreAmong, AreNumbered, AreThere, Cvs, EnvEvent, EnvPlain, EnvState, Event, FirstClock, Held, IfMade, InRound, IsLawfulEnv, IsLawfulObjects, Lists, LockState, Mode, NoteStanding, ObjectEvent, ObjectState, ObjectWalk, ObjectWords, Part, Past, Round}
-use Rattle.ns_world.specs.Names.{Seat, Setup, Truths, Walk, Word, asked_of, fresh_plain, fresh_state, have_variable, items_of, object_asked, want_of}
+use Rattle.std.specs.Prelude.{Bool, IsSome, List, None, Option, Some, [], false, length, map, slice_get, suc, true, zero, ℕ, ◌+◌, ◌∷◌, ◌≡◌, ◌≤◌}
+use Rattle.ns_world.specs.Names.{AnyWait, AreAmong, AreNumbered, AreThere, AtRest, Await, Cvs, Doing, EnvEvent, EnvPlain, EnvState, Event, FirstClock, Held, IfMade, InRound, IsLawfulEnv, IsLawfulObjects, Lists, LockState, LooksByLimits, LooksByRound, Mode, NoteStanding, ObjectEvent}
+use Rattle.ns_world.specs.Names.{ObjectState, ObjectWalk, ObjectWords, OnLock, OnObjects, Part, Past, Request, Round, Seat, Setup, Truths, Word, asked_of, fresh_plain, fresh_state, have_variable, items_of, object_asked, want_of}
 use Rattle.ns_world.specs.Among.{asks_for_any, waits_for_any}
 use Rattle.ns_world.specs.Asks.{env_state, plain_of}
-use Rattle.ns_world.specs.Looks.{AsksFor, looks_at, note_in}
+use Rattle.ns_world.specs.Doings.{asking_of, is_call, operating_of}
+use Rattle.ns_world.specs.Looks.{LooksAt, looks_at, note_asked}
 use Rattle.ns_world.specs.Objects.{fresh_words}
 use Rattle.ns_world.specs.Performs.{flag_at, view_of}
 use Rattle.ns_world.specs.World.{Kept}
@@ -37,11 +38,11 @@ lock_of world = record { word = world.word; row = world.row; lists = world.queue
 
 -- that of the clock and the notes: each seat's place there
 abbrev pub notes_of : {C : Type 0} {N : ℕ} → Whole C N → EnvState
-notes_of world = env_state world.env (map (λ seat. seat.asking) world.seats)
+notes_of world = env_state world.env (map (λ seat. asking_of seat.doing) world.seats)
 
 -- that of the counters and once cells: likewise
 abbrev pub objects_of : {C : Type 0} {N : ℕ} → Whole C N → ObjectState
-objects_of world = record { setup = world.objects.setup; words = world.objects.words; walks = map (λ seat. seat.operating) world.seats }
+objects_of world = record { setup = world.objects.setup; words = world.objects.words; walks = map (λ seat. operating_of seat.doing) world.seats }
 
 -- what a step of the seat on the lock reads and writes
 abbrev pub part_in : {C : Type 0} {N : ℕ} → Whole C N → Seat C N → Part C N
@@ -49,54 +50,31 @@ part_in world seat = record { word = world.word; row = world.row; lists = world.
 
 -- ---- where a seat may stand
 
--- A wait on the lock looks at objects just where the machine wants it to, by a round of those that it is for.
-abbrev pub LooksWhere : {C : Type 0} → Round → Option ObjectWalk → Act C → Type 0
-LooksWhere round None act = looks_at act ≡ None
-LooksWhere round (Some walk) act = (object_asked walk ≡ InRound round FirstClock) × IsSome (looks_at act)
-
--- A seat that waits on the lock for variables among objects is there in a call that waits for just these; each of the objects is there; and the call looks at them where it is to.
-pub record WaitsOnLock {C : Type 0} {N : ℕ} (setup : Setup) (notes : ℕ → NoteStanding) (seat : Seat C N) (wait : AnyWait) : Type 0 where
-  pub walk : Walk C
-  pub walks : seat.walk ≡ Some walk
+-- a wait on the lock for variables among the objects of a round waits for just these, and each of the objects is there
+pub record WaitsAmong {C : Type 0} (setup : Setup) (notes : ℕ → NoteStanding) (request : Request C) (round : Round) : Type 0 where
   pub mode : Mode
   pub cvs : Cvs
-  pub asked : asked_of walk ≡ TheRequest.Await (waits_for_any mode cvs)
-  pub among : AreAmong cvs (items_of wait.round.items)
-  pub unasked : seat.asking ≡ None
-  pub there : AreThere setup notes wait.round.items
-  pub looks : LooksWhere wait.round seat.operating (want_of walk)
+  pub asked : request ≡ TheRequest.Await (waits_for_any mode cvs)
+  pub among : AreAmong cvs (items_of round.items)
+  pub there : AreThere setup notes round.items
 
--- the call of a seat, if it is in one on the lock, waits for no set of variables
-abbrev pub is_alone : {C : Type 0} → Option (Walk C) → Bool
-is_alone None = true
-is_alone (Some walk) = not (asks_for_any (asked_of walk))
+-- what was asked of the lock goes with the objects: any other call waits for no set of variables, and the note that may end it is made
+abbrev pub WaitsFor : {C : Type 0} → Setup → (ℕ → NoteStanding) → Request C → Option AnyWait → Type 0
+WaitsFor setup notes request None = (asks_for_any request ≡ false) × IfMade notes (note_asked request)
+WaitsFor setup notes request (Some wait) = WaitsAmong setup notes request wait.round
 
 -- what was asked needs a section in hand, where condition variables are among its objects
 abbrev pub NeedsSection : {C : Type 0} {N : ℕ} → ObjectWalk → Option (Held C N) → Type 0
 NeedsSection (InRound round place) held = have_variable round.items ≡ true → IsSome held
 NeedsSection walk held = Unit {0}
 
--- a round whose call may go on to wait for condition variables has a section in hand
-abbrev pub MayWait : {C : Type 0} {N : ℕ} → Option ObjectWalk → Option (Held C N) → Type 0
-MayWait None held = Unit {0}
-MayWait (Some walk) held = NeedsSection (object_asked walk) held
-
--- Any other seat waits for no set of variables. Where it is in a call on counters and once cells it is in no other, and it has a section in hand if that may go on to wait on the lock.
-pub record StandsAlone {C : Type 0} {N : ℕ} (seat : Seat C N) : Type 0 where
-  pub alone : is_alone seat.walk ≡ true
-  pub apart : IsSome seat.operating → (seat.walk ≡ None) × (seat.asking ≡ None)
-  pub may : MayWait seat.operating seat.held
-
--- the same by whether it waits on the lock for variables among objects
-abbrev pub StandsBy : {C : Type 0} {N : ℕ} → Setup → (ℕ → NoteStanding) → Seat C N → Option AnyWait → Type 0
-StandsBy setup notes seat None = StandsAlone seat
-StandsBy setup notes seat (Some wait) = WaitsOnLock setup notes seat wait
-
--- A seat stands on the clock and the notes where it may; the note that may end its wait is made; and it waits for variables among objects, or stands alone.
-pub record SeatStands {C : Type 0} {N : ℕ} (setup : Setup) (notes : ℕ → NoteStanding) (seat : Seat C N) : Type 0 where
-  pub right : AsksFor seat.walk seat.asking
-  pub noted : IfMade notes (note_in seat.walk)
-  pub by : StandsBy setup notes seat seat.awaits
+-- A seat may be doing this, with this section in hand: a wait on the lock looks just where its walk wants a look, at its own limits or by a round of those that it is for; and a round whose call may go on to wait on the lock has a section in hand.
+abbrev pub DoingFits : {C : Type 0} {N : ℕ} → Setup → (ℕ → NoteStanding) → Option (Held C N) → Doing C → Type 0
+DoingFits setup notes held (OnLock walk wait) = WaitsFor setup notes (asked_of walk) wait × (looks_at (want_of walk) ≡ None)
+DoingFits setup notes held (LooksByLimits walk place) = WaitsFor setup notes (asked_of walk) None × LooksAt (want_of walk) place
+DoingFits setup notes held (LooksByRound walk wait round) = WaitsFor setup notes (asked_of walk) (Some wait) × (object_asked round ≡ InRound wait.round FirstClock) × IsSome (looks_at (want_of walk))
+DoingFits setup notes held (OnObjects walk) = NeedsSection (object_asked walk) held
+DoingFits setup notes held doing = Unit {0}
 
 -- ---- what holds of every world
 
@@ -118,7 +96,7 @@ pub record IsLawfulWhole {C : Type 0} {N : ℕ} (world : Whole C N) : Type 0 whe
   pub numbered : AreNumbered 0 (map view_of world.seats)
   pub counted : world.objects.setup.seats ≡ length world.seats
   pub lawful : IsLawful world.truths (length world.seats) world.history (lock_of world)
-  pub stands : (i : ℕ) (seat : Seat C N) → slice_get world.seats i ≡ Some seat → SeatStands world.objects.setup world.env.notes seat
+  pub stands : (i : ℕ) (seat : Seat C N) → slice_get world.seats i ≡ Some seat → DoingFits world.objects.setup world.env.notes seat.held seat.doing
   pub past : Past
   pub led : HasLedTo past world
 
@@ -126,7 +104,7 @@ pub record IsLawfulWhole {C : Type 0} {N : ℕ} (world : Whole C N) : Type 0 whe
 
 -- a seat with no call in progress, no section and no wake to pay
 abbrev pub fresh_seat : {C : Type 0} {N : ℕ} → ℕ → Seat C N
-fresh_seat number = record { number = number; walk = None; asking = None; operating = None; awaits = None; held = None; owed = record { items = [] }; tests = 0 }
+fresh_seat number = record { number = number; doing = AtRest; held = None; owed = record { items = [] }; tests = 0 }
 
 -- so many of them, numbered from this on
 abbrev pub fresh_seats : {C : Type 0} {N : ℕ} → ℕ → ℕ → List (Seat C N)
@@ -151,7 +129,7 @@ fresh_whole {C} {N} truths seats counters onces = record {
 
 -- a call of the seat is in progress
 abbrev pub in_call : {C : Type 0} {N : ℕ} → Seat C N → Bool
-in_call seat = (is_some seat.walk || is_some seat.asking) || is_some seat.operating
+in_call seat = is_call seat.doing
 
 -- the same of a number, which may be no seat's
 abbrev pub whole_busy : {C : Type 0} {N : ℕ} → Whole C N → ℕ → Bool

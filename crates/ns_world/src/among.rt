@@ -4,46 +4,37 @@
 //! its section, and waits on the lock for all the variables; and whenever that wait looks, another round looks
 //! at the notes and counters. What a round shows ends the wait, unless a variable has woken it.
 //!
-//! | the call stands | a step tells | where that leads |
+//! | the seat | a step | where that leads |
 //! |---|---|---|
-//! | in its first round | what the round has shown | that is the answer, and the section is still in hand |
-//! | in its first round | that it has shown nothing | a wait on the lock for all the variables, from the section in hand |
-//! | on the lock | where the wait has come to | a new round, where it is to look; else the same |
-//! | in a round, by which the wait looks | what the round has shown, or nothing | the wait has looked, and seen so |
-//! | on the lock | that the wait is over | the place of the variable which woke it, else what the last round has shown |
+//! | is on the objects | ends the round with what it has shown | that is the answer, and the section is still in hand |
+//! | is on the objects | ends the round, which has shown nothing | a wait on the lock for all the variables, from the section in hand |
+//! | is on the lock | comes to a look | a new round |
+//! | looks by a round | ends it with what it has shown, or nothing | the wait has looked, and seen so |
+//! | is on the lock | ends the wait | the answer is the place of the variable which woke it, else what the last round has shown |
 
-ghost use Rattle.std.specs.Prelude.{◌≡◌, ◌≤◌, IsSome, IfSome, true, Some, None};
-ghost use Rattle.ns_model.specs.declared.cvs.Cvs.{Cvs as CvsOf};
-ghost use Rattle.ns_model.specs.declared.cvs.Variables.TheVariants.{Any};
-ghost use Rattle.ns_model.specs.Tallies.{Every};
-ghost use Rattle.ns_word.specs.Places.{AreVariables};
-ghost use Rattle.ns_word.specs.Walks.{wait_first};
-ghost use Rattle.ns_world.specs.Among.{CanTell, HasTold, IsFew, ToldIf, cause_of, is_for_lock, reply_told, round_due, shown_by, told_to, waited_seat, waits_for_any};
-ghost use Rattle.ns_world.specs.Asks.{plain_of};
-ghost use Rattle.ns_world.specs.Begins.{placed};
-ghost use Rattle.ns_world.specs.Objects.{SeatOperates};
-ghost use Rattle.ns_world.specs.declared.seat.Seat.{Seat as SeatOf};
-ghost use Rattle.ns_world.specs.declared.step.Step.{Step as StepOf};
+ghost use Rattle.std.specs.Prelude.{◌≡◌, ◌≤◌, IfSome, IsSome, true, ℕ};
 ghost use Rattle.ns_counters.specs.Asks.{StepFits};
-ghost use Rattle.ns_counters.specs.declared.walk.ObjectWalk.{ObjectWalk as ObjectWalkOf};
-ghost use Rattle.ns_world.specs.Calls.{mode_of, mode_waited};
-ghost use Rattle.ns_counters.specs.Items.{AreAmong, IsLow, have_variable, items_of};
+ghost use Rattle.ns_counters.specs.Items.{IsLow, have_variable, items_of};
+ghost use Rattle.ns_counters.specs.declared.walk.ObjectNext.{ObjectNext as ObjectNextOf};
+ghost use Rattle.ns_model.specs.Tallies.{Every};
+ghost use Rattle.ns_world.specs.Among.{BeginsToWait, IsFew, MayGoOn, NamesFew, cause_of, reply_for, reply_told, shown_by, waits_then};
+ghost use Rattle.ns_world.specs.Asks.{plain_of};
+ghost use Rattle.ns_world.specs.Looked.{RoundLeads};
+ghost use Rattle.ns_world.specs.Objects.{ObjectLeads, Operates};
 
-use crate::call::Start;
 use crate::environment::Environment;
 use crate::looks::see;
 use crate::objects::{AnyWait, Objects};
-use crate::operate::operate;
+use crate::operate::{operate, settle};
 use crate::reply::Reply;
 use crate::room::Seated;
-use crate::seat::Seat;
+use crate::seat::{Doing, Seat};
 use crate::step::{Step, place};
-use ns_counters::items::Items;
-use ns_counters::round::RoundPlace;
-use ns_counters::walk::ObjectWalk;
+use ns_counters::reply::ObjectReply;
+use ns_counters::round::Round;
+use ns_counters::walk::{ObjectNext, ObjectWalk};
 use ns_env::limits::{Cause, Limits};
 use ns_model::cvs::Variables;
-use ns_word::act::Act;
 use ns_word::wait::{Subject, Wait};
 use ns_word::walk::Walk;
 
@@ -54,29 +45,25 @@ const AT_WILL: Limits = Limits {
     note: None,
 };
 
-/// Whether what a round's last step has told is for the lock: where its call waits there, and else where it has
-/// found nothing, and condition variables are among the objects.
-fn is_for_lock(wait: &Option<AnyWait>, walk: &ObjectWalk, told: Step) -> bool
-    requires { IsFew walk.now }
-    ensures { result ≡ is_for_lock wait.now walk.now told }
+/// The round after which the call waits on the lock: it has found nothing, and condition variables are among its
+/// objects.
+fn waits_then(walk: &ObjectWalk, next: &ObjectNext) -> Option<Round>
+    requires { NamesFew walk.now }
+    ensures { result ≡ waits_then walk.now next.now }
 {
-    match (wait, told) {
-        (Some(_), Step::Idle) => true,
-        (Some(_), Step::Finished(_)) => true,
-        (None, Step::Idle) => match walk {
-            ObjectWalk::InRound(round, _) => round.items.has_variable(),
-            _ => false,
-        },
-        _ => false,
+    match (walk, next) {
+        (ObjectWalk::InRound(round, _), ObjectNext::Repeat(_)) if round.items.has_variable() =>
+            Some(*round),
+        _ => None,
     }
 }
 
-/// What a round has shown, by what its last step has told.
-fn shown_by(told: Step) -> Option<u64>
-    ensures { result ≡ shown_by told }
+/// What a round has shown, by where its last step leads.
+fn shown_by(next: &ObjectNext) -> Option<u64>
+    ensures { result ≡ shown_by next.now }
 {
-    match told {
-        Step::Finished(Reply::Number(place)) => Some(place),
+    match next {
+        ObjectNext::Over(ObjectReply::Number(place)) => Some(*place),
         _ => None,
     }
 }
@@ -92,95 +79,75 @@ fn cause_of(shown: Option<u64>) -> Option<Cause>
 }
 
 /// The seat leaves its section to wait on the lock for the variables among these objects.
-fn begin_wait<C: Seated<N>, const N: usize>(seat: &mut Seat<C, N>, items: &Items)
+fn begin_wait<C: Seated<N>, const N: usize>(seat: &mut Seat<C, N>, round: Round) -> Step
     requires row { N ≤ 16 }
     requires holds { IsSome seat.old.held }
-    requires few { items.now.count ≤ 16 }
-    requires low { Every IsLow (items_of items.now) }
-    requires some { have_variable items.now ≡ true }
-    ensures { (cvs : CvsOf) × AreAmong cvs (items_of items.now) × AreVariables (Any cvs) × (seat.new ≡ placed seat.old (Start.OnLock (wait_first N (waits_for_any (mode_waited (mode_of seat.old.held)) cvs)))) }
+    requires few { round.items.count ≤ 16 }
+    requires low { Every IsLow (items_of round.items) }
+    requires some { have_variable round.items ≡ true }
+    ensures { BeginsToWait seat.old round seat.new result }
 {
     let Some(section) = seat.held else {
         unreachable!()
     };
     let wait = Wait {
         mode: section.mode,
-        on: Subject::OnVariables(Variables::Any(items.variables())),
+        on: Subject::OnVariables(Variables::Any(round.items.variables())),
         limits: AT_WILL,
     };
-    place(seat, Start::OnLock(Walk::wait::<N>(wait)));
-}
-
-/// The wait on the lock goes on with what a round has shown, by which it looked, and whose last step told this.
-fn end_look<C: Seated<N>, const N: usize>(seat: &mut Seat<C, N>, wait: AnyWait, told: Step) -> Step
-    requires { IsSome seat.old.walk }
-    ensures { (walk : ObjectWalkOf) → HasTold (Some wait) seat.old walk told seat.new result }
-{
-    let Some(place) = seat.walk else {
-        unreachable!()
-    };
-    let shown = shown_by(told);
-    let round = wait.round;
-    seat.operating = None;
-    seat.awaits = Some(AnyWait { round, shown });
-    see(seat, place, cause_of(shown))
-}
-
-/// The call goes on as a wait on the lock, whose first round has found nothing.
-fn go_to_lock<C: Seated<N>, const N: usize>(
-    seat: &mut Seat<C, N>,
-    walk: ObjectWalk,
-    _told: Step,
-) -> Step
-    requires { CanTell None seat.old walk }
-    ensures { HasTold None seat.old walk _told seat.new result }
-{
-    let ObjectWalk::InRound(round, _) = walk else {
-        unreachable!()
-    };
-    begin_wait(seat, &round.items);
-    seat.operating = None;
-    seat.awaits = Some(AnyWait { round, shown: None });
+    let after = AnyWait { round, shown: None };
+    place(seat, Doing::OnLock(Walk::wait::<N>(wait), Some(after)));
     Step::Went
 }
 
-/// Makes the step of a call on counters and once cells that the seat's walk wants; and where a round is over whose
-/// last step is for the lock, tells that what it has shown, and puts the seat where its call goes on.
+/// Makes the step of a call on counters and once cells that the seat's walk wants, and puts the seat where that
+/// leads, which may be to wait on the lock.
 pub(crate) fn step_objects<C: Seated<N>, const N: usize>(
     env: &Environment,
     objects: &mut Objects,
     seat: &mut Seat<C, N>,
     walk: ObjectWalk,
 ) -> Step
+    requires row { N ≤ 16 }
     requires fits { StepFits env.now.next walk }
-    requires few { IsFew walk }
-    requires can { (told : StepOf) → is_for_lock seat.old.awaits walk told ≡ true → CanTell seat.old.awaits seat.old walk }
-    ensures { (then : SeatOf C N) × (told : StepOf) × SeatOperates (plain_of env.now) objects.old seat.old walk objects.new then told × ToldIf (is_for_lock seat.old.awaits walk told) seat.old.awaits then walk told seat.new result }
+    requires may { MayGoOn seat.old.held walk }
+    ensures { (next : ObjectNextOf) × Operates (plain_of env.now) objects.old seat.old.number walk objects.new next × ObjectLeads (waits_then walk next) next seat.old seat.new result }
 {
-    let told = operate(env, objects, seat, walk);
-    if !is_for_lock(&seat.awaits, &walk, told) {
-        return told;
-    }
-    match seat.awaits {
-        Some(wait) => end_look(seat, wait, told),
-        None => go_to_lock(seat, walk, told),
+    let next = operate(env, objects, walk);
+    match waits_then(&walk, &next) {
+        Some(round) => begin_wait(seat, round),
+        None => settle(seat, next),
     }
 }
 
-/// Where a seat is to look at the objects, whose wait on the lock has come to this place.
-fn round_due<C: Seated<N>, const N: usize>(wait: &AnyWait, walk: Walk<C>) -> Option<ObjectWalk>
-    ensures { result ≡ round_due wait.now walk }
+/// Makes the step that the round wants by which the seat's wait looks; where that is over, the wait goes on with
+/// what it has shown.
+pub(crate) fn go_round<C: Seated<N>, const N: usize>(
+    env: &Environment,
+    objects: &mut Objects,
+    seat: &mut Seat<C, N>,
+    walk: Walk<C>,
+    wait: AnyWait,
+    round: ObjectWalk,
+) -> Step
+    requires fits { StepFits env.now.next round }
+    requires few { IsFew wait }
+    ensures { (next : ObjectNextOf) × Operates (plain_of env.now) objects.old seat.old.number round objects.new next × RoundLeads next seat.old walk wait seat.new result }
 {
-    match walk.want() {
-        Act::Look(_, _) => Some(ObjectWalk::InRound(wait.round, RoundPlace::FirstClock)),
-        _ => None,
+    let next = operate(env, objects, round);
+    if let ObjectNext::Go(place) = next {
+        seat.doing = Doing::LooksByRound(walk, wait, place);
+        return Step::Went;
     }
+    let shown = shown_by(&next);
+    let round = wait.round;
+    see(seat, walk, Some(AnyWait { round, shown }), cause_of(shown))
 }
 
 /// What a call answers, whose wait on the lock answers this: the place of the variable that has woken it, or
 /// where none has, what its last round has shown.
 fn reply_told(wait: &AnyWait, reply: Reply) -> Reply
-    requires { wait.now.round.items.count ≤ 16 }
+    requires { IsFew wait.now }
     ensures { result ≡ reply_told wait.now reply }
 {
     match reply {
@@ -189,24 +156,13 @@ fn reply_told(wait: &AnyWait, reply: Reply) -> Reply
     }
 }
 
-/// What the seat's step on the lock was for its call, and puts it where that goes on.
-pub(crate) fn told_by_lock<C: Seated<N>, const N: usize>(seat: &mut Seat<C, N>, told: Step) -> Step
-    requires { IfSome seat.old.awaits (λ wait. wait.round.items.count ≤ 16) }
-    ensures after { seat.new ≡ waited_seat seat.old.awaits seat.old.walk seat.old }
-    ensures step { result ≡ told_to seat.old.awaits told }
+/// The same where it may be in no such wait.
+pub(crate) fn reply_for(wait: &Option<AnyWait>, reply: Reply) -> Reply
+    requires { IfSome wait.now IsFew }
+    ensures { result ≡ reply_for wait.now reply }
 {
-    let Some(wait) = seat.awaits else {
-        return told;
-    };
-    match seat.walk {
-        None => {
-            seat.operating = None;
-            seat.awaits = None;
-        }
-        Some(walk) => seat.operating = round_due(&wait, walk),
-    }
-    match told {
-        Step::Finished(reply) => Step::Finished(reply_told(&wait, reply)),
-        _ => told,
+    match wait {
+        None => reply,
+        Some(wait) => reply_told(wait, reply),
     }
 }

@@ -4,34 +4,35 @@ ghost use Rattle.std.specs.Prelude.{◌≡◌};
 ghost use Rattle.ns_env.specs.Asks.{EnvActFits};
 ghost use Rattle.ns_env.specs.Walks.{env_want_of, env_walk_after};
 ghost use Rattle.ns_world.specs.Asks.{Asked, plain_of, env_step_of};
+ghost use Rattle.ns_world.specs.Doings.{there};
 
 use crate::environment::Environment;
 use crate::reply::env_told;
 use crate::room::Seated;
-use crate::seat::Seat;
+use crate::seat::{Doing, Seat};
 use crate::step::Step;
 use ns_env::walk::{EnvNext, EnvWalk};
 
 /// Puts the seat where its walk goes, and tells what the step was. After a look the call goes on.
 fn settle<C: Seated<N>, const N: usize>(seat: &mut Seat<C, N>, next: EnvNext) -> Step
     ensures step { result ≡ env_step_of next }
-    ensures seat { seat.new ≡ record seat.old { asking = env_walk_after next } }
+    ensures seat { seat.new ≡ record seat.old { doing = there Doing.OnNotes (env_walk_after next) } }
 {
     match next {
         EnvNext::Go(walk) => {
-            seat.asking = Some(walk);
+            seat.doing = Doing::OnNotes(walk);
             Step::Went
         }
         EnvNext::Repeat(walk) => {
-            seat.asking = Some(walk);
+            seat.doing = Doing::OnNotes(walk);
             Step::Idle
         }
         EnvNext::Over(reply) => {
-            seat.asking = None;
+            seat.doing = Doing::AtRest;
             Step::Finished(env_told(reply))
         }
         EnvNext::LookOver(_) => {
-            seat.asking = None;
+            seat.doing = Doing::AtRest;
             Step::Went
         }
     }

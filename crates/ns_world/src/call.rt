@@ -10,6 +10,7 @@ ghost use Rattle.ns_counters.specs.declared.object.Setup.{Setup as SetupOf};
 ghost use Rattle.std.specs.List.{list_all};
 
 use crate::environment::{is_made, is_made_or_none};
+use crate::seat::Doing;
 use ns_counters::items::{Item, Items};
 use ns_counters::object::Setup;
 use ns_counters::round::{Round, RoundPlace};
@@ -133,32 +134,15 @@ pub enum Asked<C> {
     OfObjects(ObjectWalk),
 }
 
-/// Where a call begins.
-#[derive(Copy)]
-pub enum Start<C> {
-    /// On the lock.
-    OnLock(Walk<C>),
-    /// On the clock and the notes.
-    Ask(EnvWalk),
-    /// On counters and once cells.
-    OnObjects(ObjectWalk),
-}
-
-impl<C: Copy> Clone for Start<C> {
-    ghost is_clone = { λ one other. other ≡ one };
-
-    ghost is_infallible = { λ _. ⊤ };
-
-    fn clone(&self) -> Result<Self, AllocError> {
-        Ok(*self)
-    }
-}
-
 /// A call on the clock and the notes begins where its need is met.
-fn ask<C: Copy>(met: bool, walk: EnvWalk) -> Option<Start<C>>
-    ensures { result ≡ (if met then Some (Start.Ask walk) else None) }
+fn ask<C: Copy>(met: bool, walk: EnvWalk) -> Option<Doing<C>>
+    ensures { result ≡ (if met then Some (Doing.OnNotes walk) else None) }
 {
-    if met { Some(Start::Ask(walk)) } else { None }
+    if met {
+        Some(Doing::OnNotes(walk))
+    } else {
+        None
+    }
 }
 
 /// Whether there is an object: a note that is made, a counter, or a condition variable.
@@ -187,11 +171,11 @@ fn are_there(items: &Items, notes: &[NoteWord; 64], setup: &Setup) -> bool
 }
 
 /// A call on counters and once cells begins where its need is met.
-fn operate<C: Copy>(met: bool, walk: ObjectWalk) -> Option<Start<C>>
-    ensures { result ≡ (if met then Some (Start.OnObjects walk) else None) }
+fn operate<C: Copy>(met: bool, walk: ObjectWalk) -> Option<Doing<C>>
+    ensures { result ≡ (if met then Some (Doing.OnObjects walk) else None) }
 {
     if met {
-        Some(Start::OnObjects(walk))
+        Some(Doing::OnObjects(walk))
     } else {
         None
     }
@@ -204,14 +188,14 @@ fn wait<C: Copy, const N: usize>(
     on: Subject<C>,
     limits: Limits,
     met: bool,
-) -> Option<Start<C>>
+) -> Option<Doing<C>>
     requires { N ≤ 16 }
-    ensures { result ≡ (if met && is_some mode then Some (Start.OnLock (wait_first N (record { mode = mode_waited mode; on = on; limits = limits }))) else None) }
+    ensures { result ≡ (if met && is_some mode then Some (Doing.OnLock (wait_first N (record { mode = mode_waited mode; on = on; limits = limits })) None) else None) }
 {
     let mode = mode?;
     if met {
         let wait = Wait { mode, on, limits };
-        Some(Start::OnLock(Walk::wait::<N>(wait)))
+        Some(Doing::OnLock(Walk::wait::<N>(wait), None))
     } else {
         None
     }
@@ -227,7 +211,7 @@ impl<C: Copy> Call<C> {
         mode: Option<Mode>,
         notes: &[NoteWord; 64],
         setup: &Setup,
-    ) -> Option<Start<C>>
+    ) -> Option<Doing<C>>
         requires row { N ≤ 16 }
         requires range { CallInRange N self }
         ensures { MatchOption result (CallFits setup.now (note_at notes.now) self mode → ⊥) (λ start. (start ≡ start_of N mode self) × CallFits setup.now (note_at notes.now) self mode) }
@@ -286,7 +270,7 @@ impl<C: Copy> Call<C> {
         self,
         mode: Option<Mode>,
         notes: &[NoteWord; 64],
-    ) -> Option<Start<C>>
+    ) -> Option<Doing<C>>
         requires row { N ≤ 16 }
         requires others { object_start self ≡ None }
         ensures { (setup : Setup) → MatchOption result (CallFits setup (note_at notes.now) self mode → ⊥) (λ start. (start ≡ start_of N mode self) × CallFits setup (note_at notes.now) self mode) }
@@ -328,7 +312,7 @@ impl<C: Copy> Call<C> {
     }
 
     /// Where a call on the lock begins.
-    fn start_lock<const N: usize>(self, mode: Option<Mode>) -> Option<Start<C>>
+    fn start_lock<const N: usize>(self, mode: Option<Mode>) -> Option<Doing<C>>
         requires { N ≤ 16 }
         ensures { MatchOption result (SectionFits self mode → ⊥) (λ start. (start ≡ start_of N mode self) × SectionFits self mode) }
     {
@@ -346,6 +330,6 @@ impl<C: Copy> Call<C> {
             (Call::Broadcast(k), _) => Walk::signal(Waking::Broadcasting, k),
             _ => return None,
         };
-        Some(Start::OnLock(walk))
+        Some(Doing::OnLock(walk, None))
     }
 }

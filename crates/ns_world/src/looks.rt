@@ -1,18 +1,20 @@
 //! One atomic step of a look of a wait, which loads the clock or a note.
 
-ghost use Rattle.std.specs.Prelude.{◌≡◌, Some};
+ghost use Rattle.std.specs.Prelude.{◌≡◌, IfSome};
 ghost use Rattle.ns_env.specs.Asks.{EnvActFits};
 ghost use Rattle.ns_env.specs.Walks.{env_want_of};
 ghost use Rattle.ns_word.specs.Steps.{held_after, opening_by};
+ghost use Rattle.ns_word.specs.Walks.{want_of};
+ghost use Rattle.ns_world.specs.Among.{IsFew};
 ghost use Rattle.ns_world.specs.Asks.{plain_of};
-ghost use Rattle.ns_world.specs.Looks.{AsksFor};
-ghost use Rattle.ns_world.specs.Looked.{EnvMoves, LookStep, Sees};
+ghost use Rattle.ns_world.specs.Looked.{LookStep, Sees};
+ghost use Rattle.ns_world.specs.Looks.{LooksAt};
 
-use crate::asks::ask;
 use crate::environment::Environment;
+use crate::objects::AnyWait;
 use crate::perform::settle;
 use crate::room::Seated;
-use crate::seat::Seat;
+use crate::seat::{Doing, Seat};
 use crate::step::Step;
 use crate::wanted::came_back;
 use ns_env::limits::Cause;
@@ -54,49 +56,35 @@ fn keep<C: Seated<N>, const N: usize>(
 pub(crate) fn see<C: Seated<N>, const N: usize>(
     seat: &mut Seat<C, N>,
     walk: Walk<C>,
+    wait: Option<AnyWait>,
     cause: Option<Cause>,
 ) -> Step
-    ensures { Sees seat.old walk cause seat.new result }
+    requires { IfSome wait IsFew }
+    ensures { Sees seat.old walk wait cause seat.new result }
 {
     keep(&mut seat.held, came_back(&walk), cause);
-    settle(seat, &walk.got::<N>(Found::Looked(cause)))
+    settle(seat, wait, &walk.got::<N>(Found::Looked(cause)))
 }
 
-/// Makes the next step of the look that the seat's wait wants.
-fn look<C: Seated<N>, const N: usize>(
-    env: &mut Environment,
+/// Makes the next step of the look that the seat's wait wants, at the clock or a note.
+pub(crate) fn look<C: Seated<N>, const N: usize>(
+    env: &Environment,
     seat: &mut Seat<C, N>,
     walk: Walk<C>,
     place: EnvWalk,
 ) -> Step
-    requires looks { AsksFor (Some walk) (Some place) }
-    requires fits { EnvActFits env.old.next (env_want_of place) }
-    ensures { LookStep (plain_of env.old) (plain_of env.new) seat.old walk place seat.new result }
+    requires looks { LooksAt (want_of walk) place }
+    requires fits { EnvActFits env.now.next (env_want_of place) }
+    ensures { LookStep (plain_of env.now) seat.old walk place seat.new result }
 {
-    let found = env.make(place.want());
+    let found = env.load(place.want());
     match place.got(found) {
         EnvNext::Go(next) => {
-            seat.asking = Some(next);
+            seat.doing = Doing::LooksByLimits(walk, next);
             Step::Went
         }
-        EnvNext::LookOver(cause) => see(seat, walk, cause),
+        EnvNext::LookOver(cause) => see(seat, walk, None, cause),
         EnvNext::Repeat(_) => unreachable!(),
         EnvNext::Over(_) => unreachable!(),
-    }
-}
-
-/// Makes the seat's next step on the clock and the notes: of a call of its own, or of a look.
-pub(crate) fn step_env<C: Seated<N>, const N: usize>(
-    env: &mut Environment,
-    seat: &mut Seat<C, N>,
-    place: EnvWalk,
-) -> Step
-    requires asks { AsksFor seat.old.walk (Some place) }
-    requires fits { EnvActFits env.old.next (env_want_of place) }
-    ensures { EnvMoves (plain_of env.old) (plain_of env.new) seat.old place seat.new result }
-{
-    match seat.walk {
-        None => ask(env, seat, place),
-        Some(walk) => look(env, seat, walk, place),
     }
 }

@@ -2,16 +2,12 @@
 
 ghost use Rattle.std.specs.Prelude.{◌≡◌, ◌<◌, ◌≤◌, length, slice_index, slice_set};
 ghost use Rattle.ns_counters.specs.Steps.{word_at};
-ghost use Rattle.ns_world.specs.Objects.{fresh_words, object_step_of};
+ghost use Rattle.ns_world.specs.Objects.{fresh_words};
 ghost use Rattle.ns_counters.specs.Asks.{word_left};
-ghost use Rattle.ns_counters.specs.Walks.{object_after};
 
-use crate::reply::object_told;
-use crate::step::Step;
 use ns_counters::act::ObjectAct;
 use ns_counters::object::Setup;
 use ns_counters::round::Round;
-use ns_counters::walk::{ObjectNext, ObjectWalk};
 
 /// A wait for condition variables among notes and counters whose first round has found nothing: on the lock it
 /// waits for the variables, and whenever it looks, it looks at the others by a round.
@@ -31,28 +27,6 @@ pub(crate) struct Objects {
     pub(crate) setup: Setup,
     /// Their words.
     pub(crate) words: [u64; 32],
-}
-
-/// What a step was, by where it leads.
-pub(crate) fn step_of(next: ObjectNext) -> Step
-    ensures { result ≡ object_step_of next }
-{
-    match next {
-        ObjectNext::Go(_) => Step::Went,
-        ObjectNext::Repeat(_) => Step::Idle,
-        ObjectNext::Over(reply) => Step::Finished(object_told(reply)),
-    }
-}
-
-/// The place after a step, if the call goes on.
-pub(crate) fn walk_after(next: ObjectNext) -> Option<ObjectWalk>
-    ensures { result ≡ object_after next }
-{
-    match next {
-        ObjectNext::Go(walk) => Some(walk),
-        ObjectNext::Repeat(walk) => Some(walk),
-        ObjectNext::Over(_) => None,
-    }
 }
 
 impl Objects {

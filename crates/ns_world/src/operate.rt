@@ -2,18 +2,21 @@
 
 ghost use Rattle.std.specs.Prelude.{◌≡◌, ℕ, List};
 ghost use Rattle.ns_world.specs.Asks.{plain_of};
-ghost use Rattle.ns_world.specs.Objects.{SeatOperates};
+ghost use Rattle.ns_world.specs.Objects.{Operates, object_step_of};
+ghost use Rattle.ns_world.specs.Doings.{there};
+ghost use Rattle.ns_counters.specs.Walks.{object_after};
 ghost use Rattle.ns_counters.specs.Asks.{ObjectEffect, StepFits, WantFits};
 ghost use Rattle.ns_counters.specs.declared.object.ObjectEvent.{ObjectEvent};
 ghost use Rattle.ns_counters.specs.declared.object.Place.{Place};
 
 use crate::environment::Environment;
-use crate::objects::{Objects, step_of, walk_after};
+use crate::objects::Objects;
+use crate::reply::object_told;
 use crate::room::Seated;
-use crate::seat::Seat;
+use crate::seat::{Doing, Seat};
 use crate::step::Step;
 use ns_counters::round::{ObjectFound, ObjectWant};
-use ns_counters::walk::ObjectWalk;
+use ns_counters::walk::{ObjectNext, ObjectWalk};
 
 /// Makes the step that a place wants, and tells what it found.
 fn perform(env: &Environment, objects: &mut Objects, want: ObjectWant) -> ObjectFound
@@ -27,18 +30,32 @@ fn perform(env: &Environment, objects: &mut Objects, want: ObjectWant) -> Object
     }
 }
 
-/// Makes the step of a call on counters and once cells that the seat's walk wants.
-pub(crate) fn operate<C: Seated<N>, const N: usize>(
-    env: &Environment,
-    objects: &mut Objects,
-    seat: &mut Seat<C, N>,
-    walk: ObjectWalk,
-) -> Step
+/// Makes the step that a walk on counters and once cells wants, and tells where it leads.
+pub(crate) fn operate(env: &Environment, objects: &mut Objects, walk: ObjectWalk) -> ObjectNext
     requires { StepFits env.now.next walk }
-    ensures { SeatOperates (plain_of env.now) objects.old seat.old walk objects.new seat.new result }
+    ensures { (seat : ℕ) → Operates (plain_of env.now) objects.old seat walk objects.new result }
 {
     let found = perform(env, objects, walk.want());
-    let next = walk.got(found);
-    seat.operating = walk_after(next);
-    step_of(next)
+    walk.got(found)
+}
+
+/// Puts the seat where its walk goes, and tells what the step was.
+pub(crate) fn settle<C: Seated<N>, const N: usize>(seat: &mut Seat<C, N>, next: ObjectNext) -> Step
+    ensures step { result ≡ object_step_of next }
+    ensures seat { seat.new ≡ record seat.old { doing = there Doing.OnObjects (object_after next) } }
+{
+    match next {
+        ObjectNext::Go(walk) => {
+            seat.doing = Doing::OnObjects(walk);
+            Step::Went
+        }
+        ObjectNext::Repeat(walk) => {
+            seat.doing = Doing::OnObjects(walk);
+            Step::Idle
+        }
+        ObjectNext::Over(reply) => {
+            seat.doing = Doing::AtRest;
+            Step::Finished(object_told(reply))
+        }
+    }
 }

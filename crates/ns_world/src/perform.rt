@@ -1,31 +1,36 @@
 //! One atomic step on the parts of a world, as the seat's walk wants it.
 
-ghost use Rattle.std.specs.Prelude.{◌≡◌, ◌<◌, ◌≤◌, Some, None, IsSome, IfOk, MatchResult, OnErr, ℕ, List, []};
+ghost use Rattle.std.specs.Prelude.{◌≡◌, ◌<◌, ◌≤◌, None, IsSome, IfSome, IfOk, MatchResult, OnErr, ℕ, List, []};
 ghost use Rattle.ns_model.specs.declared.event.Mode.TheVariants.{Write};
 ghost use Rattle.ns_word.specs.declared.owed.Owed.{Owed};
 ghost use Rattle.ns_word.specs.Places.{ActFits, HasMode, OwesOne};
 ghost use Rattle.ns_word.specs.Steps.{Effect};
-ghost use Rattle.ns_word.specs.Walks.{want_of, walk_after};
+ghost use Rattle.ns_word.specs.Walks.{want_of};
+ghost use Rattle.ns_word.specs.declared.act.Found.{Found as FoundAs};
+ghost use Rattle.ns_world.specs.Among.{IsFew};
 ghost use Rattle.ns_world.specs.Commits.{Commits};
-ghost use Rattle.ns_world.specs.Looks.{waits_among, look_of, looks_at};
+ghost use Rattle.ns_world.specs.Looks.{doing_after, doing_at, looks_at};
 ghost use Rattle.ns_world.specs.Performs.{part, seat_part, step_of, tests_after, Makes, Performs, StaysThere};
 
+use crate::among::reply_for;
 use crate::exchanges::{
     acquire, release, release_returning, return_queues, take_queues, wait_returning,
 };
+use crate::objects::AnyWait;
 use crate::reply::told;
 use crate::room::Seated;
-use crate::seat::Seat;
+use crate::seat::{Doing, Seat};
 use crate::step::Step;
-use crate::wanted::look_place;
+use crate::wanted::wanted_look;
 use arrayvec::ArrayVec;
-use ns_model::cvs::Variables;
+use ns_counters::round::RoundPlace;
+use ns_counters::walk::ObjectWalk;
+use ns_env::walk::{Chain, EnvWalk};
 use ns_model::event::Event;
 use ns_queue::queues::Queues;
 use ns_word::act::{Act, Found};
 use ns_word::owed::Owed;
 use ns_word::view::Held;
-use ns_word::wait::Subject;
 use ns_word::walk::{Next, Walk};
 use ns_word::word::Word;
 use std::alloc::AllocError;
@@ -146,50 +151,45 @@ fn tests_after(found: Found, before: u32) -> u32
     }
 }
 
-/// Whether the walk waits for any of a set of variables.
-fn waits_among<C: Seated<N>, const N: usize>(walk: &Walk<C>) -> bool
-    ensures { result ≡ waits_among walk.now }
+/// Where a call on the lock stands at this place: where its wait is to look, at the beginning of the look.
+fn doing_at<C: Seated<N>, const N: usize>(wait: Option<AnyWait>, walk: &Walk<C>) -> Doing<C>
+    ensures { result ≡ doing_at wait walk.now }
 {
-    match walk {
-        Walk::InWait(wait, _) => match wait.on {
-            Subject::OnVariables(Variables::Any(_)) => true,
-            _ => false,
-        },
-        _ => false,
+    let Some(look) = wanted_look(walk) else {
+        return Doing::OnLock(*walk, wait);
+    };
+    match wait {
+        None => Doing::LooksByLimits(*walk, EnvWalk::ClockLoad(Chain::ForLook(look.limits))),
+        Some(wait) => Doing::LooksByRound(
+            *walk,
+            wait,
+            ObjectWalk::InRound(wait.round, RoundPlace::FirstClock),
+        ),
     }
 }
 
-/// Puts the seat at this place of its walk, and at the beginning of a look where its wait looks at the clock
-/// and the notes.
-fn go_to<C: Seated<N>, const N: usize>(seat: &mut Seat<C, N>, walk: &Walk<C>)
-    ensures { seat.new ≡ record seat.old { walk = Some walk.now; asking = look_of (Some walk.now) } }
-{
-    seat.asking = if waits_among(walk) {
-        None
-    } else {
-        look_place(walk)
-    };
-    seat.walk = Some(*walk);
-}
-
-/// Puts the seat where its walk goes, and tells what the step was.
-pub(crate) fn settle<C: Seated<N>, const N: usize>(seat: &mut Seat<C, N>, next: &Next<C>) -> Step
-    ensures step { result ≡ step_of next.now }
-    ensures seat { seat.new ≡ record seat.old { walk = walk_after next.now; asking = look_of (walk_after next.now) } }
+/// Puts the seat where its walk goes, and tells what the step was for the call.
+pub(crate) fn settle<C: Seated<N>, const N: usize>(
+    seat: &mut Seat<C, N>,
+    wait: Option<AnyWait>,
+    next: &Next<C>,
+) -> Step
+    requires { IfSome wait IsFew }
+    ensures step { result ≡ step_of wait next.now }
+    ensures seat { seat.new ≡ record seat.old { doing = doing_after wait next.now } }
 {
     match next {
         Next::On(walk) => {
-            go_to(seat, walk);
+            seat.doing = doing_at(wait, walk);
             Step::Went
         }
         Next::Idle(walk) => {
-            go_to(seat, walk);
+            seat.doing = doing_at(wait, walk);
             Step::Idle
         }
         Next::Done(reply) => {
-            seat.asking = None;
-            seat.walk = None;
-            Step::Finished(told(*reply))
+            seat.doing = Doing::AtRest;
+            Step::Finished(reply_for(&wait, told(*reply)))
         }
     }
 }
@@ -204,14 +204,15 @@ pub(crate) fn perform<C: Seated<N>, const N: usize>(
     seat: &mut Seat<C, N>,
     history: &mut Vec<Event<C, N>>,
     walk: Walk<C>,
+    wait: Option<AnyWait>,
 ) -> Result<Step, AllocError>
-    requires walks { seat.old.walk ≡ Some walk }
     requires fits { ActFits C.means 64 seat.old.number (want_of walk) (seat_part word.old row.old queues.old flags.old seat.old) }
     requires inside { looks_at (want_of walk) ≡ None }
-    ensures ok { IfOk result (λ step. Performs C.means (seat_part word.old row.old queues.old flags.old seat.old) seat.old history.old.items walk (seat_part word.new row.new queues.new flags.new seat.new) seat.new history.new.items step) }
+    requires few { IfSome wait IsFew }
+    ensures ok { IfOk result (λ step. (found : FoundAs) × Performs C.means (seat_part word.old row.old queues.old flags.old seat.old) seat.old history.old.items walk wait found (seat_part word.new row.new queues.new flags.new seat.new) seat.new history.new.items step) }
     ensures err { OnErr result ((Commits seat.old.number (want_of walk) word.old queues.old) × (word.new ≡ word.old) × (row.new ≡ row.old) × (queues.new ≡ queues.old) × (flags.new ≡ flags.old) × (seat.new ≡ seat.old) × (history.new.items ≡ history.old.items)) }
 {
     let found = make(word, row, queues, flags, seat, history, walk.want())?;
     seat.tests = tests_after(found, seat.tests);
-    Ok(settle(seat, &walk.got::<N>(found)))
+    Ok(settle(seat, wait, &walk.got::<N>(found)))
 }

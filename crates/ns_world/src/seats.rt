@@ -6,7 +6,7 @@ ghost use Rattle.ns_model.specs.Seats.{is_in};
 ghost use Rattle.ns_world.specs.Whole.{fresh_seats, in_call};
 
 use crate::room::Seated;
-use crate::seat::Seat;
+use crate::seat::{Doing, Seat, is_call};
 use arrayvec::ArrayVec;
 use ns_model::seats::Seats;
 use std::alloc::{AllocError, Global};
@@ -22,23 +22,13 @@ pub(crate) fn new_seats<C: Seated<N>, const N: usize>(
     for number in 0..seats {
         made.push(Seat {
             number,
-            walk: None,
-            asking: None,
-            operating: None,
-            awaits: None,
+            doing: Doing::AtRest,
             held: None,
             owed: ArrayVec::new(),
             tests: 0,
         })?;
     }
     Ok(made)
-}
-
-/// Whether a call of the seat is in progress.
-pub(crate) fn is_busy<C: Seated<N>, const N: usize>(seat: &Seat<C, N>) -> bool
-    ensures { result ≡ in_call seat.now }
-{
-    seat.walk.is_some() | seat.asking.is_some() | seat.operating.is_some()
 }
 
 /// The seats with a call in progress.
@@ -48,7 +38,7 @@ pub(crate) fn busy_seats<C: Seated<N>, const N: usize>(seats: &[Seat<C, N>]) -> 
 {
     let mut busy = Seats::none();
     for (at, seat) in seats.iter().enumerate() {
-        if is_busy(seat) {
+        if is_call(&seat.doing) {
             busy = busy.with(at as u8);
         }
     }

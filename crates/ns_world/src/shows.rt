@@ -5,10 +5,11 @@ ghost use Rattle.ns_queue.specs.Queues.{times};
 ghost use Rattle.ns_word.specs.Places.{HasList};
 ghost use Rattle.ns_word.specs.Steps.{in_hand};
 ghost use Rattle.ns_word.specs.Walks.{has_queues, has_armed};
+ghost use Rattle.ns_world.specs.Doings.{walk_of};
 ghost use Rattle.ns_world.specs.Shows.{hand_of, lists_by, wakes_owed};
 
 use crate::room::Seated;
-use crate::seat::Seat;
+use crate::seat::{Seat, walk_of};
 use arrayvec::ArrayVec;
 use ns_queue::queues::Queues;
 use ns_word::hand::{change_in_hand, has_queues};
@@ -40,14 +41,15 @@ pub(crate) fn shown_queues<C: Seated<N>, const N: usize>(
     seats: &[Seat<C, N>],
     row: &[u64; N],
 ) -> Queues<C, N>
-    requires lists { (i : ℕ) (seat : _) → slice_get seats.now i ≡ Some seat → IfSome seat.walk HasList }
+    requires lists { (i : ℕ) (seat : _) → slice_get seats.now i ≡ Some seat → IfSome (walk_of seat.doing) HasList }
     requires below { (i : ℕ) (seat : _) → slice_get seats.now i ≡ Some seat → seat.number < 64 }
-    requires free { (i : ℕ) (seat : _) → slice_get seats.now i ≡ Some seat → has_armed seat.walk ≡ true → times seat.number queues.now ≡ 0 }
+    requires free { (i : ℕ) (seat : _) → slice_get seats.now i ≡ Some seat → has_armed (walk_of seat.doing) ≡ true → times seat.number queues.now ≡ 0 }
     ensures { result ≡ lists_by C.means row.now queues.now seats.now }
 {
     for seat in seats {
-        if has_queues::<C, N>(seat.walk) {
-            return in_hand(queues, seat.number, seat.walk, row);
+        let walk = walk_of(&seat.doing);
+        if has_queues::<C, N>(walk) {
+            return in_hand(queues, seat.number, walk, row);
         }
     }
     queues.copied()

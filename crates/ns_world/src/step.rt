@@ -1,13 +1,12 @@
 //! What a seat's step was, whether a call began, and where it begins.
 
 ghost use Rattle.std.specs.Prelude.{◌≡◌};
-ghost use Rattle.ns_world.specs.Begins.{placed};
+ghost use Rattle.ns_world.specs.Doings.{placed};
 ghost use Rattle.ns_world.specs.Calls.{mode_of};
 
-use crate::call::Start;
 use crate::reply::Reply;
 use crate::room::Seated;
-use crate::seat::Seat;
+use crate::seat::{Doing, Seat};
 use ns_model::event::Mode;
 use ns_word::view::Held;
 
@@ -47,13 +46,9 @@ pub(crate) fn mode_of<C: Seated<N>, const N: usize>(held: &Option<Held<C, N>>) -
 }
 
 /// Puts the seat at the beginning of a call, which has tested no condition yet.
-pub(crate) fn place<C: Seated<N>, const N: usize>(seat: &mut Seat<C, N>, start: Start<C>)
-    ensures { seat.new ≡ placed seat.old start }
+pub(crate) fn place<C: Seated<N>, const N: usize>(seat: &mut Seat<C, N>, doing: Doing<C>)
+    ensures { seat.new ≡ placed seat.old doing }
 {
     seat.tests = 0;
-    match start {
-        Start::OnLock(walk) => seat.walk = Some(walk),
-        Start::Ask(walk) => seat.asking = Some(walk),
-        Start::OnObjects(walk) => seat.operating = Some(walk),
-    }
+    seat.doing = doing;
 }

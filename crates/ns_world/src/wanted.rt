@@ -3,11 +3,10 @@
 
 ghost use Rattle.std.specs.Prelude.{◌≡◌};
 ghost use Rattle.ns_word.specs.Walks.{want_of, want_queuing, want_waiting};
-ghost use Rattle.ns_world.specs.Looks.{came_back, look_in, look_place};
+ghost use Rattle.ns_world.specs.Looks.{came_back, look_in};
 
 use crate::room::Seated;
 use ns_env::limits::Limits;
-use ns_env::walk::{Chain, EnvWalk};
 use ns_word::wait::{QueuePlace, Wait, WaitPlace};
 use ns_word::walk::Walk;
 
@@ -58,7 +57,7 @@ fn waiting_look<C: Seated<N>, const N: usize>(wait: &Wait<C>, place: &WaitPlace)
 }
 
 /// The look that the walk wants next, if it wants one.
-fn wanted_look<C: Seated<N>, const N: usize>(walk: &Walk<C>) -> Option<Look>
+pub(crate) fn wanted_look<C: Seated<N>, const N: usize>(walk: &Walk<C>) -> Option<Look>
     ensures { result ≡ look_in (want_of walk.now) }
 {
     match walk {
@@ -69,16 +68,6 @@ fn wanted_look<C: Seated<N>, const N: usize>(walk: &Walk<C>) -> Option<Look>
         Walk::InCells(_) => None,
         Walk::InSignal(_, _, _) => None,
         Walk::InShow(_) => None,
-    }
-}
-
-/// Where a seat stands on the clock and the notes whose walk wants a look next.
-pub(crate) fn look_place<C: Seated<N>, const N: usize>(walk: &Walk<C>) -> Option<EnvWalk>
-    ensures { result ≡ look_place (want_of walk.now) }
-{
-    match wanted_look(walk) {
-        Some(look) => Some(EnvWalk::ClockLoad(Chain::ForLook(look.limits))),
-        None => None,
     }
 }
 

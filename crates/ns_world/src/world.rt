@@ -12,16 +12,17 @@ ghost use Rattle.ns_world.specs.Shows.{lists_shown, wakes_owed};
 ghost use Rattle.ns_world.specs.Whole.{fresh_whole, whole_of, whole_busy, IsLawfulWhole};
 ghost use Rattle.ns_world.specs.World.{RefusesWorld};
 
-use crate::among::{step_objects, told_by_lock};
+use crate::among::{go_round, step_objects};
+use crate::asks::ask;
 use crate::call::Call;
 use crate::environment::Environment;
 use crate::fault::Fault;
-use crate::looks::step_env;
+use crate::looks::look;
 use crate::objects::Objects;
 use crate::perform::perform;
 use crate::room::Seated;
-use crate::seat::Seat;
-use crate::seats::{busy_seats, is_busy, new_seats};
+use crate::seat::{Doing, Seat, is_call};
+use crate::seats::{busy_seats, new_seats};
 use crate::shows::{owed_wakes, shown_queues};
 use crate::state::State;
 use crate::step::{Begun, Step, mode_of, place};
@@ -112,7 +113,7 @@ impl<C: Seated<N>, const N: usize> World<C, N> {
             return Err(Fault::NoSuchSeat);
         }
         let here = &mut self.seats[at];
-        if is_busy(here) {
+        if is_call(&here.doing) {
             return Ok(Begun::Busy);
         }
         let mode = mode_of(&here.held);
@@ -138,25 +139,33 @@ impl<C: Seated<N>, const N: usize> World<C, N> {
             return Err(Fault::NoSuchSeat);
         }
         let here = &mut self.seats[at];
-        if let Some(walk) = here.operating {
-            return Ok(step_objects(&self.env, &mut self.objects, here, walk));
+        match here.doing {
+            Doing::AtRest => Ok(Step::Nothing),
+            Doing::OnNotes(walk) => Ok(ask(&mut self.env, here, walk)),
+            Doing::OnObjects(walk) => Ok(step_objects(&self.env, &mut self.objects, here, walk)),
+            Doing::LooksByLimits(walk, place) => Ok(look(&self.env, here, walk, place)),
+            Doing::LooksByRound(walk, wait, round) => Ok(go_round(
+                &self.env,
+                &mut self.objects,
+                here,
+                walk,
+                wait,
+                round,
+            )),
+            Doing::OnLock(walk, wait) => {
+                let step = perform(
+                    &mut self.word,
+                    &mut self.row,
+                    &mut self.queues,
+                    &mut self.flags,
+                    here,
+                    &mut self.history,
+                    walk,
+                    wait,
+                )?;
+                Ok(step)
+            }
         }
-        if let Some(place) = here.asking {
-            return Ok(step_env(&mut self.env, here, place));
-        }
-        let Some(walk) = here.walk else {
-            return Ok(Step::Nothing);
-        };
-        let told = perform(
-            &mut self.word,
-            &mut self.row,
-            &mut self.queues,
-            &mut self.flags,
-            here,
-            &mut self.history,
-            walk,
-        )?;
-        Ok(told_by_lock(here, told))
     }
 
     /// All that has happened to the row and the variables, which is a legal history by seats of this

@@ -1,42 +1,35 @@
-use Rattle.std.proofs.Common.{IsSome, None, Option, ap, refl, subst, sym, true, ℕ, ◌∙◌, ◌≡◌}
-use Rattle.ns_world.proofs.Prelude.{AnyWait, CanTell, HasTold, ObjectWalk, Seat, Step, ToldIf, is_for_lock}
+use Rattle.std.proofs.Common.{Option, subst, sym, ℕ, ◌∙◌}
+use Rattle.ns_world.proofs.Prelude.{Held, InRound, MayGoOn, ObjectLeads, ObjectWalk}
+use Rattle.ns_world.specs.Among.{NamesFew}
+use Rattle.ns_world.proofs.Looking.{waits_is}
 use Rattle.ns_world.proofs.among.step_objects.Goals as goal
 
--- what is for the lock has been told to it
-told_as : {C : Type 0} {N : ℕ} (awaits wait : Option AnyWait) (then : Seat C N) (walk : ObjectWalk) (told : Step) (next : Seat C N) (step : Step) → awaits ≡ wait → is_for_lock awaits walk told ≡ true →
-    HasTold wait then walk told next step → ToldIf (is_for_lock awaits walk told) awaits then walk told next step
-told_as awaits wait then walk told next step is for_lock p = subst (λ b. ToldIf b awaits then walk told next step) (sym for_lock) (subst (λ w. HasTold w then walk told next step) (sym is) p)
+few_if : {C : Type 0} {N : ℕ} (held : Option (Held C N)) (walk : ObjectWalk) → MayGoOn held walk → NamesFew walk
+few_if held (InRound round place) may = may.0
+few_if held walk may = tt
 
-pub returns-then-not-is_for_lock : goal.returns-then-not-is_for_lock
-returns-then-not-is_for_lock g c =
-    let waits = ap (λ (s : Seat _ _). s.awaits) c.operate-told.ensures.goes in
-    let not = ap (λ w. is_for_lock w c.args.walk c.operate-told.result) (sym waits) ∙ sym c.is_for_lock.ensures ∙ c.if-not-is_for_lock.true in
-    (c.operate-told.new.seat, c.operate-told.result, c.operate-told.ensures, subst (λ b. ToldIf b c.args.seat.now.awaits c.operate-told.new.seat c.args.walk c.operate-told.result c.operate-told.new.seat c.operate-told.result) (sym not) (refl, refl))
+pub waits_then-requires : goal.waits_then-requires
+waits_then-requires g c = few_if c.args.seat.now.held c.args.walk c.requires.may
 
-pub end_look-requires : goal.end_look-requires
-end_look-requires g c =
-    let goes = c.operate-told.ensures.goes in
-    let waits = ap (λ (s : Seat _ _). s.awaits) goes in
-    let for_lock = ap (λ w. is_for_lock w c.args.walk c.operate-told.result) (sym waits) ∙ sym c.is_for_lock.ensures ∙ c.if-not-is_for_lock.false in
-    let can = subst (λ w. CanTell w c.args.seat.now c.args.walk) (sym waits ∙ c.in-Some.is) (c.requires.can c.operate-told.result for_lock) in
-    (g.met.C.Seated.seat_fits, subst (λ w. IsSome w) (sym (ap (λ (s : Seat _ _). s.walk) goes)) can)
-
-pub go_to_lock-requires : goal.go_to_lock-requires
-go_to_lock-requires g c =
-    let goes = c.operate-told.ensures.goes in
-    let waits = ap (λ (s : Seat _ _). s.awaits) goes in
-    let for_lock = ap (λ w. is_for_lock w c.args.walk c.operate-told.result) (sym waits) ∙ sym c.is_for_lock.ensures ∙ c.if-not-is_for_lock.false in
-    let can = subst (λ w. CanTell w c.args.seat.now c.args.walk) (sym waits ∙ c.in-None.is) (c.requires.can c.operate-told.result for_lock) in
-    (g.met.C.Seated.seat_fits, subst (λ (s : Seat _ _). CanTell None s c.args.walk) (sym goes) can)
+pub begin_wait-requires : goal.begin_wait-requires
+begin_wait-requires g c =
+    let is = waits_is c.args.walk c.operate-next.result c.in-Some.round (sym c.waits_then.ensures ∙ c.in-Some.is) in
+    let may = subst (MayGoOn c.args.seat.now.held) is.2 c.requires.may in
+    (g.met.C.Seated.seat_fits, (c.requires.row, (may.2 is.4, (may.0, (may.1, is.4)))))
 
 pub returns-in-Some : goal.returns-in-Some
-returns-in-Some g c =
-    let waits = ap (λ (s : Seat _ _). s.awaits) c.operate-told.ensures.goes in
-    let for_lock = ap (λ w. is_for_lock w c.args.walk c.operate-told.result) (sym waits) ∙ sym c.is_for_lock.ensures ∙ c.if-not-is_for_lock.false in
-    (c.operate-told.new.seat, c.operate-told.result, c.operate-told.ensures, told_as _ _ _ _ _ _ _ (sym waits ∙ c.in-Some.is) for_lock (c.end_look.ensures c.args.walk))
+returns-in-Some g c = (
+  c.operate-next.result,
+  c.operate-next.ensures c.args.seat.now.number,
+  subst (λ round. ObjectLeads round c.operate-next.result c.args.seat.now c.begin_wait.new.seat c.begin_wait.result) (sym c.in-Some.is ∙ c.waits_then.ensures) c.begin_wait.ensures,
+)
 
 pub returns-in-None : goal.returns-in-None
-returns-in-None g c =
-    let waits = ap (λ (s : Seat _ _). s.awaits) c.operate-told.ensures.goes in
-    let for_lock = ap (λ w. is_for_lock w c.args.walk c.operate-told.result) (sym waits) ∙ sym c.is_for_lock.ensures ∙ c.if-not-is_for_lock.false in
-    (c.operate-told.new.seat, c.operate-told.result, c.operate-told.ensures, told_as _ _ _ _ _ _ _ (sym waits ∙ c.in-None.is) for_lock c.go_to_lock.ensures)
+returns-in-None g c = (
+  c.operate-next.result,
+  c.operate-next.ensures c.args.seat.now.number,
+  subst (λ round. ObjectLeads round c.operate-next.result c.args.seat.now c.settle.new.seat c.settle.result) (sym c.in-None.is ∙ c.waits_then.ensures) (c.settle.ensures.seat, c.settle.ensures.step),
+)
+
+pub settle-requires : goal.settle-requires
+settle-requires g c = g.met.C.Seated.seat_fits

@@ -3,7 +3,7 @@ use Rattle.std.proofs.Common.{ap, arith, false, length, refl, slice_get, sym, �
 use Rattle.ns_world.proofs.Prelude.{in_call, is_in, option_map_or, slice_get_past}
 use Rattle.ns_world.proofs.Mapped.{found_at}
 use Rattle.ns_world.proofs.Busy.{first_all, first_with, first_without}
-use Rattle.ns_world.proofs.seats.busy_seats.Goals.{then-is_busy, else-is_busy}
+use Rattle.ns_world.proofs.seats.busy_seats.Goals.{then-is_call, else-is_call}
 use Rattle.ns_world.proofs.seats.busy_seats.Goals as goal
 
 pub loop-at-preserved : goal.loop-at-preserved
@@ -11,10 +11,10 @@ loop-at-preserved g c =
     let seats = c.args.seats.now in
     let here = ap (λ o. option_map_or in_call o false) (found_at seats c.loop-at.at c.index-seats-at.result c.loop-at-test.true refl c.index-seats-at.is) in
     let so = λ (n : ℕ). option_map_or in_call (slice_get seats n) false in
-    elim c.if-is_busy.branch [
-      | then-is_busy w ↦ rw w.busy-is (first_with so (λ n. is_in c.loop-at.busy n) (λ n. is_in w.with-busy.result n) c.loop-at.at w.with-busy.ensures
-          (here ∙ sym c.is_busy.ensures ∙ w.if-is_busy.true) c.loop-at.invariant)
-      | else-is_busy w ↦ rw w.busy-is (first_without so (λ n. is_in c.loop-at.busy n) c.loop-at.at (here ∙ sym c.is_busy.ensures ∙ w.if-is_busy.false) c.loop-at.invariant)
+    elim c.if-is_call.branch [
+      | then-is_call w ↦ rw w.busy-is (first_with so (λ n. is_in c.loop-at.busy n) (λ n. is_in w.with-busy.result n) c.loop-at.at w.with-busy.ensures
+          (here ∙ sym c.is_call.ensures ∙ w.if-is_call.true) c.loop-at.invariant)
+      | else-is_call w ↦ rw w.busy-is (first_without so (λ n. is_in c.loop-at.busy n) c.loop-at.at (here ∙ sym c.is_call.ensures ∙ w.if-is_call.false) c.loop-at.invariant)
     ]
 
 pub returns : goal.returns
@@ -31,9 +31,6 @@ overflow_cast-at g c = omega (arith, c.requires, c.loop-at-test.true)
 
 pub with-busy-requires : goal.with-busy-requires
 with-busy-requires g c = omega (arith, c.requires, c.loop-at-test.true)
-
-pub is_busy-requires : goal.is_busy-requires
-is_busy-requires g c = g.met.C.Seated.seat_fits
 
 pub bounds-seats-at : goal.bounds-seats-at
 bounds-seats-at g c = c.loop-at-test.true

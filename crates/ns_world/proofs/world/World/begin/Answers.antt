@@ -12,13 +12,13 @@ invariant_of-self g c =
     let at = found_at c.self.inside.seats.items c.args.seat c.index_mut-here.result.now c.if-at-len.false (c.len.ensures ∙ c.self.inside.seats.ok.0) c.index_mut-here.ensures.value in
     rw (set_same c.self.inside.seats.items c.args.seat c.index_mut-here.result.now at) c.self.invariant
 
-pub returns-then-is_busy-clause-lawful : goal.returns-then-is_busy-clause-lawful
-returns-then-is_busy-clause-lawful g c = invariant_of-self g c
+pub returns-then-is_call-clause-lawful : goal.returns-then-is_call-clause-lawful
+returns-then-is_call-clause-lawful g c = invariant_of-self g c
 
-pub returns-then-is_busy-clause-ok : goal.returns-then-is_busy-clause-ok
-returns-then-is_busy-clause-ok g c =
+pub returns-then-is_call-clause-ok : goal.returns-then-is_call-clause-ok
+returns-then-is_call-clause-ok g c =
     let at = found_at c.self.inside.seats.items c.args.seat c.index_mut-here.result.now c.if-at-len.false (c.len.ensures ∙ c.self.inside.seats.ok.0) c.index_mut-here.ensures.value in
-    rw (← c.self.view_is, set_same c.self.inside.seats.items c.args.seat c.index_mut-here.result.now at) (refl, (c.index_mut-here.result.now, at, sym c.is_busy.ensures ∙ c.if-is_busy.true))
+    rw (← c.self.view_is, set_same c.self.inside.seats.items c.args.seat c.index_mut-here.result.now at) (refl, (c.index_mut-here.result.now, at, sym c.is_call.ensures ∙ c.if-is_call.true))
 
 pub invariant_of-self-in_default : goal.invariant_of-self-in_default
 invariant_of-self-in_default g c =
@@ -32,7 +32,7 @@ pub returns-in_default-clause-ok : goal.returns-in_default-clause-ok
 returns-in_default-clause-ok g c =
     let at = found_at c.self.inside.seats.items c.args.seat c.index_mut-here.result.now c.if-at-len.false (c.len.ensures ∙ c.self.inside.seats.ok.0) c.index_mut-here.ensures.value in
     rw (← c.self.view_is, set_same c.self.inside.seats.items c.args.seat c.index_mut-here.result.now at)
-    (refl, record { here = c.index_mut-here.result.now; at = at; idle = sym c.is_busy.ensures ∙ c.if-is_busy.false; unfit = rw (c.in_default.is, c.mode_of-mode.ensures) at c.start.ensures })
+    (refl, record { here = c.index_mut-here.result.now; at = at; idle = sym c.is_call.ensures ∙ c.if-is_call.false; unfit = rw (c.in_default.is, c.mode_of-mode.ensures) at c.start.ensures })
 
 pub returns-clause-ok : goal.returns-clause-ok
 returns-clause-ok g c =
@@ -40,7 +40,7 @@ returns-clause-ok g c =
     rw (← c.self.view_is) (record {
       here = c.index_mut-here.result.now;
       at = at;
-      idle = sym c.is_busy.ensures ∙ c.if-is_busy.false;
+      idle = sym c.is_call.ensures ∙ c.if-is_call.false;
       fits = rw c.mode_of-mode.ensures at c.in-Some.ensures.1;
       begins = rw (c.place.ensures, rw c.mode_of-mode.ensures at c.in-Some.ensures.0) refl;
     })
@@ -50,9 +50,6 @@ invariant_of-self-2 g c = start_keeps (whole_of g.C.Condition.means c.args.self.
 
 pub returns-clause-lawful : goal.returns-clause-lawful
 returns-clause-lawful g c = invariant_of-self-2 g c
-
-pub is_busy-requires : goal.is_busy-requires
-is_busy-requires g c = g.met.C.Seated.seat_fits
 
 pub place-requires : goal.place-requires
 place-requires g c = g.met.C.Seated.seat_fits
@@ -69,8 +66,8 @@ returns-clause-err g c = tt
 pub returns-in_default-clause-err : goal.returns-in_default-clause-err
 returns-in_default-clause-err g c = tt
 
-pub returns-then-is_busy-clause-err : goal.returns-then-is_busy-clause-err
-returns-then-is_busy-clause-err g c = tt
+pub returns-then-is_call-clause-err : goal.returns-then-is_call-clause-err
+returns-then-is_call-clause-err g c = tt
 
 pub returns-then-at-len-clause-ok : goal.returns-then-at-len-clause-ok
 returns-then-at-len-clause-ok g c = tt

@@ -1,81 +1,99 @@
-use Rattle.std.proofs.Common.{ap, false, inl, inr, is_some, refl, subst, ◌||◌, ◌∙◌, ◌≡◌, ◌≤◌}
-use Rattle.ns_world.proofs.Prelude.{AsksFor, Seat, err_from_is_err_and, in_call, number, row_fits, set_same, whole_of}
+use Rattle.std.proofs.Common.{ap, inl, inr, refl, subst, ◌∙◌, ◌≤◌}
+use Rattle.ns_world.proofs.Prelude.{LooksByLimits, LooksByRound, asking_of, err_from_is_err_and, is_call, number, operating_of, row_fits, set_same, walk_of, whole_of}
 use Rattle.ns_world.proofs.Laws.{step_keeps}
 use Rattle.ns_world.proofs.Mapped.{found_at}
-use Rattle.ns_world.proofs.Tells.{act_here, alone_here, ask_here, can_tell, few_there, no_look_here, operates_fit, refused_here}
+use Rattle.ns_world.proofs.Tells.{act_here, ask_here, few_there, may_go_on, no_look_here, operates_fit, refused_here, stands_here}
 use Rattle.ns_world.proofs.world.World.step.Goals as goal
 
 pub returns-then-at-len-clause-err : goal.returns-then-at-len-clause-err
 returns-then-at-len-clause-err g c = rw (← c.self.view_is) (refl, subst (λ n. n ≤ c.args.seat) (c.len.ensures ∙ c.self.inside.seats.ok.0) c.if-at-len.true)
 
--- ---- a step on counters and once cells
+-- ---- no step
+
+pub invariant_of-self : goal.invariant_of-self
+invariant_of-self g c =
+    let at = found_at c.self.inside.seats.items c.args.seat c.index_mut-here.result.now c.if-at-len.false (c.len.ensures ∙ c.self.inside.seats.ok.0) c.index_mut-here.ensures.value in
+    rw (set_same c.self.inside.seats.items c.args.seat c.index_mut-here.result.now at) c.self.invariant
+
+pub returns-in-AtRest-clause-lawful : goal.returns-in-AtRest-clause-lawful
+returns-in-AtRest-clause-lawful g c = invariant_of-self g c
+
+pub returns-in-AtRest-clause-ok : goal.returns-in-AtRest-clause-ok
+returns-in-AtRest-clause-ok g c =
+    let at = found_at c.self.inside.seats.items c.args.seat c.index_mut-here.result.now c.if-at-len.false (c.len.ensures ∙ c.self.inside.seats.ok.0) c.index_mut-here.ensures.value in
+    rw (← c.self.view_is, set_same c.self.inside.seats.items c.args.seat c.index_mut-here.result.now at) (inl (refl, refl, (c.index_mut-here.result.now, at, ap is_call c.in-AtRest.is)))
+
+-- ---- a call on the clock and the notes
+
+pub ask-requires : goal.ask-requires
+ask-requires g c =
+    let at = found_at c.self.inside.seats.items c.args.seat c.index_mut-here.result.now c.if-at-len.false (c.len.ensures ∙ c.self.inside.seats.ok.0) c.index_mut-here.ensures.value in
+    (g.met.C.Seated.seat_fits, ask_here _ c.self.invariant c.args.seat c.index_mut-here.result.now at c.in-OnNotes.walk (ap asking_of c.in-OnNotes.is))
+
+pub returns-in-OnNotes-clause-ok : goal.returns-in-OnNotes-clause-ok
+returns-in-OnNotes-clause-ok g c =
+    let at = found_at c.self.inside.seats.items c.args.seat c.index_mut-here.result.now c.if-at-len.false (c.len.ensures ∙ c.self.inside.seats.ok.0) c.index_mut-here.ensures.value in
+    rw (← c.self.view_is) (inr (record { here = c.index_mut-here.result.now; next = c.ask.new.seat; at = at; seats = refl; makes = inr (inr (inr (inl (record { walk = c.in-OnNotes.walk; stands = c.in-OnNotes.is; asks = c.ask.ensures; same = refl })))) }))
+
+pub invariant_of-self-in-OnNotes : goal.invariant_of-self-in-OnNotes
+invariant_of-self-in-OnNotes g c = step_keeps (whole_of g.C.Condition.means c.args.self.now) _ (rw (← c.self.view_is) c.self.invariant) c.args.seat g.met.C.Condition.has_cells.0 g.met.C.Condition.quiet_keeps c.ask.result (returns-in-OnNotes-clause-ok g c)
+
+pub returns-in-OnNotes-clause-lawful : goal.returns-in-OnNotes-clause-lawful
+returns-in-OnNotes-clause-lawful g c = invariant_of-self-in-OnNotes g c
+
+-- ---- a call on counters and once cells
 
 pub step_objects-requires : goal.step_objects-requires
 step_objects-requires g c =
     let at = found_at c.self.inside.seats.items c.args.seat c.index_mut-here.result.now c.if-at-len.false (c.len.ensures ∙ c.self.inside.seats.ok.0) c.index_mut-here.ensures.value in
-    let fits = operates_fit _ c.self.invariant c.args.seat c.index_mut-here.result.now at c.in-Some.walk c.in-Some.is in
-    let can = can_tell _ c.self.invariant c.args.seat c.index_mut-here.result.now at c.in-Some.walk c.in-Some.is g.met.C.Condition.has_cells.1 in
-    (g.met.C.Seated.seat_fits, (fits.0, (fits.1, can)))
+    (g.met.C.Seated.seat_fits, (g.met.C.Condition.has_cells.1, (operates_fit _ c.self.invariant c.args.seat c.index_mut-here.result.now at c.in-OnObjects.walk (ap operating_of c.in-OnObjects.is), may_go_on _ c.self.invariant c.args.seat c.index_mut-here.result.now at c.in-OnObjects.walk c.in-OnObjects.is)))
 
-pub returns-in-Some-clause-ok : goal.returns-in-Some-clause-ok
-returns-in-Some-clause-ok g c =
+pub returns-in-OnObjects-clause-ok : goal.returns-in-OnObjects-clause-ok
+returns-in-OnObjects-clause-ok g c =
     let at = found_at c.self.inside.seats.items c.args.seat c.index_mut-here.result.now c.if-at-len.false (c.len.ensures ∙ c.self.inside.seats.ok.0) c.index_mut-here.ensures.value in
-    let made = c.step_objects.ensures in
-    rw (← c.self.view_is) (inr (record {
-      here = c.index_mut-here.result.now;
-      next = c.step_objects.new.seat;
-      at = at;
-      seats = refl;
-      makes = inr (inr (record { walk = c.in-Some.walk; walks = c.in-Some.is; alone = alone_here _ c.self.invariant c.args.seat c.index_mut-here.result.now at c.in-Some.walk c.in-Some.is; then = made.0; told = made.1; operates = made.2; tells = made.3; same = refl }));
-    }))
+    rw (← c.self.view_is) (inr (record { here = c.index_mut-here.result.now; next = c.step_objects.new.seat; at = at; seats = refl; makes = let made = c.step_objects.ensures in inr (inr (inr (inr (record { walk = c.in-OnObjects.walk; stands = c.in-OnObjects.is; leads = made.0; operates = made.1; goes = made.2; same = refl })))) }))
 
-pub invariant_of-self : goal.invariant_of-self
-invariant_of-self g c = step_keeps (whole_of g.C.Condition.means c.args.self.now) _ (rw (← c.self.view_is) c.self.invariant) c.args.seat g.met.C.Condition.has_cells.0 g.met.C.Condition.quiet_keeps c.step_objects.result (returns-in-Some-clause-ok g c)
+pub invariant_of-self-in-OnObjects : goal.invariant_of-self-in-OnObjects
+invariant_of-self-in-OnObjects g c = step_keeps (whole_of g.C.Condition.means c.args.self.now) _ (rw (← c.self.view_is) c.self.invariant) c.args.seat g.met.C.Condition.has_cells.0 g.met.C.Condition.quiet_keeps c.step_objects.result (returns-in-OnObjects-clause-ok g c)
 
-pub returns-in-Some-clause-lawful : goal.returns-in-Some-clause-lawful
-returns-in-Some-clause-lawful g c = invariant_of-self g c
+pub returns-in-OnObjects-clause-lawful : goal.returns-in-OnObjects-clause-lawful
+returns-in-OnObjects-clause-lawful g c = invariant_of-self-in-OnObjects g c
 
--- ---- a step on the clock and the notes
+-- ---- a look at the clock and the notes
 
-pub step_env-requires : goal.step_env-requires
-step_env-requires g c =
+pub look-requires : goal.look-requires
+look-requires g c =
     let at = found_at c.self.inside.seats.items c.args.seat c.index_mut-here.result.now c.if-at-len.false (c.len.ensures ∙ c.self.inside.seats.ok.0) c.index_mut-here.ensures.value in
-    let asks = subst (AsksFor c.index_mut-here.result.now.walk) c.in-Some-asking.is (c.self.invariant.stands c.args.seat c.index_mut-here.result.now at).right in
-    let fits = ask_here _ c.self.invariant c.args.seat c.index_mut-here.result.now at c.in-Some-asking.place c.in-Some-asking.is in
-    (g.met.C.Seated.seat_fits, (asks, fits))
+    (g.met.C.Seated.seat_fits, ((stands_here _ c.self.invariant c.args.seat c.index_mut-here.result.now at (LooksByLimits c.in-LooksByLimits.walk c.in-LooksByLimits.place) c.in-LooksByLimits.is).1, ask_here _ c.self.invariant c.args.seat c.index_mut-here.result.now at c.in-LooksByLimits.place (ap asking_of c.in-LooksByLimits.is)))
 
-pub returns-in-Some-asking-clause-ok : goal.returns-in-Some-asking-clause-ok
-returns-in-Some-asking-clause-ok g c =
+pub returns-in-LooksByLimits-clause-ok : goal.returns-in-LooksByLimits-clause-ok
+returns-in-LooksByLimits-clause-ok g c =
     let at = found_at c.self.inside.seats.items c.args.seat c.index_mut-here.result.now c.if-at-len.false (c.len.ensures ∙ c.self.inside.seats.ok.0) c.index_mut-here.ensures.value in
-    rw (← c.self.view_is) (inr (record {
-      here = c.index_mut-here.result.now;
-      next = c.step_env.new.seat;
-      at = at;
-      seats = refl;
-      makes = inr (inl (record { nowhere = c.in_default.is; place = c.in-Some-asking.place; stands = c.in-Some-asking.is; moves = c.step_env.ensures; same = refl }));
-    }))
+    rw (← c.self.view_is) (inr (record { here = c.index_mut-here.result.now; next = c.look.new.seat; at = at; seats = refl; makes = inr (inl (record { walk = c.in-LooksByLimits.walk; place = c.in-LooksByLimits.place; stands = c.in-LooksByLimits.is; looks = c.look.ensures; same = refl })) }))
 
-pub invariant_of-self-in-Some-asking : goal.invariant_of-self-in-Some-asking
-invariant_of-self-in-Some-asking g c = step_keeps (whole_of g.C.Condition.means c.args.self.now) _ (rw (← c.self.view_is) c.self.invariant) c.args.seat g.met.C.Condition.has_cells.0 g.met.C.Condition.quiet_keeps c.step_env.result (returns-in-Some-asking-clause-ok g c)
+pub invariant_of-self-in-LooksByLimits : goal.invariant_of-self-in-LooksByLimits
+invariant_of-self-in-LooksByLimits g c = step_keeps (whole_of g.C.Condition.means c.args.self.now) _ (rw (← c.self.view_is) c.self.invariant) c.args.seat g.met.C.Condition.has_cells.0 g.met.C.Condition.quiet_keeps c.look.result (returns-in-LooksByLimits-clause-ok g c)
 
-pub returns-in-Some-asking-clause-lawful : goal.returns-in-Some-asking-clause-lawful
-returns-in-Some-asking-clause-lawful g c = invariant_of-self-in-Some-asking g c
+pub returns-in-LooksByLimits-clause-lawful : goal.returns-in-LooksByLimits-clause-lawful
+returns-in-LooksByLimits-clause-lawful g c = invariant_of-self-in-LooksByLimits g c
 
--- ---- no step
+-- ---- a look by a round
 
-pub invariant_of-self-in_default-walk : goal.invariant_of-self-in_default-walk
-invariant_of-self-in_default-walk g c =
+pub go_round-requires : goal.go_round-requires
+go_round-requires g c =
     let at = found_at c.self.inside.seats.items c.args.seat c.index_mut-here.result.now c.if-at-len.false (c.len.ensures ∙ c.self.inside.seats.ok.0) c.index_mut-here.ensures.value in
-    rw (set_same c.self.inside.seats.items c.args.seat c.index_mut-here.result.now at) c.self.invariant
+    (g.met.C.Seated.seat_fits, (operates_fit _ c.self.invariant c.args.seat c.index_mut-here.result.now at c.in-LooksByRound.round (ap operating_of c.in-LooksByRound.is), (stands_here _ c.self.invariant c.args.seat c.index_mut-here.result.now at (LooksByRound c.in-LooksByRound.walk c.in-LooksByRound.wait c.in-LooksByRound.round) c.in-LooksByRound.is).0.there.0))
 
-pub returns-in_default-walk-clause-lawful : goal.returns-in_default-walk-clause-lawful
-returns-in_default-walk-clause-lawful g c = invariant_of-self-in_default-walk g c
-
-pub returns-in_default-walk-clause-ok : goal.returns-in_default-walk-clause-ok
-returns-in_default-walk-clause-ok g c =
+pub returns-in-LooksByRound-clause-ok : goal.returns-in-LooksByRound-clause-ok
+returns-in-LooksByRound-clause-ok g c =
     let at = found_at c.self.inside.seats.items c.args.seat c.index_mut-here.result.now c.if-at-len.false (c.len.ensures ∙ c.self.inside.seats.ok.0) c.index_mut-here.ensures.value in
-    let idle : in_call c.index_mut-here.result.now ≡ false = λ i. (is_some (c.in_default-walk.is i) || is_some (c.in_default-asking.is i)) || is_some (c.in_default.is i) in
-    rw (← c.self.view_is, set_same c.self.inside.seats.items c.args.seat c.index_mut-here.result.now at) (inl (refl, refl, (c.index_mut-here.result.now, at, idle)))
+    rw (← c.self.view_is) (inr (record { here = c.index_mut-here.result.now; next = c.go_round.new.seat; at = at; seats = refl; makes = let made = c.go_round.ensures in inr (inr (inl (record { walk = c.in-LooksByRound.walk; wait = c.in-LooksByRound.wait; round = c.in-LooksByRound.round; stands = c.in-LooksByRound.is; leads = made.0; operates = made.1; goes = made.2; same = refl }))) }))
+
+pub invariant_of-self-in-LooksByRound : goal.invariant_of-self-in-LooksByRound
+invariant_of-self-in-LooksByRound g c = step_keeps (whole_of g.C.Condition.means c.args.self.now) _ (rw (← c.self.view_is) c.self.invariant) c.args.seat g.met.C.Condition.has_cells.0 g.met.C.Condition.quiet_keeps c.go_round.result (returns-in-LooksByRound-clause-ok g c)
+
+pub returns-in-LooksByRound-clause-lawful : goal.returns-in-LooksByRound-clause-lawful
+returns-in-LooksByRound-clause-lawful g c = invariant_of-self-in-LooksByRound g c
 
 -- ---- a step on the lock
 
@@ -83,81 +101,40 @@ pub perform-requires : goal.perform-requires
 perform-requires g c =
     let at = found_at c.self.inside.seats.items c.args.seat c.index_mut-here.result.now c.if-at-len.false (c.len.ensures ∙ c.self.inside.seats.ok.0) c.index_mut-here.ensures.value in
     let few = row_fits g.row.C (number g.row.N) g.met.C.Condition.has_room in
-    let act = act_here _ c.self.invariant c.args.seat c.index_mut-here.result.now at c.in-Some-walk.walk c.in-Some-walk.is in
-    let looks = no_look_here _ c.self.invariant c.args.seat c.index_mut-here.result.now at c.in_default.is c.in_default-asking.is c.in-Some-walk.walk c.in-Some-walk.is in
-    (few, (g.met.C.Seated.queues_fit, (g.met.C.Seated.seat_fits, (g.met.C.Fits.event_fits, (c.in-Some-walk.is, (act, looks))))))
+    let act = act_here _ c.self.invariant c.args.seat c.index_mut-here.result.now at c.in-OnLock.walk (ap walk_of c.in-OnLock.is) in
+    (few, (g.met.C.Seated.queues_fit, (g.met.C.Seated.seat_fits, (g.met.C.Fits.event_fits, (act, (no_look_here _ c.self.invariant c.args.seat c.index_mut-here.result.now at c.in-OnLock.walk c.in-OnLock.wait c.in-OnLock.is, few_there _ c.self.invariant c.args.seat c.index_mut-here.result.now at c.in-OnLock.walk c.in-OnLock.wait c.in-OnLock.is))))))
 
-pub told_by_lock-requires : goal.told_by_lock-requires
-told_by_lock-requires g c =
+pub returns-in_ok-step-in-OnLock-clause-ok : goal.returns-in_ok-step-in-OnLock-clause-ok
+returns-in_ok-step-in-OnLock-clause-ok g c =
     let at = found_at c.self.inside.seats.items c.args.seat c.index_mut-here.result.now c.if-at-len.false (c.len.ensures ∙ c.self.inside.seats.ok.0) c.index_mut-here.ensures.value in
-    (g.met.C.Seated.seat_fits, few_there _ c.self.invariant c.args.seat c.index_mut-here.result.now at c.perform.new.seat (ap (λ (s : Seat _ _). s.awaits) c.in_ok-told.ensures.ok.goes))
-
-pub returns-clause-ok : goal.returns-clause-ok
-returns-clause-ok g c =
-    let at = found_at c.self.inside.seats.items c.args.seat c.index_mut-here.result.now c.if-at-len.false (c.len.ensures ∙ c.self.inside.seats.ok.0) c.index_mut-here.ensures.value in
+    let made = c.in_ok-step-in-OnLock.ensures.ok in
     rw (← c.self.view_is) (inr (record {
       here = c.index_mut-here.result.now;
-      next = c.told_by_lock.new.seat;
+      next = c.perform.new.seat;
       at = at;
       seats = refl;
-      makes = inl (record {
-        nowhere = c.in_default.is;
-        unasked = c.in_default-asking.is;
-        walk = c.in-Some-walk.walk;
-        walks = c.in-Some-walk.is;
-        is_no_look = no_look_here _ c.self.invariant c.args.seat c.index_mut-here.result.now at c.in_default.is c.in_default-asking.is c.in-Some-walk.walk c.in-Some-walk.is;
-        then = c.perform.new.seat;
-        told = c.in_ok-told.told;
-        performs = c.in_ok-told.ensures.ok;
-        goes = c.told_by_lock.ensures.after;
-        answers = c.told_by_lock.ensures.step;
-        same = refl;
-      });
+      makes = inl (record { walk = c.in-OnLock.walk; wait = c.in-OnLock.wait; stands = c.in-OnLock.is; is_no_look = no_look_here _ c.self.invariant c.args.seat c.index_mut-here.result.now at c.in-OnLock.walk c.in-OnLock.wait c.in-OnLock.is; found = made.0; performs = made.1; same = refl });
     }))
 
-pub invariant_of-self-2 : goal.invariant_of-self-2
-invariant_of-self-2 g c = step_keeps (whole_of g.C.Condition.means c.args.self.now) _ (rw (← c.self.view_is) c.self.invariant) c.args.seat g.met.C.Condition.has_cells.0 g.met.C.Condition.quiet_keeps c.told_by_lock.result (returns-clause-ok g c)
+pub invariant_of-self-in-OnLock : goal.invariant_of-self-in-OnLock
+invariant_of-self-in-OnLock g c = step_keeps (whole_of g.C.Condition.means c.args.self.now) _ (rw (← c.self.view_is) c.self.invariant) c.args.seat g.met.C.Condition.has_cells.0 g.met.C.Condition.quiet_keeps c.in_ok-step-in-OnLock.step (returns-in_ok-step-in-OnLock-clause-ok g c)
 
-pub returns-clause-lawful : goal.returns-clause-lawful
-returns-clause-lawful g c = invariant_of-self-2 g c
+pub returns-in_ok-step-in-OnLock-clause-lawful : goal.returns-in_ok-step-in-OnLock-clause-lawful
+returns-in_ok-step-in-OnLock-clause-lawful g c = invariant_of-self-in-OnLock g c
 
-pub invariant_of-self-in_err-told : goal.invariant_of-self-in_err-told
-invariant_of-self-in_err-told g c =
+pub invariant_of-self-in_err-step-in-OnLock : goal.invariant_of-self-in_err-step-in-OnLock
+invariant_of-self-in_err-step-in-OnLock g c =
     let at = found_at c.self.inside.seats.items c.args.seat c.index_mut-here.result.now c.if-at-len.false (c.len.ensures ∙ c.self.inside.seats.ok.0) c.index_mut-here.ensures.value in
-    let err = c.in_err-told.ensures.err in
+    let err = c.in_err-step-in-OnLock.ensures.err in
     rw (err.1, err.2, err.3, err.4, err.5, err.6, set_same c.self.inside.seats.items c.args.seat c.index_mut-here.result.now at) c.self.invariant
 
-pub returns-in_err-told-clause-lawful : goal.returns-in_err-told-clause-lawful
-returns-in_err-told-clause-lawful g c = invariant_of-self-in_err-told g c
+pub returns-in_err-step-in-OnLock-clause-lawful : goal.returns-in_err-step-in-OnLock-clause-lawful
+returns-in_err-step-in-OnLock-clause-lawful g c = invariant_of-self-in_err-step-in-OnLock g c
 
-pub returns-in_err-told-clause-err : goal.returns-in_err-told-clause-err
-returns-in_err-told-clause-err g c =
+pub returns-in_err-step-in-OnLock-clause-err : goal.returns-in_err-step-in-OnLock-clause-err
+returns-in_err-step-in-OnLock-clause-err g c =
     let at = found_at c.self.inside.seats.items c.args.seat c.index_mut-here.result.now c.if-at-len.false (c.len.ensures ∙ c.self.inside.seats.ok.0) c.index_mut-here.ensures.value in
     let p = err_from_is_err_and c.from_residual.result c.from_residual.ensures.1 in
-    let err = c.in_err-told.ensures.err in
-    let refused = refused_here _ c.self.invariant c.args.seat c.index_mut-here.result.now at c.in-Some-walk.walk c.in-Some-walk.is err.0 in
+    let err = c.in_err-step-in-OnLock.ensures.err in
+    let refused = refused_here _ c.self.invariant c.args.seat c.index_mut-here.result.now at c.in-OnLock.walk (ap walk_of c.in-OnLock.is) err.0 in
     rw (p.1, p.2) (rw (← c.self.view_is) (rw (err.1, err.2, err.3, err.4, err.5, err.6, set_same c.self.inside.seats.items c.args.seat c.index_mut-here.result.now at) refl, refused))
-
-pub returns-in_err-told-clause-ok : goal.returns-in_err-told-clause-ok
-returns-in_err-told-clause-ok g c = let p = err_from_is_err_and c.from_residual.result c.from_residual.ensures.1 in rw p.1 tt
-
-pub index_mut-here-requires : goal.index_mut-here-requires
-index_mut-here-requires g c = rw (← c.len.ensures) c.if-at-len.false
-
-pub returns-clause-err : goal.returns-clause-err
-returns-clause-err g c = tt
-
-pub returns-in-Some-clause-err : goal.returns-in-Some-clause-err
-returns-in-Some-clause-err g c = tt
-
-pub returns-in-Some-asking-clause-err : goal.returns-in-Some-asking-clause-err
-returns-in-Some-asking-clause-err g c = tt
-
-pub returns-in_default-walk-clause-err : goal.returns-in_default-walk-clause-err
-returns-in_default-walk-clause-err g c = tt
-
-pub returns-then-at-len-clause-ok : goal.returns-then-at-len-clause-ok
-returns-then-at-len-clause-ok g c = tt
-
-pub returns-then-at-len-clause-lawful : goal.returns-then-at-len-clause-lawful
-returns-then-at-len-clause-lawful g c = rw (← c.self.view_is) c.self.invariant
