@@ -110,7 +110,8 @@ module _ {C : Type 0} {N : ℕ} (old new : Whole C N) (lawful : IsLawfulWhole ol
         let on = (makes_led old new lawful i here next at seats step lawful.past lawful.led makes).2 in
         let t = leaves_of makes in
         let more = led_makes lawful.past.notes (notes_by i makes) old new lawful.led.0 on.0 in
-        lawful_set old new i here next lawful at seats t.number (makes_means old new here next step makes).1 more (stands_more old.objects.setup old.env.notes new.env.notes more next.held next.doing t.seat) t.lock (past_and lawful.past (record { notes = notes_by i makes; objects = objects_by makes })) on
+        lawful_set old new i here next lawful at seats t.number (makes_means old new here next step makes).1 more (stands_more old.objects.setup old.env.notes new.env.notes more next.held next.doing t.seat)
+        t.lock (past_and lawful.past (record { notes = notes_by i makes; objects = objects_by makes })) on
 
   -- ---- a call begins
 

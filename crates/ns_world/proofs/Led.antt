@@ -167,7 +167,8 @@ module _ {C : Type 0} {N : ℕ} (old new : Whole C N) (lawful : IsLawfulWhole ol
           gone : Option ObjectWalk
           gone = object_after (object_got walk p.found)
 
-          by : (after ≡ object_after leads) ⊎ ((now : ObjectStanding) → Fit old.objects.setup now old.env.notes i after) → IsLawfulObjects (past.objects ++ p.events) (record (objects_of old) { words = new.objects.words; walks = slice_set walks i (object_after (object_got walk p.found)) }) old.env.notes →
+          by : (after ≡ object_after leads) ⊎ ((now : ObjectStanding) → Fit old.objects.setup now old.env.notes i after) →
+              IsLawfulObjects (past.objects ++ p.events) (record (objects_of old) { words = new.objects.words; walks = slice_set walks i (object_after (object_got walk p.found)) }) old.env.notes →
               IsLawfulObjects (past.objects ++ p.events) (record (objects_of old) { words = new.objects.words; walks = slice_set walks i after }) old.env.notes
           by (inl same) q = subst (λ o. IsLawfulObjects (past.objects ++ p.events) (record (objects_of old) { words = new.objects.words; walks = slice_set walks i o }) old.env.notes) (ap object_after (sym p.leads) ∙ sym same) q
           by (inr fits) q = subst (λ ws. IsLawfulObjects (past.objects ++ p.events) (record (objects_of old) { words = new.objects.words; walks = ws }) old.env.notes) (set_again walks i (object_after (object_got walk p.found)) after)
@@ -175,7 +176,8 @@ module _ {C : Type 0} {N : ℕ} (old new : Whole C N) (lawful : IsLawfulWhole ol
               (subst (λ n. i < n) (sym (length-set walks i (object_after (object_got walk p.found)))) inside_walks) low (fits (objects_after old.objects.setup (past.objects ++ p.events))) q)
 
     objects_led : (makes : SeatMakes old new here next step) → ObjectsLed (objects_by makes)
-    objects_led (inl p) = put_led _ (ap (λ (w : Whole C N). w.objects) p.same) (doing_of p.walk p.wait p.found p.performs) (place_after old.objects.setup (objects_after old.objects.setup past.objects) old.env.notes i next.held p.wait p.walk p.found (fits_here (OnLock p.walk p.wait) p.stands).0).operates
+    objects_led (inl p) = put_led _ (ap (λ (w : Whole C N). w.objects) p.same) (doing_of p.walk p.wait p.found p.performs)
+        (place_after old.objects.setup (objects_after old.objects.setup past.objects) old.env.notes i next.held p.wait p.walk p.found (fits_here (OnLock p.walk p.wait) p.stands).0).operates
     objects_led (inr (inl p)) =
         let fits = fits_here (LooksByLimits p.walk p.place) p.stands in
         let same = ap (λ (w : Whole C N). w.objects) p.same in
@@ -187,7 +189,8 @@ module _ {C : Type 0} {N : ℕ} (old new : Whole C N) (lawful : IsLawfulWhole ol
         let fits = fits_here (LooksByRound p.walk p.wait p.round) p.stands in
         elim (round_goes old new here next step p fits.0 fits.2) [
           | inl g ↦ operated_led (LooksByRound p.walk p.wait p.round) p.round p.leads p.stands refl p.operates (Some g.0) (ap (λ (s : Seat C N). operating_of s.doing) g.2) (inl (ap object_after (sym g.1)))
-          | inr g ↦ operated_led (LooksByRound p.walk p.wait p.round) p.round p.leads p.stands refl p.operates (operating_of (doing_after (Some (record { round = p.wait.round; shown = shown_by p.leads })) (got_of N p.walk (Looked (cause_of (shown_by p.leads)))))) (ap operating_of (doing_of p.walk _ _ g))
+          | inr g ↦ operated_led (LooksByRound p.walk p.wait p.round) p.round p.leads p.stands refl p.operates
+              (operating_of (doing_after (Some (record { round = p.wait.round; shown = shown_by p.leads })) (got_of N p.walk (Looked (cause_of (shown_by p.leads)))))) (ap operating_of (doing_of p.walk _ _ g))
               (inr (λ now. (place_after old.objects.setup now old.env.notes i next.held (Some (record { round = p.wait.round; shown = shown_by p.leads })) p.walk (Looked (cause_of (shown_by p.leads))) fits.0).operates))
         ]
     objects_led (inr (inr (inr (inl p)))) =

@@ -72,7 +72,8 @@ module _ {C : Type 0} {N : ℕ} (before : Whole C N) (earlier : Past) (seat : �
       -- it goes on, or is over
       operates_here : AreObjectsBy seat p.operates.events → ObjectLeads None p.leads here next step → LeadsTo step on
       operates_here by_seat g =
-          let goes = operates_on before.objects.setup earlier seat past old.objects.words law (notes_of old) led.0 since_notes since o.events o.added p.operates.events p.walk p.operates.found new.objects.words (fits_at (OnObjects p.walk) p.stands p.walk refl) o.so_far (effect_here p.walk p.leads p.operates) in
+          let goes = operates_on before.objects.setup earlier seat past old.objects.words law (notes_of old) led.0 since_notes since o.events o.added p.operates.events p.walk p.operates.found new.objects.words
+          (fits_at (OnObjects p.walk) p.stands p.walk refl) o.so_far (effect_here p.walk p.leads p.operates) in
           let goes_asked = subst (λ a. ObjectGoes before.objects.setup earlier on seat a (o.events ++ p.operates.events) (object_got p.walk p.operates.found)) o.is_asked goes in
           subst (λ s. LeadsTo s on) (sym g.1) (by p.leads (ap (λ (s : Seat C N). s.doing) g.0) (subst (ObjectGoes before.objects.setup earlier on seat asked (o.events ++ p.operates.events)) (sym p.operates.leads) goes_asked)) where
             held : next.held ≡ held_at before seat
@@ -160,7 +161,8 @@ module _ {C : Type 0} {N : ℕ} (before : Whole C N) (earlier : Past) (seat : �
       mid = o.left.mid
 
       -- what a round has shown to the lock that ends the wait
-      ended_by : (shown : Option ℕ) (looked : Option (Option Cause)) (cause : Cause) → AsShown shown looked → looked ≡ Some (Some cause) → (at : Past) → ShownOn before earlier seat wait.round mid at shown → AnyAnswers before.objects.setup mid at wait.round.items wait.round.deadline (unwrap_or shown 0)
+      ended_by : (shown : Option ℕ) (looked : Option (Option Cause)) (cause : Cause) → AsShown shown looked → looked ≡ Some (Some cause) →
+          (at : Past) → ShownOn before earlier seat wait.round mid at shown → AnyAnswers before.objects.setup mid at wait.round.items wait.round.deadline (unwrap_or shown 0)
       ended_by (Some place) looked cause so is at shows = shows
       ended_by None looked cause so is at shows = let no : Some cause ≡ None = subst (AsShown None) is so in absurd (cc)
 
@@ -181,7 +183,8 @@ module _ {C : Type 0} {N : ℕ} (before : Whole C N) (earlier : Past) (seat : �
         until = until_rests before earlier seat mid past more o.until
 
         -- where it goes on
-        waits_at : (look : Option LookBy) (walk : Walk C) → (lock : LockUnderway before earlier seat request (past.notes ++ more.notes) new.history walk next.held) × (lock.course.looked ≡ looked) → HasCome before earlier seat (OfObjects asked) now new.history next.held (doing_by look (Some waiting) walk)
+        waits_at : (look : Option LookBy) (walk : Walk C) → (lock : LockUnderway before earlier seat request (past.notes ++ more.notes) new.history walk next.held) × (lock.course.looked ≡ looked) →
+            HasCome before earlier seat (OfObjects asked) now new.history next.held (doing_by look (Some waiting) walk)
         waits_at look walk lock = by look where
           at_place : (round : Option ObjectWalk) → RoundOn before earlier seat wait.round mid now round → Awaiting before earlier seat asked now new.history next.held walk waiting round
           at_place round looks = record { cvs = o.cvs; is = o.is; left = o.left; lock = lock.0; looked = subst (AsShown shown) (sym lock.1) as_shown; until = until; was_shown = was_shown; looks = looks; untouched = untouched }

@@ -24,7 +24,8 @@ still_looked : {C : Type 0} {N : ℕ} (truths : Truths C) (seat : ℕ) (act : Ac
 still_looked truths seat act old (Looked shown) new commits looked none e = absurd (shows_not truths seat act old shown new commits none e)
 still_looked truths seat act old found new commits looked none e = refl
 
-module _ {C : Type 0} {N : ℕ} (before : Whole C N) (earlier : Past) (seat : ℕ) (old new : Whole C N) (lawful : IsLawfulWhole old) (means : old.truths ≡ before.truths) (here next : Seat C N) (at : slice_get old.seats seat ≡ Some here) (seats : new.seats ≡ slice_set old.seats seat next) (step : Step) where
+module _ {C : Type 0} {N : ℕ} (before : Whole C N) (earlier : Past) (seat : ℕ) (old new : Whole C N) (lawful : IsLawfulWhole old) (means : old.truths ≡ before.truths) (here next : Seat C N)
+    (at : slice_get old.seats seat ≡ Some here) (seats : new.seats ≡ slice_set old.seats seat next) (step : Step) where
   held_then : held_at new seat ≡ next.held
   held_then = ap (λ o. option_map_or (λ s. s.held) o None) (here_then old new seat here next at seats)
 
@@ -98,15 +99,18 @@ module _ {C : Type 0} {N : ℕ} (before : Whole C N) (earlier : Past) (seat : �
     lock_so : (walk : Walk C) (found : Found) → Acts old new here next step walk None found → WaitsFor old.objects.setup old.env.notes (asked_of walk) None → (looked : Option (Option Cause)) → Untouched before earlier seat past →
         LockLeads before earlier seat request (past.notes ++ []) new next.held looked (got_of N walk found) → Outcome before earlier seat (OfLock request) step (past_and past nothing_done) new next
     lock_so walk found p for looked untouched leads =
-        subst (λ s. Outcome before earlier seat (OfLock request) s (past_and past nothing_done) new next) (sym p.answers) (by (got_of N walk found) (ap (λ (s : Seat C N). s.doing) p.goes) (place_after old.objects.setup (objects_after old.objects.setup past.objects) old.env.notes seat next.held None walk found for).asks leads) where
+        subst (λ s. Outcome before earlier seat (OfLock request) s (past_and past nothing_done) new next) (sym p.answers)
+        (by (got_of N walk found) (ap (λ (s : Seat C N). s.doing) p.goes) (place_after old.objects.setup (objects_after old.objects.setup past.objects) old.env.notes seat next.held None walk found for).asks leads) where
           none : Untouched before earlier seat (past_and past nothing_done)
           none = no_own before earlier seat past.objects [] refl ∙ untouched
 
-          on : (look : Option LookBy) (walk : Walk C) → FirstIf old.env.notes (asking_of (doing_by look None walk)) → LockUnderway before earlier seat request (past.notes ++ []) new.history walk next.held → HasCome before earlier seat (OfLock request) (past_and past nothing_done) new.history next.held (doing_by look None walk)
+          on : (look : Option LookBy) (walk : Walk C) → FirstIf old.env.notes (asking_of (doing_by look None walk)) → LockUnderway before earlier seat request (past.notes ++ []) new.history walk next.held →
+              HasCome before earlier seat (OfLock request) (past_and past nothing_done) new.history next.held (doing_by look None walk)
           on None walk first v = (v, none)
           on (Some look) walk first v = (v, none, look_begins earlier.notes seat (past.notes ++ []) old.env.notes _ (begins_on earlier.notes past.notes [] since) first)
 
-          by : (n : Next C) → next.doing ≡ doing_after None n → FirstIf old.env.notes (asking_of (doing_after None n)) → LockLeads before earlier seat request (past.notes ++ []) new next.held looked n → Outcome before earlier seat (OfLock request) (step_of None n) (past_and past nothing_done) new next
+          by : (n : Next C) → next.doing ≡ doing_after None n → FirstIf old.env.notes (asking_of (doing_after None n)) → LockLeads before earlier seat request (past.notes ++ []) new next.held looked n →
+              Outcome before earlier seat (OfLock request) (step_of None n) (past_and past nothing_done) new next
           by (On walk) is first v = subst (HasCome before earlier seat (OfLock request) (past_and past nothing_done) new.history next.held) (sym is) (on (look_in (want_of walk)) walk first v.0)
           by (TheNext.Idle walk) is first v = subst (HasCome before earlier seat (OfLock request) (past_and past nothing_done) new.history next.held) (sym is) (on (look_in (want_of walk)) walk first v.0)
           by (Done reply) is first a = (a.0, none)
@@ -133,7 +137,12 @@ module _ {C : Type 0} {N : ℕ} (before : Whole C N) (earlier : Past) (seat : �
 
       leads : EnvGoes (past.notes ++ []) seat (env_asked_of p.place) (env_course_after [] look.0) (env_got_of p.place p.looks.found)
       leads = step_takes_on past.notes [] (notes_of old) (env_state old.env (slice_set (map (λ s. asking_of s.doing) old.seats) seat (env_walk_after (env_got_of p.place p.looks.found)))) seat p.looks.found look.0
-          (record { walk = p.place; walks = got-map (λ s. asking_of s.doing) old.seats seat here at ∙ ap (λ d. Some (asking_of d)) p.stands; effect = subst (λ n. EnvEffect n (env_want_of p.place) old.env p.looks.found old.env []) (number_here old lawful seat here at) p.looks.effect; becomes = refl }) led look.2
+          (record {
+            walk = p.place;
+            walks = got-map (λ s. asking_of s.doing) old.seats seat here at ∙ ap (λ d. Some (asking_of d)) p.stands;
+            effect = subst (λ n. EnvEffect n (env_want_of p.place) old.env p.looks.found old.env []) (number_here old lawful seat here at) p.looks.effect;
+            becomes = refl;
+          }) led look.2
 
     pub lock_takes_on : (makes : SeatMakes old new here next step) → HasCome before earlier seat (OfLock request) past old.history here.held here.doing → Outcome before earlier seat (OfLock request) step (now makes) new next
     lock_takes_on makes has = by makes where

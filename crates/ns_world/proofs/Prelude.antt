@@ -15,7 +15,7 @@ pub use Rattle.ns_word.proofs.Scans.{are_called, as_many, some_called, some_seat
 pub use Rattle.ns_word.proofs.Starts.{begins, lawful_fresh, quiet_is_first, wait_is_first}
 pub use Rattle.std.proofs.Math.Bool.{or-false, or-true}
 pub use Rattle.std.proofs.Math.Seq.{take-length}
-pub use Rattle.std.proofs.lemmas.Bool.{cases_eq, cases_lt, ltb-true, ne_eqb, not-true}
+pub use Rattle.std.proofs.lemmas.Bool.{cases_eq, cases_lt, false≢true, ltb-true, ne_eqb}
 pub use Rattle.std.proofs.lemmas.List.{append-nil, append_assoc, drop_all, get_or-set_other, get_or-set_same, length-append, length-map, length-set, map-set, replicate-append-replicate, replicate_more, take-append-drop, take_more}
 pub use Rattle.std.proofs.lemmas.List.Concat.{flat_map-append}
 pub use Rattle.std.proofs.lemmas.Option.{same_Some, slice_get-get_or, slice_get-map, slice_get_past, slice_get_within}
@@ -23,7 +23,7 @@ pub use Rattle.std.proofs.lemmas.Result.{err_from_is_err_and}
 pub use Rattle.ns_counters.proofs.Courses.{RoundGoes, any_on, later_and, nothing_on, operates_on, round_by, round_makes_none, round_on, so_far_on}
 pub use Rattle.ns_counters.proofs.Needs.{may_step}
 pub use Rattle.ns_counters.proofs.NewObjects.{new_lawful}
-pub use Rattle.ns_counters.proofs.Objects.{own_all as objects_own_all, own-append, own_none}
+pub use Rattle.ns_counters.proofs.Objects.{own-append, own_all as objects_own_all, own_none}
 pub use Rattle.ns_counters.proofs.Rounds.{last_nothing, later_itself, later_through}
 pub use Rattle.ns_counters.specs.RoundWalks.{round_want}
 pub use Rattle.ns_counters.specs.declared.object.Place.TheVariants.{Free}
@@ -52,29 +52,28 @@ pub use Rattle.ns_word.specs.declared.act.Change.TheVariants.{Nothing}
 pub use Rattle.ns_word.specs.declared.wait.Wait.{Wait}
 pub use Rattle.ns_counters.specs.Asks.{IsLoad}
 pub use Rattle.ns_world.specs.Names.{HasRoom, ObjectEffect, Steps, object_want, room, small_by}
-pub use Rattle.ns_world.specs.Prelude.{Act, ActFits, Add, Advance, Advances, Advancing, Answer, AnswersCall, AnswersOfLock, AnswersOfNotes, AnswersTo, Any, AnyAnswers, AnyMeans, AnyWait, AreAmong, AreBy, AreEnvBy, AreNumbered, AreObjectsBy, AreThere, AreVariables, ArmFlag, Arrival, Asked, AtLock, AtRest}
-pub use Rattle.ns_world.specs.Prelude.{AtSomePoint, AtVariables, Await, AwaitWakeInWait, BeginsWith, Bits, Broadcast, Broadcasting, Call, CallFits, CallGoes, CallInRange, CanLeave, CanWait, Cause, Change, ChangeFits, ClockLoad, Commits, CounterWait, Counts, Course, Cv, CvWait, Cvs, Doing, DoingFits, Done}
-pub use Rattle.ns_world.specs.Prelude.{Effect, EndFinished, EnvAct, EnvActFits, EnvCourse, EnvEffect, EnvEvent, EnvFound, EnvGoes, EnvGoesOn, EnvNext, EnvPlain, EnvRequest, EnvSoFar, EnvWalk, Event, Every, Expired, Expiry, ExpiryLoad, Fault, Finished, FirstClock, ForIsNotified, ForLook, ForNoteWait, Found}
-pub use Rattle.ns_world.specs.Prelude.{Get, Go, GoesOn, GoesOnOrBegins, GoesRound, Happens, HasLedTo, HasList, HasMode, HaveLedTo, HaveShownNothing, Held, Home, Idle, IfMade, InCells, InHand, InLeaving, InQueuing, InRound, InWait, IsCounted, IsFew, IsFinished, IsFirst, IsFirstAsk, IsForCondition, IsInRange}
-pub use Rattle.ns_world.specs.Prelude.{IsLater, IsLawfulEnv, IsLawfulObjects, IsLawfulWhole, IsLow, IsNotified, IsReady, IsSettled, IsUnfinished, IsUnmet, Items, LeaveLoad, LeaveSelf, LedTo, Left, Limits, Line, ListFits, Lists, Load, LoadFlag, LockState, LockSteps, Look, LookBy, LookFits, LookIn, LookMeans}
-pub use Rattle.ns_world.specs.Prelude.{LookOut, LookOver, Looked, Looks, LooksAt, LooksByLimits, LooksByRound, Made, Makes, MayEnd, MayGoOn, MayShow, MayWait, Means, Meanwhile, Mode, NamesAll, NeedsSection, NewNote, Next, NextLoad, NoSuchSeat, NoteLoad, NoteStanding, NoteWait, NotesSteps, Notify, Notifying}
-pub use Rattle.ns_world.specs.Prelude.{Number, ObjectEvent, ObjectFound, ObjectGoes, ObjectLeads, ObjectNext, ObjectSoFar, ObjectStanding, ObjectWalk, ObjectWords, ObjectsSteps, OfLock, OfNotes, OfObjects, On, OnCondition, OnEntry, OnLock, OnNotes, OnObjects, OnVariable, OnVariables, Once, Only, Operates}
-pub use Rattle.ns_world.specs.Prelude.{OutOfMemory, Owed, OwesOne, Part, Past, PayWake, Performs, PlaceBy, PlaceFits, Plain, Progress, QueueSelf, QuietCells, QuietKeeps, QuietLast, RLock, RUnlock, Read, Reader, Release, ReleaseReturning, Releasing, Repeat, Reply, Request, ReturnQueues, Round, RoundGo}
-pub use Rattle.ns_world.specs.Prelude.{RoundLeads, RoundNext, RoundOver, RoundPlace, RoundShows, RoundSoFar, Scanned, Seat, SeatLooks, SeatMakes, SeatView, Sees, Set, Setup, Shows, Signal, Signaling, SoFar, Started, Step, StepFits, Stops, StopsFor, Subject, TestCells, TestLast, ToRelease, Truths, TryLock}
-pub use Rattle.ns_world.specs.Prelude.{TryRLock, Turn, TurnFault, TurnOf, Turned, TurnsOf, TurnsWith, Unlock, UnlockQuiet, Value, WaitAny, WaitFor, WaitMeans, WaitReturning, Waiter, WaitsAmong, WaitsFor, WakeWaiters, Waking, Walk, WalkFits, WalkReply, WasShown, Went, WereThere, Whole, WholeBegins, WholeFault}
-pub use Rattle.ns_world.specs.Prelude.{WholeIsBusy, WholeIsIdle, WholeMoves, WholeStarts, WholeStep, Woke, Word, Write, Writer, asked_of, asking_of, asks_for_any, asks_of, at_will, bits_of, by_round, called_by, called_of, calls_of, came_back, cause_of, change_commits, changed, counts_in, course_after}
-pub use Rattle.ns_world.specs.Prelude.{course_from, cvs_without, doing_after, doing_at, doing_by, done_by, done_in, env_after, env_asked_of, env_course_after, env_course_at, env_got_of, env_own, env_state, env_step_of, env_walk_after, env_want_of, exit_for, finds, flag_at, fresh_seat, fresh_seats}
-pub use Rattle.ns_world.specs.Prelude.{fresh_views, fresh_whole, got_of, hand_of, happened, has_armed, has_queues, has_some, have_variable, held_after, held_at, in_call, is_among, is_call, is_due, is_end, is_held, is_in, is_over, is_there, is_unwoken, items_of, kept, leave_of, left_of, limits_for, limits_of}
-pub use Rattle.ns_world.specs.Prelude.{lists_by, lock_of, look_in, looked_after, looks_at, meets_at, mode_of, mode_waited, most, moved_to, no_note, note_asked, note_at, notes_by, notes_of, nothing_done, object_after, object_asked, object_got, object_place, object_start, object_step_of, objects_after}
-pub use Rattle.ns_world.specs.Prelude.{objects_by, objects_of, objects_own, operating_of, outcome, owed_to, own, part, part_in, passed, past_and, place_told, placed, plain_of, progress, progressed, releasing_of, reply_for, reply_of_lock, reply_told, rest_of, round_got, row_after, section_of, shown_by}
-pub use Rattle.ns_world.specs.Prelude.{shown_of, standing_of, stands_at, start_of, state_of, step_of, stopped, taken_by, taken_set, tests_after, tests_at, tests_of, there, times, times_among, times_in, up_to, view_of, wait_first, waited_in, waiters_of, waits_for_any, waits_then, wakes_by, wakes_of}
-pub use Rattle.ns_world.specs.Prelude.{wakes_owed, walk_after, walk_at, walk_in, walk_of, want_of, whole_busy, whole_of, with_waiters, woken_by, woken_of, word_at, word_items, word_released, word_released_returning, word_returned}
+pub use Rattle.ns_world.specs.Prelude.{Act, ActFits, Add, Advance, Advances, Advancing, Answer, AnswersCall, AnswersOfLock, AnswersTo, Any, AnyAnswers, AnyMeans, AnyWait, AreAmong, AreBy, AreEnvBy, AreNumbered, AreObjectsBy, AreThere, AreVariables, ArmFlag, Arrival, Asked, AtLock, AtRest}
+pub use Rattle.ns_world.specs.Prelude.{AtSomePoint, AtVariables, Await, BeginsWith, Bits, Broadcast, Broadcasting, Call, CallFits, CallGoes, CallInRange, CanLeave, CanWait, Cause, Change, ChangeFits, ClockLoad, Commits, CounterWait, Counts, Course, Cv, CvWait, Cvs, Doing, DoingFits, Done}
+pub use Rattle.ns_world.specs.Prelude.{Effect, EndFinished, EnvAct, EnvActFits, EnvCourse, EnvEffect, EnvEvent, EnvFound, EnvGoes, EnvGoesOn, EnvNext, EnvPlain, EnvRequest, EnvSoFar, EnvWalk, Event, Every, Expired, Expiry, ExpiryLoad, Fault, Finished, FirstClock, ForIsNotified, ForLook}
+pub use Rattle.ns_world.specs.Prelude.{ForNoteWait, Found, Get, Go, GoesOn, GoesOnOrBegins, GoesRound, Happens, HasLedTo, HasList, HasMode, HaveLedTo, HaveShownNothing, Held, Home, IfMade, InCells, InHand, InQueuing, InRound, InWait, IsCounted, IsFew, IsFinished, IsFirst, IsFirstAsk, IsInRange}
+pub use Rattle.ns_world.specs.Prelude.{IsLater, IsLawfulEnv, IsLawfulObjects, IsLawfulWhole, IsLow, IsNotified, IsReady, IsSettled, IsUnfinished, IsUnmet, Items, LeaveSelf, LedTo, Left, Limits, Line, ListFits, Lists, Load, LoadFlag, LockState, Look, LookBy, LookFits, LookMeans, LookOver}
+pub use Rattle.ns_world.specs.Prelude.{Looked, Looks, LooksAt, LooksByLimits, LooksByRound, Made, Makes, MayEnd, MayGoOn, MayShow, MayWait, Means, Meanwhile, Mode, NamesAll, NeedsSection, NewNote, Next, NextLoad, NoSuchSeat, NoteLoad, NoteStanding, NoteWait, NotesSteps, Notify, Notifying}
+pub use Rattle.ns_world.specs.Prelude.{Number, ObjectEvent, ObjectGoes, ObjectLeads, ObjectNext, ObjectSoFar, ObjectStanding, ObjectWalk, ObjectWords, ObjectsSteps, OfLock, OfNotes, OfObjects, On, OnCondition, OnEntry, OnLock, OnNotes, OnObjects, OnVariable, OnVariables, Once, Only, Operates}
+pub use Rattle.ns_world.specs.Prelude.{OutOfMemory, Owed, OwesOne, Part, Past, PayWake, Performs, PlaceBy, PlaceFits, Plain, Progress, QueueSelf, QuietCells, QuietKeeps, QuietLast, RLock, RUnlock, Read, Reader, Release, ReleaseReturning, Releasing, Repeat, Reply, Request, ReturnQueues, Round}
+pub use Rattle.ns_world.specs.Prelude.{RoundGo, RoundLeads, RoundNext, RoundOver, RoundPlace, RoundShows, RoundSoFar, Scanned, Seat, SeatLooks, SeatMakes, SeatView, Sees, Set, Setup, Shows, Signal, Signaling, SoFar, Started, Step, StepFits, Stops, StopsFor, Subject, TestCells, TestLast}
+pub use Rattle.ns_world.specs.Prelude.{ToRelease, Truths, TryLock, TryRLock, Turn, TurnFault, TurnOf, Turned, TurnsOf, TurnsWith, Unlock, UnlockQuiet, Value, WaitAny, WaitFor, WaitMeans, WaitReturning, Waiter, WaitsFor, WakeWaiters, Waking, Walk, WalkFits, WalkReply, WasShown, Went, WereThere}
+pub use Rattle.ns_world.specs.Prelude.{Whole, WholeBegins, WholeFault, WholeIsBusy, WholeIsIdle, WholeMoves, WholeStarts, WholeStep, Woke, Word, Write, Writer, asked_of, asking_of, asks_for_any, asks_of, at_will, bits_of, by_round, called_by, called_of, calls_of, came_back, cause_of}
+pub use Rattle.ns_world.specs.Prelude.{change_commits, changed, counts_in, course_after, course_from, cvs_without, doing_after, doing_at, doing_by, done_by, done_in, env_after, env_asked_of, env_course_after, env_course_at, env_got_of, env_own, env_state, env_step_of, env_walk_after}
+pub use Rattle.ns_world.specs.Prelude.{env_want_of, exit_for, finds, flag_at, fresh_seat, fresh_seats, fresh_views, fresh_whole, got_of, hand_of, happened, has_armed, has_queues, has_some, have_variable, held_after, held_at, in_call, is_among, is_call, is_due, is_end, is_held, is_in, is_over}
+pub use Rattle.ns_world.specs.Prelude.{is_there, is_unwoken, items_of, kept, leave_of, left_of, limits_for, limits_of, lists_by, lock_of, look_in, looked_after, looks_at, meets_at, mode_of, mode_waited, most, moved_to, no_note, note_asked, note_at, notes_by, notes_of, nothing_done}
+pub use Rattle.ns_world.specs.Prelude.{object_after, object_asked, object_got, object_place, object_start, object_step_of, objects_after, objects_by, objects_of, objects_own, operating_of, outcome, owed_to, own, part, part_in, passed, past_and, place_told, placed, plain_of, progress}
+pub use Rattle.ns_world.specs.Prelude.{progressed, releasing_of, reply_of_lock, reply_told, rest_of, round_got, row_after, section_of, shown_by, shown_of, standing_of, stands_at, start_of, state_of, step_of, stopped, taken_by, taken_set, tests_after, tests_at, tests_of, there, times}
+pub use Rattle.ns_world.specs.Prelude.{times_among, times_in, up_to, view_of, wait_first, waited_in, waiters_of, waits_for_any, waits_then, wakes_by, wakes_of, wakes_owed, walk_after, walk_at, walk_in, walk_of, want_of, whole_busy, whole_of, with_waiters, woken_by, woken_of, word_at}
+pub use Rattle.ns_world.specs.Prelude.{word_items, word_released, word_released_returning, word_returned}
 pub use Rattle.ns_world.specs.Runs.{Item, tests_told}
 pub use Rattle.ns_world.specs.contracts.world.World.{the_row as world_row}
 pub use Rattle.ns_world.specs.declared.world.World.TheInside.{Inside}
-pub use Rattle.std.proofs.Common.{[], ap, arith, false, map, refl}
-pub use Rattle.std.proofs.Common.{replicate, slice_get, sym, take}
-pub use Rattle.std.proofs.lemmas.Bool.{false≢true}
+pub use Rattle.std.proofs.Common.{[], ap, arith, false, map, refl, replicate, slice_get, sym, take}
 pub use Rattle.std.proofs.lemmas.Bool.Decides.{nat_tests}
 pub use Rattle.std.proofs.lemmas.List.Elements.{All-head, All-nil, All-tail}
 pub use Rattle.std.specs.List.{list_all}

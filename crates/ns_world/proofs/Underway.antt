@@ -19,7 +19,8 @@ use Rattle.ns_world.proofs.Looking.{Acts, makes_means}
 module _ {C : Type 0} {N : ℕ} (old new : Whole C N) (lawful : IsLawfulWhole old) (other : ℕ) (here next : Seat C N) (at : slice_get old.seats other ≡ Some here) (seats : new.seats ≡ slice_set old.seats other next) (seat : ℕ) (ne : other ≢ seat) where
   acts_row : (step : Step) (walk : Walk C) (wait : Option AnyWait) (found : Found) → walk_of here.doing ≡ Some walk → Acts old new here next step walk wait found → own new.history seat ≡ own old.history seat
   acts_row step walk wait found walks p = ap (λ h. own h seat) p.grows ∙ own_row_append seat old.history p.commits
-      ∙ ap (λ es. own old.history seat ++ es) (own_row_none here.number seat p.commits (λ e. ne (sym (number_here old lawful other here at) ∙ e)) (step_by old.truths _ (view_of here) found _ p.commits (act_steps old new other here next step walk wait found at seats walks p))) ∙ append-nil (own old.history seat)
+      ∙ ap (λ es. own old.history seat ++ es) (own_row_none here.number seat p.commits (λ e. ne (sym (number_here old lawful other here at) ∙ e)) (step_by old.truths _ (view_of here) found _ p.commits (act_steps old new other here next step walk wait found at seats walks p)))
+      ∙ append-nil (own old.history seat)
 
   makes_row : (step : Step) → SeatMakes old new here next step → own new.history seat ≡ own old.history seat
   makes_row step (inl p) = acts_row step p.walk p.wait p.found (ap walk_of p.stands) p.performs

@@ -1,7 +1,7 @@
 -- The names of crates below and of this crate's own types, passed on from one place. Declares nothing.
 pub use Rattle.ns_counters.specs.Prelude.{AnyAnswers, AreThere, AtSomePoint, EnvPlain, EnvState, HaveShownNothing, IsLater, IsLawful, IsLawfulEnv, IsLawfulObjects, IsLow, IsReady, NoteStanding, ObjectEffect, ObjectGoes, ObjectSoFar, ObjectStanding, ObjectState, Past, RoundShows, RoundSoFar}
-pub use Rattle.ns_counters.specs.Prelude.{StepFits, WalkFits, WereThere, by_round, env_after, env_got_of, first_words, is_among, is_due, is_there, item_at, items_of, most, object_after, object_asked, object_got, object_place, object_want, object_who, objects_after, objects_own, padded, past_and}
-pub use Rattle.ns_counters.specs.Prelude.{place_in, round_got, setup_of, standing_of, state_of, walk_in, word_at}
+pub use Rattle.ns_counters.specs.Prelude.{StepFits, WalkFits, WereThere, by_round, env_after, env_got_of, first_words, is_among, is_due, is_there, item_at, items_of, most, object_after, object_asked, object_got, object_place, object_want, object_who, objects_after, objects_own, padded}
+pub use Rattle.ns_counters.specs.Prelude.{past_and, place_in, round_got, setup_of, standing_of, state_of, walk_in, word_at}
 pub use Rattle.ns_counters.specs.Items.{AreAmong, have_variable}
 pub use Rattle.ns_counters.specs.Meanings.{ObjectMeans}
 pub use Rattle.ns_counters.specs.declared.items.Item.{Item}
@@ -35,10 +35,10 @@ pub use Rattle.ns_env.specs.declared.walk.EnvNext.{EnvNext}
 pub use Rattle.ns_env.specs.declared.walk.EnvNext.TheVariants.{Go, LookOver}
 pub use Rattle.ns_env.specs.declared.walk.EnvWalk.{EnvWalk}
 pub use Rattle.ns_env.specs.declared.walk.EnvWalk.TheVariants.{Advancing, ClockLoad, ExpiryLoad, NextLoad, NoteLoad, Notifying}
-pub use Rattle.ns_word.specs.Prelude.{ActFits, AreBy, AreNumbered, AreVariables, BeginsWith, CallGoes, CanLeave, CanWait, Course, Effect, Every, HasList, HasMode, InHand, IsFirst, IsForCondition, IsInRange, IsSettled, IsUnmet, Lists, LockState, MayEnd, MayShow, MayWait, Means, OwesOne, Part}
-pub use Rattle.ns_word.specs.Prelude.{PlaceFits, QuietKeeps, SoFar, Step as Steps, Truths, asked_of, bits_of, called_by, called_of, change_commits, changed, counts_in, course_after, course_from, cvs_without, exit_for, fresh_state, fresh_views, got_of, has_armed, has_queues, has_some, held_after}
-pub use Rattle.ns_word.specs.Prelude.{is_held, is_in, is_unwoken, leave_of, left_of, looked_after, meets_at, moved_to, owed_to, own, quiet_first, releasing_of, row_after, section_of, stands_at, taken_by, taken_set, times, times_among, times_in, wait_first, waited_in, waiters_of}
-pub use Rattle.ns_word.specs.Prelude.{wakes_of, walk_after, walk_at, want_of, with_waiters, woken_of, word_released, word_released_returning, word_returned}
+pub use Rattle.ns_word.specs.Prelude.{ActFits, AreBy, AreNumbered, AreVariables, BeginsWith, CallGoes, CanLeave, CanWait, Course, Effect, Every, HasList, HasMode, InHand, IsFirst, IsInRange, IsSettled, IsUnmet, Lists, LockState, MayEnd, MayShow, MayWait, Means, OwesOne, Part, PlaceFits}
+pub use Rattle.ns_word.specs.Prelude.{QuietKeeps, SoFar, Step as Steps, Truths, asked_of, bits_of, called_by, called_of, change_commits, changed, counts_in, course_after, course_from, cvs_without, exit_for, fresh_state, fresh_views, got_of, has_armed, has_queues, has_some, held_after, is_held}
+pub use Rattle.ns_word.specs.Prelude.{is_in, is_unwoken, leave_of, left_of, looked_after, meets_at, moved_to, owed_to, own, quiet_first, releasing_of, row_after, section_of, stands_at, taken_by, taken_set, times, times_among, times_in, wait_first, waited_in, waiters_of, wakes_of, walk_after}
+pub use Rattle.ns_word.specs.Prelude.{walk_at, want_of, with_waiters, woken_of, word_released, word_released_returning, word_returned}
 pub use Rattle.ns_model.specs.Environments.{no_note}
 pub use Rattle.ns_model.specs.Room.{HasRoom, room, small_by}
 pub use Rattle.ns_model.specs.declared.cvs.Cvs.{Cvs}
@@ -79,13 +79,12 @@ pub use Rattle.ns_word.specs.declared.view.SeatView.{SeatView}
 pub use Rattle.ns_word.specs.declared.wait.Aim.TheVariants.{ForLock}
 pub use Rattle.ns_word.specs.declared.wait.Home.{Home}
 pub use Rattle.ns_word.specs.declared.wait.Home.TheVariants.{AtLock, AtVariables}
-pub use Rattle.ns_word.specs.declared.wait.LeavePlace.TheVariants.{LeaveLoad}
-pub use Rattle.ns_word.specs.declared.wait.QueuePlace.TheVariants.{Load, LookIn}
+pub use Rattle.ns_word.specs.declared.wait.QueuePlace.TheVariants.{Load}
 pub use Rattle.ns_word.specs.declared.wait.Subject.{Subject}
 pub use Rattle.ns_word.specs.declared.wait.Subject.TheVariants.{OnCondition, OnVariables}
 pub use Rattle.ns_word.specs.declared.wait.Visit.TheVariants.{OnEntry}
 pub use Rattle.ns_word.specs.declared.wait.Wait.{Wait as WaitFor}
-pub use Rattle.ns_word.specs.declared.wait.WaitPlace.TheVariants.{AwaitWakeInWait, InLeaving, InQueuing, LookOut, TestCells, TestLast}
+pub use Rattle.ns_word.specs.declared.wait.WaitPlace.TheVariants.{InQueuing, TestCells, TestLast}
 pub use Rattle.ns_word.specs.declared.walk.Next.{Next}
 pub use Rattle.ns_word.specs.declared.walk.Next.TheVariants.{On}
 pub use Rattle.ns_word.specs.declared.walk.Reply.{Reply as WalkReply}
@@ -119,5 +118,3 @@ pub use Rattle.ns_world.specs.declared.step.Begun.TheVariants.{Busy, Misuse, Sta
 pub use Rattle.ns_world.specs.declared.step.Step.{Step}
 pub use Rattle.ns_world.specs.declared.step.Step.TheVariants.{Finished, Idle, Nothing, Went}
 pub use Rattle.ns_world.specs.declared.wanted.Look.{Look as LookBy}
-pub use denote.Param.{copied, layout, param}
-pub use denote.RattleType.{RattleType}

@@ -33,7 +33,13 @@ ask-requires g c =
 pub returns-in-OnNotes-clause-ok : goal.returns-in-OnNotes-clause-ok
 returns-in-OnNotes-clause-ok g c =
     let at = found_at c.self.inside.seats.items c.args.seat c.index_mut-here.result.now c.if-at-len.false (c.len.ensures ∙ c.self.inside.seats.ok.0) c.index_mut-here.ensures.value in
-    rw (← c.self.view_is) (inr (record { here = c.index_mut-here.result.now; next = c.ask.new.seat; at = at; seats = refl; makes = inr (inr (inr (inl (record { walk = c.in-OnNotes.walk; stands = c.in-OnNotes.is; asks = c.ask.ensures; same = refl })))) }))
+    rw (← c.self.view_is) (inr (record {
+      here = c.index_mut-here.result.now;
+      next = c.ask.new.seat;
+      at = at;
+      seats = refl;
+      makes = inr (inr (inr (inl (record { walk = c.in-OnNotes.walk; stands = c.in-OnNotes.is; asks = c.ask.ensures; same = refl }))));
+    }))
 
 pub invariant_of-self-in-OnNotes : goal.invariant_of-self-in-OnNotes
 invariant_of-self-in-OnNotes g c = step_keeps (whole_of g.C.Condition.means c.args.self.now) _ (rw (← c.self.view_is) c.self.invariant) c.args.seat g.met.C.Condition.has_cells.0 g.met.C.Condition.quiet_keeps c.ask.result (returns-in-OnNotes-clause-ok g c)
@@ -45,13 +51,27 @@ returns-in-OnNotes-clause-lawful g c = invariant_of-self-in-OnNotes g c
 
 pub step_objects-requires : goal.step_objects-requires
 step_objects-requires g c =
-    let at = found_at c.self.inside.seats.items c.args.seat c.index_mut-here.result.now c.if-at-len.false (c.len.ensures ∙ c.self.inside.seats.ok.0) c.index_mut-here.ensures.value in
-    (g.met.C.Seated.seat_fits, (g.met.C.Condition.has_cells.1, (operates_fit _ c.self.invariant c.args.seat c.index_mut-here.result.now at c.in-OnObjects.walk (ap operating_of c.in-OnObjects.is), may_go_on _ c.self.invariant c.args.seat c.index_mut-here.result.now at c.in-OnObjects.walk c.in-OnObjects.is)))
+    let at = found_at c.self.inside.seats.items c.args.seat c.index_mut-here.result.now c.if-at-len.false (c.len.ensures ∙ c.self.inside.seats.ok.0) c.index_mut-here.ensures.value in (
+      g.met.C.Seated.seat_fits,
+      (
+        g.met.C.Condition.has_cells.1,
+        (
+          operates_fit _ c.self.invariant c.args.seat c.index_mut-here.result.now at c.in-OnObjects.walk (ap operating_of c.in-OnObjects.is),
+          may_go_on _ c.self.invariant c.args.seat c.index_mut-here.result.now at c.in-OnObjects.walk c.in-OnObjects.is,
+        ),
+      ),
+    )
 
 pub returns-in-OnObjects-clause-ok : goal.returns-in-OnObjects-clause-ok
 returns-in-OnObjects-clause-ok g c =
     let at = found_at c.self.inside.seats.items c.args.seat c.index_mut-here.result.now c.if-at-len.false (c.len.ensures ∙ c.self.inside.seats.ok.0) c.index_mut-here.ensures.value in
-    rw (← c.self.view_is) (inr (record { here = c.index_mut-here.result.now; next = c.step_objects.new.seat; at = at; seats = refl; makes = let made = c.step_objects.ensures in inr (inr (inr (inr (record { walk = c.in-OnObjects.walk; stands = c.in-OnObjects.is; leads = made.0; operates = made.1; goes = made.2; same = refl })))) }))
+    rw (← c.self.view_is) (inr (record {
+      here = c.index_mut-here.result.now;
+      next = c.step_objects.new.seat;
+      at = at;
+      seats = refl;
+      makes = let made = c.step_objects.ensures in inr (inr (inr (inr (record { walk = c.in-OnObjects.walk; stands = c.in-OnObjects.is; leads = made.0; operates = made.1; goes = made.2; same = refl }))));
+    }))
 
 pub invariant_of-self-in-OnObjects : goal.invariant_of-self-in-OnObjects
 invariant_of-self-in-OnObjects g c = step_keeps (whole_of g.C.Condition.means c.args.self.now) _ (rw (← c.self.view_is) c.self.invariant) c.args.seat g.met.C.Condition.has_cells.0 g.met.C.Condition.quiet_keeps c.step_objects.result (returns-in-OnObjects-clause-ok g c)
@@ -63,13 +83,24 @@ returns-in-OnObjects-clause-lawful g c = invariant_of-self-in-OnObjects g c
 
 pub look-requires : goal.look-requires
 look-requires g c =
-    let at = found_at c.self.inside.seats.items c.args.seat c.index_mut-here.result.now c.if-at-len.false (c.len.ensures ∙ c.self.inside.seats.ok.0) c.index_mut-here.ensures.value in
-    (g.met.C.Seated.seat_fits, ((stands_here _ c.self.invariant c.args.seat c.index_mut-here.result.now at (LooksByLimits c.in-LooksByLimits.walk c.in-LooksByLimits.place) c.in-LooksByLimits.is).1, ask_here _ c.self.invariant c.args.seat c.index_mut-here.result.now at c.in-LooksByLimits.place (ap asking_of c.in-LooksByLimits.is)))
+    let at = found_at c.self.inside.seats.items c.args.seat c.index_mut-here.result.now c.if-at-len.false (c.len.ensures ∙ c.self.inside.seats.ok.0) c.index_mut-here.ensures.value in (
+      g.met.C.Seated.seat_fits,
+      (
+        (stands_here _ c.self.invariant c.args.seat c.index_mut-here.result.now at (LooksByLimits c.in-LooksByLimits.walk c.in-LooksByLimits.place) c.in-LooksByLimits.is).1,
+        ask_here _ c.self.invariant c.args.seat c.index_mut-here.result.now at c.in-LooksByLimits.place (ap asking_of c.in-LooksByLimits.is),
+      ),
+    )
 
 pub returns-in-LooksByLimits-clause-ok : goal.returns-in-LooksByLimits-clause-ok
 returns-in-LooksByLimits-clause-ok g c =
     let at = found_at c.self.inside.seats.items c.args.seat c.index_mut-here.result.now c.if-at-len.false (c.len.ensures ∙ c.self.inside.seats.ok.0) c.index_mut-here.ensures.value in
-    rw (← c.self.view_is) (inr (record { here = c.index_mut-here.result.now; next = c.look.new.seat; at = at; seats = refl; makes = inr (inl (record { walk = c.in-LooksByLimits.walk; place = c.in-LooksByLimits.place; stands = c.in-LooksByLimits.is; looks = c.look.ensures; same = refl })) }))
+    rw (← c.self.view_is) (inr (record {
+      here = c.index_mut-here.result.now;
+      next = c.look.new.seat;
+      at = at;
+      seats = refl;
+      makes = inr (inl (record { walk = c.in-LooksByLimits.walk; place = c.in-LooksByLimits.place; stands = c.in-LooksByLimits.is; looks = c.look.ensures; same = refl }));
+    }))
 
 pub invariant_of-self-in-LooksByLimits : goal.invariant_of-self-in-LooksByLimits
 invariant_of-self-in-LooksByLimits g c = step_keeps (whole_of g.C.Condition.means c.args.self.now) _ (rw (← c.self.view_is) c.self.invariant) c.args.seat g.met.C.Condition.has_cells.0 g.met.C.Condition.quiet_keeps c.look.result (returns-in-LooksByLimits-clause-ok g c)
@@ -81,13 +112,24 @@ returns-in-LooksByLimits-clause-lawful g c = invariant_of-self-in-LooksByLimits 
 
 pub go_round-requires : goal.go_round-requires
 go_round-requires g c =
-    let at = found_at c.self.inside.seats.items c.args.seat c.index_mut-here.result.now c.if-at-len.false (c.len.ensures ∙ c.self.inside.seats.ok.0) c.index_mut-here.ensures.value in
-    (g.met.C.Seated.seat_fits, (operates_fit _ c.self.invariant c.args.seat c.index_mut-here.result.now at c.in-LooksByRound.round (ap operating_of c.in-LooksByRound.is), (stands_here _ c.self.invariant c.args.seat c.index_mut-here.result.now at (LooksByRound c.in-LooksByRound.walk c.in-LooksByRound.wait c.in-LooksByRound.round) c.in-LooksByRound.is).0.there.0))
+    let at = found_at c.self.inside.seats.items c.args.seat c.index_mut-here.result.now c.if-at-len.false (c.len.ensures ∙ c.self.inside.seats.ok.0) c.index_mut-here.ensures.value in (
+      g.met.C.Seated.seat_fits,
+      (
+        operates_fit _ c.self.invariant c.args.seat c.index_mut-here.result.now at c.in-LooksByRound.round (ap operating_of c.in-LooksByRound.is),
+        (stands_here _ c.self.invariant c.args.seat c.index_mut-here.result.now at (LooksByRound c.in-LooksByRound.walk c.in-LooksByRound.wait c.in-LooksByRound.round) c.in-LooksByRound.is).0.there.0,
+      ),
+    )
 
 pub returns-in-LooksByRound-clause-ok : goal.returns-in-LooksByRound-clause-ok
 returns-in-LooksByRound-clause-ok g c =
     let at = found_at c.self.inside.seats.items c.args.seat c.index_mut-here.result.now c.if-at-len.false (c.len.ensures ∙ c.self.inside.seats.ok.0) c.index_mut-here.ensures.value in
-    rw (← c.self.view_is) (inr (record { here = c.index_mut-here.result.now; next = c.go_round.new.seat; at = at; seats = refl; makes = let made = c.go_round.ensures in inr (inr (inl (record { walk = c.in-LooksByRound.walk; wait = c.in-LooksByRound.wait; round = c.in-LooksByRound.round; stands = c.in-LooksByRound.is; leads = made.0; operates = made.1; goes = made.2; same = refl }))) }))
+    rw (← c.self.view_is) (inr (record {
+      here = c.index_mut-here.result.now;
+      next = c.go_round.new.seat;
+      at = at;
+      seats = refl;
+      makes = let made = c.go_round.ensures in inr (inr (inl (record { walk = c.in-LooksByRound.walk; wait = c.in-LooksByRound.wait; round = c.in-LooksByRound.round; stands = c.in-LooksByRound.is; leads = made.0; operates = made.1; goes = made.2; same = refl })));
+    }))
 
 pub invariant_of-self-in-LooksByRound : goal.invariant_of-self-in-LooksByRound
 invariant_of-self-in-LooksByRound g c = step_keeps (whole_of g.C.Condition.means c.args.self.now) _ (rw (← c.self.view_is) c.self.invariant) c.args.seat g.met.C.Condition.has_cells.0 g.met.C.Condition.quiet_keeps c.go_round.result (returns-in-LooksByRound-clause-ok g c)
@@ -101,8 +143,22 @@ pub perform-requires : goal.perform-requires
 perform-requires g c =
     let at = found_at c.self.inside.seats.items c.args.seat c.index_mut-here.result.now c.if-at-len.false (c.len.ensures ∙ c.self.inside.seats.ok.0) c.index_mut-here.ensures.value in
     let few = row_fits g.row.C (number g.row.N) g.met.C.Condition.has_room in
-    let act = act_here _ c.self.invariant c.args.seat c.index_mut-here.result.now at c.in-OnLock.walk (ap walk_of c.in-OnLock.is) in
-    (few, (g.met.C.Seated.queues_fit, (g.met.C.Seated.seat_fits, (g.met.C.Fits.event_fits, (act, (no_look_here _ c.self.invariant c.args.seat c.index_mut-here.result.now at c.in-OnLock.walk c.in-OnLock.wait c.in-OnLock.is, few_there _ c.self.invariant c.args.seat c.index_mut-here.result.now at c.in-OnLock.walk c.in-OnLock.wait c.in-OnLock.is))))))
+    let act = act_here _ c.self.invariant c.args.seat c.index_mut-here.result.now at c.in-OnLock.walk (ap walk_of c.in-OnLock.is) in (
+      few,
+      (
+        g.met.C.Seated.queues_fit,
+        (
+          g.met.C.Seated.seat_fits,
+          (
+            g.met.C.Fits.event_fits,
+            (
+              act,
+              (no_look_here _ c.self.invariant c.args.seat c.index_mut-here.result.now at c.in-OnLock.walk c.in-OnLock.wait c.in-OnLock.is, few_there _ c.self.invariant c.args.seat c.index_mut-here.result.now at c.in-OnLock.walk c.in-OnLock.wait c.in-OnLock.is),
+            ),
+          ),
+        ),
+      ),
+    )
 
 pub returns-in_ok-step-in-OnLock-clause-ok : goal.returns-in_ok-step-in-OnLock-clause-ok
 returns-in_ok-step-in-OnLock-clause-ok g c =
