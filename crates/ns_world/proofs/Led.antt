@@ -164,9 +164,6 @@ module _ {C : Type 0} {N : ℕ} (old new : Whole C N) (lawful : IsLawfulWhole ol
         let effect = subst (λ n. ObjectEffect n (object_place (Some walk)) (object_want walk) old.objects.words old.env p.found new.objects.words p.events) number p.effect in
         let kept = operates_keeps (objects_of old) old.env past.notes led.0.lawful.meets past.objects led.1 i walk (walk_at doing stands ∙ is) p.found new.objects.words p.events effect in
         (kept.1, subst (λ x. IsLawfulObjects (past.objects ++ p.events) x old.env.notes) (sym (λ j. record { setup = (p.becomes j).setup; words = new.objects.words; walks = reads old new i here next at seats (λ s. operating_of s.doing) becomes j })) (by so kept.0)) where
-          gone : Option ObjectWalk
-          gone = object_after (object_got walk p.found)
-
           by : (after ≡ object_after leads) ⊎ ((now : ObjectStanding) → Fit old.objects.setup now old.env.notes i after) →
               IsLawfulObjects (past.objects ++ p.events) (record (objects_of old) { words = new.objects.words; walks = slice_set walks i (object_after (object_got walk p.found)) }) old.env.notes →
               IsLawfulObjects (past.objects ++ p.events) (record (objects_of old) { words = new.objects.words; walks = slice_set walks i after }) old.env.notes

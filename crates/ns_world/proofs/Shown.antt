@@ -32,12 +32,6 @@ pub shown_so : (earlier now : List EnvEvent) (o : Option Limits) (limits : Limit
 shown_so earlier now None limits cause says so = tt
 shown_so earlier now (Some by) limits cause says so = subst (λ l. AtSomePoint earlier now (Shows l cause)) (sym says) so
 
--- a wait for any of a set of variables looks at no limits of its own
-pub shown_none : (earlier now : List EnvEvent) (o : Option Limits) (looked : Option (Option Cause)) → o ≡ None → WasShown earlier now o looked
-shown_none earlier now o None e = tt
-shown_none earlier now None (Some cause) e = tt
-shown_none earlier now (Some by) (Some cause) e = absurd (cc)
-
 -- what a look of a wait has come to that is under way, and began after the wait
 abbrev pub LookSoFar : List EnvEvent → ℕ → List EnvEvent → EnvWalk → Type 0
 LookSoFar earlier seat events place = (course : EnvCourse) × BeginsWith course.before earlier × EnvSoFar events seat course place
