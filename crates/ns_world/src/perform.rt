@@ -194,8 +194,9 @@ pub(crate) fn settle<C: Seated<N>, const N: usize>(
     }
 }
 
-/// Makes the step that the seat's walk wants, which is one on the lock and no look. Only a step that
-/// commits an event takes memory, for that event; where it is refused, nothing has changed.
+/// Makes the step that the seat's walk wants, which is one on the lock and no look. What stands at the walk is
+/// what its wait is for. Only a step that commits an event takes memory, for that event; where it is refused,
+/// nothing has changed.
 pub(crate) fn perform<C: Seated<N>, const N: usize>(
     word: &mut Word,
     row: &mut [u64; N],
@@ -203,15 +204,15 @@ pub(crate) fn perform<C: Seated<N>, const N: usize>(
     flags: &mut [u8; 64],
     seat: &mut Seat<C, N>,
     history: &mut Vec<Event<C, N>>,
-    walk: Walk<C>,
-    wait: Option<AnyWait>,
+    place: (Walk<C>, Option<AnyWait>),
 ) -> Result<Step, AllocError>
-    requires fits { ActFits C.means 64 seat.old.number (want_of walk) (seat_part word.old row.old queues.old flags.old seat.old) }
-    requires inside { looks_at (want_of walk) ≡ None }
-    requires few { IfSome wait IsFew }
-    ensures ok { IfOk result (λ step. (found : FoundAs) × Performs C.means (seat_part word.old row.old queues.old flags.old seat.old) seat.old history.old.items walk wait found (seat_part word.new row.new queues.new flags.new seat.new) seat.new history.new.items step) }
-    ensures err { OnErr result ((Commits seat.old.number (want_of walk) word.old queues.old) × (word.new ≡ word.old) × (row.new ≡ row.old) × (queues.new ≡ queues.old) × (flags.new ≡ flags.old) × (seat.new ≡ seat.old) × (history.new.items ≡ history.old.items)) }
+    requires fits { ActFits C.means 64 seat.old.number (want_of place.0) (seat_part word.old row.old queues.old flags.old seat.old) }
+    requires inside { looks_at (want_of place.0) ≡ None }
+    requires few { IfSome place.1 IsFew }
+    ensures ok { IfOk result (λ step. (found : FoundAs) × Performs C.means (seat_part word.old row.old queues.old flags.old seat.old) seat.old history.old.items place.0 place.1 found (seat_part word.new row.new queues.new flags.new seat.new) seat.new history.new.items step) }
+    ensures err { OnErr result ((Commits seat.old.number (want_of place.0) word.old queues.old) × (word.new ≡ word.old) × (row.new ≡ row.old) × (queues.new ≡ queues.old) × (flags.new ≡ flags.old) × (seat.new ≡ seat.old) × (history.new.items ≡ history.old.items)) }
 {
+    let (walk, wait) = place;
     let found = make(word, row, queues, flags, seat, history, walk.want())?;
     seat.tests = tests_after(found, seat.tests);
     Ok(settle(seat, wait, &walk.got::<N>(found)))

@@ -160,8 +160,7 @@ impl<C: Seated<N>, const N: usize> World<C, N> {
                     &mut self.flags,
                     here,
                     &mut self.history,
-                    walk,
-                    wait,
+                    (walk, wait),
                 )?;
                 Ok(step)
             }

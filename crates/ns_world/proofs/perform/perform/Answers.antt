@@ -14,9 +14,9 @@ returns-clause-ok g c =
       record {
         commits = made.commits;
         effect = rw (← c.want.ensures) made.effect;
-        goes = λ i. record (kept i) { doing = doing_after c.args.wait (c.got.ensures i); tests = (c.tests_after-seat.ensures ∙ ap (λ (s : Seat _ _). tests_after c.in_ok-found.found s.tests) kept) i };
+        goes = λ i. record (kept i) { doing = doing_after c.args.place.1 (c.got.ensures i); tests = (c.tests_after-seat.ensures ∙ ap (λ (s : Seat _ _). tests_after c.in_ok-found.found s.tests) kept) i };
         grows = made.grows;
-        answers = c.settle.ensures.step ∙ ap (step_of c.args.wait) c.got.ensures;
+        answers = c.settle.ensures.step ∙ ap (step_of c.args.place.1) c.got.ensures;
       },
     )
 
