@@ -12,7 +12,7 @@ pub use Rattle.ns_monitor.specs.Prelude.{ForLock, ForWait, Found, GateView, Get,
 pub use Rattle.ns_monitor.specs.Prelude.{HasLookedOn, HasMode, HasReached, HasReturnedWoken, HasRow, HasSaved, HasSeenMore, HasSeenTrue, HasSince, HasStayed, HasStepped, HasStood, HasStoodUnwoken, HasTakenAt, HasTested, HasUnchangedQueues, HasUnlocked, HasWaited, HasWaitedFor, HasWaitedForVariable}
 pub use Rattle.ns_monitor.specs.Prelude.{HasWoken, HasWokenInHand, Held, Home, Idle, IfAnswered, IfEnded, InAcquire, InCells, InHand, InLeaving, InQueuing, InRelease, InShow, InSignal, InTry, InWait, Is, IsAtPlace, IsAtRest, IsByOneOf, IsFirst, IsForVariables, IsFresh, IsFreshIn, IsInRange}
 pub use Rattle.ns_monitor.specs.Prelude.{IsLawful, IsNumberOf, IsOrderly, IsOwedNext, IsPackable, IsQuiet, IsQuietFor, IsReady, IsSettled, IsTold, IsWaitingForAny, IsWide, JudgeMet, JudgeQuiet, Known, Leave, LeaveLoad, LeaveSelf, Leaving, Limits, Lists, Load, LoadCell, LoadFlag, LoadToScan}
-pub use Rattle.ns_monitor.specs.Prelude.{LoadWord, LockState, Look, LookAnswers, LookIn, LookOut, LookShows, Looked, Made, MayEnd, MayEnter, MayGoAlone, MayScan, Met, Mode, Next, Note, Notified, Number, On, OnCondition, OnEntry, OnReturn, OnVariables, Outcome, Owed, OwesBelow, OwesTheWoken, Paid}
+pub use Rattle.ns_monitor.specs.Prelude.{LoadWord, LockState, Look, LookIn, LookOut, LookShows, Looked, Made, MayEnd, MayEnter, MayGoAlone, MayScan, Met, Mode, Next, Note, Notified, Number, On, OnCondition, OnEntry, OnReturn, OnVariables, Outcome, Owed, OwesBelow, OwesTheWoken, Paid}
 pub use Rattle.ns_monitor.specs.Prelude.{Part, PayWake, Pays, Performed, PlaceFits, PutsBack, Queue, QueueSelf, QueueToWait, QueuesOrEnds, Quiet, QuietCells, QuietLast, QuietWriter, Read, Reader, ReleaseLoad, ReleaseReturning, Released, Releasing, Request, ReturnQueues, ReturnShown, Returning, Saw}
 pub use Rattle.ns_monitor.specs.Prelude.{SaysWoken, ScanAndRelease, ScanCells, Scanning, ScansAs, SeatHasLearned, SeatOf, SeatView, SectionFits, Set, SetStore, ShowLoad, SignalLoad, Signaling, Sleeps, Sought, StandsAt, StoreCell, Subject, Succeeded, TableId, TakeQueues, TakeToShow, Taking}
 pub use Rattle.ns_monitor.specs.Prelude.{TestCells, TestLast, Tested, Tests, TimedOut, ToChange, ToQueue, ToRelease, ToTell, ToWait, Told, Truths, TryAcquire, TryLock, Turned, Unchanged, VariableWaitMeans, Visit, Wait, WaitKnown, WaitMeans, WaitReturning, WaitTells, Waited, Waiter, WaitsOn}

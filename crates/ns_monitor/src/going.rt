@@ -45,8 +45,8 @@ pub(crate) struct Begun<C: Condition<N>, const N: usize> {
     pub(crate) last: Option<LockWord>,
 }
 
-/// Acquires the lock in this mode, at once or behind a wait: the body of each call that locks. A call of a function
-/// that may wait costs a look at whether it was cut short, so these calls don't call one another.
+/// Acquires the lock in this mode, at once or behind a wait: the body of the handles' calls that lock, which the
+/// monitor's call. It is no function, since a call of one that may wait costs a look at whether it was cut short.
 macro_rules! locked {
     ($monitor:expr, $rt:expr, $seat:expr, $mode:expr) => {{
         let Begun {
