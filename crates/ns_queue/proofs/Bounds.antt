@@ -8,10 +8,6 @@ use Rattle.std.specs.Bool.{OnFalse}
 pub offset_fits : (k size : ℕ) → k < 4 → size < 2 ^ 60 → Fits w64 (k * size)
 offset_fits k size low small = let most : k * size ≤ 4 * size = mul-le-mul_right size (omega arith) in omega (arith, most)
 
--- what four lists take in memory is below the bound that is asked of them
-pub lists_small : (size : ℕ) → size < 2 ^ 60 → 4 * size < 2 ^ 63
-lists_small size small = omega arith
-
 -- what a list takes in memory is below the bound that is asked of it
 pub list_small : (size : ℕ) → size < 2 ^ 60 → size < 2 ^ 63
 list_small size small = omega arith

@@ -2,12 +2,7 @@
 use Rattle.std.proofs.Common.{arith}
 use Rattle.std.specs.Mem.{FitsInMemory}
 use Rattle.std.specs.Prelude.{◌<◌, ◌^◌}
-use Rattle.std.specs.contracts.option.Option.{the_row as option_row}
-use denote.Builtin.{unit}
-use denote.Param.{copied, layout, number, param}
-use denote.RattleType.{RattleType}
-use prog.Memory.{size}
-use Rattle.ns_queue.specs.Names.{HasRoom, array_vec_row, room_enough}
+use Rattle.ns_queue.specs.Names.{HasRoom, RattleType, array_vec_row, copied, layout, number, param, room_enough, size, unit}
 use Rattle.ns_queue.specs.contracts.waiter.Waiter.{the_row as waiter_row}
 
 -- a waiter with such a condition fits in memory
@@ -27,11 +22,3 @@ pub list_fits : (C N : RattleType) → HasRoom (copied 0 C) (param 1 N) → List
 list_fits C N small =
     let one = room_enough (layout (waiter_row (copied 0 C))) in
     let most = room_enough (layout (array_vec_row (waiter_row (copied 0 C)) (number 64) unit)) in omega (arith, one, most, small.0)
-
--- the entry of a seat, of which 64 are to fit
-abbrev pub EntryFits : (C : RattleType) → Type 0
-EntryFits C = size (layout (option_row (waiter_row C))) < 2 ^ 50
-
--- the entry of a seat fits where the condition has room
-pub entry_fits : (C N : RattleType) → HasRoom (copied 0 C) (param 1 N) → EntryFits (copied 0 C)
-entry_fits C N small = let most = room_enough (layout (option_row (waiter_row (copied 0 C)))) in omega (arith, most, small.0)

@@ -3,13 +3,7 @@ use Rattle.std.proofs.Common.{arith}
 use Rattle.std.specs.Mem.{FitsInMemory}
 use Rattle.std.specs.Prelude.{ℕ, ◌*◌, ◌+◌, ◌<◌, ◌^◌}
 use Rattle.std.specs.contracts.option.Option.{the_row as option_row}
-use denote.Builtin.{u64, unit}
-use denote.Param.{copied, layout, number, param, value_of}
-use denote.RattleType.{RattleType}
-use mir.Syntax.{Ty, ty_array}
-use mir.Table.{array_at}
-use prog.Memory.{size}
-use Rattle.ns_queue.specs.Names.{Ghosts, HasRoom, list_row, room, room_enough, small_by}
+use Rattle.ns_queue.specs.Names.{Ghosts, HasRoom, RattleType, Ty, array_at, copied, layout, list_row, number, param, room, room_enough, size, small_by, ty_array, u64, unit, value_of}
 use Rattle.ns_queue.specs.contracts.waiter.Waiter.{the_row as waiter_row}
 use Rattle.ns_queue.specs.contracts.lock_list.LockList.{the_row as lock_row}
 use Rattle.ns_queue.specs.contracts.ring.Ring.{the_row as ring_row}
@@ -63,3 +57,28 @@ ring_fits C N small =
 -- a row of cells fits too
 pub row_fits : (C N : RattleType) → HasRoom (copied 0 C) (param 1 N) → size (array_at (layout u64) (layout (param 1 N))) < 2 ^ 63
 row_fits C N small = let most = room_enough (array_at (layout u64) (layout (param 1 N))) in omega (arith, most, small.1)
+
+-- what code over any condition knows of the room that the lists and their parts take
+pub record PartsFit (C N : RattleType) (means : Ghosts C.Denot (value_of N)) : Type 0 where
+  pub queues : FitsInMemory (queues_row C N means)
+  pub lock : FitsInMemory (lock_row C N means)
+  pub ring : FitsInMemory (ring_row C N)
+  pub entry : size (layout (option_row (waiter_row C))) < 2 ^ 50
+  pub list : FitsInMemory (list_row (waiter_row C) (number 64) unit)
+  pub lists : 4 * size (layout (list_row (waiter_row C) (number 64) unit)) < 2 ^ 63
+  pub row : size (array_at (layout u64) (layout N)) < 2 ^ 63
+
+pub parts_fit : (C N : RattleType) → HasRoom (copied 0 C) (param 1 N) → (means : Ghosts (copied 0 C).Denot (value_of (param 1 N))) → PartsFit (copied 0 C) (param 1 N) means
+parts_fit C N small means =
+    let seat = room_enough (layout (option_row (waiter_row (copied 0 C)))) in
+    let few = list_room C N small in
+    let most = room_enough (layout (list_row (waiter_row (copied 0 C)) (number 64) unit)) in
+    record {
+      queues = queues_fit C N small means;
+      lock = lock_fits C N small means;
+      ring = ring_fits C N small;
+      entry = omega (arith, seat, small.0);
+      list = omega (arith, few, most);
+      lists = omega (arith, few, most);
+      row = row_fits C N small;
+    }

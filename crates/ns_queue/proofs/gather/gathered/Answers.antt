@@ -1,5 +1,4 @@
 use Rattle.std.proofs.Common.{[], ap, sym, ◌++◌, ◌∙◌, ◌∷◌}
-use Rattle.ns_queue.proofs.Prelude.{list_small, number, ring_fits}
 use Rattle.ns_queue.proofs.Places.{ahead_few, from_none, own, seated_stands, smaller, stepped}
 use Rattle.ns_queue.proofs.gather.gathered.Goals as goal
 
@@ -8,12 +7,12 @@ loop-waiter-init g c = rw (c.new-all.ensures, c.front-at.ensures.place) (sym (ow
 
 pub push-requires : goal.push-requires
 push-requires g c = (
-  list_small _ g.met.C.Queueable.list_fits,
+  g.met.C.Queueable.parts_fit.list,
   rw c.loop-waiter.invariant (ahead_few c.loop-waiter.at c.args.ring.now c.in-Some.waiter.now c.get.ensures.orderly (sym c.in-Some.ensures.waiter)),
 )
 
 pub next-at-requires : goal.next-at-requires
-next-at-requires g c = (ring_fits g.row.C (number g.row.N) g.met.C.Condition.has_room, seated_stands c.loop-waiter.at c.args.ring.now c.in-Some.waiter.now (sym c.in-Some.ensures.waiter))
+next-at-requires g c = (g.met.C.Queueable.parts_fit.ring, seated_stands c.loop-waiter.at c.args.ring.now c.in-Some.waiter.now (sym c.in-Some.ensures.waiter))
 
 pub loop-waiter-smaller : goal.loop-waiter-smaller
 loop-waiter-smaller g c = smaller c.loop-waiter.at c.args.ring.now c.in-Some.waiter.now c.next-at.result c.get.ensures.orderly (sym c.in-Some.ensures.waiter) c.next-at.ensures

@@ -1,5 +1,5 @@
 use Rattle.std.proofs.Common.{[], ap, map, rules, sym, ◌++◌, ◌∙◌, ◌∷◌}
-use Rattle.ns_queue.proofs.Prelude.{ahead, length-map, map-append, number, ring_fits, shown_of}
+use Rattle.ns_queue.proofs.Prelude.{ahead, length-map, map-append, shown_of}
 use Rattle.ns_queue.proofs.Places.{ahead_few, from_none, own, seated_stands, smaller, stepped}
 use Rattle.ns_queue.proofs.gather.shown_ring.Goals as goal
 
@@ -12,7 +12,7 @@ push-requires g c =
     (search rules, rw c.loop-waiter.invariant (rw (length-map (ahead c.loop-waiter.at c.args.ring.now) shown_of) few))
 
 pub next-at-requires : goal.next-at-requires
-next-at-requires g c = (ring_fits g.row.C (number g.row.N) g.met.C.Condition.has_room, seated_stands c.loop-waiter.at c.args.ring.now c.in-Some.waiter.now (sym c.in-Some.ensures.waiter))
+next-at-requires g c = (g.met.C.Queueable.parts_fit.ring, seated_stands c.loop-waiter.at c.args.ring.now c.in-Some.waiter.now (sym c.in-Some.ensures.waiter))
 
 pub loop-waiter-smaller : goal.loop-waiter-smaller
 loop-waiter-smaller g c = smaller c.loop-waiter.at c.args.ring.now c.in-Some.waiter.now c.next-at.result c.get.ensures.orderly (sym c.in-Some.ensures.waiter) c.next-at.ensures

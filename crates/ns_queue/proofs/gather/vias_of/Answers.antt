@@ -1,10 +1,7 @@
 use Rattle.std.proofs.Common.{ap, falls, length, map, take_all, ◌∙◌}
-use Rattle.ns_queue.proofs.Prelude.{bytes_136, number, ring_fits, room_at, seated, via_in}
+use Rattle.ns_queue.proofs.Prelude.{bytes_136, room_at, seated, via_in}
 use Rattle.ns_queue.proofs.Vias.{vias_on, vias_count}
 use Rattle.ns_queue.proofs.gather.vias_of.Goals as goal
-
-pub via_at-requires : goal.via_at-requires
-via_at-requires g c = ring_fits g.row.C (number g.row.N) g.met.C.Condition.has_room
 
 pub new-vias-requires : goal.new-vias-requires
 new-vias-requires g c = bytes_136

@@ -1,4 +1,4 @@
-use Rattle.ns_queue.proofs.Prelude.{arith, number, ring_fits}
+use Rattle.ns_queue.proofs.Prelude.{arith}
 use Rattle.ns_queue.proofs.Ringed.{places_low}
 use Rattle.ns_queue.proofs.Places.{seated_low, standing}
 use Rattle.ns_queue.proofs.Running.{next_begins, next_run}
@@ -18,4 +18,4 @@ bounds-lasts-seat g c = let s = standing c.args.seat c.args.ring.now c.requires.
 pub next-requires : goal.next-requires
 next-requires g c =
     let s = standing c.args.seat c.args.ring.now c.requires.stands in
-    (ring_fits g.row.C (number g.row.N) g.met.C.Condition.has_room, (next_run g.C.Condition.means.same c.args.heads.now c.args.lasts.now c.args.seat c.args.ring.now s.w c.requires.row s.is c.requires.runs).stands)
+    (g.met.C.Queueable.parts_fit.ring, (next_run g.C.Condition.means.same c.args.heads.now c.args.lasts.now c.args.seat c.args.ring.now s.w c.requires.row s.is c.requires.runs).stands)

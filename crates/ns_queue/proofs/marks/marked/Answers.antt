@@ -1,7 +1,7 @@
 use Rattle.std.proofs.Common.{arith, falls, length, sym, ℕ, ◌<◌, ◌≤◌}
 use Rattle.ns_queue.proofs.Marking.{pushed_on, skipped_on, marked_yes, marked_no}
 use Rattle.ns_queue.proofs.marks.marked.Goals.{then-marks-i, else-marks-i}
-use Rattle.ns_queue.proofs.Prelude.{at_most, list_small, still_in}
+use Rattle.ns_queue.proofs.Prelude.{at_most, still_in}
 use Rattle.ns_queue.proofs.marks.marked.Goals as goal
 
 pub loop-i-preserved : goal.loop-i-preserved
@@ -18,14 +18,11 @@ loop-i-preserved g c =
       })
     ]
 
-pub new-taken-requires : goal.new-taken-requires
-new-taken-requires g c = list_small _ g.met.C.Queueable.list_fits
-
 room : (got i n : ℕ) → got ≤ i → i < n → n ≤ 64 → got < 64
 room got i n few within most = omega arith
 
 pub push-requires : goal.push-requires
-push-requires g c = (list_small _ g.met.C.Queueable.list_fits, room _ c.loop-i.i _ c.loop-i.invariant.few c.loop-i-test.true c.requires.most)
+push-requires g c = (g.met.C.Queueable.parts_fit.list, room _ c.loop-i.i _ c.loop-i.invariant.few c.loop-i-test.true c.requires.most)
 
 pub bounds-marks-i : goal.bounds-marks-i
 bounds-marks-i g c = still_in c.loop-i.i _ _ c.loop-i-test.true c.requires.same

@@ -1,12 +1,17 @@
-use Rattle.std.proofs.Common.{ap, ◌∙◌}
-use Rattle.ns_queue.proofs.Prelude.{list_small, times_in}
+use Rattle.std.proofs.Common.{List, ap, arith, length, refl, take, take_all, ℕ, ◌∙◌, ◌≡◌, ◌≤◌}
+use Rattle.std.proofs.lemmas.List.{take-append-le}
+use Rattle.std.specs.List.{refill}
+use Rattle.ns_queue.proofs.Prelude.{outside, times_in}
 use Rattle.ns_queue.proofs.queues.drop_those.Goals as goal
+
+-- a list that is as long as the one that it was written over
+refilled : {A : Type 0} (n : ℕ) (xs ws : List A) → n ≡ length xs → length ws ≡ length xs → refill n xs ws ≡ ws
+refilled n xs ws all same = let within : n ≤ length ws = omega (arith, all, same) in rw take-append-le (take_all n ws (omega (arith, all, same)))
 
 pub keep_outside-kept-requires : goal.keep_outside-kept-requires
 keep_outside-kept-requires g c = λ seat high. ap (times_in seat) c.as_mut_slice.ensures.value ∙ c.requires seat high
 
-pub as_mut_slice-requires : goal.as_mut_slice-requires
-as_mut_slice-requires g c = list_small _ g.met.C.Queueable.list_fits
-
-pub truncate-requires : goal.truncate-requires
-truncate-requires g c = list_small _ g.met.C.Queueable.list_fits
+pub returns : goal.returns
+returns g c =
+    c.truncate.ensures.items ∙ ap (take c.keep_outside-kept.result) (refilled _ _ _ refl (c.keep_outside-kept.auto.waiters ∙ ap length c.as_mut_slice.ensures.value))
+    ∙ c.keep_outside-kept.ensures ∙ ap (outside c.args.set) c.as_mut_slice.ensures.value

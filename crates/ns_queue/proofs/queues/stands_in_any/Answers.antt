@@ -1,4 +1,4 @@
-use Rattle.ns_queue.proofs.Prelude.{falls, list_small, offset_fits, refl, still_in, told_no, told_yes}
+use Rattle.ns_queue.proofs.Prelude.{falls, offset_fits, refl, still_in, told_no, told_yes}
 use Rattle.ns_queue.proofs.Inside.{some_list, more_lists}
 use Rattle.ns_queue.proofs.queues.stands_in_any.Goals as goal
 
@@ -11,9 +11,6 @@ pub loop-list-preserved : goal.loop-list-preserved
 loop-list-preserved g c =
     let none = told_no _ _ c.if-stands_in.false c.stands_in.ensures.1 in
     more_lists c.args.lists.now c.loop-list.list-index c.list-item.result _ c.args.seat c.loop-list-test.true c.type_inv.lists c.as_slice.ensures.value none c.loop-list.invariant
-
-pub as_slice-requires : goal.as_slice-requires
-as_slice-requires g c = list_small _ g.met.C.Queueable.list_fits
 
 pub offset_bounds-lists-list-index : goal.offset_bounds-lists-list-index
 offset_bounds-lists-list-index g c = offset_fits c.loop-list.list-index _ c.loop-list-test.true g.met.C.Queueable.list_fits

@@ -1,5 +1,4 @@
 use Rattle.std.proofs.Common.{ap, arith, get_or, sym, ◌∙◌}
-use Rattle.ns_queue.proofs.Prelude.{number, ring_fits}
 use Rattle.ns_queue.proofs.Making.{dropped, inner}
 use Rattle.ns_queue.proofs.Ringed.{places_low}
 use Rattle.ns_queue.proofs.Seats.{stands_low}
@@ -20,7 +19,7 @@ bounds-lasts-first g c =
 
 pub remake-requires : goal.remake-requires
 remake-requires g c = (
-  ring_fits g.row.C (number g.row.N) g.met.C.Condition.has_room,
+  g.met.C.Queueable.parts_fit.ring,
   rw c.requires.left (dropped g.C.Condition.means.same c.args.heads.now c.args.lasts.now c.args.seat c.args.before c.args.behind c.requires.was c.requires.row c.requires.stood c.if-first-seat.true c.requires.before_is c.requires.next_is c.requires.runs),
 )
 

@@ -1,4 +1,4 @@
-use Rattle.ns_queue.proofs.Prelude.{arith, false, number, option_copied, ring_fits, sym, true}
+use Rattle.ns_queue.proofs.Prelude.{arith, false, option_copied, sym, true}
 use Rattle.ns_queue.proofs.Making.{head_low, joins_told, made_begun, made_ends, made_joins, made_stops, run_read}
 use Rattle.ns_queue.proofs.Places.{seated_low, seated_stands, smaller}
 use Rattle.ns_queue.proofs.remake.remake.Goals.{then-not-joins+else-heads-at, else-not-joins}
@@ -22,7 +22,7 @@ pub bounds-heads-at-in-Some : goal.bounds-heads-at-in-Some
 bounds-heads-at-in-Some g c = let low = seated_low c.loop-waiter.at c.args.ring.now c.in-Some.waiter.now c.get.ensures.orderly (sym c.in-Some.ensures.waiter) in omega (arith, low)
 
 pub next-at-requires : goal.next-at-requires
-next-at-requires g c = (ring_fits g.row.C (number g.row.N) g.met.C.Condition.has_room, seated_stands c.loop-waiter.at c.args.ring.now c.in-Some.waiter.now (sym c.in-Some.ensures.waiter))
+next-at-requires g c = (g.met.C.Queueable.parts_fit.ring, seated_stands c.loop-waiter.at c.args.ring.now c.in-Some.waiter.now (sym c.in-Some.ensures.waiter))
 
 pub loop-waiter-smaller : goal.loop-waiter-smaller
 loop-waiter-smaller g c = smaller c.loop-waiter.at c.args.ring.now c.in-Some.waiter.now c.next-at.result c.get.ensures.orderly (sym c.in-Some.ensures.waiter) c.next-at.ensures

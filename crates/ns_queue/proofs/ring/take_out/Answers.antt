@@ -1,5 +1,5 @@
 use Rattle.std.proofs.Common.{arith, slice_index, sym, ◌-◌}
-use Rattle.ns_queue.proofs.Prelude.{last_in, less_within, number, one_down, ring_fits, times_in, told_no, told_yes}
+use Rattle.ns_queue.proofs.Prelude.{last_in, less_within, one_down, times_in, told_no, told_yes}
 use Rattle.ns_queue.proofs.Leaving.{all_on}
 use Rattle.ns_queue.proofs.Seats.{none_without}
 use Rattle.ns_queue.proofs.ring.take_out.Goals as goal
@@ -13,11 +13,8 @@ loop-left-preserved g c =
       within = omega (arith, c.loop-left.invariant.within);
     }
 
-pub holds-requires : goal.holds-requires
-holds-requires g c = ring_fits g.row.C (number g.row.N) g.met.C.Condition.has_room
-
 pub remove-requires : goal.remove-requires
-remove-requires g c = (ring_fits g.row.C (number g.row.N) g.met.C.Condition.has_room, told_yes c.holds.result _ c.if-holds.true c.holds.ensures.stands.0)
+remove-requires g c = (g.met.C.Queueable.parts_fit.ring, told_yes c.holds.result _ c.if-holds.true c.holds.ensures.stands.0)
 
 pub overflow_sub-left : goal.overflow_sub-left
 overflow_sub-left g c = c.loop-left-test.true

@@ -1,5 +1,5 @@
 use Rattle.std.proofs.Common.{[], ap, inl, inr, sym, ◌++◌, ◌∙◌, ◌∷◌}
-use Rattle.ns_queue.proofs.Prelude.{Sought, bytes_72, number, option_copied, reads, ring_fits, row_fits}
+use Rattle.ns_queue.proofs.Prelude.{Sought, bytes_72, option_copied, reads}
 use Rattle.ns_queue.proofs.Asking.{Enters}
 use Rattle.ns_queue.proofs.Places.{seated_stands, smaller}
 use Rattle.ns_queue.proofs.Reading.{look_fits, none_taken, reads_end, reads_few, reads_on, reads_start, writer_taken}
@@ -21,7 +21,7 @@ returns-then-is_write g c =
     record { woken = one.0; tests = one.1; orderly = c.get.ensures.orderly }
 
 pub next-at-requires : goal.next-at-requires
-next-at-requires g c = (ring_fits g.row.C (number g.row.N) g.met.C.Condition.has_room, seated_stands c.args.sought.seat c.args.ring.now c.in-Some.found.now (sym c.in-Some.ensures.waiter))
+next-at-requires g c = (g.met.C.Queueable.parts_fit.ring, seated_stands c.args.sought.seat c.args.ring.now c.in-Some.found.now (sym c.in-Some.ensures.waiter))
 
 pub loop-waiter-init : goal.loop-waiter-init
 loop-waiter-init g c =
@@ -43,7 +43,7 @@ push_if-requires g c =
     (reads_few g.C.Condition.means.same meets (option_copied c.loop-waiter.first) c.loop-waiter.truth c.loop-waiter.at c.loop-waiter.tests c.loop-waiter.woken.items c.args.ring.now c.in-Some-get.waiter.now c.get.ensures.orderly (sym c.in-Some-get.ensures.waiter) c.loop-waiter.invariant).1
 
 pub next-at-requires-in-Some-get : goal.next-at-requires-in-Some-get
-next-at-requires-in-Some-get g c = (ring_fits g.row.C (number g.row.N) g.met.C.Condition.has_room, seated_stands c.loop-waiter.at c.args.ring.now c.in-Some-get.waiter.now (sym c.in-Some-get.ensures.waiter))
+next-at-requires-in-Some-get g c = (g.met.C.Queueable.parts_fit.ring, seated_stands c.loop-waiter.at c.args.ring.now c.in-Some-get.waiter.now (sym c.in-Some-get.ensures.waiter))
 
 pub loop-waiter-smaller : goal.loop-waiter-smaller
 loop-waiter-smaller g c = smaller c.loop-waiter.at c.args.ring.now c.in-Some-get.waiter.now c.next-at-in-Some-get.result c.get.ensures.orderly (sym c.in-Some-get.ensures.waiter) c.next-at-in-Some-get.ensures
@@ -66,15 +66,6 @@ returns g c =
     let meets = λ (d : g.row.C.Denot). g.C.Condition.means.holds d c.args.row.now in
     let all = reads_end g.C.Condition.means.same meets (option_copied c.loop-waiter.first) c.loop-waiter.truth c.loop-waiter.at c.loop-waiter.tests c.loop-waiter.woken.items c.args.ring.now (sym c.in_default-get.ensures.waiter) c.loop-waiter.invariant in
     record { woken = all.0; tests = all.1; orderly = c.get.ensures.orderly }
-
-pub get-requires : goal.get-requires
-get-requires g c = ring_fits g.row.C (number g.row.N) g.met.C.Condition.has_room
-
-pub get-requires-in-loop-waiter : goal.get-requires-in-loop-waiter
-get-requires-in-loop-waiter g c = ring_fits g.row.C (number g.row.N) g.met.C.Condition.has_room
-
-pub look_at-seen-requires : goal.look_at-seen-requires
-look_at-seen-requires g c = row_fits g.row.C (number g.row.N) g.met.C.Condition.has_room
 
 pub new-woken-requires : goal.new-woken-requires
 new-woken-requires g c = bytes_72

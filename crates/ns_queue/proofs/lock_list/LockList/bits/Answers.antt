@@ -1,5 +1,5 @@
 use Rattle.std.proofs.Common.{ap, nat_lt, sym, ◌∙◌}
-use Rattle.ns_queue.proofs.Prelude.{has_condition, is_long, number, ring_fits, writes_plainly}
+use Rattle.ns_queue.proofs.Prelude.{has_condition, is_long, writes_plainly}
 use Rattle.ns_queue.proofs.Ringed.{any_counted}
 use Rattle.ns_queue.proofs.lock_list.LockList.bits.Goals as goal
 
@@ -11,6 +11,3 @@ returns-clause-writer_waits g c = rw (← c.self.view_is) (ap (λ k. nat_lt 0 k.
 
 pub returns-clause-long : goal.returns-clause-long
 returns-clause-long g c = rw (← c.self.view_is) (ap (λ k. nat_lt 0 k.long) c.counts-counts.ensures ∙ sym (any_counted is_long c.self.inside.ring))
-
-pub counts-counts-requires : goal.counts-counts-requires
-counts-counts-requires g c = ring_fits g.row.C (number g.row.N) g.met.C.Condition.has_room

@@ -1,5 +1,4 @@
 use Rattle.std.proofs.Common.{[], ap, sym, ◌++◌, ◌∙◌, ◌∷◌}
-use Rattle.ns_queue.proofs.Prelude.{lock_fits, number, ring_fits}
 use Rattle.ns_queue.proofs.Places.{ahead_free, from_none, own, seated_stands, smaller, stepped}
 use Rattle.ns_queue.proofs.lock_list.LockList.copied.Goals as goal
 
@@ -9,10 +8,10 @@ loop-waiter-init g c = rw (c.new-copy.ensures, c.front-at.ensures.place) (sym (o
 pub push_back-requires : goal.push_back-requires
 push_back-requires g c =
     let free = ahead_free c.loop-waiter.at c.self.inside.ring c.in-Some.waiter.now c.front-at.ensures.orderly (sym c.in-Some.ensures.waiter) in
-    (lock_fits g.row.C (number g.row.N) g.met.C.Condition.has_room g.C.Condition, (free.0, rw c.loop-waiter.invariant free.1))
+    (g.met.C.Queueable.parts_fit.lock, (free.0, rw c.loop-waiter.invariant free.1))
 
 pub next-at-requires : goal.next-at-requires
-next-at-requires g c = (ring_fits g.row.C (number g.row.N) g.met.C.Condition.has_room, seated_stands c.loop-waiter.at c.self.inside.ring c.in-Some.waiter.now (sym c.in-Some.ensures.waiter))
+next-at-requires g c = (g.met.C.Queueable.parts_fit.ring, seated_stands c.loop-waiter.at c.self.inside.ring c.in-Some.waiter.now (sym c.in-Some.ensures.waiter))
 
 pub loop-waiter-smaller : goal.loop-waiter-smaller
 loop-waiter-smaller g c = smaller c.loop-waiter.at c.self.inside.ring c.in-Some.waiter.now c.next-at.result c.front-at.ensures.orderly (sym c.in-Some.ensures.waiter) c.next-at.ensures
@@ -24,12 +23,3 @@ loop-waiter-preserved g c =
 
 pub returns : goal.returns
 returns g c = rw (← c.self.view_is) (c.loop-waiter.invariant ∙ (from_none c.loop-waiter.at c.self.inside.ring (sym c.in_default.ensures.waiter)).1)
-
-pub new-copy-requires : goal.new-copy-requires
-new-copy-requires g c = lock_fits g.row.C (number g.row.N) g.met.C.Condition.has_room g.C.Condition
-
-pub front-at-requires : goal.front-at-requires
-front-at-requires g c = ring_fits g.row.C (number g.row.N) g.met.C.Condition.has_room
-
-pub get-requires : goal.get-requires
-get-requires g c = ring_fits g.row.C (number g.row.N) g.met.C.Condition.has_room

@@ -1,6 +1,6 @@
 use Rattle.ns_queue.proofs.Making.{goes_low, pushed}
 use Rattle.ns_queue.proofs.Ringed.{row_back}
-use Rattle.ns_queue.proofs.Prelude.{lock_fits, number, place_fits, ring_fits, seat_place}
+use Rattle.ns_queue.proofs.Prelude.{place_fits, seat_place}
 use Rattle.ns_queue.proofs.lock_list.LockList.push_back.Goals as goal
 
 pub bounds-self-inside-head : goal.bounds-self-inside-head
@@ -11,12 +11,6 @@ pub invariant_of-self : goal.invariant_of-self
 invariant_of-self g c =
     let row = row_back c.self.inside.ring c.args.waiter (rw (← c.self.view_is) at c.head_for-head.ensures.orderly) c.requires.below (rw (← c.self.view_is) at c.requires.free) in
     rw c.push_back.ensures (pushed g.C.Condition.means.same c.self.inside.heads c.self.inside.lasts c.head_for-head.result c.self.inside.ring c.args.waiter row (rw (← c.self.view_is) at c.head_for-head.ensures.head) c.self.invariant)
-
-pub head_for-head-requires : goal.head_for-head-requires
-head_for-head-requires g c = lock_fits g.row.C (number g.row.N) g.met.C.Condition.has_room g.C.Condition
-
-pub push_back-requires : goal.push_back-requires
-push_back-requires g c = (ring_fits g.row.C (number g.row.N) g.met.C.Condition.has_room, (c.requires.below, rw (← c.self.view_is) at c.requires.free))
 
 pub overflow_cast-self : goal.overflow_cast-self
 overflow_cast-self g c = place_fits c.args.waiter.seat (seat_place c.args.waiter.seat c.requires.below)

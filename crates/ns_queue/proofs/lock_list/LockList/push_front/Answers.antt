@@ -1,4 +1,4 @@
-use Rattle.ns_queue.proofs.Prelude.{[], number, place_fits, ring_fits, seat_place}
+use Rattle.ns_queue.proofs.Prelude.{[], place_fits, seat_place}
 use Rattle.ns_queue.proofs.Making.{fronted}
 use Rattle.ns_queue.proofs.Ringed.{row_more}
 use Rattle.ns_queue.proofs.lock_list.LockList.push_front.Goals as goal
@@ -6,13 +6,7 @@ use Rattle.ns_queue.proofs.lock_list.LockList.push_front.Goals as goal
 pub remake-requires : goal.remake-requires
 remake-requires g c =
     let row = row_more [] c.self.inside.ring c.args.waiter c.front-first.ensures.orderly c.requires.below (rw (← c.self.view_is) at c.requires.free) in
-    (ring_fits g.row.C (number g.row.N) g.met.C.Condition.has_room, rw c.push_front.ensures (fronted g.C.Condition.means.same c.self.inside.heads c.self.inside.lasts c.front-first.result c.self.inside.ring c.args.waiter row c.front-first.ensures.place c.self.invariant))
-
-pub front-first-requires : goal.front-first-requires
-front-first-requires g c = ring_fits g.row.C (number g.row.N) g.met.C.Condition.has_room
-
-pub push_front-requires : goal.push_front-requires
-push_front-requires g c = (ring_fits g.row.C (number g.row.N) g.met.C.Condition.has_room, (c.requires.below, rw (← c.self.view_is) at c.requires.free))
+    (g.met.C.Queueable.parts_fit.ring, rw c.push_front.ensures (fronted g.C.Condition.means.same c.self.inside.heads c.self.inside.lasts c.front-first.result c.self.inside.ring c.args.waiter row c.front-first.ensures.place c.self.invariant))
 
 pub overflow_cast-self : goal.overflow_cast-self
 overflow_cast-self g c = place_fits c.args.waiter.seat (seat_place c.args.waiter.seat c.requires.below)

@@ -1,4 +1,4 @@
-use Rattle.ns_queue.proofs.Prelude.{number, refl, ring_fits, sym, times_in, told_no, told_yes}
+use Rattle.ns_queue.proofs.Prelude.{refl, sym, times_in, told_no, told_yes}
 use Rattle.ns_queue.proofs.Seats.{none_without}
 use Rattle.ns_queue.proofs.lock_list.LockList.remove.Goals as goal
 
@@ -15,21 +15,18 @@ returns g c =
     let here = told_yes c.holds.result _ c.if-not-holds.false c.holds.ensures.stands.0 in
     rw (← c.self.view_is) (record { stood = (λ yes. here, λ stands. refl); removed = c.remove.ensures; absent = tt })
 
-pub holds-requires : goal.holds-requires
-holds-requires g c = ring_fits g.row.C (number g.row.N) g.met.C.Condition.has_room
-
 pub prev-before-requires : goal.prev-before-requires
-prev-before-requires g c = (ring_fits g.row.C (number g.row.N) g.met.C.Condition.has_room, told_yes c.holds.result _ c.if-not-holds.false c.holds.ensures.stands.0)
+prev-before-requires g c = (g.met.C.Queueable.parts_fit.ring, told_yes c.holds.result _ c.if-not-holds.false c.holds.ensures.stands.0)
 
 pub next-behind-requires : goal.next-behind-requires
-next-behind-requires g c = (ring_fits g.row.C (number g.row.N) g.met.C.Condition.has_room, told_yes c.holds.result _ c.if-not-holds.false c.holds.ensures.stands.0)
+next-behind-requires g c = (g.met.C.Queueable.parts_fit.ring, told_yes c.holds.result _ c.if-not-holds.false c.holds.ensures.stands.0)
 
 pub remove-requires : goal.remove-requires
-remove-requires g c = (ring_fits g.row.C (number g.row.N) g.met.C.Condition.has_room, told_yes c.holds.result _ c.if-not-holds.false c.holds.ensures.stands.0)
+remove-requires g c = (g.met.C.Queueable.parts_fit.ring, told_yes c.holds.result _ c.if-not-holds.false c.holds.ensures.stands.0)
 
 pub mend-requires : goal.mend-requires
 mend-requires g c = (
-  ring_fits g.row.C (number g.row.N) g.met.C.Condition.has_room,
+  g.met.C.Queueable.parts_fit.ring,
   record {
     was = c.self.inside.ring;
     row = c.holds.ensures.orderly;

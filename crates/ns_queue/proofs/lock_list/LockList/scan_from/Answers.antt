@@ -1,12 +1,12 @@
 use Rattle.std.proofs.Common.{ap, map, ◌∙◌}
-use Rattle.ns_queue.proofs.Prelude.{lock_fits, number, ring_fits, row_fits, seated, via_in, without_all}
+use Rattle.ns_queue.proofs.Prelude.{seated, via_in, without_all}
 use Rattle.ns_queue.proofs.RunCounts.{tests_most}
 use Rattle.ns_queue.proofs.Leaving.{woken_leave}
 use Rattle.ns_queue.proofs.Vias.{vias_woken}
 use Rattle.ns_queue.proofs.lock_list.LockList.scan_from.Goals as goal
 
 pub choose-chosen-requires : goal.choose-chosen-requires
-choose-chosen-requires g c = (ring_fits g.row.C (number g.row.N) g.met.C.Condition.has_room, (row_fits g.row.C (number g.row.N) g.met.C.Condition.has_room, rw (← c.self.view_is) at c.requires))
+choose-chosen-requires g c = (g.met.C.Queueable.parts_fit.ring, (g.met.C.Queueable.parts_fit.row, rw (← c.self.view_is) at c.requires))
 
 pub returns : goal.returns
 returns g c =
@@ -20,9 +20,3 @@ returns g c =
       tests = chosen.tests;
       at_most_runs = rw chosen.tests (tests_most g.C.Condition.means.same meets ring);
     })
-
-pub vias_of-vias-requires : goal.vias_of-vias-requires
-vias_of-vias-requires g c = (ring_fits g.row.C (number g.row.N) g.met.C.Condition.has_room, c.as_slice.ensures.fits)
-
-pub remove_all-requires : goal.remove_all-requires
-remove_all-requires g c = lock_fits g.row.C (number g.row.N) g.met.C.Condition.has_room g.C.Condition

@@ -1,4 +1,4 @@
-use Rattle.ns_queue.proofs.Prelude.{false, has_condition, number, option_copied, ring_fits, row_fits, sym, true}
+use Rattle.ns_queue.proofs.Prelude.{false, has_condition, option_copied, sym, true}
 use Rattle.ns_queue.proofs.Seeking.{answered, counted}
 use Rattle.ns_queue.proofs.Places.{seated_stands}
 use Rattle.ns_queue.proofs.Running.{next_run, sought_few, sought_here, sought_none, sought_on, sought_smaller, sought_start, tests_fit}
@@ -29,7 +29,7 @@ returns-then-is_met g c =
 
 pub beyond-seat-requires : goal.beyond-seat-requires
 beyond-seat-requires g c =
-    (ring_fits g.row.C (number g.row.N) g.met.C.Condition.has_room, (c.front-seat.ensures.orderly, (seated_stands c.loop-waiter.seat c.self.inside.ring c.in-Some.waiter.now (sym c.in-Some.ensures.waiter), c.loop-waiter.invariant.runs)))
+    (g.met.C.Queueable.parts_fit.ring, (c.front-seat.ensures.orderly, (seated_stands c.loop-waiter.seat c.self.inside.ring c.in-Some.waiter.now (sym c.in-Some.ensures.waiter), c.loop-waiter.invariant.runs)))
 
 pub loop-waiter-smaller : goal.loop-waiter-smaller
 loop-waiter-smaller g c =
@@ -51,12 +51,3 @@ pub returns : goal.returns
 returns g c =
     let meets = λ (d : g.row.C.Denot). g.C.Condition.means.holds d c.args.row.now in
     rw (← c.self.view_is) (sought_none g.C.Condition.means.same meets (λ d e is. g.met.C.Condition.same_agrees d e c.args.row.now c.told-row is) _ _ c.loop-waiter.seat c.loop-waiter.tests c.self.inside.ring (sym c.in_default.ensures.waiter) c.loop-waiter.invariant)
-
-pub front-seat-requires : goal.front-seat-requires
-front-seat-requires g c = ring_fits g.row.C (number g.row.N) g.met.C.Condition.has_room
-
-pub get-requires : goal.get-requires
-get-requires g c = ring_fits g.row.C (number g.row.N) g.met.C.Condition.has_room
-
-pub is_met-requires : goal.is_met-requires
-is_met-requires g c = row_fits g.row.C (number g.row.N) g.met.C.Condition.has_room

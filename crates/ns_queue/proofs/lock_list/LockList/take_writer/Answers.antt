@@ -1,5 +1,4 @@
 use Rattle.std.proofs.Common.{refl, sym, ◌∙◌}
-use Rattle.ns_queue.proofs.Prelude.{lock_fits, number, ring_fits, row_fits}
 use Rattle.ns_queue.proofs.Reading.{nobody_first, reader_first, writer_first}
 use Rattle.ns_queue.proofs.lock_list.LockList.take_writer.Goals as goal
 
@@ -21,12 +20,3 @@ returns g c =
     let writer = writer_first g.C.Condition.means.same meets c.seek-sought.result c.in-Some.found.now.via c.self.inside.ring _ c.in-Some.found.now c.get.ensures.orderly
     (rw (← c.self.view_is) at c.seek-sought.ensures) (sym c.in-Some.ensures.waiter) (sym c.is_write.ensures ∙ c.if-not-is_write.false) refl (rw (← c.self.view_is) at c.remove.ensures.removed) in
     rw (← c.self.view_is) (record { told = writer.0; left = writer.1 })
-
-pub seek-sought-requires : goal.seek-sought-requires
-seek-sought-requires g c = (lock_fits g.row.C (number g.row.N) g.met.C.Condition.has_room g.C.Condition, row_fits g.row.C (number g.row.N) g.met.C.Condition.has_room)
-
-pub get-requires : goal.get-requires
-get-requires g c = ring_fits g.row.C (number g.row.N) g.met.C.Condition.has_room
-
-pub remove-requires : goal.remove-requires
-remove-requires g c = lock_fits g.row.C (number g.row.N) g.met.C.Condition.has_room g.C.Condition

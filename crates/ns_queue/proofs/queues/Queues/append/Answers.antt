@@ -1,11 +1,11 @@
 use Rattle.ns_queue.proofs.Appended.{next_free}
 use Rattle.ns_queue.proofs.Taken.{low_at}
-use Rattle.ns_queue.proofs.Prelude.{at_most, falls, length, number, queues_fit}
+use Rattle.ns_queue.proofs.Prelude.{at_most, falls, length}
 use Rattle.ns_queue.proofs.queues.Queues.append.Goals as goal
 
 pub push_back-requires : goal.push_back-requires
 push_back-requires g c = (
-  queues_fit g.row.C (number g.row.N) g.met.C.Condition.has_room g.C.Condition,
+  g.met.C.Queueable.parts_fit.queues,
   (
     tt,
     (

@@ -1,4 +1,4 @@
-use Rattle.ns_queue.proofs.Prelude.{arith, list_small, lists_small, lock_fits, number, on_none, times_in, told_no, told_yes}
+use Rattle.ns_queue.proofs.Prelude.{arith, on_none, times_in, told_no, told_yes}
 use Rattle.ns_queue.proofs.queues.Queues.holds.Goals as goal
 
 pub returns-then-holds : goal.returns-then-holds
@@ -14,9 +14,3 @@ returns-else-holds g c =
       nowhere = on_none c.stands_in_any.result _ (λ m. c.stands_in_any.ensures.1 (omega (arith, m, out)));
       orderly = c.self.invariant;
     })
-
-pub holds-requires : goal.holds-requires
-holds-requires g c = lock_fits g.row.C (number g.row.N) g.met.C.Condition.has_room g.C.Condition
-
-pub stands_in_any-requires : goal.stands_in_any-requires
-stands_in_any-requires g c = (lists_small _ g.met.C.Queueable.list_fits, list_small _ g.met.C.Queueable.list_fits)

@@ -1,5 +1,5 @@
 use Rattle.std.proofs.Common.{[], ap, arith, subst, sym, ◌++◌, ◌∙◌, ◌∷◌, ◌≡◌}
-use Rattle.ns_queue.proofs.Prelude.{Cv, Waiter, beside, number, queues_fit, waiters_of, with_each, with_waiters}
+use Rattle.ns_queue.proofs.Prelude.{Cv, Waiter, beside, waiters_of, with_each, with_waiters}
 use Rattle.ns_queue.proofs.Orders.{free_beside}
 use Rattle.ns_queue.proofs.Parts.{each_beside, each_less, each_more}
 use Rattle.ns_queue.proofs.queues.Queues.push_any.Goals.{then-contains, else-contains}
@@ -9,7 +9,7 @@ pub push_to-requires : goal.push_to-requires
 push_to-requires g c =
     let same : c.named.result.seat ≡ c.args.waiter.seat = ap (λ (w : Waiter _). w.seat) c.named.ensures in
     let free = each_beside c.loop-k.k c.args.waiter.seat c.args.cvs c.args.waiter c.args.self.now c.loop-k.self c.loop-k.invariant ∙ free_beside c.args.self.now c.args.waiter.seat c.loop-k.k c.requires.free in
-    (queues_fit g.row.C (number g.row.N) g.met.C.Condition.has_room g.C.Condition, (c.loop-k-test.true, (omega (arith, same, c.requires.below), subst (λ seat. beside c.loop-k.self seat c.loop-k.k ≡ 0) (sym same) free)))
+    (g.met.C.Queueable.parts_fit.queues, (c.loop-k-test.true, (omega (arith, same, c.requires.below), subst (λ seat. beside c.loop-k.self seat c.loop-k.k ≡ 0) (sym same) free)))
 
 pub loop-k-preserved : goal.loop-k-preserved
 loop-k-preserved g c = elim c.if-contains.branch [

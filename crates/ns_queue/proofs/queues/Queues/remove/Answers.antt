@@ -1,5 +1,5 @@
 use Rattle.std.proofs.Common.{◌∙◌}
-use Rattle.ns_queue.proofs.Prelude.{arith, list_small, lists_small, lock_fits, map, neither, number, queues_fit, refl, sum_by, times_in, told_no, told_yes}
+use Rattle.ns_queue.proofs.Prelude.{arith, map, neither, refl, sum_by, times_in, told_no, told_yes}
 use Rattle.ns_queue.proofs.Inside.{lock_left, shape}
 use Rattle.ns_queue.proofs.Outside.{all_below, without_one}
 use Rattle.ns_queue.proofs.Parts.{lock_without}
@@ -15,12 +15,6 @@ invariant_of-self-then-not-stands_in_any g c = lock_left _ _ _ c.args.seat c.sel
 pub invariant_of-self-2 : goal.invariant_of-self-2
 invariant_of-self-2 g c = lock_left _ _ _ c.args.seat c.self.invariant c.remove.ensures.removed
 
-pub remove-requires : goal.remove-requires
-remove-requires g c = lock_fits g.row.C (number g.row.N) g.met.C.Condition.has_room g.C.Condition
-
-pub stands_in_any-requires : goal.stands_in_any-requires
-stands_in_any-requires g c = (lists_small _ g.met.C.Queueable.list_fits, list_small _ g.met.C.Queueable.list_fits)
-
 pub none-requires : goal.none-requires
 none-requires g c = tt
 
@@ -28,9 +22,6 @@ pub with-requires : goal.with-requires
 with-requires g c =
     let here = told_yes c.stands_in_any.result _ c.if-not-stands_in_any.false c.stands_in_any.ensures.0 in
     low_of (sum_by (times_in c.args.seat) (map (λ u. u.items) c.self.inside.cvs)) c.args.seat (all_below c.self.inside.lock c.self.inside.cvs c.self.invariant c.args.seat) here
-
-pub drop_from_variables-requires : goal.drop_from_variables-requires
-drop_from_variables-requires g c = queues_fit g.row.C (number g.row.N) g.met.C.Condition.has_room g.C.Condition
 
 pub returns-then-remove : goal.returns-then-remove
 returns-then-remove g c =

@@ -1,4 +1,4 @@
-use Rattle.ns_queue.proofs.Prelude.{lock_fits, number, refl, row_fits}
+use Rattle.ns_queue.proofs.Prelude.{refl}
 use Rattle.ns_queue.proofs.Inside.{lock_lessened}
 use Rattle.ns_queue.proofs.Leaving.{times_left}
 use Rattle.ns_queue.proofs.queues.Queues.scan_from.Goals as goal
@@ -7,7 +7,7 @@ pub invariant_of-self : goal.invariant_of-self
 invariant_of-self g c = lock_lessened _ _ _ c.self.invariant (λ seat. rw c.scan_from.ensures.left (times_left (λ d. g.C.Condition.means.holds d c.args.row.now) c.self.inside.lock seat))
 
 pub scan_from-requires : goal.scan_from-requires
-scan_from-requires g c = (lock_fits g.row.C (number g.row.N) g.met.C.Condition.has_room g.C.Condition, (row_fits g.row.C (number g.row.N) g.met.C.Condition.has_room, rw (← c.self.view_is) at c.requires))
+scan_from-requires g c = (g.met.C.Queueable.parts_fit.lock, (g.met.C.Queueable.parts_fit.row, rw (← c.self.view_is) at c.requires))
 
 pub returns : goal.returns
 returns g c =

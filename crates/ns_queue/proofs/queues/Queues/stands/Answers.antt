@@ -1,5 +1,5 @@
 use Rattle.std.proofs.Common.{ap, nat_lt, ◌∙◌}
-use Rattle.ns_queue.proofs.Prelude.{lock_fits, ltb_from_iff, number, queues_fit, times_in}
+use Rattle.ns_queue.proofs.Prelude.{ltb_from_iff, times_in}
 use Rattle.ns_queue.proofs.queues.Queues.stands.Goals as goal
 
 pub returns-in-Lock : goal.returns-in-Lock
@@ -10,9 +10,3 @@ returns-in-Cv g c = record {
   stands = rw c.in-Cv.is (ltb_from_iff c.stands_in.ensures ∙ ap (λ ws. nat_lt 0 (times_in c.args.seat ws)) c.variable.ensures.list);
   orderly = c.variable.ensures.orderly;
 }
-
-pub holds-requires : goal.holds-requires
-holds-requires g c = lock_fits g.row.C (number g.row.N) g.met.C.Condition.has_room g.C.Condition
-
-pub variable-requires : goal.variable-requires
-variable-requires g c = (queues_fit g.row.C (number g.row.N) g.met.C.Condition.has_room g.C.Condition, rw c.in-Cv.is at c.requires)

@@ -1,16 +1,10 @@
 use Rattle.std.proofs.Common.{ap, refl, sym, ◌∙◌}
-use Rattle.ns_queue.proofs.Prelude.{cvs_without, number, queues_fit, sole_of, taken_set}
+use Rattle.ns_queue.proofs.Prelude.{cvs_without, sole_of, taken_set}
 use Rattle.ns_queue.proofs.Taken.{set_sole, sole_low}
 use Rattle.ns_queue.proofs.queues.Queues.take_sole.Goals as goal
 
-pub variable-requires : goal.variable-requires
-variable-requires g c = (queues_fit g.row.C (number g.row.N) g.met.C.Condition.has_room g.C.Condition, c.requires)
-
 pub with-requires : goal.with-requires
 with-requires g c = sole_low c.variable.result.now c.in-Some.sole c.variable.ensures.below (sym c.sole_in.ensures ∙ c.in-Some.is)
-
-pub drop_from_variables-requires : goal.drop_from_variables-requires
-drop_from_variables-requires g c = queues_fit g.row.C (number g.row.N) g.met.C.Condition.has_room g.C.Condition
 
 pub returns-in-Some : goal.returns-in-Some
 returns-in-Some g c =

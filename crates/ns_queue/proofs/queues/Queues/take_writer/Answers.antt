@@ -1,4 +1,4 @@
-use Rattle.ns_queue.proofs.Prelude.{lock_fits, number, refl, row_fits}
+use Rattle.ns_queue.proofs.Prelude.{refl}
 use Rattle.ns_queue.proofs.Inside.{lock_lessened}
 use Rattle.ns_queue.proofs.Leaving.{times_left_by_writer}
 use Rattle.ns_queue.proofs.queues.Queues.take_writer.Goals as goal
@@ -8,6 +8,3 @@ invariant_of-self g c = lock_lessened _ _ _ c.self.invariant (λ seat. rw c.take
 
 pub returns : goal.returns
 returns g c = rw (← c.self.view_is) (record { told = c.take_writer.ensures.told; left = rw c.take_writer.ensures.left refl })
-
-pub take_writer-requires : goal.take_writer-requires
-take_writer-requires g c = (lock_fits g.row.C (number g.row.N) g.met.C.Condition.has_room g.C.Condition, row_fits g.row.C (number g.row.N) g.met.C.Condition.has_room)

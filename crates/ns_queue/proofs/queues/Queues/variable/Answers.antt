@@ -1,7 +1,7 @@
 use Rattle.ns_queue.proofs.Parts.{below_in}
 use Rattle.ns_queue.proofs.Inside.{shape, list_at, list_there}
 use Rattle.std.proofs.Common.{sym, ◌∙◌}
-use Rattle.ns_queue.proofs.Prelude.{Cv, list_small, offset_fits}
+use Rattle.ns_queue.proofs.Prelude.{Cv, offset_fits}
 use Rattle.ns_queue.proofs.queues.Queues.variable.Goals as goal
 
 pub offset_bounds-self-inside-k : goal.offset_bounds-self-inside-k
@@ -12,9 +12,6 @@ listed g c = list_there c.self.inside.lock c.self.inside.cvs c.args.k c.self.inv
 
 pub bounds-self-inside-k : goal.bounds-self-inside-k
 bounds-self-inside-k g c = c.requires
-
-pub as_slice-requires : goal.as_slice-requires
-as_slice-requires g c = list_small _ g.met.C.Queueable.list_fits
 
 pub returns : goal.returns
 returns g c =

@@ -10,4 +10,4 @@ pub returns-clause-orderly : goal.returns-clause-orderly
 returns-clause-orderly g c = rw (← c.self.view_is) (row_of _ _ _ _ _ c.self.invariant)
 
 pub offset_bounds-held-seat : goal.offset_bounds-held-seat
-offset_bounds-held-seat g c = let low : c.args.seat < 64 = omega (arith, c.if-seat-ge64.false) in entry_at c.args.seat _ low g.met.C.Queueable.entry_fits
+offset_bounds-held-seat g c = let low : c.args.seat < 64 = omega (arith, c.if-seat-ge64.false) in entry_at c.args.seat _ low g.met.C.Queueable.parts_fit.entry

@@ -1,10 +1,7 @@
 use Rattle.std.proofs.Common.{◌∙◌}
-use Rattle.ns_queue.proofs.Prelude.{number, option_copied, ring_fits}
+use Rattle.ns_queue.proofs.Prelude.{option_copied}
 use Rattle.ns_queue.proofs.Ringed.{mapped_some, tells}
 use Rattle.ns_queue.proofs.ring.Ring.holds.Goals as goal
 
 pub returns : goal.returns
 returns g c = record { stands = tells c.args.seat c.args.self.now (option_copied c.get.result) c.is_some.result c.get.ensures.waiter (c.is_some.ensures ∙ mapped_some _ c.get.result); orderly = c.get.ensures.orderly }
-
-pub get-requires : goal.get-requires
-get-requires g c = ring_fits g.row.C (number g.row.N) g.met.C.Condition.has_room

@@ -9,7 +9,7 @@ pub with_one-self-inside-requires-clause-room : goal.with_one-self-inside-requir
 with_one-self-inside-requires-clause-room g c = has_room _ _ _ _ _ c.args.waiter c.self.invariant c.requires.below (rw (← c.self.view_is) at c.requires.free)
 
 pub offset_bounds-self-inside-waiter : goal.offset_bounds-self-inside-waiter
-offset_bounds-self-inside-waiter g c = entry_at c.args.waiter.seat _ c.requires.below g.met.C.Queueable.entry_fits
+offset_bounds-self-inside-waiter g c = entry_at c.args.waiter.seat _ c.requires.below g.met.C.Queueable.parts_fit.entry
 
 pub invariant_of-self : goal.invariant_of-self
 invariant_of-self g c = closes _ _ _ _ _ (pushed_back _ _ _ _ _ _ _ _ _ c.args.waiter c.self.invariant c.requires.below (rw (← c.self.view_is) at c.requires.free) refl c.link.ensures.next c.link.ensures.prev c.with_one-self-inside.ensures)

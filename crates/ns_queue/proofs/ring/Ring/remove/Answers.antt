@@ -22,7 +22,7 @@ pub listed-2 : goal.listed-2
 listed-2 g c = let low = place_low _ _ _ _ _ c.args.seat c.self.invariant (rw (← c.self.view_is) at c.requires) in omega (arith, low)
 
 pub offset_bounds-self-inside-seat-2 : goal.offset_bounds-self-inside-seat-2
-offset_bounds-self-inside-seat-2 g c = entry_at c.args.seat _ (place_low _ _ _ _ _ c.args.seat c.self.invariant (rw (← c.self.view_is) at c.requires)) g.met.C.Queueable.entry_fits
+offset_bounds-self-inside-seat-2 g c = entry_at c.args.seat _ (place_low _ _ _ _ _ c.args.seat c.self.invariant (rw (← c.self.view_is) at c.requires)) g.met.C.Queueable.parts_fit.entry
 
 pub returns-in_default : goal.returns-in_default
 returns-in_default g c = absurd (not_empty _ _ _ _ _ c.args.seat c.self.invariant (rw (← c.self.view_is) at c.requires)
@@ -51,4 +51,4 @@ returns g c = rw (← c.self.view_is) (view_of _ _ _ _ _ (removed _ _ _ _ _ _ _ 
     ∙ c.index-self-seat.is ∙ c.in-Some.is) refl c.join.ensures.next c.join.ensures.prev c.without_one-self-inside.ensures))
 
 pub offset_bounds-self-inside-seat : goal.offset_bounds-self-inside-seat
-offset_bounds-self-inside-seat g c = entry_at c.args.seat _ (place_low _ _ _ _ _ c.args.seat c.self.invariant (rw (← c.self.view_is) at c.requires)) g.met.C.Queueable.entry_fits
+offset_bounds-self-inside-seat g c = entry_at c.args.seat _ (place_low _ _ _ _ _ c.args.seat c.self.invariant (rw (← c.self.view_is) at c.requires)) g.met.C.Queueable.parts_fit.entry
