@@ -1,8 +1,8 @@
 -- Whom a scan takes behind the first, and what it tests for that.
 use Rattle.std.proofs.Common.{Bool, Fits, List, None, Option, Some, [], ap, append-nil, append_assoc, arith, cond, drop, false, filter, get_or, inl, inr, is_some, length, length-append, length-drop, not, refl, suc, sym, take, take-append-drop, true, unwrap_or, w32, zero, ℕ, ◌&&◌, ◌++◌, ◌+◌, ◌<◌}
 use Rattle.std.proofs.Common.{◌||◌, ◌∙◌, ◌∷◌, ◌≡◌, ◌≤◌}
-use Rattle.ns_queue.proofs.Prelude.{IsRow, Reader, Sought, Waiter, Writer, asked_for, asking, begins_with_reader, behind, cases_Bool, first_seat, foremost_of, from, in_front, is_alike, is_eligible, left_by_writer, left_of, Seeking, needs, reads, seated, seats_of, sought_of, sought_seat, stage_next}
-use Rattle.ns_queue.proofs.Prelude.{tests_from, tests_of, tests_seeking, without_all, without_in, woken_of, writes}
+use Rattle.ns_queue.proofs.Prelude.{IsRow, Reader, Sought, Waiter, Writer, asked_for, asking, begins_with_reader, behind, cases_Bool, first_seat, foremost_of, from, in_front, is_alike, is_eligible, left_by_writer, left_of, reads, seated, seats_of, sought_of, sought_seat}
+use Rattle.ns_queue.proofs.Prelude.{asked_by, tests_of, tests_on, tests_seeking, without_all, without_in, woken_of, writes}
 use Rattle.ns_queue.specs.declared.scan.Foremost.TheVariants.{Nobody}
 use Rattle.ns_queue.proofs.Asking.{Enters, Knows, asking_most, knows_asked, knows_entered, met_entered, taken_asked}
 use Rattle.ns_queue.proofs.RunCounts.{tests_is}
@@ -27,30 +27,15 @@ drop_cut (suc k) [] x ys e = absurd (cc)
 drop_cut (suc k) (z ∷ zs) x ys e = let c = drop_cut k zs x ys e in record { within = omega (arith, c.within); is = c.is; rest = c.rest }
 
 module _ {C : Type 0} (same : C → C → Bool) (meets : C → Bool) where
-  -- a stage in which nothing is needed any more
-  quiet_tests : (stage : _) (first : Option C) (known : Bool) (ws : List (Waiter C)) → ((v : Waiter C) → needs stage v ≡ false) → ((b : Bool) (v : Waiter C) → stage_next stage b v ≡ stage) → tests_from same meets stage first known ws ≡ 0
-  quiet_tests stage first known [] need next = refl
-  quiet_tests stage first known (w ∷ ws) need next = elim (cases_Bool (is_alike same w.cond first)) [
-    | inl alike ↦ rw (alike, need w, next (false && is_eligible meets w) w) (omega (arith, quiet_tests stage first known ws need next))
-    | inr other ↦ rw (other, need w, next (false && is_eligible meets w) w) (omega (arith, quiet_tests stage w.cond false ws need next))
-  ]
+  -- where nothing is needed, nothing is tested
+  none_needed : (first : Option C) (known : Bool) (ws : List (Waiter C)) → tests_on same first known (asked_by (λ w. false) ws) ≡ 0
+  none_needed first known [] = refl
+  none_needed first known (w ∷ ws) =
+      elim (cases_Bool (is_alike same w.cond first)) [ inl alike ↦ rw alike (omega (arith, none_needed first known ws)) | inr other ↦ rw other (omega (arith, none_needed w.cond false ws)) ]
 
   -- the tests behind a reader that was taken, in a run with this first condition, which was tested or not
   abbrev pub tests_reading : Option C → Bool → List (Waiter C) → ℕ
-  tests_reading first known [] = 0
-  tests_reading first known (w ∷ ws) =
-      cond (is_alike same w.cond first)
-      (cond (reads w && not known) 1 0 + tests_reading first (reads w || known) ws)
-      (cond (reads w && is_some w.cond) 1 0 + tests_reading w.cond (reads w) ws)
-
-  -- a stage in which readers are needed
-  reading_tests : (stage : _) (first : Option C) (known : Bool) (ws : List (Waiter C)) → ((v : Waiter C) → needs stage v ≡ reads v) → ((b : Bool) (v : Waiter C) → stage_next stage b v ≡ stage) →
-      tests_from same meets stage first known ws ≡ tests_reading first known ws
-  reading_tests stage first known [] need next = refl
-  reading_tests stage first known (w ∷ ws) need next = elim (cases_Bool (is_alike same w.cond first)) [
-    | inl alike ↦ rw (alike, need w, next (reads w && is_eligible meets w) w) (ap (λ n. cond (reads w && not known) 1 0 + n) (reading_tests stage first (reads w || known) ws need next))
-    | inr other ↦ rw (other, need w, next (reads w && is_eligible meets w) w) (ap (λ n. cond (reads w && is_some w.cond) 1 0 + n) (reading_tests stage w.cond (reads w) ws need next))
-  ]
+  tests_reading first known ws = tests_on same first known (asked_by reads ws)
 
   count_alike : (needed : Bool) (truth : Option Bool) (o first : Option C) (R : Bool → ℕ) → is_alike same o first ≡ true →
       cond (needed && not (is_some truth)) 1 0 + R (needed || is_some truth) ≡ asking needed first truth + R (is_some (asked_for meets needed first truth))
@@ -103,21 +88,14 @@ module _ {C : Type 0} (same : C → C → Bool) (meets : C → Bool) where
       ([] ≡ seats_of (woken_of meets ws)) × (tests ≡ tests_of same meets ws)
   none_taken s tests ws row is none counts =
       let all = none_front s ws row is none in
-      (sym (ap seats_of (nobody_taken same meets ws all)), counts ∙ all_sought same meets ws all ∙ tests_is same meets ws)
+      (sym (ap seats_of (nobody_taken same meets ws all).woken), counts ∙ all_sought same meets ws all ∙ tests_is same meets ws)
 
   -- ---- whom a scan takes first
-
-  none_left : (ws : List (Waiter C)) → woken_of meets ws ≡ [] → left_of meets ws ≡ ws
-  none_left [] none = refl
-  none_left (w ∷ ws) none = elim (cases_Bool (is_eligible meets w)) [
-    | inl goes ↦ absurd (let e = rw goes at none in cc)
-    | inr stays ↦ rw stays (ap (λ vs. w ∷ vs) (none_left ws (rw stays at none)))
-  ]
 
   pub nobody_first : (o : Sought) (ws : List (Waiter C)) → IsRow ws → o ≡ sought_of same meets ws → seated o.seat ws ≡ None → (Nobody ≡ foremost_of (sought_of same meets ws) (woken_of meets ws)) × (ws ≡ left_by_writer meets ws)
   nobody_first o ws row is none =
       let nobody = nobody_taken same meets ws (none_front o.seat ws row (ap (λ (p : Sought). p.seat) is) none) in
-      rw nobody (refl, sym (none_left ws nobody))
+      rw nobody.woken (refl, sym nobody.left)
 
   first_found : (s : ℕ) (ws : List (Waiter C)) (w : Waiter C) → IsRow ws → s ≡ sought_seat meets ws → seated s ws ≡ Some w → (w.seat ≡ s) × (woken_of meets ws ≡ w ∷ cond (writes w) [] (filter (goes_along meets) (behind s ws)))
   first_found s ws w row is stands =
@@ -196,17 +174,13 @@ module _ {C : Type 0} (same : C → C → Bool) (meets : C → Bool) where
         let c = drop_cut k ws w (behind s ws) left in
         let r = woken_cut ws w (behind s ws) left in
         let size = ap length left in
-        let total = tests_found same meets agree ws w c.within c.is in
-        let whole = total ∙ tests_is same meets ws in
+        let whole = tests_found same meets agree ws w c.within c.is ∙ tests_is same meets ws in
         record {
           here = f.here;
           goes = r.goes;
           woken = r.woken;
-          alone = λ is_alone. omega (arith, counts, whole, quiet_tests (stage_next Seeking true w) w.cond true (drop (suc k) ws) (λ v. rw is_alone refl) (λ b v. rw is_alone refl));
-          reader = λ is_reader.
-              let behind_it = reading_tests (stage_next Seeking true w) w.cond true (drop (suc k) ws) (λ v. rw is_reader refl) (λ b v. rw is_reader refl) in
-              let cut = ap (tests_reading w.cond true) c.rest in
-              omega (arith, counts, whole, behind_it, cut);
+          alone = λ is_alone. let quiet = rw is_alone at whole in omega (arith, counts, quiet, none_needed w.cond true (drop (suc k) ws));
+          reader = λ is_reader. let behind_it = rw (is_reader, c.rest) at whole in omega (arith, counts, behind_it);
           few = omega (arith, size, length-drop k ws, few_sought same meets ws k tests refl counts);
           some = omega (arith, size, length-drop k ws);
         }

@@ -1,12 +1,7 @@
 -- Whom a scan takes first, and how many conditions it tests to find that one, or nobody.
-use Rattle.std.proofs.Common.{Bool, IfSome, List, None, Option, Some, [], ap, arith, cond, drop, false, get_or, inl, inr, is_some, length, not, refl, suc, sym, take, true, zero, ℕ, ◌&&◌, ◌+◌, ◌<◌, ◌||◌, ◌∙◌, ◌∷◌, ◌≡◌, ◌≤◌}
+use Rattle.std.proofs.Common.{Bool, IfSome, List, None, Option, Some, [], ap, arith, cond, drop, false, get_or, inl, inr, is_some, length, length-take, not, refl, suc, sym, take, take_all, true, ℕ, ◌&&◌, ◌+◌, ◌<◌, ◌||◌, ◌∙◌, ◌∷◌, ◌≡◌, ◌≤◌}
 use Rattle.ns_queue.proofs.Seats.{at_most_one}
-use Rattle.ns_queue.proofs.Prelude.{Seeking, Stage, Waiter, cases_Bool, in_front, is_alike, is_eligible, is_satisfied, needs, one_if, reads, stage_after, stage_next, tests_from, tests_seeking, woken_of}
-
-few_taken : {A : Type 0} (n : ℕ) (xs : List A) → length (take n xs) ≤ n
-few_taken zero xs = omega arith
-few_taken (suc n) [] = omega arith
-few_taken (suc n) (x ∷ xs) = omega (arith, few_taken n xs)
+use Rattle.ns_queue.proofs.Prelude.{Asked, Waiter, asked_by, asked_of, cases_Bool, in_front, is_alike, is_eligible, is_satisfied, left_of, length-map, one_if, reads, tests_on, tests_seeking, woken_of}
 
 -- whether a waiter goes along with a reader that was taken in front of it
 abbrev pub goes_along : {C : Type 0} → (C → Bool) → Waiter C → Bool
@@ -72,24 +67,28 @@ module _ {C : Type 0} (same : C → C → Bool) (meets : C → Bool) where
     | inr stays ↦ omega (arith, front_no w ws stays, front_most ws)
   ]
 
-  pub nobody_taken : (ws : List (Waiter C)) → in_front meets ws ≡ length ws → woken_of meets ws ≡ []
-  nobody_taken [] all = refl
+  -- it leaves the list as it is, and asks for each truth
+  pub record Nobodys (ws : List (Waiter C)) : Type 0 where
+    pub woken : woken_of meets ws ≡ []
+    pub left : left_of meets ws ≡ ws
+    pub asked : asked_of meets ws ≡ asked_by (λ w. true) ws
+
+  pub nobody_taken : (ws : List (Waiter C)) → in_front meets ws ≡ length ws → Nobodys ws
+  nobody_taken [] all = record { woken = refl; left = refl; asked = refl }
   nobody_taken (w ∷ ws) all = elim (cases_Bool (is_eligible meets w)) [
     | inl goes ↦ absurd (omega (arith, all, front_yes w ws goes))
-    | inr stays ↦ rw stays (nobody_taken ws (omega (arith, all, front_no w ws stays)))
+    | inr stays ↦
+        let rest = nobody_taken ws (omega (arith, all, front_no w ws stays)) in
+        record { woken = rw stays rest.woken; left = rw stays (ap (λ vs. w ∷ vs) rest.left); asked = rw stays (ap (λ xs. record { waiter = w; is_needed = true } ∷ xs) rest.asked) }
   ]
 
-  whole_list : (ws : List (Waiter C)) → take (suc (length ws)) ws ≡ ws
-  whole_list [] = refl
-  whole_list (w ∷ ws) = ap (λ vs. w ∷ vs) (whole_list ws)
-
-  pub all_sought : (ws : List (Waiter C)) → in_front meets ws ≡ length ws → tests_seeking same meets None ws ≡ tests_from same meets Seeking None false ws
-  all_sought ws all = rw (all, whole_list ws) refl
+  pub all_sought : (ws : List (Waiter C)) → in_front meets ws ≡ length ws → tests_seeking same meets None ws ≡ tests_on same None false (asked_of meets ws)
+  all_sought ws all = rw (all, take_all (suc (length ws)) ws (omega arith), (nobody_taken ws all).asked) refl
 
   -- ---- where somebody is taken
 
   tests_split : ((c d : C) → same c d ≡ true → meets c ≡ meets d) → (first : Option C) (ws : List (Waiter C)) (w : Waiter C) → Unmet first → in_front meets ws < length ws → w ≡ get_or ws (in_front meets ws) w →
-      tests_seeking same meets first ws + tests_from same meets (stage_next Seeking true w) w.cond true (drop (suc (in_front meets ws)) ws) ≡ tests_from same meets Seeking first (is_some first) ws
+      tests_seeking same meets first ws + tests_on same w.cond true (asked_by (λ v. reads w && reads v) (drop (suc (in_front meets ws)) ws)) ≡ tests_on same first (is_some first) (asked_of meets ws)
   tests_split agree first [] w unmet within is = absurd (omega (arith, within))
   tests_split agree first (v ∷ ws) w unmet within is = elim (cases_Bool (is_eligible meets v)) [
     | inl goes ↦ elim (cases_Bool (is_alike same v.cond first)) [
@@ -105,17 +104,19 @@ module _ {C : Type 0} (same : C → C → Bool) (meets : C → Bool) where
   ]
 
   pub tests_found : ((c d : C) → same c d ≡ true → meets c ≡ meets d) → (ws : List (Waiter C)) (w : Waiter C) → in_front meets ws < length ws → w ≡ get_or ws (in_front meets ws) w →
-      tests_seeking same meets None ws + tests_from same meets (stage_next Seeking true w) w.cond true (drop (suc (in_front meets ws)) ws) ≡ tests_from same meets Seeking None false ws
+      tests_seeking same meets None ws + tests_on same w.cond true (asked_by (λ v. reads w && reads v) (drop (suc (in_front meets ws)) ws)) ≡ tests_on same None false (asked_of meets ws)
   tests_found agree ws w within is = tests_split agree None ws w tt within is
 
-  tests_most : (first : Option C) (known : Bool) (ws : List (Waiter C)) (stage : Stage) → tests_from same meets stage first known ws ≤ length ws
-  tests_most first known [] stage = omega arith
-  tests_most first known (w ∷ ws) stage = elim (cases_Bool (is_alike same w.cond first)) [
-    | inl alike ↦ rw alike (omega (arith, at_most_one (needs stage w && not known), tests_most first (needs stage w || known) ws (stage_after meets stage w)))
-    | inr other ↦ rw other (omega (arith, at_most_one (needs stage w && is_some w.cond), tests_most w.cond (needs stage w) ws (stage_after meets stage w)))
+  tests_most : (first : Option C) (known : Bool) (xs : List (Asked C)) → tests_on same first known xs ≤ length xs
+  tests_most first known [] = omega arith
+  tests_most first known (a ∷ xs) = elim (cases_Bool (is_alike same a.waiter.cond first)) [
+    | inl alike ↦ rw alike (omega (arith, at_most_one (a.is_needed && not known), tests_most first (a.is_needed || known) xs))
+    | inr other ↦ rw other (omega (arith, at_most_one (a.is_needed && is_some a.waiter.cond), tests_most a.waiter.cond a.is_needed xs))
   ]
 
   -- no more tests than those passed and the one found
   pub few_sought : (ws : List (Waiter C)) (passed tests : ℕ) → passed ≡ in_front meets ws → tests ≡ tests_seeking same meets None ws → tests ≤ passed + 1
   few_sought ws passed tests front count =
-      omega (arith, front, count, tests_most None false (take (suc (in_front meets ws)) ws) Seeking, few_taken (suc (in_front meets ws)) ws)
+      let tested = take (suc (in_front meets ws)) ws in
+      let some : length (asked_by (λ w. true) tested) ≤ suc (in_front meets ws) = rw length-map (simp length-take (omega arith)) in
+      omega (arith, front, count, tests_most None false (asked_by (λ w. true) tested), some)

@@ -8,6 +8,6 @@ pub mod Runs
 pub mod Scans
 pub mod Signals
 pub mod Sizes
-pub mod Stages
+pub mod Tests
 pub mod Waiters
 pub mod Wakes

@@ -6,7 +6,7 @@ unfoldable pub use Rattle.ns_queue.specs.Rings.{gather}
 pub use Rattle.ns_queue.specs.Runs.{IsRuns, MadeUpTo, RunLinks, RunsOn, StandRuns, head_of, joins, last_run, place_of, sought_of, sought_seat}
 pub use Rattle.ns_queue.specs.Scans.{Asked, asked_of, begins_with_reader, ended, foremost_of, goes_on, is_alike, is_eligible, is_satisfied, left_by_writer, left_of, runs_after, runs_of, started, tests_of, woken_of}
 pub use Rattle.ns_queue.specs.Signals.{readers_and_a_writer, signaled_of, sole_of, taken_set, unsignaled_of}
-pub use Rattle.ns_queue.specs.Stages.{Ended, Reading, Seeking, Stage, asked_for, asking, in_front, needs, stage_after, stage_next, tests_from, tests_seeking}
+pub use Rattle.ns_queue.specs.Tests.{asked_by, asked_for, asking, in_front, tests_on, tests_seeking}
 pub use Rattle.ns_queue.specs.Waiters.{HaveSeats, has_condition, is_long, is_of, outside, reads, seats_of, shown_of, times_in, without_in, writes}
 pub use Rattle.ns_queue.specs.Wakes.{AreWaiting, WaitFor, WaitsAmong}
 pub use Rattle.ns_queue.specs.Names.{Anybody, ArrayVec, Cond, Counts, Cv, Cvs, Every, Idle, IsLegalBroadcast, IsLegalSignal, Left, Lock, Mode, Nobody, Phase, Reader, Readers, ReadersAndWriter, Seats, Shown, Sought, Waiter, Waiting, Wanted, Which, Woken, Writer, has, is_in, is_waiting}

@@ -3,7 +3,7 @@ use Rattle.std.specs.Prelude.{Bool, List, None, Option, Some, [], drop, false, i
 use Rattle.ns_queue.specs.Names.{Sought, Waiter}
 use Rattle.ns_queue.specs.Waiters.{times_in, without_in}
 use Rattle.ns_queue.specs.Scans.{is_alike}
-use Rattle.ns_queue.specs.Stages.{in_front, tests_seeking}
+use Rattle.ns_queue.specs.Tests.{in_front, tests_seeking}
 use Rattle.ns_queue.specs.Rings.{IsRow, ahead, behind, first_seat, from, last_seat}
 
 -- the place of a run's first, or that behind the list where there is no run

@@ -3,7 +3,7 @@
 ghost use Rattle.std.specs.Prelude.{◌≡◌, ◌<◌, ◌&&◌, ◌++◌, ◌∷◌, [], None, if◌then◌else◌, true, unwrap_or, ◌≤◌, length, map};
 ghost use Rattle.std.specs.Option.{option_copied};
 ghost use Rattle.arrayvec.specs.ArrayVec.{array_vec_len};
-ghost use Rattle.ns_queue.specs.Stages.{asked_for, asking};
+ghost use Rattle.ns_queue.specs.Tests.{asked_for, asking};
 ghost use Rattle.ns_queue.specs.Queues.{with_waiters};
 ghost use Rattle.ns_queue.specs.Scans.{foremost_of, left_by_writer, left_of, runs_of, tests_of, woken_of};
 ghost use Rattle.ns_queue.specs.Waiters.{reads, seats_of};
