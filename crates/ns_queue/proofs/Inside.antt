@@ -2,7 +2,7 @@
 use Rattle.std.proofs.Common.{List, [], ap, arith, drop, eqb, get_or, inl, inr, length, length-set, map, not, refl, set, subst, sym, take, ℕ, ◌++◌, ◌+◌, ◌<◌, ◌∙◌, ◌∷◌, ◌≡◌, ◌≤◌}
 use Rattle.ns_queue.proofs.Prelude.{ArrayVec, Cv, IsOrderly, Lists, Waiter, beside, cases_eq, get_or-le-sum_by, get_or-map, length-map, map-set, map_over_more, one_if, sum_by, sum_by_more, times, times_in, waiters_of, with_waiters, without_in}
 use Rattle.ns_queue.proofs.Marking.{times_in-filter}
-use Rattle.ns_queue.proofs.Seats.{none_more, one_more, times_in-cons, times_in_push}
+use Rattle.ns_queue.proofs.Seats.{none_more, one_more, times_in_push}
 use Rattle.ns_queue.proofs.Orders.{orderly_more, orderly_less, times_set, cv_times, part_has_room}
 use Rattle.ns_queue.proofs.Parts.{once_in, read_apart, read_back}
 use Rattle.ns_queue.proofs.Shown.{four_of}
@@ -32,15 +32,11 @@ module _ {C : Type 0} where
       let room = part_has_room (shape lock cvs) (waiters_of (shape lock cvs) (Cv k)) w orderly (once_in (shape lock cvs) (Cv k) orderly within) (λ seat. cv_times (shape lock cvs) k seat (omega (arith, orderly.four))) low (omega (arith, free)) in
       omega (arith, room, ap length (list_at lock cvs k d orderly within))
 
-  pub lock_pushed : (lock lock' : List (Waiter C)) (cvs : List (ArrayVec (Waiter C))) (w : Waiter C) → IsOrderly (shape lock cvs) → w.seat < 64 → times w.seat (shape lock cvs) ≡ 0 →
-      lock' ≡ lock ++ w ∷ [] → IsOrderly (shape lock' cvs)
-  lock_pushed lock lock' cvs w orderly low free is =
-      rw is (orderly_more (shape lock cvs) (shape (lock ++ w ∷ []) cvs) w orderly low free orderly.four (λ seat k within. omega (arith, times_in_push lock w seat)) (λ seat. omega (arith, times_in_push lock w seat)))
-
-  pub lock_fronted : (lock lock' : List (Waiter C)) (cvs : List (ArrayVec (Waiter C))) (w : Waiter C) → IsOrderly (shape lock cvs) → w.seat < 64 → times w.seat (shape lock cvs) ≡ 0 →
-      lock' ≡ w ∷ lock → IsOrderly (shape lock' cvs)
-  lock_fronted lock lock' cvs w orderly low free is =
-      rw is (orderly_more (shape lock cvs) (shape (w ∷ lock) cvs) w orderly low free orderly.four (λ seat k within. omega (arith, times_in-cons seat w lock)) (λ seat. omega (arith, times_in-cons seat w lock)))
+  -- one more in the lock list
+  pub lock_more : (lock lock' : List (Waiter C)) (cvs : List (ArrayVec (Waiter C))) (w : Waiter C) → IsOrderly (shape lock cvs) → w.seat < 64 → times w.seat (shape lock cvs) ≡ 0 →
+      ((seat : ℕ) → times_in seat lock' ≡ times_in seat lock + one_if (eqb w.seat seat)) → IsOrderly (shape lock' cvs)
+  lock_more lock lock' cvs w orderly low free more =
+      orderly_more (shape lock cvs) (shape lock' cvs) w orderly low free orderly.four (λ seat k within. omega (arith, more seat)) (λ seat. omega (arith, more seat))
 
   -- a list of a variable, changed
   put_times : (lock : List (Waiter C)) (cvs : List (ArrayVec (Waiter C))) (k : ℕ) (d v : ArrayVec (Waiter C)) → IsOrderly (shape lock cvs) → k < 4 → (seat : ℕ) →

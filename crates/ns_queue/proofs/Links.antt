@@ -5,6 +5,13 @@ use Rattle.ns_queue.proofs.Seats.{times_in-append}
 use Rattle.ns_queue.proofs.Hops.{stands_not, seated_none, seated_here}
 use Rattle.ns_queue.proofs.Places.{row_rest, row_own, row_parts, row_at, row_front, row_low}
 
+-- each link is as it was, but that of one place
+abbrev pub But : ℕ → List ℕ → List ℕ → Type 0
+But c links links' = (k : ℕ) → k ≢ c → get_or links' k 0 ≡ get_or links k 0
+
+pub written : (links : List ℕ) (c v : ℕ) → But c links (set links c v)
+written links c v k ne = get_or-set_other links c k v 0 ne
+
 module _ {C : Type 0} where
   pub last_seat-append : (p : ℕ) (xs ys : List (Waiter C)) → last_seat p (xs ++ ys) ≡ last_seat (last_seat p xs) ys
   last_seat-append p [] ys = refl
@@ -36,26 +43,21 @@ module _ {C : Type 0} (same : C → C → Bool) where
 
   -- ---- a link written elsewhere
 
-  pub heads_other : (heads lasts : List ℕ) (o : Option (Waiter C)) (p : ℕ) (ws : List (Waiter C)) (c v : ℕ) → times_in c ws ≡ 0 → RunLinks same heads lasts o p ws → RunLinks same (set heads c v) lasts o p ws
-  heads_other heads lasts o p [] c v out h = tt
-  heads_other heads lasts o p (w ∷ ws) c v out h =
-      let apart = stands_not c w ws out in
-      (h.0, get_or-set_other heads c w.seat v 0 (λ e. apart.0 (sym e)) ∙ h.1, heads_other heads lasts (head_of same w o) w.seat ws c v apart.1 h.2)
+  module _ (heads heads' lasts lasts' : List ℕ) (c : ℕ) (firsts : But c heads heads') (ends : But c lasts lasts') where
+    pub links_other : (o : Option (Waiter C)) (p : ℕ) (ws : List (Waiter C)) → c ≢ place_of o → times_in c ws ≡ 0 → RunLinks same heads lasts o p ws → RunLinks same heads' lasts' o p ws
+    links_other o p [] ne out h = tt
+    links_other o p (w ∷ ws) ne out h =
+        let apart = stands_not c w ws out in
+        (λ e. ends (place_of o) (λ f. ne (sym f)) ∙ h.0 e, firsts w.seat (λ e. apart.0 (sym e)) ∙ h.1, links_other (head_of same w o) w.seat ws (place_apart c w o ne apart.0) apart.1 h.2)
 
-  pub lasts_other : (heads lasts : List ℕ) (o : Option (Waiter C)) (p : ℕ) (ws : List (Waiter C)) (c v : ℕ) → c ≢ place_of o → times_in c ws ≡ 0 → RunLinks same heads lasts o p ws → RunLinks same heads (set lasts c v) o p ws
-  lasts_other heads lasts o p [] c v ne out h = tt
-  lasts_other heads lasts o p (w ∷ ws) c v ne out h =
-      let apart = stands_not c w ws out in
-      (λ e. get_or-set_other lasts c (place_of o) v 0 (λ f. ne (sym f)) ∙ h.0 e, h.1, lasts_other heads lasts (head_of same w o) w.seat ws c v (place_apart c w o ne apart.0) apart.1 h.2)
+    pub on_other : (o : Option (Waiter C)) (p : ℕ) (ws : List (Waiter C)) → c ≢ place_of o → times_in c ws ≡ 0 → RunsOn same heads lasts o p ws → RunsOn same heads' lasts' o p ws
+    on_other o p ws ne out h = record { links = links_other o p ws ne out h.links; ended = ends (place_of (last_run same o ws)) (λ e. run_apart c o ws ne out (sym e)) ∙ h.ended }
 
-  pub on_heads : (heads lasts : List ℕ) (o : Option (Waiter C)) (p : ℕ) (ws : List (Waiter C)) (c v : ℕ) → times_in c ws ≡ 0 → RunsOn same heads lasts o p ws → RunsOn same (set heads c v) lasts o p ws
-  on_heads heads lasts o p ws c v out h = record { links = heads_other heads lasts o p ws c v out h.links; ended = h.ended }
-
-  pub on_lasts : (heads lasts : List ℕ) (o : Option (Waiter C)) (p : ℕ) (ws : List (Waiter C)) (c v : ℕ) → c ≢ place_of o → times_in c ws ≡ 0 → RunsOn same heads lasts o p ws → RunsOn same heads (set lasts c v) o p ws
-  on_lasts heads lasts o p ws c v ne out h = record {
-    links = lasts_other heads lasts o p ws c v ne out h.links;
-    ended = get_or-set_other lasts c (place_of (last_run same o ws)) v 0 (λ e. run_apart c o ws ne out (sym e)) ∙ h.ended;
-  }
+    pub stand_other : (ws : List (Waiter C)) → times_in c ws ≡ 0 → StandRuns same heads lasts ws → StandRuns same heads' lasts' ws
+    stand_other [] out h = tt
+    stand_other (w ∷ ws) out h =
+        let apart = stands_not c w ws out in
+        (λ own. on_other (Some w) w.seat ws apart.0 apart.1 (h.0 (sym (firsts w.seat (λ e. apart.0 (sym e))) ∙ own)), stand_other ws apart.1 h.1)
 
   -- the link of the last run's first isn't read yet
   pub open_end : (heads lasts : List ℕ) (o : Option (Waiter C)) (p : ℕ) (ws : List (Waiter C)) (v : ℕ) → times_in (place_of o) ws ≡ 0 → IsRow ws → RunLinks same heads lasts o p ws →
@@ -125,25 +127,15 @@ module _ {C : Type 0} (same : C → C → Bool) where
     | inr r ↦ inr (record { zs = w ∷ r.zs; w = r.w; vs = r.vs; is = ap (λ us. w ∷ us) r.is; run = r.run })
   ]
 
-  pub run_seated : (xs ys : List (Waiter C)) → IsRow (xs ++ ys) → seated (place_of (last_run same None xs)) (xs ++ ys) ≡ last_run same None xs
-  run_seated xs ys row = elim (run_at None xs) [
-    | inl e ↦ rw e (seated_none 64 (xs ++ ys) (row.below 64 (omega arith)))
+  -- whom its place leads to, and that behind it nobody else stands there
+  pub run_first : (xs ys : List (Waiter C)) → IsRow (xs ++ ys) → (seated (place_of (last_run same None xs)) (xs ++ ys) ≡ last_run same None xs) × (times_in (place_of (last_run same None xs)) ys ≡ 0)
+  run_first xs ys row = elim (run_at None xs) [
+    | inl e ↦ rw e (seated_none 64 (xs ++ ys) (row.below 64 (omega arith)), omega (arith, row.below 64 (omega arith), times_in-append 64 xs ys))
     | inr r ↦
         let whole : xs ++ ys ≡ r.zs ++ r.w ∷ (r.vs ++ ys) = ap (λ us. us ++ ys) r.is ∙ append_assoc r.zs (r.w ∷ r.vs) ys in
         let parts = row_at (xs ++ ys) _ whole row in
         let one = row_own r.w (r.vs ++ ys) (row_parts r.zs (r.w ∷ (r.vs ++ ys)) parts).1 in
-        let out : times_in r.w.seat r.zs ≡ 0 = row_front r.zs (r.vs ++ ys) r.w parts in
-        rw (r.run, whole) (seated_here r.zs (r.vs ++ ys) r.w out)
-  ]
-
-  pub run_out : (xs ys : List (Waiter C)) → IsRow (xs ++ ys) → times_in (place_of (last_run same None xs)) ys ≡ 0
-  run_out xs ys row = elim (run_at None xs) [
-    | inl e ↦ rw e (omega (arith, row.below 64 (omega arith), times_in-append 64 xs ys))
-    | inr r ↦
-        let whole : xs ++ ys ≡ r.zs ++ r.w ∷ (r.vs ++ ys) = ap (λ us. us ++ ys) r.is ∙ append_assoc r.zs (r.w ∷ r.vs) ys in
-        let parts = row_at (xs ++ ys) _ whole row in
-        let one = row_own r.w (r.vs ++ ys) (row_parts r.zs (r.w ∷ (r.vs ++ ys)) parts).1 in
-        rw r.run (omega (arith, one, times_in-append r.w.seat r.vs ys))
+        rw r.run (rw whole (seated_here r.zs (r.vs ++ ys) r.w (row_front r.zs (r.vs ++ ys) r.w parts)), omega (arith, one, times_in-append r.w.seat r.vs ys))
   ]
 
   pub run_low : (xs : List (Waiter C)) → IsRow xs → place_of (last_run same None xs) < 65
@@ -158,7 +150,7 @@ module _ {C : Type 0} (same : C → C → Bool) where
       let run = last_run same None xs in
       elim (cases_lt (place_of run) 64) [
         | inl low ↦ low
-        | inr high ↦ let nobody : run ≡ None = sym (run_seated xs ys row) ∙ seated_none (place_of run) (xs ++ ys) (row.below (place_of run) high) in
+        | inr high ↦ let nobody : run ≡ None = sym (run_first xs ys row).0 ∙ seated_none (place_of run) (xs ++ ys) (row.below (place_of run) high) in
             absurd (true≢false (sym goes ∙ ap (joins same w) nobody))
       ]
 
@@ -175,15 +167,3 @@ module _ {C : Type 0} (same : C → C → Bool) where
         ],
         stand_of heads lasts (head_of same w o) w.seat ws (head_out w o ws out row) (row_rest w ws row) rest,
       )
-
-  pub stand_heads : (heads lasts : List ℕ) (ws : List (Waiter C)) (c v : ℕ) → times_in c ws ≡ 0 → StandRuns same heads lasts ws → StandRuns same (set heads c v) lasts ws
-  stand_heads heads lasts [] c v out h = tt
-  stand_heads heads lasts (w ∷ ws) c v out h =
-      let apart = stands_not c w ws out in
-      (λ own. on_heads heads lasts (Some w) w.seat ws c v apart.1 (h.0 (sym (get_or-set_other heads c w.seat v 0 (λ e. apart.0 (sym e))) ∙ own)), stand_heads heads lasts ws c v apart.1 h.1)
-
-  pub stand_lasts : (heads lasts : List ℕ) (ws : List (Waiter C)) (c v : ℕ) → times_in c ws ≡ 0 → StandRuns same heads lasts ws → StandRuns same heads (set lasts c v) ws
-  stand_lasts heads lasts [] c v out h = tt
-  stand_lasts heads lasts (w ∷ ws) c v out h =
-      let apart = stands_not c w ws out in
-      (λ own. on_lasts heads lasts (Some w) w.seat ws c v apart.0 apart.1 (h.0 own), stand_lasts heads lasts ws c v apart.1 h.1)

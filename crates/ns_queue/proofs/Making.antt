@@ -4,7 +4,7 @@ use Rattle.ns_queue.proofs.Prelude.{IsRow, IsRuns, MadeUpTo, RunLinks, RunsOn, S
 use Rattle.ns_queue.proofs.Hops.{seated_none, stands_not}
 use Rattle.ns_queue.proofs.Ringed.{last_low}
 use Rattle.ns_queue.proofs.Places.{split, ahead_out, from_none, found, cut_at, stepped, row_at, row_parts, row_rest, row_own, row_front, row_low, standing, without_is, row_without}
-use Rattle.ns_queue.proofs.Links.{head_yes, head_no, last_run-append, last_seat-append, heads_other, lasts_other, on_lasts, open_end, links_join, on_join, on_part, on_rest, on_at, head_link, run_seated, run_out, run_inner, run_low, stand_of, stand_heads, stand_lasts}
+use Rattle.ns_queue.proofs.Links.{head_yes, head_no, last_run-append, last_seat-append, links_other, on_other, open_end, links_join, on_join, on_part, on_rest, on_at, head_link, run_first, run_inner, run_low, stand_of, stand_other, written}
 
 other_end : (links : List ℕ) (c v : ℕ) → c < 64 → get_or links 64 0 ≡ 64 → get_or (set links c v) 64 0 ≡ 64
 other_end links c v low is = get_or-set_other links c 64 v 0 (λ e. omega (arith, e, low)) ∙ is
@@ -42,10 +42,10 @@ module _ {C : Type 0} (same : C → C → Bool) where
       let P : List (Waiter C) → Type 0 = λ vs. StandRuns same heads lasts vs in
       let rest : StandRuns same heads lasts (w ∷ from n ws) = subst P s.from_is m.rest in
       record {
-        links = rw s.ahead_is (links_join same (set heads at head') lasts' None 64 xs (w ∷ []) (heads_other same heads lasts' None 64 xs at head' (ahead_out at ws) front) one);
+        links = rw s.ahead_is (links_join same (set heads at head') lasts' None 64 xs (w ∷ []) (links_other same heads (set heads at head') lasts' lasts' at (written heads at head') (λ k ne. refl) None 64 xs (λ e. omega (arith, e, s.low)) (ahead_out at ws) front) one);
         head_is = head_is ∙ ap place_of (sym (ap (last_run same None) s.ahead_is ∙ last_run-append same None xs (w ∷ [])));
         before_is = sym (ap (last_seat 64) s.ahead_is ∙ last_seat-append 64 xs (w ∷ []) ∙ s.here);
-        rest = stand_heads same heads lasts' (from n ws) at head' s.out (kept rest.1);
+        rest = stand_other same heads (set heads at head') lasts' lasts' at (written heads at head') (λ k ne. refl) (from n ws) s.out (kept rest.1);
         end = other_end heads at head' s.low m.end;
         heads_all = length-set heads at head' ∙ m.heads_all;
         lasts_all = all;
@@ -63,9 +63,9 @@ module _ {C : Type 0} (same : C → C → Bool) where
       let xs = ahead at ws in
       let row' = row_at ws _ f.is row in
       let c = closed heads lasts head before xs (row_parts xs (w ∷ behind at ws) row').0 m.head_is m.lasts_all m.links in
-      let out = stands_not head w (behind at ws) (rw m.head_is (run_out same xs (w ∷ behind at ws) row')) in
+      let out = stands_not head w (behind at ws) (rw m.head_is (run_first same xs (w ∷ behind at ws) row').1) in
       rw l (made_on heads lasts (set lasts head before) head head' before at n ws w row is next (e ∙ sym f.here ∙ ap place_of (sym (head_no same w (last_run same None xs) begins))) c.front (λ _. c.end ∙ m.before_is)
-      (stand_lasts same heads lasts (from n ws) head before (rw (← (stepped at ws w n row is next).behind_is) out.1)) c.all m)
+      (stand_other same heads heads lasts (set lasts head before) head (λ k ne. refl) (written lasts head before) (from n ws) (rw (← (stepped at ws w n row is next).behind_is) out.1)) c.all m)
 
   -- where a run begins that began there before
   pub made_stops : (heads lasts : List ℕ) (head before at : ℕ) (ws : List (Waiter C)) (w : Waiter C) → IsRow ws → seated at ws ≡ Some w → joins same w (last_run same None (ahead at ws)) ≡ false → get_or heads at 0 ≡ at →
@@ -77,11 +77,11 @@ module _ {C : Type 0} (same : C → C → Bool) where
       let run = last_run same None xs in
       let row' = row_at ws _ f.is row in
       let c = closed heads lasts head before xs (row_parts xs (w ∷ ys) row').0 m.head_is m.lasts_all m.links in
-      let out = stands_not head w ys (rw m.head_is (run_out same xs (w ∷ ys) row')) in
+      let out = stands_not head w ys (rw m.head_is (run_first same xs (w ∷ ys) row').1) in
       let own : get_or heads w.seat 0 ≡ w.seat = ap (λ k. get_or heads k 0) f.here ∙ began ∙ sym f.here in
       let P : List (Waiter C) → Type 0 = λ vs. StandRuns same heads lasts vs in
       let rest : StandRuns same heads lasts (w ∷ ys) = subst P f.from_is m.rest in
-      let on = on_at same heads (set lasts head before) (Some w) (head_of same w run) w.seat ys (sym (head_no same w run begins)) (on_lasts same heads lasts (Some w) w.seat ys head before out.0 out.1 (rest.0 own)) in
+      let on = on_at same heads (set lasts head before) (Some w) (head_of same w run) w.seat ys (sym (head_no same w run begins)) (on_other same heads heads lasts (set lasts head before) head (λ k ne. refl) (written lasts head before) (Some w) w.seat ys out.0 out.1 (rest.0 own)) in
       let Q : List (Waiter C) → Type 0 = λ vs. RunsOn same heads (set lasts head before) None 64 vs in
       record {
         on = subst Q (sym f.is) (on_join same heads (set lasts head before) None 64 xs (w ∷ ys) c.front
@@ -118,7 +118,7 @@ module _ {C : Type 0} (same : C → C → Bool) where
   pushed_on heads lasts lasts' head ws w row is front begins ended all h =
       let within = row_low ws [] w row in
       record {
-        on = on_join same (set heads w.seat head) lasts' None 64 ws (w ∷ []) (heads_other same heads lasts' None 64 ws w.seat head (row_front ws [] w row) front)
+        on = on_join same (set heads w.seat head) lasts' None 64 ws (w ∷ []) (links_other same heads (set heads w.seat head) lasts' lasts' w.seat (written heads w.seat head) (λ k ne. refl) None 64 ws (λ e. omega (arith, e, within)) (row_front ws [] w row) front)
             (record { links = (begins, get_or-set_same heads w.seat head 0 (omega (arith, within, h.heads_all)) ∙ is, tt); ended = ap (λ k. get_or lasts' k 0) (sym is) ∙ ended });
         end = other_end heads w.seat head within h.end;
         heads_all = length-set heads w.seat head ∙ h.heads_all;
@@ -139,9 +139,9 @@ module _ {C : Type 0} (same : C → C → Bool) where
             pushed_on heads lasts (set lasts head w.seat) head ws w row is c.front (λ e. absurd (true≢false (sym goes ∙ e))) ended all h
         | inr begins ↦
             let own : head ≡ w.seat = is ∙ ap place_of (head_no same w run begins) in
-            let apart = stands_not (place_of run) w [] (run_out same ws (w ∷ []) row) in
+            let apart = stands_not (place_of run) w [] (run_first same ws (w ∷ []) row).1 in
             pushed_on heads lasts (set lasts head w.seat) head ws w row is
-            (lasts_other same heads lasts None 64 ws head w.seat (λ e. omega (arith, e, own, within)) (rw own (row_front ws [] w row)) h.on.links)
+            (links_other same heads heads lasts (set lasts head w.seat) head (λ k ne. refl) (written lasts head w.seat) None 64 ws (λ e. omega (arith, e, own, within)) (rw own (row_front ws [] w row)) h.on.links)
             (λ _. get_or-set_other lasts head (place_of run) w.seat 0 (λ e. apart.0 (e ∙ own)) ∙ h.on.ended) ended all h
       ]
 
@@ -163,7 +163,7 @@ module _ {C : Type 0} (same : C → C → Bool) where
         links = rw one (λ e. start_link heads lasts ws h.on, get_or-set_same heads w.seat w.seat 0 (omega (arith, within, h.heads_all)), tt);
         head_is = rw one refl;
         before_is = rw one refl;
-        rest = rw rest (stand_heads same heads lasts ws w.seat w.seat (row_own w ws row) (stand_of same heads lasts None 64 ws (rows.below 64 (omega arith)) rows h.on));
+        rest = rw rest (stand_other same heads (set heads w.seat w.seat) lasts lasts w.seat (written heads w.seat w.seat) (λ k ne. refl) ws (row_own w ws row) (stand_of same heads lasts None 64 ws (rows.below 64 (omega arith)) rows h.on));
         end = other_end heads w.seat w.seat within h.end;
         heads_all = length-set heads w.seat w.seat ∙ h.heads_all;
         lasts_all = h.lasts_all;
@@ -212,7 +212,7 @@ module _ {C : Type 0} (same : C → C → Bool) where
       let cuts = cut_at xs ys (row_at _ _ left (row_without s ws row)) in
       let front : ahead n (without_in s ws) ≡ xs = ap (λ k. ahead k (without_in s ws)) next ∙ ap (ahead (first_seat 64 ys)) left ∙ cuts.1 in
       let rest : from n (without_in s ws) ≡ ys = ap (λ k. from k (without_in s ws)) next ∙ ap (from (first_seat 64 ys)) left ∙ cuts.0 in
-      let out = run_out same xs (w ∷ ys) row' in
+      let out = (run_first same xs (w ∷ ys) row').1 in
       let stand : StandRuns same heads lasts (w ∷ ys) = stand_of same heads lasts run (last_seat 64 xs) (w ∷ ys) out rows.1 parts.1 in
       record {
         links = rw front parts.0;
@@ -234,7 +234,7 @@ module _ {C : Type 0} (same : C → C → Bool) where
         | inl goes ↦ absurd (ne (h.links.1 ∙ ap place_of (head_yes same y o goes) ∙ sym is))
         | inr begins ↦
             let rest = on_at same heads lasts (head_of same y o) (Some y) y.seat ys (head_no same y o begins) (on_rest same heads lasts o s y ys h) in
-            let on = on_at same heads (set lasts q p) (Some y) (head_of same y o) y.seat ys (sym (head_no same y o begins)) (on_lasts same heads lasts (Some y) y.seat ys q p apart.0 apart.1 rest) in
+            let on = on_at same heads (set lasts q p) (Some y) (head_of same y o) y.seat ys (sym (head_no same y o begins)) (on_other same heads heads lasts (set lasts q p) q (λ k ne. refl) (written lasts q p) (Some y) y.seat ys apart.0 apart.1 rest) in
             record { links = (λ e. write_at lasts q (place_of o) p is within, h.links.1, on.links); ended = on.ended }
       ]
 
@@ -272,7 +272,7 @@ module _ {C : Type 0} (same : C → C → Bool) where
       let goes : joins same w run ≡ true = elim (cases_Bool (joins same w run)) [ inl goes ↦ goes | inr begins ↦ absurd (ne (own ∙ ap place_of (head_no same w run begins) ∙ f.here)) ] in
       let is : q ≡ place_of run = own ∙ ap place_of (head_yes same w run goes) in
       let low : q < 64 = rw is (run_inner same xs (w ∷ ys) w row' goes) in
-      let out : times_in q ys ≡ 0 = rw is (stands_not (place_of run) w ys (run_out same xs (w ∷ ys) row')).1 in
+      let out : times_in q ys ≡ 0 = rw is (stands_not (place_of run) w ys (run_first same xs (w ∷ ys) row').1).1 in
       let rest = on_at same heads lasts (head_of same w run) run w.seat ys (head_yes same w run goes) (on_rest same heads lasts run (last_seat 64 xs) w ys parts.1) in
       record {
         low = omega (arith, low);
@@ -296,7 +296,7 @@ module _ {C : Type 0} (same : C → C → Bool) where
   pub run_read : (head at : ℕ) (ws : List (Waiter C)) → IsRow ws → head ≡ place_of (last_run same None (ahead at ws)) → seated head ws ≡ last_run same None (ahead at ws)
   run_read head at ws row is =
       let whole = split at ws in
-      ap (λ k. seated k ws) is ∙ ap (seated (place_of (last_run same None (ahead at ws)))) whole ∙ run_seated same (ahead at ws) (from at ws) (row_at ws _ whole row)
+      ap (λ k. seated k ws) is ∙ ap (seated (place_of (last_run same None (ahead at ws)))) whole ∙ (run_first same (ahead at ws) (from at ws) (row_at ws _ whole row)).0
 
   back_read : (head : ℕ) (ws : List (Waiter C)) → IsRow ws → head ≡ place_of (last_run same None ws) → seated head ws ≡ last_run same None ws
   back_read head ws row is = run_read head 64 ws row (is ∙ ap (λ vs. place_of (last_run same None vs)) (sym (from_none 64 ws (seated_none 64 ws (row.below 64 (omega arith)))).1))

@@ -4,7 +4,7 @@ use Rattle.ns_queue.proofs.Prelude.{cases_Bool, Anybody, ArrayVec, Cv, HaveSeats
 use Rattle.ns_queue.proofs.Prelude.{taken_set, times, times_in, unmarked, unsignaled_of, waiters_of, without, without_in}
 use Rattle.ns_queue.proofs.Inside.{shape}
 use Rattle.ns_queue.proofs.Marking.{drop_step, times_in-filter, times_parted}
-use Rattle.ns_queue.proofs.Meaning.{signal_leaves, signal_takes}
+use Rattle.ns_queue.proofs.Meaning.{signal_parts}
 use Rattle.ns_queue.proofs.Orders.{orderly_less}
 use Rattle.ns_queue.proofs.Seats.{low_of, own_times, times_in-cons}
 use Rattle.ns_queue.proofs.Taken.{in_list, in_taken}
@@ -52,7 +52,7 @@ module _ {C : Type 0} where
   -- a signal leaves those of the list whom it doesn't take
   pub signal_outside : (ws : List (Waiter C)) → ((seat : ℕ) → times_in seat ws ≤ 1) → outside (taken_set (signaled_of ws)) ws ≡ unsignaled_of ws
   signal_outside ws once =
-      marked_outside (taken_set (signaled_of ws)) (signal_marks Anybody ws) ws once (λ seat here. in_taken (signaled_of ws) seat ∙ ap (λ (vs : List (Waiter C)). nat_lt 0 (times_in seat vs)) (sym (signal_takes ws))) ∙ signal_leaves ws
+      marked_outside (taken_set (signaled_of ws)) (signal_marks Anybody ws) ws once (λ seat here. in_taken (signaled_of ws) seat ∙ ap (λ (vs : List (Waiter C)). nat_lt 0 (times_in seat vs)) (sym (signal_parts ws).0)) ∙ (signal_parts ws).1
 
   -- a broadcast leaves nobody there
   pub broadcast_outside : (ws : List (Waiter C)) → outside (taken_set ws) ws ≡ []

@@ -1,14 +1,14 @@
 -- What a wake takes of a list, and what it leaves there.
-use Rattle.std.proofs.Common.{List, Some, [], ap, arith, eq-eqb, eqb, false, get_or, inl, inr, le-ltb, length, lt-ltb, ltb-true, nat_lt, ne_eqb, refl, subst, suc, sym, take, true, zero, ℕ, ◌+◌, ◌<◌, ◌||◌, ◌∙◌, ◌∷◌, ◌≡◌, ◌≤◌}
+use Rattle.std.proofs.Common.{List, Some, [], ap, arith, eq-eqb, eqb, false, get_or, inl, inr, le-ltb, length, lt-ltb, ltb-true, nat_lt, ne_eqb, refl, subst, sym, take, true, ℕ, ◌+◌, ◌<◌, ◌||◌, ◌∙◌, ◌∷◌, ◌≡◌, ◌≤◌}
 use Rattle.ns_queue.proofs.Prelude.{Anybody, Every, HaveSeats, Seats, Waiter, cases_eq, in_more, is_in, none_in, one_if, or_comm, same_seats, seats_of, signal_marks, signaled_of, sole_of, take_more, taken_set, times_in, unsignaled_of}
-use Rattle.ns_queue.proofs.Seats.{stands_low, some_more, times_in-cons, times_in_push}
+use Rattle.ns_queue.proofs.Seats.{found_in, stands_low, some_more, times_in-cons, times_in_push}
 use Rattle.ns_queue.proofs.Marking.{every_marked, times_parted}
-use Rattle.ns_queue.proofs.Meaning.{signal_takes, signal_leaves}
+use Rattle.ns_queue.proofs.Meaning.{signal_parts}
 
 module _ {C : Type 0} where
   -- a signal takes some and leaves the others
   pub times_signaled : (ws : List (Waiter C)) (seat : ℕ) → times_in seat (signaled_of ws) + times_in seat (unsignaled_of ws) ≡ times_in seat ws
-  times_signaled ws seat = rw (← signal_takes ws, ← signal_leaves ws) (times_parted (signal_marks Anybody ws) ws seat)
+  times_signaled ws seat = rw (← (signal_parts ws).0, ← (signal_parts ws).1) (times_parted (signal_marks Anybody ws) ws seat)
 
   -- whom a signal takes stands there once, where nobody stands in the list twice
   pub once_signaled : (ws : List (Waiter C)) → ((seat : ℕ) → times_in seat ws ≤ 1) → (seat : ℕ) → times_in seat (signaled_of ws) ≤ 1
@@ -21,7 +21,7 @@ module _ {C : Type 0} where
 module _ {C : Type 0} (P : Waiter C → Type 0) where
   -- what holds of each waiter holds of those whom a signal takes
   pub every_signaled : (ws : List (Waiter C)) → Every P ws → Every P (signaled_of ws)
-  every_signaled ws p = rw (← signal_takes ws) (every_marked P (signal_marks Anybody ws) ws p)
+  every_signaled ws p = rw (← (signal_parts ws).0) (every_marked P (signal_marks Anybody ws) ws p)
 
 -- ---- the set of those taken
 
@@ -46,15 +46,9 @@ module _ {C : Type 0} where
   pub in_stands : (ws : List (Waiter C)) (seat : ℕ) → is_in (taken_set ws) seat ≡ true → 1 ≤ times_in seat ws
   in_stands ws seat is = ltb-true 0 (times_in seat ws) (sym (in_taken ws seat) ∙ is)
 
-  stands_at : (ws : List (Waiter C)) (i : ℕ) (w : Waiter C) → i < length ws → w ≡ get_or ws i w → 0 < times_in w.seat ws
-  stands_at [] i w within is = absurd (omega (arith, within))
-  stands_at (v ∷ ws) zero w within is =
-      let one : ◌≡◌ {A = ℕ} (one_if (eqb v.seat w.seat)) 1 = ap one_if (eq-eqb v.seat w.seat (ap (λ u. u.seat) (sym is))) in omega (arith, one, times_in-cons w.seat v ws)
-  stands_at (v ∷ ws) (suc i) w within is = omega (arith, times_in-cons w.seat v ws, stands_at ws i w (omega arith) is)
-
   -- a waiter of the list has a seat below 64
   pub low_at : (ws : List (Waiter C)) (i : ℕ) (w : Waiter C) → HaveSeats ws → i < length ws → w ≡ get_or ws i w → w.seat < 64
-  low_at ws i w low within is = stands_low w.seat ws low (stands_at ws i w within is)
+  low_at ws i w low within is = stands_low w.seat ws low (found_in ws i w w.seat within is refl)
 
   count_on : (ws : List (Waiter C)) (i : ℕ) (w : Waiter C) (n : ℕ) → i < length ws → w ≡ get_or ws i w → times_in n (take (i + 1) ws) ≡ one_if (eqb n w.seat) + times_in n (take i ws)
   count_on ws i w n within is =

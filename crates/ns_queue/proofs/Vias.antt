@@ -1,18 +1,20 @@
 -- Which variables those name whom a scan takes.
-use Rattle.std.proofs.Common.{Bool, List, Option, Some, [], ap, arith, filter, get_or, length, length-take, map, refl, sym, take, ℕ, ◌++◌, ◌+◌, ◌<◌, ◌∙◌, ◌∷◌, ◌≡◌}
+use Rattle.std.proofs.Common.{Bool, List, Some, [], ap, arith, filter, get_or, length, length-take, map, refl, sym, take, ℕ, ◌++◌, ◌+◌, ◌<◌, ◌∙◌, ◌∷◌, ◌≡◌}
 use Rattle.ns_queue.proofs.Prelude.{Every, IsRow, Waiter, length-map, map-append, seated, seats_of, take_more, times_in, via_in, woken_of}
 use Rattle.ns_queue.proofs.Hops.{seated_first, seated_rest, stands_not}
 use Rattle.ns_queue.proofs.Leaving.{scan_is, scan_marks}
 use Rattle.ns_queue.proofs.Marking.{every_marked, filter_marks}
 use Rattle.ns_queue.proofs.Places.{row_own, row_rest}
 
--- one more of them
-pub vias_on : (f : ℕ → Option ℕ) (seats : List ℕ) (i : ℕ) (got new : List (Option ℕ)) (via : Option ℕ) → i < length seats → via ≡ f (get_or seats i 0) → new ≡ got ++ via ∷ [] → got ≡ map f (take i seats) → new ≡ map f (take (i + 1) seats)
-vias_on f seats i got new via within is more before =
-    more ∙ ap (λ vs. vs ++ via ∷ []) before ∙ ap (λ v. map f (take i seats) ++ v ∷ []) is ∙ sym (map-append f (take i seats) (get_or seats i 0 ∷ [])) ∙ ap (map f) (sym (take_more seats i 0 within))
+-- ---- a pass along a list that pushes what each element becomes
 
-pub vias_count : (f : ℕ → Option ℕ) (seats : List ℕ) (i : ℕ) (got : List (Option ℕ)) → i < length seats → got ≡ map f (take i seats) → length got ≡ i
-vias_count f seats i got within is = ap length is ∙ length-map (take i seats) f ∙ simp length-take (omega (arith, within))
+module _ {A B : Type 0} (f : A → B) (xs : List A) (i : ℕ) (got : List B) where
+  pub mapped_on : (new : List B) (d : A) (y : B) → i < length xs → y ≡ f (get_or xs i d) → new ≡ got ++ y ∷ [] → got ≡ map f (take i xs) → new ≡ map f (take (i + 1) xs)
+  mapped_on new d y within is more before =
+      more ∙ ap (λ ys. ys ++ y ∷ []) before ∙ ap (λ z. map f (take i xs) ++ z ∷ []) is ∙ sym (map-append f (take i xs) (get_or xs i d ∷ [])) ∙ ap (map f) (sym (take_more xs i d within))
+
+  pub mapped_count : i < length xs → got ≡ map f (take i xs) → length got ≡ i
+  mapped_count within is = ap length is ∙ length-map (take i xs) f ∙ simp length-take (omega (arith, within))
 
 module _ {C : Type 0} where
   -- each is found by its seat

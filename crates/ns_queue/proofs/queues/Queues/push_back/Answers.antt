@@ -1,13 +1,14 @@
 use Rattle.std.proofs.Common.{arith, ◌<◌}
 use Rattle.ns_queue.proofs.Orders.{free_beside}
-use Rattle.ns_queue.proofs.Inside.{lock_pushed}
+use Rattle.ns_queue.proofs.Inside.{lock_more}
+use Rattle.ns_queue.proofs.Seats.{times_in_push}
 use Rattle.ns_queue.proofs.queues.Queues.push_back.Goals as goal
 
 pub push_back-requires : goal.push_back-requires
 push_back-requires g c = let free = rw (← c.self.view_is) at c.requires.free in (g.met.C.Queueable.parts_fit.lock, (c.requires.below, omega (arith, free)))
 
 pub invariant_of-self : goal.invariant_of-self
-invariant_of-self g c = lock_pushed _ _ _ c.args.waiter c.self.invariant c.requires.below (rw (← c.self.view_is) at c.requires.free) c.push_back.ensures
+invariant_of-self g c = lock_more _ _ _ c.args.waiter c.self.invariant c.requires.below (rw (← c.self.view_is) at c.requires.free) (λ seat. rw c.push_back.ensures (times_in_push c.self.inside.lock c.args.waiter seat))
 
 pub push_to-requires : goal.push_to-requires
 push_to-requires g c =
