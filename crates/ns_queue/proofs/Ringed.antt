@@ -1,11 +1,11 @@
 -- What a waiter more or less makes of the entries, the links and the counts.
-use Rattle.std.proofs.Common.{Bool, IsTrue, List, None, Option, Some, [], ap, append-nil, arith, cond, eq-eqb, eqb, false, get_or, get_or-set_other, get_or-set_same, inl, inr, is_some, length, length-append, length-set, nat_lt, refl, replicate, set, subst, suc, sym, true}
+use Rattle.std.proofs.Common.{Bool, Bor, IsTrue, List, None, OnSome, Option, Some, [], ap, append-nil, arith, cond, eq-eqb, eqb, false, get_or, get_or-set_other, get_or-set_same, inl, inr, is_some, length, length-append, length-set, nat_lt, refl, replicate, set, subst, suc, sym, true}
 use Rattle.std.proofs.Common.{zero, ℕ, ◌++◌, ◌+◌, ◌<◌, ◌||◌, ◌↔◌, ◌∙◌, ◌∷◌, ◌≡◌, ◌≤◌}
 use Rattle.ns_queue.proofs.Prelude.{AreCounts, Counts, DoCount, HaveSeats, Holds, IsRow, Waiter, ahead, behind, cases_eq, cases_lt, count_by, count_by-le-length, counts_less, counts_more, counts_of, first_seat, gather, get_or_default, has_condition, is_long, last_seat, list_any}
-use Rattle.ns_queue.proofs.Prelude.{one_if, option_map, seated, sum_by-append, sum_by-cons, times_in, without_in, writes_plainly}
+use Rattle.ns_queue.proofs.Prelude.{one_if, option_copied, option_map, seated, sum_by-append, sum_by-cons, times_in, without_in, writes_plainly}
 use Rattle.ns_queue.proofs.Seats.{none_more, one_more, room_for, stands_low, some_more, times_in-cons, times_in-append}
 use Rattle.ns_queue.proofs.Hops.{Spread, linked, joined, seated_none, seated_other, seated_here, gather_is, first_hop, last_hop, links_at}
-use Rattle.ns_queue.proofs.Places.{found, row_at, row_parts, row_rest, standing, without_is}
+use Rattle.ns_queue.proofs.Places.{found, row_at, row_parts, row_rest, seated_stands, standing, without_is}
 
 counts_same : (l m n o l' m' n' o' : ℕ) → l ≡ l' → m ≡ m' → n ≡ n' → o ≡ o' →
     ◌≡◌ {A = Counts} (record { len = l; conditional = m; plain_writers = n; long = o }) (record { len = l'; conditional = m'; plain_writers = n'; long = o' })
@@ -234,6 +234,11 @@ module _ {C : Type 0} where
     ],
     λ here. IsTrue_of b (told ∙ ap is_some is ∙ ap is_some (standing s ws here).is),
   )
+
+  -- whoever is found by its seat stands there
+  pub found_stands : (o : Option (Bor (Waiter C))) (s : ℕ) (ws : List (Waiter C)) → option_copied o ≡ seated s ws → OnSome o (0 < times_in s ws)
+  found_stands None s ws is = tt
+  found_stands (Some w) s ws is = seated_stands s ws w.now (sym is)
 
   -- no kind has more than there are
   pub are_counts : (held : List (Option (Waiter C))) (nx pv : List ℕ) (c : Counts) (ws : List (Waiter C)) → Holds held nx pv c ws → AreCounts c

@@ -1,8 +1,8 @@
 //! Waiters by their seats, with links to both neighbours.
 
-ghost use Rattle.std.specs.Prelude.{◌≡◌, ◌<◌, ◌↔◌, ◌∷◌, ◌++◌, [], IsTrue, slice_set};
+ghost use Rattle.std.specs.Prelude.{◌≡◌, ◌<◌, ◌↔◌, ◌∷◌, ◌++◌, [], IsTrue, OnSome, length, slice_set};
 ghost use Rattle.std.specs.Option.{option_copied};
-ghost use Rattle.ns_queue.specs.Rings.{IsRow, ahead, behind, counts_of, first_seat, last_seat, seated, without_all};
+ghost use Rattle.ns_queue.specs.Rings.{IsRow, ahead, behind, counts_of, first_seat, from, last_seat, seated, without_all};
 ghost use Rattle.ns_queue.specs.Waiters.{times_in, without_in};
 
 use crate::counts::{Counts, with_one, without_one};
@@ -92,6 +92,7 @@ impl<C: Queueable<N>, const N: usize> Ring<C, N> {
     /// The waiter of this seat, if it stands here.
     pub(crate) fn get(&self, seat: u8) -> Option<&Waiter<C>>
         ensures waiter { option_copied result ≡ seated seat self.now }
+        ensures stands { OnSome result (0 < times_in seat self.now) }
         ensures orderly { IsRow self.now }
     {
         let held = &self.held;
@@ -128,7 +129,8 @@ impl<C: Queueable<N>, const N: usize> Ring<C, N> {
     /// The seat behind this one, or [`END`].
     pub(crate) fn next(&self, seat: u8) -> u8
         requires { 0 < times_in seat self.now }
-        ensures { result ≡ first_seat 64 (behind seat self.now) }
+        ensures place { result ≡ first_seat 64 (behind seat self.now) }
+        ensures fewer { length (from result self.now) < length (from seat self.now) }
     {
         self.next[seat as usize]
     }

@@ -1,6 +1,6 @@
 use Rattle.std.proofs.Common.{[], ap, map, rules, sym, ◌++◌, ◌∙◌, ◌∷◌}
 use Rattle.ns_queue.proofs.Prelude.{ahead, length-map, map-append, shown_of}
-use Rattle.ns_queue.proofs.Places.{ahead_few, from_none, own, seated_stands, smaller, stepped}
+use Rattle.ns_queue.proofs.Places.{ahead_few, from_none, own, stepped}
 use Rattle.ns_queue.proofs.gather.shown_ring.Goals as goal
 
 pub loop-waiter-init : goal.loop-waiter-init
@@ -11,15 +11,9 @@ push-requires g c =
     let few = ahead_few c.loop-waiter.at c.args.ring.now c.in-Some.waiter.now c.get.ensures.orderly (sym c.in-Some.ensures.waiter) in
     (search rules, rw c.loop-waiter.invariant (rw (length-map (ahead c.loop-waiter.at c.args.ring.now) shown_of) few))
 
-pub next-at-requires : goal.next-at-requires
-next-at-requires g c = (g.met.C.Queueable.parts_fit.ring, seated_stands c.loop-waiter.at c.args.ring.now c.in-Some.waiter.now (sym c.in-Some.ensures.waiter))
-
-pub loop-waiter-smaller : goal.loop-waiter-smaller
-loop-waiter-smaller g c = smaller c.loop-waiter.at c.args.ring.now c.in-Some.waiter.now c.next-at.result c.get.ensures.orderly (sym c.in-Some.ensures.waiter) c.next-at.ensures
-
 pub loop-waiter-preserved : goal.loop-waiter-preserved
 loop-waiter-preserved g c =
-    let s = stepped c.loop-waiter.at c.args.ring.now c.in-Some.waiter.now c.next-at.result c.get.ensures.orderly (sym c.in-Some.ensures.waiter) c.next-at.ensures in
+    let s = stepped c.loop-waiter.at c.args.ring.now c.in-Some.waiter.now c.next-at.result c.get.ensures.orderly (sym c.in-Some.ensures.waiter) c.next-at.ensures.place in
     let xs = ahead c.loop-waiter.at c.args.ring.now in
     c.push.ensures.items ∙ ap (λ vs. vs ++ c.shown.result ∷ []) c.loop-waiter.invariant ∙ ap (λ v. map shown_of xs ++ v ∷ []) c.shown.ensures
     ∙ sym (map-append shown_of xs (c.in-Some.waiter.now ∷ [])) ∙ ap (map shown_of) (sym s.ahead_is)

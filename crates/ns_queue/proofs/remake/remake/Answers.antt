@@ -1,6 +1,6 @@
 use Rattle.ns_queue.proofs.Prelude.{arith, false, option_copied, sym, true}
 use Rattle.ns_queue.proofs.Making.{head_low, joins_told, made_begun, made_ends, made_joins, made_stops, run_read}
-use Rattle.ns_queue.proofs.Places.{seated_low, seated_stands, smaller}
+use Rattle.ns_queue.proofs.Places.{seated_low}
 use Rattle.ns_queue.proofs.remake.remake.Goals.{then-not-joins+else-heads-at, else-not-joins}
 use Rattle.ns_queue.proofs.remake.remake.Goals as goal
 
@@ -21,12 +21,6 @@ returns-then-heads-at g c =
 pub bounds-heads-at-in-Some : goal.bounds-heads-at-in-Some
 bounds-heads-at-in-Some g c = let low = seated_low c.loop-waiter.at c.args.ring.now c.in-Some.waiter.now c.get.ensures.orderly (sym c.in-Some.ensures.waiter) in omega (arith, low)
 
-pub next-at-requires : goal.next-at-requires
-next-at-requires g c = (g.met.C.Queueable.parts_fit.ring, seated_stands c.loop-waiter.at c.args.ring.now c.in-Some.waiter.now (sym c.in-Some.ensures.waiter))
-
-pub loop-waiter-smaller : goal.loop-waiter-smaller
-loop-waiter-smaller g c = smaller c.loop-waiter.at c.args.ring.now c.in-Some.waiter.now c.next-at.result c.get.ensures.orderly (sym c.in-Some.ensures.waiter) c.next-at.ensures
-
 pub loop-waiter-preserved : goal.loop-waiter-preserved
 loop-waiter-preserved g c =
     let same = g.C.Condition.means.same in
@@ -37,10 +31,10 @@ loop-waiter-preserved g c =
     elim c.if-not-joins.branch [
       | then-not-joins+else-heads-at u ↦
           let begins = joins_told same c.joins.result w (option_copied c.get-in-Some.result) _ _ false c.joins.ensures c.get-in-Some.ensures.waiter read u.if-not-joins.true in
-          made_begun same c.loop-waiter.heads c.loop-waiter.lasts c.if-not-joins.lasts c.loop-waiter.head c.if-not-joins.head c.loop-waiter.before c.loop-waiter.at c.next-at.result ws w c.get.ensures.orderly (sym c.in-Some.ensures.waiter) c.next-at.ensures begins u.head-is u.lasts-is m
+          made_begun same c.loop-waiter.heads c.loop-waiter.lasts c.if-not-joins.lasts c.loop-waiter.head c.if-not-joins.head c.loop-waiter.before c.loop-waiter.at c.next-at.result ws w c.get.ensures.orderly (sym c.in-Some.ensures.waiter) c.next-at.ensures.place begins u.head-is u.lasts-is m
       | else-not-joins u ↦
           let goes = joins_told same c.joins.result w (option_copied c.get-in-Some.result) _ _ true c.joins.ensures c.get-in-Some.ensures.waiter read u.if-not-joins.false in
-          rw (u.head-is, u.lasts-is) (made_joins same c.loop-waiter.heads c.loop-waiter.lasts c.loop-waiter.head c.loop-waiter.before c.loop-waiter.at c.next-at.result ws w c.get.ensures.orderly (sym c.in-Some.ensures.waiter) c.next-at.ensures goes m)
+          rw (u.head-is, u.lasts-is) (made_joins same c.loop-waiter.heads c.loop-waiter.lasts c.loop-waiter.head c.loop-waiter.before c.loop-waiter.at c.next-at.result ws w c.get.ensures.orderly (sym c.in-Some.ensures.waiter) c.next-at.ensures.place goes m)
     ]
 
 pub bounds-lasts-head-2 : goal.bounds-lasts-head-2

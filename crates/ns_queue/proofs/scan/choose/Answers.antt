@@ -1,7 +1,6 @@
 use Rattle.std.proofs.Common.{[], ap, inl, inr, sym, ◌++◌, ◌∙◌, ◌∷◌}
 use Rattle.ns_queue.proofs.Prelude.{Sought, bytes_72, option_copied, reads}
 use Rattle.ns_queue.proofs.Asking.{Enters}
-use Rattle.ns_queue.proofs.Places.{seated_stands, smaller}
 use Rattle.ns_queue.proofs.Reading.{look_fits, none_taken, reads_end, reads_few, reads_on, reads_start, writer_taken}
 use Rattle.ns_queue.proofs.scan.choose.Goals.{then-not-is_alike, else-not-is_alike}
 use Rattle.ns_queue.proofs.scan.choose.Goals as goal
@@ -20,15 +19,12 @@ returns-then-is_write g c =
     c.get.ensures.orderly (ap (λ (o : Sought). o.seat) c.requires) (sym c.in-Some.ensures.waiter) (ap (λ (o : Sought). o.tests) c.requires) (sym c.is_write.ensures ∙ c.if-is_write.true) got in
     record { woken = one.0; tests = one.1; orderly = c.get.ensures.orderly }
 
-pub next-at-requires : goal.next-at-requires
-next-at-requires g c = (g.met.C.Queueable.parts_fit.ring, seated_stands c.args.sought.seat c.args.ring.now c.in-Some.found.now (sym c.in-Some.ensures.waiter))
-
 pub loop-waiter-init : goal.loop-waiter-init
 loop-waiter-init g c =
     let meets = λ (d : g.row.C.Denot). g.C.Condition.means.holds d c.args.row.now in
     let got = c.push.ensures.items ∙ ap (λ vs. vs ++ c.args.sought.seat ∷ []) c.new-woken.ensures in
     reads_start g.C.Condition.means.same meets (λ d e is. g.met.C.Condition.same_agrees d e c.args.row.now c.told-row is) c.args.sought.seat c.args.sought.tests c.next-at.result _ (option_copied c.as_ref-first.result) c.args.ring.now c.in-Some.found.now
-    c.get.ensures.orderly (ap (λ (o : Sought). o.seat) c.requires) (sym c.in-Some.ensures.waiter) (ap (λ (o : Sought). o.tests) c.requires) (sym c.is_write.ensures ∙ c.if-is_write.false) got c.as_ref-first.ensures.value c.next-at.ensures
+    c.get.ensures.orderly (ap (λ (o : Sought). o.seat) c.requires) (sym c.in-Some.ensures.waiter) (ap (λ (o : Sought). o.tests) c.requires) (sym c.is_write.ensures ∙ c.if-is_write.false) got c.as_ref-first.ensures.value c.next-at.ensures.place
 
 pub overflow_add-tests : goal.overflow_add-tests
 overflow_add-tests g c =
@@ -42,12 +38,6 @@ push_if-requires g c =
     let meets = λ (d : g.row.C.Denot). g.C.Condition.means.holds d c.args.row.now in
     (reads_few g.C.Condition.means.same meets (option_copied c.loop-waiter.first) c.loop-waiter.truth c.loop-waiter.at c.loop-waiter.tests c.loop-waiter.woken.items c.args.ring.now c.in-Some-get.waiter.now c.get.ensures.orderly (sym c.in-Some-get.ensures.waiter) c.loop-waiter.invariant).1
 
-pub next-at-requires-in-Some-get : goal.next-at-requires-in-Some-get
-next-at-requires-in-Some-get g c = (g.met.C.Queueable.parts_fit.ring, seated_stands c.loop-waiter.at c.args.ring.now c.in-Some-get.waiter.now (sym c.in-Some-get.ensures.waiter))
-
-pub loop-waiter-smaller : goal.loop-waiter-smaller
-loop-waiter-smaller g c = smaller c.loop-waiter.at c.args.ring.now c.in-Some-get.waiter.now c.next-at-in-Some-get.result c.get.ensures.orderly (sym c.in-Some-get.ensures.waiter) c.next-at-in-Some-get.ensures
-
 pub loop-waiter-preserved : goal.loop-waiter-preserved
 loop-waiter-preserved g c =
     let meets = λ (d : g.row.C.Denot). g.C.Condition.means.holds d c.args.row.now in
@@ -59,7 +49,7 @@ loop-waiter-preserved g c =
     ] in
     reads_on same meets (λ d e is. g.met.C.Condition.same_agrees d e c.args.row.now c.told-row is) (option_copied c.loop-waiter.first) (option_copied c.if-not-is_alike.first) c.loop-waiter.truth c.if-not-is_alike.truth c.look_at-seen.result.truth
     c.loop-waiter.at c.next-at-in-Some-get.result c.loop-waiter.tests c.look_at-seen.result.tests c.look_at-seen.result.taken c.loop-waiter.woken.items c.push_if.new.woken.items c.args.ring.now w
-    c.get.ensures.orderly (sym c.in-Some-get.ensures.waiter) c.next-at-in-Some-get.ensures enters c.look_at-seen.ensures.truth c.look_at-seen.ensures.tests c.look_at-seen.ensures.taken c.push_if.ensures c.loop-waiter.invariant
+    c.get.ensures.orderly (sym c.in-Some-get.ensures.waiter) c.next-at-in-Some-get.ensures.place enters c.look_at-seen.ensures.truth c.look_at-seen.ensures.tests c.look_at-seen.ensures.taken c.push_if.ensures c.loop-waiter.invariant
 
 pub returns : goal.returns
 returns g c =

@@ -1,5 +1,5 @@
 use Rattle.std.proofs.Common.{[], ap, sym, ◌++◌, ◌∙◌, ◌∷◌}
-use Rattle.ns_queue.proofs.Places.{ahead_free, from_none, own, seated_stands, smaller, stepped}
+use Rattle.ns_queue.proofs.Places.{ahead_free, from_none, own, stepped}
 use Rattle.ns_queue.proofs.lock_list.LockList.copied.Goals as goal
 
 pub loop-waiter-init : goal.loop-waiter-init
@@ -10,15 +10,9 @@ push_back-requires g c =
     let free = ahead_free c.loop-waiter.at c.self.inside.ring c.in-Some.waiter.now c.front-at.ensures.orderly (sym c.in-Some.ensures.waiter) in
     (g.met.C.Queueable.parts_fit.lock, (free.0, rw c.loop-waiter.invariant free.1))
 
-pub next-at-requires : goal.next-at-requires
-next-at-requires g c = (g.met.C.Queueable.parts_fit.ring, seated_stands c.loop-waiter.at c.self.inside.ring c.in-Some.waiter.now (sym c.in-Some.ensures.waiter))
-
-pub loop-waiter-smaller : goal.loop-waiter-smaller
-loop-waiter-smaller g c = smaller c.loop-waiter.at c.self.inside.ring c.in-Some.waiter.now c.next-at.result c.front-at.ensures.orderly (sym c.in-Some.ensures.waiter) c.next-at.ensures
-
 pub loop-waiter-preserved : goal.loop-waiter-preserved
 loop-waiter-preserved g c =
-    let s = stepped c.loop-waiter.at c.self.inside.ring c.in-Some.waiter.now c.next-at.result c.front-at.ensures.orderly (sym c.in-Some.ensures.waiter) c.next-at.ensures in
+    let s = stepped c.loop-waiter.at c.self.inside.ring c.in-Some.waiter.now c.next-at.result c.front-at.ensures.orderly (sym c.in-Some.ensures.waiter) c.next-at.ensures.place in
     c.push_back.ensures ∙ ap (λ vs. vs ++ c.in-Some.waiter.now ∷ []) c.loop-waiter.invariant ∙ sym s.ahead_is
 
 pub returns : goal.returns

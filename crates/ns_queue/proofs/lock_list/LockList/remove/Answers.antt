@@ -33,7 +33,7 @@ mend-requires g c = (
     stood = told_yes c.holds.result _ c.if-not-holds.false c.holds.ensures.stands.0;
     left = c.remove.ensures;
     before_is = c.prev-before.ensures;
-    next_is = c.next-behind.ensures;
+    next_is = c.next-behind.ensures.place;
     runs = c.self.invariant;
   },
 )
