@@ -13,12 +13,10 @@ pub use Rattle.ns_gate.specs.Steps.{IsOwedNext, IsPlainExchange, IsStoreOf, MayB
 pub use Rattle.ns_gate.specs.Steps.{WantsNext, act_by, act_of, act_returning, carried_by, content_by, course_by, first_said, found_returned, lists_returned, lists_scanned, made_by, next_owed, some_returned, the, tried, tried_for, walk_by, word_at, word_returning}
 pub use Rattle.ns_gate.specs.Wakes.{lists_left, lists_woken, owed_woken, scanned_writer, sought_at, taken_from, turned_to, wake_told, without_each, woken_nobody, woken_sole}
 pub use Rattle.ns_model.specs.Environments.{IsMade}
-pub use Rattle.ns_model.specs.Sections.{is_met}
 unfoldable pub use Rattle.ns_word.specs.Codec.{word_of}
 pub use Rattle.ns_word.specs.Meanings.{InHand}
 pub use Rattle.ns_word.specs.Places.{IsInRange}
 pub use Rattle.ns_word.specs.Steps.{waits_at}
-pub use Rattle.ns_word.specs.Waits.{answer_of}
 pub use Rattle.ns_word.specs.Walks.{look_or_queue, wait_first}
 pub use Rattle.ns_word.specs.Words.{mode_released}
 pub use Rattle.ns_word.specs.declared.acquire_walk.AcquirePlace.TheVariants.{AcquireLoad, Arm}
