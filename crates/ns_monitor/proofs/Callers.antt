@@ -12,6 +12,11 @@ abbrev made_of : {A B : Type 0} → Result A B → Bool
 made_of (Ok x) = true
 made_of (Err e) = false
 
+-- another seat is of one's own monitor, as the handles of both tell
+pub of_one : {C : Type 0} {N : ℕ} (mine seen its other : Known C N) (monitor : TableId) → mine ≡ seen → its ≡ other → seen.monitor ≡ other.monitor → mine.monitor ≡ monitor → its.monitor ≡ monitor
+of_one {C = C} {N = N} mine seen its other monitor sees shows same own = let of = λ (k : Known C N). k.monitor in
+    ◌∙◌ {A = TableId} (ap of shows) (◌∙◌ {A = TableId} (sym same) (◌∙◌ {A = TableId} (sym (ap of sees)) own))
+
 module _ {C : Type 0} {N : ℕ} (truths : Truths C) where
   -- a call that is over has let its caller see more
   pub grew : (first : Walk C) (old : Known C N) (was is : TableId) (me now : SeatOf C N) → known_of was me ≡ old → is ≡ old.monitor → IsAtRest truths now → HasSince (Some first) (the me.0) (the now.0) → Grows truths first old (known_of is now)
@@ -53,8 +58,10 @@ module _ {C : Type 0} {N : ℕ} (truths : Truths C) where
   came_at_once first old monitor of number last now none same b went = (same, b.since, went_so first first last now refl none went)
 
   -- one that has locked so has a section that has just begun
-  pub locked_so : (mode : Mode) (old : Known C N) (monitor of : TableId) (number : ℕ) (began : SeatOf C N) (now : TableId × SeatOf C N) → old.monitor ≡ monitor → (b : HasBegun (locking mode) old of number began) → CameSo (locking mode) monitor b.was now →
-      (IsAtRest truths now.1 × IsNumberOf number now.1) × IsFreshIn N mode (the now.1.0).at.held × HasLocked truths (locking mode) mode old (known_of now.0 now.1)
+  abbrev pub LockedSo : Mode → Known C N → ℕ → TableId × SeatOf C N → Type 0
+  LockedSo mode old number now = (IsAtRest truths now.1 × IsNumberOf number now.1) × IsFreshIn N mode (the now.1.0).at.held × HasLocked truths (locking mode) mode old (known_of now.0 now.1)
+
+  pub locked_so : (mode : Mode) (old : Known C N) (monitor of : TableId) (number : ℕ) (began : SeatOf C N) (now : TableId × SeatOf C N) → old.monitor ≡ monitor → (b : HasBegun (locking mode) old of number began) → CameSo (locking mode) monitor b.was now → LockedSo mode old number now
   locked_so mode old monitor of number began now own b came = let over = came.2 in (
     (over.rest, (b.own.0 ∙ b.since.seat ∙ sym (came.1).seat, b.own.1)),
     locked_fresh mode (row_after (the now.1.0).told.seen) (the now.1.0).at.held over.means.section over.rest.wide,
@@ -62,8 +69,10 @@ module _ {C : Type 0} {N : ℕ} (truths : Truths C) where
   )
 
   -- and one that has released so has none
-  pub released_so : (releasing : Releasing) (old : Known C N) (monitor of : TableId) (number : ℕ) (began : SeatOf C N) (now : TableId × SeatOf C N) → old.monitor ≡ monitor → (b : HasBegun (releasing_by releasing) old of number began) → CameSo (releasing_by releasing) monitor b.was now →
-      (IsAtRest truths now.1 × IsNumberOf number now.1 × ((the now.1.0).at.held ≡ None)) × HasUnlocked truths releasing old (known_of now.0 now.1)
+  abbrev pub ReleasedSo : Releasing → Known C N → ℕ → TableId × SeatOf C N → Type 0
+  ReleasedSo releasing old number now = (IsAtRest truths now.1 × IsNumberOf number now.1 × ((the now.1.0).at.held ≡ None)) × HasUnlocked truths releasing old (known_of now.0 now.1)
+
+  pub released_so : (releasing : Releasing) (old : Known C N) (monitor of : TableId) (number : ℕ) (began : SeatOf C N) (now : TableId × SeatOf C N) → old.monitor ≡ monitor → (b : HasBegun (releasing_by releasing) old of number began) → CameSo (releasing_by releasing) monitor b.was now → ReleasedSo releasing old number now
   released_so releasing old monitor of number began now own b came = let first = releasing_by releasing in let over = came.2 in (
     (over.rest, (b.own.0 ∙ b.since.seat ∙ sym (came.1).seat, b.own.1), over.means.left),
     record { grows = grew first old of now.0 b.was now.1 b.view (came.0 ∙ sym own) over.rest came.1; mine = released first releasing old of now.0 b.was now.1 b.view came.1 over.means },

@@ -59,6 +59,18 @@ impl<C: Copy> Clone for Scanning<C> {
 }
 
 impl<C: Copy> Scanning<C> {
+    /// The same, made anew. What a call that isn't compiled in takes lies in memory, filled with zeros before it is
+    /// written; so only whoever makes such a call pays for that.
+    #[inline(always)]
+    fn made_anew(self) -> Scanning<C>
+        ensures { result ≡ self }
+    {
+        match self {
+            Scanning::ToRelease(releasing) => Scanning::ToRelease(releasing),
+            Scanning::ToWait(queuing) => Scanning::ToWait(queuing),
+        }
+    }
+
     /// What the queues are put back for after it.
     #[inline(always)]
     fn returning(self) -> Returning<C>
@@ -149,7 +161,7 @@ impl<C: Condition<N>, const N: usize> Monitor<C, N> {
         let (wake, left) = match self.gate.scan_writer_in_hand(seat, row) {
             Ok(told) => told,
             Err(sought) => {
-                self.scan_and_wake(rt, seat, scanning, word, row, sought);
+                self.scan_and_wake(rt, seat, scanning.made_anew(), word, row, sought);
                 return;
             }
         };

@@ -1,4 +1,4 @@
--- The names that contracts and proofs cite, passed on from one place. Declares nothing.
+-- The names of specs/ that proofs cite, passed on from one place. Declares nothing.
 unfoldable pub use Rattle.ns_model.specs.Environments.{is_notified}
 pub use Rattle.ns_note.specs.Answers.{LookAnswers, WaitAnswers}
 pub use Rattle.ns_note.specs.Known.{AreNew, AreOfOneHistory, EnvKnown, Grows, IsAtRest, IsNumberOf, known, known_of, sight_of, the}

@@ -351,7 +351,8 @@ impl Env {
     }
 
     /// One look at what may end a wait: `Notified` where its note is notified, else `Expired` where the
-    /// clock has reached its deadline, in ticks, else nothing. What the limits don't name is not looked at.
+    /// clock has reached its deadline, in ticks, else nothing. What the limits don't name is not looked at. With
+    /// neither it loads the clock all the same, and answers nothing.
     ///
     /// Needs a note, if they name one, that the seat has seen made.
     pub fn look_for(&self, seat: &mut EnvSeat, limits: Limits) -> Option<Cause>

@@ -1,4 +1,4 @@
--- The names that contracts and proofs cite, passed on from one place. Declares nothing.
+-- The names of specs/ that proofs cite, passed on from one place. Declares nothing.
 unfoldable pub use Rattle.ns_model.specs.Environments.{is_notified}
 pub use Rattle.ns_objects.specs.Any.{BothKnown, IsNamed, RoundAnswers, WasReady, WasReadyIn, any_of, item_of, past_of}
 pub use Rattle.ns_objects.specs.Held.{HasWaitedForAny, PlaceBy, WaitAnswers}

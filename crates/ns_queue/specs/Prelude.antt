@@ -1,4 +1,4 @@
--- The names that contracts and proofs cite, passed on from one place. Declares nothing.
+-- The names of specs/ that proofs cite, passed on from one place. Declares nothing.
 pub use Rattle.ns_queue.specs.Marks.{is_wanted, marked, signal_marks, unmarked, wanted_after}
 pub use Rattle.ns_queue.specs.Queues.{IsList, IsOrderly, Lists, beside, cvs_without, named_for, times, waiters_of, with_each, with_waiters, without}
 pub use Rattle.ns_queue.specs.Rings.{DoCount, Holds, Hops, IsRow, ahead, behind, counts_less, counts_more, counts_of, first_seat, from, last_seat, seated, via_in, without_all, writes_plainly}

@@ -1,4 +1,4 @@
--- The names that contracts and proofs cite, passed on from one place. Declares nothing.
+-- The names of specs/ that proofs cite, passed on from one place. Declares nothing.
 pub use Rattle.ns_replay.specs.Calls.{long_call_of, plain_call_of, short_call_of}
 unfoldable pub use Rattle.ns_replay.specs.Calls.{actor_of, add_of, brief_call_of, call_of, turn_of}
 pub use Rattle.ns_replay.specs.Condition.{script_truths}

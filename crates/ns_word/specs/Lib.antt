@@ -13,7 +13,6 @@ pub mod Names
 pub mod Owed
 pub mod Places
 pub mod Prelude
-pub mod Room
 pub mod Seen
 pub mod Stands
 pub mod Steps

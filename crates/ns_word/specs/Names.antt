@@ -7,7 +7,6 @@ pub use Rattle.ns_model.specs.Beginnings.{BeginsWith}
 pub use Rattle.ns_model.specs.Cvs.{has}
 pub use Rattle.ns_model.specs.Histories.{IsBySeats, IsLegal, IsLegalEvent, Standing, first_row, first_standing, own, phase_of, row_after, standing_after, standing_next, who_of}
 pub use Rattle.ns_model.specs.Phases.{is_waiting, is_write, left_phase, woken_phase}
-pub use Rattle.ns_model.specs.Room.{HasRoom, room_enough}
 pub use Rattle.ns_model.specs.Seats.{is_in}
 pub use Rattle.ns_model.specs.Sections.{EntryFits, ExitFits, ModeFits, is_met, phase_after}
 pub use Rattle.ns_model.specs.Tallies.{Every, one_if, total}
@@ -96,6 +95,4 @@ pub use Rattle.ns_word.specs.declared.word.Releasing.TheVariants.{QuietWriter, R
 pub use Rattle.ns_word.specs.declared.word.Taking.{Taking}
 pub use Rattle.ns_word.specs.declared.word.Taking.TheVariants.{ToChange, ToQueue}
 pub use Rattle.ns_word.specs.declared.word.Word.{Word}
-pub use Rattle.ns_model.specs.contracts.event.Event.{the_row as event_row}
-pub use denote.Param.{copied, layout, param}
 pub use denote.RattleType.{RattleType}

@@ -43,7 +43,6 @@ pub mod owed;
 pub mod queue_law;
 pub mod release_walk;
 pub mod request;
-pub mod room;
 pub mod show_walk;
 pub mod signal_walk;
 pub mod try_walk;

@@ -25,6 +25,7 @@ doing_by None wait walk = OnLock walk wait
 doing_by (Some look) None walk = LooksByLimits walk (ClockLoad (ForLook look.limits))
 doing_by (Some look) (Some wait) walk = LooksByRound walk wait (InRound wait.round FirstClock)
 
+-- what a seat does whose call on the lock stands here: it looks, where this place wants a look
 abbrev pub doing_at : {C : Type 0} → Option AnyWait → Walk C → Doing C
 doing_at wait walk = doing_by (look_in (want_of walk)) wait walk
 

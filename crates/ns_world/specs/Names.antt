@@ -40,7 +40,7 @@ pub use Rattle.ns_word.specs.Prelude.{QuietKeeps, SoFar, Step as Steps, Truths, 
 pub use Rattle.ns_word.specs.Prelude.{is_in, is_unwoken, leave_of, left_of, looked_after, meets_at, moved_to, owed_to, own, quiet_first, releasing_of, row_after, section_of, stands_at, taken_by, taken_set, times, times_among, times_in, wait_first, waited_in, waiters_of, wakes_of, walk_after}
 pub use Rattle.ns_word.specs.Prelude.{walk_at, want_of, with_waiters, woken_of, word_released, word_released_returning, word_returned}
 pub use Rattle.ns_model.specs.Environments.{no_note}
-pub use Rattle.ns_model.specs.Room.{HasRoom, room, small_by}
+pub use Rattle.ns_model.specs.Room.{HasRoom, room, room_enough, small_by}
 pub use Rattle.ns_model.specs.declared.cvs.Cvs.{Cvs}
 pub use Rattle.ns_model.specs.declared.cvs.Variables.TheVariants.{Any, Only}
 pub use Rattle.ns_model.specs.declared.environment.EnvEvent.{EnvEvent}

@@ -1,4 +1,4 @@
--- The counters and once cells of a world, and one step of a seat in a call on them.
+-- The counters and once cells of a world, and one step of a seat in a call on them, or in the round by which a wait looks.
 use Rattle.std.specs.Prelude.{List, None, Option, Some, ℕ, ◌≡◌}
 use Rattle.ns_world.specs.Names.{EnvPlain, Finished, Idle, ObjectEffect, ObjectEvent, ObjectFound, ObjectNext, ObjectWalk, ObjectWords, OnObjects, Over, Repeat, Round, Seat, Step, Went, first_words, object_after, object_got, object_place, object_want, padded, setup_of}
 use Rattle.ns_world.specs.Among.{BeginsToWait}

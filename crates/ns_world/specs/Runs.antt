@@ -37,7 +37,7 @@ abbrev pub tests_told : Reply → ℕ → ℕ
 tests_told TheReply.Misuse tests = 0
 tests_told reply tests = tests
 
--- how many conditions the last scan of a seat tested
+-- how many conditions the scan of a seat's call tested, 0 where it made none; of its last call, where none is in progress
 abbrev pub tests_at : {C : Type 0} {N : ℕ} → List (Seat C N) → ℕ → ℕ
 tests_at seats seat = option_map_or (λ s. s.tests) (slice_get seats seat) 0
 

@@ -12,7 +12,7 @@
 //! | looks by a round | ends it with what it has shown, or nothing | the wait has looked, and seen so |
 //! | is on the lock | ends the wait | the answer is the place of the variable which woke it, else what the last round has shown |
 
-ghost use Rattle.std.specs.Prelude.{◌≡◌, ◌≤◌, IfSome, IsSome, true, ℕ};
+ghost use Rattle.std.specs.Prelude.{◌≡◌, ◌≤◌, IfSome, IsSome, true};
 ghost use Rattle.ns_counters.specs.Asks.{StepFits};
 ghost use Rattle.ns_counters.specs.Items.{IsLow, have_variable, items_of};
 ghost use Rattle.ns_counters.specs.declared.walk.ObjectNext.{ObjectNext as ObjectNextOf};

@@ -1,16 +1,18 @@
-//! The compare-exchanges on the lock word. One that finds the word which its seat has last seen is
-//! made; any other changes nothing.
+//! An act on the lock, and the compare-exchanges of its word. One that finds the word which its seat has last
+//! seen is made; any other changes nothing.
 
 ghost use Rattle.std.specs.Prelude.{◌≡◌, ◌<◌, ◌++◌, ◌∷◌, ℕ, true, false, None, List, [], IsSome, IfSome, MatchResult, if◌then◌else◌};
 ghost use Rattle.ns_queue.specs.Queues.{times};
 ghost use Rattle.ns_word.specs.declared.owed.Owed.{Owed};
-ghost use Rattle.ns_word.specs.Places.{CanLeave, CanWait, ChangeFits, IsInRange};
+ghost use Rattle.ns_word.specs.Places.{ActFits, CanLeave, CanWait, ChangeFits, IsInRange};
 ghost use Rattle.ns_word.specs.Steps.{change_commits, entry_of, exit_for, leave_of, opening_for, section_of, Effect};
 ghost use Rattle.ns_word.specs.Waits.{mode_for};
 ghost use Rattle.ns_word.specs.Words.{may_acquire};
-ghost use Rattle.ns_world.specs.Commits.{IsEvent};
-ghost use Rattle.ns_world.specs.Performs.{part, Makes, StaysThere};
+ghost use Rattle.ns_world.specs.Commits.{Commits, IsEvent};
+ghost use Rattle.ns_world.specs.Looks.{looks_at};
+ghost use Rattle.ns_world.specs.Performs.{part, seat_part, Makes, StaysThere};
 
+use crate::cells::{arm_flag, judge, judge_met, pay_wake, store};
 use crate::room::Seated;
 use crate::seat::Seat;
 use ns_model::cvs::Variables;
@@ -36,7 +38,7 @@ fn opening_for<C: Seated<N>, const N: usize>(aim: Aim<C>) -> Opening<C>
 }
 
 /// Acquires for this.
-pub(crate) fn acquire<C: Seated<N>, const N: usize>(
+fn acquire<C: Seated<N>, const N: usize>(
     word: &mut Word,
     row: &[u64; N],
     held: &mut Option<Held<C, N>>,
@@ -65,11 +67,7 @@ pub(crate) fn acquire<C: Seated<N>, const N: usize>(
 }
 
 /// Sets the spinlock bit, with which the queues are the seat's.
-pub(crate) fn take_queues<C: Seated<N>, const N: usize>(
-    word: &mut Word,
-    taking: Taking,
-    last: Word,
-) -> Found
+fn take_queues<C: Seated<N>, const N: usize>(word: &mut Word, taking: Taking, last: Word) -> Found
     requires { last.spin ≡ false }
     ensures { (seat : ℕ) (queues : _) (row flags : List ℕ) (owed : List Owed) (held : _) → Effect {N = N} C.means seat (Act.TakeQueues taking last) (part word.old row queues flags held owed) result (part word.new row queues flags held owed) [] }
 {
@@ -216,7 +214,7 @@ fn return_unchanged<C: Seated<N>, const N: usize>(
 
 /// Changes the lists in hand, and puts the queues back, which clears the spinlock bit. Where the
 /// change is an event that is refused, nothing has changed.
-pub(crate) fn return_queues<C: Seated<N>, const N: usize>(
+fn return_queues<C: Seated<N>, const N: usize>(
     word: &mut Word,
     queues: &mut Queues<C, N>,
     seat: &mut Seat<C, N>,
@@ -302,7 +300,7 @@ fn commit<C: Seated<N>, const N: usize>(
 
 /// Releases the section without a scan, and commits it. Where the event is refused, nothing has
 /// changed.
-pub(crate) fn release<C: Seated<N>, const N: usize>(
+fn release<C: Seated<N>, const N: usize>(
     seat: u8,
     word: &mut Word,
     held: &mut Option<Held<C, N>>,
@@ -325,7 +323,7 @@ pub(crate) fn release<C: Seated<N>, const N: usize>(
 /// Takes those out of the lock list whom a scan at this row wakes, clears the spinlock bit,
 /// releases the section and commits it; the seat then owes the wakes. Where the event is refused,
 /// nothing has changed.
-pub(crate) fn release_returning<C: Seated<N>, const N: usize>(
+fn release_returning<C: Seated<N>, const N: usize>(
     word: &mut Word,
     row: &[u64; N],
     queues: &mut Queues<C, N>,
@@ -385,7 +383,7 @@ fn leave_section<C: Seated<N>, const N: usize>(
 /// the spinlock bit, releases the section and commits it, unless the wait queues again; the seat then
 /// owes the wakes. Where the event is refused, nothing has changed. The word is the one that the seat has
 /// last seen, as its caller has found.
-pub(crate) fn wait_returning<C: Seated<N>, const N: usize>(
+fn wait_returning<C: Seated<N>, const N: usize>(
     word: &mut Word,
     row: &[u64; N],
     queues: &mut Queues<C, N>,
@@ -409,4 +407,49 @@ pub(crate) fn wait_returning<C: Seated<N>, const N: usize>(
         owes,
         tests: scan.tests,
     })
+}
+
+/// Makes the act, which is one on the lock and no look. Only one that commits an event takes memory, for that
+/// event; where it is refused, nothing has changed.
+pub(crate) fn make<C: Seated<N>, const N: usize>(
+    word: &mut Word,
+    row: &mut [u64; N],
+    queues: &mut Queues<C, N>,
+    flags: &mut [u8; 64],
+    seat: &mut Seat<C, N>,
+    history: &mut Vec<Event<C, N>>,
+    act: Act<C>,
+) -> Result<Found, AllocError>
+    requires fits { ActFits C.means 64 seat.old.number act (seat_part word.old row.old queues.old flags.old seat.old) }
+    requires inside { looks_at act ≡ None }
+    ensures { MatchResult result (λ found. Makes C.means seat.old.number act (seat_part word.old row.old queues.old flags.old seat.old) history.old.items found (seat_part word.new row.new queues.new flags.new seat.new) history.new.items × StaysThere seat.old seat.new) (λ fault. (Commits seat.old.number act word.old queues.old) × (word.new ≡ word.old) × (row.new ≡ row.old) × (queues.new ≡ queues.old) × (flags.new ≡ flags.old) × (seat.new ≡ seat.old) × (history.new.items ≡ history.old.items)) }
+{
+    match act {
+        Act::LoadWord => Ok(Found::Saw(*word)),
+        Act::Acquire(aim, arrival, last) => {
+            Ok(acquire(word, row, &mut seat.held, aim, arrival, last))
+        }
+        Act::TakeQueues(taking, last) => Ok(take_queues::<C, N>(word, taking, last)),
+        Act::ReturnQueues(change, last) => return_queues(word, queues, seat, history, change, last),
+        Act::Release(releasing, last) => {
+            release(seat.number, word, &mut seat.held, history, releasing, last)
+        }
+        Act::ReleaseReturning(releasing, last) => {
+            release_returning(word, row, queues, seat, history, releasing, last)
+        }
+        Act::WaitReturning(wait, again, last) => {
+            if !word.is_same(last) {
+                return Ok(Found::Saw(*word));
+            }
+            wait_returning(word, row, queues, seat, history, wait, again)
+        }
+        Act::LoadCell(i) => Ok(Found::Cell(row[i as usize])),
+        Act::JudgeQuiet(i) => Ok(judge(&seat.held, i)),
+        Act::JudgeMet(i, cond) => Ok(judge_met(&seat.held, i, cond)),
+        Act::StoreCell(i, value) => Ok(store(row, &mut seat.held, i, value)),
+        Act::ArmFlag => Ok(arm_flag::<C, N>(flags, seat.number)),
+        Act::PayWake => Ok(pay_wake::<C, N>(flags, &mut seat.owed)),
+        Act::LoadFlag => Ok(Found::Flag(flags[seat.number as usize])),
+        Act::Look(_, _) => unreachable!(),
+    }
 }

@@ -22,6 +22,7 @@
 mod among;
 mod asks;
 pub mod call;
+mod cells;
 mod environment;
 mod exchanges;
 pub mod fault;
@@ -29,7 +30,6 @@ pub mod law;
 mod looks;
 mod objects;
 mod operate;
-mod perform;
 pub mod reply;
 mod room;
 pub mod run;

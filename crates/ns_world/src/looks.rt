@@ -12,10 +12,9 @@ ghost use Rattle.ns_world.specs.Looks.{LooksAt};
 
 use crate::environment::Environment;
 use crate::objects::AnyWait;
-use crate::perform::settle;
 use crate::room::Seated;
 use crate::seat::{Doing, Seat};
-use crate::step::Step;
+use crate::step::{Step, settle};
 use crate::wanted::came_back;
 use ns_env::limits::Cause;
 use ns_env::walk::{EnvNext, EnvWalk};

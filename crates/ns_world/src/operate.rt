@@ -1,4 +1,4 @@
-//! A step of a call on counters and once cells, over the parts of a world.
+//! A step of a call on counters and once cells, or of the round by which a wait looks, over the parts of a world.
 
 ghost use Rattle.std.specs.Prelude.{◌≡◌, ℕ, List};
 ghost use Rattle.ns_world.specs.Asks.{plain_of};

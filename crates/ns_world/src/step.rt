@@ -1,14 +1,25 @@
-//! What a seat's step was, whether a call began, and where it begins.
+//! What a seat's step was, where it leads, whether a call began, and where it begins.
 
-ghost use Rattle.std.specs.Prelude.{◌≡◌};
-ghost use Rattle.ns_world.specs.Doings.{placed};
+ghost use Rattle.std.specs.Prelude.{◌≡◌, IfSome};
+ghost use Rattle.ns_world.specs.Among.{IsFew};
 ghost use Rattle.ns_world.specs.Calls.{mode_of};
+ghost use Rattle.ns_world.specs.Doings.{placed};
+ghost use Rattle.ns_world.specs.Looks.{doing_after, doing_at};
+ghost use Rattle.ns_world.specs.Performs.{step_of, tests_after};
 
-use crate::reply::Reply;
+use crate::among::reply_for;
+use crate::objects::AnyWait;
+use crate::reply::{Reply, told};
 use crate::room::Seated;
 use crate::seat::{Doing, Seat};
+use crate::wanted::wanted_look;
+use ns_counters::round::RoundPlace;
+use ns_counters::walk::ObjectWalk;
+use ns_env::walk::{Chain, EnvWalk};
 use ns_model::event::Mode;
+use ns_word::act::Found;
 use ns_word::view::Held;
+use ns_word::walk::{Next, Walk};
 
 /// What a seat's step was.
 #[derive(Clone, Copy, Debug, PartialEq, Eq)]
@@ -51,4 +62,57 @@ pub(crate) fn place<C: Seated<N>, const N: usize>(seat: &mut Seat<C, N>, doing: 
 {
     seat.tests = 0;
     seat.doing = doing;
+}
+
+/// How many conditions the scan of a seat's call tested, after a step that found this.
+pub(crate) fn tests_after(found: Found, before: u32) -> u32
+    ensures { result ≡ tests_after found before }
+{
+    match found {
+        Found::Scanned { tests, .. } => tests,
+        _ => before,
+    }
+}
+
+/// Where a call on the lock stands at this place: where its wait is to look, at the beginning of the look.
+fn doing_at<C: Seated<N>, const N: usize>(wait: Option<AnyWait>, walk: &Walk<C>) -> Doing<C>
+    ensures { result ≡ doing_at wait walk.now }
+{
+    let Some(look) = wanted_look(walk) else {
+        return Doing::OnLock(*walk, wait);
+    };
+    match wait {
+        None => Doing::LooksByLimits(*walk, EnvWalk::ClockLoad(Chain::ForLook(look.limits))),
+        Some(wait) => Doing::LooksByRound(
+            *walk,
+            wait,
+            ObjectWalk::InRound(wait.round, RoundPlace::FirstClock),
+        ),
+    }
+}
+
+/// Puts the seat where its walk goes, and tells what the step was for the call.
+pub(crate) fn settle<C: Seated<N>, const N: usize>(
+    seat: &mut Seat<C, N>,
+    wait: Option<AnyWait>,
+    next: &Next<C>,
+) -> Step
+    requires { IfSome wait IsFew }
+    ensures step { result ≡ step_of wait next.now }
+    ensures seat { seat.new ≡ record seat.old { doing = doing_after wait next.now } }
+{
+    match next {
+        Next::On(walk) => {
+            seat.doing = doing_at(wait, walk);
+            Step::Went
+        }
+        Next::Idle(walk) => {
+            seat.doing = doing_at(wait, walk);
+            Step::Idle
+        }
+        Next::Done(reply) => {
+            seat.doing = Doing::AtRest;
+            Step::Finished(reply_for(&wait, told(*reply)))
+        }
+    }
 }

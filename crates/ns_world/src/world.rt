@@ -16,16 +16,16 @@ use crate::among::{go_round, step_objects};
 use crate::asks::ask;
 use crate::call::Call;
 use crate::environment::Environment;
+use crate::exchanges::make;
 use crate::fault::Fault;
 use crate::looks::look;
 use crate::objects::Objects;
-use crate::perform::perform;
 use crate::room::Seated;
 use crate::seat::{Doing, Seat, is_call};
 use crate::seats::{busy_seats, new_seats};
 use crate::shows::{owed_wakes, shown_queues};
 use crate::state::State;
-use crate::step::{Begun, Step, mode_of, place};
+use crate::step::{Begun, Step, mode_of, place, settle, tests_after};
 use ns_model::condition::Condition;
 use ns_model::event::Event;
 use ns_queue::queues::Queues;
@@ -153,16 +153,17 @@ impl<C: Seated<N>, const N: usize> World<C, N> {
                 round,
             )),
             Doing::OnLock(walk, wait) => {
-                let step = perform(
+                let found = make(
                     &mut self.word,
                     &mut self.row,
                     &mut self.queues,
                     &mut self.flags,
                     here,
                     &mut self.history,
-                    (walk, wait),
+                    walk.want(),
                 )?;
-                Ok(step)
+                here.tests = tests_after(found, here.tests);
+                Ok(settle(here, wait, &walk.got::<N>(found)))
             }
         }
     }

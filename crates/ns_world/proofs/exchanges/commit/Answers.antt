@@ -2,7 +2,7 @@ use Rattle.ns_world.proofs.Prelude.{false≢true, refl}
 use Rattle.ns_world.proofs.exchanges.commit.Goals as goal
 
 pub entry-requires : goal.entry-requires
-entry-requires g c = g.met.C.Fits.held_fits
+entry-requires g c = g.met.C.Seated.held_fits
 
 pub returns : goal.returns
 returns g c = (rw (c.in-Some.is, ← c.entry.ensures) c.in_ok-push.ensures.items, refl)

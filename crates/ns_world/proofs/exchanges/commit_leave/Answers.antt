@@ -12,4 +12,4 @@ pub returns-else-stands : goal.returns-else-stands
 returns-else-stands g c = leaves_none {C = g.row.C.Denot} {N = g.row.N} c.args.seat c.args.home c.in-AtVariables.variables c.args.queues.now c.args.history.now.items c.in-AtVariables.is (grind rules)
 
 pub leaving-requires : goal.leaving-requires
-leaving-requires g c = g.met.C.Fits.event_fits
+leaving-requires g c = g.met.C.Seated.event_fits

@@ -6,7 +6,7 @@ pub returns-then-not-is_last : goal.returns-then-not-is_last
 returns-then-not-is_last g c = λ row flags owed queues. made _ (refl, c.if-not-is_last.ensures.another refl, refl, refl)
 
 pub commit-requires : goal.commit-requires
-commit-requires g c = (g.met.C.Fits.held_fits, (g.met.C.Fits.event_fits, can_some g.C.Condition.means c.args.releasing c.args.held.now c.requires))
+commit-requires g c = (g.met.C.Seated.held_fits, (g.met.C.Seated.event_fits, can_some g.C.Condition.means c.args.releasing c.args.held.now c.requires))
 
 pub returns : goal.returns
 returns g c = λ row flags owed queues.

@@ -7,7 +7,7 @@ pub returns-then-not-is_same : goal.returns-then-not-is_same
 returns-then-not-is_same g c = (λ flags. made _ (refl, c.if-not-is_same.ensures.another refl, refl, refl), refl)
 
 pub commit-requires : goal.commit-requires
-commit-requires g c = (g.met.C.Fits.held_fits, (g.met.C.Fits.event_fits, can_some g.C.Condition.means c.args.releasing c.args.seat.now.held c.requires))
+commit-requires g c = (g.met.C.Seated.held_fits, (g.met.C.Seated.event_fits, can_some g.C.Condition.means c.args.releasing c.args.seat.now.held c.requires))
 
 pub returns-in_err-commit : goal.returns-in_err-commit
 returns-in_err-commit g c =

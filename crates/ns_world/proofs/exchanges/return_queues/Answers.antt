@@ -9,10 +9,10 @@ pub return_queued-requires : goal.return_queued-requires
 return_queued-requires g c = let fits = rw c.in-QueueSelf.is at (c.requires.fits [] []) in (g.met.C.Seated.queues_fit, (c.requires.below, (fits, sym (c.if-not-is_same.ensures.same refl))))
 
 pub return_left-requires : goal.return_left-requires
-return_left-requires g c = (g.met.C.Seated.queues_fit, (g.met.C.Fits.event_fits, sym (c.if-not-is_same.ensures.same refl)))
+return_left-requires g c = (g.met.C.Seated.queues_fit, (g.met.C.Seated.event_fits, sym (c.if-not-is_same.ensures.same refl)))
 
 pub return_waking-requires : goal.return_waking-requires
-return_waking-requires g c = let fits = rw c.in-WakeWaiters.is at (c.requires.fits [] []) in (g.met.C.Seated.queues_fit, (g.met.C.Seated.seat_fits, (g.met.C.Fits.event_fits, (fits, sym (c.if-not-is_same.ensures.same refl)))))
+return_waking-requires g c = let fits = rw c.in-WakeWaiters.is at (c.requires.fits [] []) in (g.met.C.Seated.queues_fit, (g.met.C.Seated.seat_fits, (g.met.C.Seated.event_fits, (fits, sym (c.if-not-is_same.ensures.same refl)))))
 
 pub return_unchanged-requires : goal.return_unchanged-requires
 return_unchanged-requires g c = (g.met.C.Seated.queues_fit, sym (c.if-not-is_same.ensures.same refl))

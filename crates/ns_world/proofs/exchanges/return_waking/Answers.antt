@@ -25,7 +25,7 @@ pub returned-requires : goal.returned-requires
 returned-requires g c = tt
 
 pub commit_wake-requires : goal.commit_wake-requires
-commit_wake-requires g c = (g.met.C.Seated.queues_fit, (g.met.C.Fits.event_fits, c.requires.there))
+commit_wake-requires g c = (g.met.C.Seated.queues_fit, (g.met.C.Seated.event_fits, c.requires.there))
 
 pub waiters-requires : goal.waiters-requires
 waiters-requires g c = (g.met.C.Seated.queues_fit, (list_small _ g.met.C.Queueable.list_fits, c.requires.there))

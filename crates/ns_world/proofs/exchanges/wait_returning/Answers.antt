@@ -4,7 +4,7 @@ use Rattle.ns_world.proofs.Exchanged.{some_left, wait_some, waited}
 use Rattle.ns_world.proofs.exchanges.wait_returning.Goals as goal
 
 pub leave_section-requires : goal.leave_section-requires
-leave_section-requires g c = (g.met.C.Fits.held_fits, (g.met.C.Fits.event_fits, wait_some g.C.Condition.means c.args.wait c.args.again c.args.seat.now.held c.requires.can))
+leave_section-requires g c = (g.met.C.Seated.held_fits, (g.met.C.Seated.event_fits, wait_some g.C.Condition.means c.args.wait c.args.again c.args.seat.now.held c.requires.can))
 
 pub returns-in_err-leave_section : goal.returns-in_err-leave_section
 returns-in_err-leave_section g c =

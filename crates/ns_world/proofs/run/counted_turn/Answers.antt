@@ -6,18 +6,26 @@ use Rattle.ns_world.proofs.Counted.{turn_counted, calls_fit, counts_progress}
 use Rattle.ns_world.proofs.Turns.{seats_stay, progressed_world}
 use Rattle.ns_world.proofs.run.counted_turn.Goals as goal
 
-pub returns-then-seat-seats-clause-err : goal.returns-then-seat-seats-clause-err
-returns-then-seat-seats-clause-err g c = λ whole.
-    stops_now _ c.requires.turns (subst (λ n. n ≤ c.args.seat) c.seats.ensures.count c.if-seat-seats.true)
+pub returns-then-seat-seats : goal.returns-then-seat-seats
+returns-then-seat-seats g c = record {
+  err = λ whole.
+      stops_now _ c.requires.turns (subst (λ n. n ≤ c.args.seat) c.seats.ensures.count c.if-seat-seats.true);
+  ok = tt;
+}
 
-pub returns-then-tally-limit-clause-err : goal.returns-then-tally-limit-clause-err
-returns-then-tally-limit-clause-err g c = λ whole.
-    stops_now _ c.requires.turns (c.if-tally-limit.true, subst (λ n. c.args.seat < n) c.seats.ensures.count c.if-seat-seats.false)
+pub returns-then-tally-limit : goal.returns-then-tally-limit
+returns-then-tally-limit g c = record {
+  err = λ whole.
+      stops_now _ c.requires.turns (c.if-tally-limit.true, subst (λ n. c.args.seat < n) c.seats.ensures.count c.if-seat-seats.false);
+  ok = tt;
+}
 
-pub returns-in_err-step-clause-err : goal.returns-in_err-step-clause-err
-returns-in_err-step-clause-err g c =
-    let p = err_from_is_err_and c.from_residual.result c.from_residual.ensures.1 in
-    rw (p.1, p.2) (λ whole. turn_stops _ c.requires.turns c.in_err-step.ensures.err)
+pub returns-in_err-step : goal.returns-in_err-step
+returns-in_err-step g c = record {
+  err = let p = err_from_is_err_and c.from_residual.result c.from_residual.ensures.1 in
+      rw (p.1, p.2) (λ whole. turn_stops _ c.requires.turns c.in_err-step.ensures.err);
+  ok = let p = err_from_is_err_and c.from_residual.result c.from_residual.ensures.1 in rw p.1 tt;
+}
 
 pub tests-requires : goal.tests-requires
 tests-requires g c =
@@ -26,27 +34,31 @@ tests-requires g c =
     let same = seats_stay _ before c.args.seat c.in_ok-step.step (whole_of g.C.Condition.means c.next_turn.new.world) turn in
     (world_fits g.row.C (number g.row.N) g.met.C.Condition.has_room g.C.Condition, among_as_many c.if-seat-seats.false c.seats.ensures.count same)
 
-pub returns-in_err-count-clause-err : goal.returns-in_err-count-clause-err
-returns-in_err-count-clause-err g c =
-    let p = err_from_is_err_and c.from_residual-in_err-count.result c.from_residual-in_err-count.ensures.1 in
-    let before = progress (whole_of g.C.Condition.means c.args.world.now) c.args.tally.now.over c.args.tally.now.lines.items in
-    let turn = c.in_ok-step.ensures.ok _ c.args.tally.now.over c.args.tally.now.lines.items refl in
-    rw (p.1, p.2) (λ whole. untold_stops c.in_ok-step.step turn c.in_err-count.ensures.err (omega arith) (progressed_world before c.args.seat c.in_ok-step.step (whole_of g.C.Condition.means c.next_turn.new.world)))
+pub returns-in_err-count : goal.returns-in_err-count
+returns-in_err-count g c = record {
+  err = let p = err_from_is_err_and c.from_residual-in_err-count.result c.from_residual-in_err-count.ensures.1 in
+      let before = progress (whole_of g.C.Condition.means c.args.world.now) c.args.tally.now.over c.args.tally.now.lines.items in
+      let turn = c.in_ok-step.ensures.ok _ c.args.tally.now.over c.args.tally.now.lines.items refl in
+      rw (p.1, p.2) (λ whole. untold_stops c.in_ok-step.step turn c.in_err-count.ensures.err (omega arith) (progressed_world before c.args.seat c.in_ok-step.step (whole_of g.C.Condition.means c.next_turn.new.world)));
+  ok = let p = err_from_is_err_and c.from_residual-in_err-count.result c.from_residual-in_err-count.ensures.1 in rw p.1 tt;
+}
 
-pub returns-clause-ok : goal.returns-clause-ok
-returns-clause-ok g c =
-    let before = progress (whole_of g.C.Condition.means c.args.world.now) c.args.tally.now.over c.args.tally.now.lines.items in
-    let counted = counts_progress (whole_of g.C.Condition.means c.args.world.now) (whole_of g.C.Condition.means c.next_turn.new.world) c.args.tally.now.over c.count.new.tally.over c.args.tally.now.lines.items c.count.new.tally.lines.items c.args.seat c.tests.result c.in_ok-step.step
-    c.tests.ensures c.in_ok-count.ensures.ok in
-    let calls = map (λ (calls : Vec (Call _) Global). calls.items) c.args.lists.now in
-    let turn = c.in_ok-step.ensures.ok calls c.args.tally.now.over c.args.tally.now.lines.items refl in
-    let few = (calls_fit g.row.N c.args.lists.now c.args.seat c.requires.lists).0 in
-    record {
-      turn = rw counted turn;
-      counted = subst (λ (q : Progress _ _). IsCounted q.world q.over) (sym counted)
-          (turn_counted calls before (progressed before c.args.seat c.in_ok-step.step (whole_of g.C.Condition.means c.next_turn.new.world)) c.args.seat c.in_ok-step.step few (omega arith) turn c.requires.counted);
-      turns = (let turns = c.count.ensures.turns in let within = c.requires.turns in let other = c.if-tally-limit.false in (turns, omega (arith, turns, within, other)));
-    }
+pub returns : goal.returns
+returns g c = record {
+  ok = let before = progress (whole_of g.C.Condition.means c.args.world.now) c.args.tally.now.over c.args.tally.now.lines.items in
+      let counted = counts_progress (whole_of g.C.Condition.means c.args.world.now) (whole_of g.C.Condition.means c.next_turn.new.world) c.args.tally.now.over c.count.new.tally.over c.args.tally.now.lines.items c.count.new.tally.lines.items c.args.seat c.tests.result c.in_ok-step.step
+      c.tests.ensures c.in_ok-count.ensures.ok in
+      let calls = map (λ (calls : Vec (Call _) Global). calls.items) c.args.lists.now in
+      let turn = c.in_ok-step.ensures.ok calls c.args.tally.now.over c.args.tally.now.lines.items refl in
+      let few = (calls_fit g.row.N c.args.lists.now c.args.seat c.requires.lists).0 in
+      record {
+        turn = rw counted turn;
+        counted = subst (λ (q : Progress _ _). IsCounted q.world q.over) (sym counted)
+            (turn_counted calls before (progressed before c.args.seat c.in_ok-step.step (whole_of g.C.Condition.means c.next_turn.new.world)) c.args.seat c.in_ok-step.step few (omega arith) turn c.requires.counted);
+        turns = (let turns = c.count.ensures.turns in let within = c.requires.turns in let other = c.if-tally-limit.false in (turns, omega (arith, turns, within, other)));
+      };
+  err = tt;
+}
 
 pub count-requires-clause-over : goal.count-requires-clause-over
 count-requires-clause-over g c = let most = c.requires.counted.most c.args.seat in omega (arith, most)
@@ -57,23 +69,8 @@ count-requires-clause-seat g c = let few = c.seats.ensures.few in let below = c.
 pub count-requires-clause-turns : goal.count-requires-clause-turns
 count-requires-clause-turns g c = let within = c.requires.turns in let other = c.if-tally-limit.false in let fits = c.ranges.limit.fits in omega (arith, within, other, fits)
 
-pub returns-clause-err : goal.returns-clause-err
-returns-clause-err g c = tt
-
-pub returns-in_err-step-clause-ok : goal.returns-in_err-step-clause-ok
-returns-in_err-step-clause-ok g c = let p = err_from_is_err_and c.from_residual.result c.from_residual.ensures.1 in rw p.1 tt
-
-pub returns-in_err-count-clause-ok : goal.returns-in_err-count-clause-ok
-returns-in_err-count-clause-ok g c = let p = err_from_is_err_and c.from_residual-in_err-count.result c.from_residual-in_err-count.ensures.1 in rw p.1 tt
-
 pub seats-requires : goal.seats-requires
 seats-requires g c = world_fits g.row.C (number g.row.N) g.met.C.Condition.has_room g.C.Condition
-
-pub returns-then-seat-seats-clause-ok : goal.returns-then-seat-seats-clause-ok
-returns-then-seat-seats-clause-ok g c = tt
-
-pub returns-then-tally-limit-clause-ok : goal.returns-then-tally-limit-clause-ok
-returns-then-tally-limit-clause-ok g c = tt
 
 pub bounds-tally-seat : goal.bounds-tally-seat
 bounds-tally-seat g c = let few = c.seats.ensures.few in let below = c.if-seat-seats.false in omega (arith, few, below)

@@ -14,10 +14,13 @@ loop-word-init g c =
 pub schedule_word-requires : goal.schedule_word-requires
 schedule_word-requires g c = (world_fits g.row.C (number g.row.N) g.met.C.Condition.has_room g.C.Condition, (c.requires.lists, (c.loop-word.invariant.counted, c.loop-word.invariant.advances.within)))
 
-pub returns-in_err-schedule_word-clause-err : goal.returns-in_err-schedule_word-clause-err
-returns-in_err-schedule_word-clause-err g c =
-    let p = err_from_is_err_and c.from_residual.result c.from_residual.ensures.1 in
-    rw (p.1, p.2) (stops_word c.loop-word.word-index c.args.schedule.now _ c.loop-word-test.true c.loop-word.invariant.advances c.in_err-schedule_word.ensures.err)
+pub returns-in_err-schedule_word : goal.returns-in_err-schedule_word
+returns-in_err-schedule_word g c = record {
+  err = let p = err_from_is_err_and c.from_residual.result c.from_residual.ensures.1 in
+      rw (p.1, p.2) (stops_word c.loop-word.word-index c.args.schedule.now _ c.loop-word-test.true c.loop-word.invariant.advances c.in_err-schedule_word.ensures.err);
+  counted = let p = err_from_is_err_and c.from_residual.result c.from_residual.ensures.1 in rw p.1 tt;
+  ok = let p = err_from_is_err_and c.from_residual.result c.from_residual.ensures.1 in rw p.1 tt;
+}
 
 pub loop-word-preserved : goal.loop-word-preserved
 loop-word-preserved g c =
@@ -26,25 +29,16 @@ loop-word-preserved g c =
       counted = c.in_ok-schedule_word.ensures.counted;
     }
 
-pub returns-clause-ok : goal.returns-clause-ok
-returns-clause-ok g c =
-    let all : c.loop-word.word-index ≡ length c.args.schedule.now = omega arith in
-    rw (all, take-length c.args.schedule.now) at c.loop-word.invariant.advances
+pub returns : goal.returns
+returns g c = record {
+  ok = let all : c.loop-word.word-index ≡ length c.args.schedule.now = omega arith in
+      rw (all, take-length c.args.schedule.now) at c.loop-word.invariant.advances;
+  counted = c.loop-word.invariant.counted;
+  err = tt;
+}
 
 pub bounds-schedule-word-index : goal.bounds-schedule-word-index
 bounds-schedule-word-index g c = c.loop-word-test.true
-
-pub returns-clause-counted : goal.returns-clause-counted
-returns-clause-counted g c = c.loop-word.invariant.counted
-
-pub returns-clause-err : goal.returns-clause-err
-returns-clause-err g c = tt
-
-pub returns-in_err-schedule_word-clause-counted : goal.returns-in_err-schedule_word-clause-counted
-returns-in_err-schedule_word-clause-counted g c = let p = err_from_is_err_and c.from_residual.result c.from_residual.ensures.1 in rw p.1 tt
-
-pub returns-in_err-schedule_word-clause-ok : goal.returns-in_err-schedule_word-clause-ok
-returns-in_err-schedule_word-clause-ok g c = let p = err_from_is_err_and c.from_residual.result c.from_residual.ensures.1 in rw p.1 tt
 
 pub loop-word-smaller : goal.loop-word-smaller
 loop-word-smaller g c = less_left c.loop-word-test.true

@@ -11,14 +11,16 @@ loop-step-init g c =
       counted = c.requires.counted;
     }
 
-pub returns-in_err-step-clause-err : goal.returns-in_err-step-clause-err
-returns-in_err-step-clause-err g c =
-    let p = err_from_is_err_and c.from_residual.result c.from_residual.ensures.1 in
-    rw (p.1, p.2) (stops_behind c.loop-step.invariant.advances (c.in_err-step.ensures.err c.args.whole))
+pub returns-in_err-step : goal.returns-in_err-step
+returns-in_err-step g c = record {
+  err = let p = err_from_is_err_and c.from_residual.result c.from_residual.ensures.1 in
+      rw (p.1, p.2) (stops_behind c.loop-step.invariant.advances (c.in_err-step.ensures.err c.args.whole));
+  counted = let p = err_from_is_err_and c.from_residual.result c.from_residual.ensures.1 in rw p.1 tt;
+  ok = let p = err_from_is_err_and c.from_residual.result c.from_residual.ensures.1 in rw p.1 tt;
+}
 
-pub returns-then-is_end-clause-ok : goal.returns-then-is_end-clause-ok
-returns-then-is_end-clause-ok g c =
-    advance_item c.in_ok-step.step c.loop-step.invariant.advances c.in_ok-step.ensures.ok.turn (sym c.if-is_end.true ∙ c.is_end.ensures) c.in_ok-step.ensures.ok.turns
+pub returns-then-is_end : goal.returns-then-is_end
+returns-then-is_end g c = record { ok = advance_item c.in_ok-step.step c.loop-step.invariant.advances c.in_ok-step.ensures.ok.turn (sym c.if-is_end.true ∙ c.is_end.ensures) c.in_ok-step.ensures.ok.turns; counted = c.in_ok-step.ensures.ok.counted; err = tt }
 
 pub loop-step-preserved : goal.loop-step-preserved
 loop-step-preserved g c =
@@ -32,15 +34,3 @@ counted_turn-requires g c = (world_fits g.row.C (number g.row.N) g.met.C.Conditi
 
 pub is_end-requires : goal.is_end-requires
 is_end-requires g c = tt
-
-pub returns-in_err-step-clause-counted : goal.returns-in_err-step-clause-counted
-returns-in_err-step-clause-counted g c = let p = err_from_is_err_and c.from_residual.result c.from_residual.ensures.1 in rw p.1 tt
-
-pub returns-in_err-step-clause-ok : goal.returns-in_err-step-clause-ok
-returns-in_err-step-clause-ok g c = let p = err_from_is_err_and c.from_residual.result c.from_residual.ensures.1 in rw p.1 tt
-
-pub returns-then-is_end-clause-counted : goal.returns-then-is_end-clause-counted
-returns-then-is_end-clause-counted g c = c.in_ok-step.ensures.ok.counted
-
-pub returns-then-is_end-clause-err : goal.returns-then-is_end-clause-err
-returns-then-is_end-clause-err g c = tt

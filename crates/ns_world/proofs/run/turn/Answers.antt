@@ -6,16 +6,14 @@ use Rattle.ns_world.proofs.run.turn.Goals as goal
 pub returns-in_default-clause-ok : goal.returns-in_default-clause-ok
 returns-in_default-clause-ok g c = rw c.in_default.is (map_ok c.step.result (λ step p. turns_without (whole_of g.C.Condition.means c.args.world.now) (whole_of g.C.Condition.means c.step.new.self) c.args.seat step p) c.step.ensures.ok)
 
-pub returns-in-Started-clause-ok : goal.returns-in-Started-clause-ok
-returns-in-Started-clause-ok g c =
-    let starts = rw c.in-Started.is at c.in_ok-begin.ensures.ok in
-    rw c.in-Some.is (map_ok c.step-in-Started.result (λ step p. turns_started (whole_of g.C.Condition.means c.args.world.now) (whole_of g.C.Condition.means c.begin.new.self) (whole_of g.C.Condition.means c.step-in-Started.new.self) c.args.seat c.in-Some.call step starts p)
-    c.step-in-Started.ensures.ok)
-
-pub returns-in-Started-clause-err : goal.returns-in-Started-clause-err
-returns-in-Started-clause-err g c =
-    let starts = rw c.in-Started.is at c.in_ok-begin.ensures.ok in
-    map_err c.step-in-Started.result (λ fault p. absurd (started_steps (whole_of g.C.Condition.means c.args.world.now) (whole_of g.C.Condition.means c.begin.new.self) c.args.seat c.in-Some.call fault starts p.1)) c.step-in-Started.ensures.err
+pub returns-in-Started : goal.returns-in-Started
+returns-in-Started g c = record {
+  ok = let starts = rw c.in-Started.is at c.in_ok-begin.ensures.ok in
+      rw c.in-Some.is (map_ok c.step-in-Started.result (λ step p. turns_started (whole_of g.C.Condition.means c.args.world.now) (whole_of g.C.Condition.means c.begin.new.self) (whole_of g.C.Condition.means c.step-in-Started.new.self) c.args.seat c.in-Some.call step starts p)
+      c.step-in-Started.ensures.ok);
+  err = let starts = rw c.in-Started.is at c.in_ok-begin.ensures.ok in
+      map_err c.step-in-Started.result (λ fault p. absurd (started_steps (whole_of g.C.Condition.means c.args.world.now) (whole_of g.C.Condition.means c.begin.new.self) c.args.seat c.in-Some.call fault starts p.1)) c.step-in-Started.ensures.err;
+}
 
 pub returns-in-Busy-clause-ok : goal.returns-in-Busy-clause-ok
 returns-in-Busy-clause-ok g c =

@@ -11,14 +11,8 @@ invariant_of-result g c = ◌∙◌ {A = TableId} c.in-Ok.ensures.locked.grows.m
 pub invariant_of-result-in-Err : goal.invariant_of-result-in-Err
 invariant_of-result-in-Err g c = ◌∙◌ {A = TableId} c.in-Err.ensures.busy.grows.monitor c.self.invariant
 
-pub returns-in-Ok-clause-locked : goal.returns-in-Ok-clause-locked
-returns-in-Ok-clause-locked g c = rw (← c.self.view_is) c.in-Ok.ensures.locked
+pub returns-in-Ok : goal.returns-in-Ok
+returns-in-Ok g c = record { locked = rw (← c.self.view_is) c.in-Ok.ensures.locked; busy = tt }
 
-pub returns-in-Ok-clause-busy : goal.returns-in-Ok-clause-busy
-returns-in-Ok-clause-busy g c = tt
-
-pub returns-in-Err-clause-locked : goal.returns-in-Err-clause-locked
-returns-in-Err-clause-locked g c = tt
-
-pub returns-in-Err-clause-busy : goal.returns-in-Err-clause-busy
-returns-in-Err-clause-busy g c = rw (← c.self.view_is) c.in-Err.ensures.busy
+pub returns-in-Err : goal.returns-in-Err
+returns-in-Err g c = record { locked = tt; busy = rw (← c.self.view_is) c.in-Err.ensures.busy }

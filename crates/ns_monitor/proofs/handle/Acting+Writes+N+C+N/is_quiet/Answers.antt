@@ -8,8 +8,5 @@ is_quiet-requires g c = (omega arith, (omega (arith, g.met.C.Condition.has_cells
 pub invariant_of-self : goal.invariant_of-self
 invariant_of-self g c = ◌∙◌ {A = TableId} c.is_quiet.ensures.saw.grows.monitor c.self.invariant
 
-pub returns-clause-saw : goal.returns-clause-saw
-returns-clause-saw g c = rw (← c.self.view_is) c.is_quiet.ensures.saw
-
-pub returns-clause-quiet : goal.returns-clause-quiet
-returns-clause-quiet g c = rw (← c.self.view_is) c.is_quiet.ensures.quiet
+pub returns : goal.returns
+returns g c = let e = c.is_quiet.ensures in rw (← c.self.view_is) record { saw = e.saw; quiet = e.quiet }

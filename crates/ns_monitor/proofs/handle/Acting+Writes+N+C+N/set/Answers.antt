@@ -8,14 +8,5 @@ set-requires g c = (omega arith, (omega arith, (omega (arith, g.met.C.Condition.
 pub invariant_of-self : goal.invariant_of-self
 invariant_of-self g c = ◌∙◌ {A = TableId} c.set.ensures.grows.monitor c.self.invariant
 
-pub returns-clause-grows : goal.returns-clause-grows
-returns-clause-grows g c = rw (← c.self.view_is) c.set.ensures.grows
-
-pub returns-clause-mine : goal.returns-clause-mine
-returns-clause-mine g c = rw (← c.self.view_is) c.set.ensures.mine
-
-pub returns-clause-wide : goal.returns-clause-wide
-returns-clause-wide g c = rw (← c.self.view_is) c.set.ensures.wide
-
-pub returns-clause-section : goal.returns-clause-section
-returns-clause-section g c = rw (← c.self.view_is) c.set.ensures.section
+pub returns : goal.returns
+returns g c = let e = c.set.ensures in rw (← c.self.view_is) record { grows = e.grows; mine = e.mine; wide = e.wide; section = e.section }

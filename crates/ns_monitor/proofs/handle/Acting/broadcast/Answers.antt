@@ -8,8 +8,5 @@ broadcast-requires g c = (omega arith, (omega arith, (c.self.invariant, c.requir
 pub invariant_of-self : goal.invariant_of-self
 invariant_of-self g c = ◌∙◌ {A = TableId} c.broadcast.ensures.grows.monitor c.self.invariant
 
-pub returns-clause-grows : goal.returns-clause-grows
-returns-clause-grows g c = rw (← c.self.view_is) c.broadcast.ensures.grows
-
-pub returns-clause-woke : goal.returns-clause-woke
-returns-clause-woke g c = rw (← c.self.view_is) c.broadcast.ensures.woke
+pub returns : goal.returns
+returns g c = let e = c.broadcast.ensures in rw (← c.self.view_is) record { grows = e.grows; woke = e.woke }

@@ -11,17 +11,5 @@ invariant_of-result g c = ◌∙◌ {A = TableId} c.cv_wait_with_deadline-caller
 pub invariant_of-watcher : goal.invariant_of-watcher
 invariant_of-watcher g c = ◌∙◌ {A = TableId} c.cv_wait_with_deadline-caller.ensures.env_grows.env c.watcher.invariant
 
-pub returns-clause-grows : goal.returns-clause-grows
-returns-clause-grows g c = rw (← c.self.view_is) c.cv_wait_with_deadline-caller.ensures.grows
-
-pub returns-clause-waited : goal.returns-clause-waited
-returns-clause-waited g c = rw (← c.self.view_is) c.cv_wait_with_deadline-caller.ensures.waited
-
-pub returns-clause-env_grows : goal.returns-clause-env_grows
-returns-clause-env_grows g c = rw (← c.watcher.view_is) c.cv_wait_with_deadline-caller.ensures.env_grows
-
-pub returns-clause-env_mine : goal.returns-clause-env_mine
-returns-clause-env_mine g c = rw (← c.watcher.view_is) c.cv_wait_with_deadline-caller.ensures.env_mine
-
-pub returns-clause-ended : goal.returns-clause-ended
-returns-clause-ended g c = rw (← c.watcher.view_is) c.cv_wait_with_deadline-caller.ensures.ended
+pub returns : goal.returns
+returns g c = let e = c.cv_wait_with_deadline-caller.ensures in rw (← c.self.view_is, ← c.watcher.view_is) record { grows = e.grows; waited = e.waited; env_grows = e.env_grows; env_mine = e.env_mine; ended = e.ended }

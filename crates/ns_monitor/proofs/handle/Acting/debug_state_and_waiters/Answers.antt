@@ -8,8 +8,5 @@ debug_state_and_waiters-requires g c = (omega arith, (omega arith, c.self.invari
 pub invariant_of-self : goal.invariant_of-self
 invariant_of-self g c = ◌∙◌ {A = TableId} c.debug_state_and_waiters.ensures.saw.grows.monitor c.self.invariant
 
-pub returns-clause-saw : goal.returns-clause-saw
-returns-clause-saw g c = rw (← c.self.view_is) c.debug_state_and_waiters.ensures.saw
-
-pub returns-clause-shows : goal.returns-clause-shows
-returns-clause-shows g c = rw (← c.self.view_is) c.debug_state_and_waiters.ensures.shows
+pub returns : goal.returns
+returns g c = let e = c.debug_state_and_waiters.ensures in rw (← c.self.view_is) record { saw = e.saw; shows = e.shows }

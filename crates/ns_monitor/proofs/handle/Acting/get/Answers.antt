@@ -8,11 +8,5 @@ get-requires g c = (omega arith, (omega arith, (c.self.invariant, c.requires)))
 pub invariant_of-self : goal.invariant_of-self
 invariant_of-self g c = ◌∙◌ {A = TableId} c.get.ensures.saw.grows.monitor c.self.invariant
 
-pub returns-clause-saw : goal.returns-clause-saw
-returns-clause-saw g c = rw (← c.self.view_is) c.get.ensures.saw
-
-pub returns-clause-wide : goal.returns-clause-wide
-returns-clause-wide g c = rw (← c.self.view_is) c.get.ensures.wide
-
-pub returns-clause-value : goal.returns-clause-value
-returns-clause-value g c = rw (← c.self.view_is) c.get.ensures.value
+pub returns : goal.returns
+returns g c = let e = c.get.ensures in rw (← c.self.view_is) record { saw = e.saw; wide = e.wide; value = e.value }

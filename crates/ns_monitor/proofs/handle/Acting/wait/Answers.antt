@@ -8,8 +8,5 @@ wait-caller-requires g c = (omega arith, (omega arith, c.self.invariant))
 pub invariant_of-result : goal.invariant_of-result
 invariant_of-result g c = ◌∙◌ {A = TableId} c.wait-caller.ensures.grows.monitor c.self.invariant
 
-pub returns-clause-grows : goal.returns-clause-grows
-returns-clause-grows g c = rw (← c.self.view_is) c.wait-caller.ensures.grows
-
-pub returns-clause-waited : goal.returns-clause-waited
-returns-clause-waited g c = rw (← c.self.view_is) c.wait-caller.ensures.waited
+pub returns : goal.returns
+returns g c = let e = c.wait-caller.ensures in rw (← c.self.view_is) record { grows = e.grows; waited = e.waited }

@@ -11,14 +11,8 @@ invariant_of-result g c = ◌∙◌ {A = TableId} c.in-Woken.ensures.woken.monit
 pub invariant_of-result-in-Still : goal.invariant_of-result-in-Still
 invariant_of-result-in-Still g c = ◌∙◌ {A = TableId} c.in-Still.ensures.still.on.monitor c.self.invariant
 
-pub returns-in-Woken-clause-woken : goal.returns-in-Woken-clause-woken
-returns-in-Woken-clause-woken g c = rw (← c.self.view_is) c.in-Woken.ensures.woken
+pub returns-in-Woken : goal.returns-in-Woken
+returns-in-Woken g c = record { woken = rw (← c.self.view_is) c.in-Woken.ensures.woken; still = tt }
 
-pub returns-in-Woken-clause-still : goal.returns-in-Woken-clause-still
-returns-in-Woken-clause-still g c = tt
-
-pub returns-in-Still-clause-woken : goal.returns-in-Still-clause-woken
-returns-in-Still-clause-woken g c = tt
-
-pub returns-in-Still-clause-still : goal.returns-in-Still-clause-still
-returns-in-Still-clause-still g c = rw (← c.self.view_is) c.in-Still.ensures.still
+pub returns-in-Still : goal.returns-in-Still
+returns-in-Still g c = record { woken = tt; still = rw (← c.self.view_is) c.in-Still.ensures.still }

@@ -22,18 +22,6 @@ returns-in-Ok g c = let waits = c.await_or_end in let came = c.in-Ok.ensures.cam
   comes = woken_next g.C.Condition.means c.args.wait c.in-Ok.flag c.woken_by-in-Ok.result c.arrival_of-in-Ok.result waits.new.seat.me came.0 c.woken_by-in-Ok.ensures c.arrival_of-in-Ok.ensures came.1;
 }
 
-pub returns-in-Err-clause-seat : goal.returns-in-Err-clause-seat
-returns-in-Err-clause-seat g c = c.leave.ensures.seat
-
-pub returns-in-Err-clause-since : goal.returns-in-Err-clause-since
-returns-in-Err-clause-since g c = since_then None _ _ _ c.await_or_end.ensures.since c.leave.ensures.since
-
-pub returns-in-Err-clause-looked : goal.returns-in-Err-clause-looked
-returns-in-Err-clause-looked g c = c.await_or_end.ensures.looked
-
-pub returns-in-Err-clause-comes : goal.returns-in-Err-clause-comes
-returns-in-Err-clause-comes g c = c.leave.ensures.left
-
 pub leave-requires : goal.leave-requires
 leave-requires g c = let waits = c.await_or_end in
     in_room (waits.ensures.seat, (same_number g.C.Condition.means None c.args.number c.args.seat.now.me waits.new.seat.me c.requires.number waits.ensures.since, (c.requires.range, c.in-Err.ensures.came)))
@@ -46,9 +34,15 @@ shown : (so : Cause → Type 0) (cause : Cause) (outcome : Outcome) → IfEnded 
 shown so cause (Woken by) is met = tt
 shown so cause (Ended other) is met = subst so (sym is) met
 
-pub returns-in-Err-clause-ended : goal.returns-in-Err-clause-ended
-returns-in-Err-clause-ended g c = let w = c.args.watch.now in let limits = c.args.wait.limits in
-    shown (λ cause. (is_limited limits ≡ true) × g.W.Watch.shows w c.await_or_end.new.watch limits (Some cause)) c.in-Err.cause c.leave.result.1 c.leave.ensures.ended (sym c.is_some.ensures ∙ c.if-not-is_some.false, c.in-Err.ensures.ended)
+pub returns-in-Err : goal.returns-in-Err
+returns-in-Err g c = record {
+  seat = c.leave.ensures.seat;
+  since = since_then None _ _ _ c.await_or_end.ensures.since c.leave.ensures.since;
+  looked = c.await_or_end.ensures.looked;
+  comes = c.leave.ensures.left;
+  ended = let w = c.args.watch.now in let limits = c.args.wait.limits in
+      shown (λ cause. (is_limited limits ≡ true) × g.W.Watch.shows w c.await_or_end.new.watch limits (Some cause)) c.in-Err.cause c.leave.result.1 c.leave.ensures.ended (sym c.is_some.ensures ∙ c.if-not-is_some.false, c.in-Err.ensures.ended);
+}
 
 pub await_flag-flag-requires : goal.await_flag-flag-requires
 await_flag-flag-requires g c = let wait = c.args.wait in

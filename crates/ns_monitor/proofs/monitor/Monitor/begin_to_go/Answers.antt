@@ -3,11 +3,8 @@ use Rattle.ns_monitor.proofs.Prelude.{in_room, TableId}
 use Rattle.ns_monitor.proofs.Standing.{began_by}
 use Rattle.ns_monitor.proofs.monitor.Monitor.begin_to_go.Goals as goal
 
-pub returns-then-alone-clause-began : goal.returns-then-alone-clause-began
-returns-then-alone-clause-began g c = began_by _ c.args.walk c.args.going _ _ _ _ (c.word_alone-guess.ensures.lets c.requires.alone) c.guess_to_go-tried.ensures.word c.guess_to_go-tried.ensures.came
-
-pub returns-then-alone-clause-seat : goal.returns-then-alone-clause-seat
-returns-then-alone-clause-seat g c = c.guess_to_go-tried.ensures.seat
+pub returns-then-alone : goal.returns-then-alone
+returns-then-alone g c = record { began = began_by _ c.args.walk c.args.going _ _ _ _ (c.word_alone-guess.ensures.lets c.requires.alone) c.guess_to_go-tried.ensures.word c.guess_to_go-tried.ensures.came; seat = c.guess_to_go-tried.ensures.seat }
 
 pub guess_to_go-tried-requires : goal.guess_to_go-tried-requires
 guess_to_go-tried-requires g c = let guess = c.word_alone-guess in let may = guess.ensures.lets c.requires.alone in

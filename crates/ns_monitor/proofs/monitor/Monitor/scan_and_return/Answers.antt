@@ -6,7 +6,7 @@ use Rattle.ns_monitor.proofs.monitor.Monitor.scan_and_return.Goals.{After-put_ba
 use Rattle.ns_monitor.proofs.monitor.Monitor.scan_and_return.Goals as goal
 
 pub scan_and_wake-requires : goal.scan_and_wake-requires
-scan_and_wake-requires g c = let t = g.C.Condition.means in let look = c.scan_writer_in_hand in let me = c.args.seat.now.me in let walk = ready_at c.args.scanning c.args.word in in_room (
+scan_and_wake-requires g c = let t = g.C.Condition.means in let look = c.scan_writer_in_hand in let me = c.args.seat.now.me in let walk = ready_at c.args.scanning c.args.word in rw c.made_anew.ensures (in_room (
   omega (arith, g.met.C.Condition.has_cells),
   (
     ◌∙◌ {A = TableId} look.ensures.seat.0 c.requires.of,
@@ -21,10 +21,10 @@ scan_and_wake-requires g c = let t = g.C.Condition.means in let look = c.scan_wr
       ),
     ),
   ),
-)
+))
 
 pub returns-in-Err-clause-scanned : goal.returns-in-Err-clause-scanned
-returns-in-Err-clause-scanned g c = let e = c.scan_and_wake.ensures.scanned in record {
+returns-in-Err-clause-scanned g c = let e = rw c.made_anew.ensures at c.scan_and_wake.ensures.scanned in record {
   since = subst (λ vs. HasSince None (the vs) (the c.scan_and_wake.new.seat.me.0)) c.scan_writer_in_hand.ensures.seat.1 e.since;
   paid = e.paid;
   none = e.none;

@@ -12,11 +12,8 @@ invariant_of-result g c = rw (c.in_ok-seats.ensures, c.new.ensures, c.new-2.ensu
     (whole_new g.row.C.Denot g.row.N g.C.Condition.means c.args.seats
     c.args.counters.now c.args.onces (omega arith) c.requires.counters c.requires.onces (λ k. at_most (c.type_inv.counters k).fits))
 
-pub returns-clause-made : goal.returns-clause-made
-returns-clause-made g c = (rw (c.in_ok-seats.ensures, c.new.ensures, c.new-2.ensures, c.new-3.ensures.items, no_flags, c.new-objects.ensures) refl, omega arith)
-
-pub returns-clause-lawful : goal.returns-clause-lawful
-returns-clause-lawful g c = invariant_of-result g c
+pub returns : goal.returns
+returns g c = record { made = (rw (c.in_ok-seats.ensures, c.new.ensures, c.new-2.ensures, c.new-3.ensures.items, no_flags, c.new-objects.ensures) refl, omega arith); lawful = invariant_of-result g c }
 
 pub new-requires : goal.new-requires
 new-requires g c = g.met.C.Seated.queues_fit
@@ -27,8 +24,8 @@ new_seats-requires g c = g.met.C.Seated.seat_fits
 pub new-objects-requires : goal.new-objects-requires
 new-objects-requires g c = c.requires.counters
 
-pub returns-in_err-seats-clause-lawful : goal.returns-in_err-seats-clause-lawful
-returns-in_err-seats-clause-lawful g c = let p = err_from_is_err_and c.from_residual.result c.from_residual.ensures.1 in rw p.1 tt
+pub returns-in_err-seats : goal.returns-in_err-seats
+returns-in_err-seats g c = record { lawful = let p = err_from_is_err_and c.from_residual.result c.from_residual.ensures.1 in rw p.1 tt; made = let p = err_from_is_err_and c.from_residual.result c.from_residual.ensures.1 in rw (p.1, p.2) (omega arith) }
 
 pub new-requires-2 : goal.new-requires-2
 new-requires-2 g c = tt
@@ -38,6 +35,3 @@ overflow_cast-seats g c = record { fits = omega arith }
 
 pub overflow_cast-seats-2 : goal.overflow_cast-seats-2
 overflow_cast-seats-2 g c = record { fits = omega arith }
-
-pub returns-in_err-seats-clause-made : goal.returns-in_err-seats-clause-made
-returns-in_err-seats-clause-made g c = let p = err_from_is_err_and c.from_residual.result c.from_residual.ensures.1 in rw (p.1, p.2) (omega arith)

@@ -15,29 +15,18 @@ owed_wakes-requires g c = (g.met.C.Seated.seat_fits, rw c.deref-2.ensures.value 
 pub busy_seats-requires : goal.busy_seats-requires
 busy_seats-requires g c = (g.met.C.Seated.seat_fits, rw c.deref-3.ensures.value c.self.invariant.few)
 
-pub returns-clause-busy : goal.returns-clause-busy
-returns-clause-busy g c = λ seat. rw (← c.self.view_is) (rw c.deref-3.ensures.value at (c.busy_seats.ensures seat))
-
-pub returns-clause-variables : goal.returns-clause-variables
-returns-clause-variables g c =
-    let queues = c.shown_queues-queues.result in
-    let all = each_shown queues.cvs _ _ _ _ c.shown.ensures.orderly.four c.shown-2.ensures.shown c.shown-3.ensures.shown c.shown-4.ensures.shown c.shown-5.ensures.shown in
-    rw (← c.self.view_is) (all ∙ ap (λ (lists : Lists _). map (map shown_of) lists.cvs) (rw c.deref.ensures.value at c.shown_queues-queues.ensures))
-
-pub returns-clause-word : goal.returns-clause-word
-returns-clause-word g c = c.word.ensures
-
-pub returns-clause-lock : goal.returns-clause-lock
-returns-clause-lock g c = rw (← c.self.view_is) (c.shown.ensures.shown ∙ ap (λ (lists : Lists _). map shown_of lists.lock) (rw c.deref.ensures.value at c.shown_queues-queues.ensures))
-
-pub returns-clause-owed : goal.returns-clause-owed
-returns-clause-owed g c = rw (← c.self.view_is) (rw c.deref-2.ensures.value at c.owed_wakes.ensures)
-
-pub returns-clause-lawful : goal.returns-clause-lawful
-returns-clause-lawful g c = rw (← c.self.view_is) c.self.invariant
-
-pub returns-clause-row : goal.returns-clause-row
-returns-clause-row g c = rw (← c.self.view_is) refl
+pub returns : goal.returns
+returns g c = record {
+  busy = λ seat. rw (← c.self.view_is) (rw c.deref-3.ensures.value at (c.busy_seats.ensures seat));
+  variables = let queues = c.shown_queues-queues.result in
+      let all = each_shown queues.cvs _ _ _ _ c.shown.ensures.orderly.four c.shown-2.ensures.shown c.shown-3.ensures.shown c.shown-4.ensures.shown c.shown-5.ensures.shown in
+      rw (← c.self.view_is) (all ∙ ap (λ (lists : Lists _). map (map shown_of) lists.cvs) (rw c.deref.ensures.value at c.shown_queues-queues.ensures));
+  word = c.word.ensures;
+  lock = rw (← c.self.view_is) (c.shown.ensures.shown ∙ ap (λ (lists : Lists _). map shown_of lists.lock) (rw c.deref.ensures.value at c.shown_queues-queues.ensures));
+  owed = rw (← c.self.view_is) (rw c.deref-2.ensures.value at c.owed_wakes.ensures);
+  lawful = rw (← c.self.view_is) c.self.invariant;
+  row = rw (← c.self.view_is) refl;
+}
 
 pub shown-requires : goal.shown-requires
 shown-requires g c = (g.met.C.Seated.queues_fit, tt)

@@ -1,5 +1,5 @@
 use Rattle.std.proofs.Common.{ap, inl, inr, refl, subst, ◌∙◌, ◌≤◌}
-use Rattle.ns_world.proofs.Prelude.{LooksByLimits, LooksByRound, asking_of, err_from_is_err_and, is_call, number, operating_of, row_fits, set_same, walk_of, whole_of}
+use Rattle.ns_world.proofs.Prelude.{LooksByLimits, LooksByRound, Seat, asking_of, doing_after, err_from_is_err_and, is_call, number, operating_of, row_fits, set_same, step_of, tests_after, walk_of, whole_of}
 use Rattle.ns_world.proofs.Laws.{step_keeps}
 use Rattle.ns_world.proofs.Mapped.{found_at}
 use Rattle.ns_world.proofs.Tells.{act_here, ask_here, few_there, may_go_on, no_look_here, operates_fit, refused_here, stands_here}
@@ -139,58 +139,63 @@ returns-in-LooksByRound-clause-lawful g c = invariant_of-self-in-LooksByRound g 
 
 -- ---- a step on the lock
 
-pub perform-requires : goal.perform-requires
-perform-requires g c =
+pub make-requires : goal.make-requires
+make-requires g c =
     let at = found_at c.self.inside.seats.items c.args.seat c.index_mut-here.result.now c.if-at-len.false (c.len.ensures ∙ c.self.inside.seats.ok.0) c.index_mut-here.ensures.value in
-    let few = row_fits g.row.C (number g.row.N) g.met.C.Condition.has_room in
-    let act = act_here _ c.self.invariant c.args.seat c.index_mut-here.result.now at c.in-OnLock.walk (ap walk_of c.in-OnLock.is) in (
-      few,
-      (
-        g.met.C.Seated.queues_fit,
-        (
-          g.met.C.Seated.seat_fits,
-          (
-            g.met.C.Fits.event_fits,
-            (
-              act,
-              (no_look_here _ c.self.invariant c.args.seat c.index_mut-here.result.now at c.in-OnLock.walk c.in-OnLock.wait c.in-OnLock.is, few_there _ c.self.invariant c.args.seat c.index_mut-here.result.now at c.in-OnLock.walk c.in-OnLock.wait c.in-OnLock.is),
-            ),
-          ),
-        ),
-      ),
-    )
+    let act = act_here _ c.self.invariant c.args.seat c.index_mut-here.result.now at c.in-OnLock.walk (ap walk_of c.in-OnLock.is) in
+    let no_look = no_look_here _ c.self.invariant c.args.seat c.index_mut-here.result.now at c.in-OnLock.walk c.in-OnLock.wait c.in-OnLock.is in
+    (row_fits g.row.C (number g.row.N) g.met.C.Condition.has_room, (g.met.C.Seated.queues_fit, (g.met.C.Seated.seat_fits, (g.met.C.Seated.event_fits, (rw c.want.ensures act, rw c.want.ensures no_look)))))
 
-pub returns-in_ok-step-in-OnLock-clause-ok : goal.returns-in_ok-step-in-OnLock-clause-ok
-returns-in_ok-step-in-OnLock-clause-ok g c =
+pub settle-requires : goal.settle-requires
+settle-requires g c =
     let at = found_at c.self.inside.seats.items c.args.seat c.index_mut-here.result.now c.if-at-len.false (c.len.ensures ∙ c.self.inside.seats.ok.0) c.index_mut-here.ensures.value in
-    let made = c.in_ok-step-in-OnLock.ensures.ok in
+    (g.met.C.Seated.seat_fits, few_there _ c.self.invariant c.args.seat c.index_mut-here.result.now at c.in-OnLock.walk c.in-OnLock.wait c.in-OnLock.is)
+
+pub returns-in_ok-found-in-OnLock-clause-ok : goal.returns-in_ok-found-in-OnLock-clause-ok
+returns-in_ok-found-in-OnLock-clause-ok g c =
+    let at = found_at c.self.inside.seats.items c.args.seat c.index_mut-here.result.now c.if-at-len.false (c.len.ensures ∙ c.self.inside.seats.ok.0) c.index_mut-here.ensures.value in
+    let made = c.in_ok-found-in-OnLock.ensures.0 in let kept = c.in_ok-found-in-OnLock.ensures.1 in let found = c.in_ok-found-in-OnLock.found in
     rw (← c.self.view_is) (inr (record {
       here = c.index_mut-here.result.now;
-      next = c.perform.new.seat;
+      next = c.settle.new.seat;
       at = at;
       seats = refl;
-      makes = inl (record { walk = c.in-OnLock.walk; wait = c.in-OnLock.wait; stands = c.in-OnLock.is; is_no_look = no_look_here _ c.self.invariant c.args.seat c.index_mut-here.result.now at c.in-OnLock.walk c.in-OnLock.wait c.in-OnLock.is; found = made.0; performs = made.1; same = refl });
+      makes = inl (record {
+        walk = c.in-OnLock.walk;
+        wait = c.in-OnLock.wait;
+        stands = c.in-OnLock.is;
+        is_no_look = no_look_here _ c.self.invariant c.args.seat c.index_mut-here.result.now at c.in-OnLock.walk c.in-OnLock.wait c.in-OnLock.is;
+        found = found;
+        performs = rw c.settle.ensures.seat record {
+          commits = made.commits;
+          effect = rw (← c.want.ensures) made.effect;
+          goes = λ i. record (kept i) { doing = doing_after c.in-OnLock.wait (c.got.ensures i); tests = (c.tests_after-here.ensures ∙ ap (λ (s : Seat _ _). tests_after found s.tests) kept) i };
+          grows = made.grows;
+          answers = c.settle.ensures.step ∙ ap (step_of c.in-OnLock.wait) c.got.ensures;
+        };
+        same = refl;
+      });
     }))
 
 pub invariant_of-self-in-OnLock : goal.invariant_of-self-in-OnLock
-invariant_of-self-in-OnLock g c = step_keeps (whole_of g.C.Condition.means c.args.self.now) _ (rw (← c.self.view_is) c.self.invariant) c.args.seat g.met.C.Condition.has_cells.0 g.met.C.Condition.quiet_keeps c.in_ok-step-in-OnLock.step (returns-in_ok-step-in-OnLock-clause-ok g c)
+invariant_of-self-in-OnLock g c = step_keeps (whole_of g.C.Condition.means c.args.self.now) _ (rw (← c.self.view_is) c.self.invariant) c.args.seat g.met.C.Condition.has_cells.0 g.met.C.Condition.quiet_keeps c.settle.result (returns-in_ok-found-in-OnLock-clause-ok g c)
 
-pub returns-in_ok-step-in-OnLock-clause-lawful : goal.returns-in_ok-step-in-OnLock-clause-lawful
-returns-in_ok-step-in-OnLock-clause-lawful g c = invariant_of-self-in-OnLock g c
+pub returns-in_ok-found-in-OnLock-clause-lawful : goal.returns-in_ok-found-in-OnLock-clause-lawful
+returns-in_ok-found-in-OnLock-clause-lawful g c = invariant_of-self-in-OnLock g c
 
-pub invariant_of-self-in_err-step-in-OnLock : goal.invariant_of-self-in_err-step-in-OnLock
-invariant_of-self-in_err-step-in-OnLock g c =
+pub invariant_of-self-in_err-found-in-OnLock : goal.invariant_of-self-in_err-found-in-OnLock
+invariant_of-self-in_err-found-in-OnLock g c =
     let at = found_at c.self.inside.seats.items c.args.seat c.index_mut-here.result.now c.if-at-len.false (c.len.ensures ∙ c.self.inside.seats.ok.0) c.index_mut-here.ensures.value in
-    let err = c.in_err-step-in-OnLock.ensures.err in
+    let err = c.in_err-found-in-OnLock.ensures in
     rw (err.1, err.2, err.3, err.4, err.5, err.6, set_same c.self.inside.seats.items c.args.seat c.index_mut-here.result.now at) c.self.invariant
 
-pub returns-in_err-step-in-OnLock-clause-lawful : goal.returns-in_err-step-in-OnLock-clause-lawful
-returns-in_err-step-in-OnLock-clause-lawful g c = invariant_of-self-in_err-step-in-OnLock g c
+pub returns-in_err-found-in-OnLock-clause-lawful : goal.returns-in_err-found-in-OnLock-clause-lawful
+returns-in_err-found-in-OnLock-clause-lawful g c = invariant_of-self-in_err-found-in-OnLock g c
 
-pub returns-in_err-step-in-OnLock-clause-err : goal.returns-in_err-step-in-OnLock-clause-err
-returns-in_err-step-in-OnLock-clause-err g c =
+pub returns-in_err-found-in-OnLock-clause-err : goal.returns-in_err-found-in-OnLock-clause-err
+returns-in_err-found-in-OnLock-clause-err g c =
     let at = found_at c.self.inside.seats.items c.args.seat c.index_mut-here.result.now c.if-at-len.false (c.len.ensures ∙ c.self.inside.seats.ok.0) c.index_mut-here.ensures.value in
     let p = err_from_is_err_and c.from_residual.result c.from_residual.ensures.1 in
-    let err = c.in_err-step-in-OnLock.ensures.err in
-    let refused = refused_here _ c.self.invariant c.args.seat c.index_mut-here.result.now at c.in-OnLock.walk (ap walk_of c.in-OnLock.is) err.0 in
+    let err = c.in_err-found-in-OnLock.ensures in
+    let refused = refused_here _ c.self.invariant c.args.seat c.index_mut-here.result.now at c.in-OnLock.walk (ap walk_of c.in-OnLock.is) (rw c.want.ensures at err.0) in
     rw (p.1, p.2) (rw (← c.self.view_is) (rw (err.1, err.2, err.3, err.4, err.5, err.6, set_same c.self.inside.seats.items c.args.seat c.index_mut-here.result.now at) refl, refused))

@@ -1,9 +1,9 @@
 use Rattle.ns_world.proofs.Prelude.{number, refl, row_fits}
 use Rattle.ns_world.proofs.Exchanged.{can_in_range, fits_there, made, on_both}
-use Rattle.ns_world.proofs.perform.make.Goals as goal
+use Rattle.ns_world.proofs.exchanges.make.Goals as goal
 
 pub acquire-requires : goal.acquire-requires
-acquire-requires g c = let fits = rw c.in-Acquire.is at c.requires.fits in (row_fits g.row.C (number g.row.N) g.met.C.Condition.has_room, (g.met.C.Fits.held_fits, (fits.0, (fits.1, fits.2))))
+acquire-requires g c = let fits = rw c.in-Acquire.is at c.requires.fits in (row_fits g.row.C (number g.row.N) g.met.C.Condition.has_room, (g.met.C.Seated.held_fits, (fits.0, (fits.1, fits.2))))
 
 pub return_queues-requires : goal.return_queues-requires
 return_queues-requires g c = let fits = rw c.in-ReturnQueues.is at c.requires.fits in (
@@ -11,7 +11,7 @@ return_queues-requires g c = let fits = rw c.in-ReturnQueues.is at c.requires.fi
   (
     g.met.C.Seated.seat_fits,
     (
-      g.met.C.Fits.event_fits,
+      g.met.C.Seated.event_fits,
       (
         fits.0,
         λ row flags. fits_there c.args.seat.now.number c.in-ReturnQueues.change c.args.word.now c.args.row.now row
@@ -22,24 +22,24 @@ return_queues-requires g c = let fits = rw c.in-ReturnQueues.is at c.requires.fi
 )
 
 pub release-requires : goal.release-requires
-release-requires g c = (g.met.C.Fits.held_fits, (g.met.C.Fits.event_fits, rw c.in-Release.is at c.requires.fits))
+release-requires g c = (g.met.C.Seated.held_fits, (g.met.C.Seated.event_fits, rw c.in-Release.is at c.requires.fits))
 
 pub release_returning-requires : goal.release_returning-requires
-release_returning-requires g c = (row_fits g.row.C (number g.row.N) g.met.C.Condition.has_room, (g.met.C.Seated.queues_fit, (g.met.C.Seated.seat_fits, (g.met.C.Fits.event_fits, (rw c.in-ReleaseReturning.is at c.requires.fits).0))))
+release_returning-requires g c = (row_fits g.row.C (number g.row.N) g.met.C.Condition.has_room, (g.met.C.Seated.queues_fit, (g.met.C.Seated.seat_fits, (g.met.C.Seated.event_fits, (rw c.in-ReleaseReturning.is at c.requires.fits).0))))
 
 pub wait_returning-requires : goal.wait_returning-requires
 wait_returning-requires g c =
     let fits = rw c.in-WaitReturning.is at c.requires.fits in
-    (row_fits g.row.C (number g.row.N) g.met.C.Condition.has_room, (g.met.C.Seated.queues_fit, (g.met.C.Seated.seat_fits, (g.met.C.Fits.event_fits, (fits.0, (can_in_range g.C.Condition.means c.in-WaitReturning.wait c.in-WaitReturning.again c.args.seat.now.held fits.0, (fits.2, fits.3)))))))
+    (row_fits g.row.C (number g.row.N) g.met.C.Condition.has_room, (g.met.C.Seated.queues_fit, (g.met.C.Seated.seat_fits, (g.met.C.Seated.event_fits, (fits.0, (can_in_range g.C.Condition.means c.in-WaitReturning.wait c.in-WaitReturning.again c.args.seat.now.held fits.0, (fits.2, fits.3)))))))
 
 pub judge-requires : goal.judge-requires
-judge-requires g c = (g.met.C.Fits.held_fits, (rw c.in-JudgeQuiet.is at c.requires.fits).0)
+judge-requires g c = (g.met.C.Seated.held_fits, (rw c.in-JudgeQuiet.is at c.requires.fits).0)
 
 pub judge_met-requires : goal.judge_met-requires
-judge_met-requires g c = (g.met.C.Fits.held_fits, (rw c.in-JudgeMet.is at c.requires.fits).0)
+judge_met-requires g c = (g.met.C.Seated.held_fits, (rw c.in-JudgeMet.is at c.requires.fits).0)
 
 pub store-requires : goal.store-requires
-store-requires g c = let fits = rw c.in-StoreCell.is at c.requires.fits in (row_fits g.row.C (number g.row.N) g.met.C.Condition.has_room, (g.met.C.Fits.held_fits, (fits.0, fits.1)))
+store-requires g c = let fits = rw c.in-StoreCell.is at c.requires.fits in (row_fits g.row.C (number g.row.N) g.met.C.Condition.has_room, (g.met.C.Seated.held_fits, (fits.0, fits.1)))
 
 pub pay_wake-requires : goal.pay_wake-requires
 pay_wake-requires g c = rw c.in-PayWake.is at c.requires.fits

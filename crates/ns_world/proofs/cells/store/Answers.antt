@@ -1,5 +1,5 @@
 use Rattle.ns_world.proofs.Prelude.{refl}
-use Rattle.ns_world.proofs.perform.store.Goals as goal
+use Rattle.ns_world.proofs.cells.store.Goals as goal
 
 pub returns : goal.returns
 returns g c = λ seat word queues flags owed. (c.in-Some.section, c.in-Some.is, rw c.in-Some.is at c.requires.mode, refl, refl)
