@@ -1,7 +1,7 @@
 -- Where a decision leads: the place goes with the section in hand, and tells the same as the place before.
 use Rattle.std.proofs.Common.{Bool, List, None, Option, Some, ap, arith, cond, false, is_some, length, ltb, ltb-true, not, refl, subst, sym, true, ℕ, ◌&&◌, ◌-◌, ◌<◌, ◌||◌, ◌∙◌, ◌≡◌}
 use Rattle.ns_word.proofs.Prelude.{AcquireExchange, AcquireLoad, Aim, AimFits, Answered, Arrival, AsFresh, AwaitWakeInWait, Busy, CameBack, CanLeave, CanWait, Cause, ComesBack, Done, Ended, Expected, ForLock, ForWait, HasMode, Held, Idle, InAcquire, InCells, InLeaving, InQueuing, InRelease, InShow}
-use Rattle.ns_word.proofs.Prelude.{InSignal, InTry, InWait, IsExpected, IsForCondition, IsInRange, IsLeft, IsSettled, IsSettledBy, IsUnmet, IsWokenBy, Judging, LeaveLoad, Load, LoadToScan, LookIn, LookOut, MayShow, MayWait, Met, Mode, On, OnCondition, OnEntry, OnReturn, OnVariables, Opening}
+use Rattle.ns_word.proofs.Prelude.{InSignal, InTry, InWait, IsExpected, IsForCondition, IsInRange, IsLeft, IsSettled, IsSettledBy, IsUnmet, IsWokenBy, Judging, LeaveLoad, Load, LoadToScan, LookIn, LookOut, MayShow, MayWait, Met, Mode, On, OnCondition, OnEntry, OnReturn, OnVariables}
 use Rattle.ns_word.proofs.Prelude.{Outcome, OutcomeFits, PlaceFits, QueueToWait, QuietCells, QuietKeeps, QuietLast, QuietWriter, Read, Reader, ReleaseExchange, ReleaseLoad, Releasing, Saw, ScanAndRelease, ScanCells, ShowLoad, SignalLoad, Stance, Subject, Take, TakeToLeave, TakeToQueue, TakeToScan}
 use Rattle.ns_word.proofs.Prelude.{TakeToShow, TakeToWake, TestCells, TestLast, Tests, ToRelease, ToTell, Truths, TryAcquire, TryLoad, Visit, Wait, Waiter, Waking, Walk, Woken, Word, Write, Writer, acquire_by, acquired_for, after_judging, armed_place, back_with, calls_from_lock, cause_by}
 use Rattle.ns_word.proofs.Prelude.{expected_for, got_trying, has_armed, has_eligible, has_queues, held_after, is_from_lock, is_limited, is_on_way, is_queuing, leave_by, load_place, look_or_queue, may_acquire, meets_at, mode_for, mode_released, needs_scan, newly_held, not-false, not-true}
@@ -9,7 +9,7 @@ use Rattle.ns_word.proofs.Prelude.{opening_by, pay_releasing, pay_waiting, pay_w
 use Rattle.ns_word.proofs.Scans.{quiet_eligible}
 use Rattle.ns_word.proofs.Knows.{is_loud}
 use Rattle.ns_word.proofs.Keeps.{Same, Way}
-use Rattle.ns_word.proofs.Safes.{section, SameSection}
+use Rattle.ns_word.proofs.Safes.{SameSection}
 use Rattle.ns_model.specs.declared.phase.Phase.TheVariants as ThePhase
 
 -- a wait with its section in hand, and one that stands in the lock list
@@ -224,9 +224,9 @@ module _ {C : Type 0} {N : ℕ} (truths : Truths C) where
   shown_section wait false cause (Some held) p = record { writing = refl; reading = refl; fits = λ now row seat q. q }
 
 -- a reader's release and a quiet one make no condition true
-pub calm_release : {C : Type 0} {N : ℕ} (truths : Truths C) → QuietKeeps N truths → (releasing : Releasing) (mode : Mode) (entry : Opening C) (before cells : List ℕ) → IsLeft {N = N} truths releasing (section mode entry before cells) →
-    length before ≡ N → length cells ≡ N → (mode_released releasing ≡ Read → cells ≡ before) → is_loud releasing ≡ false → (ws : List (Waiter C)) →
-    has_eligible (meets_at truths before) ws ≡ false → has_eligible (meets_at truths cells) ws ≡ false
-calm_release truths quiet Writer mode entry before cells left b c reads loud ws e = absurd (cc)
-calm_release truths quiet QuietWriter mode entry before cells left b c reads loud ws e = quiet_eligible truths.holds before cells (λ x met. quiet x before cells b c left met) ws e
-calm_release truths quiet Reader mode entry before cells left b c reads loud ws e = subst (λ r. has_eligible (meets_at truths r) ws ≡ false) (sym (reads refl)) e
+pub calm_release : {C : Type 0} {N : ℕ} (truths : Truths C) → QuietKeeps N truths → (releasing : Releasing) (held : Held C N) → held.mode ≡ mode_released releasing → IsLeft truths releasing held →
+    length held.before ≡ N → length held.row ≡ N → (held.mode ≡ Read → held.row ≡ held.before) → is_loud releasing ≡ false → (ws : List (Waiter C)) →
+    has_eligible (meets_at truths held.before) ws ≡ false → has_eligible (meets_at truths held.row) ws ≡ false
+calm_release truths quiet Writer held is left b c reads loud ws e = absurd (cc)
+calm_release truths quiet QuietWriter held is left b c reads loud ws e = quiet_eligible truths.holds held.before held.row (λ x met. quiet x held.before held.row b c left met) ws e
+calm_release truths quiet Reader held is left b c reads loud ws e = subst (λ r. has_eligible (meets_at truths r) ws ≡ false) (sym (reads is)) e

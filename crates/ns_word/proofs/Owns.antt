@@ -1,70 +1,51 @@
 -- What the steps leave of the waiters: each is its seat's own.
-use Rattle.std.proofs.Common.{Bool, List, None, Option, Some, [], ap, arith, cond, eq-eqb, eqb, eqb-true, false, inl, inr, refl, subst, suc, sym, true, ℕ, ◌++◌, ◌+◌, ◌||◌, ◌∙◌, ◌∷◌, ◌≡◌, ◌≢◌}
-use Rattle.ns_word.proofs.Prelude.{AwaitWake, Every, Held, InAcquire, InWait, Lists, Mode, NoneIs, Owed, Phase, SeatView, VariableWaiterFits, Waiter, WaiterFits, WaitersOwn, WaitersPlaced, Walk, cases_eq, counts_in, every-append, has_eligible, is_eligible, is_long, is_unwoken, left_of, list_any}
-use Rattle.ns_word.proofs.Prelude.{lock_stance, one_if, or_right, owed_to, place_awaits, queued, times, times_in, times_in-cons, waits_in, walk_at, without_in}
-use Rattle.ns_word.proofs.Listed.{listed_left, listed_queued, listed_without}
+use Rattle.std.proofs.Common.{Bool, List, None, Option, Some, [], ap, arith, cond, eqb-true, false, refl, subst, suc, sym, true, ℕ, ◌++◌, ◌+◌, ◌||◌, ◌∙◌, ◌∷◌, ◌≡◌}
+use Rattle.ns_word.proofs.Prelude.{AwaitWake, Every, InAcquire, InWait, Lists, Mode, Phase, SeatView, VariableWaiterFits, Waiter, WaiterFits, WaitersOwn, WaitersPlaced, Walk, counts_in, every-append, every_map, has_eligible, is_eligible, is_long, is_unwoken, left_of}
+use Rattle.ns_word.proofs.Prelude.{list_any, lock_stance, one_if, or_right, owed_to, place_awaits, queued, times, times_in, waits_in, walk_at, without_in}
+use Rattle.ns_word.proofs.Listed.{every_apart, listed_left, listed_queued, listed_without}
 use Rattle.ns_word.proofs.CountsIn.{counts_none}
-use Rattle.ns_word.proofs.Views.{view_of, walk_here, walk_there}
+use Rattle.ns_word.proofs.Views.{Move, news, olds, stance_same, stance_stays, walk_is, walk_was}
 use Rattle.ns_word.proofs.Phases.{cond_in, tries_in}
 use Rattle.ns_word.proofs.Scans.{times_scan, times_without}
 
-module _ {C : Type 0} {N : ℕ} (front : List (SeatView C N)) (who : ℕ) (walk : Option (Walk C)) (held : Option (Held C N)) (owed : List Owed) (walk' : Option (Walk C)) (held' : Option (Held C N)) (owed' : List Owed) (back : List (SeatView C N)) where
-  abbrev olds : List (SeatView C N)
-  olds = front ++ view_of who walk held owed ∷ back
-
-  abbrev news : List (SeatView C N)
-  news = front ++ view_of who walk' held' owed' ∷ back
+module _ {C : Type 0} {N : ℕ} (m : Move C N) where
+  open m use {who, walk, walk'}
 
   -- a seat that stands nowhere in the list may go anywhere
-  pub own_stays : (ws : List (Waiter C)) → times_in who ws ≡ 0 → WaitersOwn ws olds → WaitersOwn ws news
-  own_stays [] none p = tt
-  own_stays (w ∷ ws) none p =
-      let sum = times_in-cons who w ws in
-      let other : who ≢ w.seat = λ e. let one : one_if (eqb w.seat who) ≡ 1 = rw (eq-eqb w.seat who (sym e)) refl in absurd (omega (arith, sum, one, none)) in (
-        ap (λ w. lock_stance (waits_in w)) (walk_there w.seat front (view_of who walk held owed) (view_of who walk' held' owed') back other refl) ∙ p.0,
-        own_stays ws (omega (arith, sum, none)) p.1,
-      )
+  pub own_stays : (ws : List (Waiter C)) → times_in who ws ≡ 0 → WaitersOwn ws (olds m) → WaitersOwn ws (news m)
+  own_stays ws none p = every_apart (WaiterFits (olds m)) (WaiterFits (news m)) who ws none (λ w ne fit. ap lock_stance (stance_stays m w.seat ne) ∙ fit) p
 
   -- and one that stands there may go where it waits in the same mode
-  pub own_same : (ws : List (Waiter C)) → NoneIs who front → waits_in walk' ≡ waits_in walk → WaitersOwn ws olds → WaitersOwn ws news
-  own_same [] apart same p = tt
-  own_same (w ∷ ws) apart same p = (
-    elim (cases_eq who w.seat) [
-      | inl e ↦ subst (λ s. lock_stance (waits_in (walk_at s news)) ≡ Some (w.mode, w.cond, w.tries)) e
-          (ap lock_stance (ap waits_in (walk_here front (view_of who walk' held' owed') back apart) ∙ same ∙ sym (ap waits_in (walk_here front (view_of who walk held owed) back apart)))
-          ∙ subst (λ s. lock_stance (waits_in (walk_at s olds)) ≡ Some (w.mode, w.cond, w.tries)) (sym e) p.0)
-      | inr ne ↦ ap (λ w. lock_stance (waits_in w)) (walk_there w.seat front (view_of who walk held owed) (view_of who walk' held' owed') back ne refl) ∙ p.0
-    ],
-    own_same ws apart same p.1,
-  )
+  pub own_same : (ws : List (Waiter C)) → waits_in walk' ≡ waits_in walk → WaitersOwn ws (olds m) → WaitersOwn ws (news m)
+  own_same ws same p = every_map (WaiterFits (olds m)) (WaiterFits (news m)) (λ w fit. ap lock_stance (stance_same m same w.seat) ∙ fit) ws p
 
   -- one that isn't due stands nowhere
-  pub nowhere : (lists : Lists C) (flags : ℕ → ℕ) → NoneIs who front → is_unwoken walk (flags who) ≡ false → WaitersPlaced lists flags olds → times who lists ≡ 0
-  nowhere lists flags apart undue p =
-      let sum : counts_in who lists + owed_to who olds ≡ 0 = p.placed who ∙ ap (λ w. one_if (is_unwoken w (flags who))) (walk_here front (view_of who walk held owed) back apart) ∙ ap one_if undue in
+  pub nowhere : (lists : Lists C) (flags : ℕ → ℕ) → is_unwoken walk (flags who) ≡ false → WaitersPlaced lists flags (olds m) → times who lists ≡ 0
+  nowhere lists flags undue p =
+      let sum : counts_in who lists + owed_to who (olds m) ≡ 0 = p.placed who ∙ ap (λ w. one_if (is_unwoken w (flags who))) (walk_was m) ∙ ap one_if undue in
       counts_none who lists (omega (arith, sum))
 
   -- a seat puts itself in
-  pub own_queued : (mode : Mode) (c : Option C) (tries : ℕ) (first : Bool) (ws : List (Waiter C)) → NoneIs who front → times_in who ws ≡ 0 → lock_stance (waits_in walk') ≡ Some (mode, c, tries) →
-      WaitersOwn ws olds → WaitersOwn (queued who mode c tries first ws) news
-  own_queued mode c tries first ws apart none waits p =
-      let self : WaiterFits news (record { seat = who; mode = mode; cond = c; tries = tries; via = None }) = ap (λ w. lock_stance (waits_in w)) (walk_here front (view_of who walk' held' owed') back apart) ∙ waits in
+  pub own_queued : (mode : Mode) (c : Option C) (tries : ℕ) (first : Bool) (ws : List (Waiter C)) → times_in who ws ≡ 0 → lock_stance (waits_in walk') ≡ Some (mode, c, tries) →
+      WaitersOwn ws (olds m) → WaitersOwn (queued who mode c tries first ws) (news m)
+  own_queued mode c tries first ws none waits p =
+      let self : WaiterFits (news m) (record { seat = who; mode = mode; cond = c; tries = tries; via = None }) = ap (λ w. lock_stance (waits_in w)) (walk_is m) ∙ waits in
       let rest = own_stays ws none p in
-      listed_queued (WaiterFits news) who mode c tries first ws self rest
+      listed_queued (WaiterFits (news m)) who mode c tries first ws self rest
 
   -- a scan takes some, and the seat stands nowhere
-  pub own_scanned : (meets : C → Bool) (ws : List (Waiter C)) → times_in who ws ≡ 0 → WaitersOwn ws olds → WaitersOwn (left_of meets ws) news
-  own_scanned meets ws none p = let parts = times_scan who meets ws in own_stays (left_of meets ws) (omega (arith, parts, none)) (listed_left (WaiterFits olds) meets ws p)
+  pub own_scanned : (meets : C → Bool) (ws : List (Waiter C)) → times_in who ws ≡ 0 → WaitersOwn ws (olds m) → WaitersOwn (left_of meets ws) (news m)
+  own_scanned meets ws none p = let parts = times_scan who meets ws in own_stays (left_of meets ws) (omega (arith, parts, none)) (listed_left (WaiterFits (olds m)) meets ws p)
 
   -- and puts itself in as it does
-  pub own_waited : (meets : C → Bool) (mode : Mode) (c : Option C) (tries : ℕ) (again : Bool) (ws : List (Waiter C)) → NoneIs who front → times_in who ws ≡ 0 → lock_stance (waits_in walk') ≡ Some (mode, c, tries) →
-      WaitersOwn ws olds → WaitersOwn (queued who mode c tries again (left_of meets ws)) news
-  own_waited meets mode c tries again ws apart none waits p =
-      let parts = times_scan who meets ws in own_queued mode c tries again (left_of meets ws) apart (omega (arith, parts, none)) waits (listed_left (WaiterFits olds) meets ws p)
+  pub own_waited : (meets : C → Bool) (mode : Mode) (c : Option C) (tries : ℕ) (again : Bool) (ws : List (Waiter C)) → times_in who ws ≡ 0 → lock_stance (waits_in walk') ≡ Some (mode, c, tries) →
+      WaitersOwn ws (olds m) → WaitersOwn (queued who mode c tries again (left_of meets ws)) (news m)
+  own_waited meets mode c tries again ws none waits p =
+      let parts = times_scan who meets ws in own_queued mode c tries again (left_of meets ws) (omega (arith, parts, none)) waits (listed_left (WaiterFits (olds m)) meets ws p)
 
   -- the seat stands there no more
-  pub own_without : (ws : List (Waiter C)) → WaitersOwn ws olds → WaitersOwn (without_in who ws) news
-  own_without ws p = own_stays (without_in who ws) (times_without who ws) (listed_without (WaiterFits olds) who ws p)
+  pub own_without : (ws : List (Waiter C)) → WaitersOwn ws (olds m) → WaitersOwn (without_in who ws) (news m)
+  own_without ws p = own_stays (without_in who ws) (times_without who ws) (listed_without (WaiterFits (olds m)) who ws p)
 
 -- those who wait for a variable may stand in the lock list, where they have no condition
 pub own_moved : {C : Type 0} {N : ℕ} (phases : ℕ → Phase C) (views : List (SeatView C N)) (k : ℕ) (ws taken : List (Waiter C)) → WaitersOwn ws views → Every (VariableWaiterFits phases views k) taken → WaitersOwn (ws ++ taken) views

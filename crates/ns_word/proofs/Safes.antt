@@ -1,12 +1,12 @@
 -- What the steps leave of the sections.
-use Rattle.std.proofs.Common.{Bool, List, None, Option, Some, [], ap, arith, cond, eq-eqb, eqb-true, false, inl, inr, length, length-set, ne_eqb, refl, slice_set, subst, sym, true, ℕ, ◌++◌, ◌+◌, ◌-◌, ◌<◌, ◌∙◌, ◌∷◌, ◌≡◌, ◌≢◌, ◌≤◌, ◌⊎◌}
-use Rattle.ns_word.proofs.Prelude.{Any, CameBack, Cause, Ended, EntryFits, Event, Exit, ExitFits, Expired, Held, HeldFits, IsBySeats, IsExpected, IsLegal, IsLegalEvent, IsSettledBy, Locked, Met, Mode, ModeFits, Notified, OnCondition, OnVariables, OneWriter, Only, Opening, Owed, OwesAs, Phase}
-use Rattle.ns_word.proofs.Prelude.{PlaceFits, Read, ReadersCounted, SeatView, SectionFits, Standing, Truths, Variables, ViewFits, Waiting, Walk, Woken, Word, Write, answer_of, both_ways, entry_of, first_standing, is_met, is_reading, is_writing, left_phase, legal_append, phase_after, phase_before}
-use Rattle.ns_word.proofs.Prelude.{phase_by, readers, section_of, standing_after, standing_from-append, standing_next, who_of, writers}
+use Rattle.std.proofs.Common.{Bool, List, None, Option, Some, [], ap, arith, cond, eq-eqb, eqb-true, false, inl, inr, length, length-set, ne_eqb, not, refl, slice_set, subst, sym, true, ℕ, ◌++◌, ◌+◌, ◌-◌, ◌<◌, ◌∙◌, ◌∷◌, ◌≡◌, ◌≢◌, ◌≤◌, ◌⊎◌}
+use Rattle.ns_word.proofs.Prelude.{Any, CameBack, Cause, Ended, EntryFits, Event, Exit, ExitFits, Expired, Held, HeldFits, IsBySeats, IsExpected, IsLegal, IsLegalEvent, IsSettledBy, Locked, Met, Mode, ModeFits, Notified, OnCondition, OnVariables, OneWriter, Only, Opening, OwesAs, Phase}
+use Rattle.ns_word.proofs.Prelude.{PlaceFits, Read, ReadersCounted, SeatView, SectionFits, Standing, Truths, Variables, ViewFits, Waiting, Walk, Woken, Word, Write, answer_of, both_ways, entry_of, first_standing, is_met, is_reading, is_write, is_writing, left_phase, legal_append, one_if}
+use Rattle.ns_word.proofs.Prelude.{phase_after, phase_before, phase_by, readers, section_of, standing_after, standing_from-append, standing_next, who_of, writers}
 use Rattle.ns_model.specs.declared.phase.Phase.TheVariants.{Left}
 use Rattle.ns_word.proofs.Leaving.{left_event, left_is_legal, left_next_here, left_next_there, left_row, left_who}
 use Rattle.ns_word.proofs.Groups.{Safe}
-use Rattle.ns_word.proofs.Views.{view_of, writers_at, readers_at, apart_parts, apart_moves, each_parts, each_join, each_moves, each_woken, IsWokenBy}
+use Rattle.ns_word.proofs.Views.{IsWokenBy, Move, apart_moves, apart_parts, each_join, each_moves, each_parts, each_woken, news, olds, readers_at, view_of, writers_at}
 
 pub by_seats_more : {C : Type 0} {N : ℕ} (seats : ℕ) (h : List (Event C N)) (e : Event C N) → IsBySeats seats h → who_of e < seats → IsBySeats seats (h ++ e ∷ [])
 by_seats_more seats [] e p q = (q, tt)
@@ -128,84 +128,88 @@ module _ {C : Type 0} {N : ℕ} (truths : Truths C) (seats : ℕ) (h : List (Eve
         tt,
       )
 
-  module _ (front : List (SeatView C N)) (who : ℕ) (walk : Option (Walk C)) (owed : List Owed) (walk' : Option (Walk C)) (owed' : List Owed) (back : List (SeatView C N)) where
-    abbrev olds : Option (Held C N) → List (SeatView C N)
-    olds held = front ++ view_of who walk held owed ∷ back
+  -- a move, with any section before it and after it
+  module _ (m : Move C N) where
+    open m use {front, who, walk, owed, walk', owed', back}
 
-    abbrev news : Option (Held C N) → List (SeatView C N)
-    news held = front ++ view_of who walk' held owed' ∷ back
+    abbrev had : Option (Held C N) → List (SeatView C N)
+    had held = olds (record m { held = held })
+
+    abbrev has : Option (Held C N) → List (SeatView C N)
+    has held = news (record m { held' = held })
 
     -- ---- what is counted
 
-    writers_old : (held : Option (Held C N)) → writers (olds held) ≡ writers front + (cond (is_writing held) 1 0 + writers back)
+    writers_old : (held : Option (Held C N)) → writers (had held) ≡ writers front + (cond (is_writing held) 1 0 + writers back)
     writers_old held = writers_at front (view_of who walk held owed) back
 
-    readers_old : (held : Option (Held C N)) → readers (olds held) ≡ readers front + (cond (is_reading held) 1 0 + readers back)
+    readers_old : (held : Option (Held C N)) → readers (had held) ≡ readers front + (cond (is_reading held) 1 0 + readers back)
     readers_old held = readers_at front (view_of who walk held owed) back
 
-    writers_new : (held : Option (Held C N)) → writers (news held) ≡ writers front + (cond (is_writing held) 1 0 + writers back)
+    writers_new : (held : Option (Held C N)) → writers (has held) ≡ writers front + (cond (is_writing held) 1 0 + writers back)
     writers_new held = writers_at front (view_of who walk' held owed') back
 
-    readers_new : (held : Option (Held C N)) → readers (news held) ≡ readers front + (cond (is_reading held) 1 0 + readers back)
+    readers_new : (held : Option (Held C N)) → readers (has held) ≡ readers front + (cond (is_reading held) 1 0 + readers back)
     readers_new held = readers_at front (view_of who walk' held owed') back
 
-    counted_same : (word word' : Word) (held held' : Option (Held C N)) → word'.write ≡ word.write → word'.readers ≡ word.readers → is_writing held' ≡ is_writing held → is_reading held' ≡ is_reading held → Counted word (olds held) → Counted word' (news held')
+    counted_same : (word word' : Word) (held held' : Option (Held C N)) → word'.write ≡ word.write → word'.readers ≡ word.readers → is_writing held' ≡ is_writing held → is_reading held' ≡ is_reading held → Counted word (had held) → Counted word' (has held')
     counted_same word word' held held' same_write same_readers writing reading p =
-        let w : writers (news held') ≡ writers (olds held) = writers_new held' ∙ ap (λ b. writers front + (cond b 1 0 + writers back)) writing ∙ sym (writers_old held) in
-        let r : readers (news held') ≡ readers (olds held) = readers_new held' ∙ ap (λ b. readers front + (cond b 1 0 + readers back)) reading ∙ sym (readers_old held) in
+        let w : writers (has held') ≡ writers (had held) = writers_new held' ∙ ap (λ b. writers front + (cond b 1 0 + writers back)) writing ∙ sym (writers_old held) in
+        let r : readers (has held') ≡ readers (had held) = readers_new held' ∙ ap (λ b. readers front + (cond b 1 0 + readers back)) reading ∙ sym (readers_old held) in
         (record { bit = w ∙ p.0.bit ∙ ap (λ b. cond b 1 0) (sym same_write); alone = λ e. r ∙ p.0.alone (sym same_write ∙ e) }, same_readers ∙ p.1 ∙ sym r)
 
-    counted_more : (mode : Mode) (entry : Opening C) (word word' : Word) (row : List ℕ) → word.write ≡ false → Acquires mode word word'.write word'.readers → Counted word (olds None) → Counted word' (news (Some (section mode entry row row)))
+    counted_more : (mode : Mode) (entry : Opening C) (word word' : Word) (row : List ℕ) → word.write ≡ false → Acquires mode word word'.write word'.readers → Counted word (had None) → Counted word' (has (Some (section mode entry row row)))
     counted_more Write entry word word' row free is p =
         let held = Some (section {C = C} {N = N} Write entry row row) in
-        let none : writers (olds None) ≡ 0 = p.0.bit ∙ ap (λ b. cond b 1 0) free in
+        let none : writers (had None) ≡ 0 = p.0.bit ∙ ap (λ b. cond b 1 0) free in
         let unit : ◌≡◌ {A = ℕ} (cond word'.write 1 0) 1 = rw is.1 refl in
         (record { bit = omega (arith, none, unit, writers_old None, writers_new held); alone = λ e. omega (arith, readers_old None, readers_new held, p.1, is.0) }, omega (arith, readers_old None, readers_new held, p.1, is.2))
     counted_more Read entry word word' row free is p =
         let held = Some (section {C = C} {N = N} Read entry row row) in
-        let none : writers (olds None) ≡ 0 = p.0.bit ∙ ap (λ b. cond b 1 0) free in
+        let none : writers (had None) ≡ 0 = p.0.bit ∙ ap (λ b. cond b 1 0) free in
         let unit : ◌≡◌ {A = ℕ} (cond word'.write 1 0) 0 = rw is.0 refl in
         (record { bit = omega (arith, none, unit, writers_old None, writers_new held); alone = λ e. absurd (both_ways word'.write is.0 e) }, omega (arith, readers_old None, readers_new held, p.1, is.1))
 
     -- beside a writer nobody else has a section
-    writes : (word : Word) (entry : Opening C) (before cells : List ℕ) → Counted word (olds (Some (section Write entry before cells))) → word.write ≡ true
-    writes word entry before cells p = bit_set word.write (omega (arith, p.0.bit, writers_old (Some (section {C = C} {N = N} Write entry before cells))))
+    writes : (word : Word) (held : Held C N) → held.mode ≡ Write → Counted word (had (Some held)) → word.write ≡ true
+    writes word held e p = let one : one_if (is_write held.mode) ≡ 1 = ap (λ mode. one_if (is_write mode)) e in bit_set word.write (omega (arith, p.0.bit, writers_old (Some held), one))
 
-    alone : (word : Word) (entry : Opening C) (before cells : List ℕ) → Counted word (olds (Some (section Write entry before cells))) → (writers front + readers front ≡ 0) × (writers back + readers back ≡ 0)
-    alone word entry before cells p =
-        let held = Some (section {C = C} {N = N} Write entry before cells) in
-        let write = writes word entry before cells p in
+    alone : (word : Word) (held : Held C N) → held.mode ≡ Write → Counted word (had (Some held)) → (writers front + readers front ≡ 0) × (writers back + readers back ≡ 0)
+    alone word held e p =
+        let one : one_if (is_write held.mode) ≡ 1 = ap (λ mode. one_if (is_write mode)) e in
+        let write = writes word held e p in
         let unit : ◌≡◌ {A = ℕ} (cond word.write 1 0) 1 = rw write refl in
-        let nobody : readers (olds held) ≡ 0 = p.0.alone write in
-        (omega (arith, writers_old held, readers_old held, p.0.bit, unit, nobody), omega (arith, writers_old held, readers_old held, p.0.bit, unit, nobody))
+        let nobody : readers (had (Some held)) ≡ 0 = p.0.alone write in
+        (omega (arith, writers_old (Some held), readers_old (Some held), p.0.bit, unit, nobody, one), omega (arith, writers_old (Some held), readers_old (Some held), p.0.bit, unit, nobody, one))
 
-    counted_less : (mode : Mode) (entry : Opening C) (word word' : Word) (before cells : List ℕ) → GivesUp mode word word'.write word'.readers → Counted word (olds (Some (section mode entry before cells))) → Counted word' (news None)
-    counted_less Write entry word word' before cells is p =
-        let held = Some (section {C = C} {N = N} Write entry before cells) in
+    counted_less : (mode : Mode) (held : Held C N) (word word' : Word) → held.mode ≡ mode → GivesUp mode word word'.write word'.readers → Counted word (had (Some held)) → Counted word' (has None)
+    counted_less Write held word word' e is p =
+        let none : one_if (not (is_write held.mode)) ≡ 0 = ap (λ mode. one_if (not (is_write mode))) e in
         let unit' : ◌≡◌ {A = ℕ} (cond word'.write 1 0) 0 = rw is.0 refl in
-        let others = alone word entry before cells p in
-        (record { bit = omega (arith, writers_new None, unit', others.0, others.1); alone = λ e. absurd (both_ways word'.write is.0 e) }, omega (arith, readers_old held, readers_new None, p.1, is.1))
-    counted_less Read entry word word' before cells is p =
-        let held = Some (section {C = C} {N = N} Read entry before cells) in
+        let others = alone word held e p in
+        (record { bit = omega (arith, writers_new None, unit', others.0, others.1); alone = λ f. absurd (both_ways word'.write is.0 f) }, omega (arith, readers_old (Some held), readers_new None, p.1, is.1, none))
+    counted_less Read held word word' e is p =
+        let none : one_if (is_write held.mode) ≡ 0 = ap (λ mode. one_if (is_write mode)) e in
+        let one : one_if (not (is_write held.mode)) ≡ 1 = ap (λ mode. one_if (not (is_write mode))) e in
         let same : ◌≡◌ {A = ℕ} (cond word'.write 1 0) (cond word.write 1 0) = ap (λ b. cond b 1 0) is.0 in (
           record {
-            bit = omega (arith, writers_old held, writers_new None, p.0.bit, same);
-            alone = λ e. let nobody : readers (olds held) ≡ 0 = p.0.alone (sym is.0 ∙ e) in omega (arith, readers_old held, nobody);
+            bit = omega (arith, writers_old (Some held), writers_new None, p.0.bit, same, none);
+            alone = λ f. let nobody : readers (had (Some held)) ≡ 0 = p.0.alone (sym is.0 ∙ f) in omega (arith, readers_old (Some held), nobody, one);
           },
-          omega (arith, readers_old held, readers_new None, p.1, is.1),
+          omega (arith, readers_old (Some held), readers_new None, p.1, is.1, one),
         )
 
     -- ---- what holds of the sections
 
-    here : (word : Word) (row : List ℕ) (held : Option (Held C N)) → Safe truths seats h word row (olds held) → ViewFits truths seats (standing_after h) row (view_of who walk held owed)
+    here : (word : Word) (row : List ℕ) (held : Option (Held C N)) → Safe truths seats h word row (had held) → ViewFits truths seats (standing_after h) row (view_of who walk held owed)
     here word row held p = (each_parts truths seats (standing_after h) row front (view_of who walk held owed) back p.one_history.each).1
 
     -- The seat's own section may change. The history leaves the others' phases, and the row too, or nobody else has a section.
-    moved : (h' : List (Event C N)) (word word' : Word) (row row' : List ℕ) (held held' : Option (Held C N)) → Counted word' (news held') → IsLegal truths.holds h' → IsBySeats seats h' →
+    moved : (h' : List (Event C N)) (word word' : Word) (row row' : List ℕ) (held held' : Option (Held C N)) → Counted word' (has held') → IsLegal truths.holds h' → IsBySeats seats h' →
         ((seat : ℕ) → who ≢ seat → (standing_after h').phases seat ≡ (standing_after h).phases seat) →
         (((standing_after h').row ≡ (standing_after h).row) × (row' ≡ row)) ⊎ ((writers front + readers front ≡ 0) × (writers back + readers back ≡ 0)) →
         PlaceFits truths walk' held' → OwesAs walk' owed' → SectionFits (standing_after h') row' who walk' held' → (word'.write ≡ false → row' ≡ (standing_after h').row) → length row' ≡ N → length (standing_after h').row ≡ N →
-        Safe truths seats h word row (olds held) → Safe truths seats h' word' row' (news held')
+        Safe truths seats h word row (had held) → Safe truths seats h' word' row' (has held')
     moved h' word word' row row' held held' counted legal by_seats others same place owes section free cells cells_after p =
         let view = view_of who walk held owed in
         let view' = view_of who walk' held' owed' in
@@ -230,8 +234,8 @@ module _ {C : Type 0} {N : ℕ} (truths : Truths C) (seats : ℕ) (h : List (Eve
         }
 
     -- without an event, and with the same cells
-    stays : (word word' : Word) (row : List ℕ) (held held' : Option (Held C N)) → Counted word' (news held') → PlaceFits truths walk' held' → OwesAs walk' owed' → SectionFits (standing_after h) row who walk' held' → (word'.write ≡ false → row ≡ (standing_after h).row) →
-        Safe truths seats h word row (olds held) → Safe truths seats h word' row (news held')
+    stays : (word word' : Word) (row : List ℕ) (held held' : Option (Held C N)) → Counted word' (has held') → PlaceFits truths walk' held' → OwesAs walk' owed' → SectionFits (standing_after h) row who walk' held' → (word'.write ≡ false → row ≡ (standing_after h).row) →
+        Safe truths seats h word row (had held) → Safe truths seats h word' row (has held')
     stays word word' row held held' counted place owes section free p =
         moved h word word' row row held held' counted p.one_history.legal p.one_history.by_seats (λ seat ne. refl) (inl (refl, refl)) place owes section free p.one_history.cells p.one_history.cells_after p
 
@@ -241,13 +245,13 @@ module _ {C : Type 0} {N : ℕ} (truths : Truths C) (seats : ℕ) (h : List (Eve
     pub unchanged_by : (word word' : Word) (row : List ℕ) (held held' : Option (Held C N)) → word'.write ≡ word.write → word'.readers ≡ word.readers →
         PlaceFits truths walk' held' → OwesAs walk' owed' → is_writing held' ≡ is_writing held → is_reading held' ≡ is_reading held →
         (SectionFits (standing_after h) row who walk held → SectionFits (standing_after h) row who walk' held') →
-        Safe truths seats h word row (olds held) → Safe truths seats h word' row (news held')
+        Safe truths seats h word row (had held) → Safe truths seats h word' row (has held')
     unchanged_by word word' row held held' same_write same_readers place owes writing reading fits p =
         stays word word' row held held' (counted_same word word' held held' same_write same_readers writing reading (p.one_writer, p.count)) place owes (fits (here word row held p).section) (λ e. p.one_history.free (sym same_write ∙ e)) p
 
     -- a step that leaves the sections, but for how one is said to have begun
     pub unchanged : (word word' : Word) (row : List ℕ) (held held' : Option (Held C N)) → word'.write ≡ word.write → word'.readers ≡ word.readers →
-        PlaceFits truths walk' held' → OwesAs walk' owed' → SameSection walk held walk' held' → Safe truths seats h word row (olds held) → Safe truths seats h word' row (news held')
+        PlaceFits truths walk' held' → OwesAs walk' owed' → SameSection walk held walk' held' → Safe truths seats h word row (had held) → Safe truths seats h word' row (has held')
     unchanged word word' row held held' same_write same_readers place owes same p =
         unchanged_by word word' row held held' same_write same_readers place owes same.writing same.reading (same.fits (standing_after h) row who) p
 
@@ -257,15 +261,15 @@ module _ {C : Type 0} {N : ℕ} (truths : Truths C) (seats : ℕ) (h : List (Eve
         ((seat : ℕ) → IsWokenBy k ((standing_after h).phases seat) ((standing_next (standing_after h) e).phases seat)) →
         word'.write ≡ word.write → word'.readers ≡ word.readers → PlaceFits truths walk' held → OwesAs walk' owed' →
         (SectionFits (standing_after h) row who walk held → SectionFits (standing_after h) row who walk' held) →
-        Safe truths seats h word row (olds held) → Safe truths seats (h ++ e ∷ []) word' row (news held)
+        Safe truths seats h word row (had held) → Safe truths seats (h ++ e ∷ []) word' row (has held)
     woken e k word word' row held by legal same phases same_write same_readers place owes fits p =
-        after_wake truths seats h e k word' row (news held) (subst (λ seat. seat < seats) (sym by) (here word row held p).in_range) legal same phases
+        after_wake truths seats h e k word' row (has held) (subst (λ seat. seat < seats) (sym by) (here word row held p).in_range) legal same phases
         (unchanged_by word word' row held held same_write same_readers place owes refl refl fits p)
 
     -- a wait for variables takes itself out of its lists
     pub left_variables : (variables : Variables) (mode : Mode) (word word' : Word) (row : List ℕ) → seats ≤ 64 → (standing_after h).phases who ≡ Waiting variables mode → IsExpected (phase_by walk') (Left variables mode) →
         word'.write ≡ word.write → word'.readers ≡ word.readers → PlaceFits {C = C} {N = N} truths walk' None → OwesAs walk' owed' →
-        Safe truths seats h word row (olds None) → Safe truths seats (h ++ left_event who variables ∷ []) word' row (news None)
+        Safe truths seats h word row (had None) → Safe truths seats (h ++ left_event who variables ∷ []) word' row (has None)
     left_variables variables mode word word' row few phase is same_write same_readers place owes p =
         let in_range = (here word row None p).in_range in
         moved (h ++ left_event who variables ∷ []) word word' row row None None (counted_same word word' None None same_write same_readers refl refl (p.one_writer, p.count))
@@ -277,50 +281,43 @@ module _ {C : Type 0} {N : ℕ} (truths : Truths C) (seats : ℕ) (h : List (Eve
     -- an acquire
     pub acquired : (mode : Mode) (word word' : Word) (row : List ℕ) (entry : Opening C) → ((p : Phase C) → IsExpected (phase_by walk) p → p ≡ phase_before mode entry) → word.write ≡ false → Acquires mode word word'.write word'.readers →
         PlaceFits truths walk' (Some (section {C = C} {N = N} mode entry row row)) → OwesAs walk' owed' →
-        Safe truths seats h word row (olds None) → Safe truths seats h word' row (news (Some (section mode entry row row)))
+        Safe truths seats h word row (had None) → Safe truths seats h word' row (has (Some (section mode entry row row)))
     acquired mode word word' row entry phase free is place owes p =
         stays word word' row None (Some (section mode entry row row)) (counted_more mode entry word word' row free is (p.one_writer, p.count)) place owes
         (record { starts = p.one_history.free free; enters = phase ((standing_after h).phases who) (here word row None p).section; cells = refl; reads = λ e. refl }) (λ e. p.one_history.free free) p
 
     -- a store into a cell, by the writer
-    pub stored : (word : Word) (row : List ℕ) (entry : Opening C) (before cells : List ℕ) (i v : ℕ) →
-        PlaceFits truths walk' (Some (section {C = C} {N = N} Write entry before (slice_set cells i v))) → OwesAs walk' owed' →
-        Safe truths seats h word row (olds (Some (section Write entry before cells))) → Safe truths seats h word (slice_set row i v) (news (Some (section Write entry before (slice_set cells i v))))
-    stored word row entry before cells i v place owes p =
-        let held = Some (section {C = C} {N = N} Write entry before cells) in
-        let fit = (here word row held p).section in
-        let write = writes word entry before cells (p.one_writer, p.count) in
-        moved h word word row (slice_set row i v) held (Some (section Write entry before (slice_set cells i v)))
-        (counted_same word word held (Some (section Write entry before (slice_set cells i v))) refl refl refl refl (p.one_writer, p.count)) p.one_history.legal p.one_history.by_seats (λ seat ne. refl)
-        (inr (alone word entry before cells (p.one_writer, p.count))) place owes (record { starts = fit.starts; enters = fit.enters; cells = ap (λ xs. slice_set xs i v) fit.cells; reads = λ e. absurd (cc) })
-        (λ e. absurd (both_ways word.write e write)) (length-set row i v ∙ p.one_history.cells) p.one_history.cells_after p
+    pub stored : (word : Word) (row : List ℕ) (held : Held C N) (i v : ℕ) → held.mode ≡ Write → let held' = Some (record held { row = slice_set held.row i v }) in
+        PlaceFits truths walk' held' → OwesAs walk' owed' → Safe truths seats h word row (had (Some held)) → Safe truths seats h word (slice_set row i v) (has held')
+    stored word row held i v writing place owes p =
+        let fit = (here word row (Some held) p).section in
+        moved h word word row (slice_set row i v) (Some held) (Some (record held { row = slice_set held.row i v }))
+        (counted_same word word (Some held) (Some (record held { row = slice_set held.row i v })) refl refl refl refl (p.one_writer, p.count)) p.one_history.legal p.one_history.by_seats (λ seat ne. refl)
+        (inr (alone word held writing (p.one_writer, p.count))) place owes (record { starts = fit.starts; enters = fit.enters; cells = ap (λ xs. slice_set xs i v) fit.cells; reads = λ e. let clash : Write ≡ Read = sym writing ∙ e in absurd (cc) })
+        (λ e. absurd (both_ways word.write e (writes word held writing (p.one_writer, p.count)))) (length-set row i v ∙ p.one_history.cells) p.one_history.cells_after p
 
     -- the others, beside one that leaves its section: a reader leaves the row as it was
-    others_left : (mode : Mode) (exit : Exit C) (word : Word) (row : List ℕ) (entry : Opening C) (before cells : List ℕ) → Safe truths seats h word row (olds (Some (section mode entry before cells))) →
-        (((standing_after (h ++ section_of truths.holds who (section mode entry before cells) exit ∷ [])).row ≡ (standing_after h).row) × (row ≡ row)) ⊎ ((writers front + readers front ≡ 0) × (writers back + readers back ≡ 0))
-    others_left Write exit word row entry before cells p = inr (alone word entry before cells (p.one_writer, p.count))
-    others_left Read exit word row entry before cells p =
-        let held = section {C = C} {N = N} Read entry before cells in
-        let fit = (here word row (Some held) p).section in
-        inl (row_left who held exit ∙ fit.reads refl ∙ fit.starts, refl)
+    others_left : (mode : Mode) (exit : Exit C) (word : Word) (row : List ℕ) (held : Held C N) → held.mode ≡ mode → Safe truths seats h word row (had (Some held)) →
+        (((standing_after (h ++ section_of truths.holds who held exit ∷ [])).row ≡ (standing_after h).row) × (row ≡ row)) ⊎ ((writers front + readers front ≡ 0) × (writers back + readers back ≡ 0))
+    others_left Write exit word row held e p = inr (alone word held e (p.one_writer, p.count))
+    others_left Read exit word row held e p = let fit = (here word row (Some held) p).section in inl (row_left who held exit ∙ fit.reads e ∙ fit.starts, refl)
 
     -- a release
-    pub released : (mode : Mode) (exit : Exit C) (word word' : Word) (row : List ℕ) (entry : Opening C) (before cells : List ℕ) → seats ≤ 64 → IsSettledBy truths.holds before entry → ExitFits truths.holds cells exit → IsExpected (phase_by walk') (phase_after mode exit) →
+    pub released : (mode : Mode) (exit : Exit C) (word word' : Word) (row : List ℕ) (held : Held C N) → held.mode ≡ mode → seats ≤ 64 → IsSettledBy truths.holds held.before held.entry → ExitFits truths.holds held.row exit → IsExpected (phase_by walk') (phase_after held.mode exit) →
         GivesUp mode word word'.write word'.readers → PlaceFits {C = C} {N = N} truths walk' None → OwesAs walk' owed' →
-        Safe truths seats h word row (olds (Some (section mode entry before cells))) → Safe truths seats (h ++ section_of truths.holds who (section mode entry before cells) exit ∷ []) word' row (news None)
-    released mode exit word word' row entry before cells few settled leaves phase gives place owes p =
-        let held = section {C = C} {N = N} mode entry before cells in
+        Safe truths seats h word row (had (Some held)) → Safe truths seats (h ++ section_of truths.holds who held exit ∷ []) word' row (has None)
+    released mode exit word word' row held is few settled leaves phase gives place owes p =
         let fit = here word row (Some held) p in
-        moved (h ++ section_of truths.holds who held exit ∷ []) word word' row row (Some held) None (counted_less mode entry word word' before cells gives (p.one_writer, p.count))
+        moved (h ++ section_of truths.holds who held exit ∷ []) word word' row row (Some held) None (counted_less mode held word word' is gives (p.one_writer, p.count))
         (commits who row held exit (omega (arith, few, fit.in_range)) settled leaves fit.section p.one_history.legal) (by_seats_more seats h (section_of truths.holds who held exit) p.one_history.by_seats fit.in_range)
-        (phases_there who held exit) (others_left mode exit word row entry before cells p) place owes (subst (λ ph. IsExpected (phase_by walk') ph) (sym (phases_here who held exit)) phase)
+        (phases_there who held exit) (others_left mode exit word row held is p) place owes (subst (λ ph. IsExpected (phase_by walk') ph) (sym (phases_here who held exit)) phase)
         (λ e. sym fit.section.cells ∙ sym (row_left who held exit)) p.one_history.cells (ap length (row_left who held exit ∙ fit.section.cells) ∙ p.one_history.cells) p
 
     -- a section is given up without an event: nothing has changed in it, and its seat goes back to where it came from
-    pub dropped : (mode : Mode) (word word' : Word) (row : List ℕ) (entry : Opening C) (before cells : List ℕ) → cells ≡ before → IsExpected (phase_by walk') (phase_before mode entry) →
+    pub dropped : (mode : Mode) (word word' : Word) (row : List ℕ) (held : Held C N) → held.mode ≡ mode → held.row ≡ held.before → IsExpected (phase_by walk') (phase_before held.mode held.entry) →
         GivesUp mode word word'.write word'.readers → PlaceFits {C = C} {N = N} truths walk' None → OwesAs walk' owed' →
-        Safe truths seats h word row (olds (Some (section mode entry before cells))) → Safe truths seats h word' row (news None)
-    dropped mode word word' row entry before cells same phase gives place owes p =
-        let fit = (here word row (Some (section mode entry before cells)) p).section in
-        stays word word' row (Some (section mode entry before cells)) None (counted_less mode entry word word' before cells gives (p.one_writer, p.count)) place owes
+        Safe truths seats h word row (had (Some held)) → Safe truths seats h word' row (has None)
+    dropped mode word word' row held is same phase gives place owes p =
+        let fit = (here word row (Some held) p).section in
+        stays word word' row (Some held) None (counted_less mode held word word' is gives (p.one_writer, p.count)) place owes
         (subst (λ ph. IsExpected (phase_by walk') ph) (sym fit.enters) phase) (λ e. sym fit.cells ∙ same ∙ fit.starts) p

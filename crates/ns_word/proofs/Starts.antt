@@ -2,7 +2,7 @@
 use Rattle.std.proofs.Common.{Bool, List, None, Option, Some, [], ap, arith, cond, eqb, false, ltb, ltb-false, refl, replicate, subst, suc, sym, true, zero, ℕ, ◌++◌, ◌+◌, ◌-◌, ◌<◌, ◌∷◌, ◌≡◌, ◌≤◌}
 use Rattle.ns_word.proofs.Prelude.{AcquireLoad, AreApart, Begins, CanWait, Cv, EachFits, Event, Every, ForLock, HasNumber, Held, InAcquire, InCells, InQueuing, InRelease, InShow, InSignal, InTry, InWait, IsFirst, IsForVariables, IsLawful, Judging, Load, LockState, NoneIs, OnCondition, OnEntry}
 use Rattle.ns_word.proofs.Prelude.{OnVariables, PlaceFits, QuietCells, QuietLast, ReleaseLoad, SeatView, ShowLoad, SignalLoad, Subject, TestCells, TestLast, Tests, Truths, TryLoad, Wait, WakeTells, Walk, WordsSeen, both_ways, every_join, every_parts, first_for, first_row, first_standing}
-use Rattle.ns_word.proofs.Prelude.{fresh_state, fresh_views, has_armed, has_queues, is_queuing, is_reading, is_writing, length-replicate, one_if, owed_in, queuers, quiet_first, readers, times_among, total, wait_first, waiters_of, walk_at, word_seen, writers}
+use Rattle.ns_word.proofs.Prelude.{fresh_state, fresh_views, has_armed, has_queues, is_queuing, is_reading, is_writing, length-replicate, one_if, owed_in, part_of, queuers, quiet_first, readers, times_among, total, wait_first, waiters_of, walk_at, word_seen, writers}
 use Rattle.ns_model.specs.declared.phase.Phase.TheVariants.{Idle}
 use Rattle.ns_word.proofs.Firsts.{first_is_bare}
 use Rattle.ns_word.proofs.Groups.{groups_of, lawful_by}
@@ -132,7 +132,7 @@ module _ {C : Type 0} {N : ℕ} (truths : Truths C) (seats : ℕ) (h : List (Eve
       let start = subst (λ views. IsLawful truths seats h (record { word = old.word; row = old.row; lists = old.lists; flags = old.flags; views = views })) b.was p in
       let here = subst (λ w. IsLawful truths seats h (record { word = old.word; row = old.row; lists = old.lists; flags = old.flags; views = b.front ++ view_of view.seat w view.held view.owed ∷ b.back })) b.over start in
       let leads = first_place walk view.held b.first b.fits in
-      let moved = rests truths seats h b.front view.seat None (Some walk) b.back old.word old.row old.lists old.flags view.held view.held view.owed refl leads.place leads.same leads.queuing leads.way (same_section None (Some walk) view.held leads.stays) (groups_of truths seats h _ here) in
+      let moved = rests truths seats h b.front view.seat None (Some walk) b.back (part_of old view.held view.owed) view.held refl leads.place leads.same leads.queuing leads.way (same_section None (Some walk) view.held leads.stays) (groups_of truths seats h _ here) in
       let parts = every_parts (λ (v : SeatView C N). HasNumber (word_seen v.walk)) b.front (view_of view.seat None view.held view.owed) b.back here.words_seen in
       let seen = every_join (λ (v : SeatView C N). HasNumber (word_seen v.walk)) b.front (view_of view.seat (Some walk) view.held view.owed) b.back parts.0 (subst HasNumber (sym (first_is_bare N walk b.first).unseen) tt) parts.2 in
       subst (λ s. IsLawful truths seats h s) (sym b.becomes) (lawful_by truths seats h _ moved seen)

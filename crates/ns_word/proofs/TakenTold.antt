@@ -1,19 +1,11 @@
 -- What the taken are told stays so, by each kind of step.
 use Rattle.std.proofs.Common.{Bool, List, None, Option, Some, [], ap, append_assoc, arith, cond, eq-eqb, eqb, inl, inr, lt-ltb, ne_eqb, refl, subst, sym, true, ℕ, ◌++◌, ◌+◌, ◌<◌, ◌∙◌, ◌∷◌, ◌≡◌, ◌≢◌, ◌≤◌, ◌⊎◌}
-use Rattle.ns_word.proofs.Prelude.{Every, Held, IsNamed, IsToldSo, Mode, NamesOn, NoneIs, OnCondition, OnVariables, Owed, Phase, SeatView, Stance, Subject, TakenTold, ToldOn, VariableWaiterFits, Variables, Waiter, WaiterNames, Waiting, WaitsAmong, WakeTells, Walk, called_of, cases_Bool, cases_eq}
-use Rattle.ns_word.proofs.Prelude.{every-append, every_map, every_woken, flags_with, has, in_list, in_stands, is_in, one_if, owed_in, owed_to, own_times, stands_waiting, taken_set, times_among, times_in, times_in-cons, value_of, waits_in, wakes_of, walk_at, woken_of, woken_phase, woken_phases}
+use Rattle.ns_word.proofs.Prelude.{Every, IsNamed, IsToldSo, Mode, NamesOn, OnCondition, OnVariables, Owed, Phase, SeatView, Stance, Subject, TakenTold, ToldOn, VariableWaiterFits, Variables, Waiter, WaiterNames, Waiting, WaitsAmong, WakeTells, called_of, cases_Bool, cases_eq}
+use Rattle.ns_word.proofs.Prelude.{every-append, every_map, every_woken, flags_with, has, in_list, in_stands, is_in, owed_in, owed_to, own_times, stands_waiting, taken_set, times_among, times_in, times_in-cons, value_of, waits_in, wakes_of, walk_at, woken_of, woken_phase, woken_phases}
 use Rattle.ns_model.specs.declared.phase.Phase.TheVariants.{Woken}
-use Rattle.ns_word.proofs.Listed.{every_cut}
+use Rattle.ns_word.proofs.Listed.{every_apart, every_cut}
 use Rattle.ns_word.proofs.Variables.{waits_of}
-use Rattle.ns_word.proofs.Views.{view_of, walk_here, walk_there}
-
--- waiters of other seats
-every_apart : {C : Type 0} (Q R : Waiter C → Type 0) (who : ℕ) (ws : List (Waiter C)) → times_in who ws ≡ 0 → ((w : Waiter C) → who ≢ w.seat → Q w → R w) → Every Q ws → Every R ws
-every_apart Q R who [] none go p = tt
-every_apart Q R who (w ∷ ws) none go p = let sum = times_in-cons who w ws in elim (cases_eq w.seat who) [
-  | inl e ↦ let one : one_if (eqb w.seat who) ≡ 1 = ap one_if (eq-eqb w.seat who e) in absurd (omega (arith, none, one, sum))
-  | inr ne ↦ (go w (λ e. ne (sym e)) p.0, every_apart Q R who ws (omega (arith, none, sum)) go p.1)
-]
+use Rattle.ns_word.proofs.Views.{Move, news, olds, stance_same, stance_stays, view_of, walk_is}
 
 -- who names what is so will be told that
 names_tell : {C : Type 0} (stance : Option (Stance C)) (phase : Phase C) (via : Option ℕ) → IsNamed stance phase via → IsToldSo stance phase (value_of via)
@@ -54,60 +46,40 @@ module _ {C : Type 0} {N : ℕ} where
   owed_at [] view back = refl
   owed_at (v ∷ front) view back = ap (λ xs. v.owed ++ xs) (owed_at front view back) ∙ sym (append_assoc v.owed (owed_in front) (view.owed ++ owed_in back))
 
-  module _ (front : List (SeatView C N)) (who : ℕ) (walk : Option (Walk C)) (held : Option (Held C N)) (owed : List Owed) (walk' : Option (Walk C)) (held' : Option (Held C N)) (owed' : List Owed) (back : List (SeatView C N)) where
-    abbrev olds : List (SeatView C N)
-    olds = front ++ view_of who walk held owed ∷ back
-
-    abbrev news : List (SeatView C N)
-    news = front ++ view_of who walk' held' owed' ∷ back
-
-    there : (seat : ℕ) → who ≢ seat → waits_in (walk_at seat news) ≡ waits_in (walk_at seat olds)
-    there seat ne = ap waits_in (walk_there seat front (view_of who walk held owed) (view_of who walk' held' owed') back ne refl)
-
-    here : NoneIs who front → waits_in (walk_at who news) ≡ waits_in walk'
-    here apart = ap waits_in (walk_here front (view_of who walk' held' owed') back apart)
-
-    stances : NoneIs who front → waits_in walk' ≡ waits_in walk → (seat : ℕ) → waits_in (walk_at seat news) ≡ waits_in (walk_at seat olds)
-    stances apart same seat = elim (cases_eq who seat) [
-      | inl e ↦ subst (λ s. waits_in (walk_at s news) ≡ waits_in (walk_at s olds)) e (here apart ∙ same ∙ sym (ap waits_in (walk_here front (view_of who walk held owed) back apart)))
-      | inr ne ↦ there seat ne
-    ]
+  module _ (m : Move C N) where
+    open m use {front, who, walk, held, owed, walk', held', owed', back}
 
     module _ (phases phases' : ℕ → Phase C) where
       -- what is told of a seat stays told, and what it names
       abbrev Stay : ℕ → Type 0
-      Stay seat = ((value : ℕ) → IsToldSo (waits_in (walk_at seat olds)) (phases seat) value → IsToldSo (waits_in (walk_at seat news)) (phases' seat) value)
-          × ((via : Option ℕ) → IsNamed (waits_in (walk_at seat olds)) (phases seat) via → IsNamed (waits_in (walk_at seat news)) (phases' seat) via)
+      Stay seat = ((value : ℕ) → IsToldSo (waits_in (walk_at seat (olds m))) (phases seat) value → IsToldSo (waits_in (walk_at seat (news m))) (phases' seat) value)
+          × ((via : Option ℕ) → IsNamed (waits_in (walk_at seat (olds m))) (phases seat) via → IsNamed (waits_in (walk_at seat (news m))) (phases' seat) via)
 
       abbrev Was : Owed → Type 0
-      Was = WakeTells phases olds
+      Was = WakeTells phases (olds m)
 
       abbrev Is : Owed → Type 0
-      Is = WakeTells phases' news
+      Is = WakeTells phases' (news m)
 
       abbrev Named : Waiter C → Type 0
-      Named = WaiterNames phases' news
+      Named = WaiterNames phases' (news m)
 
-      stay_same : (seat : ℕ) → waits_in (walk_at seat news) ≡ waits_in (walk_at seat olds) → phases' seat ≡ phases seat → Stay seat
+      stay_same : (seat : ℕ) → waits_in (walk_at seat (news m)) ≡ waits_in (walk_at seat (olds m)) → phases' seat ≡ phases seat → Stay seat
       stay_same seat stance phase = (
         λ value told. subst (λ (x : Option (Stance C) × Phase C). IsToldSo x.0 x.1 value) (λ i. (sym stance i, sym phase i)) told,
         λ via named. subst (λ (x : Option (Stance C) × Phase C). IsNamed x.0 x.1 via) (λ i. (sym stance i, sym phase i)) named,
       )
 
-      stay_gone : NoneIs who front → waits_in walk' ≡ None → Stay who
-      stay_gone apart none = (
-        λ value told. subst (λ s. IsToldSo s (phases' who) value) (sym (here apart ∙ none)) tt,
-        λ via named. subst (λ s. IsNamed s (phases' who) via) (sym (here apart ∙ none)) tt,
-      )
-
       -- by a seat that waits no more, or did not
-      left : NoneIs who front → waits_in walk' ≡ None → ((seat : ℕ) → who ≢ seat → phases' seat ≡ phases seat) → (seat : ℕ) → Stay seat
-      left apart none others seat = elim (cases_eq who seat) [
-        | inl e ↦ subst (λ s. Stay s) e (stay_gone apart none)
-        | inr ne ↦ stay_same seat (there seat ne) (others seat ne)
+      pub left_stays : waits_in walk' ≡ None → ((seat : ℕ) → who ≢ seat → phases' seat ≡ phases seat) → (seat : ℕ) → Stay seat
+      left_stays none others seat = elim (cases_eq who seat) [
+        | inl e ↦
+            let gone = sym (ap waits_in (walk_is m) ∙ none) in
+            subst (λ s. Stay s) e (λ value told. subst (λ s. IsToldSo s (phases' who) value) gone tt, λ via named. subst (λ s. IsNamed s (phases' who) via) gone tt)
+        | inr ne ↦ stay_same seat (stance_stays m seat ne) (others seat ne)
       ]
 
-      told : (flags' : ℕ → ℕ) (lock' : List (Waiter C)) → ((seat : ℕ) → flags' seat ≢ 1 → IsToldSo (waits_in (walk_at seat news)) (phases' seat) (flags' seat)) → Every Is (owed_in olds) → (Every Is owed → Every Is owed') → Every Named lock' → TakenTold phases' flags' lock' news
+      told : (flags' : ℕ → ℕ) (lock' : List (Waiter C)) → ((seat : ℕ) → flags' seat ≢ 1 → IsToldSo (waits_in (walk_at seat (news m))) (phases' seat) (flags' seat)) → Every Is (owed_in (olds m)) → (Every Is owed → Every Is owed') → Every Named lock' → TakenTold phases' flags' lock' (news m)
       told flags' lock' flag kept due listed =
           let cut = every_cut Is (owed_in front) (owed ++ owed_in back) (subst (Every Is) (owed_at front (view_of who walk held owed) back) kept) in
           let behind = every_cut Is owed (owed_in back) cut.1 in record {
@@ -119,64 +91,61 @@ module _ {C : Type 0} {N : ℕ} where
       every_stay : ((seat : ℕ) → Stay seat) → (xs : List Owed) → Every Was xs → Every Is xs
       every_stay stay xs p = every_map Was Is (λ wake. (stay wake.seat).0 wake.value) xs p
 
-      every_named : ((seat : ℕ) → Stay seat) → (ws : List (Waiter C)) → Every (WaiterNames phases olds) ws → Every Named ws
-      every_named stay ws p = every_map (WaiterNames phases olds) Named (λ w. (stay w.seat).1 w.via) ws p
+      every_named : ((seat : ℕ) → Stay seat) → (ws : List (Waiter C)) → Every (WaiterNames phases (olds m)) ws → Every Named ws
+      every_named stay ws p = every_map (WaiterNames phases (olds m)) Named (λ w. (stay w.seat).1 w.via) ws p
 
       -- the flags stay, and so does what is told of each seat
-      pub told_stays : (flags : ℕ → ℕ) (lock lock' : List (Waiter C)) → ((seat : ℕ) → Stay seat) → (Every Is owed → Every Named lock → Every Is owed') → (Every Named lock → Every Named lock') → TakenTold phases flags lock olds → TakenTold phases' flags lock' news
+      pub told_stays : (flags : ℕ → ℕ) (lock lock' : List (Waiter C)) → ((seat : ℕ) → Stay seat) → (Every Is owed → Every Named lock → Every Is owed') → (Every Named lock → Every Named lock') → TakenTold phases flags lock (olds m) → TakenTold phases' flags lock' (news m)
       told_stays flags lock lock' stay due listed p =
           let kept = every_named stay lock p.listed in
-          told flags lock' (λ seat clear. (stay seat).0 (flags seat) (p.flag seat clear)) (every_stay stay (owed_in olds) p.owed) (λ own. due own kept) (listed kept)
+          told flags lock' (λ seat clear. (stay seat).0 (flags seat) (p.flag seat clear)) (every_stay stay (owed_in (olds m)) p.owed) (λ own. due own kept) (listed kept)
 
       -- a seat that stood in no list and was owed no wake, and whose flag is set, waits from now on
-      pub told_enters : (flags : ℕ → ℕ) (lock lock' : List (Waiter C)) → ((seat : ℕ) → who ≢ seat → phases' seat ≡ phases seat) → times_in who lock ≡ 0 → owed_to who olds ≡ 0 → flags who ≡ 1 →
-          (Every Is owed → Every Named lock → Every Is owed') → (Every Named lock → Every Named lock') → TakenTold phases flags lock olds → TakenTold phases' flags lock' news
+      pub told_enters : (flags : ℕ → ℕ) (lock lock' : List (Waiter C)) → ((seat : ℕ) → who ≢ seat → phases' seat ≡ phases seat) → times_in who lock ≡ 0 → owed_to who (olds m) ≡ 0 → flags who ≡ 1 →
+          (Every Is owed → Every Named lock → Every Is owed') → (Every Named lock → Every Named lock') → TakenTold phases flags lock (olds m) → TakenTold phases' flags lock' (news m)
       told_enters flags lock lock' others out unowed set due listed p =
-          let stay : (seat : ℕ) → who ≢ seat → Stay seat = λ seat ne. stay_same seat (there seat ne) (others seat ne) in
-          let kept = every_apart (WaiterNames phases olds) Named who lock out (λ w ne. (stay w.seat ne).1 w.via) p.listed in
+          let stay : (seat : ℕ) → who ≢ seat → Stay seat = λ seat ne. stay_same seat (stance_stays m seat ne) (others seat ne) in
+          let kept = every_apart (WaiterNames phases (olds m)) Named who lock out (λ w ne. (stay w.seat ne).1 w.via) p.listed in
           told flags lock' (λ seat clear. elim (cases_eq who seat) [
             | inl e ↦ absurd (clear (ap flags (sym e) ∙ set))
             | inr ne ↦ (stay seat ne).0 (flags seat) (p.flag seat clear)
-          ]) (every_others Was Is who (owed_in olds) (among_owed who olds ∙ unowed) (λ wake ne. (stay wake.seat ne).0 wake.value) p.owed) (λ own. due own kept) (listed kept)
+          ]) (every_others Was Is who (owed_in (olds m)) (among_owed who (olds m) ∙ unowed) (λ wake ne. (stay wake.seat ne).0 wake.value) p.owed) (λ own. due own kept) (listed kept)
 
     -- the seat's wait stays what it is, and so do the phases
-    pub same_stays : (phases : ℕ → Phase C) → NoneIs who front → waits_in walk' ≡ waits_in walk → (seat : ℕ) → Stay phases phases seat
-    same_stays phases apart same seat = stay_same phases phases seat (stances apart same seat) refl
+    pub same_stays : (phases : ℕ → Phase C) → waits_in walk' ≡ waits_in walk → (seat : ℕ) → Stay phases phases seat
+    same_stays phases same seat = stay_same phases phases seat (stance_same m same seat) refl
 
-    pub left_stays : (phases phases' : ℕ → Phase C) → NoneIs who front → waits_in walk' ≡ None → ((seat : ℕ) → who ≢ seat → phases' seat ≡ phases seat) → (seat : ℕ) → Stay phases phases' seat
-    left_stays phases phases' apart none others seat = left phases phases' apart none others seat
+    -- one flag is set, to what is so of its seat if that clears it
+    told_sets : (phases : ℕ → Phase C) (flags : ℕ → ℕ) (lock : List (Waiter C)) (at value : ℕ) → waits_in walk' ≡ waits_in walk → let Is = WakeTells phases (news m) in
+        (Every Is (owed_in (olds m)) → value ≢ 1 → IsToldSo (waits_in (walk_at at (news m))) (phases at) value) → (Every Is owed → Every Is owed') → TakenTold phases flags lock (olds m) → TakenTold phases (flags_with flags at value) lock (news m)
+    told_sets phases flags lock at value same so due p =
+        let stay = same_stays phases same in
+        let kept = every_stay phases phases stay (owed_in (olds m)) p.owed in
+        told phases phases (flags_with flags at value) lock (λ seat clear. elim (cases_eq at seat) [
+          | inl e ↦ let set : flags_with flags at value seat ≡ value = ap (λ b. cond b value (flags seat)) (eq-eqb at seat e) in
+              subst (λ n. IsToldSo (waits_in (walk_at seat (news m))) (phases seat) n) (sym set) (subst (λ s. IsToldSo (waits_in (walk_at s (news m))) (phases s) value) e (so kept (λ one. clear (set ∙ one))))
+          | inr ne ↦ let as_it_was : flags_with flags at value seat ≡ flags seat = ap (λ b. cond b value (flags seat)) (ne_eqb at seat ne) in
+              subst (λ n. IsToldSo (waits_in (walk_at seat (news m))) (phases seat) n) (sym as_it_was) ((stay seat).0 (flags seat) (p.flag seat (λ e. clear (as_it_was ∙ e))))
+        ]) kept due (every_named phases phases stay lock p.listed)
 
     -- a seat sets its flag
-    pub told_arms : (phases : ℕ → Phase C) (flags : ℕ → ℕ) (lock : List (Waiter C)) → NoneIs who front → waits_in walk' ≡ waits_in walk → owed' ≡ owed → TakenTold phases flags lock olds → TakenTold phases (flags_with flags who 1) lock news
-    told_arms phases flags lock apart same owes p =
-        let stay = same_stays phases apart same in
-        told phases phases (flags_with flags who 1) lock (λ seat clear. elim (cases_eq who seat) [
-          | inl e ↦ absurd (clear (ap (λ b. cond b 1 (flags seat)) (eq-eqb who seat e)))
-          | inr ne ↦ let as_it_was : flags_with flags who 1 seat ≡ flags seat = ap (λ b. cond b 1 (flags seat)) (ne_eqb who seat ne) in
-              subst (λ n. IsToldSo (waits_in (walk_at seat news)) (phases seat) n) (sym as_it_was) ((stay seat).0 (flags seat) (p.flag seat (λ e. clear (as_it_was ∙ e))))
-        ]) (every_stay phases phases stay (owed_in olds) p.owed) (λ own. subst (Every (WakeTells phases news)) (sym owes) own) (every_named phases phases stay lock p.listed)
+    pub told_arms : (phases : ℕ → Phase C) (flags : ℕ → ℕ) (lock : List (Waiter C)) → waits_in walk' ≡ waits_in walk → owed' ≡ owed → TakenTold phases flags lock (olds m) → TakenTold phases (flags_with flags who 1) lock (news m)
+    told_arms phases flags lock same owes p = told_sets phases flags lock who 1 same (λ kept clear. absurd (clear refl)) (subst (Every (WakeTells phases (news m))) (sym owes)) p
 
     -- a wake is paid: its seat finds what it tells
-    pub told_pays : (phases : ℕ → Phase C) (flags : ℕ → ℕ) (lock : List (Waiter C)) (wake : Owed) → NoneIs who front → waits_in walk' ≡ waits_in walk → owed ≡ wake ∷ owed' → TakenTold phases flags lock olds → TakenTold phases (flags_with flags wake.seat wake.value) lock news
-    told_pays phases flags lock wake apart same owes p =
-        let stay = same_stays phases apart same in
-        let kept = every_stay phases phases stay (owed_in olds) p.owed in
-        let cut = every_cut (WakeTells phases news) (owed_in front) (owed ++ owed_in back) (subst (Every (WakeTells phases news)) (owed_at front (view_of who walk held owed) back) kept) in
-        let own = subst (Every (WakeTells phases news)) owes (every_cut (WakeTells phases news) owed (owed_in back) cut.1).0 in
-        told phases phases (flags_with flags wake.seat wake.value) lock (λ seat clear. elim (cases_eq wake.seat seat) [
-          | inl e ↦ let set : flags_with flags wake.seat wake.value seat ≡ wake.value = ap (λ b. cond b wake.value (flags seat)) (eq-eqb wake.seat seat e) in
-              subst (λ n. IsToldSo (waits_in (walk_at seat news)) (phases seat) n) (sym set) (subst (λ s. IsToldSo (waits_in (walk_at s news)) (phases s) wake.value) e own.0)
-          | inr ne ↦ let as_it_was : flags_with flags wake.seat wake.value seat ≡ flags seat = ap (λ b. cond b wake.value (flags seat)) (ne_eqb wake.seat seat ne) in
-              subst (λ n. IsToldSo (waits_in (walk_at seat news)) (phases seat) n) (sym as_it_was) ((stay seat).0 (flags seat) (p.flag seat (λ e. clear (as_it_was ∙ e))))
-        ]) kept (λ all. (subst (Every (WakeTells phases news)) owes all).1) (every_named phases phases stay lock p.listed)
+    pub told_pays : (phases : ℕ → Phase C) (flags : ℕ → ℕ) (lock : List (Waiter C)) (wake : Owed) → waits_in walk' ≡ waits_in walk → owed ≡ wake ∷ owed' → TakenTold phases flags lock (olds m) → TakenTold phases (flags_with flags wake.seat wake.value) lock (news m)
+    told_pays phases flags lock wake same owes p =
+        let Is : Owed → Type 0 = WakeTells phases (news m) in
+        let own : Every Is (owed_in (olds m)) → Every Is owed = λ kept. (every_cut Is owed (owed_in back) (every_cut Is (owed_in front) (owed ++ owed_in back) (subst (Every Is) (owed_at front (view_of who walk held owed) back) kept)).1).0 in
+        told_sets phases flags lock wake.seat wake.value same (λ kept clear. (subst (Every Is) owes (own kept)).0) (λ all. (subst (Every Is) owes all).1) p
 
     -- A call takes those waiters from the list of a variable: they are moved to the lock list, or owed wakes.
-    module _ (phases : ℕ → Phase C) (k : ℕ) (took : List (Waiter C)) (low : k < 4) (fits : Every (VariableWaiterFits phases olds k) took) (apart : NoneIs who front) (same : waits_in walk' ≡ waits_in walk) where
+    module _ (phases : ℕ → Phase C) (k : ℕ) (took : List (Waiter C)) (low : k < 4) (fits : Every (VariableWaiterFits phases (olds m) k) took) (same : waits_in walk' ≡ waits_in walk) where
       abbrev woken : ℕ → Phase C
       woken = woken_phases k (taken_set took) phases
 
       waiting : (seat : ℕ) → is_in (taken_set took) seat ≡ true → (mode : Mode) × WaitsAmong k mode (phases seat)
-      waiting seat is = stands_waiting k phases took seat (waits_of phases olds k took fits) (in_stands took seat is)
+      waiting seat is = stands_waiting k phases took seat (waits_of phases (olds m) k took fits) (in_stands took seat is)
 
       -- who was woken already waits no more
       still_woken : (seat j : ℕ) (mode : Mode) → phases seat ≡ Woken j mode → woken seat ≡ Woken j mode
@@ -203,37 +172,37 @@ module _ {C : Type 0} {N : ℕ} where
 
       stay : (seat : ℕ) → Stay phases woken seat
       stay seat = (
-        λ value told. subst (λ s. IsToldSo s (woken seat) value) (sym (stances apart same seat)) (woken_told (waits_in (walk_at seat olds)) seat value told),
-        λ via named. subst (λ s. IsNamed s (woken seat) via) (sym (stances apart same seat)) (woken_named (waits_in (walk_at seat olds)) seat via named),
+        λ value told. subst (λ s. IsToldSo s (woken seat) value) (sym (stance_same m same seat)) (woken_told (waits_in (walk_at seat (olds m))) seat value told),
+        λ via named. subst (λ s. IsNamed s (woken seat) via) (sym (stance_same m same seat)) (woken_named (waits_in (walk_at seat (olds m))) seat via named),
       )
 
       -- a waiter that is taken waits for the variable, or for others with it, and is woken now
       abbrev IsWoken : Waiter C → Type 0
-      IsWoken w = (among : Variables) × (waits_in (walk_at w.seat news) ≡ Some (record { mode = w.mode; on = Some (OnVariables among); tries = 0 })) × (has among k ≡ true) × (woken w.seat ≡ Woken k w.mode) × (w.via ≡ Some k)
+      IsWoken w = (among : Variables) × (waits_in (walk_at w.seat (news m)) ≡ Some (record { mode = w.mode; on = Some (OnVariables among); tries = 0 })) × (has among k ≡ true) × (woken w.seat ≡ Woken k w.mode) × (w.via ≡ Some k)
 
-      each_woken : (ws : List (Waiter C)) → ((seat : ℕ) → 1 ≤ times_in seat ws → is_in (taken_set took) seat ≡ true) → Every (VariableWaiterFits phases olds k) ws → Every IsWoken ws
+      each_woken : (ws : List (Waiter C)) → ((seat : ℕ) → 1 ≤ times_in seat ws → is_in (taken_set took) seat ≡ true) → Every (VariableWaiterFits phases (olds m) k) ws → Every IsWoken ws
       each_woken [] is p = tt
       each_woken (w ∷ ws) is p =
           let one = own_times w ws in
           let now : woken w.seat ≡ Woken k w.mode = ap (λ b. cond b (woken_phase k (phases w.seat)) (phases w.seat)) (is w.seat (omega (arith, one))) ∙ ap (woken_phase k) p.0.waits in (
-            (p.0.among, stances apart same w.seat ∙ p.0.stands, p.0.is_among, now, p.0.names),
+            (p.0.among, stance_same m same w.seat ∙ p.0.stands, p.0.is_among, now, p.0.names),
             each_woken ws (λ seat here. is seat (omega (arith, here, times_in-cons seat w ws))) p.1,
           )
 
-      owed_told : (ws : List (Waiter C)) → Every IsWoken ws → Every (WakeTells woken news) (wakes_of k ws)
+      owed_told : (ws : List (Waiter C)) → Every IsWoken ws → Every (WakeTells woken (news m)) (wakes_of k ws)
       owed_told [] p = tt
       owed_told (w ∷ ws) p = (subst (λ (x : Option (Stance C)). IsToldSo x (woken w.seat) (2 + k)) (sym p.0.1) (k, p.0.2, p.0.3, low, inl refl), owed_told ws p.1)
 
-      moved_named : (ws : List (Waiter C)) → Every IsWoken ws → Every (WaiterNames woken news) ws
+      moved_named : (ws : List (Waiter C)) → Every IsWoken ws → Every (WaiterNames woken (news m)) ws
       moved_named [] p = tt
       moved_named (w ∷ ws) p = (subst (λ (x : Option (Stance C)). IsNamed x (woken w.seat) w.via) (sym p.0.1) (k, p.0.2, p.0.3, low, p.0.4), moved_named ws p.1)
 
-      pub told_wakes : (flags : ℕ → ℕ) (lock lock' : List (Waiter C)) → ((lock' ≡ lock ++ took) × (owed' ≡ [])) ⊎ ((lock' ≡ lock) × (owed' ≡ wakes_of k took)) → TakenTold phases flags lock olds → TakenTold woken flags lock' news
+      pub told_wakes : (flags : ℕ → ℕ) (lock lock' : List (Waiter C)) → ((lock' ≡ lock ++ took) × (owed' ≡ [])) ⊎ ((lock' ≡ lock) × (owed' ≡ wakes_of k took)) → TakenTold phases flags lock (olds m) → TakenTold woken flags lock' (news m)
       told_wakes flags lock lock' ways p =
           let each = each_woken took (in_list took) fits in
           told_stays phases woken flags lock lock' stay
-          (λ own listed. elim ways [ inl move ↦ subst (Every (WakeTells woken news)) (sym move.1) tt | inr owe ↦ subst (Every (WakeTells woken news)) (sym owe.1) (owed_told took each) ])
+          (λ own listed. elim ways [ inl move ↦ subst (Every (WakeTells woken (news m))) (sym move.1) tt | inr owe ↦ subst (Every (WakeTells woken (news m))) (sym owe.1) (owed_told took each) ])
           (λ listed. elim ways [
-            | inl move ↦ subst (Every (WaiterNames woken news)) (sym move.0) (every-append (WaiterNames woken news) lock took listed (moved_named took each))
-            | inr owe ↦ subst (Every (WaiterNames woken news)) (sym owe.0) listed
+            | inl move ↦ subst (Every (WaiterNames woken (news m))) (sym move.0) (every-append (WaiterNames woken (news m)) lock took listed (moved_named took each))
+            | inr owe ↦ subst (Every (WaiterNames woken (news m))) (sym owe.0) listed
           ]) p

@@ -1,13 +1,14 @@
 -- What the steps leave of the lists of the variables.
-use Rattle.std.proofs.Common.{Bool, List, None, Option, Some, [], ap, arith, cond, eq-eqb, eqb, false, inl, inr, length, ne_eqb, not, refl, subst, sum_by, sym, true, ℕ, ◌++◌, ◌<◌, ◌∙◌, ◌∷◌, ◌≡◌, ◌≢◌, ◌≤◌}
-use Rattle.ns_word.proofs.Prelude.{AreVariables, AreWaiting, Cv, Every, Held, IsOrderly, Lists, Mode, NoneIs, OnVariables, Only, Owed, Phase, SeatView, Seats, Stance, Subject, VariableWaiterFits, Variables, VariablesTell, WaitFor, Waiter, Waiting, Walk, Write, below_in, cases_Bool, cases_eq}
-use Rattle.ns_word.proofs.Prelude.{cvs_without, every_filter, every_join, gone_outside, has, is_in, is_waiting, once_in, one_if, outside, taken_set, times, times_at_most, times_in, times_in-append, times_in-cons, times_outside, waiters_of, waits_in, walk_at, without_in, woken_phase, woken_phases}
+use Rattle.std.proofs.Common.{Bool, List, None, Option, Some, [], ap, arith, cond, eq-eqb, eqb, false, inl, inr, length, ne_eqb, not, refl, subst, sum_by, sym, true, ℕ, ◌<◌, ◌∙◌, ◌∷◌, ◌≡◌, ◌≢◌, ◌≤◌}
+use Rattle.ns_word.proofs.Prelude.{AreVariables, AreWaiting, Cv, Every, IsOrderly, Lists, Mode, OnVariables, Only, Phase, SeatView, Seats, Stance, Subject, VariableWaiterFits, Variables, VariablesTell, WaitFor, Waiter, Waiting, Write, below_in, cases_Bool, cases_eq}
+use Rattle.ns_word.proofs.Prelude.{cvs_without, every_filter, every_join, gone_outside, has, is_in, is_waiting, once_in, one_if, outside, taken_set, times, times_at_most, times_in, times_in-append, times_in-cons, times_outside, waiters_of, waits_in, walk_at, with_lock, without_in, woken_phase}
+use Rattle.ns_word.proofs.Prelude.{woken_phases}
 use Rattle.ns_model.specs.declared.phase.Phase.TheVariants.{Idle}
 use Rattle.ns_word.proofs.Enters.{HasEntered, one_has, stander, times_other, variable_low}
 use Rattle.ns_word.proofs.Listed.{listed_without}
 use Rattle.ns_word.proofs.CountsIn.{some_list, cvs_left, left_at, outside_same, taken_at}
 use Rattle.ns_word.proofs.Scans.{times_without, times_others}
-use Rattle.ns_word.proofs.Views.{view_of, walk_here, walk_there}
+use Rattle.ns_word.proofs.Views.{Move, news, olds, stance_same, stance_stays, walk_is}
 
 abbrev CvOf : {C : Type 0} → Lists C → ℕ → List (Waiter C)
 CvOf lists k = waiters_of lists (Cv k)
@@ -33,62 +34,49 @@ module _ {C : Type 0} {N : ℕ} where
         every_moves phases phases' views views' k ws (λ seat some. same seat (omega (arith, times_in-cons seat w ws, some))) p.1,
       )
 
-  module _ (front : List (SeatView C N)) (who : ℕ) (walk : Option (Walk C)) (held : Option (Held C N)) (owed : List Owed) (walk' : Option (Walk C)) (held' : Option (Held C N)) (owed' : List Owed) (back : List (SeatView C N)) where
-    abbrev olds : List (SeatView C N)
-    olds = front ++ view_of who walk held owed ∷ back
+  module _ (m : Move C N) where
+    open m use {who, walk, walk'}
 
-    abbrev news : List (SeatView C N)
-    news = front ++ view_of who walk' held' owed' ∷ back
-
-    there : (seat : ℕ) → who ≢ seat → waits_in (walk_at seat news) ≡ waits_in (walk_at seat olds)
-    there seat ne = ap waits_in (walk_there seat front (view_of who walk held owed) (view_of who walk' held' owed') back ne refl)
-
-    here : NoneIs who front → waits_in walk' ≡ waits_in walk → waits_in (walk_at who news) ≡ waits_in (walk_at who olds)
-    here apart same = ap waits_in (walk_here front (view_of who walk' held' owed') back apart) ∙ same ∙ sym (ap waits_in (walk_here front (view_of who walk held owed) back apart))
+    -- who stands in the list of a variable is another seat, where this one stands in none
+    other_at : (lists : Lists C) (k seat : ℕ) → length lists.cvs ≡ 4 → k < 4 → times who lists ≡ 0 → 1 ≤ times_in seat (CvOf lists k) → who ≢ seat
+    other_at lists k seat four low none some e = let zero : times seat lists ≡ 0 = subst (λ s. times s lists ≡ 0) e none in absurd (omega (arith, times_at_most lists (Cv k) seat four low, zero, some))
 
     -- the seat waits as before, and so does every other, by the same history
-    pub tell_same : (phases : ℕ → Phase C) (lists lists' : Lists C) → NoneIs who front → lists'.cvs ≡ lists.cvs → waits_in walk' ≡ waits_in walk → VariablesTell phases lists olds → VariablesTell phases lists' news
-    tell_same phases lists lists' apart cvs same p =
-        let at_k : (k : ℕ) → CvOf lists' k ≡ CvOf lists k = λ k. ap (λ (c : List (List (Waiter C))). waiters_of (record { lock = lists.lock; cvs = c }) (Cv k)) cvs in
-        record {
-          own = λ k low. subst (λ ws. Every (VariableWaiterFits phases news k) ws) (sym (at_k k))
-              (every_moves phases phases olds news k (CvOf lists k) (λ seat some. elim (cases_eq who seat) [ inl e ↦ (subst (λ s. waits_in (walk_at s news) ≡ waits_in (walk_at s olds)) e (here apart same), refl) | inr ne ↦ (there seat ne, refl) ]) (p.own k low));
-          all = λ vs k seat mode e is. let was = p.all vs k seat mode e is in (was.0, subst (λ ws. 1 ≤ times_in seat ws) (sym (at_k k)) was.1);
-          some = p.some;
-        }
+    pub tell_same : (phases : ℕ → Phase C) (lists : Lists C) (lock : List (Waiter C)) → waits_in walk' ≡ waits_in walk → VariablesTell phases lists (olds m) → VariablesTell phases (with_lock lists lock) (news m)
+    tell_same phases lists lock same p = record { own = λ k low. every_moves phases phases (olds m) (news m) k (CvOf lists k) (λ seat some. (stance_same m same seat, refl)) (p.own k low); all = p.all; some = p.some }
+
+    -- the others wait and stand in the lists as before, and the seat waits for none
+    tell_others : (phases phases' : ℕ → Phase C) (lists lists' : Lists C) → ((seat : ℕ) → who ≢ seat → phases' seat ≡ phases seat) → ((vs : Variables) (mode : Mode) → phases' who ≡ Waiting vs mode → ⊥) →
+        ((k : ℕ) → k < 4 → Every (VariableWaiterFits phases' (news m) k) (CvOf lists' k)) → ((k seat : ℕ) → k < 4 → who ≢ seat → times_in seat (CvOf lists' k) ≡ times_in seat (CvOf lists k)) →
+        VariablesTell phases lists (olds m) → VariablesTell phases' lists' (news m)
+    tell_others phases phases' lists lists' others idle own kept p = record {
+      own = own;
+      all = λ vs k seat mode e is. elim (cases_eq who seat) [
+        | inl same ↦ absurd (idle vs mode (ap phases' same ∙ e))
+        | inr ne ↦ let was = p.all vs k seat mode (sym (others seat ne) ∙ e) is in (was.0, omega (arith, was.1, kept k seat was.0 ne))
+      ];
+      some = λ vs seat mode e. elim (cases_eq who seat) [ inl same ↦ absurd (idle vs mode (ap phases' same ∙ e)) | inr ne ↦ p.some vs seat mode (sym (others seat ne) ∙ e) ];
+    }
 
     -- the seat stands in no variable's list, and waits for none after it either
-    pub tell_moves : (phases phases' : ℕ → Phase C) (lists lists' : Lists C) → length lists.cvs ≡ 4 → lists'.cvs ≡ lists.cvs → times who lists ≡ 0 → ((seat : ℕ) → who ≢ seat → phases' seat ≡ phases seat) → ((vs : Variables) (mode : Mode) → phases' who ≡ Waiting vs mode → ⊥) →
-        VariablesTell phases lists olds → VariablesTell phases' lists' news
-    tell_moves phases phases' lists lists' four cvs none others idle p =
-        let at_k : (k : ℕ) → CvOf lists' k ≡ CvOf lists k = λ k. ap (λ (c : List (List (Waiter C))). waiters_of (record { lock = lists.lock; cvs = c }) (Cv k)) cvs in
-        record {
-          own = λ k low. subst (λ ws. Every (VariableWaiterFits phases' news k) ws) (sym (at_k k))
-              (every_moves phases phases' olds news k (CvOf lists k)
-              (λ seat some. let other : who ≢ seat = λ e. let most = times_at_most lists (Cv k) seat four low in let zero : times seat lists ≡ 0 = subst (λ s. times s lists ≡ 0) e none in absurd (omega (arith, most, zero, some)) in (there seat other, others seat other)) (p.own k low));
-          all = λ vs k seat mode e is. elim (cases_eq who seat) [
-            | inl same ↦ absurd (idle vs mode (subst (λ s. phases' s ≡ Waiting vs mode) (sym same) e))
-            | inr ne ↦ let was = p.all vs k seat mode (sym (others seat ne) ∙ e) is in (was.0, subst (λ ws. 1 ≤ times_in seat ws) (sym (at_k k)) was.1)
-          ];
-          some = λ vs seat mode e. elim (cases_eq who seat) [
-            | inl same ↦ absurd (idle vs mode (subst (λ s. phases' s ≡ Waiting vs mode) (sym same) e))
-            | inr ne ↦ p.some vs seat mode (sym (others seat ne) ∙ e)
-          ];
-        }
+    pub tell_moves : (phases phases' : ℕ → Phase C) (lists : Lists C) (lock : List (Waiter C)) → length lists.cvs ≡ 4 → times who lists ≡ 0 → ((seat : ℕ) → who ≢ seat → phases' seat ≡ phases seat) → ((vs : Variables) (mode : Mode) → phases' who ≡ Waiting vs mode → ⊥) →
+        VariablesTell phases lists (olds m) → VariablesTell phases' (with_lock lists lock) (news m)
+    tell_moves phases phases' lists lock four none others idle p = tell_others phases phases' lists (with_lock lists lock) others idle
+        (λ k low. every_moves phases phases' (olds m) (news m) k (CvOf lists k) (λ seat some. let other = other_at lists k seat four low none some in (stance_stays m seat other, others seat other)) (p.own k low)) (λ k seat low ne. refl) p
 
     -- the seat goes to the back of the lists of its variables
-    pub tell_enters : (phases phases' : ℕ → Phase C) (lists lists' : Lists C) (variables : Variables) (mode : Mode) → NoneIs who front → length lists.cvs ≡ 4 → AreVariables variables → times who lists ≡ 0 → HasEntered variables who mode lists lists' →
+    pub tell_enters : (phases phases' : ℕ → Phase C) (lists lists' : Lists C) (variables : Variables) (mode : Mode) → length lists.cvs ≡ 4 → AreVariables variables → times who lists ≡ 0 → HasEntered variables who mode lists lists' →
         waits_in walk' ≡ Some (record { mode = mode; on = Some (OnVariables variables); tries = 0 }) → phases' who ≡ Waiting variables mode → ((seat : ℕ) → who ≢ seat → phases' seat ≡ phases seat) →
-        VariablesTell phases lists olds → VariablesTell phases' lists' news
-    tell_enters phases phases' lists lists' variables mode apart four are none entered stance phase others p =
+        VariablesTell phases lists (olds m) → VariablesTell phases' lists' (news m)
+    tell_enters phases phases' lists lists' variables mode four are none entered stance phase others p =
         let just : (seat : ℕ) (vs : Variables) (m : Mode) → phases' seat ≡ Waiting vs m → who ≡ seat → vs ≡ variables = λ seat vs m e same. let is : Waiting vs m ≡ Waiting variables mode = sym e ∙ subst (λ s. phases' s ≡ Waiting variables mode) same phase in cc in
-        let moved : (k : ℕ) → k < 4 → Every (VariableWaiterFits phases' news k) (CvOf lists k) = λ k few. every_moves phases phases' olds news k (CvOf lists k)
-        (λ seat some. let other : who ≢ seat = λ e. let most = times_at_most lists (Cv k) seat four few in let zero : times seat lists ≡ 0 = subst (λ s. times s lists ≡ 0) e none in absurd (omega (arith, most, zero, some)) in (there seat other, others seat other)) (p.own k few) in
+        let moved : (k : ℕ) → k < 4 → Every (VariableWaiterFits phases' (news m) k) (CvOf lists k) = λ k few. every_moves phases phases' (olds m) (news m) k (CvOf lists k)
+        (λ seat some. let other = other_at lists k seat four few none some in (stance_stays m seat other, others seat other)) (p.own k few) in
         record {
           own = λ k few. elim (cases_Bool (has variables k)) [
-            | inl is ↦ subst (λ ws. Every (VariableWaiterFits phases' news k) ws) (sym (entered.into k few is)) (every_join (VariableWaiterFits phases' news k) (CvOf lists k) (stander who mode k) [] (moved k few)
-                (record { among = variables; stands = ap waits_in (walk_here front (view_of who walk' held' owed') back apart) ∙ stance; waits = phase; is_among = is; plain = refl; untried = refl; names = refl }) tt)
-            | inr lacks ↦ subst (λ ws. Every (VariableWaiterFits phases' news k) ws) (sym (entered.others k few lacks)) (moved k few)
+            | inl is ↦ subst (λ ws. Every (VariableWaiterFits phases' (news m) k) ws) (sym (entered.into k few is)) (every_join (VariableWaiterFits phases' (news m) k) (CvOf lists k) (stander who mode k) [] (moved k few)
+                (record { among = variables; stands = ap waits_in (walk_is m) ∙ stance; waits = phase; is_among = is; plain = refl; untried = refl; names = refl }) tt)
+            | inr lacks ↦ subst (λ ws. Every (VariableWaiterFits phases' (news m) k) ws) (sym (entered.others k few lacks)) (moved k few)
           ];
           all = λ vs k seat m e has_k. elim (cases_eq who seat) [
             | inl same ↦
@@ -106,21 +94,13 @@ module _ {C : Type 0} {N : ℕ} where
 
     -- the seat takes itself out of the lists of variables, and waits for none after that
     pub tell_leaves : (phases phases' : ℕ → Phase C) (lists : Lists C) → length lists.cvs ≡ 4 → ((seat : ℕ) → who ≢ seat → phases' seat ≡ phases seat) → ((vs : Variables) (mode : Mode) → phases' who ≡ Waiting vs mode → ⊥) →
-        VariablesTell phases lists olds → VariablesTell phases' (cvs_left who lists) news
-    tell_leaves phases phases' lists four others idle p = record {
-      own = λ k few. subst (λ ws. Every (VariableWaiterFits phases' news k) ws) (sym (left_at who k lists four few))
-          (every_moves phases phases' olds news k (without_in who (CvOf lists k))
-          (λ seat some. let other : who ≢ seat = λ same. let zero : times_in seat (without_in who (CvOf lists k)) ≡ 0 = subst (λ s. times_in s (without_in who (CvOf lists k)) ≡ 0) same (times_without who (CvOf lists k)) in absurd (omega (arith, zero, some)) in (there seat other, others seat other))
-          (listed_without (VariableWaiterFits phases olds k) who (CvOf lists k) (p.own k few)));
-      all = λ vs k seat m e is. elim (cases_eq who seat) [
-        | inl same ↦ absurd (idle vs m (subst (λ s. phases' s ≡ Waiting vs m) (sym same) e))
-        | inr ne ↦ let was = p.all vs k seat m (sym (others seat ne) ∙ e) is in (was.0, subst (λ ws. 1 ≤ times_in seat ws) (sym (left_at who k lists four was.0)) (rw (times_others seat who (CvOf lists k) ne) was.1))
-      ];
-      some = λ vs seat mode e. elim (cases_eq who seat) [
-        | inl same ↦ absurd (idle vs mode (subst (λ s. phases' s ≡ Waiting vs mode) (sym same) e))
-        | inr ne ↦ p.some vs seat mode (sym (others seat ne) ∙ e)
-      ];
-    }
+        VariablesTell phases lists (olds m) → VariablesTell phases' (cvs_left who lists) (news m)
+    tell_leaves phases phases' lists four others idle p = tell_others phases phases' lists (cvs_left who lists) others idle
+        (λ k few. subst (λ ws. Every (VariableWaiterFits phases' (news m) k) ws) (sym (left_at who k lists four few))
+        (every_moves phases phases' (olds m) (news m) k (without_in who (CvOf lists k))
+        (λ seat some. let other : who ≢ seat = λ same. let zero = ap (λ s. times_in s (without_in who (CvOf lists k))) (sym same) ∙ times_without who (CvOf lists k) in absurd (omega (arith, zero, some)) in (stance_stays m seat other, others seat other))
+        (listed_without (VariableWaiterFits phases (olds m) k) who (CvOf lists k) (p.own k few))))
+        (λ k seat few ne. ap (times_in seat) (left_at who k lists four few) ∙ times_others seat who (CvOf lists k) ne) p
 
 -- the mode in which one waits
 abbrev stance_mode : {C : Type 0} → Option (Stance C) → Mode
@@ -158,15 +138,9 @@ module _ {C : Type 0} where
   still_waiting true k other vs mode e = absurd (cc)
 
 module _ {C : Type 0} {N : ℕ} where
-  -- other lists
-  pub tell_lists : (phases : ℕ → Phase C) (lists lists' : Lists C) (views : List (SeatView C N)) → lists'.cvs ≡ lists.cvs → VariablesTell phases lists views → VariablesTell phases lists' views
-  tell_lists phases lists lists' views cvs p =
-      let at_k : (k : ℕ) → CvOf lists' k ≡ CvOf lists k = λ k. ap (λ (c : List (List (Waiter C))). waiters_of (record { lock = lists.lock; cvs = c }) (Cv k)) cvs in
-      record {
-        own = λ k low. subst (λ ws. Every (VariableWaiterFits phases views k) ws) (sym (at_k k)) (p.own k low);
-        all = λ vs k seat mode e is. let was = p.all vs k seat mode e is in (was.0, subst (λ ws. 1 ≤ times_in seat ws) (sym (at_k k)) was.1);
-        some = p.some;
-      }
+  -- another lock list
+  pub tell_lists : (phases : ℕ → Phase C) (lists : Lists C) (lock : List (Waiter C)) (views : List (SeatView C N)) → VariablesTell phases lists views → VariablesTell phases (with_lock lists lock) views
+  tell_lists phases lists lock views p = record { own = p.own; all = p.all; some = p.some }
 
   pub waits_of : (phases : ℕ → Phase C) (views : List (SeatView C N)) (k : ℕ) (ws : List (Waiter C)) → Every (VariableWaiterFits phases views k) ws → WaitFor k phases ws
   waits_of phases views k [] p = tt
@@ -184,23 +158,23 @@ module _ {C : Type 0} {N : ℕ} where
     waiting_for (Waiting vs mode) k e = (vs, mode, refl, e)
     waiting_for other k e = absurd (cc)
 
-  module _ (front : List (SeatView C N)) (who : ℕ) (walk : Option (Walk C)) (held : Option (Held C N)) (owed : List Owed) (walk' : Option (Walk C)) (held' : Option (Held C N)) (owed' : List Owed) (back : List (SeatView C N)) where
+  module _ (m : Move C N) where
+    open m use {who, walk, walk'}
+
     -- those who are taken from the list of k are out of all variables' lists, and woken, and the others stay
-    pub tell_taken : (phases : ℕ → Phase C) (lists lists' : Lists C) (k : ℕ) (taken : List (Waiter C)) → length lists.cvs ≡ 4 → times who lists ≡ 0 → lists'.cvs ≡ (cvs_without (taken_set taken) lists).cvs →
-        VariablesTell phases lists (front ++ view_of who walk held owed ∷ back) →
-        VariablesTell (woken_phases k (taken_set taken) phases) lists' (front ++ view_of who walk' held' owed' ∷ back)
-    tell_taken phases lists lists' k taken four none cvs p =
+    pub tell_taken : (phases : ℕ → Phase C) (lists : Lists C) (lock : List (Waiter C)) (k : ℕ) (taken : List (Waiter C)) → length lists.cvs ≡ 4 → times who lists ≡ 0 →
+        VariablesTell phases lists (olds m) → VariablesTell (woken_phases k (taken_set taken) phases) (with_lock (cvs_without (taken_set taken) lists) lock) (news m)
+    tell_taken phases lists lock k taken four none p =
         let set = taken_set taken in
-        let at : (i : ℕ) → i < 4 → CvOf lists' i ≡ outside set (CvOf lists i) = λ i few. ap (λ (c : List (List (Waiter C))). waiters_of (record { lock = lists.lock; cvs = c }) (Cv i)) cvs ∙ taken_at set i lists four few in
-        let apart_who : (i : ℕ) → i < 4 → (seat : ℕ) → 1 ≤ times_in seat (CvOf lists i) → who ≢ seat = λ i few seat some e. let most = times_at_most lists (Cv i) seat four few in let zero : times seat lists ≡ 0 = subst (λ s. times s lists ≡ 0) e none in absurd (omega (arith, most, zero, some)) in
+        let at : (i : ℕ) → i < 4 → CvOf (cvs_without set lists) i ≡ outside set (CvOf lists i) = λ i few. taken_at set i lists four few in
         record {
-          own = λ i few. subst (λ ws. Every (VariableWaiterFits (woken_phases k set phases) (front ++ view_of who walk' held' owed' ∷ back) i) ws) (sym (at i few))
-              (every_moves phases (woken_phases k set phases) (front ++ view_of who walk held owed ∷ back) (front ++ view_of who walk' held' owed' ∷ back) i (outside set (CvOf lists i))
+          own = λ i few. subst (λ ws. Every (VariableWaiterFits (woken_phases k set phases) (news m) i) ws) (sym (at i few))
+              (every_moves phases (woken_phases k set phases) (olds m) (news m) i (outside set (CvOf lists i))
               (λ seat some. (
-                there front who walk held owed walk' held' owed' back seat (apart_who i few seat (omega (arith, some, times_outside set (CvOf lists i) seat))),
+                stance_stays m seat (other_at m lists i seat four few none (omega (arith, some, times_outside set (CvOf lists i) seat))),
                 ap (λ b. cond b (woken_phase k (phases seat)) (phases seat)) (left_out set (CvOf lists i) seat some),
               ))
-              (every_filter (VariableWaiterFits phases (front ++ view_of who walk held owed ∷ back) i) (λ w. not (is_in set w.seat)) (CvOf lists i) (p.own i few)));
+              (every_filter (VariableWaiterFits phases (olds m) i) (λ w. not (is_in set w.seat)) (CvOf lists i) (p.own i few)));
           some = λ vs seat mode e. p.some vs seat mode (still_waiting (is_in set seat) k (phases seat) vs mode e).1;
           all = λ vs i seat mode e is.
               let was = still_waiting (is_in set seat) k (phases seat) vs mode e in

@@ -2,12 +2,32 @@
 use Rattle.std.proofs.Common.{Bool, List, None, Option, Some, [], ap, arith, cond, eq-eqb, eqb, false, inl, inr, ne_eqb, not, refl, subst, sym, true, ℕ, ◌++◌, ◌+◌, ◌∙◌, ◌∷◌, ◌≡◌, ◌≢◌, ◌≤◌, ◌⊎◌}
 use Rattle.ns_word.proofs.Prelude.{Aim, AreApart, CameBack, Cond, EachFits, ForLock, ForWait, Held, InAcquire, InWait, IsEither, IsExpected, Locked, Mode, NoneIs, OnCondition, OnVariables, Opening, Outcome, Owed, Phase, SeatView, SectionFits, Standing, Subject, Truths, Variables, ViewFits, Waiting}
 use Rattle.ns_word.proofs.Prelude.{Walk, called_to, calls_from_lock, cases_eq, every_join, every_parts, expected_for, has_queues, is_queuing, is_reading, is_waiting, is_write, is_writing, one_if, owed_to, phase_before, phase_by, phase_by_wake, phase_for, phase_kept, queuers, readers, takers}
-use Rattle.ns_word.proofs.Prelude.{times_among, total_amid, variable_in, walk_at, woken_phase, writers}
+use Rattle.ns_word.proofs.Prelude.{times_among, total_amid, variable_in, waits_in, walk_at, woken_phase, writers}
 use Rattle.ns_model.specs.declared.phase.Phase.TheVariants.{Idle}
 
 -- a seat with this place, this section and these wakes to pay
 abbrev pub view_of : {C : Type 0} {N : ℕ} → ℕ → Option (Walk C) → Option (Held C N) → List Owed → SeatView C N
 view_of seat walk held owed = record { seat = seat; walk = walk; held = held; owed = owed }
+
+-- One seat's view among those of other seats, before and after a step: its place in its call, its section in hand, and the wakes that it owes.
+pub record Move (C : Type 0) (N : ℕ) : Type 0 where
+  pub front : List (SeatView C N)
+  pub who : ℕ
+  pub walk : Option (Walk C)
+  pub held : Option (Held C N)
+  pub owed : List Owed
+  pub walk' : Option (Walk C)
+  pub held' : Option (Held C N)
+  pub owed' : List Owed
+  pub back : List (SeatView C N)
+  pub apart : NoneIs who front
+
+-- all views before it, and after it
+abbrev pub olds : {C : Type 0} {N : ℕ} → Move C N → List (SeatView C N)
+olds m = m.front ++ view_of m.who m.walk m.held m.owed ∷ m.back
+
+abbrev pub news : {C : Type 0} {N : ℕ} → Move C N → List (SeatView C N)
+news m = m.front ++ view_of m.who m.walk' m.held' m.owed' ∷ m.back
 
 one_of : (b : Bool) → cond b 1 0 + cond (not b) 1 0 ≡ 1
 one_of true = refl
@@ -91,6 +111,28 @@ module _ {C : Type 0} {N : ℕ} where
       walk_at seat (front ++ next ∷ back) ≡ walk_at seat (front ++ view ∷ back)
   walk_there seat [] view next back ne e = rw (ne_eqb view.seat seat ne) (rw (ne_eqb next.seat seat (λ f. ne (sym e ∙ f))) refl)
   walk_there seat (u ∷ front) view next back ne e = ap (λ w. cond (eqb u.seat seat) u.walk w) (walk_there seat front view next back ne e)
+
+  module _ (m : Move C N) where
+    open m use {front, who, walk, held, owed, walk', held', owed', back, apart}
+
+    pub walk_was : walk_at who (olds m) ≡ walk
+    walk_was = walk_here front (view_of who walk held owed) back apart
+
+    pub walk_is : walk_at who (news m) ≡ walk'
+    walk_is = walk_here front (view_of who walk' held' owed') back apart
+
+    pub walk_stays : (seat : ℕ) → who ≢ seat → walk_at seat (news m) ≡ walk_at seat (olds m)
+    walk_stays seat ne = walk_there seat front (view_of who walk held owed) (view_of who walk' held' owed') back ne refl
+
+    -- how a seat waits: another as before, and each where the seat itself does
+    pub stance_stays : (seat : ℕ) → who ≢ seat → waits_in (walk_at seat (news m)) ≡ waits_in (walk_at seat (olds m))
+    stance_stays seat ne = ap waits_in (walk_stays seat ne)
+
+    pub stance_same : waits_in walk' ≡ waits_in walk → (seat : ℕ) → waits_in (walk_at seat (news m)) ≡ waits_in (walk_at seat (olds m))
+    stance_same same seat = elim (cases_eq who seat) [
+      | inl e ↦ subst (λ s. waits_in (walk_at s (news m)) ≡ waits_in (walk_at s (olds m))) e (ap waits_in walk_is ∙ same ∙ sym (ap waits_in walk_was))
+      | inr ne ↦ stance_stays seat ne
+    ]
 
   -- ---- each
   module _ (truths : Truths C) (seats : ℕ) where
