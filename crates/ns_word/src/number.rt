@@ -105,7 +105,11 @@ impl LockWord {
     {
         unpacked(self.number)
     }
+}
 
+/// The parts of the word.
+#[tactic(auto, unfolding(crate::specs::Codec::word_of))]
+impl LockWord {
     /// How many seats hold the lock in read mode.
     #[inline(always)]
     fn readers(self) -> u64
@@ -177,7 +181,9 @@ impl LockWord {
     {
         is_set(self.number, LONG)
     }
+}
 
+impl LockWord {
     /// The word with this bit so.
     #[inline(always)]
     fn with(self, bit: Bit, set: bool) -> LockWord
