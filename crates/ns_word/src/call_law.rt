@@ -50,11 +50,13 @@ ghost use Rattle.ns_word.specs.Words.{is_woken, may_acquire, tries_of};
 use ns_model::condition::Condition;
 
 /// No step of a call changes what it was asked to do: its mode, cell, value, wait or variable.
+#[tactic(auto, using(crate::proofs::Asked::asked_stays))]
 pub fn calls_stay_what_they_were_asked<C: Condition<N>, const N: usize>()
     ensures { (walk next : Walk C) (found : Found) → walk_after (got_of N walk found) ≡ Some next → asked_of next ≡ asked_of walk }
 {}
 
 /// A call has changed nothing and committed nothing as it begins.
+#[tactic(auto, using(crate::proofs::Courses::begins_unchanged))]
 pub fn calls_begin_with_nothing_done<C: Condition<N>, const N: usize>()
     ensures { (seat : ℕ) (held : Option (Held C N)) (walk : Walk C) → IsFirst N walk → SoFar C.means seat (course_from held) walk held }
 {}
@@ -70,6 +72,7 @@ pub fn steps_take_their_call_on<C: Condition<N>, const N: usize>()
 {}
 
 /// A seat whose call is over owes nobody a wake.
+#[tactic(auto, using(crate::proofs::Calls::over_owes_nothing))]
 pub fn a_call_that_is_over_owes_nothing<C: Condition<N>, const N: usize>()
     ensures { (seats : ℕ) (history : List (Event C N)) (s : LockState C N) (at : ℕ) (view : SeatView C N) →
         IsLawful C.means seats history s → slice_get s.views at ≡ Some view → view.walk ≡ None → view.owed ≡ [] }
@@ -87,6 +90,7 @@ pub fn wakes_take_whom_the_rule_takes<C: Condition<N>, const N: usize>()
 {}
 
 /// A look goes by what may end the wait that was asked, and knows whether that has come back.
+#[tactic(auto, using(crate::proofs::Calls::looks_by_asked))]
 pub fn looks_are_by_the_limits_asked<C: Condition<N>, const N: usize>()
     ensures { (walk : Walk C) (limits : Limits) (again : Bool) → want_of walk ≡ Look limits again →
         (wait : Wait C) × (asked_of walk ≡ Await wait) × (wait.limits ≡ limits) × (again ≡ has_come_back walk) }
@@ -102,6 +106,7 @@ pub fn limited_waits_look_while_they_wait<C: Condition<N>, const N: usize>()
 /// Only who has found in its flag that it was taken from the lock list acquires as woken, by a value of 0
 /// or above 5: not who has left a list by itself, and not who was taken from a variable's list
 /// (`wakes_tell_where_they_come_from`).
+#[tactic(auto, using(crate::proofs::Calls::woken_was_called))]
 pub fn only_the_called_acquire_as_woken<C: Condition<N>, const N: usize>()
     ensures { (walk : Walk C) (found : Found) → was_woken (walk_after (got_of N walk found)) ≡ true →
         (was_woken (Some walk) ≡ true) ⊎ ((value : ℕ) × (want_of walk ≡ LoadFlag) × (found ≡ Flag value) × ((value ≡ 0) ⊎ (5 < value))) }
@@ -109,6 +114,7 @@ pub fn only_the_called_acquire_as_woken<C: Condition<N>, const N: usize>()
 
 /// A wake that is owed to one that was taken from the lock list stores what tells of that, and one that
 /// is owed to one that was taken from the lists of variables what doesn't; neither stores 1.
+#[tactic(auto, using(crate::proofs::Calls::owed_tells))]
 pub fn wakes_tell_where_they_come_from<C: Condition<N>, const N: usize>()
     ensures { (seats : ℕ) (history : List (Event C N)) (s : LockState C N) (at : ℕ) (view : SeatView C N) →
         IsLawful C.means seats history s → slice_get s.views at ≡ Some view → Every (Tells (calls_from_lock view.walk)) view.owed }
@@ -125,12 +131,14 @@ pub fn the_taken_are_told_what_is_so<C: Condition<N>, const N: usize>()
 
 /// Who pays a wake pays the first that it owes: it stores what that tells into the flag of that seat, and
 /// owes the others still.
+#[tactic(auto, using(crate::proofs::Paid::pays_first))]
 pub fn wakes_are_paid_as_owed<C: Condition<N>, const N: usize>()
     ensures { (old new : LockState C N) (view : SeatView C N) (found : Found) (commits : List (Event C N)) (step : Step C.means old view found new commits) → want_of step.walk ≡ PayWake →
         (wake : Owed) × (view.owed ≡ wake ∷ step.owed) × (new.flags wake.seat ≡ wake.value) }
 {}
 
 /// Who finds its flag cleared goes to acquire: as woken where it is 0 or above 5, else fresh.
+#[tactic(auto, using(crate::proofs::Wakings::woken_acquires))]
 pub fn who_was_woken_goes_to_acquire<C: Condition<N>, const N: usize>()
     ensures { (walk : Walk C) (flag : ℕ) → want_of walk ≡ LoadFlag → flag ≢ 1 →
         (aim : Aim C) × (arrival : Arrival) × (got_of N walk (Flag flag) ≡ On (InAcquire aim (AcquireLoad arrival))) × (is_woken arrival ≡ ((flag == 0) || nat_lt 5 flag)) }
@@ -138,6 +146,7 @@ pub fn who_was_woken_goes_to_acquire<C: Condition<N>, const N: usize>()
 
 /// Who waits for the lock remembers how often it has failed: it waits with the tries with which it
 /// has queued, and is woken with those.
+#[tactic(auto, using(crate::proofs::Wakings::tries_kept))]
 pub fn failed_tries_are_remembered<C: Condition<N>, const N: usize>()
     ensures queues { (aim : Aim C) (arrival : Arrival) (last : Word) → got_of N (InAcquire aim (Queue arrival last)) Made ≡ On (InAcquire aim (AwaitWake (tries_of arrival))) }
     ensures woken { (aim : Aim C) (tries flag : ℕ) → ((flag ≡ 0) ⊎ (5 < flag)) → got_of N (InAcquire aim (AwaitWake tries)) (Flag flag) ≡ On (InAcquire aim (AcquireLoad (AsWoken tries))) }
@@ -145,12 +154,14 @@ pub fn failed_tries_are_remembered<C: Condition<N>, const N: usize>()
 
 /// A try is busy only where it has found a word by which it may not acquire, or its exchange has found
 /// another word than the one last seen.
+#[tactic(auto, using(crate::proofs::Wakings::busy_why))]
 pub fn tries_are_busy_for_a_reason<C: Condition<N>, const N: usize>()
     ensures { (mode : Mode) (place : TryPlace) (found : Found) → got_of {C = C} N (InTry mode place) found ≡ Done Busy →
         (word : Word) × (found ≡ Saw word) × ((may_acquire mode AsFresh word ≡ false) ⊎ ((last : Word) × (place ≡ TryAcquire last))) }
 {}
 
 /// A look that shows what ends its wait ends it: the wait answers that, or goes on with that kept.
+#[tactic(auto, using(crate::proofs::Wakings::shown_ends))]
 pub fn a_shown_cause_ends_the_wait<C: Condition<N>, const N: usize>()
     ensures { (walk : Walk C) (limits : Limits) (again : Bool) (cause : Cause) → want_of walk ≡ Look limits again →
         (got_of N walk (Looked (Some cause)) ≡ Done (Answered (answer_of cause)))

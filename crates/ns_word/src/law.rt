@@ -78,6 +78,7 @@ pub fn steps_find_what_one_word_says<C: Condition<N>, const N: usize>()
 
 /// A waiter of the lock list that has a condition is in the wait for it, in its mode, by the
 /// history.
+#[tactic(auto, using(crate::proofs::Phases::waiter_phase))]
 pub fn waiters_are_in_their_phase<C: Condition<N>, const N: usize>()
     ensures { (seats : ℕ) (history : List (Event C N)) (s : LockState C N) (at : ℕ) (w : Waiter C) (c : C) →
         IsLawful C.means seats history s → slice_get s.lists.lock at ≡ Some w → w.cond ≡ Some c →
@@ -92,6 +93,7 @@ pub fn no_waiter_stands_twice<C: Condition<N>, const N: usize>()
 
 /// While nobody has the queues, the word says that somebody waits long exactly where one who stands
 /// in the lock list has failed 30 times after being woken, and nobody counts more.
+#[tactic(auto, using(crate::proofs::Phases::waiter_tries))]
 pub fn the_word_tells_of_a_long_wait<C: Condition<N>, const N: usize>()
     ensures { (seats : ℕ) (history : List (Event C N)) (s : LockState C N) →
         IsLawful C.means seats history s →
@@ -124,6 +126,7 @@ pub fn no_fresh_reader_passes_a_writer<C: Condition<N>, const N: usize>()
 {}
 
 /// While the word says that somebody waits long, only waiters that were woken acquire.
+#[tactic(auto, using(crate::proofs::Longs::woken_pass))]
 pub fn only_the_woken_pass_a_long_wait<C: Condition<N>, const N: usize>()
     ensures { (old new : LockState C N) (view : SeatView C N) (found : Found) (commits : List (Event C N)) (held : Held C N) →
         (step : Step C.means old view found new commits) →
@@ -131,6 +134,7 @@ pub fn only_the_woken_pass_a_long_wait<C: Condition<N>, const N: usize>()
 {}
 
 /// A seat that has begun no call was told nothing.
+#[tactic(auto, using(crate::proofs::ToldAfter::told_first))]
 pub fn a_fresh_seat_was_told_nothing<C: Condition<N>, const N: usize>()
     ensures { (seats seat : ℕ) → IsTold {N = N} C.means.holds seats [] seat None nothing_told }
 {}
@@ -166,6 +170,7 @@ pub fn waits_answer_rightly<C: Condition<N>, const N: usize>()
 /// A wait for variables answers what its section says of how it began: one for a variable that it was
 /// woken, or by what it was ended; one for any of a set, which of them has woken it, or none. Its
 /// section is in the mode that it was called in.
+#[tactic(auto, using(crate::proofs::Answers::variable_answers_rightly))]
 pub fn variable_waits_answer_rightly<C: Condition<N>, const N: usize>()
     ensures { (old new : LockState C N) (view : SeatView C N) (found : Found) (commits : List (Event C N)) (wait : Wait C) (outcome : Outcome) (place : AcquirePlace) (variables : Variables) (reply : Reply) →
         (step : Step C.means old view found new commits) →
@@ -192,6 +197,7 @@ pub fn early_answers_were_shown<C: Condition<N>, const N: usize>()
 {}
 
 /// No call begins at a place that keeps a cause.
+#[tactic(auto, using(crate::proofs::Firsts::first_is_bare))]
 pub fn no_call_begins_ended<C: Condition<N>, const N: usize>()
     ensures { (walk : Walk C) → IsFirst N walk → cause_kept walk ≡ None }
 {}
@@ -208,6 +214,7 @@ pub fn sections_keep_their_beginning<C: Condition<N>, const N: usize>()
 
 /// No call begins at a place where a wait has come back, so neither do the calls that a seat makes
 /// between the answer and the end of its section.
+#[tactic(auto, using(crate::proofs::Firsts::first_is_bare))]
 pub fn no_call_begins_back<C: Condition<N>, const N: usize>()
     ensures { (walk : Walk C) → IsFirst N walk → has_come_back walk ≡ false }
 {}

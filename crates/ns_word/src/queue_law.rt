@@ -39,6 +39,7 @@ use ns_model::condition::Condition;
 /// Who queues for the lock fresh stands behind all others, and hasn't failed yet; who was woken
 /// stands before them all, and has failed once more, of which 30 are counted. No variable's list
 /// changes.
+#[tactic(auto, using(crate::proofs::Stands::queues_in_place))]
 pub fn who_queues_stands_in_its_place<C: Condition<N>, const N: usize>()
     ensures { (old new : LockState C N) (view : SeatView C N) (commits : List (Event C N)) (aim : Aim C) (arrival : Arrival) (last : Word) →
         (step : Step C.means old view Made new commits) → step.walk ≡ InAcquire aim (Queue arrival last) →
@@ -57,6 +58,7 @@ pub fn who_waits_stands_in_its_place<C: Condition<N>, const N: usize>()
 /// Those whom a signal or a broadcast takes stand behind all others in the lock list, in their order,
 /// where the lock is held, and nobody is owed a wake then; else the lock list stays, and they are
 /// owed their wakes in that order.
+#[tactic(auto, using(crate::proofs::Stands::taken_called))]
 pub fn the_taken_are_moved_or_called<C: Condition<N>, const N: usize>()
     ensures { (old new : LockState C N) (view : SeatView C N) (commits : List (Event C N)) (waking : Waking) (k : ℕ) (last : Word) (owes : Bool) →
         (step : Step C.means old view (Woke owes) new commits) → step.walk ≡ InSignal waking k (WakeAndReturn last) →
@@ -90,6 +92,7 @@ pub fn who_stays_keeps_its_place<C: Condition<N>, const N: usize>()
 
 /// A wait may be for any variables that there are: for one of a number below 4, and for any of a set that has
 /// some variable, and none but those.
+#[tactic(auto, using(crate::proofs::Enters::are_some))]
 pub fn waits_may_be_for_all_variables<C: Condition<N>, const N: usize>()
     ensures one { (k : ℕ) → k < 4 → IsInRange {C = C} (OnVariables (Only k)) }
     ensures several { (cvs : Cvs) (k : ℕ) → cvs.0 < 256 → is_in cvs k ≡ true → ((j : ℕ) → is_in cvs j ≡ true → j < 4) → IsInRange {C = C} (OnVariables (Any cvs)) }
