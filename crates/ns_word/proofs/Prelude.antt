@@ -32,13 +32,12 @@ pub use Rattle.ns_word.specs.Prelude.{is_write, is_writing, judge_of, kept_by, l
 pub use Rattle.ns_word.specs.Prelude.{new_section, newly_held, nothing_told, number_of, one_if, opening_by, opening_for, outcome_taken, outside, owed_after, owed_in, owed_to, owes_more, own, part_of, pay_releasing, pay_waiting, pay_woken, pays, phase_after, phase_before, phase_by, phase_by_wake}
 pub use Rattle.ns_word.specs.Prelude.{phase_for, phase_kept, phase_of, place_awaits, place_cause_kept, place_has_come_back, queue_by, queued, queuers, quiet_first, quiet_place, readers, reads, release_by, releasing_of, reply_for, rest_or_look, row_after, row_in, scan_place, scanned, seats_of}
 pub use Rattle.ns_word.specs.Prelude.{section_of, show_by, signal_by, standing_after, standing_next, stands_at, taken_by, taken_set, takers, test_place, times, times_among, times_in, told_after, tries_of, unmet_by, value_of, value_of_bit, variable_in, variable_told, view_in, wait_first, wait_hand}
-pub use Rattle.ns_word.specs.Prelude.{wait_has_queues, waited_in, waiter, waiters_of, waits_at, waits_in, wake_by, wake_of, wakes_of, walk_after, walk_at, walk_over, want_acquiring, want_in_cells, want_leaving, want_of, want_queuing, want_releasing, want_showing, want_signaling, want_trying}
-pub use Rattle.ns_word.specs.Prelude.{want_waiting, was_woken, who_of, with_each, with_lock, with_waiters, without, without_in, woken_by, woken_of, woken_phase, woken_phases, word_acquired, word_released, word_released_returning, word_returned, word_seen, word_taken, word_with, writers, writes}
+pub use Rattle.ns_word.specs.Prelude.{waited_in, waiter, waiters_of, waits_at, waits_in, wake_by, wake_of, wakes_of, walk_after, walk_at, walk_over, want_acquiring, want_in_cells, want_leaving, want_of, want_queuing, want_releasing, want_showing, want_signaling, want_trying, want_waiting}
+pub use Rattle.ns_word.specs.Prelude.{was_woken, who_of, with_each, with_lock, with_waiters, without, without_in, woken_by, woken_of, woken_phase, woken_phases, word_acquired, word_released, word_released_returning, word_returned, word_seen, word_taken, word_with, writers, writes}
 unfoldable pub use Rattle.ns_word.specs.Prelude.{word_of}
 pub use Rattle.ns_word.specs.Steps.{signal_hand}
 pub use Rattle.ns_word.specs.Walks.{Expected}
-pub use Rattle.std.proofs.Common.{ap, arith}
-pub use Rattle.std.proofs.Common.{refl, rules, subst, sym, true}
+pub use Rattle.std.proofs.Common.{ap, arith, refl, rules, sym, true}
 pub use Rattle.std.proofs.lemmas.Bool.{and_cases, and_parts, both_ways, cases_Bool, cases_eq, cases_lt, false_from_ne_true, not-false, not-true, or_cases, or_parts, or_right}
 pub use Rattle.std.proofs.lemmas.List.{get_or-map, length-map, length-replicate, map_more, take_more}
 pub use Rattle.std.proofs.lemmas.List.Elements.{All-append, All-nil, All-push, filter-append}

@@ -1,12 +1,12 @@
 -- What the steps leave of the sections.
 use Rattle.std.proofs.Common.{Bool, List, None, Option, Some, [], ap, arith, cond, eq-eqb, eqb-true, false, inl, inr, length, length-set, ne_eqb, not, refl, slice_set, subst, sym, true, ℕ, ◌++◌, ◌+◌, ◌-◌, ◌<◌, ◌∙◌, ◌∷◌, ◌≡◌, ◌≢◌, ◌≤◌, ◌⊎◌}
-use Rattle.ns_word.proofs.Prelude.{Any, CameBack, Cause, Ended, EntryFits, Event, Exit, ExitFits, Expired, Held, HeldFits, IsBySeats, IsExpected, IsLegal, IsLegalEvent, IsSettledBy, Locked, Met, Mode, ModeFits, Notified, OnCondition, OnVariables, OneWriter, Only, Opening, OwesAs, Phase}
-use Rattle.ns_word.proofs.Prelude.{PlaceFits, Read, ReadersCounted, SeatView, SectionFits, Standing, Truths, Variables, ViewFits, Waiting, Walk, Woken, Word, Write, answer_of, both_ways, entry_of, first_standing, is_met, is_reading, is_write, is_writing, left_phase, legal_append, one_if}
-use Rattle.ns_word.proofs.Prelude.{phase_after, phase_before, phase_by, readers, section_of, standing_after, standing_from-append, standing_next, who_of, writers}
+use Rattle.ns_word.proofs.Prelude.{Any, CameBack, Cause, Ended, EntryFits, Event, Exit, ExitFits, Expired, Held, HeldFits, IsBySeats, IsExpected, IsLegal, IsLegalEvent, IsSettledBy, Locked, Met, Mode, ModeFits, Notified, OnCondition, OnVariables, OneWriter, Only, Opening, OwesAs, Phase, PlaceFits}
+use Rattle.ns_word.proofs.Prelude.{Read, ReadersCounted, SeatView, SectionFits, Standing, Truths, Variables, ViewFits, Waiting, Walk, Woken, Word, Write, answer_of, both_ways, entry_of, first_standing, is_met, is_reading, is_write, is_writing, left_phase, legal_append, one_if, phase_after}
+use Rattle.ns_word.proofs.Prelude.{phase_before, phase_by, readers, section_of, standing_after, standing_from-append, standing_next, total_amid, who_of, writers}
 use Rattle.ns_model.specs.declared.phase.Phase.TheVariants.{Left}
 use Rattle.ns_word.proofs.Leaving.{left_event, left_is_legal, left_next_here, left_next_there, left_row, left_who}
 use Rattle.ns_word.proofs.Groups.{Safe}
-use Rattle.ns_word.proofs.Views.{IsWokenBy, Move, apart_moves, apart_parts, each_join, each_moves, each_parts, each_woken, news, olds, readers_at, view_of, writers_at}
+use Rattle.ns_word.proofs.Views.{IsWokenBy, Move, apart_moves, apart_parts, each_join, each_moves, each_parts, each_woken, news, olds, view_of}
 
 pub by_seats_more : {C : Type 0} {N : ℕ} (seats : ℕ) (h : List (Event C N)) (e : Event C N) → IsBySeats seats h → who_of e < seats → IsBySeats seats (h ++ e ∷ [])
 by_seats_more seats [] e p q = (q, tt)
@@ -141,16 +141,16 @@ module _ {C : Type 0} {N : ℕ} (truths : Truths C) (seats : ℕ) (h : List (Eve
     -- ---- what is counted
 
     writers_old : (held : Option (Held C N)) → writers (had held) ≡ writers front + (cond (is_writing held) 1 0 + writers back)
-    writers_old held = writers_at front (view_of who walk held owed) back
+    writers_old held = total_amid (λ view. one_if (is_writing view.held)) front (view_of who walk held owed) back
 
     readers_old : (held : Option (Held C N)) → readers (had held) ≡ readers front + (cond (is_reading held) 1 0 + readers back)
-    readers_old held = readers_at front (view_of who walk held owed) back
+    readers_old held = total_amid (λ view. one_if (is_reading view.held)) front (view_of who walk held owed) back
 
     writers_new : (held : Option (Held C N)) → writers (has held) ≡ writers front + (cond (is_writing held) 1 0 + writers back)
-    writers_new held = writers_at front (view_of who walk' held owed') back
+    writers_new held = total_amid (λ view. one_if (is_writing view.held)) front (view_of who walk' held owed') back
 
     readers_new : (held : Option (Held C N)) → readers (has held) ≡ readers front + (cond (is_reading held) 1 0 + readers back)
-    readers_new held = readers_at front (view_of who walk' held owed') back
+    readers_new held = total_amid (λ view. one_if (is_reading view.held)) front (view_of who walk' held owed') back
 
     counted_same : (word word' : Word) (held held' : Option (Held C N)) → word'.write ≡ word.write → word'.readers ≡ word.readers → is_writing held' ≡ is_writing held → is_reading held' ≡ is_reading held → Counted word (had held) → Counted word' (has held')
     counted_same word word' held held' same_write same_readers writing reading p =

@@ -36,14 +36,6 @@ one_of false = refl
 module _ {C : Type 0} {N : ℕ} where
   -- ---- counts
 
-  pub readers_at : (front : List (SeatView C N)) (view : SeatView C N) (back : List (SeatView C N)) →
-      readers (front ++ view ∷ back) ≡ readers front + (cond (is_reading view.held) 1 0 + readers back)
-  readers_at front view back = total_amid (λ view. one_if (is_reading view.held)) front view back
-
-  pub writers_at : (front : List (SeatView C N)) (view : SeatView C N) (back : List (SeatView C N)) →
-      writers (front ++ view ∷ back) ≡ writers front + (cond (is_writing view.held) 1 0 + writers back)
-  writers_at front view back = total_amid (λ view. one_if (is_writing view.held)) front view back
-
   pub takers_at : (front : List (SeatView C N)) (view : SeatView C N) (back : List (SeatView C N)) →
       takers (front ++ view ∷ back) ≡ takers front + (cond (has_queues view.walk) 1 0 + takers back)
   takers_at front view back = total_amid (λ view. one_if (has_queues view.walk)) front view back

@@ -95,4 +95,3 @@ pub use Rattle.ns_word.specs.declared.word.Releasing.TheVariants.{QuietWriter, R
 pub use Rattle.ns_word.specs.declared.word.Taking.{Taking}
 pub use Rattle.ns_word.specs.declared.word.Taking.TheVariants.{ToChange, ToQueue}
 pub use Rattle.ns_word.specs.declared.word.Word.{Word}
-pub use denote.RattleType.{RattleType}

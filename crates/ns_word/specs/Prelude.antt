@@ -23,15 +23,15 @@ pub use Rattle.ns_word.specs.Views.{AreApart, AreNumbered, NoneIs, called_to, is
 pub use Rattle.ns_word.specs.Waits.{IsWokenBy, OutcomeFits, answer_of, answer_of_wait, arrival_of, cause_in, home_of, mode_for, outcome_taken, phase_by_wake, phase_for, phase_kept, variable_in, woken_by}
 pub use Rattle.ns_word.specs.Walks.{Stance, acquire_by, acquired_for, after_judging, armed_place, awaits, back_with, calls_from_lock, expected_for, first_for, got_acquiring, got_in_cells, got_leaving, got_of, got_queuing, got_releasing, got_showing, got_signaling, got_trying, got_waiting}
 pub use Rattle.ns_word.specs.Walks.{has_armed, has_queues, is_arrival_woken, is_on_way, is_queuing, judge_of, leave_by, load_place, look_or_queue, pay_releasing, pay_waiting, pay_woken, pays, phase_by, place_awaits, queue_by, quiet_first, quiet_place, release_by, reply_for, rest_or_look}
-pub use Rattle.ns_word.specs.Walks.{scan_place, show_by, signal_by, test_place, unmet_by, wait_first, wait_has_queues, waits_in, walk_after, want_acquiring, want_in_cells, want_leaving, want_of, want_queuing, want_releasing, want_showing, want_signaling, want_trying, want_waiting, was_woken}
+pub use Rattle.ns_word.specs.Walks.{scan_place, show_by, signal_by, test_place, unmet_by, wait_first, waits_in, walk_after, want_acquiring, want_in_cells, want_leaving, want_of, want_queuing, want_releasing, want_showing, want_signaling, want_trying, want_waiting, was_woken}
 pub use Rattle.ns_word.specs.Words.{is_held, is_woken, may_acquire, mode_released, needs_scan, releasing_of, tries_of, word_acquired, word_released, word_released_returning, word_returned, word_taken}
 pub use Rattle.ns_word.specs.declared.number.Bit.{Bit}
 pub use Rattle.ns_word.specs.Names.{Acquire, AcquireExchange, AcquireLoad, AcquirePlace, Act, Aim, Answer, Answered, Any, AnyWait, AreWaiting, Arm, ArmFlag, ArmToWait, Arrival, AsFresh, AsWoken, AtLock, AtVariables, Await, AwaitWake, AwaitWakeInWait, AwaitWakeToLeave, BeginsWith, Broadcasting}
 pub use Rattle.ns_word.specs.Names.{Busy, CameBack, Canceled, Cause, Cell, CellPlace, Change, Cond, CondWait, Cv, CvWait, Cvs, Done, Ended, EntryFits, Event, Every, Exit, ExitFits, Expired, Flag, ForLock, ForWait, Found, Get, GetLoad, HaveSeats, Held, Home, Idle, InAcquire, InCells, InLeaving}
 pub use Rattle.ns_word.specs.Names.{InQueuing, InRelease, InShow, InSignal, InTry, InWait, Is, IsBySeats, IsLegal, IsLegalEvent, IsLegalLeave, IsLegalLeaveAny, IsOrderly, IsQuiet, JudgeMet, JudgeQuiet, Judging, Leave, LeaveAny, LeaveLoad, LeavePlace, LeaveSelf, Left, Limits, Lists, Load, LoadCell}
-pub use Rattle.ns_word.specs.Names.{LoadFlag, LoadToScan, LoadWord, Lock, Locked, Look, LookIn, LookOut, Looked, Made, Met, Mode, ModeFits, Next, Noisy, Notified, Number, On, OnCondition, OnEntry, OnReturn, OnVariables, Only, Opening, Outcome, Owed, Paid, Pay, PayInWait, PayTheWoken}
-pub use Rattle.ns_word.specs.Names.{PayWake, Phase, Plain, Queue, QueuePlace, QueueSelf, QueueToWait, Quiet, QuietCells, QuietKeeps, QuietLast, QuietWriter, Read, Reader, Release, ReleaseExchange, ReleaseLoad, ReleasePlace, ReleaseReturning, Releasing, Reply, Request, ReturnQueues, ReturnShown}
-pub use Rattle.ns_word.specs.Names.{Saw, ScanAndRelease, ScanCells, Scanned, SeatView, Seats, Set, SetLoad, SetStore, Show, ShowLoad, ShowPlace, SignalLoad, SignalPlace, Signaling, Standing, StoreCell, Subject, Succeeded, Take, TakeQueues, TakeToLeave, TakeToQueue, TakeToScan, TakeToShow}
-pub use Rattle.ns_word.specs.Names.{TakeToWake, Taking, TestCells, TestLast, Tested, TimedOut, ToChange, ToQueue, ToRelease, ToTell, Truths, TryAcquire, TryLoad, TryLock, TryPlace, Variables, Visit, Wait, WaitFor, WaitPlace, WaitReturning, Waited, Waiter, Waiting, WaitsAmong, Wake, WakeAndReturn}
-pub use Rattle.ns_word.specs.Names.{WakeWaiters, Waking, Walk, Woke, Woken, WokenBy, Word, Write, Writer, beside, cvs_without, first_row, first_standing, has, has_condition, is_eligible, is_in, is_limited, is_long, is_met, is_of, is_satisfied, is_waiting, is_write, left_of, left_phase, named_for}
-pub use Rattle.ns_word.specs.Names.{one_if, outside, own, phase_after, phase_of, reads, row_after, seats_of, standing_after, standing_next, taken_set, times, times_in, waiters_of, who_of, with_each, with_waiters, without, without_in, woken_of, woken_phase, woken_phases, writes}
+pub use Rattle.ns_word.specs.Names.{LoadFlag, LoadToScan, LoadWord, Lock, Locked, Look, LookIn, LookOut, Looked, Made, Met, Mode, ModeFits, Next, Noisy, Notified, Number, On, OnCondition, OnEntry, OnReturn, OnVariables, Only, Opening, Outcome, Owed, Paid, Pay, PayInWait, PayTheWoken, PayWake}
+pub use Rattle.ns_word.specs.Names.{Phase, Plain, Queue, QueuePlace, QueueSelf, QueueToWait, Quiet, QuietCells, QuietKeeps, QuietLast, QuietWriter, Read, Reader, Release, ReleaseExchange, ReleaseLoad, ReleasePlace, ReleaseReturning, Releasing, Reply, Request, ReturnQueues, ReturnShown, Saw}
+pub use Rattle.ns_word.specs.Names.{ScanAndRelease, ScanCells, Scanned, SeatView, Seats, Set, SetLoad, SetStore, Show, ShowLoad, ShowPlace, SignalLoad, SignalPlace, Signaling, Standing, StoreCell, Subject, Succeeded, Take, TakeQueues, TakeToLeave, TakeToQueue, TakeToScan, TakeToShow, TakeToWake}
+pub use Rattle.ns_word.specs.Names.{Taking, TestCells, TestLast, Tested, TimedOut, ToChange, ToQueue, ToRelease, ToTell, Truths, TryAcquire, TryLoad, TryLock, TryPlace, Variables, Visit, Wait, WaitFor, WaitPlace, WaitReturning, Waited, Waiter, Waiting, WaitsAmong, Wake, WakeAndReturn, WakeWaiters}
+pub use Rattle.ns_word.specs.Names.{Waking, Walk, Woke, Woken, WokenBy, Word, Write, Writer, beside, cvs_without, first_row, first_standing, has, has_condition, is_eligible, is_in, is_limited, is_long, is_met, is_of, is_satisfied, is_waiting, is_write, left_of, left_phase, named_for, one_if}
+pub use Rattle.ns_word.specs.Names.{outside, own, phase_after, phase_of, reads, row_after, seats_of, standing_after, standing_next, taken_set, times, times_in, waiters_of, who_of, with_each, with_waiters, without, without_in, woken_of, woken_phase, woken_phases, writes}

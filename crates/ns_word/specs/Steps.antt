@@ -189,6 +189,14 @@ in_hand truths seat (InWait wait place) row lists = wait_hand truths seat wait p
 in_hand truths seat (InSignal waking k place) row lists = signal_hand seat waking k place lists
 in_hand truths seat walk row lists = lists
 
+-- the queues are put back, changed so
+abbrev Returned : {C : Type 0} {N : ℕ} → ℕ → Change → Word → Part C N → Found → Part C N → List (Event C N) → Type 0
+Returned seat change last old found new commits =
+    let lists = changed seat change last old.lists in
+    (change_found seat change last old.lists ≡ found) × (last ≡ old.word)
+    × (new ≡ record old { word = word_returned (moves change last old.lists) (bits_of lists.lock) last; lists = lists; owed = owed_after change last old.lists old.owed })
+    × (commits ≡ change_commits seat change old.lists)
+
 -- The act of the seat takes the part old to the part new, finds this, and commits these events. An exchange is refused by a word that differs from the one last seen, and by no other.
 abbrev pub Effect : {C : Type 0} {N : ℕ} → Truths C → ℕ → Act C → Part C N → Found → Part C N → List (Event C N) → Type 0
 -- a load of the word, and a compare-exchange that failed
@@ -207,21 +215,9 @@ Effect truths seat (Acquire aim arrival last) old Made new commits =
 -- the queues are taken, and put back
 Effect truths seat (TakeQueues taking last) old Made new commits =
     (last ≡ old.word) × (last.spin ≡ false) × (new ≡ record old { word = word_taken taking last }) × (commits ≡ [])
-Effect truths seat (ReturnQueues change last) old Made new commits =
-    let lists = changed seat change last old.lists in
-    (change_found seat change last old.lists ≡ Made) × (last ≡ old.word)
-    × (new ≡ record old { word = word_returned (moves change last old.lists) (bits_of lists.lock) last; lists = lists; owed = owed_after change last old.lists old.owed })
-    × (commits ≡ change_commits seat change old.lists)
-Effect truths seat (ReturnQueues change last) old (Left stood) new commits =
-    let lists = changed seat change last old.lists in
-    (change_found seat change last old.lists ≡ Left stood) × (last ≡ old.word)
-    × (new ≡ record old { word = word_returned (moves change last old.lists) (bits_of lists.lock) last; lists = lists; owed = owed_after change last old.lists old.owed })
-    × (commits ≡ change_commits seat change old.lists)
-Effect truths seat (ReturnQueues change last) old (Woke owes) new commits =
-    let lists = changed seat change last old.lists in
-    (change_found seat change last old.lists ≡ Woke owes) × (last ≡ old.word)
-    × (new ≡ record old { word = word_returned (moves change last old.lists) (bits_of lists.lock) last; lists = lists; owed = owed_after change last old.lists old.owed })
-    × (commits ≡ change_commits seat change old.lists)
+Effect truths seat (ReturnQueues change last) old Made new commits = Returned seat change last old Made new commits
+Effect truths seat (ReturnQueues change last) old (Left stood) new commits = Returned seat change last old (Left stood) new commits
+Effect truths seat (ReturnQueues change last) old (Woke owes) new commits = Returned seat change last old (Woke owes) new commits
 -- a release without a scan
 Effect {C} {N} truths seat (Release releasing last) old Made new commits =
     (held : Held C N) × (old.held ≡ Some held) × (held.mode ≡ mode_released releasing) × (last ≡ old.word)
