@@ -57,15 +57,14 @@ module _ (C : Type 0) (N : ℕ) (truths : Truths C) (seat : ℕ) (row : List ℕ
   leaves_course request course found next old new commits looks same silent so_far =
       subst (λ now. Comes request now next new) (sym (same_course found commits course looks silent)) (subst (λ held. Comes request course next held) (sym same) so_far)
 
-  -- what a wait has committed as it left stays all of it
+  -- what a wait has committed as it left, and what ended it, where that is all that has been committed
+  left_with : (wait : Wait C) (ended ended' : Option Cause) (course course' : Course C N) → course'.began ≡ course.began → (left : HasLeft truths seat wait ended course) →
+      course'.committed ≡ section_of truths.holds seat left.was (exit_for wait.on) ∷ left_by seat wait.on ended' → HasLeft truths seat wait ended' course'
+  left_with wait ended ended' course course' began left committed = record { was = left.was; began = began ∙ left.began; mode = left.mode; unmet = left.unmet; committed = committed }
+
+  -- it stays all of it
   still_left : (wait : Wait C) (ended : Option Cause) (found : Found) (commits : List (Event C N)) (course : Course C N) → commits ≡ [] → HasLeft truths seat wait ended course → HasLeft truths seat wait ended (course_after found commits course)
-  still_left wait ended found commits course silent left = record {
-    was = left.was;
-    began = left.began;
-    mode = left.mode;
-    unmet = left.unmet;
-    committed = ap (λ cs. course.committed ++ cs) silent ∙ append-nil course.committed ∙ left.committed;
-  }
+  still_left wait ended found commits course silent left = left_with wait ended ended course (course_after found commits course) refl left (ap (λ cs. course.committed ++ cs) silent ∙ append-nil course.committed ∙ left.committed)
 
   -- so does what hasn't changed
   still_unchanged : (found : Found) (commits : List (Event C N)) (course : Course C N) (old new : Option (Held C N)) → new ≡ old → commits ≡ [] → Unchanged course old → Unchanged (course_after found commits course) new
@@ -127,6 +126,10 @@ module _ (C : Type 0) (N : ℕ) (truths : Truths C) (seat : ℕ) (row : List ℕ
   -- of one that leaves
   leave_comes : (course : Course C N) (held : Option (Held C N)) (wait : Wait C) (cause : Cause) (word : Word) → HasLeft truths seat wait None course × (course.looked ≡ Some (Some cause)) → Comes (Await wait) course (leave_by wait cause word) held
   leave_comes course held wait cause word so_far = either (Await wait) course held (λ n. n) word.spin (Idle (InWait wait (InLeaving cause LeaveLoad))) (On (InWait wait (InLeaving cause (TakeToLeave word)))) (λ b. so_far) (λ b. so_far)
+
+  -- of a call that wakes
+  signal_comes : (course : Course C N) (held : Option (Held C N)) (waking : Waking) (k : ℕ) (word : Word) → Unchanged course held → Comes (Wake waking k) course (signal_by waking k word) held
+  signal_comes course held waking k word was = either (Wake waking k) course held (λ n. n) word.spin (Idle (InSignal waking k SignalLoad)) (On (InSignal waking k (TakeToWake word))) (λ b. was) (λ b. was)
 
   -- ---- what is new
 
@@ -458,17 +461,12 @@ module _ (C : Type 0) (N : ℕ) (truths : Truths C) (seat : ℕ) (row : List ℕ
         go : (stood : Bool) (on : Subject C) → commits ≡ leave_of seat (home_of on) stood → HasLeft truths seat (wait_for mode on limits) None course →
             Comes (Await (wait_for mode on limits)) (course_after (Left stood) commits course) (got_leaving (wait_for mode on limits) cause (Leave last) (Left stood)) next.held
         go true (OnCondition c) silent left =
-            let ended : HasLeft truths seat (wait_for mode (OnCondition c) limits) (Some cause) course = record { was = left.was; began = left.began; mode = left.mode; unmet = left.unmet; committed = left.committed } in
-            record { left = still_left (wait_for mode (OnCondition c) limits) (Some cause) (Left true) commits course silent ended; shown = so_far.1 }
+            let wait = wait_for mode (OnCondition c) limits in
+            record { left = still_left wait (Some cause) (Left true) commits course silent (left_with wait None (Some cause) course course refl left left.committed); shown = so_far.1 }
         go true (OnVariables variables) told left = record {
-          left = record {
-            was = left.was;
-            began = left.began;
-            mode = left.mode;
-            unmet = left.unmet;
-            committed = ap (λ events. course.committed ++ events) (told ∙ left_of variables) ∙ ap (λ events. events ++ left_by {C = C} {N = N} seat (OnVariables variables) (Some cause))
-                (left.committed ∙ ap (λ events. section_of truths.holds seat left.was (exit_for {C = C} (OnVariables variables)) ∷ events) (sym (untold (OnVariables variables))));
-          };
+          left = left_with (wait_for mode (OnVariables variables) limits) None (Some cause) course (course_after (Left true) commits course) refl left
+              (ap (λ events. course.committed ++ events) (told ∙ left_of variables) ∙ ap (λ events. events ++ left_by {C = C} {N = N} seat (OnVariables variables) (Some cause))
+              (left.committed ∙ ap (λ events. section_of truths.holds seat left.was (exit_for {C = C} (OnVariables variables)) ∷ events) (sym (untold (OnVariables variables)))));
           shown = so_far.1;
         }
         go false (OnCondition c) silent left = (still_left (wait_for mode (OnCondition c) limits) None (Left false) commits course silent left, so_far.1)
@@ -477,7 +475,7 @@ module _ (C : Type 0) (N : ℕ) (truths : Truths C) (seat : ℕ) (row : List ℕ
     -- one that was taken from its list before it could leave: a wait for a condition was ended all the same
     taken_comes : (mode : Mode) (on : Subject C) (limits : Limits) (cause : Cause) (flag : ℕ) → let wait = wait_for mode on limits in
         HasLeft truths seat wait None course × (course.looked ≡ Some (Some cause)) → IsComing truths seat wait (outcome_taken on cause flag) course
-    taken_comes mode (OnCondition c) limits cause flag so_far = record { left = record { was = so_far.0.was; began = so_far.0.began; mode = so_far.0.mode; unmet = so_far.0.unmet; committed = so_far.0.committed }; shown = so_far.1 }
+    taken_comes mode (OnCondition c) limits cause flag so_far = record { left = left_with (wait_for mode (OnCondition c) limits) None (Some cause) course course refl so_far.0 so_far.0.committed; shown = so_far.1 }
     taken_comes mode (OnVariables variables) limits cause flag so_far = record { left = so_far.0; shown = tt }
 
     leaves_on : (wait : Wait C) (cause : Cause) (place : LeavePlace) (found : Found) → Effect truths seat (want_leaving wait place) part found next commits → HasLeft truths seat wait None course × (course.looked ≡ Some (Some cause)) →
@@ -510,12 +508,8 @@ module _ (C : Type 0) (N : ℕ) (truths : Truths C) (seat : ℕ) (row : List ℕ
 
     signals_on : (waking : Waking) (k : ℕ) (place : SignalPlace) (found : Found) → Effect truths seat (want_signaling waking k place) part found next commits → SignalSoFar seat waking k place course part.held →
         Comes (Wake waking k) (course_after found commits course) (got_signaling waking k place found) next.held
-    signals_on waking k SignalLoad (Saw word) e was =
-        finds (Wake waking k) (Saw word) (signal_by waking k word) refl (held_in part e.1) e.2
-        (either (Wake waking k) course part.held (λ n. n) word.spin (Idle (InSignal waking k SignalLoad)) (On (InSignal waking k (TakeToWake word))) (λ b. was) (λ b. was))
-    signals_on waking k (TakeToWake last) (Saw word) e was =
-        finds (Wake waking k) (Saw word) (signal_by waking k word) refl (held_in part e.2) e.3
-        (either (Wake waking k) course part.held (λ n. n) word.spin (Idle (InSignal waking k SignalLoad)) (On (InSignal waking k (TakeToWake word))) (λ b. was) (λ b. was))
+    signals_on waking k SignalLoad (Saw word) e was = finds (Wake waking k) (Saw word) (signal_by waking k word) refl (held_in part e.1) e.2 (signal_comes course part.held waking k word was)
+    signals_on waking k (TakeToWake last) (Saw word) e was = finds (Wake waking k) (Saw word) (signal_by waking k word) refl (held_in part e.2) e.3 (signal_comes course part.held waking k word was)
     signals_on waking k (TakeToWake last) Made e was = finds (Wake waking k) Made (On (InSignal waking k (WakeAndReturn (word_taken ToChange last)))) refl (ap (λ p. p.held) e.2) e.3 was
     signals_on waking k (WakeAndReturn last) (Saw word) e was = finds (Wake waking k) (Saw word) (On (InSignal waking k (WakeAndReturn word))) refl (held_in part e.2) e.3 was
     signals_on waking k (WakeAndReturn last) (Woke owes) e was =
