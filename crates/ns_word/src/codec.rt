@@ -76,6 +76,7 @@ pub fn a_free_word_is_zero()
 {}
 
 /// The word of a number, taken apart bit by bit.
+#[tactic(auto, unfolding(crate::specs::Codec::word_of))]
 #[inline(always)]
 fn taken_apart(bits: u64) -> Word
     requires { bits / 256 < 256 }
@@ -95,6 +96,7 @@ fn taken_apart(bits: u64) -> Word
 }
 
 /// The word of a number that is one's, as a lawful lock's always is: nothing is tested.
+#[tactic(auto, unfolding(crate::specs::Codec::word_of))]
 #[inline(always)]
 pub fn unpacked(bits: u64) -> Word
     requires { IsPackable (word_of bits) }

@@ -80,6 +80,7 @@ impl LockWord {
     }
 
     /// The number of the word.
+    #[tactic(auto, using(crate::proofs::Codes::decoded))]
     #[inline(always)]
     pub fn new(word: Word) -> LockWord
         ensures { result ≡ word }
@@ -90,6 +91,7 @@ impl LockWord {
     }
 
     /// The word's number.
+    #[tactic(auto, using(crate::specs::Encoded::encoded))]
     #[inline(always)]
     pub fn number(self) -> u64
         ensures { result ≡ number_of self }
