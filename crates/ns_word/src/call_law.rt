@@ -181,6 +181,7 @@ pub fn a_kept_cause_is_answered<C: Condition<N>, const N: usize>()
 
 /// Readers join readers where nobody waits who keeps them out; and while a writer waits, a fresh
 /// reader stands back.
+#[tactic(auto, using(crate::proofs::Wakings::readers_join, crate::proofs::Wakings::readers_stand_back))]
 pub fn readers_join_and_stand_back<C: Condition<N>, const N: usize>()
     ensures join { (arrival : Arrival) (word : Word) → word.write ≡ false → word.writer_waits ≡ false → word.long ≡ false → may_acquire Read arrival word ≡ true }
     ensures back { (word : Word) → word.writer_waits ≡ true → may_acquire Read AsFresh word ≡ false }

@@ -81,6 +81,7 @@ pub fn who_leaves_waits_there_still<C: Condition<N>, const N: usize>()
 
 /// Those who stay in a variable's list keep their places there, where a signal or a broadcast takes others
 /// out of all the lists of variables, and where one leaves all lists.
+#[tactic(auto, using(crate::proofs::Leavers::stays_behind_leaver, crate::proofs::Stands::stays_behind_wake))]
 pub fn who_stays_keeps_its_place<C: Condition<N>, const N: usize>()
     ensures woken { (seats : ℕ) (history : List (Event C N)) (old new : LockState C N) (view : SeatView C N) (commits : List (Event C N)) (waking : Waking) (k : ℕ) (last : Word) (owes : Bool) (j : ℕ) →
         (step : Step C.means old view (Woke owes) new commits) → step.walk ≡ InSignal waking k (WakeAndReturn last) → IsLawful C.means seats history old → j < 4 →
