@@ -13,6 +13,7 @@ TOP = os.path.dirname(os.path.dirname(os.path.realpath(__file__)))
 USE = re.compile(r"^(?:ghost )?(?:unfoldable )?(pub )?use ([\w.+-]+?)(?:\.\{(.*)\})?(?: as (\w+))?;?$")
 DEFINED = re.compile(r"^( *)(?:unfoldable |abbrev |pub )*(record |data )?(?!let |module )([\w'-]+)(?: [({].*[)}])? : ")
 WORD = re.compile(r"[\w'◌-]+")
+NAMED = re.compile(r"crate::((?:proofs|specs)(?:::\w+)+)::([\w'-]+)")  # by a tactic's attribute in code
 
 
 def files():
@@ -73,6 +74,8 @@ def main():
     for it in read:
         cited |= {home(*source) for alias, source in it.taken.items() if it.has(alias)}
         cited |= {home(module, word) for module in it.whole.values() for words in it.words for word in words}
+        crate = it.module.split(".")[1]
+        cited |= {home(f"Rattle.{crate}.{path.replace('::', '.')}", name) for line in it.body for path, name in NAMED.findall(line)}
     for it in read:
         asked = re.search(r"/(Answers|Invariants|Proof)\.antt$", it.path)
         for name, own, line in it.definitions():
