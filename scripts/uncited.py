@@ -1,8 +1,9 @@
 #!/usr/bin/env -S python3 -B
 """Lists the definitions and lemmas of specs/ and proofs/ that nothing cites: scripts/uncited.py
 
-It reads text and no types. A name counts as cited where its own file has it outside its definition, or where another
-file takes it from its module, through whatever passes it on, and has it beside its `use` lines. What a proof of Rattle's
+It reads text and no types. A name counts as cited where its own file has it outside its definition, where another
+file takes it from its module, through whatever passes it on, and has it beside its `use` lines, or where the attribute
+of a tactic names it in code. What a proof of Rattle's
 own asks for by name (an answer, an invariant) isn't looked at.
 """
 import os

@@ -36,4 +36,4 @@ pub use Rattle.ns_gate.specs.Names.{StoreCell, Subject, TableAct, TakeQueues, Ta
 pub use Rattle.ns_gate.specs.Names.{before_in, begins_with_reader, bits_of, called_by, called_of, calls_of, carried_after, change_commits, change_found, changed, course_after, course_from, cvs_without, encoded, exchanged, exit_for, first_of, flags_with, foremost_of, found_of, fresh_state}
 pub use Rattle.ns_gate.specs.Names.{fresh_views, gives, got_of, has_queues, has_some, held_after, homes_after, is_held, is_of, is_reading, is_write, is_writing, judge_of, keeps_slots, kept_by, left_by_writer, left_of, meets_at, mode_for, moved_to, moves, newly_held, number_of, one_if, opening}
 pub use Rattle.ns_gate.specs.Names.{outside, owed_after, owes_more, own_of, part_of, pays, readers, releasing_of, rest, rest_of, room_fits, row_after, row_in, scanned, seats_of, section_of, sole_of, standing_after, stands_at, taken_by, taken_set, takers, takes, tests_of, times, times_in}
-pub use Rattle.ns_gate.specs.Names.{told_after, total, value_of, view_in, waited_in, waiters_of, wakes_of, walk_after, want_of, with_waiters, without, without_in, woken_of, word_acquired, word_released, word_released_returning, word_returned, word_taken, writers, writes}
+pub use Rattle.ns_gate.specs.Names.{told_after, total, value_of, view_in, waited_in, waiters_of, wakes_of, walk_after, want_of, with_waiters, without, woken_of, word_acquired, word_released, word_released_returning, word_returned, word_taken, writers, writes}

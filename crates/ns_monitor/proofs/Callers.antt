@@ -72,7 +72,8 @@ module _ {C : Type 0} {N : ℕ} (truths : Truths C) where
   abbrev pub ReleasedSo : Releasing → Known C N → ℕ → TableId × SeatOf C N → Type 0
   ReleasedSo releasing old number now = (IsAtRest truths now.1 × IsNumberOf number now.1 × ((the now.1.0).at.held ≡ None)) × HasUnlocked truths releasing old (known_of now.0 now.1)
 
-  pub released_so : (releasing : Releasing) (old : Known C N) (monitor of : TableId) (number : ℕ) (began : SeatOf C N) (now : TableId × SeatOf C N) → old.monitor ≡ monitor → (b : HasBegun (releasing_by releasing) old of number began) → CameSo (releasing_by releasing) monitor b.was now → ReleasedSo releasing old number now
+  pub released_so : (releasing : Releasing) (old : Known C N) (monitor of : TableId) (number : ℕ) (began : SeatOf C N) (now : TableId × SeatOf C N) → old.monitor ≡ monitor → (b : HasBegun (releasing_by releasing) old of number began) →
+      CameSo (releasing_by releasing) monitor b.was now → ReleasedSo releasing old number now
   released_so releasing old monitor of number began now own b came = let first = releasing_by releasing in let over = came.2 in (
     (over.rest, (b.own.0 ∙ b.since.seat ∙ sym (came.1).seat, b.own.1), over.means.left),
     record { grows = grew first old of now.0 b.was now.1 b.view (came.0 ∙ sym own) over.rest came.1; mine = released first releasing old of now.0 b.was now.1 b.view came.1 over.means },

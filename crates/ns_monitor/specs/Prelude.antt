@@ -18,7 +18,7 @@ pub use Rattle.ns_monitor.specs.Walks.{getting, judging, limits_of, locking, que
 pub use Rattle.ns_monitor.specs.Names.{Acquire, AcquireLoad, Acquiring, Act, Aim, Answer, Answered, AnyWait, AnyWaitMeans, Arm, ArmFlag, ArmToWait, Arrival, AsFresh, Await, AwaitWake, AwaitWakeInWait, AwaitWakeToLeave, BeginsWith, Bits, Broadcasting, Busy, CameByGuess, CanLeave, CanStep, Canceled}
 pub use Rattle.ns_monitor.specs.Names.{Carries, Cause, Cell, CellFits, Change, Changed, Changing, CondWait, ConditionWaitMeans, Course, CvWait, Cvs, Done, Effect, Ended, EnvEvent, EnvKnown, Event, Expired, Flag, ForLock, ForWait, Found, GateView, Get, Going, HasAnswered, HasLeft, HasMode}
 pub use Rattle.ns_monitor.specs.Names.{HasReached, HasSince, HasStepped, HasUnchangedQueues, HasWaited, Held, Home, Idle, InAcquire, InCells, InHand, InLeaving, InQueuing, InRelease, InShow, InSignal, InTry, InWait, Is, IsAtPlace, IsAtRest, IsFirst, IsInRange, IsLawful, IsOrderly, IsOwedNext}
-pub use Rattle.ns_monitor.specs.Names.{IsPackable, IsQuiet, IsSettled, IsTold, IsWide, JudgeMet, JudgeQuiet, Leave, LeaveLoad, LeaveSelf, Leaving, Limits, Lists, Load, LoadCell, LoadFlag, LoadToScan, LoadWord, LockState, Look, LookAnswers, LookIn, LookOut, Looked, Made, MayEnd, Met, Mode, Next}
+pub use Rattle.ns_monitor.specs.Names.{IsPackable, IsQuiet, IsSettled, IsTold, IsWide, JudgeMet, JudgeQuiet, Leave, LeaveLoad, LeaveSelf, Leaving, Limits, Lists, Load, LoadCell, LoadFlag, LoadToScan, LoadWord, LockState, Look, LookIn, LookOut, Looked, Made, MayEnd, Met, Mode, Next}
 pub use Rattle.ns_monitor.specs.Names.{Note, Notified, Number, On, OnCondition, OnEntry, OnReturn, OnVariables, Outcome, Owed, OwesBelow, Paid, Part, PayWake, Performed, PlaceFits, Queue, QueueSelf, QueueToWait, Quiet, QuietCells, QuietLast, QuietWriter, Read, Reader, Release, ReleaseLoad}
 pub use Rattle.ns_monitor.specs.Names.{ReleaseReturning, Released, Releasing, Request, ReturnQueues, ReturnShown, Returning, Saw, ScanAndRelease, ScanCells, SeatHasLearned, SeatOf, SeatView, SectionFits, Set, SetStore, ShowLoad, SignalLoad, Signaling, Sought, StoreCell, Subject, Succeeded}
 pub use Rattle.ns_monitor.specs.Names.{TableId, TakeQueues, TakeToShow, Taking, TestCells, TestLast, Tested, Tests, TimedOut, ToChange, ToQueue, ToTell, Told, Truths, TryAcquire, TryLock, Turned, Unchanged, VariableWaitMeans, Visit, Wait, WaitMeans, WaitReturning, Waited, Waiter, WakeAndReturn}

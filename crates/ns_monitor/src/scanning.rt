@@ -59,8 +59,8 @@ impl<C: Copy> Clone for Scanning<C> {
 }
 
 impl<C: Copy> Scanning<C> {
-    /// The same, made anew. What a call that isn't compiled in takes lies in memory, filled with zeros before it is
-    /// written; so only whoever makes such a call pays for that.
+    /// The same value, made anew. What a call that isn't inlined takes is zeroed in memory before it is written;
+    /// made here, only the path that makes that call pays for it.
     #[inline(always)]
     fn made_anew(self) -> Scanning<C>
         ensures { result ≡ self }

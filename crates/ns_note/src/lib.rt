@@ -23,8 +23,8 @@
 //! ```
 //!
 //! A [`watcher::Watcher`] is a seat together with the environment that it is of. Its calls are those of
-//! [`env::Env`], by the same names and with the same promises, but for [`env::Env::look_for`], which waits in the
-//! crates above use. That the seat is of this environment is an invariant of its type, so no clause and no loop of
+//! [`env::Env`], by the same names and with the same promises, but for [`env::Env::look_for`], which the waits of
+//! the crates above call. That the seat is of this environment is an invariant of its type, so no clause and no loop of
 //! a program says it.
 //!
 //! The clock begins at 0 and only callers move it, forward, in ticks below 2^54.

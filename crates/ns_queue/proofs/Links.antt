@@ -6,10 +6,10 @@ use Rattle.ns_queue.proofs.Hops.{stands_not, seated_none, seated_here}
 use Rattle.ns_queue.proofs.Places.{row_rest, row_own, row_parts, row_at, row_front, row_low}
 
 -- each link is as it was, but that of one place
-abbrev pub But : ℕ → List ℕ → List ℕ → Type 0
-But c links links' = (k : ℕ) → k ≢ c → get_or links' k 0 ≡ get_or links k 0
+abbrev pub SameBut : ℕ → List ℕ → List ℕ → Type 0
+SameBut c links links' = (k : ℕ) → k ≢ c → get_or links' k 0 ≡ get_or links k 0
 
-pub written : (links : List ℕ) (c v : ℕ) → But c links (set links c v)
+pub written : (links : List ℕ) (c v : ℕ) → SameBut c links (set links c v)
 written links c v k ne = get_or-set_other links c k v 0 ne
 
 module _ {C : Type 0} where
@@ -41,9 +41,9 @@ module _ {C : Type 0} (same : C → C → Bool) where
   pub head_out : (w : Waiter C) (o : Option (Waiter C)) (ws : List (Waiter C)) → times_in (place_of o) (w ∷ ws) ≡ 0 → IsRow (w ∷ ws) → times_in (place_of (head_of same w o)) ws ≡ 0
   head_out w o ws out row = elim (cases_Bool (joins same w o)) [ inl goes ↦ rw goes (stands_not (place_of o) w ws out).1 | inr begins ↦ rw begins (row_own w ws row) ]
 
-  -- ---- a link written elsewhere
+  -- ---- a link written elsewhere: at this place alone the links may differ
 
-  module _ (heads heads' lasts lasts' : List ℕ) (c : ℕ) (firsts : But c heads heads') (ends : But c lasts lasts') where
+  module _ (heads heads' lasts lasts' : List ℕ) (c : ℕ) (firsts : SameBut c heads heads') (ends : SameBut c lasts lasts') where
     pub links_other : (o : Option (Waiter C)) (p : ℕ) (ws : List (Waiter C)) → c ≢ place_of o → times_in c ws ≡ 0 → RunLinks same heads lasts o p ws → RunLinks same heads' lasts' o p ws
     links_other o p [] ne out h = tt
     links_other o p (w ∷ ws) ne out h =
@@ -127,7 +127,7 @@ module _ {C : Type 0} (same : C → C → Bool) where
     | inr r ↦ inr (record { zs = w ∷ r.zs; w = r.w; vs = r.vs; is = ap (λ us. w ∷ us) r.is; run = r.run })
   ]
 
-  -- whom its place leads to, and that behind it nobody else stands there
+  -- the place of the last run's first leads to that one, and it stands nowhere behind
   pub run_first : (xs ys : List (Waiter C)) → IsRow (xs ++ ys) → (seated (place_of (last_run same None xs)) (xs ++ ys) ≡ last_run same None xs) × (times_in (place_of (last_run same None xs)) ys ≡ 0)
   run_first xs ys row = elim (run_at None xs) [
     | inl e ↦ rw e (seated_none 64 (xs ++ ys) (row.below 64 (omega arith)), omega (arith, row.below 64 (omega arith), times_in-append 64 xs ys))

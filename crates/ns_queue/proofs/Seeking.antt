@@ -67,13 +67,13 @@ module _ {C : Type 0} (same : C → C → Bool) (meets : C → Bool) where
     | inr stays ↦ omega (arith, front_no w ws stays, front_most ws)
   ]
 
-  -- it leaves the list as it is, and asks for each truth
-  pub record Nobodys (ws : List (Waiter C)) : Type 0 where
+  -- a scan that takes nobody leaves the list as it is, and asks for each truth
+  pub record TakesNobody (ws : List (Waiter C)) : Type 0 where
     pub woken : woken_of meets ws ≡ []
     pub left : left_of meets ws ≡ ws
     pub asked : asked_of meets ws ≡ asked_by (λ w. true) ws
 
-  pub nobody_taken : (ws : List (Waiter C)) → in_front meets ws ≡ length ws → Nobodys ws
+  pub nobody_taken : (ws : List (Waiter C)) → in_front meets ws ≡ length ws → TakesNobody ws
   nobody_taken [] all = record { woken = refl; left = refl; asked = refl }
   nobody_taken (w ∷ ws) all = elim (cases_Bool (is_eligible meets w)) [
     | inl goes ↦ absurd (omega (arith, all, front_yes w ws goes))

@@ -23,7 +23,7 @@ pub use Rattle.ns_queue.specs.declared.waiter.Shown.{Shown}
 pub use Rattle.ns_queue.specs.declared.waiter.Waiter.{Waiter}
 pub use Rattle.ns_queue.specs.declared.waiter.Which.{Which}
 pub use Rattle.ns_queue.specs.declared.waiter.Which.TheVariants.{Cv, Lock}
-pub use Rattle.arrayvec.specs.contracts.array_vec.ArrayVec.{the_row as array_vec_row, the_row as list_row}
+pub use Rattle.arrayvec.specs.contracts.array_vec.ArrayVec.{the_row as list_row}
 pub use denote.Builtin.{u64, unit}
 pub use denote.Param.{copied, layout, number, param, value_of}
 pub use denote.RattleType.{RattleType}

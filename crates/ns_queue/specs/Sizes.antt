@@ -58,7 +58,7 @@ ring_fits C N small =
 pub row_fits : (C N : RattleType) → HasRoom (copied 0 C) (param 1 N) → size (array_at (layout u64) (layout (param 1 N))) < 2 ^ 63
 row_fits C N small = let most = room_enough (array_at (layout u64) (layout (param 1 N))) in omega (arith, most, small.1)
 
--- what code over any condition knows of the room that the lists and their parts take
+-- What code over any condition knows of the room that the lists and their parts take, each as a call asks for it, so that a search finds it. Of a seat's entry 64 are to fit, of a variable's list four.
 pub record PartsFit (C N : RattleType) (means : Ghosts C.Denot (value_of N)) : Type 0 where
   pub queues : FitsInMemory (queues_row C N means)
   pub lock : FitsInMemory (lock_row C N means)
@@ -68,16 +68,17 @@ pub record PartsFit (C N : RattleType) (means : Ghosts C.Denot (value_of N)) : T
   pub lists : 4 * size (layout (list_row (waiter_row C) (number 64) unit)) < 2 ^ 63
   pub row : size (array_at (layout u64) (layout N)) < 2 ^ 63
 
+-- they fit where a condition and a row have room
 pub parts_fit : (C N : RattleType) → HasRoom (copied 0 C) (param 1 N) → (means : Ghosts (copied 0 C).Denot (value_of (param 1 N))) → PartsFit (copied 0 C) (param 1 N) means
 parts_fit C N small means =
-    let seat = room_enough (layout (option_row (waiter_row (copied 0 C)))) in
+    let entry = room_enough (layout (option_row (waiter_row (copied 0 C)))) in
     let few = list_room C N small in
     let most = room_enough (layout (list_row (waiter_row (copied 0 C)) (number 64) unit)) in
     record {
       queues = queues_fit C N small means;
       lock = lock_fits C N small means;
       ring = ring_fits C N small;
-      entry = omega (arith, seat, small.0);
+      entry = omega (arith, entry, small.0);
       list = omega (arith, few, most);
       lists = omega (arith, few, most);
       row = row_fits C N small;

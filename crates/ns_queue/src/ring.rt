@@ -130,6 +130,7 @@ impl<C: Queueable<N>, const N: usize> Ring<C, N> {
     pub(crate) fn next(&self, seat: u8) -> u8
         requires { 0 < times_in seat self.now }
         ensures place { result ≡ first_seat 64 (behind seat self.now) }
+        // so a loop along the links ends
         ensures fewer { length (from result self.now) < length (from seat self.now) }
     {
         self.next[seat as usize]

@@ -57,12 +57,12 @@ module _ (C : Type 0) (N : ℕ) (truths : Truths C) (seat : ℕ) (row : List ℕ
   leaves_course request course found next old new commits looks same silent so_far =
       subst (λ now. Comes request now next new) (sym (same_course found commits course looks silent)) (subst (λ held. Comes request course next held) (sym same) so_far)
 
-  -- what a wait has committed as it left, and what ended it, where that is all that has been committed
+  -- one that has left has left so whatever ended it, if it has committed just its section and what goes with that end
   left_with : (wait : Wait C) (ended ended' : Option Cause) (course course' : Course C N) → course'.began ≡ course.began → (left : HasLeft truths seat wait ended course) →
       course'.committed ≡ section_of truths.holds seat left.was (exit_for wait.on) ∷ left_by seat wait.on ended' → HasLeft truths seat wait ended' course'
   left_with wait ended ended' course course' began left committed = record { was = left.was; began = began ∙ left.began; mode = left.mode; unmet = left.unmet; committed = committed }
 
-  -- it stays all of it
+  -- what it has committed as it left stays all of it
   still_left : (wait : Wait C) (ended : Option Cause) (found : Found) (commits : List (Event C N)) (course : Course C N) → commits ≡ [] → HasLeft truths seat wait ended course → HasLeft truths seat wait ended (course_after found commits course)
   still_left wait ended found commits course silent left = left_with wait ended ended course (course_after found commits course) refl left (ap (λ cs. course.committed ++ cs) silent ∙ append-nil course.committed ∙ left.committed)
 

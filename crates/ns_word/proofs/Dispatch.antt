@@ -175,7 +175,7 @@ module _ {C : Type 0} {N : ℕ} (truths : Truths C) (seats : ℕ) (h : List (Eve
         silent to (e.3 ∙ ap (λ word. record part { word = word_acquired (mode_for aim) arrival word; held = Some (newly_held aim part.row) }) e.0) e.4
         (acquires truths seats h front who (Some walk) to back (mode_for aim) (opening_for aim) arrival part idle (subst (λ word. may_acquire (mode_for aim) arrival word ≡ true) e.0 e.1) (λ ph is. phase ph is ∙ phase_opened aim) fits tags q o (with_held walk None e.2 p))
 
-    -- the queues are taken, but to queue
+    -- the queues are taken for anything but to queue
     took : (walk walk' : Walk C) (last : Word) → Effect truths who (TakeQueues ToChange last) part Made next commits → PlaceFits truths (Some walk') part.held →
         pays (Some walk) ≡ false → pays (Some walk') ≡ pays (Some walk) → has_queues (Some walk) ≡ false → has_queues (Some walk') ≡ true → waits_in (Some walk') ≡ waits_in (Some walk) → has_armed (Some walk') ≡ false → Stays (Some walk) (Some walk') part.held →
         is_queuing (Some walk') ≡ is_queuing (Some walk) → Way (Some walk) (Some walk') → Old (Some walk) → New (Some walk')

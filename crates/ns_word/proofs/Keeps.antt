@@ -474,7 +474,8 @@ module _ {C : Type 0} {N : ℕ} (truths : Truths C) (seats : ℕ) (h : List (Eve
       let next = scanned releasing (with_lock part.lists (queued who mode (Some c) 0 again (left_of meets part.lists.lock))) part in
       let fit = (fits old p).section in
       queues_scanned releasing mode c again h old p (subst (λ r. truths.holds c r ≡ false) fit.cells unmet) (sym fit.cells ∙ same ∙ fit.starts)
-      (dropped truths seats h (move old next p) (mode_released releasing) part.word next.word part.row held is same (subst (λ ph. IsExpected (phase_by walk') ph) (sym comes) phase) (released_holders releasing part.word) place (sym puts.owes, calls_told walk' (woken_of meets part.lists.lock) puts.from) p.safe)
+      (dropped truths seats h (move old next p) (mode_released releasing) part.word next.word part.row held is same (subst (λ ph. IsExpected (phase_by walk') ph) (sym comes) phase)
+      (released_holders releasing part.word) place (sym puts.owes, calls_told walk' (woken_of meets part.lists.lock) puts.from) p.safe)
       (λ seat ne. refl) (λ vs mode' e. let clash : Cond c held.mode ≡ Waiting vs mode' = sym (fit.enters ∙ comes) ∙ e in absurd (cc)) puts set a'
 
   -- a wait for variables leaves its section, commits it, and goes to the back of their lists

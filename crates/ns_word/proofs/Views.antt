@@ -9,7 +9,7 @@ use Rattle.ns_model.specs.declared.phase.Phase.TheVariants.{Idle}
 abbrev pub view_of : {C : Type 0} {N : ℕ} → ℕ → Option (Walk C) → Option (Held C N) → List Owed → SeatView C N
 view_of seat walk held owed = record { seat = seat; walk = walk; held = held; owed = owed }
 
--- One seat's view among those of other seats, before and after a step: its place in its call, its section in hand, and the wakes that it owes.
+-- One seat's view before and after a step: its place in its call, its section in hand, and the wakes that it owes. The views in front of it and behind it are other seats'; none in front is its own (`apart`).
 pub record Move (C : Type 0) (N : ℕ) : Type 0 where
   pub front : List (SeatView C N)
   pub who : ℕ

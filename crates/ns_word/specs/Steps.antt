@@ -189,7 +189,7 @@ in_hand truths seat (InWait wait place) row lists = wait_hand truths seat wait p
 in_hand truths seat (InSignal waking k place) row lists = signal_hand seat waking k place lists
 in_hand truths seat walk row lists = lists
 
--- the queues are put back, changed so
+-- the queues are put back by an exchange that found the word last seen: the lists are changed, and this is found and committed
 abbrev Returned : {C : Type 0} {N : ℕ} → ℕ → Change → Word → Part C N → Found → Part C N → List (Event C N) → Type 0
 Returned seat change last old found new commits =
     let lists = changed seat change last old.lists in

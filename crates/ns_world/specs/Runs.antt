@@ -32,12 +32,12 @@ calls_of lists seat = unwrap_or (slice_get lists seat) []
 abbrev pub next_call : {C : Type 0} {N : ℕ} → List (List (Call C)) → Progress C N → ℕ → Option (Call C)
 next_call lists p seat = slice_get (calls_of lists seat) (slice_index p.over seat)
 
--- how many conditions a call's scan tested, by what the last scan of its seat did; a misused call made none
+-- how many conditions a call's scan tested, by what its seat has kept; a misused call made none
 abbrev pub tests_told : Reply → ℕ → ℕ
 tests_told TheReply.Misuse tests = 0
 tests_told reply tests = tests
 
--- how many conditions the scan of a seat's call tested, 0 where it made none; of its last call, where none is in progress
+-- how many conditions the last scan of a seat's call tested, 0 where it made none; of its last call, where none is in progress
 abbrev pub tests_at : {C : Type 0} {N : ℕ} → List (Seat C N) → ℕ → ℕ
 tests_at seats seat = option_map_or (λ s. s.tests) (slice_get seats seat) 0
 

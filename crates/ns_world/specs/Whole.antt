@@ -58,7 +58,7 @@ pub record WaitsAmong {C : Type 0} (setup : Setup) (notes : ℕ → NoteStanding
   pub among : AreAmong cvs (items_of round.items)
   pub there : AreThere setup notes round.items
 
--- what was asked of the lock goes with the objects: a wait among them waits for just its variables; any other call waits for no set of variables, and the note that may end it is made
+-- what was asked of the lock goes with the objects: a wait among them waits for just the variables among them; any other call waits for no set of variables, and the note that may end it is made
 abbrev pub WaitsFor : {C : Type 0} → Setup → (ℕ → NoteStanding) → Request C → Option AnyWait → Type 0
 WaitsFor setup notes request None = (asks_for_any request ≡ false) × IfMade notes (note_asked request)
 WaitsFor setup notes request (Some wait) = WaitsAmong setup notes request wait.round

@@ -1,5 +1,5 @@
-//! An act on the lock, and the compare-exchanges of its word. One that finds the word which its seat has last
-//! seen is made; any other changes nothing.
+//! An act on the lock, and the compare-exchanges of its word. An exchange that finds the word which its seat has
+//! last seen is made; any other changes nothing.
 
 ghost use Rattle.std.specs.Prelude.{◌≡◌, ◌<◌, ◌++◌, ◌∷◌, ℕ, true, false, None, List, [], IsSome, IfSome, MatchResult, if◌then◌else◌};
 ghost use Rattle.ns_queue.specs.Queues.{times};

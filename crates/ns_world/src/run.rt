@@ -88,8 +88,7 @@ pub fn is_end(whole: bool, step: Step) -> bool
     }
 }
 
-/// How many conditions a finished call's scan tested, by what the seat's last scan did. A misused
-/// call made none.
+/// How many conditions a finished call's scan tested, by what its seat has kept. A misused call made none.
 fn tests_told(reply: Reply, tests: u32) -> u32
     ensures { result ≡ tests_told reply tests }
 {

@@ -73,6 +73,6 @@ pub(crate) struct Seat<C, const N: usize> {
     pub(crate) held: Option<Held<C, N>>,
     /// The wakes that it owes, in the order in which it pays.
     pub(crate) owed: ArrayVec<Owed, 64>,
-    /// How many conditions the scan of its call tested, of its last one where none is in progress.
+    /// How many conditions the last scan of its call tested; of its last call, where none is in progress.
     pub(crate) tests: u32,
 }

@@ -221,7 +221,7 @@ impl<C: Seated<N>, const N: usize> World<C, N> {
         self.seats.len()
     }
 
-    /// How many conditions the scan of the seat's call tested, of its last one where none is in
+    /// How many conditions the last scan of the seat's call tested; of its last call, where none is in
     /// progress.
     pub(crate) fn tests(&self, seat: u8) -> u32
         requires { seat < length self.now.seats }

@@ -4,7 +4,7 @@ use Rattle.std.specs.List.{refill}
 use Rattle.ns_queue.proofs.Prelude.{outside, times_in}
 use Rattle.ns_queue.proofs.queues.drop_those.Goals as goal
 
--- a list that is as long as the one that it was written over
+-- a list written over one of its length is what stands there
 refilled : {A : Type 0} (n : ℕ) (xs ws : List A) → n ≡ length xs → length ws ≡ length xs → refill n xs ws ≡ ws
 refilled n xs ws all same = let within : n ≤ length ws = omega (arith, all, same) in rw take-append-le (take_all n ws (omega (arith, all, same)))
 

@@ -10,7 +10,7 @@ returns g c = elim c.match-waking.branch [
 ]
 
 pub signaled_set-requires : goal.signaled_set-requires
-signaled_set-requires g c = (g.met.C.Seated.queues_fit, c.requires)
+signaled_set-requires g c = (g.met.C.Queueable.parts_fit.queues, c.requires)
 
 pub waiting_set-requires : goal.waiting_set-requires
-waiting_set-requires g c = (g.met.C.Seated.queues_fit, c.requires)
+waiting_set-requires g c = (g.met.C.Queueable.parts_fit.queues, c.requires)

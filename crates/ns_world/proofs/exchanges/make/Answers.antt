@@ -7,7 +7,7 @@ acquire-requires g c = let fits = rw c.in-Acquire.is at c.requires.fits in (row_
 
 pub return_queues-requires : goal.return_queues-requires
 return_queues-requires g c = let fits = rw c.in-ReturnQueues.is at c.requires.fits in (
-  g.met.C.Seated.queues_fit,
+  g.met.C.Queueable.parts_fit.queues,
   (
     g.met.C.Seated.seat_fits,
     (
@@ -25,12 +25,12 @@ pub release-requires : goal.release-requires
 release-requires g c = (g.met.C.Seated.held_fits, (g.met.C.Seated.event_fits, rw c.in-Release.is at c.requires.fits))
 
 pub release_returning-requires : goal.release_returning-requires
-release_returning-requires g c = (row_fits g.row.C (number g.row.N) g.met.C.Condition.has_room, (g.met.C.Seated.queues_fit, (g.met.C.Seated.seat_fits, (g.met.C.Seated.event_fits, (rw c.in-ReleaseReturning.is at c.requires.fits).0))))
+release_returning-requires g c = (row_fits g.row.C (number g.row.N) g.met.C.Condition.has_room, (g.met.C.Queueable.parts_fit.queues, (g.met.C.Seated.seat_fits, (g.met.C.Seated.event_fits, (rw c.in-ReleaseReturning.is at c.requires.fits).0))))
 
 pub wait_returning-requires : goal.wait_returning-requires
 wait_returning-requires g c =
     let fits = rw c.in-WaitReturning.is at c.requires.fits in
-    (row_fits g.row.C (number g.row.N) g.met.C.Condition.has_room, (g.met.C.Seated.queues_fit, (g.met.C.Seated.seat_fits, (g.met.C.Seated.event_fits, (fits.0, (can_in_range g.C.Condition.means c.in-WaitReturning.wait c.in-WaitReturning.again c.args.seat.now.held fits.0, (fits.2, fits.3)))))))
+    (row_fits g.row.C (number g.row.N) g.met.C.Condition.has_room, (g.met.C.Queueable.parts_fit.queues, (g.met.C.Seated.seat_fits, (g.met.C.Seated.event_fits, (fits.0, (can_in_range g.C.Condition.means c.in-WaitReturning.wait c.in-WaitReturning.again c.args.seat.now.held fits.0, (fits.2, fits.3)))))))
 
 pub judge-requires : goal.judge-requires
 judge-requires g c = (g.met.C.Seated.held_fits, (rw c.in-JudgeQuiet.is at c.requires.fits).0)

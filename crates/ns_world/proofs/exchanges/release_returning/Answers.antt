@@ -27,10 +27,10 @@ returns g c = (
 )
 
 pub scan-scan-requires : goal.scan-scan-requires
-scan-scan-requires g c = (g.met.C.Seated.queues_fit, omega arith)
+scan-scan-requires g c = (g.met.C.Queueable.parts_fit.queues, omega arith)
 
 pub bits-requires : goal.bits-requires
-bits-requires g c = g.met.C.Seated.queues_fit
+bits-requires g c = g.met.C.Queueable.parts_fit.queues
 
 pub called-seat-requires : goal.called-seat-requires
 called-seat-requires g c = record { few = search rules; same = rw (c.as_slice.ensures.value, c.as_slice-2.ensures.value) (as_many _ _ _ c.scan-scan.ensures.woken c.scan-scan.ensures.vias) }

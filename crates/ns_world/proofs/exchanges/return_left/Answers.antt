@@ -14,13 +14,13 @@ returns-in_err-commit_leave g c =
     rw p.1 (err.0, refl, refl, err.1)
 
 pub commit_leave-requires : goal.commit_leave-requires
-commit_leave-requires g c = (g.met.C.Seated.queues_fit, g.met.C.Seated.event_fits)
+commit_leave-requires g c = (g.met.C.Queueable.parts_fit.queues, g.met.C.Seated.event_fits)
 
 pub leave_self-stood-requires : goal.leave_self-stood-requires
-leave_self-stood-requires g c = g.met.C.Seated.queues_fit
+leave_self-stood-requires g c = g.met.C.Queueable.parts_fit.queues
 
 pub bits-requires : goal.bits-requires
-bits-requires g c = g.met.C.Seated.queues_fit
+bits-requires g c = g.met.C.Queueable.parts_fit.queues
 
 pub returned-requires : goal.returned-requires
 returned-requires g c = tt

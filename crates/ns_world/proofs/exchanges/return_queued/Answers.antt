@@ -7,10 +7,10 @@ returns g c = λ row flags owed held.
     c.requires.same (c.queue_self.ensures c.args.last) c.bits.ensures c.returned.ensures
 
 pub queue_self-requires : goal.queue_self-requires
-queue_self-requires g c = (g.met.C.Seated.queues_fit, (c.requires.below, c.requires.free))
+queue_self-requires g c = (g.met.C.Queueable.parts_fit.queues, (c.requires.below, c.requires.free))
 
 pub bits-requires : goal.bits-requires
-bits-requires g c = g.met.C.Seated.queues_fit
+bits-requires g c = g.met.C.Queueable.parts_fit.queues
 
 pub returned-requires : goal.returned-requires
 returned-requires g c = tt

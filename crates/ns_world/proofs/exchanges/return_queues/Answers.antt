@@ -6,16 +6,16 @@ pub returns-then-not-is_same : goal.returns-then-not-is_same
 returns-then-not-is_same g c = (λ row flags. made _ (refl, c.if-not-is_same.ensures.another refl, refl, refl), refl)
 
 pub return_queued-requires : goal.return_queued-requires
-return_queued-requires g c = let fits = rw c.in-QueueSelf.is at (c.requires.fits [] []) in (g.met.C.Seated.queues_fit, (c.requires.below, (fits, sym (c.if-not-is_same.ensures.same refl))))
+return_queued-requires g c = let fits = rw c.in-QueueSelf.is at (c.requires.fits [] []) in (g.met.C.Queueable.parts_fit.queues, (c.requires.below, (fits, sym (c.if-not-is_same.ensures.same refl))))
 
 pub return_left-requires : goal.return_left-requires
-return_left-requires g c = (g.met.C.Seated.queues_fit, (g.met.C.Seated.event_fits, sym (c.if-not-is_same.ensures.same refl)))
+return_left-requires g c = (g.met.C.Queueable.parts_fit.queues, (g.met.C.Seated.event_fits, sym (c.if-not-is_same.ensures.same refl)))
 
 pub return_waking-requires : goal.return_waking-requires
-return_waking-requires g c = let fits = rw c.in-WakeWaiters.is at (c.requires.fits [] []) in (g.met.C.Seated.queues_fit, (g.met.C.Seated.seat_fits, (g.met.C.Seated.event_fits, (fits, sym (c.if-not-is_same.ensures.same refl)))))
+return_waking-requires g c = let fits = rw c.in-WakeWaiters.is at (c.requires.fits [] []) in (g.met.C.Queueable.parts_fit.queues, (g.met.C.Seated.seat_fits, (g.met.C.Seated.event_fits, (fits, sym (c.if-not-is_same.ensures.same refl)))))
 
 pub return_unchanged-requires : goal.return_unchanged-requires
-return_unchanged-requires g c = (g.met.C.Seated.queues_fit, sym (c.if-not-is_same.ensures.same refl))
+return_unchanged-requires g c = (g.met.C.Queueable.parts_fit.queues, sym (c.if-not-is_same.ensures.same refl))
 
 pub returns-in-QueueSelf : goal.returns-in-QueueSelf
 returns-in-QueueSelf g c = rw c.in-QueueSelf.is (λ row flags. made _ (c.return_queued.ensures row flags c.args.seat.now.owed.items c.args.seat.now.held), refl)

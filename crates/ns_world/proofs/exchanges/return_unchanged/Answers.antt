@@ -7,7 +7,7 @@ returns g c = λ seat row flags owed held.
     c.requires c.bits.ensures c.returned.ensures
 
 pub bits-requires : goal.bits-requires
-bits-requires g c = g.met.C.Seated.queues_fit
+bits-requires g c = g.met.C.Queueable.parts_fit.queues
 
 pub returned-requires : goal.returned-requires
 returned-requires g c = tt

@@ -19,16 +19,16 @@ returns-in_err-commit_wake g c =
     rw p.1 (refl, refl, refl, c.in_err-commit_wake.ensures)
 
 pub bits-requires : goal.bits-requires
-bits-requires g c = g.met.C.Seated.queues_fit
+bits-requires g c = g.met.C.Queueable.parts_fit.queues
 
 pub returned-requires : goal.returned-requires
 returned-requires g c = tt
 
 pub commit_wake-requires : goal.commit_wake-requires
-commit_wake-requires g c = (g.met.C.Seated.queues_fit, (g.met.C.Seated.event_fits, c.requires.there))
+commit_wake-requires g c = (g.met.C.Queueable.parts_fit.queues, (g.met.C.Seated.event_fits, c.requires.there))
 
 pub waiters-requires : goal.waiters-requires
-waiters-requires g c = (g.met.C.Seated.queues_fit, (list_small _ g.met.C.Queueable.list_fits, c.requires.there))
+waiters-requires g c = (g.met.C.Queueable.parts_fit.queues, (list_small _ g.met.C.Queueable.list_fits, c.requires.there))
 
 pub wake_waiters-seat-requires : goal.wake_waiters-seat-requires
-wake_waiters-seat-requires g c = (g.met.C.Seated.queues_fit, c.requires.there)
+wake_waiters-seat-requires g c = (g.met.C.Queueable.parts_fit.queues, c.requires.there)

@@ -25,10 +25,10 @@ returns g c = (
 )
 
 pub scan_and_queue-scan-requires : goal.scan_and_queue-scan-requires
-scan_and_queue-scan-requires g c = (g.met.C.Seated.queues_fit, (omega arith, (c.requires.list, (c.requires.below, c.requires.free))))
+scan_and_queue-scan-requires g c = (g.met.C.Queueable.parts_fit.queues, (omega arith, (c.requires.list, (c.requires.below, c.requires.free))))
 
 pub called-seat-requires : goal.called-seat-requires
 called-seat-requires g c = record { few = search rules; same = rw (c.as_slice.ensures.value, c.as_slice-2.ensures.value) (as_many _ _ _ c.scan_and_queue-scan.ensures.woken c.scan_and_queue-scan.ensures.vias) }
 
 pub bits-requires : goal.bits-requires
-bits-requires g c = g.met.C.Seated.queues_fit
+bits-requires g c = g.met.C.Queueable.parts_fit.queues

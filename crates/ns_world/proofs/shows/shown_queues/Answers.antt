@@ -6,7 +6,7 @@ use Rattle.ns_world.proofs.shows.shown_queues.Goals as goal
 pub in_hand-requires : goal.in_hand-requires
 in_hand-requires g c =
     let at : slice_get c.args.seats.now c.loop-seat.seat-index ≡ Some c.seat-item.result = slice_get-get_or c.args.seats.now c.loop-seat.seat-index c.seat-item.result c.loop-seat-test.true ∙ ap Some (sym c.seat-item.is) in
-    (g.met.C.Seated.queues_fit, (omega arith, rw c.walk_of-walk.ensures (c.requires.lists c.loop-seat.seat-index c.seat-item.result at, (c.requires.below c.loop-seat.seat-index c.seat-item.result at, c.requires.free c.loop-seat.seat-index c.seat-item.result at))))
+    (g.met.C.Queueable.parts_fit.queues, (omega arith, rw c.walk_of-walk.ensures (c.requires.lists c.loop-seat.seat-index c.seat-item.result at, (c.requires.below c.loop-seat.seat-index c.seat-item.result at, c.requires.free c.loop-seat.seat-index c.seat-item.result at))))
 
 pub returns-then-has_queues : goal.returns-then-has_queues
 returns-then-has_queues g c =
@@ -24,4 +24,4 @@ returns g c =
     c.copied.ensures ∙ none_left c.args.seats.now c.loop-seat.seat-index c.loop-seat-test.false g.C.Condition.means c.args.row.now c.args.queues.now ∙ c.loop-seat.invariant
 
 pub copied-requires : goal.copied-requires
-copied-requires g c = g.met.C.Seated.queues_fit
+copied-requires g c = g.met.C.Queueable.parts_fit.queues

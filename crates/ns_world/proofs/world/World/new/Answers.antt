@@ -16,7 +16,7 @@ pub returns : goal.returns
 returns g c = record { made = (rw (c.in_ok-seats.ensures, c.new.ensures, c.new-2.ensures, c.new-3.ensures.items, no_flags, c.new-objects.ensures) refl, omega arith); lawful = invariant_of-result g c }
 
 pub new-requires : goal.new-requires
-new-requires g c = g.met.C.Seated.queues_fit
+new-requires g c = g.met.C.Queueable.parts_fit.queues
 
 pub new_seats-requires : goal.new_seats-requires
 new_seats-requires g c = g.met.C.Seated.seat_fits

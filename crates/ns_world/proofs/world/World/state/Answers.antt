@@ -7,7 +7,7 @@ use Rattle.ns_world.proofs.world.World.state.Goals as goal
 pub shown_queues-queues-requires : goal.shown_queues-queues-requires
 shown_queues-queues-requires g c =
     let fit = shown_fit g.C.Condition.means c.self.inside c.self.invariant in
-    (g.met.C.Seated.queues_fit, (g.met.C.Seated.seat_fits, (search rules, rw c.deref.ensures.value ((λ i seat at. fit.0 i seat at), ((λ i seat at. fit.1 i seat at), (λ i seat at. fit.2 i seat at))))))
+    (g.met.C.Queueable.parts_fit.queues, (g.met.C.Seated.seat_fits, (search rules, rw c.deref.ensures.value ((λ i seat at. fit.0 i seat at), ((λ i seat at. fit.1 i seat at), (λ i seat at. fit.2 i seat at))))))
 
 pub owed_wakes-requires : goal.owed_wakes-requires
 owed_wakes-requires g c = (g.met.C.Seated.seat_fits, rw c.deref-2.ensures.value (wakes_few _ c.self.invariant))
@@ -29,19 +29,19 @@ returns g c = record {
 }
 
 pub shown-requires : goal.shown-requires
-shown-requires g c = (g.met.C.Seated.queues_fit, tt)
+shown-requires g c = (g.met.C.Queueable.parts_fit.queues, tt)
 
 pub shown-requires-2 : goal.shown-requires-2
-shown-requires-2 g c = (g.met.C.Seated.queues_fit, omega arith)
+shown-requires-2 g c = (g.met.C.Queueable.parts_fit.queues, omega arith)
 
 pub shown-requires-3 : goal.shown-requires-3
-shown-requires-3 g c = (g.met.C.Seated.queues_fit, omega arith)
+shown-requires-3 g c = (g.met.C.Queueable.parts_fit.queues, omega arith)
 
 pub shown-requires-4 : goal.shown-requires-4
-shown-requires-4 g c = (g.met.C.Seated.queues_fit, omega arith)
+shown-requires-4 g c = (g.met.C.Queueable.parts_fit.queues, omega arith)
 
 pub shown-requires-5 : goal.shown-requires-5
-shown-requires-5 g c = (g.met.C.Seated.queues_fit, omega arith)
+shown-requires-5 g c = (g.met.C.Queueable.parts_fit.queues, omega arith)
 
 pub word-requires : goal.word-requires
 word-requires g c = world_fits g.row.C (number g.row.N) g.met.C.Condition.has_room g.C.Condition

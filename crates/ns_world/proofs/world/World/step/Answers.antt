@@ -144,7 +144,7 @@ make-requires g c =
     let at = found_at c.self.inside.seats.items c.args.seat c.index_mut-here.result.now c.if-at-len.false (c.len.ensures ∙ c.self.inside.seats.ok.0) c.index_mut-here.ensures.value in
     let act = act_here _ c.self.invariant c.args.seat c.index_mut-here.result.now at c.in-OnLock.walk (ap walk_of c.in-OnLock.is) in
     let no_look = no_look_here _ c.self.invariant c.args.seat c.index_mut-here.result.now at c.in-OnLock.walk c.in-OnLock.wait c.in-OnLock.is in
-    (row_fits g.row.C (number g.row.N) g.met.C.Condition.has_room, (g.met.C.Seated.queues_fit, (g.met.C.Seated.seat_fits, (g.met.C.Seated.event_fits, (rw c.want.ensures act, rw c.want.ensures no_look)))))
+    (row_fits g.row.C (number g.row.N) g.met.C.Condition.has_room, (g.met.C.Queueable.parts_fit.queues, (g.met.C.Seated.seat_fits, (g.met.C.Seated.event_fits, (rw c.want.ensures act, rw c.want.ensures no_look)))))
 
 pub settle-requires : goal.settle-requires
 settle-requires g c =
