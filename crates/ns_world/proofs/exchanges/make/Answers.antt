@@ -30,7 +30,8 @@ release_returning-requires g c = (row_fits g.row.C (number g.row.N) g.met.C.Cond
 pub wait_returning-requires : goal.wait_returning-requires
 wait_returning-requires g c =
     let fits = rw c.in-WaitReturning.is at c.requires.fits in
-    (row_fits g.row.C (number g.row.N) g.met.C.Condition.has_room, (g.met.C.Queueable.parts_fit.queues, (g.met.C.Seated.seat_fits, (g.met.C.Seated.event_fits, (fits.0, (can_in_range g.C.Condition.means c.in-WaitReturning.wait c.in-WaitReturning.again c.args.seat.now.held fits.0, (fits.2, fits.3)))))))
+    let in_range = can_in_range g.C.Condition.means c.in-WaitReturning.wait c.in-WaitReturning.again c.args.seat.now.held fits.0 in
+    (row_fits g.row.C (number g.row.N) g.met.C.Condition.has_room, (g.met.C.Queueable.parts_fit.queues, (g.met.C.Seated.seat_fits, (g.met.C.Seated.event_fits, (fits.0, (in_range, (fits.2, fits.3)))))))
 
 pub judge-requires : goal.judge-requires
 judge-requires g c = (g.met.C.Seated.held_fits, (rw c.in-JudgeQuiet.is at c.requires.fits).0)
