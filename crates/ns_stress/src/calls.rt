@@ -7,7 +7,7 @@
 ghost use Rattle.std.specs.Prelude.{◌<◌, ◌^◌};
 
 use crate::kit::{Kit, RowHandle};
-use crate::sections::{LAST_MOMENT, do_some, leave};
+use crate::sections::{FAR_MOMENT, do_some, leave};
 use crate::waits::wait_until_met;
 use crate::wish::{DONE, Wish};
 use ns_monitor::caller::Hand;
@@ -28,7 +28,7 @@ fn moment_of(call: u64) -> u64
 {
     call.saturating_add(1)
         .saturating_mul(1 << 32)
-        .min(LAST_MOMENT)
+        .min(FAR_MOMENT)
 }
 
 /// Comes, and sleeps until it is woken by a call or gives up.

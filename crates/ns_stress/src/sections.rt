@@ -10,7 +10,7 @@ use std::sync::Wait;
 use std::thread::yield_now;
 
 /// No clock is moved to a later moment.
-pub const LAST_MOMENT: u64 = 1 << 50;
+pub const FAR_MOMENT: u64 = 1 << 50;
 
 /// Ends a section that writes; where it is quiet, mostly without looking for those that it could wake. Some
 /// rouse those who wait for a variable.
@@ -111,7 +111,7 @@ fn doze<'m, R: Wait>(
 /// Moves the clock on by a tick.
 pub fn tick(kit: &mut Kit<'_, '_>) {
     let now = kit.watcher.now();
-    if now < LAST_MOMENT {
+    if now < FAR_MOMENT {
         kit.watcher.advance(now + 1);
     }
 }
