@@ -49,6 +49,7 @@ pub fn a_step_tells_no_other()
 
 /// A clock at 0 without notes is lawful, with any number of seats of which none goes to take a
 /// number.
+#[tactic(auto, using(crate::proofs::Begins::new_lawful))]
 pub fn a_new_environment_is_lawful()
     ensures { (seats : ℕ) → IsLawful seats fresh_plain 0 [] }
 {}
@@ -72,6 +73,7 @@ pub fn asking_keeps_the_law()
 {}
 
 /// A chain finds in one go whether its note is notified.
+#[tactic(auto, using(crate::proofs::Looks::finds_notified))]
 pub fn a_chain_finds_the_notified()
     ensures { (events : List EnvEvent) (plain : EnvPlain) (chain : Chain) (most note : ℕ) →
         Meets events plain → IsMade events note → note < most →
@@ -79,6 +81,7 @@ pub fn a_chain_finds_the_notified()
 {}
 
 /// A chain goes on to a note that is made and has a smaller number, so it ends.
+#[tactic(auto, using(crate::proofs::Looks::chain_up))]
 pub fn a_chain_goes_up()
     ensures { (events : List EnvEvent) (plain : EnvPlain) (chain chain' : Chain) (clock clock' at next : ℕ) (note : NoteWord) →
         Meets events plain → standing_of note ≡ plain.notes at →
@@ -87,6 +90,7 @@ pub fn a_chain_goes_up()
 {}
 
 /// A chain begins at the clock that it loads: it goes to its note, or has none and is over at once.
+#[tactic(auto, using(crate::proofs::Chains::chain_begins))]
 pub fn a_chain_begins_at_its_clock()
     ensures { (now : List EnvEvent) (state : EnvState) (seat : ℕ) (chain : Chain) →
         IsLawfulEnv now state → slice_get state.askings seat ≡ Some (Some (ClockLoad chain)) →
@@ -96,6 +100,7 @@ pub fn a_chain_begins_at_its_clock()
 /// Whatever happened since its clock was loaded, a chain that loads a note answers rightly or goes
 /// on: that its note is notified is so by now, and that it wasn't was so when the clock was
 /// loaded, with a deadline that had or hadn't come by then.
+#[tactic(auto, using(crate::proofs::Chains::chain_answers))]
 pub fn a_chain_answers_rightly()
     ensures { (point now : List EnvEvent) (state : EnvState) (chain : Chain) (clock at : ℕ) (note : NoteWord) →
         IsLawfulEnv now state → BeginsWith now point → ChainFits point now chain (Go (NoteLoad chain clock at)) → standing_of note ≡ state.plain.notes at →
@@ -103,6 +108,7 @@ pub fn a_chain_answers_rightly()
 {}
 
 /// What an expiry answers is the earliest deadline from its note up to the root, as it stands.
+#[tactic(auto, using(crate::proofs::Looks::expiry_is))]
 pub fn an_expiry_is_the_earliest()
     ensures { (events : List EnvEvent) (state : EnvState) (seat asked at : ℕ) (least answer : Option ℕ) (note : NoteWord) →
         IsLawfulEnv events state → slice_get state.askings seat ≡ Some (Some (ExpiryLoad asked at least)) → standing_of note ≡ state.plain.notes at →
@@ -116,6 +122,7 @@ pub fn calls_on_notes_stay_what_they_were_asked()
 {}
 
 /// A call on the clock and the notes, or a look, has done nothing as it begins.
+#[tactic(auto, using(crate::proofs::Courses::begins_course))]
 pub fn calls_on_notes_begin_with_nothing_done()
     ensures { (events : List EnvEvent) (notes : ℕ → NoteStanding) (seat : ℕ) (walk : EnvWalk) →
         IsFirstAsk notes walk → EnvSoFar events seat (env_course_at events) walk }
