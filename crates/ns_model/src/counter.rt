@@ -157,23 +157,27 @@ pub fn legal_counter(start: u32, history: &[CounterEvent]) -> bool
 /// The answer to a change means what it says: the new value is the sum; `Under` is answered where
 /// that is below 0, `Over` where it is above 4,294,967,295, and `AfterWait` where the value would
 /// rise from 0 to one that there is, after the beginning of a wait.
+#[tactic(auto, using(crate::proofs::Counters::answers_rightly))]
 pub fn an_answer_means_what_it_says()
     ensures { (now : CounterStateOf) (delta : ℤ) → AnswersRightly now delta (judged now delta) }
 {}
 
 /// The value of a counter is what it began with and all changes that were accepted, added up.
+#[tactic(auto, using(crate::proofs::Counters::counts))]
 pub fn a_counter_counts()
     ensures { (start : ℕ) (history : List CounterEventOf) → IsLegalCounter start history →
         pos (counter_after start history).value ≡ pos start +ℤ added_by history }
 {}
 
 /// A counter remembers just whether a wait for 0 has begun.
+#[tactic(auto, using(crate::proofs::Counters::remembers))]
 pub fn a_counter_remembers_waits()
     ensures { (start : ℕ) (history : List CounterEventOf) →
         (counter_after start history).waited ≡ list_any is_begun history }
 {}
 
 /// Where a wait for 0 has begun, a counter that is 0 is 0 for good.
+#[tactic(auto, using(crate::proofs::Counters::stays_at_zero))]
 pub fn a_counter_waited_for_stays_at_zero()
     ensures { (now : CounterStateOf) (events : List CounterEventOf) → now.value ≡ 0 → now.waited ≡ true →
         IsLegalFrom IsLegalCounterEvent counter_next now events → (fold counter_next now events).value ≡ 0 }

@@ -97,11 +97,13 @@ pub fn legal_once(history: &[OnceEvent]) -> bool
 }
 
 /// The function of a once cell begins once at most, and has run once at most, by who began it.
+#[tactic(auto, using(crate::proofs::Onces::runs_once))]
 pub fn a_function_runs_once()
     ensures { (history : List OnceEventOf) → IsLegalOnce history → IsCourseOfOnce history }
 {}
 
 /// A once cell is done just where its function has run.
+#[tactic(auto, using(crate::proofs::Onces::done_once_run))]
 pub fn a_cell_is_done_once_its_function_has_run()
     ensures { (history : List OnceEventOf) → IsLegalOnce history → is_done (once_after history) ≡ list_any is_ran history }
 {}
