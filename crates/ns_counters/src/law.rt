@@ -40,6 +40,7 @@ pub fn each_cell_has_a_legal_history()
 {}
 
 /// New objects are lawful, before any event.
+#[tactic(auto, using(crate::proofs::NewObjects::new_lawful))]
 pub fn new_objects_are_lawful()
     ensures { (seats : ℕ) (values : List ℕ) (cells : ℕ) → seats ≤ 64 → length values ≤ 16 → cells ≤ 16 → ((number : ℕ) → slice_index values number ≤ most) →
         IsLawful (setup_of seats values cells) (first_words (padded values)) [] }
@@ -69,6 +70,7 @@ pub fn a_step_tells_no_other()
 {}
 
 /// A seat may begin a call at any place that fits: the law stays, with the same events.
+#[tactic(auto, using(crate::proofs::Placed::put_keeps))]
 pub fn beginning_to_walk_keeps_the_law()
     ensures { (history : List ObjectEvent) (env : EnvPlain) (state : ObjectState) (seat : ℕ) (walk : ObjectWalk) →
         IsLawfulObjects history state env.notes → seat < length state.walks → seat < state.setup.seats → WalkFits state.setup (objects_after state.setup history) env.notes seat walk →
@@ -92,6 +94,7 @@ pub fn steps_on_objects_take_their_call_on()
 {}
 
 /// What others do leaves a call where it is.
+#[tactic(auto, using(crate::proofs::Courses::so_far_on))]
 pub fn steps_of_others_leave_a_call_on_objects()
     ensures { (setup : Setup) (earlier now more : Past) (seat : ℕ) (events : List ObjectEvent) (walk : ObjectWalk) →
         ObjectSoFar setup earlier now seat events walk → ObjectSoFar setup earlier (past_and now more) seat events walk }
