@@ -1,14 +1,14 @@
 -- A step of one seat keeps the law of a clock and notes that stand as plain data, with the places of seats in their calls.
-use Rattle.std.proofs.Common.{◌≡◌, ◌≢◌, ℕ, zero, suc, ◌+◌, ◌<◌, ◌≤◌, nat_lt, Bool, true, false, cond, List, [], ◌∷◌, ◌++◌, length, Option, None, Some, slice_get, slice_set, refl, inl, inr, sym, ap, ◌∙◌, subst, arith}
+use Rattle.std.proofs.Common.{◌≡◌, ◌≢◌, ℕ, zero, suc, ◌+◌, ◌<◌, ◌≤◌, nat_lt, Bool, true, false, cond, List, [], ◌∷◌, ◌++◌, length, Option, None, Some, IfSome, slice_get, slice_set, refl, inl, inr, sym, ap, ◌∙◌, subst, arith}
 use Rattle.std.proofs.lemmas.Bool.{cases_eq}
 use Rattle.std.proofs.lemmas.List.{length-set}
 use Rattle.std.proofs.lemmas.Option.{slice_get_within}
-use Rattle.ns_env.specs.Prelude.{Advancing, AskFits, BeginsWith, CanAct, Chain, ClockLoad, EnvEvent, EnvFound, EnvNext, EnvPlain, EnvState, EnvStep, EnvWalk, Expired, ExpiryLoad, ForIsNotified, ForLook, ForNoteWait, Go, IfMade, Is, IsLawful, IsLawfulEnv, IsLegalEnv, IsMade}
-use Rattle.ns_env.specs.Prelude.{LookOver, MakeNote, Making, MakingFits, Meets, NextLoad, NoteLoad, NoteStanding, NotesFull, Nothing, Notifying, Over, ParentFits, Repeat, TakeNumber, adders, adds, chain_note, earlier, env_after, env_got_of, env_walk_after, env_want_of}
-use Rattle.ns_env.specs.Prelude.{expiry_of, is_due, is_over, lowered_to, making_after, making_at, making_of, outcome, passed, stopped, up_to}
+use Rattle.ns_env.specs.Prelude.{Advancing, AskFits, BeginsWith, CanAct, Chain, ClockLoad, EnvEvent, EnvFound, EnvNext, EnvPlain, EnvState, EnvStep, EnvWalk, ExpiryLoad, Go, IfMade, IsLawful, IsLawfulEnv, IsLegalEnv, IsMade, MakeNote, Making, MakingFits, Meets, NextLoad, NoteLoad, NoteStanding}
+use Rattle.ns_env.specs.Prelude.{NotesFull, Nothing, Notifying, Over, ParentFits, TakeNumber, adders, adds, chain_note, earlier, env_after, env_got_of, env_walk_after, env_want_of, expiry_of, is_over, lowered_to, making_after, making_at, making_of, outcome, up_to}
 use Rattle.ns_model.proofs.Beginnings.{begins_itself}
 use Rattle.ns_model.proofs.Environments.{sound_after, grown_begins, made_begins, expiry_begins}
 use Rattle.ns_model.proofs.Lines.{IsExpiryAt, expiry_goes_on}
+use Rattle.ns_env.proofs.Ways.{at_next, at_stop, either}
 use Rattle.ns_env.proofs.Keeps.{StepKeeps, outcome_by, step_keeps, others_make, adds_most}
 
 -- ---- a list of places, one of them set
@@ -24,6 +24,14 @@ set_there (y ∷ xs) zero zero x ne = absurd (ne refl)
 set_there (y ∷ xs) zero (suc j) x ne = refl
 set_there (y ∷ xs) (suc i) zero x ne = refl
 set_there (y ∷ xs) (suc i) (suc j) x ne = set_there xs i j x (λ e. ne (ap suc e))
+
+-- what is so of the place that is set, and of each other, is so of each
+pub set_each : {X : Type 0} (P : ℕ → X → Type 0) (xs : List (Option X)) (i : ℕ) (o : Option X) → i < length xs → IfSome o (P i) → ((j : ℕ) (x : X) → j ≢ i → slice_get xs j ≡ Some (Some x) → P j x) →
+    (j : ℕ) (x : X) → slice_get (slice_set xs i o) j ≡ Some (Some x) → P j x
+set_each P xs i o within here there j x at = elim (cases_eq j i) [
+  | inl e ↦ let same : Some o ≡ Some (Some x) = sym (set_here xs i o within) ∙ ap (slice_get (slice_set xs i o)) (sym e) ∙ at in let is : o ≡ Some x = cc in subst (λ n. P n x) (sym e) (subst (λ z. IfSome z (P i)) is here)
+  | inr ne ↦ there j x ne (sym (set_there xs i j o ne) ∙ at)
+]
 
 -- ---- how many of the other seats go to take a number
 
@@ -74,24 +82,13 @@ by_two : (b : Bool) (x y : EnvNext) → making_next (cond b x y) ≡ cond b (mak
 by_two true x y = refl
 by_two false x y = refl
 
-makes_none : (b : Bool) (x y : EnvNext) → making_next x ≡ Nothing → making_next y ≡ Nothing → making_next (cond b x y) ≡ Nothing
-makes_none true x y p q = p
-makes_none false x y p q = q
+abbrev MakesNone : EnvNext → Type 0
+MakesNone next = making_next next ≡ Nothing
 
-stopped_makes : (chain : Chain) → making_next (stopped chain) ≡ Nothing
-stopped_makes (ForLook limits) = refl
-stopped_makes other = refl
+up_makes : (chain : Chain) (clock : ℕ) (note : Option ℕ) → MakesNone (up_to chain clock note)
+up_makes chain clock note = at_next MakesNone (λ _. refl) (λ _. refl) chain clock note refl (λ _ _. refl)
 
-passed_makes : (chain : Chain) (clock : ℕ) → making_next (passed chain clock) ≡ Nothing
-passed_makes (ForLook limits) clock = makes_none (is_due clock limits.deadline) (LookOver (Some Expired)) (LookOver None) refl refl
-passed_makes (ForIsNotified note) clock = refl
-passed_makes (ForNoteWait note deadline) clock = makes_none (is_due clock deadline) (Over (Is false)) (Repeat (ClockLoad (ForNoteWait note deadline))) refl refl
-
-up_makes : (chain : Chain) (clock : ℕ) (note : Option ℕ) → making_next (up_to chain clock note) ≡ Nothing
-up_makes chain clock None = passed_makes chain clock
-up_makes chain clock (Some note) = refl
-
-lowered_makes : (asked : ℕ) (note least : Option ℕ) → making_next (lowered_to asked note least) ≡ Nothing
+lowered_makes : (asked : ℕ) (note least : Option ℕ) → MakesNone (lowered_to asked note least)
 lowered_makes asked None least = refl
 lowered_makes asked (Some note) least = refl
 
@@ -100,7 +97,7 @@ goes_making : (seat : ℕ) (plain : EnvPlain) (walk : EnvWalk) → making_next (
 goes_making seat plain (NextLoad parent deadline) = by_two (nat_lt plain.next 64) (Go (TakeNumber parent deadline)) (Over NotesFull)
 goes_making seat plain (TakeNumber parent deadline) = by_two (nat_lt plain.next 64) (Go (MakeNote plain.next parent deadline)) (Over NotesFull)
 goes_making seat plain (ClockLoad chain) = up_makes chain plain.clock (chain_note chain)
-goes_making seat plain (NoteLoad chain clock at) = makes_none (is_over clock (plain.notes at)) (stopped chain) (up_to chain clock (plain.notes at).parent) (stopped_makes chain) (up_makes chain clock (plain.notes at).parent)
+goes_making seat plain (NoteLoad chain clock at) = either MakesNone (is_over clock (plain.notes at)) (at_stop MakesNone (λ _. refl) (λ _. refl) chain) (up_makes chain clock (plain.notes at).parent)
 goes_making seat plain (ExpiryLoad asked at least) = lowered_makes asked (plain.notes at).parent (earlier least (plain.notes at).deadline)
 goes_making seat plain other = refl
 
@@ -131,27 +128,10 @@ module _ (h k : List EnvEvent) (legal : IsLegalEnv k) (begins : BeginsWith k h) 
 
   -- what the place tells where a walk goes
   abbrev NextFits : EnvNext → Type 0
-  NextFits (Go walk) = AskFits k walk
-  NextFits (Repeat walk) = AskFits k walk
-  NextFits (Over reply) = Unit {0}
-  NextFits (LookOver cause) = Unit {0}
-
-  either_fits : (b : Bool) (x y : EnvNext) → NextFits x → NextFits y → NextFits (cond b x y)
-  either_fits true x y p q = p
-  either_fits false x y p q = q
-
-  stopped_fits : (chain : Chain) → NextFits (stopped chain)
-  stopped_fits (ForLook limits) = tt
-  stopped_fits other = tt
-
-  passed_fits : (chain : Chain) (clock : ℕ) → IfMade (env_after k).notes (chain_note chain) → NextFits (passed chain clock)
-  passed_fits (ForLook limits) clock p = either_fits (is_due clock limits.deadline) (LookOver (Some Expired)) (LookOver None) tt tt
-  passed_fits (ForIsNotified note) clock p = tt
-  passed_fits (ForNoteWait note deadline) clock p = either_fits (is_due clock deadline) (Over (Is false)) (Repeat (ClockLoad (ForNoteWait note deadline))) tt p
+  NextFits next = IfSome (env_walk_after next) (AskFits k)
 
   up_fits : (chain : Chain) (clock : ℕ) (note : Option ℕ) → clock ≤ (env_after k).clock → IfMade (env_after k).notes (chain_note chain) → IfMade (env_after k).notes note → NextFits (up_to chain clock note)
-  up_fits chain clock None past p q = passed_fits chain clock p
-  up_fits chain clock (Some note) past p q = (past, q, p)
+  up_fits chain clock note past p q = at_next NextFits (λ _. tt) (λ _. tt) chain clock note p (λ above is. (past, subst (IfMade (env_after k).notes) is q, p))
 
   module _ (plain : EnvPlain) (meets : Meets h plain) where
     -- a parent that is made has a smaller number than one that is taken then
@@ -176,19 +156,13 @@ module _ (h k : List EnvEvent) (legal : IsLegalEnv k) (begins : BeginsWith k h) 
 
     -- it tells that of where the seat's own walk leads
     pub own_fits : (seat : ℕ) (walk : EnvWalk) → AskFits h walk → NextFits (env_got_of walk (outcome seat (env_want_of walk) plain).found)
-    own_fits seat (NextLoad parent deadline) p = either_fits (nat_lt plain.next 64) (Go (TakeNumber parent deadline)) (Over NotesFull) (given_later parent p) tt
-    own_fits seat (TakeNumber parent deadline) p = either_fits (nat_lt plain.next 64) (Go (MakeNote plain.next parent deadline)) (Over NotesFull) (parent_below parent p) tt
+    own_fits seat (NextLoad parent deadline) p = either NextFits (nat_lt plain.next 64) (given_later parent p) tt
+    own_fits seat (TakeNumber parent deadline) p = either NextFits (nat_lt plain.next 64) (parent_below parent p) tt
     own_fits seat (ClockLoad chain) p = up_fits chain plain.clock (chain_note chain) clock_past (given_later (chain_note chain) p) (given_later (chain_note chain) p)
-    own_fits seat (NoteLoad chain clock at) p = either_fits (is_over clock (plain.notes at)) (stopped chain) (up_to chain clock (plain.notes at).parent) (stopped_fits chain)
+    own_fits seat (NoteLoad chain clock at) p = either NextFits (is_over clock (plain.notes at)) (at_stop NextFits (λ _. tt) (λ _. tt) chain)
         (up_fits chain clock (plain.notes at).parent (let on = (grown_begins k h legal begins).clock in let was = p.0 in omega (arith, on, was)) (given_later (chain_note chain) p.2) (parent_made at (plain.notes at).parent refl))
     own_fits seat (ExpiryLoad asked at least) p = lowered_fits asked at least p.0 p.1 p.2
     own_fits seat other p = tt
-
-  next_fits : (next : EnvNext) (walk : EnvWalk) → env_walk_after next ≡ Some walk → NextFits next → AskFits k walk
-  next_fits (Go one) walk e p = let is : one ≡ walk = cc in subst (AskFits k) is p
-  next_fits (Repeat one) walk e p = let is : one ≡ walk = cc in subst (AskFits k) is p
-  next_fits (Over reply) walk e p = absurd (cc)
-  next_fits (LookOver cause) walk e p = absurd (cc)
 
 -- ---- the step
 
@@ -209,27 +183,20 @@ module _ (h : List EnvEvent) (plain : EnvPlain) (askings : List (Option EnvWalk)
   keeps = step_keeps (length askings) (others_of askings seat) seat plain (making_of walk) h (others_few askings seat (Some walk) walks) within
       (subst (λ (n : ℕ). IsLawful (length askings) plain n h) (adders_are askings seat (Some walk) walks) lawful.lawful) (lawful.making seat walk walks) (env_want_of walk) (can_ask h walk (lawful.each seat walk walks))
 
-  -- who stands at a place of the list after the step is the seat, where its walk goes, or another, where it stood
-  here : (next : EnvWalk) → slice_get (slice_set askings seat (env_walk_after goes_to)) seat ≡ Some (Some next) → env_walk_after goes_to ≡ Some next
-  here next at = let same : Some (env_walk_after goes_to) ≡ Some (Some next) = sym (set_here askings seat (env_walk_after goes_to) within) ∙ at in cc
-
-  there : (other : ℕ) (next : EnvWalk) → other ≢ seat → slice_get (slice_set askings seat (env_walk_after goes_to)) other ≡ Some (Some next) → slice_get askings other ≡ Some (Some next)
-  there other next apart at = sym (set_there askings seat other (env_walk_after goes_to) apart) ∙ at
+  making_here : (goes : Option EnvWalk) → MakingFits (env_after (h ++ left_by)) seat (making_at goes) → IfSome goes (λ next. MakingFits (env_after (h ++ left_by)) seat (making_of next))
+  making_here None fits = tt
+  making_here (Some next) fits = fits
 
   keeps_here : IsLawfulEnv (h ++ left_by) state_after
   keeps_here = record {
     lawful = subst (λ (z : ℕ × ℕ). IsLawful z.0 state_after.plain z.1 (h ++ left_by))
         (λ i. (sym (length-set askings seat (env_walk_after goes_to)) i, (ap (λ (m : Making). others_of askings seat + adds m) (sym (goes_making seat plain walk)) ∙ sym (adders_after askings seat (Some walk) walks (env_walk_after goes_to))) i)) keeps.lawful;
-    making = λ other next at. elim (cases_eq other seat) [
-      | inl e ↦ subst (λ (z : ℕ × Making). MakingFits (env_after (h ++ left_by)) z.0 z.1)
-          (λ i. (sym e i, (sym (goes_making seat plain walk) ∙ ap making_at (here next (ap (slice_get state_after.askings) (sym e) ∙ at))) i)) keeps.fits
-      | inr ne ↦ others_make h left_by seat other (making_of next) lawful.lawful.meets.legal keeps.more (λ is. ne (sym is)) (outcome_by seat (env_want_of walk) plain) (lawful.making other next (there other next ne at))
-    ];
-    each = λ other next at. elim (cases_eq other seat) [
-      | inl e ↦ next_fits h (h ++ left_by) keeps.lawful.meets.legal (left_by, refl) goes_to next (here next (ap (slice_get state_after.askings) (sym e) ∙ at))
-          (own_fits h (h ++ left_by) keeps.lawful.meets.legal (left_by, refl) plain lawful.lawful.meets seat walk (lawful.each seat walk walks))
-      | inr ne ↦ asks_later h (h ++ left_by) keeps.lawful.meets.legal (left_by, refl) next (lawful.each other next (there other next ne at))
-    ];
+    making = set_each (λ other next. MakingFits (env_after (h ++ left_by)) other (making_of next)) askings seat (env_walk_after goes_to) within
+        (making_here (env_walk_after goes_to) (subst (MakingFits (env_after (h ++ left_by)) seat) (sym (goes_making seat plain walk)) keeps.fits))
+        (λ other next ne at. others_make h left_by seat other (making_of next) lawful.lawful.meets.legal keeps.more (λ is. ne (sym is)) (outcome_by seat (env_want_of walk) plain) (lawful.making other next at));
+    each = set_each (λ other next. AskFits (h ++ left_by) next) askings seat (env_walk_after goes_to) within
+        (own_fits h (h ++ left_by) keeps.lawful.meets.legal (left_by, refl) plain lawful.lawful.meets seat walk (lawful.each seat walk walks))
+        (λ other next ne at. asks_later h (h ++ left_by) keeps.lawful.meets.legal (left_by, refl) next (lawful.each other next at));
   }
 
 pub keeps_env : (h events : List EnvEvent) (old new : EnvState) (seat : ℕ) (found : EnvFound) → EnvStep old seat found new events → IsLawfulEnv h old → IsLawfulEnv (h ++ events) new

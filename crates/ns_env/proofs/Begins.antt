@@ -1,10 +1,9 @@
 -- How a clock and notes begin that stand as plain data, and how a call on them begins.
-use Rattle.std.proofs.Common.{length, ◌≡◌, ℕ, zero, suc, List, [], replicate, Option, None, Some, slice_get, slice_set, refl, inl, inr, sym, ap, ◌∙◌, subst, arith}
-use Rattle.std.proofs.lemmas.Bool.{cases_eq}
+use Rattle.std.proofs.Common.{length, ◌≡◌, ℕ, zero, suc, List, [], replicate, Option, None, Some, slice_get, refl, sym, ap, subst, arith}
 use Rattle.std.proofs.lemmas.List.{length-set}
 use Rattle.std.proofs.lemmas.Option.{slice_get_within}
 use Rattle.ns_env.specs.Prelude.{Advancing, AskFits, EnvBegins, EnvEvent, EnvState, EnvWalk, ExpiryLoad, IsEnvBySeats, IsFirstAsk, IsLawful, IsLawfulEnv, MakeNote, MakingFits, NoteLoad, NoteStanding, Nothing, TakeNumber, adders, adds, env_after, fresh_asks, fresh_plain, making_of}
-use Rattle.ns_env.proofs.Asks.{set_here, set_there, adders_set}
+use Rattle.ns_env.proofs.Asks.{adders_set, set_each}
 
 -- ---- a new environment
 
@@ -45,23 +44,15 @@ first_fits h other p = p
 
 pub begins_env : (h : List EnvEvent) (old new : EnvState) (seat : ℕ) (walk : EnvWalk) → EnvBegins old seat walk new → IsLawfulEnv h old → IsLawfulEnv h new
 begins_env h old new seat walk p lawful =
-    let after = slice_set old.askings seat (Some walk) in
     let long = length-set old.askings seat (Some walk) in
     let none : making_of walk ≡ Nothing = first_makes old.plain.notes walk p.first in
-    let is : (ask : EnvWalk) → (other : ℕ) → other ≡ seat → slice_get after other ≡ Some (Some ask) → walk ≡ ask = (λ ask other e at.
-    let here : Some (Some walk) ≡ Some (Some ask) = sym (set_here old.askings seat (Some walk) (slice_get_within old.askings seat None p.over)) ∙ ap (slice_get after) (sym e) ∙ at in cc) in
+    let within = slice_get_within old.askings seat None p.over in
     subst (IsLawfulEnv h) (sym p.becomes) (record {
       lawful = record {
         meets = lawful.lawful.meets;
         by_seats = subst (λ (n : ℕ). IsEnvBySeats n h) (sym long) lawful.lawful.by_seats;
         room = let set = adders_set old.askings seat None (Some walk) p.over in let zero : ◌≡◌ {A = ℕ} (adds (making_of walk)) 0 = ap adds none in let room = lawful.lawful.room in omega (arith, set, zero, long, room);
       };
-      making = λ other ask at. elim (cases_eq other seat) [
-        | inl e ↦ subst (MakingFits (env_after h) other) (sym none ∙ ap making_of (is ask other e at)) tt
-        | inr ne ↦ lawful.making other ask (sym (set_there old.askings seat other (Some walk) ne) ∙ at)
-      ];
-      each = λ other ask at. elim (cases_eq other seat) [
-        | inl e ↦ subst (AskFits h) (is ask other e at) (first_fits h walk (subst (λ (notes : ℕ → NoteStanding). IsFirstAsk notes walk) lawful.lawful.meets.notes p.first))
-        | inr ne ↦ lawful.each other ask (sym (set_there old.askings seat other (Some walk) ne) ∙ at)
-      ];
+      making = set_each (λ other ask. MakingFits (env_after h) other (making_of ask)) old.askings seat (Some walk) within (subst (MakingFits (env_after h) seat) (sym none) tt) (λ other ask ne at. lawful.making other ask at);
+      each = set_each (λ other ask. AskFits h ask) old.askings seat (Some walk) within (first_fits h walk (subst (λ (notes : ℕ → NoteStanding). IsFirstAsk notes walk) lawful.lawful.meets.notes p.first)) (λ other ask ne at. lawful.each other ask at);
     })

@@ -6,3 +6,4 @@ pub mod Courses
 pub mod Keeps
 pub mod Looks
 pub mod Ranges
+pub mod Ways

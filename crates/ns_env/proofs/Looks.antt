@@ -1,30 +1,22 @@
 -- What a chain of notes finds, and where it goes.
 use Rattle.std.proofs.Common.{◌≡◌, ℕ, zero, suc, ◌<◌, Bool, true, false, ◌||◌, cond, List, Option, None, Some, slice_get, refl, sym, ap, ◌∙◌, subst, arith}
-use Rattle.ns_env.specs.Prelude.{Chain, ClockLoad, EnvEvent, EnvNext, EnvPlain, EnvState, Expired, Expiry, ExpiryLoad, ForIsNotified, ForLook, ForNoteWait, Go, Is, IsLawfulEnv, IsMade, LookOver, Meets, Note, NoteLoad, NoteStanding, NoteWord, Over, Repeat, earlier, env_after, env_got_of, expiry_of}
-use Rattle.ns_env.specs.Prelude.{is_due, is_notified, is_over, looked, lowered_to, notified_in, passed, standing_of, stopped, up_by, up_to}
+use Rattle.ns_env.specs.Prelude.{Chain, EnvEvent, EnvNext, EnvPlain, EnvState, Expiry, ExpiryLoad, Go, IsLawfulEnv, IsMade, Meets, Note, NoteLoad, NoteStanding, NoteWord, Over, earlier, env_after, env_got_of, expiry_of, is_notified, is_over, looked, lowered_to, notified_in, passed, standing_of}
+use Rattle.ns_env.specs.Prelude.{stopped, up_by, up_to}
+use Rattle.ns_env.proofs.Ways.{at_end, at_stop}
 use Rattle.ns_model.proofs.Beginnings.{begins_itself}
 use Rattle.ns_model.proofs.Lines.{IsExpiryAt, expiry_goes_on}
 use Rattle.ns_model.proofs.Environments.{sound_after, notified_in-up, notified_in-root}
 
 -- ---- in one go
 
-by_stopped : (follow : ℕ → EnvNext) (chain : Chain) → up_by follow (stopped chain) ≡ stopped chain
-by_stopped follow (ForLook limits) = refl
-by_stopped follow other = refl
-
-by_cond : (follow : ℕ → EnvNext) (b : Bool) (one other : EnvNext) → up_by follow one ≡ one → up_by follow other ≡ other → up_by follow (cond b one other) ≡ cond b one other
-by_cond follow true one other p q = p
-by_cond follow false one other p q = q
-
-by_passed : (follow : ℕ → EnvNext) (chain : Chain) (clock : ℕ) → up_by follow (passed chain clock) ≡ passed chain clock
-by_passed follow (ForLook limits) clock = by_cond follow (is_due clock limits.deadline) (LookOver (Some Expired)) (LookOver None) refl refl
-by_passed follow (ForIsNotified note) clock = refl
-by_passed follow (ForNoteWait note deadline) clock = by_cond follow (is_due clock deadline) (Over (Is false)) (Repeat (ClockLoad (ForNoteWait note deadline))) refl refl
+-- a chain that is over isn't followed
+abbrev IsLeft : (ℕ → EnvNext) → EnvNext → Type 0
+IsLeft follow next = up_by follow next ≡ next
 
 -- one note of a chain: it stops here, or it is as the rest of it finds
 one_note : (follow : ℕ → EnvNext) (chain : Chain) (clock : ℕ) (b up all : Bool) (parent : Option ℕ) → all ≡ (b || up) →
     up_by follow (up_to chain clock parent) ≡ cond up (stopped chain) (passed chain clock) → up_by follow (cond b (stopped chain) (up_to chain clock parent)) ≡ cond all (stopped chain) (passed chain clock)
-one_note follow chain clock true up all parent is rest = rw is (by_stopped follow chain)
+one_note follow chain clock true up all parent is rest = rw is (at_stop (IsLeft follow) (λ _. refl) (λ _. refl) chain)
 one_note follow chain clock false up all parent is rest = rw is rest
 
 module _ (h : List EnvEvent) (plain : EnvPlain) (m : Meets h plain) where
@@ -40,7 +32,7 @@ module _ (h : List EnvEvent) (plain : EnvPlain) (m : Meets h plain) where
   go_from most chain note None rest up =
       one_note (looked most plain chain) chain plain.clock (is_over plain.clock (plain.notes note)) false (notified_in (env_after h) note) None
       (notified_in-root (env_after h) note (ap (λ (s : NoteStanding). s.parent) (sym (note_is note)) ∙ up) ∙ ap (λ b. b || false) (sym (over_is note)))
-      (by_passed (looked most plain chain) chain plain.clock)
+      (at_end (IsLeft (looked most plain chain)) (λ _. refl) (λ _. refl) chain plain.clock refl)
   go_from most chain note (Some p) rest up =
       one_note (looked most plain chain) chain plain.clock (is_over plain.clock (plain.notes note)) (notified_in (env_after h) p) (notified_in (env_after h) note) (Some p)
       (notified_in-up (env_after h) note p (sound_after h m.legal) (ap (λ (s : NoteStanding). s.parent) (sym (note_is note)) ∙ up) ∙ ap (λ b. b || notified_in (env_after h) p) (sym (over_is note)))
@@ -58,23 +50,13 @@ module _ (h : List EnvEvent) (plain : EnvPlain) (m : Meets h plain) where
 
 -- ---- the next note of a chain
 
-stopped_not : (chain chain' : Chain) (clock next : ℕ) → stopped chain ≡ Go (NoteLoad chain' clock next) → ⊥
-stopped_not (ForLook limits) chain' clock next e = absurd (cc)
-stopped_not (ForIsNotified note) chain' clock next e = absurd (cc)
-stopped_not (ForNoteWait note deadline) chain' clock next e = absurd (cc)
-
-either_not : (b : Bool) (one other next : EnvNext) → (one ≡ next → ⊥) → (other ≡ next → ⊥) → cond b one other ≡ next → ⊥
-either_not true one other next p q e = p e
-either_not false one other next p q e = q e
-
-passed_not : (chain chain' : Chain) (at clock next : ℕ) → passed chain at ≡ Go (NoteLoad chain' clock next) → ⊥
-passed_not (ForLook limits) chain' at clock next e = either_not (is_due at limits.deadline) (LookOver (Some Expired)) (LookOver None) (Go (NoteLoad chain' clock next)) (λ e. absurd (cc)) (λ e. absurd (cc)) e
-passed_not (ForIsNotified note) chain' at clock next e = absurd (cc)
-passed_not (ForNoteWait note deadline) chain' at clock next e = either_not (is_due at deadline) (Over (Is false)) (Repeat (ClockLoad (ForNoteWait note deadline))) (Go (NoteLoad chain' clock next)) (λ e. absurd (cc)) (λ e. absurd (cc)) e
+-- that it is over isn't this place
+abbrev IsNot : EnvNext → EnvNext → Type 0
+IsNot place next = next ≡ place → ⊥
 
 goes_up : (chain chain' : Chain) (clock clock' next : ℕ) (b : Bool) (parent : Option ℕ) → cond b (stopped chain) (up_to chain clock parent) ≡ Go (NoteLoad chain' clock' next) → parent ≡ Some next
-goes_up chain chain' clock clock' next true parent e = absurd (stopped_not chain chain' clock' next e)
-goes_up chain chain' clock clock' next false None e = absurd (passed_not chain chain' clock clock' next e)
+goes_up chain chain' clock clock' next true parent e = absurd (at_stop (IsNot (Go (NoteLoad chain' clock' next))) (λ _ e. absurd (cc)) (λ _ e. absurd (cc)) chain e)
+goes_up chain chain' clock clock' next false None e = absurd (at_end (IsNot (Go (NoteLoad chain' clock' next))) (λ _ e. absurd (cc)) (λ _ e. absurd (cc)) chain clock (λ e. absurd (cc)) e)
 goes_up chain chain' clock clock' next false (Some p) e = cc
 
 pub chain_up : (h : List EnvEvent) (plain : EnvPlain) (chain chain' : Chain) (clock clock' at next : ℕ) (note : NoteWord) → Meets h plain → standing_of note ≡ plain.notes at →
