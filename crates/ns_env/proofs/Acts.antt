@@ -1,8 +1,9 @@
 -- One step of one caller, and all who look on.
-use Rattle.std.proofs.Common.{◌≡◌, ◌≢◌, ℕ, ◌+◌, ◌<◌, Bool, cond, List, [], ◌∷◌, ◌++◌, Option, None, Some, refl, sym, ap, ◌∙◌, subst, append-nil, eq-eqb, ne_eqb}
-use Rattle.ns_env.specs.Prelude.{BeginsWith, CanAct, EnvAct, EnvEvent, EnvPlain, EnvView, Every, HasActed, IsEnvBySeats, IsLawful, IsLegalEnv, Making, NotifyNote, Outcome, ParentFits, StoreNote, ViewFits, acted, adds, env_after, env_own, env_who, making_after, outcome}
+use Rattle.std.proofs.Common.{◌≡◌, ◌≢◌, ℕ, ◌+◌, ◌<◌, Bool, cond, List, [], ◌∷◌, ◌++◌, refl, sym, ap, ◌∙◌, subst, append-nil, eq-eqb, ne_eqb}
+use Rattle.ns_env.specs.Prelude.{BeginsWith, CanAct, EnvAct, EnvEvent, EnvPlain, EnvView, Every, HasActed, IsEnvBySeats, IsLawful, IsLegalEnv, Making, NotifyNote, Outcome, StoreNote, ViewFits, acted, adds, env_after, env_own, env_who, making_after, outcome}
 use Rattle.ns_model.proofs.Beginnings.{begins_itself, begins_through}
 use Rattle.ns_model.proofs.Environments.{env_own-append, made_begins}
+use Rattle.ns_env.proofs.Asks.{parent_later}
 use Rattle.ns_env.proofs.Keeps.{StepKeeps, outcome_by, step_keeps, others_make}
 
 -- ---- callers
@@ -18,12 +19,8 @@ env_own_none who seat (e ∷ events) apart are = ap (λ (b : Bool). cond b (e �
 
 -- ---- what a caller has seen is so later, too
 
-parent_later : (h seen : List EnvEvent) (note : ℕ) (parent : Option ℕ) → IsLegalEnv h → BeginsWith h seen → ParentFits (env_after seen) note parent → ParentFits (env_after h) note parent
-parent_later h seen note None legal begins fits = tt
-parent_later h seen note (Some parent) legal begins fits = (fits.0, made_begins h seen parent legal begins fits.1)
-
 can_later : (h seen : List EnvEvent) (making : Making) (act : EnvAct) → IsLegalEnv h → BeginsWith h seen → CanAct (env_after seen) making act → CanAct (env_after h) making act
-can_later h seen making (StoreNote note parent deadline) legal begins can = (can.0, parent_later h seen note parent legal begins can.1)
+can_later h seen making (StoreNote note parent deadline) legal begins can = (can.0, parent_later seen h legal begins note parent can.1)
 can_later h seen making (NotifyNote note) legal begins can = (can.0, made_begins h seen note legal begins can.1)
 can_later h seen making other legal begins can = can
 

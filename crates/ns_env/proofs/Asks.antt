@@ -108,7 +108,7 @@ module _ (h k : List EnvEvent) (legal : IsLegalEnv k) (begins : BeginsWith k h) 
   given_later None p = tt
   given_later (Some note) p = made_begins k h note legal begins p
 
-  parent_later : (note : ℕ) (given : Option ℕ) → ParentFits (env_after h) note given → ParentFits (env_after k) note given
+  pub parent_later : (note : ℕ) (given : Option ℕ) → ParentFits (env_after h) note given → ParentFits (env_after k) note given
   parent_later note None p = tt
   parent_later note (Some parent) p = (p.0, made_begins k h parent legal begins p.1)
 

@@ -1,10 +1,11 @@
 -- A chain answers rightly, whatever others do between its loads.
-use Rattle.std.proofs.Common.{◌≡◌, ℕ, ◌<◌, ◌≤◌, Bool, true, false, cond, List, Option, None, Some, IfSome, IsSomeAnd, slice_get, refl, sym, ◌∙◌, subst, leb-true, leb-false}
-use Rattle.ns_env.specs.Prelude.{AtSomePoint, BeginsWith, Cause, Chain, ChainFits, Clock, ClockLoad, EnvEvent, EnvNext, EnvState, Expired, ForIsNotified, ForLook, ForNoteWait, Go, HasLooked, IfMade, Is, IsLawfulEnv, IsLeftAt, IsLegalEnv, IsNotified, IsUnnotified, Limits, LookOver, Note, NoteLoad}
-use Rattle.ns_env.specs.Prelude.{NoteStanding, NoteWord, Notified, Over, Repeat, Shows, chain_note, clock_of, env_after, env_got_of, is_due, is_over, passed, standing_of, stopped, up_to}
+use Rattle.std.proofs.Common.{◌≡◌, ℕ, ◌<◌, ◌≤◌, true, false, cond, List, Option, None, Some, IfSome, IsSomeAnd, slice_get, refl, sym, ◌∙◌, subst, leb-true, leb-false}
+use Rattle.ns_env.specs.Prelude.{AtSomePoint, BeginsWith, Cause, Chain, ChainFits, Clock, ClockLoad, EnvEvent, EnvState, Expired, ForIsNotified, ForLook, ForNoteWait, Go, HasLooked, IfMade, IsLawfulEnv, IsLeftAt, IsLegalEnv, IsNotified, IsUnnotified, Limits, Note, NoteLoad, NoteStanding, NoteWord}
+use Rattle.ns_env.specs.Prelude.{Notified, Shows, chain_note, clock_of, env_after, env_got_of, is_due, is_over, passed, standing_of, stopped, up_to}
 use Rattle.ns_model.proofs.Beginnings.{begins_itself, begins_through}
 use Rattle.ns_model.proofs.Lines.{line_starts, line_stops, line_goes_on}
 use Rattle.ns_env.proofs.Looks.{note_is}
+use Rattle.ns_env.proofs.Ways.{by_test}
 
 -- a deadline that has come, and one that hasn't
 pub due_is : (clock : ℕ) (deadline : Option ℕ) → is_due clock deadline ≡ true → IsSomeAnd deadline (λ d. d ≤ clock)
@@ -27,51 +28,44 @@ module _ (point now : List EnvEvent) where
   stopped_fits (ForIsNotified note) asked is e = let same : asked ≡ note = cc in subst (IsNotified now) same e
   stopped_fits (ForNoteWait note deadline) asked is e = let same : asked ≡ note = cc in subst (IsNotified now) same e
 
-  -- at its end the deadline decides between two
-  either_fits : (chain : Chain) (one other : EnvNext) (b : Bool) → (b ≡ true → ChainFits point now chain one) → (b ≡ false → ChainFits point now chain other) → ChainFits point now chain (cond b one other)
-  either_fits chain one other true p q = p refl
-  either_fits chain one other false p q = q refl
-
-  -- past the root the chain's note, if it has one, wasn't notified
-  passed_fits : (chain : Chain) (clock : ℕ) → clock ≡ clock_of point → IsUnnotified point (chain_note chain) → ChainFits point now chain (passed chain clock)
-  passed_fits (ForLook limits) clock is waited = either_fits (ForLook limits) (LookOver (Some Expired)) (LookOver None) (is_due clock limits.deadline)
-      (λ due. (waited, subst (λ (c : ℕ). IsSomeAnd limits.deadline (λ d. d ≤ c)) is (due_is clock limits.deadline due)))
-      (λ due. (waited, subst (λ (c : ℕ). IfSome limits.deadline (λ d. c < d)) is (not_due_is clock limits.deadline due)))
-  passed_fits (ForIsNotified note) clock is waited = waited
-  passed_fits (ForNoteWait note deadline) clock is waited = either_fits (ForNoteWait note deadline) (Over (Is false)) (Repeat (ClockLoad (ForNoteWait note deadline))) (is_due clock deadline)
-      (λ due. (waited, subst (λ (c : ℕ). IsSomeAnd deadline (λ d. d ≤ c)) is (due_is clock deadline due)))
-      (λ due. (refl, waited, subst (λ (c : ℕ). IfSome deadline (λ d. c < d)) is (not_due_is clock deadline due)))
+  -- past the root the chain's note, if it has one, wasn't notified, and the deadline decides
+  passed_fits : (chain : Chain) → IsUnnotified point (chain_note chain) → ChainFits point now chain (passed chain (clock_of point))
+  passed_fits (ForLook limits) waited =
+      by_test (ChainFits point now (ForLook limits)) (is_due (clock_of point) limits.deadline) (λ due. (waited, due_is (clock_of point) limits.deadline due)) (λ early. (waited, not_due_is (clock_of point) limits.deadline early))
+  passed_fits (ForIsNotified note) waited = waited
+  passed_fits (ForNoteWait note deadline) waited =
+      by_test (ChainFits point now (ForNoteWait note deadline)) (is_due (clock_of point) deadline) (λ due. (waited, due_is (clock_of point) deadline due)) (λ early. (refl, waited, not_due_is (clock_of point) deadline early))
 
   -- it stands at a note, and what that tells
-  on_fits : (chain : Chain) (clock at : ℕ) → clock ≡ clock_of point → IsSomeAnd (chain_note chain) (λ asked. IsLeftAt point asked (Some at)) → ChainFits point now chain (Go (NoteLoad chain clock at))
-  on_fits (ForLook limits) clock at is left = (refl, is, left)
-  on_fits other clock at is left = (refl, is, left)
+  on_fits : (chain : Chain) (at : ℕ) → IsSomeAnd (chain_note chain) (λ asked. IsLeftAt point asked (Some at)) → ChainFits point now chain (Go (NoteLoad chain (clock_of point) at))
+  on_fits (ForLook limits) at left = (refl, refl, left)
+  on_fits other at left = (refl, refl, left)
 
   fits_on : (chain : Chain) (clock at : ℕ) → ChainFits point now chain (Go (NoteLoad chain clock at)) → (clock ≡ clock_of point) × IsSomeAnd (chain_note chain) (λ asked. IsLeftAt point asked (Some at))
   fits_on (ForLook limits) clock at fits = (fits.1, fits.2)
   fits_on other clock at fits = (fits.1, fits.2)
 
   -- it goes on to what is above, or passes the root
-  up_fits : (chain : Chain) (clock asked : ℕ) (above : Option ℕ) → clock ≡ clock_of point → chain_note chain ≡ Some asked → IsLeftAt point asked above → ChainFits point now chain (up_to chain clock above)
-  up_fits chain clock asked None is named left = passed_fits chain clock is (subst (IsUnnotified point) (sym named) left)
-  up_fits chain clock asked (Some at) is named left = on_fits chain clock at is (subst (λ (given : Option ℕ). IsSomeAnd given (λ n. IsLeftAt point n (Some at))) (sym named) left)
+  up_fits : (chain : Chain) (asked : ℕ) (above : Option ℕ) → chain_note chain ≡ Some asked → IsLeftAt point asked above → ChainFits point now chain (up_to chain (clock_of point) above)
+  up_fits chain asked None named left = passed_fits chain (subst (IsUnnotified point) (sym named) left)
+  up_fits chain asked (Some at) named left = on_fits chain at (subst (λ (given : Option ℕ). IsSomeAnd given (λ n. IsLeftAt point n (Some at))) (sym named) left)
 
   -- with the clock loaded, it goes to the chain's note, or has none
-  begins_fits : (chain : Chain) (clock : ℕ) (given : Option ℕ) → clock ≡ clock_of point → chain_note chain ≡ given → IfMade (env_after point).notes given → ChainFits point now chain (up_to chain clock given)
-  begins_fits chain clock None is named made = passed_fits chain clock is (subst (IsUnnotified point) (sym named) tt)
-  begins_fits chain clock (Some note) is named made = up_fits chain clock note (Some note) is named (line_starts point note made)
+  begins_fits : (chain : Chain) (given : Option ℕ) → chain_note chain ≡ given → IfMade (env_after point).notes given → ChainFits point now chain (up_to chain (clock_of point) given)
+  begins_fits chain None named made = passed_fits chain (subst (IsUnnotified point) (sym named) tt)
+  begins_fits chain (Some note) named made = up_fits chain note (Some note) named (line_starts point note made)
 
-  module _ (legal : IsLegalEnv now) (begins : BeginsWith now point) where
-    -- with a note of the line loaded, it stops or goes on
-    note_fits : (chain : Chain) (clock asked at : ℕ) (note : NoteWord) (b : Bool) → clock ≡ clock_of point → chain_note chain ≡ Some asked → IsLeftAt point asked (Some at) → standing_of note ≡ (env_after now).notes at →
-        is_over (clock_of point) ((env_after now).notes at) ≡ b → ChainFits point now chain (cond b (stopped chain) (up_to chain clock note.parent))
-    note_fits chain clock asked at note true is named left same over = stopped_fits chain asked named (line_stops point now legal begins asked at left over)
-    note_fits chain clock asked at note false is named left same over =
-        up_fits chain clock asked note.parent is named (subst (λ (s : NoteStanding). IsLeftAt point asked s.parent) (sym same) (line_goes_on point now legal begins asked at left over))
+  -- with a note of the line loaded, it stops or goes on
+  note_fits : IsLegalEnv now → BeginsWith now point → (chain : Chain) (asked at : ℕ) → chain_note chain ≡ Some asked → IsLeftAt point asked (Some at) →
+      ChainFits point now chain (cond (is_over (clock_of point) ((env_after now).notes at)) (stopped chain) (up_to chain (clock_of point) ((env_after now).notes at).parent))
+  note_fits legal begins chain asked at named left = by_test (ChainFits point now chain) (is_over (clock_of point) ((env_after now).notes at))
+      (λ over. stopped_fits chain asked named (line_stops point now legal begins asked at left over))
+      (λ on. up_fits chain asked ((env_after now).notes at).parent named (line_goes_on point now legal begins asked at left on))
 
 -- A chain begins at the clock that it loads.
 pub chain_begins : (now : List EnvEvent) (state : EnvState) (seat : ℕ) (chain : Chain) → IsLawfulEnv now state → slice_get state.askings seat ≡ Some (Some (ClockLoad chain)) → ChainFits now now chain (env_got_of (ClockLoad chain) (Clock state.plain.clock))
-chain_begins now state seat chain lawful walks = begins_fits now now chain state.plain.clock (chain_note chain) lawful.lawful.meets.clock refl (lawful.each seat (ClockLoad chain) walks)
+chain_begins now state seat chain lawful walks =
+    subst (λ clock. ChainFits now now chain (up_to chain clock (chain_note chain))) (sym lawful.lawful.meets.clock) (begins_fits now now chain (chain_note chain) refl (lawful.each seat (ClockLoad chain) walks))
 
 -- And it answers of the events before that, or of all until now.
 pub chain_answers : (point now : List EnvEvent) (state : EnvState) (chain : Chain) (clock at : ℕ) (note : NoteWord) → IsLawfulEnv now state → BeginsWith now point →
@@ -80,7 +74,8 @@ chain_answers point now state chain clock at note lawful begins fits is =
     let on = fits_on point now chain clock at fits in
     let asked = given_is (chain_note chain) (λ asked. IsLeftAt point asked (Some at)) on.1 in
     let same : standing_of note ≡ (env_after now).notes at = is ∙ note_is now state.plain lawful.lawful.meets at in
-    note_fits point now lawful.lawful.meets.legal begins chain clock asked.0 at note (is_over clock (standing_of note)) on.0 asked.1 asked.2 same (λ i. is_over (sym on.0 i) (sym same i))
+    subst (λ (z : ℕ × NoteStanding). ChainFits point now chain (cond (is_over z.0 z.1) (stopped chain) (up_to chain z.0 z.1.parent))) (λ i. (sym on.0 i, sym same i))
+    (note_fits point now lawful.lawful.meets.legal begins chain asked.0 at asked.1 asked.2)
 
 -- What a look has found, it shows of some point within it.
 pub looked_shows : (limits : Limits) (cause : Option Cause) (before now : List EnvEvent) → HasLooked limits cause before now → AtSomePoint before now (Shows limits cause)

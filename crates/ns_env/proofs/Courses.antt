@@ -1,43 +1,24 @@
 -- A call on the clock and the notes stays what it was asked, a step takes it on, and what others do leaves it where it is.
-use Rattle.std.proofs.Common.{◌≡◌, ℕ, ◌≤◌, min, nat_lt, Bool, true, false, cond, List, [], ◌∷◌, ◌++◌, Option, None, Some, slice_get, refl, sym, ap, ◌∙◌, subst, arith, append-nil}
+use Rattle.std.proofs.Common.{◌≡◌, ℕ, ◌≤◌, min, nat_lt, Bool, true, false, cond, List, [], ◌∷◌, ◌++◌, Option, None, Some, IfSome, slice_get, refl, sym, ap, subst, arith, append-nil}
 use Rattle.std.proofs.lemmas.Bool.Decides.{nat_tests}
-use Rattle.ns_env.specs.Prelude.{Advance, Advancing, BeginsWith, Chain, ChainFits, Clock, ClockLoad, EnvCourse, EnvEvent, EnvFound, EnvGoes, EnvHasDone, EnvNext, EnvPlain, EnvRequest, EnvSoFar, EnvState, EnvStep, EnvWalk, Expired, Expiry, ExpiryLoad, ForIsNotified, ForLook, ForNoteWait, Go, Is}
-use Rattle.ns_env.specs.Prelude.{IsBetween, IsFirstAsk, IsLawfulEnv, LookOver, MakeNote, New, NextLoad, NextNumber, Note, NoteLoad, NoteStanding, NotesFull, Notify, Notifying, Over, Repeat, Stored, Take, TakeNumber, Taken, asked_by, chain_note, earlier, env_asked_of, env_course_after}
-use Rattle.ns_env.specs.Prelude.{env_course_at, env_got_of, env_walk_after, env_want_of, expiry_of, is_due, is_over, lowered_to, outcome, passed, standing_of, state_of, stopped, takes_in, up_to}
+use Rattle.ns_env.specs.Prelude.{Advance, Advancing, BeginsWith, Chain, ChainFits, Clock, ClockLoad, EnvCourse, EnvEvent, EnvFound, EnvGoes, EnvHasDone, EnvNext, EnvPlain, EnvRequest, EnvSoFar, EnvState, EnvStep, EnvWalk, Expiry, ExpiryLoad, ForIsNotified, ForLook, ForNoteWait, Go, Is, IsBetween}
+use Rattle.ns_env.specs.Prelude.{IsFirstAsk, IsLawfulEnv, LookOver, MakeNote, New, NextLoad, NextNumber, Note, NoteLoad, NoteStanding, NotesFull, Notify, Notifying, Over, Repeat, Stored, Take, TakeNumber, Taken, asked_by, chain_note, earlier, env_asked_of, env_course_after, env_course_at}
+use Rattle.ns_env.specs.Prelude.{env_got_of, env_walk_after, env_want_of, expiry_of, is_over, lowered_to, outcome, standing_of, state_of, takes_in, up_to}
 use Rattle.ns_model.proofs.Beginnings.{begins_itself, begins_through}
 use Rattle.ns_env.proofs.Chains.{chain_begins, chain_answers}
 use Rattle.ns_env.proofs.Looks.{expiry_is}
+use Rattle.ns_env.proofs.Ways.{at_next, at_stop, either}
 use Rattle.ns_env.specs.declared.request.EnvRequest.TheVariants as TheRequest
 
 -- ---- what a call was asked to do stays
 
 -- it goes on as it was asked, if it goes on
 abbrev GoesAsAsked : EnvRequest → EnvNext → Type 0
-GoesAsAsked request (Go walk) = env_asked_of walk ≡ request
-GoesAsAsked request (Repeat walk) = env_asked_of walk ≡ request
-GoesAsAsked request (Over reply) = Unit {0}
-GoesAsAsked request (LookOver cause) = Unit {0}
-
--- what is so of each of two ways to go is so of the one that a test picks
-either_way : (P : EnvNext → Type 0) (b : Bool) (one other : EnvNext) → P one → P other → P (cond b one other)
-either_way P true one other p q = p
-either_way P false one other p q = q
-
--- a chain that stops is over
-stopped_asks : (chain : Chain) → GoesAsAsked (asked_by chain) (stopped chain)
-stopped_asks (ForLook limits) = tt
-stopped_asks other = tt
-
--- past the root a chain is over, or waits on for its note
-passed_asks : (chain : Chain) (clock : ℕ) → GoesAsAsked (asked_by chain) (passed chain clock)
-passed_asks (ForLook limits) clock = either_way (GoesAsAsked (TheRequest.Look limits)) (is_due clock limits.deadline) (LookOver (Some Expired)) (LookOver None) tt tt
-passed_asks (ForIsNotified note) clock = tt
-passed_asks (ForNoteWait note deadline) clock = either_way (GoesAsAsked (TheRequest.NoteWait note deadline)) (is_due clock deadline) (Over (Is false)) (Repeat (ClockLoad (ForNoteWait note deadline))) tt refl
+GoesAsAsked request next = IfSome (env_walk_after next) (λ walk. env_asked_of walk ≡ request)
 
 -- a chain goes on to the next note as the same chain
 up_asks : (chain : Chain) (clock : ℕ) (note : Option ℕ) → GoesAsAsked (asked_by chain) (up_to chain clock note)
-up_asks chain clock None = passed_asks chain clock
-up_asks chain clock (Some note) = refl
+up_asks chain clock note = at_next (GoesAsAsked (asked_by chain)) (λ _. tt) (λ _. tt) chain clock note refl (λ _ _. refl)
 
 -- an expiry goes on to the next note as the expiry of the note that was asked
 lowered_asks : (asked : ℕ) (note least : Option ℕ) → GoesAsAsked (TheRequest.Expiry asked) (lowered_to asked note least)
@@ -46,26 +27,19 @@ lowered_asks asked (Some note) least = refl
 
 -- whatever its step found, a call goes on as it was asked
 asks_on : (walk : EnvWalk) (found : EnvFound) → GoesAsAsked (env_asked_of walk) (env_got_of walk found)
-asks_on (NextLoad parent deadline) (NextNumber next) = either_way (GoesAsAsked (TheRequest.NewNote parent deadline)) (nat_lt next 64) (Go (TakeNumber parent deadline)) (Over NotesFull) refl tt
-asks_on (TakeNumber parent deadline) (Taken number) = either_way (GoesAsAsked (TheRequest.NewNote parent deadline)) (nat_lt number 64) (Go (MakeNote number parent deadline)) (Over NotesFull) refl tt
+asks_on (NextLoad parent deadline) (NextNumber next) = either (GoesAsAsked (TheRequest.NewNote parent deadline)) (nat_lt next 64) refl tt
+asks_on (TakeNumber parent deadline) (Taken number) = either (GoesAsAsked (TheRequest.NewNote parent deadline)) (nat_lt number 64) refl tt
 asks_on (MakeNote note parent deadline) Stored = tt
 asks_on (Notifying note) Stored = tt
 asks_on (Advancing moment) Stored = tt
 asks_on (ClockLoad chain) (Clock clock) = up_asks chain clock (chain_note chain)
-asks_on (NoteLoad chain clock at) (Note note) = either_way (GoesAsAsked (asked_by chain)) (is_over clock (standing_of note)) (stopped chain) (up_to chain clock note.parent) (stopped_asks chain) (up_asks chain clock note.parent)
+asks_on (NoteLoad chain clock at) (Note note) = either (GoesAsAsked (asked_by chain)) (is_over clock (standing_of note)) (at_stop (GoesAsAsked (asked_by chain)) (λ _. tt) (λ _. tt) chain) (up_asks chain clock note.parent)
 asks_on (ExpiryLoad asked at least) (Note note) = lowered_asks asked note.parent (earlier least note.deadline)
 asks_on walk found = refl
 
--- the place after is one of the call that was asked, if there is one
-asked_after : (request : EnvRequest) (next : EnvNext) (walk : EnvWalk) → env_walk_after next ≡ Some walk → GoesAsAsked request next → env_asked_of walk ≡ request
-asked_after request (Go one) walk e p = let same : one ≡ walk = cc in sym (ap env_asked_of same) ∙ p
-asked_after request (Repeat one) walk e p = let same : one ≡ walk = cc in sym (ap env_asked_of same) ∙ p
-asked_after request (Over reply) walk e p = absurd (cc)
-asked_after request (LookOver cause) walk e p = absurd (cc)
-
 -- No step of a call changes what it was asked to do.
 pub env_asked_stays : (walk next : EnvWalk) (found : EnvFound) → env_walk_after (env_got_of walk found) ≡ Some next → env_asked_of next ≡ env_asked_of walk
-env_asked_stays walk next found e = asked_after (env_asked_of walk) (env_got_of walk found) next e (asks_on walk found)
+env_asked_stays walk next found e = subst (λ (goes : Option EnvWalk). IfSome goes (λ place. env_asked_of place ≡ env_asked_of walk)) e (asks_on walk found)
 
 -- ---- a call begins, and others go on
 
@@ -73,14 +47,9 @@ env_asked_stays walk next found e = asked_after (env_asked_of walk) (env_got_of 
 pub begins_course : (events : List EnvEvent) (notes : ℕ → NoteStanding) (seat : ℕ) (walk : EnvWalk) → IsFirstAsk notes walk → EnvSoFar events seat (env_course_at events) walk
 begins_course events notes seat walk first = record { since = begins_itself events; done = nothing walk first } where
   nothing : (walk : EnvWalk) → IsFirstAsk notes walk → EnvHasDone events seat (env_course_at events) walk
-  nothing (NextLoad parent deadline) p = refl
-  nothing (TakeNumber parent deadline) p = refl
   nothing (MakeNote note parent deadline) p = absurd p
-  nothing (Notifying note) p = refl
-  nothing (Advancing moment) p = refl
-  nothing (ClockLoad chain) p = refl
   nothing (NoteLoad chain clock note) p = absurd p
-  nothing (ExpiryLoad asked note least) p = refl
+  nothing other p = refl
 
 -- what a history begins with, it begins with when it has grown
 begins_on : (events more front : List EnvEvent) → BeginsWith events front → BeginsWith (events ++ more) front
@@ -91,18 +60,16 @@ stands_on : (point now later : List EnvEvent) (chain : Chain) (clock note : ℕ)
 stands_on point now later (ForLook limits) clock note fits = fits
 stands_on point now later other clock note fits = fits
 
+-- it is the chain that it goes on as
+same_chain : (point now : List EnvEvent) (next chain : Chain) (clock at : ℕ) → next ≡ chain → ChainFits point now chain (Go (NoteLoad next clock at)) → ChainFits point now next (Go (NoteLoad next clock at))
+same_chain point now next chain clock at same fits = subst (λ c. ChainFits point now c (Go (NoteLoad next clock at))) (sym same) fits
+
 -- what a call has done at its place doesn't depend on what happens later
 done_on : (events more : List EnvEvent) (seat : ℕ) (course : EnvCourse) (walk : EnvWalk) → EnvHasDone events seat course walk → EnvHasDone (events ++ more) seat course walk
-done_on events more seat course (NextLoad parent deadline) done = done
-done_on events more seat course (TakeNumber parent deadline) done = done
-done_on events more seat course (MakeNote note parent deadline) done = done
-done_on events more seat course (Notifying note) done = done
-done_on events more seat course (Advancing moment) done = done
-done_on events more seat course (ClockLoad chain) done = done
 done_on events more seat course (NoteLoad chain clock note) done =
     let so = done.1 in
     (done.0, (so.0, (so.1.0, begins_on events more so.0 so.1.1), stands_on so.0 events (events ++ more) chain clock note so.2))
-done_on events more seat course (ExpiryLoad asked note least) done = done
+done_on events more seat course other done = done
 
 -- What others do leaves a call where it is.
 pub others_leave_course : (events more : List EnvEvent) (seat : ℕ) (course : EnvCourse) (walk : EnvWalk) → EnvSoFar events seat course walk → EnvSoFar (events ++ more) seat course walk
@@ -122,30 +89,16 @@ module _ (now : List EnvEvent) (seat : ℕ) (course : EnvCourse) (since : Begins
   left_goes next parent deadline false high takes = (none, (let most : 64 ≤ next = grind (arith, nat_tests) in omega (arith, most, takes)))
 
   module _ (point : List EnvEvent) (between : IsBetween course.before point now) where
-    -- a chain that stops answers of all until now
-    stopped_goes : (chain : Chain) → ChainFits point now chain (stopped chain) → EnvGoes now seat (asked_by chain) course (stopped chain)
-    stopped_goes (ForLook limits) fits = (none, (now, (since, begins_itself now), fits))
-    stopped_goes other fits = (none, (now, (since, begins_itself now), fits))
-
-    -- past the root a chain answers of the point at which it loaded the clock, or waits on for its note
-    passed_goes : (chain : Chain) (clock : ℕ) → ChainFits point now chain (passed chain clock) → EnvGoes now seat (asked_by chain) course (passed chain clock)
-    passed_goes (ForLook limits) clock fits =
-        either_way (λ next. ChainFits point now (ForLook limits) next → EnvGoes now seat (TheRequest.Look limits) course next) (is_due clock limits.deadline) (LookOver (Some Expired)) (LookOver None)
-        (λ due. (none, (point, between, due))) (λ early. (none, (point, between, early))) fits
-    passed_goes (ForIsNotified note) clock fits = (none, (point, between, fits))
-    passed_goes (ForNoteWait note deadline) clock fits =
-        either_way (λ next. ChainFits point now (ForNoteWait note deadline) next → EnvGoes now seat (TheRequest.NoteWait note deadline) course next) (is_due clock deadline) (Over (Is false)) (Repeat (ClockLoad (ForNoteWait note deadline)))
-        (λ due. (none, (point, between, due))) (λ early. goes_to (TheRequest.NoteWait note deadline) (ClockLoad (ForNoteWait note deadline)) refl none) fits
-
-    -- a chain goes on to what is above, or passes the root
-    up_goes : (chain : Chain) (clock : ℕ) (above : Option ℕ) → ChainFits point now chain (up_to chain clock above) → EnvGoes now seat (asked_by chain) course (up_to chain clock above)
-    up_goes chain clock None fits = passed_goes chain clock fits
-    up_goes chain clock (Some at) fits = goes_to (asked_by chain) (NoteLoad chain clock at) refl (none, (point, between, fits))
-
-    -- a chain stops at a note, or goes on
-    note_goes : (chain : Chain) (clock : ℕ) (b : Bool) (above : Option ℕ) → ChainFits point now chain (cond b (stopped chain) (up_to chain clock above)) →
-        EnvGoes now seat (asked_by chain) course (cond b (stopped chain) (up_to chain clock above))
-    note_goes chain clock b above = either_way (λ next. ChainFits point now chain next → EnvGoes now seat (asked_by chain) course next) b (stopped chain) (up_to chain clock above) (stopped_goes chain) (up_goes chain clock above)
+    -- what a chain has come to is what its answer means: that its note is notified by now; or that it wasn't at the point at which the clock was loaded; or it goes on
+    chain_goes : (chain : Chain) (next : EnvNext) → ChainFits point now chain next → EnvGoes now seat (asked_by chain) course next
+    chain_goes (ForLook limits) (LookOver cause) fits = (none, (point, between, fits))
+    chain_goes (ForIsNotified note) (Over (Is true)) fits = (none, (now, (since, begins_itself now), fits))
+    chain_goes (ForIsNotified note) (Over (Is false)) fits = (none, (point, between, fits))
+    chain_goes (ForNoteWait note deadline) (Over (Is true)) fits = (none, (now, (since, begins_itself now), fits))
+    chain_goes (ForNoteWait note deadline) (Over (Is false)) fits = (none, (point, between, fits))
+    chain_goes (ForNoteWait note deadline) (Repeat (ClockLoad chain)) fits = goes_to (TheRequest.NoteWait note deadline) (ClockLoad chain) (ap asked_by fits.0) none
+    chain_goes chain (Go (NoteLoad chain' clock at)) fits = goes_to (asked_by chain) (NoteLoad chain' clock at) (ap asked_by fits.0) (none, (point, between, same_chain point now chain' chain clock at fits.0 fits))
+    chain_goes chain next fits = absurd fits
 
   -- an expiry goes on to what is above, or answers what is the expiry
   lowered_goes : (asked : ℕ) (above least : Option ℕ) → ((answer : Option ℕ) → lowered_to asked above least ≡ Over (Expiry answer) → answer ≡ expiry_of now asked) →
@@ -182,11 +135,11 @@ module _ (events : List EnvEvent) (plain : EnvPlain) (askings : List (Option Env
   takes_on (Advancing moment) walks so_far = ap (λ es. es ++ Advance seat moment ∷ []) so_far.done
   takes_on (ClockLoad chain) walks so_far =
       goes_quiet events seat (asked_by chain) course _
-      (up_goes events seat course so_far.since so_far.done events (so_far.since, begins_itself events) chain plain.clock (chain_note chain) (chain_begins events (record { plain = plain; askings = askings }) seat chain lawful walks))
+      (chain_goes events seat course so_far.since so_far.done events (so_far.since, begins_itself events) chain _ (chain_begins events (record { plain = plain; askings = askings }) seat chain lawful walks))
   takes_on (NoteLoad chain clock at) walks so_far =
       let so = so_far.done.1 in
       goes_quiet events seat (asked_by chain) course _
-      (note_goes events seat course so_far.since so_far.done.0 so.0 so.1 chain clock (is_over clock (plain.notes at)) (plain.notes at).parent
+      (chain_goes events seat course so_far.since so_far.done.0 so.0 so.1 chain _
       (chain_answers so.0 events (record { plain = plain; askings = askings }) chain clock at (state_of (plain.notes at)) lawful so.1.1 so.2 refl))
   takes_on (ExpiryLoad asked at least) walks so_far =
       goes_quiet events seat (TheRequest.Expiry asked) course _
