@@ -1,13 +1,13 @@
 -- How far a call on counters and once cells has come: whatever others do leaves that as it is, and each step of its own takes it on to an answer that means what it says.
-use Rattle.std.proofs.Common.{Bool, Err, List, None, Ok, Option, Result, Some, [], ap, append-nil, arith, cond, drop, eq-eqb, eqb, eqb-true, false, inl, inr, ltb-false, nat_lt, refl, slice_get, slice_index, subst, suc, sym, take, true, zero, ℕ, ℤ, ◌++◌, ◌<◌, ◌∙◌, ◌∷◌, ◌≡◌, ◌≤◌}
+use Rattle.std.proofs.Common.{Bool, Err, List, None, Ok, Option, Result, Some, [], ap, append-nil, arith, cond, drop, eq-eqb, eqb, eqb-true, false, inl, inr, ltb-false, nat_lt, refl, slice_get, slice_index, subst, suc, sym, take, true, ℕ, ℤ, ◌++◌, ◌<◌, ◌∙◌, ◌∷◌, ◌≡◌, ◌≤◌}
 use Rattle.ns_counters.proofs.Prelude.{AddExchange, AddLoad, AnyAnswers, AtCounter, AtNote, AtSomeMoment, AtSomePoint, BeginsWith, ChainFits, Clock, CounterFault, CounterState, DoneLoad, Env, EnvEvent, EnvFound, EnvNext, EnvState, FirstClock, ForIsNotified, Free, HadValue, HasLookedUpTo}
 use Rattle.ns_counters.proofs.Prelude.{HasShownNone, HaveShownNothing, InRound, InTurn, IsBetween, IsLater, IsLawful, IsLawfulEnv, IsLegalEnv, IsReady, IsSo, Item, Items, Note, NoteLoad, Number, ObjectEffect, ObjectEvent, ObjectFound, ObjectGoes, ObjectSoFar, ObjectStanding, ObjectWalk}
-use Rattle.ns_counters.proofs.Prelude.{OnCounterItem, OnNote, OnOnce, OnVariable, OnceBegin, OnceEnd, OnceLoad, OnceState, Outcome, Over, Past, Repeat, Round, RoundGo, RoundNext, RoundOver, RoundPlace, RoundSoFar, Running, Setup, Stage, ValueLoad, WaitClock, WaitLoad, WaitMark, WalkFits, WereThere}
-use Rattle.ns_counters.proofs.Prelude.{Word, begins_itself, begins_through, by_answer, by_begun, by_chain, by_deadline, by_judging, by_round, by_stage, chain_answers, chain_from, clock_of, counter_of, counter_word, env_after, env_got_of, first_objects, fold-append, from_items, from_place, has_run}
-use Rattle.ns_counters.proofs.Prelude.{is_done, is_due, is_ready, item_at, items_of, judged, legal_begins, line_starts, made_begins, object_asked, object_got, object_next, object_place, object_want, objects_after, objects_own, past_and, round_got, round_want, stage, stage_of, tried, waited_next}
-use Rattle.ns_counters.proofs.Prelude.{word_of_once}
+use Rattle.ns_counters.proofs.Prelude.{OnCounterItem, OnNote, OnOnce, OnVariable, OnceBegin, OnceEnd, OnceLoad, OnceState, Outcome, Over, Past, Round, RoundGo, RoundNext, RoundOver, RoundPlace, RoundSoFar, Running, Setup, Stage, ValueLoad, WaitClock, WaitLoad, WaitMark, WalkFits, WereThere, Word}
+use Rattle.ns_counters.proofs.Prelude.{both, by_test, either, looked, take-suc, take-append-drop, slice_get_within, get_or_from_slice_get, begins_itself, begins_through, by_answer, by_begun, by_chain, by_deadline, by_round, by_stage, chain_answers, chain_from, clock_of, counter_of, counter_word}
+use Rattle.ns_counters.proofs.Prelude.{env_after, env_got_of, first_objects, fold-append, from_items, from_place, has_run, is_done, is_due, is_ready, item_at, items_of, judged, legal_begins, line_starts, made_begins, object_asked, object_got, object_next, object_place, object_want, objects_after}
+use Rattle.ns_counters.proofs.Prelude.{objects_own, past_and, round_got, round_want, stage, stage_of, tried, waited_next, word_of_once}
 use Rattle.ns_counters.specs.Prelude.{OnCounter}
-use Rattle.ns_counters.proofs.Listed.{left_at, listed}
+use Rattle.ns_counters.proofs.Listed.{listed, stands_at}
 use Rattle.ns_counters.proofs.Objects.{own-append}
 use Rattle.ns_counters.proofs.Rounds.{answers_until, later_itself, later_through, nothing_later, nothing_until, turn_more, turn_until}
 use Rattle.ns_counters.proofs.WalkLaw.{clock_found, counter_there, note_found, note_there}
@@ -94,23 +94,10 @@ done_is TheState.Done e = refl
 -- ---- what is left of a list from a place on, and what stands before it
 
 take_all : {A : Type 0} (at : ℕ) (xs : List A) → drop at xs ≡ [] → take at xs ≡ xs
-take_all zero xs none = sym none
-take_all (suc at) [] none = refl
-take_all (suc at) (x ∷ xs) none = ap (λ ys. x ∷ ys) (take_all at xs none)
+take_all at xs none = sym (append-nil (take at xs)) ∙ ap (λ rest. take at xs ++ rest) (sym none) ∙ take-append-drop at xs
 
-take_next : {A : Type 0} (at : ℕ) (xs : List A) (x : A) (more : List A) → drop at xs ≡ x ∷ more → take (suc at) xs ≡ take at xs ++ x ∷ []
-take_next zero [] x more is = absurd (cc)
-take_next zero (y ∷ xs) x more is = let same : y ≡ x = cc in ap (λ z. z ∷ []) same
-take_next (suc at) [] x more is = absurd (cc)
-take_next (suc at) (y ∷ xs) x more is = ap (λ ys. y ∷ ys) (take_next at xs x more is)
-
-got_first : {A : Type 0} (at : ℕ) (xs : List A) (x : A) (more : List A) → drop at xs ≡ x ∷ more → slice_get xs at ≡ Some x
-got_first zero [] x more is = absurd (cc)
-got_first zero (y ∷ xs) x more is = let same : y ≡ x = cc in ap Some same
-got_first (suc at) [] x more is = absurd (cc)
-got_first (suc at) (y ∷ xs) x more is = got_first at xs x more is
-
--- ---- rounds
+take_next : {A : Type 0} (at : ℕ) (xs : List A) (x : A) → slice_get xs at ≡ Some x → take (suc at) xs ≡ take at xs ++ x ∷ []
+take_next at xs x is = take-suc xs at x (slice_get_within xs at x is) ∙ ap (λ y. take at xs ++ y ∷ []) (get_or_from_slice_get xs at x x is)
 
 -- where a round's step has led
 abbrev pub RoundGoes : Setup → Past → Past → Round → RoundNext → Type 0
@@ -132,14 +119,14 @@ module _ (setup : Setup) (earlier now : Past) (round : Round) (start : Past) (cl
   here = record { notes = start.notes; objects = now.objects }
 
   -- one more item was unready
-  looked_more : (at : ℕ) (item : Item) (more : List Item) → drop at (items_of round.items) ≡ item ∷ more → HasLooked at → IsReady setup false here item → HasLooked (suc at)
-  looked_more at item more is looked unready = record {
+  looked_more : (at : ℕ) (item : Item) → item_at round.items at ≡ Some item → HasLooked at → IsReady setup false here item → HasLooked (suc at)
+  looked_more at item is looked unready = record {
     rounds = looked.rounds;
     mid = looked.mid;
     nothing = looked.nothing;
     begins = looked.begins;
     loaded = looked.loaded;
-    unready = subst (InTurn (IsReady setup false) start here) (sym (take_next at (items_of round.items) item more is)) (turn_more (IsReady setup false) start here here here (take at (items_of round.items)) item looked.unready (later_itself here) unready (later_itself here));
+    unready = subst (InTurn (IsReady setup false) start here) (sym (take_next at (items_of round.items) item (stands_at round.items at item is))) (turn_more (IsReady setup false) start here here here (take at (items_of round.items)) item looked.unready (later_itself here) unready (later_itself here));
     since = looked.since;
   }
 
@@ -168,7 +155,7 @@ module _ (setup : Setup) (earlier now : Past) (round : Round) (start : Past) (cl
       point = now;
       unready = looks_now at looked;
       thing = item;
-      is = got_first at (items_of round.items) item (drop (suc at) (items_of round.items)) (left_at round.items at item is);
+      is = stands_at round.items at item is;
       ready = ready;
       ends = later_itself now;
     });
@@ -177,10 +164,6 @@ module _ (setup : Setup) (earlier now : Past) (round : Round) (start : Past) (cl
   module _ (legal : IsLegalEnv now.notes) (there : WereThere setup earlier round.items) where
     from_goes : (at : ℕ) → HasLooked at → RoundGoes setup earlier now round (from_place round clock at)
     from_goes at looked = by (drop at (items_of round.items)) at refl looked where
-      ends : (b : Bool) (at : ℕ) → drop at (items_of round.items) ≡ [] → is_due clock round.deadline ≡ b → HasLooked at → RoundGoes setup earlier now round (cond b (RoundOver (Some round.items.count)) (RoundOver None))
-      ends true at none due looked = record { rounds = looked.rounds; mid = looked.mid; nothing = looked.nothing; last = inr (sym there.2, shows_none true at none due looked) }
-      ends false at none due looked = (looked.rounds, (looked.mid, looked.nothing, shows_none false at none due looked))
-
       -- a note was made as the clock was loaded
       was_made : (at note : ℕ) → item_at round.items at ≡ Some (OnNote note) → (looked : HasLooked at) → ((env_after start.notes).notes note).made ≡ true
       was_made at note is looked =
@@ -188,14 +171,16 @@ module _ (setup : Setup) (earlier now : Past) (round : Round) (start : Past) (cl
           made_begins start.notes earlier.notes note (legal_begins now.notes start.notes legal looked.since.notes) (later_through earlier looked.mid start begun looked.begins).notes (note_there setup (env_after earlier.notes).notes round.items at note there is)
 
       by : (items : List Item) (at : ℕ) → drop at (items_of round.items) ≡ items → HasLooked at → RoundGoes setup earlier now round (from_items round clock at items)
-      by [] at is looked = ends (is_due clock round.deadline) at is refl looked
+      by [] at is looked = by_test (RoundGoes setup earlier now round) (is_due clock round.deadline)
+          (λ due. record { rounds = looked.rounds; mid = looked.mid; nothing = looked.nothing; last = inr (sym there.2, shows_none true at is due looked) })
+          (λ early. (looked.rounds, (looked.mid, looked.nothing, shows_none false at is early looked)))
       by (OnNote note ∷ items) at is looked = (start, looked, line_starts start.notes note (was_made at note (listed round.items at (OnNote note) items is).0 looked))
       by (OnCounterItem counter ∷ items) at is looked = (start, looked)
-      by (OnVariable k ∷ items) at is looked = by items (suc at) (listed round.items at (OnVariable k) items is).1 (looked_more at (OnVariable k) items is looked tt)
+      by (OnVariable k ∷ items) at is looked = by items (suc at) (listed round.items at (OnVariable k) items is).1 (looked_more at (OnVariable k) (listed round.items at (OnVariable k) items is).0 looked tt)
 
     -- behind an item that was unready
     past_goes : (at : ℕ) (item : Item) → item_at round.items at ≡ Some item → HasLooked at → IsReady setup false here item → RoundGoes setup earlier now round (from_place round clock (suc at))
-    past_goes at item is looked unready = from_goes (suc at) (looked_more at item (drop (suc at) (items_of round.items)) (left_at round.items at item is) looked unready)
+    past_goes at item is looked unready = from_goes (suc at) (looked_more at item is looked unready)
 
     -- by the chain of a note
     chain_goes : (at asked : ℕ) (next : EnvNext) → HasLooked at → item_at round.items at ≡ Some (OnNote asked) → ChainFits start.notes now.notes (ForIsNotified asked) next → RoundGoes setup earlier now round (by_chain round at clock asked next)
@@ -238,12 +223,10 @@ own_one seat counter = rw (eq-eqb seat seat refl) refl
 module _ (setup : Setup) (earlier : Past) (seat : ℕ) (now : Past) (words : List ℕ) (law : IsLawful setup words now.objects) (state : EnvState) (led : IsLawfulEnv now.notes state) (more : List ObjectEvent) where
   -- it is no event
   pub round_makes_none : (place : RoundPlace) (found : ObjectFound) (words' : List ℕ) → ObjectEffect seat Free (round_want place) words state.plain found words' more → more ≡ []
-  round_makes_none FirstClock (Env found) words' effect = effect.2
-  round_makes_none (AtNote at clock asked note) (Env found) words' effect = effect.2
   round_makes_none (AtCounter at clock counter) (Word word) words' effect = effect.2
-  round_makes_none FirstClock (Word word) words' effect = absurd effect
-  round_makes_none (AtNote at clock asked note) (Word word) words' effect = absurd effect
   round_makes_none (AtCounter at clock counter) (Env found) words' effect = absurd effect
+  round_makes_none other (Env found) words' effect = effect.2
+  round_makes_none other (Word word) words' effect = absurd effect
 
   shows_now : (round : Round) (place : RoundPlace) (found : ObjectFound) (words' : List ℕ) → WalkFits setup (objects_after setup now.objects) state.plain.notes seat (InRound round place) →
       WereThere setup earlier round.items → RoundSoFar setup earlier now round place → ObjectEffect seat Free (round_want place) words state.plain found words' more →
@@ -260,13 +243,11 @@ module _ (setup : Setup) (earlier : Past) (seat : ℕ) (now : Past) (words : Lis
   shows_now round (AtNote at clock asked note) (Env (Note found)) words' fits there so effect =
       let answers = chain_answers so.0.notes now.notes state (ForIsNotified asked) clock note found led so.1.since.notes (refl, so.1.loaded, so.2) (note_found found (state.plain.notes note) effect.0.found_is) in
       chain_goes setup earlier now round so.0 clock led.lawful.meets.legal there at asked (env_got_of (chain_from asked clock note) (Note found)) so.1 fits.1.0 answers
-  shows_now round (AtCounter at clock counter) (Word word) words' fits there so effect = by (eqb (counter_of word).value 0) refl where
-    is_so : (b : Bool) → eqb (counter_of word).value 0 ≡ b → IsReady setup b now (OnCounterItem counter)
-    is_so b is = sym (ap (λ w. is_ready (counter_of w)) effect.0 ∙ ap is_ready (counter_is setup words now.objects law counter (counter_there setup state.plain.notes round.items at counter fits.0 fits.1))) ∙ is
-
-    by : (b : Bool) → eqb (counter_of word).value 0 ≡ b → RoundGoes setup earlier now round (cond b (RoundOver (Some at)) (from_place round clock (suc at)))
-    by true is = shows_one setup earlier now round so.0 clock at (OnCounterItem counter) fits.1 so.1 (is_so true is)
-    by false is = past_goes setup earlier now round so.0 clock led.lawful.meets.legal there at (OnCounterItem counter) fits.1 so.1 (is_so false is)
+  shows_now round (AtCounter at clock counter) (Word word) words' fits there so effect = by_test (RoundGoes setup earlier now round) (eqb (counter_of word).value 0)
+      (λ is. shows_one setup earlier now round so.0 clock at (OnCounterItem counter) fits.1 so.1 (is_so true is))
+      (λ is. past_goes setup earlier now round so.0 clock led.lawful.meets.legal there at (OnCounterItem counter) fits.1 so.1 (is_so false is)) where
+        is_so : (b : Bool) → eqb (counter_of word).value 0 ≡ b → IsReady setup b now (OnCounterItem counter)
+        is_so b is = sym (ap (λ w. is_ready (counter_of w)) effect.0 ∙ ap is_ready (counter_is setup words now.objects law counter (counter_there setup state.plain.notes round.items at counter fits.0 fits.1))) ∙ is
   shows_now round FirstClock (Word word) words' fits there so effect = absurd effect
   shows_now round FirstClock (Env found) words' fits there so effect = let no = effect.0.found_is in absurd (cc)
   shows_now round (AtNote at clock asked note) (Word word) words' fits there so effect = absurd effect
@@ -313,11 +294,10 @@ module _ (setup : Setup) (earlier : Past) (seat : ℕ) (now : Past) (words : Lis
     pub word_takes_on : (walk : ObjectWalk) (word : ℕ) (words' : List ℕ) → WalkFits setup stands state.plain.notes seat walk → ObjectSoFar setup earlier now seat events walk → ObjectEffect seat (object_place (Some walk)) (object_want walk) words state.plain (Word word) words' more →
         ObjectGoes setup earlier so_far seat (object_asked walk) (events ++ more) (object_got walk (Word word))
     word_takes_on (AddLoad counter delta) word words' fits so effect = judged_goes counter delta word (counter_of word) (judged (counter_of word) delta) so effect.2
-    word_takes_on (AddExchange counter delta seen value) word words' fits so effect = by (eqb word (counter_word seen)) effect.2 where
-      by : (b : Bool) → more ≡ (cond {A = Outcome} b (record { word = counter_word (record { value = value; waited = seen.waited }); events = OnCounter counter (TheCounter.Add seat delta (Ok value)) ∷ []; place = Free }) (tried seat counter delta word (judged (counter_of word) delta))).events →
-          ObjectGoes setup earlier so_far seat (AddLoad counter delta) (events ++ more) (cond b (Over (Number value)) (by_judging counter delta word))
-      by true is = joined events more (OnCounter counter (TheCounter.Add seat delta (Ok value)) ∷ []) so is
-      by false is = judged_goes counter delta word (counter_of word) (judged (counter_of word) delta) so is
+    word_takes_on (AddExchange counter delta seen value) word words' fits so effect =
+        both (λ (left : Outcome) next. more ≡ left.events → ObjectGoes setup earlier so_far seat (AddLoad counter delta) (events ++ more) next) (eqb word (counter_word seen))
+        (joined events more (OnCounter counter (TheCounter.Add seat delta (Ok value)) ∷ []) so)
+        (judged_goes counter delta word (counter_of word) (judged (counter_of word) delta) so) effect.2
     word_takes_on (ValueLoad counter) word words' fits so effect =
         (joined events more [] so effect.2, moment_now (λ standing. (standing.counters counter).value ≡ (counter_of word).value) (sym (ap (λ w. (counter_of w).value) effect.0 ∙ ap (λ (c : CounterState). c.value) (counter_is setup words now.objects law counter fits))))
     word_takes_on (WaitMark counter deadline) word words' fits so effect =
@@ -340,12 +320,11 @@ module _ (setup : Setup) (earlier : Past) (seat : ℕ) (now : Past) (words : Lis
     word_takes_on (WaitClock counter moment value) word words' fits so effect = absurd effect
     word_takes_on (OnceLoad once) word words' fits so effect =
         stage_goes once (stage_of word) (events ++ more) (joined events more [] so effect.2) (sym (ap stage_of effect.0 ∙ stage_is setup words now.objects law once fits))
-    word_takes_on (OnceBegin once) word words' fits so effect = by (eqb word 0) (eqb word 1) effect.2 (sym (ap stage_of effect.0 ∙ stage_is setup words now.objects law once fits)) where
-      by : (b c : Bool) → more ≡ (cond {A = Outcome} b (record { word = 1; events = OnOnce once (TheOnce.Began seat) ∷ []; place = Running once }) (record { word = word; events = []; place = Free })).events →
-          stage (stands.onces once) ≡ cond b TheStage.Unused (cond c TheStage.Running TheStage.Done) → ObjectGoes setup earlier so_far seat (OnceLoad once) (events ++ more) (by_begun once (cond b TheStage.Unused (cond c TheStage.Running TheStage.Done)))
-      by true c is at = (refl, joined events more (OnOnce once (TheOnce.Began seat) ∷ []) so is)
-      by false true is at = stage_goes once TheStage.Running (events ++ more) (joined events more [] so is) at
-      by false false is at = stage_goes once TheStage.Done (events ++ more) (joined events more [] so is) at
+    word_takes_on (OnceBegin once) word words' fits so effect =
+        let Goes = λ (left : Outcome) (at : Stage). more ≡ left.events → stage (stands.onces once) ≡ at → ObjectGoes setup earlier so_far seat (OnceLoad once) (events ++ more) (by_begun once at) in
+        both Goes (eqb word 0) (λ is at. (refl, joined events more (OnOnce once (TheOnce.Began seat) ∷ []) so is))
+        (either (Goes (looked Free word)) (eqb word 1) (λ is at. stage_goes once TheStage.Running (events ++ more) (joined events more [] so is) at) (λ is at. stage_goes once TheStage.Done (events ++ more) (joined events more [] so is) at))
+        effect.2 (sym (ap stage_of effect.0 ∙ stage_is setup words now.objects law once fits))
     word_takes_on (OnceEnd once) word words' fits so effect = λ i. so i ++ effect.2 i
     word_takes_on (DoneLoad once) word words' fits so effect =
         (joined events more [] so effect.2, moment_now (λ standing. is_done (standing.onces once) ≡ has_run (stage_of word)) (sym (ap (λ w. has_run (stage_of w)) effect.0 ∙ ap has_run (stage_is setup words now.objects law once fits) ∙ has_run_is (stands.onces once))))
@@ -357,33 +336,17 @@ module _ (setup : Setup) (earlier : Past) (seat : ℕ) (now : Past) (words : Lis
     -- And so does a load of the clock or of a note.
     pub env_takes_on : (walk : ObjectWalk) (found : EnvFound) (words' : List ℕ) → WalkFits setup stands state.plain.notes seat walk → ObjectSoFar setup earlier now seat events walk → ObjectEffect seat (object_place (Some walk)) (object_want walk) words state.plain (Env found) words' more →
         ObjectGoes setup earlier so_far seat (object_asked walk) (events ++ more) (object_got walk (Env found))
-    env_takes_on (WaitClock counter moment value) (Clock clock) words' fits so effect = by (nat_lt clock moment) refl where
-      mark : List ObjectEvent
-      mark = OnCounter counter (TheCounter.Begun seat) ∷ []
-
-      done : events ++ more ≡ OnCounter counter (TheCounter.Begun seat) ∷ []
-      done = λ i. so.0 i ++ effect.2 i
-
-      clock_is : clock ≡ clock_of now.notes
-      clock_is = clock_found clock state.plain.clock effect.0.found_is ∙ led.lawful.meets.clock
-
-      by : (b : Bool) → nat_lt clock moment ≡ b → ObjectGoes setup earlier so_far seat (WaitMark counter (Some moment)) (events ++ more) (cond b (Repeat (WaitLoad counter (Some moment))) (Over (Number value)))
-      by true early = (refl, done)
-      by false due = (done, had_on setup earlier seat now (record { notes = []; objects = more }) counter value so.1, λ ne. point_now setup earlier seat now more (λ point. moment ≤ clock_of point) since (subst (λ c. moment ≤ c) clock_is (ltb-false clock moment due)))
+    env_takes_on (WaitClock counter moment value) (Clock clock) words' fits so effect =
+        let done : events ++ more ≡ OnCounter counter (TheCounter.Begun seat) ∷ [] = λ i. so.0 i ++ effect.2 i in
+        let clock_is : clock ≡ clock_of now.notes = clock_found clock state.plain.clock effect.0.found_is ∙ led.lawful.meets.clock in
+        by_test (ObjectGoes setup earlier so_far seat (WaitMark counter (Some moment)) (events ++ more)) (nat_lt clock moment) (λ early. (refl, done))
+        (λ due. (done, had_on setup earlier seat now (record { notes = []; objects = more }) counter value so.1, λ ne. point_now setup earlier seat now more (λ point. moment ≤ clock_of point) since (subst (λ c. moment ≤ c) clock_is (ltb-false clock moment due))))
     env_takes_on (InRound round place) found words' fits so effect =
         round_goes setup earlier seat now more round (round_got round place (Env found)) (events ++ more)
         (joined events more [] so.0 (round_makes_none setup earlier seat now words law state led more place (Env found) words' effect)) so.1
         (round_by setup earlier seat now words law state led more round place (Env found) words' fits so.1 so.2 effect)
-    env_takes_on (AddLoad counter delta) found words' fits so effect = absurd effect
-    env_takes_on (AddExchange counter delta seen value) found words' fits so effect = absurd effect
-    env_takes_on (ValueLoad counter) found words' fits so effect = absurd effect
-    env_takes_on (WaitMark counter deadline) found words' fits so effect = absurd effect
-    env_takes_on (WaitLoad counter deadline) found words' fits so effect = absurd effect
-    env_takes_on (OnceLoad once) found words' fits so effect = absurd effect
-    env_takes_on (OnceBegin once) found words' fits so effect = absurd effect
-    env_takes_on (OnceEnd once) found words' fits so effect = absurd effect
-    env_takes_on (DoneLoad once) found words' fits so effect = absurd effect
     env_takes_on (WaitClock counter moment value) found words' fits so effect = let no = effect.0.found_is in absurd (cc)
+    env_takes_on other found words' fits so effect = absurd effect
 
     -- A step of the call's own takes it on.
     pub operates_on : (walk : ObjectWalk) (found : ObjectFound) (words' : List ℕ) → WalkFits setup stands state.plain.notes seat walk → ObjectSoFar setup earlier now seat events walk → ObjectEffect seat (object_place (Some walk)) (object_want walk) words state.plain found words' more →

@@ -1,8 +1,8 @@
 -- A step keeps the law: what has happened by it is legal, the words are those of the objects as they then stand, and its caller and all others stand where they may.
-use Rattle.std.proofs.Common.{Bool, Err, List, Ok, Result, [], ap, arith, bit_or, cond, eqb, eqb-true, false, get_or, get_or-set_other, get_or-set_same, length, length-set, refl, set, slice_index, subst, sym, true, ℕ, ℤ, ◌+◌, ◌<◌, ◌^◌, ◌∙◌, ◌∷◌, ◌≡◌, ◌≢◌, ◌≤◌}
-use Rattle.ns_counters.proofs.Prelude.{Add, Adding, AreWordsOf, Began, BeginOnce, Begun, CanAct, CounterFault, CounterState, EndOnce, Every, ExchangeToAdd, Free, HasWords, IsLegalFrom, IsLegalObjectEvent, IsLegalOnceEvent, IsWordOf, LoadToAdd, LookCounter, LookOnce, MarkWait, ObjectAct}
-use Rattle.ns_counters.proofs.Prelude.{ObjectEvent, ObjectStanding, OnOnce, OnceEvent, OnceState, Outcome, Place, PlaceFits, Ran, Running, Setup, accepted, but-here, but_at, but_cases, counter_of, counter_word, judged, looked, most, object_next, object_who, objects_from, once_next, outcome}
-use Rattle.ns_counters.proofs.Prelude.{set-get_or, stage, stage_word, tried, word_at, word_of_once}
+use Rattle.std.proofs.Common.{Err, List, Ok, Result, [], ap, arith, bit_or, eqb, eqb-true, get_or, get_or-set_other, get_or-set_same, length, length-set, refl, set, slice_index, subst, sym, true, ℕ, ℤ, ◌+◌, ◌<◌, ◌^◌, ◌∙◌, ◌∷◌, ◌≡◌, ◌≢◌, ◌≤◌}
+use Rattle.ns_counters.proofs.Prelude.{Adding, AreWordsOf, Began, BeginOnce, Begun, CanAct, CounterFault, CounterState, EndOnce, Every, ExchangeToAdd, Free, HasWords, IsLegalFrom, IsLegalObjectEvent, IsLegalOnceEvent, IsWordOf, LoadToAdd, LookCounter, LookOnce, MarkWait, ObjectAct, ObjectEvent}
+use Rattle.ns_counters.proofs.Prelude.{ObjectStanding, OnOnce, OnceEvent, OnceState, Outcome, Place, PlaceFits, Ran, Running, Setup, accepted, but-here, but_at, but_cases, counter_of, counter_word, judged, looked, most, object_next, object_who, objects_from, once_next, outcome, by_test, set-get_or}
+use Rattle.ns_counters.proofs.Prelude.{stage, stage_word, tried, word_at, word_of_once}
 use Rattle.ns_counters.specs.Prelude.{OnCounter}
 use Rattle.ns_counters.proofs.Words.{counter_of-counter_word, marked}
 use Rattle.ns_model.specs.declared.once.OnceState.TheVariants as TheOnce
@@ -88,18 +88,15 @@ module _ (setup : Setup) (now : ObjectStanding) (words : List ℕ) (who : ℕ) (
 
     -- a change that is made where the counter is as it was seen
     exchanges : (delta : ℤ) (seen : CounterState) (value : ℕ) (place : Place) → judged seen delta ≡ Ok value → seen.value ≤ most → StepKeeps setup now words who counter (outcome who (ExchangeToAdd counter delta seen value) place (slice_index words counter))
-    exchanges delta seen value place fits few = by (eqb (slice_index words counter) (counter_word seen)) (λ same. eqb-true (slice_index words counter) (counter_word seen) same) where
-      by : (b : Bool) → (b ≡ true → slice_index words counter ≡ counter_word seen)
-          → StepKeeps setup now words who counter (cond b (record { word = counter_word (record { value = value; waited = seen.waited }); events = OnCounter counter (Add who delta (Ok value)) ∷ []; place = Free })
-          (tried who counter delta (slice_index words counter) (judged (counter_of (slice_index words counter)) delta)))
-      by true same = let is : now.counters counter ≡ seen = sym found_is ∙ (ap counter_of (same refl) ∙ counter_of-counter_word seen few) in record {
-        legal = ((there, sym (ap (λ (z : CounterState). judged z delta) is ∙ fits)), tt);
-        words_are = counter_set now words counter (counter_word (record { value = value; waited = seen.waited })) (record { value = value; waited = (now.counters counter).waited }) low are
-            (ap (λ (z : CounterState). counter_word (record { value = value; waited = z.waited })) (sym is), (accepted seen delta value fits).1);
-        place = tt;
-        by = (refl, tt);
-      }
-      by false same = judges delta
+    exchanges delta seen value place fits few = by_test (StepKeeps setup now words who counter) (eqb (slice_index words counter) (counter_word seen))
+        (λ same. let is : now.counters counter ≡ seen = sym found_is ∙ (ap counter_of (eqb-true (slice_index words counter) (counter_word seen) same) ∙ counter_of-counter_word seen few) in record {
+          legal = ((there, sym (ap (λ (z : CounterState). judged z delta) is ∙ fits)), tt);
+          words_are = counter_set now words counter (counter_word (record { value = value; waited = seen.waited })) (record { value = value; waited = (now.counters counter).waited }) low are
+              (ap (λ (z : CounterState). counter_word (record { value = value; waited = z.waited })) (sym is), (accepted seen delta value fits).1);
+          place = tt;
+          by = (refl, tt);
+        })
+        (λ _. judges delta)
 
     marks : (place : Place) → PlaceFits setup now who place → StepKeeps setup now words who counter (outcome who (MarkWait counter) place (slice_index words counter))
     marks place fits = let is = are.counters counter low in record {
@@ -124,16 +121,14 @@ module _ (setup : Setup) (now : ObjectStanding) (words : List ℕ) (who : ℕ) (
     unused TheOnce.Done is = absurd (omega (arith, is))
 
     begins : (place : Place) → PlaceFits setup now who place → StepKeeps setup now words who (word_of_once once) (outcome who (BeginOnce once) place (slice_index words (word_of_once once)))
-    begins place fits = by (eqb (slice_index words (word_of_once once)) 0) (λ same. eqb-true (slice_index words (word_of_once once)) 0 same) where
-      by : (b : Bool) → (b ≡ true → slice_index words (word_of_once once) ≡ 0)
-          → StepKeeps setup now words who (word_of_once once) (cond b (record { word = 1; events = OnOnce once (Began who) ∷ []; place = Running once }) (looked place (slice_index words (word_of_once once))))
-      by true same = let is = unused (now.onces once) (sym (are.onces once low_once) ∙ same refl) in record {
-        legal = ((there, subst (λ (z : OnceState). IsLegalOnceEvent z (Began who)) (sym is) tt), tt);
-        words_are = once_set now words once 1 (TheOnce.Running who) low_once are refl;
-        place = (there, but-here once (TheOnce.Running who) now.onces);
-        by = (refl, tt);
-      }
-      by false same = looks (word_of_once once) place fits
+    begins place fits = by_test (StepKeeps setup now words who (word_of_once once)) (eqb (slice_index words (word_of_once once)) 0)
+        (λ same. let is = unused (now.onces once) (sym (are.onces once low_once) ∙ eqb-true (slice_index words (word_of_once once)) 0 same) in record {
+          legal = ((there, subst (λ (z : OnceState). IsLegalOnceEvent z (Began who)) (sym is) tt), tt);
+          words_are = once_set now words once 1 (TheOnce.Running who) low_once are refl;
+          place = (there, but-here once (TheOnce.Running who) now.onces);
+          by = (refl, tt);
+        })
+        (λ _. looks (word_of_once once) place fits)
 
     ends : now.onces once ≡ TheOnce.Running who → (place : Place) → StepKeeps setup now words who (word_of_once once) (outcome who (EndOnce once) place (slice_index words (word_of_once once)))
     ends runs place = record {

@@ -9,4 +9,5 @@ pub mod Placed
 pub mod Prelude
 pub mod Rounds
 pub mod WalkLaw
+pub mod Ways
 pub mod Words

@@ -1,32 +1,35 @@
 -- What stands at a place of a list of objects, and behind it.
-use Rattle.std.proofs.Common.{Bool, List, None, Option, Some, [], ap, arith, cond, drop, eq-eqb, eqb-true, false, get_or, inl, inr, length, ltb-false, ltb-true, map, nat_lt, refl, slice_get, subst, suc, sym, take, true, zero, ℕ, ◌&&◌, ◌<◌, ◌||◌, ◌∙◌, ◌∷◌, ◌≡◌}
-use Rattle.ns_counters.proofs.Prelude.{Every, IsLow, Item, Items, OnCounter, OnNote, OnVariable, is_among, is_this, is_variable, item_at, items_of, list_any, or_cases, place_in}
+use Rattle.std.proofs.Common.{Bool, List, None, Some, [], ap, arith, cond, drop, eq-eqb, eqb-true, false, get_or, inl, inr, length, ltb-false, ltb-true, map, nat_lt, refl, slice_get, subst, suc, sym, take, true, zero, ℕ, ◌&&◌, ◌<◌, ◌||◌, ◌∙◌, ◌∷◌, ◌≡◌}
+use Rattle.ns_counters.proofs.Prelude.{Every, by_test, length-take, slice_get_past, drop-cons, get_or_from_slice_get, slice_get_within, IsLow, Item, Items, OnCounter, OnNote, OnVariable, is_among, is_this, is_variable, item_at, items_of, list_any, or_cases, place_in}
 
-nothing : {A : Type 0} (at : ℕ) (xs : List A) → xs ≡ [] → drop at xs ≡ []
-nothing zero xs e = e
-nothing (suc at) [] e = refl
-nothing (suc at) (x ∷ xs) e = absurd (cc)
-
--- what is left from a place on of the first of a list
-left_of : {A : Type 0} (n at : ℕ) (xs : List A) (x : A) (more : List A) → drop at (take n xs) ≡ x ∷ more → (at < n) × (slice_get xs at ≡ Some x) × (drop (suc at) (take n xs) ≡ more)
-left_of zero at xs x more is = let none : [] ≡ x ∷ more = sym (nothing at (take zero xs) refl) ∙ is in absurd (cc)
-left_of (suc n) at [] x more is = let none : [] ≡ x ∷ more = sym (nothing at (take (suc n) []) refl) ∙ is in absurd (cc)
-left_of (suc n) zero (y ∷ xs) x more is = let same : y ≡ x = cc in (omega arith, ap Some same, cc)
-left_of (suc n) (suc at) (y ∷ xs) x more is = let on = left_of n at xs x more is in let low = on.0 in (omega (arith, low), on.1, on.2)
-
--- and the other way about
-left_from : {A : Type 0} (n at : ℕ) (xs : List A) (x : A) → at < n → slice_get xs at ≡ Some x → drop at (take n xs) ≡ x ∷ drop (suc at) (take n xs)
-left_from zero at xs x low is = absurd (omega (arith, low))
-left_from (suc n) at [] x low is = absurd (cc)
-left_from (suc n) zero (y ∷ xs) x low is = let same : y ≡ x = cc in ap (λ z. z ∷ take n xs) same
-left_from (suc n) (suc at) (y ∷ xs) x low is = left_from n at xs x (omega (arith, low)) is
+-- where something is left of a list from a place on, its first stands there
+drops_at : {A : Type 0} (at : ℕ) (xs : List A) (x : A) (more : List A) → drop at xs ≡ x ∷ more → (slice_get xs at ≡ Some x) × (drop (suc at) xs ≡ more)
+drops_at zero [] x more is = absurd (cc)
+drops_at zero (y ∷ xs) x more is = let same : y ≡ x = cc in (ap Some same, cc)
+drops_at (suc at) [] x more is = absurd (cc)
+drops_at (suc at) (y ∷ xs) x more is = drops_at at xs x more is
 
 -- where nothing stands, nothing is left
-none_from : {A : Type 0} (n at : ℕ) (xs : List A) → (at < n → slice_get xs at ≡ None) → drop at (take n xs) ≡ []
-none_from zero at xs none = nothing at (take zero xs) refl
-none_from (suc n) at [] none = nothing at (take (suc n) []) refl
-none_from (suc n) zero (y ∷ xs) none = let no = none (omega arith) in absurd (cc)
-none_from (suc n) (suc at) (y ∷ xs) none = none_from n at xs (λ low. none (omega (arith, low)))
+none_from : {A : Type 0} (at : ℕ) (xs : List A) → slice_get xs at ≡ None → drop at xs ≡ []
+none_from zero [] none = refl
+none_from zero (x ∷ xs) none = absurd (cc)
+none_from (suc at) [] none = refl
+none_from (suc at) (x ∷ xs) none = none_from at xs none
+
+-- at a place of the first of a list
+got_front : {A : Type 0} (n at : ℕ) (xs : List A) → at < n → slice_get (take n xs) at ≡ slice_get xs at
+got_front zero at xs low = absurd (omega (arith, low))
+got_front (suc n) at [] low = refl
+got_front (suc n) zero (x ∷ xs) low = refl
+got_front (suc n) (suc at) (x ∷ xs) low = got_front n at xs (omega (arith, low))
+
+got_within : {A : Type 0} (n at : ℕ) (xs : List A) → slice_get (take n xs) at ≡ cond (nat_lt at n) (slice_get xs at) None
+got_within n at xs = by_test (λ got. slice_get (take n xs) at ≡ got) (nat_lt at n) (λ low. got_front n at xs (ltb-true at n low))
+    (λ high. let past = ltb-false at n high in let long = length-take n xs in slice_get_past (take n xs) at (omega (arith, past, long)))
+
+-- an object stands at its place of those that are there
+pub stands_at : (items : Items) (at : ℕ) (item : Item) → item_at items at ≡ Some item → slice_get (items_of items) at ≡ Some item
+stands_at items at item is = got_within items.count at items.all ∙ is
 
 pub lower : (b : Bool) (at n : ℕ) → nat_lt at n ≡ b → at < n → b ≡ true
 lower true at n is low = refl
@@ -34,23 +37,17 @@ lower false at n is low = let not = ltb-false at n is in absurd (omega (arith, n
 
 -- the object from which on such are left
 pub listed : (items : Items) (at : ℕ) (item : Item) (more : List Item) → drop at (items_of items) ≡ item ∷ more → (item_at items at ≡ Some item) × (drop (suc at) (items_of items) ≡ more)
-listed items at item more is =
-    let here = left_of items.count at items.all item more is in
-    (ap (λ b. cond b (slice_get items.all at) None) (lower (nat_lt at items.count) at items.count refl here.0) ∙ here.1, here.2)
-
-found_by : {A : Type 0} (b : Bool) (at n : ℕ) (got : Option A) (x : A) → nat_lt at n ≡ b → cond b got None ≡ Some x → (at < n) × (got ≡ Some x)
-found_by true at n got x low is = (ltb-true at n low, is)
-found_by false at n got x low is = absurd (cc)
+listed items at item more is = let here = drops_at at (items_of items) item more is in (sym (got_within items.count at items.all) ∙ here.0, here.1)
 
 -- what is left from an object on
 pub left_at : (items : Items) (at : ℕ) (item : Item) → item_at items at ≡ Some item → drop at (items_of items) ≡ item ∷ drop (suc at) (items_of items)
 left_at items at item is =
-    let here = found_by (nat_lt at items.count) at items.count (slice_get items.all at) item refl is in
-    left_from items.count at items.all item here.0 here.1
+    let there = stands_at items at item is in
+    drop-cons (items_of items) at item (slice_get_within (items_of items) at item there) ∙ ap (λ x. x ∷ drop (suc at) (items_of items)) (get_or_from_slice_get (items_of items) at item item there)
 
 -- nothing is left where there is no object
 pub none_left : (items : Items) (at : ℕ) → item_at items at ≡ None → drop at (items_of items) ≡ []
-none_left items at is = none_from items.count at items.all (λ low. ap (λ b. cond b (slice_get items.all at) None) (sym (lower (nat_lt at items.count) at items.count refl low)) ∙ is)
+none_left items at is = none_from at (items_of items) (got_within items.count at items.all ∙ is)
 
 -- nor behind it
 pub none_behind_it : (items : Items) (at : ℕ) → drop at (items_of items) ≡ [] → drop (suc at) (items_of items) ≡ []
@@ -62,16 +59,16 @@ none_behind_it items at none = on (items_of items) at none where
 
 -- ---- the variables among objects
 
-low_if_is : (item : Item) (k : ℕ) → IsLow item → is_this k item ≡ true → k < 4
-low_if_is (OnNote note) k low is = absurd (cc)
-low_if_is (OnCounter counter) k low is = absurd (cc)
-low_if_is (OnVariable j) k low is = let same : j ≡ k = eqb-true j k is in subst (λ n. n < 4) same low
+this_is : (k : ℕ) (item : Item) → is_this k item ≡ true → item ≡ OnVariable k
+this_is k (OnNote note) is = absurd (cc)
+this_is k (OnCounter counter) is = absurd (cc)
+this_is k (OnVariable j) is = ap OnVariable (eqb-true j k is)
 
 -- a variable among objects is one of four
 pub low_if_among : (items : List Item) (k : ℕ) → Every IsLow items → is_among k items ≡ true → k < 4
 low_if_among [] k low is = absurd (cc)
 low_if_among (item ∷ items) k low is = elim (or_cases (is_this k item) (is_among k items) is) [
-  | inl here ↦ low_if_is item k low.0 here
+  | inl here ↦ subst IsLow (this_is k item here) low.0
   | inr there ↦ low_if_among items k low.1 there
 ]
 
@@ -83,11 +80,6 @@ some_among (OnNote note ∷ items) some = some_among items some
 some_among (OnCounter counter ∷ items) some = some_among items some
 
 -- ---- the place of a variable
-
-this_is : (k : ℕ) (item : Item) → is_this k item ≡ true → item ≡ OnVariable k
-this_is k (OnNote note) is = absurd (cc)
-this_is k (OnCounter counter) is = absurd (cc)
-this_is k (OnVariable j) is = ap OnVariable (eqb-true j k is)
 
 -- there it stands
 place_drops : (k : ℕ) (items : List Item) → is_among k items ≡ true → (more : List Item) × (drop (place_in k items) items ≡ OnVariable k ∷ more)

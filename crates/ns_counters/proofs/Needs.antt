@@ -1,7 +1,7 @@
 -- What a step of a call on counters and once cells needs is so, where its seat stands in a lawful state.
 use Rattle.std.proofs.Common.{List, Some, ap, refl, sym, true, ℕ, ◌<◌, ◌∙◌, ◌≡◌}
-use Rattle.ns_counters.proofs.Prelude.{AddExchange, AddLoad, AtCounter, AtNote, DoneLoad, EnvEvent, EnvPlain, FirstClock, InRound, IsInBounds, IsLawfulObjects, Meets, NoteStanding, ObjectAct, ObjectEvent, ObjectState, ObjectWalk, OnCounter, OnNote, OnWord, OnceBegin, OnceEnd, OnceLoad, StepFits}
-use Rattle.ns_counters.proofs.Prelude.{ValueLoad, WaitClock, WaitLoad, WaitMark, WalkFits, WantFits, made_below, object_want, objects_after, walk_in}
+use Rattle.ns_counters.proofs.Prelude.{AtCounter, AtNote, EnvEvent, EnvPlain, FirstClock, InRound, IsInBounds, IsLawfulObjects, Meets, NoteStanding, ObjectAct, ObjectEvent, ObjectState, ObjectWalk, OnCounter, OnNote, OnWord, StepFits, WaitClock, WalkFits, WantFits, made_below, object_want}
+use Rattle.ns_counters.proofs.Prelude.{objects_after, walk_in}
 use Rattle.ns_counters.proofs.WalkLaw.{in_list, want_below}
 
 module _ (history : List ObjectEvent) (state : ObjectState) (env : EnvPlain) (happened : List EnvEvent) (meets : Meets happened env) (led : IsLawfulObjects history state env.notes) (seat : ℕ) where
@@ -15,19 +15,10 @@ module _ (history : List ObjectEvent) (state : ObjectState) (env : EnvPlain) (ha
   word_fits walk act fits is = want_below state.setup (objects_after state.setup history) env.notes seat walk act led.lawful.room.0 led.lawful.room.1 fits is
 
   want_fits : (walk : ObjectWalk) → Fits walk → WantFits env.next (object_want walk)
-  want_fits (AddLoad counter delta) fits = word_fits (AddLoad counter delta) _ fits refl
-  want_fits (AddExchange counter delta seen value) fits = word_fits (AddExchange counter delta seen value) _ fits refl
-  want_fits (ValueLoad counter) fits = word_fits (ValueLoad counter) _ fits refl
-  want_fits (WaitMark counter deadline) fits = word_fits (WaitMark counter deadline) _ fits refl
-  want_fits (WaitLoad counter deadline) fits = word_fits (WaitLoad counter deadline) _ fits refl
   want_fits (WaitClock counter moment value) fits = (tt, tt)
-  want_fits (OnceLoad once) fits = word_fits (OnceLoad once) _ fits refl
-  want_fits (OnceBegin once) fits = word_fits (OnceBegin once) _ fits refl
-  want_fits (OnceEnd once) fits = word_fits (OnceEnd once) _ fits refl
-  want_fits (DoneLoad once) fits = word_fits (DoneLoad once) _ fits refl
   want_fits (InRound round FirstClock) fits = (tt, tt)
   want_fits (InRound round (AtNote at clock asked note)) fits = (tt, note_low note fits.1.1)
-  want_fits (InRound round (AtCounter at clock counter)) fits = word_fits (InRound round (AtCounter at clock counter)) _ fits refl
+  want_fits other fits = word_fits other _ fits refl
 
   bounds : (walk : ObjectWalk) → WalkFits state.setup (objects_after state.setup history) env.notes seat walk → IsInBounds walk
   bounds (InRound round FirstClock) fits = tt

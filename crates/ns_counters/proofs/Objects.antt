@@ -1,62 +1,39 @@
 -- Histories of all objects: their parts, and the history of each object in them.
-use Rattle.std.proofs.Common.{Bool, List, [], ap, cond, eq-eqb, eqb, eqb-true, false, fold, ne_eqb, refl, slice_index, subst, sym, true, ℕ, ◌++◌, ◌∙◌, ◌∷◌, ◌≡◌, ◌≢◌}
-use Rattle.ns_counters.proofs.Prelude.{CounterState, Every, IsLegalCounter, IsLegalCounterEvent, IsLegalFrom, IsLegalObjectEvent, IsLegalObjects, IsLegalOnce, IsLegalOnceEvent, ObjectEvent, ObjectStanding, OnOnce, OnceState, Setup, counter_after, counter_next, filter-append, first_objects}
-use Rattle.ns_counters.proofs.Prelude.{object_next, object_who, objects_after, objects_from, objects_own, of_counter, of_once, once_after, once_next}
+use Rattle.std.proofs.Common.{Bool, List, [], ap, cond, eq-eqb, eqb, eqb-true, false, fold, ne_eqb, refl, subst, sym, true, ℕ, ◌++◌, ◌∙◌, ◌∷◌, ◌≡◌, ◌≢◌}
+use Rattle.ns_counters.proofs.Prelude.{but_at, Every, IsLegalCounterEvent, IsLegalFrom, IsLegalObjectEvent, IsLegalOnceEvent, ObjectEvent, ObjectStanding, OnOnce, Setup, counter_next, filter-append, object_next, object_who, objects_from, objects_own, of_counter, of_once, once_next}
 use Rattle.ns_counters.specs.Prelude.{OnCounter}
 
 -- ---- each object by itself
 
-module _ (number : ℕ) where
+-- What a part of the events is of one object: its legal history, which leaves this.
+module _ {S E : Type 0} (IsLegal : S → E → Type 0) (next : S → E → S) (left : S) where
+  pub record IsOwn (now : S) (events : List E) : Type 0 where
+    pub legal : IsLegalFrom IsLegal next now events
+    pub leaves : left ≡ fold next now events
+
   -- an event of this object is one of its own history, and an event of another leaves it as it is
-  counter_from : (now : ObjectStanding) (events : List ObjectEvent) → (objects_from now events).counters number ≡ fold counter_next (now.counters number) (of_counter number events)
-  counter_from now [] = refl
-  counter_from now (OnOnce once event ∷ events) = counter_from (object_next now (OnOnce once event)) events
-  counter_from now (OnCounter counter event ∷ events) = counter_from (object_next now (OnCounter counter event)) events ∙ by (eqb number counter) (λ is. ap now.counters (sym (eqb-true number counter is))) where
-    by : (b : Bool) → (b ≡ true → now.counters counter ≡ now.counters number) →
-        fold counter_next (cond b (counter_next (now.counters counter) event) (now.counters number)) (of_counter number events) ≡ fold counter_next (now.counters number) (cond b (event ∷ of_counter number events) (of_counter number events))
-    by true same = ap (λ (state : CounterState). fold counter_next (counter_next state event) (of_counter number events)) (same refl)
-    by false same = refl
+  own_next : (number other : ℕ) (states : ℕ → S) (event : E) (events : List E) → IsLegal (states other) event → IsOwn (but_at other (next (states other) event) states number) events →
+      IsOwn (states number) (cond (eqb number other) (event ∷ events) events)
+  own_next number other states event events legal own = by (eqb number other) (λ is. ap states (sym (eqb-true number other is))) own where
+    by : (b : Bool) → (b ≡ true → states other ≡ states number) → IsOwn (cond b (next (states other) event) (states number)) events → IsOwn (states number) (cond b (event ∷ events) events)
+    by true same own = subst (λ now. IsOwn now (event ∷ events)) (same refl) (record { legal = (legal, own.legal); leaves = own.leaves })
+    by false same own = own
 
-  once_from : (now : ObjectStanding) (events : List ObjectEvent) → (objects_from now events).onces number ≡ fold once_next (now.onces number) (of_once number events)
-  once_from now [] = refl
-  once_from now (OnCounter counter event ∷ events) = once_from (object_next now (OnCounter counter event)) events
-  once_from now (OnOnce once event ∷ events) = once_from (object_next now (OnOnce once event)) events ∙ by (eqb number once) (λ is. ap now.onces (sym (eqb-true number once is))) where
-    by : (b : Bool) → (b ≡ true → now.onces once ≡ now.onces number) → fold once_next (cond b (once_next (now.onces once) event) (now.onces number)) (of_once number events) ≡ fold once_next (now.onces number) (cond b (event ∷ of_once number events) (of_once number events))
-    by true same = ap (λ (state : OnceState). fold once_next (once_next state event) (of_once number events)) (same refl)
-    by false same = refl
+-- In a legal history of all objects, each has a legal history of its own, which leaves it as it then stands.
+module _ (number : ℕ) (setup : Setup) where
+  pub counter_own : (now : ObjectStanding) (events : List ObjectEvent) → IsLegalFrom (IsLegalObjectEvent setup) object_next now events →
+      IsOwn IsLegalCounterEvent counter_next ((objects_from now events).counters number) (now.counters number) (of_counter number events)
+  counter_own now [] legal = record { legal = tt; leaves = refl }
+  counter_own now (OnOnce once event ∷ events) legal = counter_own (object_next now (OnOnce once event)) events legal.1
+  counter_own now (OnCounter counter event ∷ events) legal =
+      own_next IsLegalCounterEvent counter_next ((objects_from now (OnCounter counter event ∷ events)).counters number) number counter now.counters event (of_counter number events) legal.0.1 (counter_own (object_next now (OnCounter counter event)) events legal.1)
 
-  -- what is left of each object is what its own history leaves
-  pub counter_after-own : (setup : Setup) (history : List ObjectEvent) → (objects_after setup history).counters number ≡ counter_after (slice_index setup.starts number) (of_counter number history)
-  counter_after-own setup history = counter_from (first_objects setup) history
-
-  pub once_after-own : (setup : Setup) (history : List ObjectEvent) → (objects_after setup history).onces number ≡ once_after (of_once number history)
-  once_after-own setup history = once_from (first_objects setup) history
-
-  module _ (setup : Setup) where
-    legal_counter_from : (now : ObjectStanding) (events : List ObjectEvent) → IsLegalFrom (IsLegalObjectEvent setup) object_next now events → IsLegalFrom IsLegalCounterEvent counter_next (now.counters number) (of_counter number events)
-    legal_counter_from now [] legal = tt
-    legal_counter_from now (OnOnce once event ∷ events) legal = legal_counter_from (object_next now (OnOnce once event)) events legal.1
-    legal_counter_from now (OnCounter counter event ∷ events) legal = by (eqb number counter) (λ is. ap now.counters (sym (eqb-true number counter is))) (legal_counter_from (object_next now (OnCounter counter event)) events legal.1) where
-      by : (b : Bool) → (b ≡ true → now.counters counter ≡ now.counters number) → IsLegalFrom IsLegalCounterEvent counter_next (cond b (counter_next (now.counters counter) event) (now.counters number)) (of_counter number events)
-          → IsLegalFrom IsLegalCounterEvent counter_next (now.counters number) (cond b (event ∷ of_counter number events) (of_counter number events))
-      by true same others = subst (λ (state : CounterState). IsLegalFrom IsLegalCounterEvent counter_next state (event ∷ of_counter number events)) (same refl) (legal.0.1, others)
-      by false same others = others
-
-    legal_once_from : (now : ObjectStanding) (events : List ObjectEvent) → IsLegalFrom (IsLegalObjectEvent setup) object_next now events → IsLegalFrom IsLegalOnceEvent once_next (now.onces number) (of_once number events)
-    legal_once_from now [] legal = tt
-    legal_once_from now (OnCounter counter event ∷ events) legal = legal_once_from (object_next now (OnCounter counter event)) events legal.1
-    legal_once_from now (OnOnce once event ∷ events) legal = by (eqb number once) (λ is. ap now.onces (sym (eqb-true number once is))) (legal_once_from (object_next now (OnOnce once event)) events legal.1) where
-      by : (b : Bool) → (b ≡ true → now.onces once ≡ now.onces number) → IsLegalFrom IsLegalOnceEvent once_next (cond b (once_next (now.onces once) event) (now.onces number)) (of_once number events)
-          → IsLegalFrom IsLegalOnceEvent once_next (now.onces number) (cond b (event ∷ of_once number events) (of_once number events))
-      by true same others = subst (λ (state : OnceState). IsLegalFrom IsLegalOnceEvent once_next state (event ∷ of_once number events)) (same refl) (legal.0.1, others)
-      by false same others = others
-
-    -- In a legal history of all objects, each has a legal history of its own.
-    pub legal_counter_own : (history : List ObjectEvent) → IsLegalObjects setup history → IsLegalCounter (slice_index setup.starts number) (of_counter number history)
-    legal_counter_own history legal = legal_counter_from (first_objects setup) history legal
-
-    pub legal_once_own : (history : List ObjectEvent) → IsLegalObjects setup history → IsLegalOnce (of_once number history)
-    legal_once_own history legal = legal_once_from (first_objects setup) history legal
+  pub once_own : (now : ObjectStanding) (events : List ObjectEvent) → IsLegalFrom (IsLegalObjectEvent setup) object_next now events →
+      IsOwn IsLegalOnceEvent once_next ((objects_from now events).onces number) (now.onces number) (of_once number events)
+  once_own now [] legal = record { legal = tt; leaves = refl }
+  once_own now (OnCounter counter event ∷ events) legal = once_own (object_next now (OnCounter counter event)) events legal.1
+  once_own now (OnOnce once event ∷ events) legal =
+      own_next IsLegalOnceEvent once_next ((objects_from now (OnOnce once event ∷ events)).onces number) number once now.onces event (of_once number events) legal.0.1 (once_own (object_next now (OnOnce once event)) events legal.1)
 
 -- ---- callers
 

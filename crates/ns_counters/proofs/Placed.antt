@@ -1,36 +1,27 @@
 -- Where seats stand in calls on counters and once cells: after one of them is put elsewhere, and while more notes are made; what a step leaves of what was asked, and what it needs.
-use Rattle.std.proofs.Common.{Bool, Err, List, None, Ok, Option, Result, Some, [], ap, arith, cond, eqb, false, inl, inr, length, nat_lt, refl, slice_set, subst, suc, sym, true, zero, ℕ, ℤ, ◌<◌, ◌∙◌, ◌∷◌, ◌≡◌, ◌≢◌}
-use Rattle.ns_counters.proofs.Prelude.{AddExchange, AddLoad, AreThere, AtCounter, AtNote, Clock, CounterFault, CounterState, DoneLoad, Env, FirstClock, Go, InRound, IsLawfulObjects, Item, Items, NoteStanding, Number, ObjectEvent, ObjectFound, ObjectNext, ObjectStanding, ObjectState, ObjectWalk}
-use Rattle.ns_counters.proofs.Prelude.{OnCounter, OnNote, OnVariable, OnceBegin, OnceEnd, OnceLoad, Over, Repeat, Round, RoundFits, RoundGo, RoundNext, RoundOver, RoundPlace, Setup, Stage, ValueLoad, WaitClock, WaitLoad, WaitMark, WalkFits, Word, by_answer, by_begun, by_deadline, by_judging}
-use Rattle.ns_counters.proofs.Prelude.{by_round, by_stage, cases_eq, counter_of, counter_word, is_there, items_of, judged, list_all, object_asked, object_got, objects_after, round_got, stage_of, walk_in}
+use Rattle.std.proofs.Common.{Bool, List, None, Option, Some, [], ap, eqb, length, nat_lt, refl, slice_get, slice_set, unwrap_or, IfSome, ◌≢◌, sym, true, ℕ, ℤ, ◌<◌, ◌∷◌, ◌≡◌, ◌≢◌}
+use Rattle.ns_counters.proofs.Prelude.{AddExchange, AddLoad, AreThere, AtCounter, AtNote, Clock, DoneLoad, Env, FirstClock, InRound, IsLawfulObjects, Item, Items, NoteStanding, ObjectEvent, ObjectFound, ObjectNext, ObjectStanding, ObjectState, ObjectWalk, OnCounter, OnNote, OnVariable, OnceBegin}
+use Rattle.ns_counters.proofs.Prelude.{OnceEnd, OnceLoad, Round, RoundFits, RoundPlace, Setup, ValueLoad, WaitClock, WaitLoad, WaitMark, WalkFits, Word, by_judging, IfSome_then, either, object_after, set_each, slice_get_within, counter_of, counter_word, is_there, items_of, judged, list_all}
+use Rattle.ns_counters.proofs.Prelude.{object_asked, object_got, objects_after, round_got, stage_of, waited_next, walk_in}
+use Rattle.ns_counters.proofs.Ways.{at_answer, at_begun, at_round, at_stage, at_waited}
 use Rattle.ns_counters.proofs.Listed.{first_of_all, rest_of_all}
 use Rattle.ns_counters.specs.declared.word.Stage.TheVariants as TheStage
 
 -- ---- a seat is put elsewhere
 
-pub put_here : (walks : List (Option ObjectWalk)) (seat : ℕ) (walk : Option ObjectWalk) → seat < length walks → walk_in (slice_set walks seat walk) seat ≡ walk
-put_here [] seat walk within = absurd (omega (arith, within))
-put_here (w ∷ walks) zero walk within = refl
-put_here (w ∷ walks) (suc seat) walk within = put_here walks seat walk (omega arith)
-
-pub put_there : (walks : List (Option ObjectWalk)) (seat : ℕ) (walk : Option ObjectWalk) (other : ℕ) → other ≢ seat → walk_in (slice_set walks seat walk) other ≡ walk_in walks other
-put_there [] seat walk other ne = refl
-put_there (w ∷ walks) zero walk zero ne = absurd (ne refl)
-put_there (w ∷ walks) zero walk (suc other) ne = refl
-put_there (w ∷ walks) (suc seat) walk zero ne = refl
-put_there (w ∷ walks) (suc seat) walk (suc other) ne = put_there walks seat walk other (λ e. ne (ap suc e))
-
--- a seat that is put nowhere stands nowhere
-pub put_none : (walks : List (Option ObjectWalk)) (seat : ℕ) → walk_in (slice_set walks seat None) seat ≡ None
-put_none [] seat = refl
-put_none (w ∷ walks) zero = refl
-put_none (w ∷ walks) (suc seat) = put_none walks seat
+stood : (at : Option (Option ObjectWalk)) (walk : ObjectWalk) → unwrap_or at None ≡ Some walk → at ≡ Some (Some walk)
+stood None walk is = absurd (cc)
+stood (Some place) walk is = ap Some is
 
 -- a seat that stands somewhere is one of those that there are
 pub stands_within : (walks : List (Option ObjectWalk)) (seat : ℕ) (walk : ObjectWalk) → walk_in walks seat ≡ Some walk → seat < length walks
-stands_within [] seat walk e = absurd (cc)
-stands_within (w ∷ walks) zero walk e = omega arith
-stands_within (w ∷ walks) (suc seat) walk e = let below = stands_within walks seat walk e in omega (arith, below)
+stands_within walks seat walk is = slice_get_within walks seat (Some walk) (stood (slice_get walks seat) walk is)
+
+-- what is so of where the seat is put, and of where each other stands, is so of each
+pub put_each : (P : ℕ → ObjectWalk → Type 0) (walks : List (Option ObjectWalk)) (seat : ℕ) (walk : Option ObjectWalk) → seat < length walks → IfSome walk (P seat) →
+    ((other : ℕ) (w : ObjectWalk) → other ≢ seat → walk_in walks other ≡ Some w → P other w) → (other : ℕ) (w : ObjectWalk) → walk_in (slice_set walks seat walk) other ≡ Some w → P other w
+put_each P walks seat walk within here there other w at =
+    set_each P walks seat walk within here (λ j x ne is. there j x ne (ap (λ (o : Option (Option ObjectWalk)). unwrap_or o None) is)) other w (stood (slice_get (slice_set walks seat walk) other) w at)
 
 -- ---- notes that are made stay made
 
@@ -65,71 +56,38 @@ led_more history state notes later more led = record {
 
 -- a seat that is in no call may stand anywhere
 abbrev pub Fit : Setup → ObjectStanding → (ℕ → NoteStanding) → ℕ → Option ObjectWalk → Type 0
-Fit setup now notes seat None = Unit {0}
-Fit setup now notes seat (Some walk) = WalkFits setup now notes seat walk
+Fit setup now notes seat walk = IfSome walk (WalkFits setup now notes seat)
 
 -- what has led to the objects has led to them where a seat is put at a place that fits
 pub put_keeps : (history : List ObjectEvent) (state : ObjectState) (notes : ℕ → NoteStanding) (seat : ℕ) (walk : Option ObjectWalk) → seat < length state.walks → seat < state.setup.seats → Fit state.setup (objects_after state.setup history) notes seat walk → IsLawfulObjects history state notes →
     IsLawfulObjects history (record state { walks = slice_set state.walks seat walk }) notes
 put_keeps history state notes seat walk inside low fits led = record {
   lawful = led.lawful;
-  within = λ other w at. elim (cases_eq other seat) [
-    | inl e ↦ subst (λ n. n < state.setup.seats) (sym e) low
-    | inr ne ↦ led.within other w (sym (put_there state.walks seat walk other ne) ∙ at)
-  ];
-  each = λ other w at. elim (cases_eq other seat) [
-    | inl e ↦
-        let is : walk ≡ Some w = sym (put_here state.walks seat walk inside) ∙ ap (walk_in (slice_set state.walks seat walk)) (sym e) ∙ at in
-        subst (λ n. WalkFits state.setup (objects_after state.setup history) notes n w) (sym e) (subst (Fit state.setup (objects_after state.setup history) notes seat) is fits)
-    | inr ne ↦ led.each other w (sym (put_there state.walks seat walk other ne) ∙ at)
-  ];
+  within = put_each (λ other w. other < state.setup.seats) state.walks seat walk inside (IfSome_then walk fits (λ _ _. low)) (λ other w _ at. led.within other w at);
+  each = put_each (WalkFits state.setup (objects_after state.setup history) notes) state.walks seat walk inside fits (λ other w _ at. led.each other w at);
 }
 
 -- ---- a step of a call on counters and once cells leaves what the call was asked
 
 abbrev pub StaysAsked : ObjectWalk → ObjectNext → Type 0
-StaysAsked asked (Go walk) = object_asked walk ≡ asked
-StaysAsked asked (Repeat walk) = object_asked walk ≡ asked
-StaysAsked asked (Over reply) = Unit {0}
+StaysAsked asked next = IfSome (object_after next) (λ walk. object_asked walk ≡ asked)
 
-judged_stays : (counter : ℕ) (delta : ℤ) (seen : CounterState) (answer : Result ℕ CounterFault) → StaysAsked (AddLoad counter delta) (by_answer counter delta seen answer)
-judged_stays counter delta seen (Ok value) = refl
-judged_stays counter delta seen (Err fault) = tt
+judged_stays : (counter : ℕ) (delta : ℤ) (word : ℕ) → StaysAsked (AddLoad counter delta) (by_judging counter delta word)
+judged_stays counter delta word = at_answer (StaysAsked (AddLoad counter delta)) (λ _. tt) counter delta (counter_of word) (judged (counter_of word) delta) (λ _ _. refl)
 
-waited_stays : (counter : ℕ) (deadline : Option ℕ) (value : ℕ) (b : Bool) → StaysAsked (WaitMark counter deadline) (cond b (Over (Number 0)) (by_deadline counter deadline value))
-waited_stays counter deadline value true = tt
-waited_stays counter None value false = refl
-waited_stays counter (Some moment) value false = refl
-
-stage_stays : (once : ℕ) (stage : Stage) → StaysAsked (OnceLoad once) (by_stage once stage)
-stage_stays once TheStage.Unused = refl
-stage_stays once TheStage.Running = refl
-stage_stays once TheStage.Done = tt
-
-begun_stage_stays : (once : ℕ) (stage : Stage) → StaysAsked (OnceLoad once) (by_begun once stage)
-begun_stage_stays once TheStage.Unused = refl
-begun_stage_stays once TheStage.Running = refl
-begun_stage_stays once TheStage.Done = tt
-
-round_stays : (round : Round) (next : RoundNext) → StaysAsked (InRound round FirstClock) (by_round round next)
-round_stays round (RoundGo place) = refl
-round_stays round (RoundOver None) = refl
-round_stays round (RoundOver (Some at)) = tt
-
-two_stay : (asked : ObjectWalk) (b : Bool) (x y : ObjectNext) → StaysAsked asked x → StaysAsked asked y → StaysAsked asked (cond b x y)
-two_stay asked true x y p q = p
-two_stay asked false x y p q = q
+waited_stays : (counter : ℕ) (deadline : Option ℕ) (value : ℕ) → StaysAsked (WaitMark counter deadline) (waited_next counter deadline value)
+waited_stays counter deadline value = at_waited (StaysAsked (WaitMark counter deadline)) (λ _. tt) counter deadline value (λ is. ap (WaitMark counter) (sym is)) (λ _ is. ap (WaitMark counter) (sym is))
 
 pub stays_asked : (walk : ObjectWalk) (found : ObjectFound) → StaysAsked (object_asked walk) (object_got walk found)
-stays_asked (AddLoad counter delta) (Word word) = judged_stays counter delta (counter_of word) (judged (counter_of word) delta)
-stays_asked (AddExchange counter delta seen value) (Word word) = two_stay (AddLoad counter delta) (eqb word (counter_word seen)) (Over (Number value)) (by_judging counter delta word) tt (judged_stays counter delta (counter_of word) (judged (counter_of word) delta))
+stays_asked (AddLoad counter delta) (Word word) = judged_stays counter delta word
+stays_asked (AddExchange counter delta seen value) (Word word) = either (StaysAsked (AddLoad counter delta)) (eqb word (counter_word seen)) tt (judged_stays counter delta word)
 stays_asked (ValueLoad counter) (Word word) = tt
-stays_asked (WaitMark counter deadline) (Word word) = waited_stays counter deadline (counter_of word).value (eqb (counter_of word).value 0)
-stays_asked (WaitLoad counter deadline) (Word word) = waited_stays counter deadline (counter_of word).value (eqb (counter_of word).value 0)
-stays_asked (WaitClock counter moment value) (Env (Clock clock)) = two_stay (WaitMark counter (Some moment)) (nat_lt clock moment) (Repeat (WaitLoad counter (Some moment))) (Over (Number value)) refl tt
-stays_asked (OnceLoad once) (Word word) = stage_stays once (stage_of word)
-stays_asked (OnceBegin once) (Word word) = begun_stage_stays once (stage_of word)
+stays_asked (WaitMark counter deadline) (Word word) = waited_stays counter deadline (counter_of word).value
+stays_asked (WaitLoad counter deadline) (Word word) = waited_stays counter deadline (counter_of word).value
+stays_asked (WaitClock counter moment value) (Env (Clock clock)) = either (StaysAsked (WaitMark counter (Some moment))) (nat_lt clock moment) refl tt
+stays_asked (OnceLoad once) (Word word) = at_stage (StaysAsked (OnceLoad once)) (λ _. tt) once (stage_of word) refl refl
+stays_asked (OnceBegin once) (Word word) = at_begun (StaysAsked (OnceLoad once)) (λ _. tt) once (stage_of word) refl refl
 stays_asked (OnceEnd once) (Word word) = tt
 stays_asked (DoneLoad once) (Word word) = tt
-stays_asked (InRound round place) found = round_stays round (round_got round place found)
+stays_asked (InRound round place) found = at_round (StaysAsked (InRound round FirstClock)) (λ _. tt) round (round_got round place found) (λ _. refl) refl
 stays_asked walk found = refl

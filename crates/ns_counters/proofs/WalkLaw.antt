@@ -1,45 +1,37 @@
 -- A step of a call on counters and once cells keeps their law, and leaves each seat where it may stand.
-use Rattle.std.proofs.Common.{Bool, Err, List, None, Ok, Option, Result, Some, [], ap, append-nil, arith, cond, drop, eqb, false, inl, inr, ltb-true, nat_lt, refl, slice_get, slice_index, slice_set, subst, suc, sym, take, true, zero, ℕ, ℤ, ◌%◌, ◌++◌, ◌<◌, ◌^◌, ◌∙◌, ◌∷◌, ◌≡◌, ◌≢◌, ◌≤◌}
-use Rattle.ns_counters.proofs.Prelude.{Add, AddExchange, AddLoad, AreThere, AtCounter, AtNote, Began, BeginOnce, CanAct, Clock, CounterFault, CounterState, DoneLoad, Env, EnvEvent, EnvFound, EnvNext, EnvPlain, Every, ExchangeToAdd, FirstClock, ForIsNotified, Free, Go, InRound, Is, IsLawfulObjects}
-use Rattle.ns_counters.proofs.Prelude.{Item, Items, LoadToAdd, Meets, Note, NoteLoad, NoteStanding, NoteWord, Number, ObjectAct, ObjectEffect, ObjectEvent, ObjectFound, ObjectNext, ObjectStanding, ObjectState, ObjectView, ObjectWalk, ObjectWant, OnCounter, OnEnv, OnNote, OnVariable, OnWord}
-use Rattle.ns_counters.proofs.Prelude.{OnceBegin, OnceEnd, OnceLoad, Outcome, Over, Place, PlaceFits, Repeat, Round, RoundFits, RoundGo, RoundNext, RoundOver, Running, Setup, Stage, ValueLoad, ViewFits, WaitClock, WaitLoad, WaitMark, WalkFits, Word, begins_itself, by_answer, by_begun, by_chain}
-use Rattle.ns_counters.proofs.Prelude.{by_deadline, by_judging, by_round, by_stage, cases_eq, chain_from, chain_up, counter_of, counter_word, env_got_of, from_items, from_place, is_there, item_at, items_of, judged, list_all, most, object_after, object_got, object_place, object_want, object_who}
-use Rattle.ns_counters.proofs.Prelude.{objects_after, objects_own, outcome, round_got, stage_of, standing_of, state_of, tried, waited_next, walk_in, word_at, word_left}
+use Rattle.std.proofs.Common.{Bool, Err, IfSome, List, None, length, Ok, Option, Result, Some, [], ap, append-nil, arith, drop, eqb, ltb-true, nat_lt, refl, slice_get, slice_index, slice_set, subst, suc, sym, true, zero, ℕ, ℤ, ◌%◌, ◌++◌, ◌<◌, ◌^◌, ◌∙◌, ◌∷◌, ◌≡◌, ◌≢◌, ◌≤◌}
+use Rattle.ns_counters.proofs.Prelude.{AddExchange, AddLoad, AreThere, AtCounter, AtNote, BeginOnce, CanAct, Clock, CounterFault, CounterState, Env, EnvEvent, EnvFound, EnvNext, EnvPlain, Every, ExchangeToAdd, FirstClock, ForIsNotified, Free, Go, InRound, Is, IsLawfulObjects, Item, Items, LoadToAdd}
+use Rattle.ns_counters.proofs.Prelude.{Meets, Note, NoteLoad, NoteStanding, NoteWord, ObjectAct, ObjectEffect, ObjectEvent, ObjectFound, ObjectNext, ObjectStanding, ObjectState, ObjectView, ObjectWalk, ObjectWant, OnCounter, OnEnv, OnNote, OnVariable, OnWord, OnceBegin, OnceEnd, OnceLoad, Outcome}
+use Rattle.ns_counters.proofs.Prelude.{Over, Place, PlaceFits, Round, RoundFits, RoundGo, RoundNext, RoundOver, Setup, ViewFits, WaitClock, WaitLoad, WaitMark, WalkFits, Word, begins_itself, by_answer, by_begun, by_chain, both, either, is_due, length-take, IfSome_then, slice_get_within, by_judging}
+use Rattle.ns_counters.proofs.Prelude.{by_round, chain_from, chain_up, counter_of, counter_word, env_got_of, from_items, from_place, is_there, item_at, items_of, judged, list_all, most, object_after, object_got, object_place, object_want, object_who, objects_after, objects_own, outcome, round_got}
+use Rattle.ns_counters.proofs.Prelude.{stage_of, standing_of, state_of, tried, waited_next, walk_in, word_at, word_left}
 use Rattle.ns_counters.proofs.Acts.{acted_fits, acted_lawful, others_fit}
 use Rattle.ns_counters.proofs.Keeps.{step_keeps}
-use Rattle.ns_counters.proofs.Listed.{first_of_all, listed, rest_of_all}
-use Rattle.ns_counters.proofs.Placed.{put_here, put_there, stands_within}
+use Rattle.ns_counters.proofs.Listed.{first_of_all, listed, rest_of_all, stands_at}
+use Rattle.ns_counters.proofs.Placed.{put_each, put_keeps, stands_within}
+use Rattle.ns_counters.proofs.Ways.{at_answer, at_begun, at_round, at_stage, at_waited}
 use Rattle.ns_counters.specs.declared.object.ObjectEvent.TheVariants as TheEvent
 use Rattle.ns_counters.specs.declared.word.Stage.TheVariants as TheStage
 use Rattle.ns_env.specs.declared.walk.EnvNext.TheVariants as TheEnv
 
 -- ---- objects of a list
 
-passes : {A : Type 0} (p : A → Bool) (n at : ℕ) (xs : List A) (x : A) → list_all p (take n xs) ≡ true → at < n → slice_get xs at ≡ Some x → p x ≡ true
-passes p zero at xs x all low is = absurd (omega (arith, low))
-passes p (suc n) at [] x all low is = absurd (cc)
-passes p (suc n) zero (y ∷ xs) x all low is = let same : y ≡ x = cc in subst (λ z. p z ≡ true) same (first_of_all (p y) (list_all p (take n xs)) all)
-passes p (suc n) (suc at) (y ∷ xs) x all low is = passes p n at xs x (rest_of_all (p y) (list_all p (take n xs)) all) (omega (arith, low)) is
-
--- an object of a list is one of those before its end
-at_place : {A : Type 0} (b : Bool) (at n : ℕ) (got : Option A) (x : A) → nat_lt at n ≡ b → cond b got None ≡ Some x → (at < n) × (got ≡ Some x)
-at_place true at n got x low is = (ltb-true at n low, is)
-at_place false at n got x low is = absurd (cc)
-
-passes_at : {A : Type 0} (p : A → Bool) (n at : ℕ) (xs : List A) (x : A) → list_all p (take n xs) ≡ true → cond (nat_lt at n) (slice_get xs at) None ≡ Some x → p x ≡ true
-passes_at p n at xs x all is = let there = at_place (nat_lt at n) at n (slice_get xs at) x refl is in passes p n at xs x all there.0 there.1
+passes : {A : Type 0} (p : A → Bool) (xs : List A) (at : ℕ) (x : A) → list_all p xs ≡ true → slice_get xs at ≡ Some x → p x ≡ true
+passes p [] at x all is = absurd (cc)
+passes p (y ∷ xs) zero x all is = let same : y ≡ x = cc in subst (λ z. p z ≡ true) same (first_of_all (p y) (list_all p xs) all)
+passes p (y ∷ xs) (suc at) x all is = passes p xs at x (rest_of_all (p y) (list_all p xs) all) is
 
 -- an object is one of the 16 places
 pub in_list : (items : Items) (at : ℕ) (item : Item) → items.count ≤ 16 → item_at items at ≡ Some item → at < 16
-in_list items at item few is = let low = (at_place (nat_lt at items.count) at items.count (slice_get items.all at) item refl is).0 in omega (arith, few, low)
+in_list items at item few is = let low = slice_get_within (items_of items) at item (stands_at items at item is) in let long = length-take items.count items.all in omega (arith, few, low, long)
 
 module _ (setup : Setup) (notes : ℕ → NoteStanding) where
   -- there is each object of a list of which there is each
   pub note_there : (items : Items) (at note : ℕ) → AreThere setup notes items → item_at items at ≡ Some (OnNote note) → (notes note).made ≡ true
-  note_there items at note there is = passes_at (is_there setup notes) items.count at items.all (OnNote note) there.1 is
+  note_there items at note there is = passes (is_there setup notes) (items_of items) at (OnNote note) there.1 (stands_at items at (OnNote note) is)
 
   pub counter_there : (items : Items) (at counter : ℕ) → AreThere setup notes items → item_at items at ≡ Some (OnCounter counter) → counter < setup.counters
-  counter_there items at counter there is = ltb-true counter setup.counters (passes_at (is_there setup notes) items.count at items.all (OnCounter counter) there.1 is)
+  counter_there items at counter there is = ltb-true counter setup.counters (passes (is_there setup notes) (items_of items) at (OnCounter counter) there.1 (stands_at items at (OnCounter counter) is))
 
   -- ---- where a round stands
 
@@ -49,12 +41,8 @@ module _ (setup : Setup) (notes : ℕ → NoteStanding) where
 
   from_stands : (round : Round) (clock at : ℕ) → AreThere setup notes round.items → RoundStands round (from_place round clock at)
   from_stands round clock at there = by (drop at (items_of round.items)) at refl where
-    ends : (b : Bool) → RoundStands round (cond b (RoundOver (Some round.items.count)) (RoundOver None))
-    ends true = tt
-    ends false = tt
-
     by : (items : List Item) (at : ℕ) → drop at (items_of round.items) ≡ items → RoundStands round (from_items round clock at items)
-    by [] at is = ends _
+    by [] at is = either (RoundStands round) (is_due clock round.deadline) tt tt
     by (OnNote note ∷ items) at is = let here = listed round.items at (OnNote note) items is in (here.0, note_there round.items at note there here.0)
     by (OnCounter counter ∷ items) at is = (listed round.items at (OnCounter counter) items is).0
     by (OnVariable k ∷ items) at is = by items (suc at) (listed round.items at (OnVariable k) items is).1
@@ -63,65 +51,40 @@ module _ (setup : Setup) (notes : ℕ → NoteStanding) where
 
 -- where a seat may stand after a step, if it goes on
 abbrev pub NextFits : Setup → ObjectStanding → (ℕ → NoteStanding) → ℕ → ObjectNext → Type 0
-NextFits setup now notes seat (Go walk) = WalkFits setup now notes seat walk
-NextFits setup now notes seat (Repeat walk) = WalkFits setup now notes seat walk
-NextFits setup now notes seat (Over reply) = Unit {0}
-
-module _ (setup : Setup) (now : ObjectStanding) (notes : ℕ → NoteStanding) (seat : ℕ) where
-  -- a change that was judged by a word, whose counter has room in it
-  judged_stands : (counter : ℕ) (delta : ℤ) (word : ℕ) → counter < setup.counters → (counter_of word).value ≤ most → NextFits setup now notes seat (by_judging counter delta word)
-  judged_stands counter delta word there few = by (judged (counter_of word) delta) refl where
-    by : (r : Result ℕ CounterFault) → judged (counter_of word) delta ≡ r → NextFits setup now notes seat (by_answer counter delta (counter_of word) r)
-    by (Ok value) is = (there, is, few)
-    by (Err fault) is = tt
-
-  waited_stands : (counter : ℕ) (deadline : Option ℕ) (value : ℕ) → counter < setup.counters → NextFits setup now notes seat (waited_next counter deadline value)
-  waited_stands counter deadline value there = by (eqb value 0) where
-    late : (deadline : Option ℕ) → NextFits setup now notes seat (by_deadline counter deadline value)
-    late None = there
-    late (Some moment) = there
-
-    by : (b : Bool) → NextFits setup now notes seat (cond b (Over (Number 0)) (by_deadline counter deadline value))
-    by true = tt
-    by false = late deadline
-
-  stage_stands : (once : ℕ) (stage : Stage) → once < setup.cells → NextFits setup now notes seat (by_stage once stage)
-  stage_stands once TheStage.Unused there = there
-  stage_stands once TheStage.Running there = there
-  stage_stands once TheStage.Done there = tt
-
-  round_stands : (round : Round) (next : RoundNext) → AreThere setup notes round.items → RoundStands setup notes round next → NextFits setup now notes seat (by_round round next)
-  round_stands round (RoundGo place) there fits = (there, fits)
-  round_stands round (RoundOver None) there fits = (there, tt)
-  round_stands round (RoundOver (Some at)) there fits = tt
+NextFits setup now notes seat next = IfSome (object_after next) (WalkFits setup now notes seat)
 
 -- a word is read as one of a counter that has room
 value_few : (word : ℕ) → (counter_of word).value ≤ most
 value_few word = let low : word % 2 ^ 32 < 2 ^ 32 = omega arith in omega (arith, low)
 
+module _ (setup : Setup) (now : ObjectStanding) (notes : ℕ → NoteStanding) (seat : ℕ) where
+  abbrev Fits : ObjectNext → Type 0
+  Fits next = NextFits setup now notes seat next
+
+  -- a change that was judged by a word
+  judged_stands : (counter : ℕ) (delta : ℤ) (word : ℕ) → counter < setup.counters → Fits (by_judging counter delta word)
+  judged_stands counter delta word there = at_answer Fits (λ _. tt) counter delta (counter_of word) (judged (counter_of word) delta) (λ value is. (there, is, value_few word))
+
+  round_stands : (round : Round) (next : RoundNext) → AreThere setup notes round.items → RoundStands setup notes round next → Fits (by_round round next)
+  round_stands round (RoundGo place) there fits = (there, fits)
+  round_stands round (RoundOver None) there fits = (there, tt)
+  round_stands round (RoundOver (Some at)) there fits = tt
+
 -- where a step on a word leads, in what it leaves
 module _ (setup : Setup) (now : ObjectStanding) (notes : ℕ → NoteStanding) (seat word : ℕ) where
   pub word_leads : (walk : ObjectWalk) (was : ObjectStanding) → WalkFits setup was notes seat walk → PlaceFits setup now seat (object_place (object_after (object_got walk (Word word)))) → NextFits setup now notes seat (object_got walk (Word word))
-  word_leads (AddLoad counter delta) was fits placed = judged_stands setup now notes seat counter delta word fits (value_few word)
-  word_leads (AddExchange counter delta seen value) was fits placed = by (eqb word (counter_word seen)) where
-    by : (b : Bool) → NextFits setup now notes seat (cond b (Over (Number value)) (by_judging counter delta word))
-    by true = tt
-    by false = judged_stands setup now notes seat counter delta word fits.0 (value_few word)
-  word_leads (WaitMark counter deadline) was fits placed = waited_stands setup now notes seat counter deadline (counter_of word).value fits
-  word_leads (WaitLoad counter deadline) was fits placed = waited_stands setup now notes seat counter deadline (counter_of word).value fits
+  word_leads (AddLoad counter delta) was fits placed = judged_stands setup now notes seat counter delta word fits
+  word_leads (AddExchange counter delta seen value) was fits placed = either (Fits setup now notes seat) (eqb word (counter_word seen)) tt (judged_stands setup now notes seat counter delta word fits.0)
+  word_leads (WaitMark counter deadline) was fits placed = at_waited (Fits setup now notes seat) (λ _. tt) counter deadline (counter_of word).value (λ _. fits) (λ _ _. fits)
+  word_leads (WaitLoad counter deadline) was fits placed = at_waited (Fits setup now notes seat) (λ _. tt) counter deadline (counter_of word).value (λ _. fits) (λ _ _. fits)
   word_leads (WaitClock counter moment value) was fits placed = fits
-  word_leads (OnceLoad once) was fits placed = stage_stands setup now notes seat once (stage_of word) fits
-  word_leads (OnceBegin once) was fits placed = by (stage_of word) placed where
-    by : (stage : Stage) → PlaceFits setup now seat (object_place (object_after (by_begun once stage))) → NextFits setup now notes seat (by_begun once stage)
-    by TheStage.Unused p = p
-    by TheStage.Running p = fits
-    by TheStage.Done p = tt
+  word_leads (OnceLoad once) was fits placed = at_stage (Fits setup now notes seat) (λ _. tt) once (stage_of word) fits fits
+  word_leads (OnceBegin once) was fits placed =
+      at_begun (λ next. PlaceFits setup now seat (object_place (object_after next)) → Fits setup now notes seat next) (λ _ _. tt) once (stage_of word) (λ p. p) (λ _. fits) placed
   word_leads (InRound round FirstClock) was fits placed = (fits.0, tt)
   word_leads (InRound round (AtNote at clock asked note)) was fits placed = (fits.0, fits.1)
-  word_leads (InRound round (AtCounter at clock counter)) was fits placed = round_stands setup now notes seat round (cond (eqb (counter_of word).value 0) (RoundOver (Some at)) (from_place round clock (suc at))) fits.0 (by (eqb (counter_of word).value 0)) where
-    by : (b : Bool) → RoundStands setup notes round (cond b (RoundOver (Some at)) (from_place round clock (suc at)))
-    by true = tt
-    by false = from_stands setup notes round clock (suc at) fits.0
+  word_leads (InRound round (AtCounter at clock counter)) was fits placed =
+      round_stands setup now notes seat round (round_got round (AtCounter at clock counter) (Word word)) fits.0 (either (RoundStands setup notes round) (eqb (counter_of word).value 0) tt (from_stands setup notes round clock (suc at) fits.0))
   word_leads other was fits placed = tt
 
 -- what a load finds
@@ -143,27 +106,15 @@ module _ (setup : Setup) (now : ObjectStanding) (env : EnvPlain) (happened : Lis
 
   pub env_leads : (walk : ObjectWalk) (found : EnvFound) (words' : List ℕ) (events : List ObjectEvent) (words : List ℕ) → WalkFits setup now env.notes seat walk →
       ObjectEffect seat (object_place (Some walk)) (object_want walk) words env (Env found) words' events → NextFits setup now env.notes seat (object_got walk (Env found))
-  env_leads (AddLoad counter delta) found words' events words fits effect = absurd effect
-  env_leads (AddExchange counter delta seen value) found words' events words fits effect = absurd effect
-  env_leads (ValueLoad counter) found words' events words fits effect = absurd effect
-  env_leads (WaitMark counter deadline) found words' events words fits effect = absurd effect
-  env_leads (WaitLoad counter deadline) found words' events words fits effect = absurd effect
-  env_leads (WaitClock counter moment value) (Clock clock) words' events words fits effect = by (nat_lt clock moment) where
-    by : (b : Bool) → NextFits setup now env.notes seat (cond b (Repeat (WaitLoad counter (Some moment))) (Over (Number value)))
-    by true = fits
-    by false = tt
+  env_leads (WaitClock counter moment value) (Clock clock) words' events words fits effect = either (Fits setup now env.notes seat) (nat_lt clock moment) fits tt
   env_leads (WaitClock counter moment value) found words' events words fits effect = let no = effect.0.found_is in absurd (cc)
-  env_leads (OnceLoad once) found words' events words fits effect = absurd effect
-  env_leads (OnceBegin once) found words' events words fits effect = absurd effect
-  env_leads (OnceEnd once) found words' events words fits effect = absurd effect
-  env_leads (DoneLoad once) found words' events words fits effect = absurd effect
   env_leads (InRound round FirstClock) (Clock clock) words' events words fits effect = round_stands setup now env.notes seat round (from_place round clock 0) fits.0 (from_stands setup env.notes round clock 0 fits.0)
   env_leads (InRound round FirstClock) found words' events words fits effect = let no = effect.0.found_is in absurd (cc)
   env_leads (InRound round (AtNote at clock asked note)) (Note state) words' events words fits effect =
       round_stands setup now env.notes seat round (by_chain round at clock asked (env_got_of (chain_from asked clock note) (Note state))) fits.0
       (note_leads round at clock asked note (env_got_of (chain_from asked clock note) (Note state)) state fits.0 (note_found state (env.notes note) effect.0.found_is) refl fits.1.0)
   env_leads (InRound round (AtNote at clock asked note)) found words' events words fits effect = let no = effect.0.found_is in absurd (cc)
-  env_leads (InRound round (AtCounter at clock counter)) found words' events words fits effect = absurd effect
+  env_leads other found words' events words fits effect = absurd effect
 
 -- ---- the step
 
@@ -206,19 +157,13 @@ Below (OnEnv act) = Unit {0}
 pub want_below : (setup : Setup) (now : ObjectStanding) (notes : ℕ → NoteStanding) (seat : ℕ) (walk : ObjectWalk) (act : ObjectAct) → setup.counters ≤ 16 → setup.cells ≤ 16 → WalkFits setup now notes seat walk → object_want walk ≡ OnWord act → word_at act < 32
 want_below setup now notes seat walk act counters cells fits is = subst Below is (below walk fits) where
   below : (walk : ObjectWalk) → WalkFits setup now notes seat walk → Below (object_want walk)
-  below (AddLoad counter delta) fits = omega (arith, counters, fits)
   below (AddExchange counter delta seen value) fits = let low = fits.0 in omega (arith, counters, low)
-  below (ValueLoad counter) fits = omega (arith, counters, fits)
-  below (WaitMark counter deadline) fits = omega (arith, counters, fits)
-  below (WaitLoad counter deadline) fits = omega (arith, counters, fits)
   below (WaitClock counter moment value) fits = tt
-  below (OnceLoad once) fits = omega (arith, cells, fits)
-  below (OnceBegin once) fits = omega (arith, cells, fits)
   below (OnceEnd once) fits = let low = fits.0 in omega (arith, cells, low)
-  below (DoneLoad once) fits = omega (arith, cells, fits)
   below (InRound round FirstClock) fits = tt
   below (InRound round (AtNote at clock asked note)) fits = tt
   below (InRound round (AtCounter at clock counter)) fits = let low = counter_there setup notes round.items at counter fits.0 fits.1 in omega (arith, counters, low)
+  below other fits = omega (arith, counters, cells, fits)
 
 -- where the step leads binds its seat just to what is left of its call
 abbrev Leads : ℕ → ObjectWalk → ℕ → ObjectWant → Type 0
@@ -233,64 +178,35 @@ tried_left : (seat counter : ℕ) (delta : ℤ) (word : ℕ) (r : Result ℕ Cou
 tried_left seat counter delta word (Ok value) = refl
 tried_left seat counter delta word (Err fault) = refl
 
-waited_leads : (counter : ℕ) (deadline : Option ℕ) (value : ℕ) → object_place (object_after (waited_next counter deadline value)) ≡ Free
-waited_leads counter deadline value = by (eqb value 0) deadline where
-  by : (b : Bool) (deadline : Option ℕ) → object_place (object_after (cond b (Over (Number 0)) (by_deadline counter deadline value))) ≡ Free
-  by true deadline = refl
-  by false None = refl
-  by false (Some moment) = refl
+-- nothing binds a seat that is over, or that goes on to most places
+abbrev IsFree : ObjectNext → Type 0
+IsFree next = object_place (object_after next) ≡ Free
 
-stage_leads : (once : ℕ) (stage : Stage) → object_place (object_after (by_stage once stage)) ≡ Free
-stage_leads once TheStage.Unused = refl
-stage_leads once other = refl
+waited_leads : (counter : ℕ) (deadline : Option ℕ) (value : ℕ) → IsFree (waited_next counter deadline value)
+waited_leads counter deadline value = at_waited IsFree (λ _. refl) counter deadline value (λ _. refl) (λ _ _. refl)
 
-round_leads : (round : Round) (next : RoundNext) → object_place (object_after (by_round round next)) ≡ Free
-round_leads round (RoundGo place) = refl
-round_leads round (RoundOver None) = refl
-round_leads round (RoundOver (Some at)) = refl
+abbrev IsBound : ObjectNext → Outcome → Type 0
+IsBound next left = object_place (object_after next) ≡ left.place
 
 leads : (seat : ℕ) (walk : ObjectWalk) (word : ℕ) → Leads seat walk word (object_want walk)
 leads seat (AddLoad counter delta) word = judged_leads seat counter delta word (counter_of word) (judged (counter_of word) delta)
-leads seat (AddExchange counter delta seen value) word = by (eqb word (counter_word seen)) where
-  by : (b : Bool) → object_place (object_after (cond b (Over (Number value)) (by_judging counter delta word))) ≡
-      (cond {A = Outcome} b (record { word = counter_word (record { value = value; waited = seen.waited }); events = TheEvent.OnCounter counter (Add seat delta (Ok value)) ∷ []; place = Free })
-      (tried seat counter delta word (judged (counter_of word) delta))).place
-  by true = refl
-  by false = judged_leads seat counter delta word (counter_of word) (judged (counter_of word) delta)
+leads seat (AddExchange counter delta seen value) word = both IsBound (eqb word (counter_word seen)) refl (judged_leads seat counter delta word (counter_of word) (judged (counter_of word) delta))
 leads seat (WaitMark counter deadline) word = waited_leads counter deadline (counter_of word).value
 leads seat (WaitLoad counter deadline) word = waited_leads counter deadline (counter_of word).value
 leads seat (WaitClock counter moment value) word = tt
-leads seat (OnceLoad once) word = stage_leads once (stage_of word)
-leads seat (OnceBegin once) word = by (eqb word 0) (eqb word 1) where
-  by : (b c : Bool) → object_place (object_after (by_begun once (cond b TheStage.Unused (cond c TheStage.Running TheStage.Done)))) ≡
-      (cond {A = Outcome} b (record { word = 1; events = TheEvent.OnOnce once (Began seat) ∷ []; place = Running once }) (record { word = word; events = []; place = Free })).place
-  by true c = refl
-  by false true = refl
-  by false false = refl
+leads seat (OnceLoad once) word = at_stage IsFree (λ _. refl) once (stage_of word) refl refl
+leads seat (OnceBegin once) word = both (λ stage (left : Outcome). IsBound (by_begun once stage) left) (eqb word 0) refl (either (λ stage. IsFree (by_begun once stage)) (eqb word 1) refl refl)
 leads seat (InRound round FirstClock) word = tt
 leads seat (InRound round (AtNote at clock asked note)) word = tt
-leads seat (InRound round (AtCounter at clock counter)) word = round_leads round (round_got round (AtCounter at clock counter) (Word word))
+leads seat (InRound round (AtCounter at clock counter)) word = at_round IsFree (λ _. refl) round (round_got round (AtCounter at clock counter) (Word word)) (λ _. refl) refl
 leads seat other word = refl
 
 -- what a step leaves of its word, whoever makes it
 pub left_is : (seat : ℕ) (act : ObjectAct) (place : Place) (word : ℕ) → (outcome seat act place word).word ≡ word_left act word
 left_is seat (LoadToAdd counter delta) place word = tried_left seat counter delta word (judged (counter_of word) delta)
-left_is seat (ExchangeToAdd counter delta seen value) place word = by (eqb word (counter_word seen)) where
-  by : (b : Bool) → (cond {A = Outcome} b (record { word = counter_word (record { value = value; waited = seen.waited }); events = TheEvent.OnCounter counter (Add seat delta (Ok value)) ∷ []; place = Free })
-      (tried seat counter delta word (judged (counter_of word) delta))).word ≡ cond b (counter_word (record { value = value; waited = seen.waited })) word
-  by true = refl
-  by false = tried_left seat counter delta word (judged (counter_of word) delta)
-left_is seat (BeginOnce once) place word = by (eqb word 0) where
-  by : (b : Bool) → (cond {A = Outcome} b (record { word = 1; events = TheEvent.OnOnce once (Began seat) ∷ []; place = Running once }) (record { word = word; events = []; place = place })).word ≡ cond b 1 word
-  by true = refl
-  by false = refl
+left_is seat (ExchangeToAdd counter delta seen value) place word = both (λ (left : Outcome) n. left.word ≡ n) (eqb word (counter_word seen)) refl (tried_left seat counter delta word (judged (counter_of word) delta))
+left_is seat (BeginOnce once) place word = both (λ (left : Outcome) n. left.word ≡ n) (eqb word 0) refl refl
 left_is seat other place word = refl
-
--- where a seat stands that goes on
-goes_on : (setup : Setup) (now : ObjectStanding) (notes : ℕ → NoteStanding) (seat : ℕ) (next : ObjectNext) (walk : ObjectWalk) → NextFits setup now notes seat next → object_after next ≡ Some walk → WalkFits setup now notes seat walk
-goes_on setup now notes seat (Go place) walk fits is = let same : place ≡ walk = cc in subst (λ w. WalkFits setup now notes seat w) same fits
-goes_on setup now notes seat (Repeat place) walk fits is = let same : place ≡ walk = cc in subst (λ w. WalkFits setup now notes seat w) same fits
-goes_on setup now notes seat (Over reply) walk fits is = absurd (cc)
 
 module _ (objects : ObjectState) (env : EnvPlain) (happened : List EnvEvent) (meets : Meets happened env) (history : List ObjectEvent) (led : IsLawfulObjects history objects env.notes) (seat : ℕ) (walk : ObjectWalk) (walks : walk_in objects.walks seat ≡ Some walk) where
   abbrev setup : Setup
@@ -312,22 +228,8 @@ module _ (objects : ObjectState) (env : EnvPlain) (happened : List EnvEvent) (me
   abbrev after : List ℕ → ObjectNext → ObjectState
   after words next = record objects { words = words; walks = slice_set objects.walks seat (object_after next) }
 
-  -- each seat stands where it may, after a step that leads its seat there and leaves others where they were
-  each_after : (later : ObjectStanding) (words : List ℕ) (next : ObjectNext) → NextFits setup later env.notes seat next →
-      ((other : ℕ) (w : ObjectWalk) → other ≢ seat → walk_in objects.walks other ≡ Some w → WalkFits setup later env.notes other w) →
-      (other : ℕ) (w : ObjectWalk) → walk_in (after words next).walks other ≡ Some w → WalkFits setup later env.notes other w
-  each_after later words next here there other w at = elim (cases_eq other seat) [
-    | inl e ↦
-        let is : object_after next ≡ Some w = sym (put_here objects.walks seat (object_after next) (stands_within objects.walks seat walk walks)) ∙ ap (λ n. walk_in (after words next).walks n) (sym e) ∙ at in
-        subst (λ n. WalkFits setup later env.notes n w) (sym e) (goes_on setup later env.notes seat next w here is)
-    | inr ne ↦ there other w ne (sym (put_there objects.walks seat (object_after next) other ne) ∙ at)
-  ]
-
-  within_after : (words : List ℕ) (next : ObjectNext) (other : ℕ) (w : ObjectWalk) → walk_in (after words next).walks other ≡ Some w → other < setup.seats
-  within_after words next other w at = elim (cases_eq other seat) [
-    | inl e ↦ subst (λ n. n < setup.seats) (sym e) (led.within seat walk walks)
-    | inr ne ↦ led.within other w (sym (put_there objects.walks seat (object_after next) other ne) ∙ at)
-  ]
+  inside : seat < length objects.walks
+  inside = stands_within objects.walks seat walk walks
 
   -- a step on a word
   module _ (act : ObjectAct) (wants : object_want walk ≡ OnWord act) where
@@ -349,6 +251,9 @@ module _ (objects : ObjectState) (env : EnvPlain) (happened : List EnvEvent) (me
     placed : PlaceFits setup later seat (object_place (object_after next))
     placed = subst (PlaceFits setup later seat) (sym (subst (Leads seat walk word) wants (leads seat walk word))) (acted_fits setup objects.words history led.lawful view view_fits act can).place
 
+    goes : NextFits setup later env.notes seat next
+    goes = word_leads setup later env.notes seat word walk standing fits placed
+
     others : (other : ℕ) (w : ObjectWalk) → other ≢ seat → walk_in objects.walks other ≡ Some w → WalkFits setup later env.notes other w
     others other w ne at =
         let theirs = led.each other w at in
@@ -358,8 +263,8 @@ module _ (objects : ObjectState) (env : EnvPlain) (happened : List EnvEvent) (me
     word_keeps : IsLawfulObjects (history ++ made_by) (after (slice_set objects.words (word_at act) (outcome seat act view.place word).word) next) env.notes
     word_keeps = record {
       lawful = acted_lawful setup objects.words history led.lawful view view_fits act can;
-      within = within_after (slice_set objects.words (word_at act) (outcome seat act view.place word).word) next;
-      each = each_after later (slice_set objects.words (word_at act) (outcome seat act view.place word).word) next (word_leads setup later env.notes seat word walk standing fits placed) others;
+      within = put_each (λ other w. other < setup.seats) objects.walks seat (object_after next) inside (IfSome_then (object_after next) goes (λ _ _. led.within seat walk walks)) (λ other w _ at. led.within other w at);
+      each = put_each (WalkFits setup later env.notes) objects.walks seat (object_after next) inside goes others;
     }
 
     by_seat : Every (λ event. object_who event ≡ seat) made_by
@@ -367,11 +272,8 @@ module _ (objects : ObjectState) (env : EnvPlain) (happened : List EnvEvent) (me
 
   -- a load of the clock or of a note
   env_keeps : (found : EnvFound) → NextFits setup standing env.notes seat (object_got walk (Env found)) → IsLawfulObjects (history ++ []) (after objects.words (object_got walk (Env found))) env.notes
-  env_keeps found here = subst (λ h. IsLawfulObjects h (after objects.words (object_got walk (Env found))) env.notes) (sym (append-nil history)) (record {
-    lawful = led.lawful;
-    within = within_after objects.words (object_got walk (Env found));
-    each = each_after standing objects.words (object_got walk (Env found)) here (λ other w ne at. led.each other w at);
-  })
+  env_keeps found here = subst (λ h. IsLawfulObjects h (after objects.words (object_got walk (Env found))) env.notes) (sym (append-nil history))
+      (put_keeps history objects env.notes seat (object_after (object_got walk (Env found))) inside (led.within seat walk walks) here led)
 
   abbrev Kept : ObjectFound → List ℕ → List ObjectEvent → Type 0
   Kept found words events = IsLawfulObjects (history ++ events) (after words (object_got walk found)) env.notes × Every (λ event. object_who event ≡ seat) events

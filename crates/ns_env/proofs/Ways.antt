@@ -10,6 +10,11 @@ by_test P false p q = q refl
 pub either : {A : Type 0} (P : A → Type 0) (b : Bool) {x y : A} → P x → P y → P (cond b x y)
 either P b p q = by_test P b (λ _. p) (λ _. q)
 
+-- of two ways that one test picks
+pub both : {A B : Type 0} (P : A → B → Type 0) (b : Bool) {x y : A} {z w : B} → P x z → P y w → P (cond b x y) (cond b z w)
+both P true p q = p
+both P false p q = q
+
 -- a chain is over, or waits on for its note, or goes on to another
 module _ (P : EnvNext → Type 0) (over : (cause : Option Cause) → P (LookOver cause)) (answers : (is : Bool) → P (Over (Is is))) where
   pub at_stop : (chain : Chain) → P (stopped chain)
