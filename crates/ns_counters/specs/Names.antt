@@ -46,13 +46,13 @@ pub use Rattle.ns_env.specs.declared.walk.EnvNext.TheVariants.{Go, Over}
 pub use Rattle.ns_env.specs.declared.walk.EnvWalk.{EnvWalk}
 pub use Rattle.ns_env.specs.declared.walk.EnvWalk.TheVariants.{NoteLoad}
 pub use Rattle.ns_model.specs.Beginnings.{BeginsWith, IsBetween}
-pub use Rattle.ns_model.specs.Counters.{IsLegalCounter, IsLegalCounterEvent, counter_after, counter_next, first_counter, is_ready, judged, most}
+pub use Rattle.ns_model.specs.Counters.{IsLegalCounterEvent, counter_next, first_counter, is_ready, judged, most}
 pub use Rattle.ns_model.specs.Courses.{IsLegalFrom}
 pub use Rattle.ns_model.specs.Cvs.{is_in}
 pub use Rattle.ns_model.specs.Environments.{IsLegalEnv, NoteStanding, but_at, clock_of, env_after, is_due}
 unfoldable pub use Rattle.ns_model.specs.Environments.{is_notified}
 pub use Rattle.ns_model.specs.Lines.{IsLeftAt}
-pub use Rattle.ns_model.specs.Onces.{IsLegalOnce, IsLegalOnceEvent, is_done, once_after, once_next}
+pub use Rattle.ns_model.specs.Onces.{IsLegalOnceEvent, is_done, once_next}
 pub use Rattle.ns_model.specs.Tallies.{Every}
 pub use Rattle.ns_model.specs.declared.counter.CounterEvent.{CounterEvent}
 pub use Rattle.ns_model.specs.declared.counter.CounterEvent.TheVariants.{Add, Begun}

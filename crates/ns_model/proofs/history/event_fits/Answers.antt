@@ -37,14 +37,8 @@ broadcast_fits-requires g c = events_fit g.row.C (number g.row.N) g.met.C.Condit
 pub phase_of-requires-then-who-lt64-4 : goal.phase_of-requires-then-who-lt64-4
 phase_of-requires-then-who-lt64-4 g c = (events_fit g.row.C (number g.row.N) g.met.C.Condition.has_room, c.if-who-lt64-4.true)
 
-pub leave_fits-requires : goal.leave_fits-requires
-leave_fits-requires g c κs = λ within. within
-
 pub phase_of-requires-then-who-lt64-5 : goal.phase_of-requires-then-who-lt64-5
 phase_of-requires-then-who-lt64-5 g c = (events_fit g.row.C (number g.row.N) g.met.C.Condition.has_room, c.if-who-lt64-5.true)
-
-pub leave_any_fits-requires : goal.leave_any_fits-requires
-leave_any_fits-requires g c κs = λ within. within
 
 pub returns-then-who-lt64-2 : goal.returns-then-who-lt64-2
 returns-then-who-lt64-2 g c = rw c.in-Signal.is (λ yes. (c.if-who-lt64-2.true, c.signal_fits.ensures.0 yes), λ fits. c.signal_fits.ensures.1 fits.1)

@@ -19,15 +19,6 @@ loop-i-preserved g c =
     legal_more g.C.Condition.means.holds (first_standing g.row.N) c.args.history.now c.loop-i.i c.index-history-i.result c.loop-i-test.true c.loop-i.invariant
     (rw (← c.index-history-i.is) (c.event_fits.ensures.0 c.if-not-event_fits.false))
 
-pub loop-i-init : goal.loop-i-init
-loop-i-init g c = tt
-
-pub offset_bounds-history-i : goal.offset_bounds-history-i
-offset_bounds-history-i g c = c.loop-i.auto.i-end
-
-pub bounds-history-i : goal.bounds-history-i
-bounds-history-i g c = c.loop-i-test.true
-
 pub event_fits-requires : goal.event_fits-requires
 event_fits-requires g c = events_fit g.row.C (number g.row.N) g.met.C.Condition.has_room
 

@@ -4,35 +4,11 @@ use Rattle.ns_model.proofs.Entries.{after_cv_at_end, met_told, mode_same, mode_t
 use Rattle.ns_model.proofs.sections.entry_fits.Goals as goal
 use Rattle.ns_model.proofs.sections.entry_fits.Goals.{then-eq, else-eq, then-eq-2, else-eq-2, then-eq-3, else-eq-3}
 
-pub eq-met-requires : goal.eq-met-requires
-eq-met-requires g c = tt
-
-pub eq-requires : goal.eq-requires
-eq-requires g c = tt
-
 pub test-requires : goal.test-requires
 test-requires g c = omega (arith, g.met.C.Condition.has_cells)
 
 pub test-requires-then-test-met : goal.test-requires-then-test-met
 test-requires-then-test-met g c = omega (arith, g.met.C.Condition.has_cells)
-
-pub eq-requires-in-AfterCv-Woken : goal.eq-requires-in-AfterCv-Woken
-eq-requires-in-AfterCv-Woken g c = tt
-
-pub eq-requires-then-j-k : goal.eq-requires-then-j-k
-eq-requires-then-j-k g c = tt
-
-pub eq-requires-in-AfterCv-Left : goal.eq-requires-in-AfterCv-Left
-eq-requires-in-AfterCv-Left g c = tt
-
-pub is_just-requires : goal.is_just-requires
-is_just-requires g c = tt
-
-pub eq-requires-in-AfterAny-Some-Woken : goal.eq-requires-in-AfterAny-Some-Woken
-eq-requires-in-AfterAny-Some-Woken g c = tt
-
-pub eq-requires-in-AfterAny-None-Left : goal.eq-requires-in-AfterAny-None-Left
-eq-requires-in-AfterAny-None-Left g c = tt
 
 pub returns-in-Plain-Idle : goal.returns-in-Plain-Idle
 returns-in-Plain-Idle g c = rw (c.in-Plain-Idle.is-0, c.in-Plain-Idle.is-1) (λ yes. tt, λ fits. refl)

@@ -1,12 +1,6 @@
 use Rattle.std.proofs.Common.{arith, eq-eqb, eqb-true, ne_eqb, sym, ◌∙◌}
 use Rattle.ns_model.proofs.wakes.broadcast_fits.Goals as goal
 
-pub count-requires : goal.count-requires
-count-requires g c = assumption
-
-pub count-requires-then-count-eq0 : goal.count-requires-then-count-eq0
-count-requires-then-count-eq0 g c = assumption
-
 pub returns-then-count-eq0 : goal.returns-then-count-eq0
 returns-then-count-eq0 g c = let left = c.count-then-count-eq0 in
     (λ yes. record { no_stranger = sym c.count.ensures ∙ c.if-count-eq0.true; nobody_left = sym left.ensures ∙ eqb-true left.result 0 yes }, λ legal. eq-eqb left.result 0 (left.ensures ∙ legal.nobody_left))
