@@ -1,6 +1,6 @@
 -- What a legal history of a counter means.
 use Rattle.std.proofs.Common.{Bool, Err, List, Ok, Result, [], ap, arith, false, fold, pos, refl, sym, true, ℕ, ℤ, ◌+ℤ◌, ◌<ℤ◌, ◌||◌, ◌∙◌, ◌∷◌, ◌≡◌, ◌≤ℤ◌, ◌≤◌}
-use Rattle.ns_model.proofs.Prelude.{Add, AfterWait, AnswersRightly, Begun, CounterEvent, CounterFault, CounterState, IsLegalCounter, IsLegalCounterEvent, IsLegalFrom, Over, Under, added, added_by, counter_after, counter_next, first_counter, ints, is_begun, judged, list_any, most, rises_after_wait}
+use Rattle.ns_model.proofs.Prelude.{or-false, Add, AfterWait, AnswersRightly, Begun, CounterEvent, CounterFault, CounterState, IsLegalCounter, IsLegalCounterEvent, IsLegalFrom, Over, Under, added, added_by, counter_after, counter_next, first_counter, ints, is_begun, judged, list_any, most, rises_after_wait}
 use Rattle.ns_model.proofs.Prelude.{sum_of}
 
 -- ---- one change
@@ -69,8 +69,7 @@ stays_at_zero now (event ∷ events) zero waited legal = let next = zero_one now
 
 waited_one : (now : CounterState) (event : CounterEvent) → (counter_next now event).waited ≡ (is_begun event || now.waited)
 waited_one now (Add who delta (Ok value)) = refl
-waited_one now (Add who delta (Err fault)) = refl
-waited_one now (Begun who) = refl
+waited_one now other = refl
 
 waited_from : (now : CounterState) (events : List CounterEvent) → (fold counter_next now events).waited ≡ (list_any is_begun events || now.waited)
 waited_from now [] = refl
@@ -83,7 +82,4 @@ waited_from now (event ∷ events) = waited_from (counter_next now event) events
 
 -- A counter remembers just whether a wait for 0 has begun.
 pub remembers : (start : ℕ) (history : List CounterEvent) → (counter_after start history).waited ≡ list_any is_begun history
-remembers start history = waited_from (first_counter start) history ∙ no_more (list_any is_begun history) where
-  no_more : (b : Bool) → (b || false) ≡ b
-  no_more true = refl
-  no_more false = refl
+remembers start history = waited_from (first_counter start) history ∙ or-false (list_any is_begun history)

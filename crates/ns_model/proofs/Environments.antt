@@ -52,6 +52,19 @@ parent_fits : (now : EnvStanding) (n p : ℕ) (parent : Option ℕ) → ParentFi
 parent_fits now n p None f e = absurd (cc)
 parent_fits now n p (Some q) f e = let is : q ≡ p = cc in subst (λ (k : ℕ). (k < n) × ((now.notes k).made ≡ true)) is f
 
+-- a note is made, or notified, whose number is taken and whose parent stands below it
+sound_note : (now : EnvStanding) (note : ℕ) (value : NoteStanding) → IsSound now → note < now.takes → value.made ≡ true → ((p : ℕ) → value.parent ≡ Some p → (p < note) × ((now.notes p).made ≡ true)) →
+    IsSound (record { clock = now.clock; takes = now.takes; takers = now.takers; notes = but_at note value now.notes })
+sound_note now note value s low made parent = record {
+  few = s.few;
+  taken = s.taken;
+  made = λ n. but_cases (λ (z : NoteStanding). z.made ≡ true → n < now.takes) note n value now.notes (λ here _. omega arith) (λ _ e. s.made n e);
+  above = λ n p. but_cases (λ (z : NoteStanding). z.parent ≡ Some p → (p < n) × ((but_at note value now.notes p).made ≡ true)) note n value now.notes
+      (λ here e. let f = parent p e in let lt = f.0 in (omega arith, still p f.1)) (λ _ e. let f = s.above n p e in (f.0, still p f.1));
+} where
+  still : (p : ℕ) → (now.notes p).made ≡ true → (but_at note value now.notes p).made ≡ true
+  still p was = but_cases (λ (z : NoteStanding). z.made ≡ true) note p value now.notes (λ _. made) (λ _. was)
+
 sound_next : (now : EnvStanding) (e : EnvEvent) → IsSound now → IsLegalEnvEvent now e → IsSound (env_next now e)
 sound_next now (Take who note) s l = let is = l.0 in let below = l.1 in record {
   few = omega arith;
@@ -59,22 +72,8 @@ sound_next now (Take who note) s l = let is = l.0 in let below = l.1 in record {
   made = λ n e. let k = s.made n e in omega arith;
   above = s.above;
 }
-sound_next now (New who note parent deadline) s l = record {
-  few = s.few;
-  taken = s.taken;
-  made = λ n. but_cases (λ (z : NoteStanding). z.made ≡ true → n < now.takes) note n (made_note parent deadline) now.notes (λ here _. let k = s.taken note who l.0 in omega arith) (λ _ e. s.made n e);
-  above = λ n p. but_cases (λ (z : NoteStanding). z.parent ≡ Some p → (p < n) × ((but_at note (made_note parent deadline) now.notes p).made ≡ true)) note n (made_note parent deadline) now.notes
-      (λ here e. let f = parent_fits now note p parent l.2 e in let lt = f.0 in (omega arith, but_cases (λ (z : NoteStanding). z.made ≡ true) note p (made_note parent deadline) now.notes (λ _. refl) (λ _. f.1)))
-      (λ _ e. let f = s.above n p e in (f.0, but_cases (λ (z : NoteStanding). z.made ≡ true) note p (made_note parent deadline) now.notes (λ _. refl) (λ _. f.1)));
-}
-sound_next now (Notify who note) s l = record {
-  few = s.few;
-  taken = s.taken;
-  made = λ n. but_cases (λ (z : NoteStanding). z.made ≡ true → n < now.takes) note n (notified_note (now.notes note)) now.notes (λ here e. let k = s.made note e in omega arith) (λ _ e. s.made n e);
-  above = λ n p. but_cases (λ (z : NoteStanding). z.parent ≡ Some p → (p < n) × ((but_at note (notified_note (now.notes note)) now.notes p).made ≡ true)) note n (notified_note (now.notes note)) now.notes
-      (λ here e. let f = s.above note p e in let lt = f.0 in (omega arith, but_cases (λ (z : NoteStanding). z.made ≡ true) note p (notified_note (now.notes note)) now.notes (λ _. l) (λ _. f.1)))
-      (λ _ e. let f = s.above n p e in (f.0, but_cases (λ (z : NoteStanding). z.made ≡ true) note p (notified_note (now.notes note)) now.notes (λ _. l) (λ _. f.1)));
-}
+sound_next now (New who note parent deadline) s l = sound_note now note (made_note parent deadline) s (s.taken note who l.0) refl (λ p. parent_fits now note p parent l.2)
+sound_next now (Notify who note) s l = sound_note now note (notified_note (now.notes note)) s (s.made note l) l (s.above note)
 sound_next now (Advance who to) s l = record { few = s.few; taken = s.taken; made = s.made; above = s.above }
 
 pub sound_from : (now : EnvStanding) (h : List EnvEvent) → IsSound now → IsLegalEnvFrom now h → IsSound (env_from now h)
@@ -110,20 +109,20 @@ grown_through a b c f g = record {
   note = λ n e. let x = f.note n e in let y = g.note n x.made in record { made = y.made; parent = y.parent ∙ x.parent; deadline = y.deadline ∙ x.deadline; called = λ h. y.called (x.called h) };
 }
 
+-- a note is made that wasn't, or is notified
+grown_note : (now : EnvStanding) (note : ℕ) (value : NoteStanding) → ((now.notes note).made ≡ true → NoteGrown (now.notes note) value) →
+    IsGrown now (record { clock = now.clock; takes = now.takes; takers = now.takers; notes = but_at note value now.notes })
+grown_note now note value grows = record {
+  clock = omega arith;
+  takes = omega arith;
+  note = λ n e. but_cases (λ (z : NoteStanding). NoteGrown (now.notes n) z) note n value now.notes
+      (λ here. subst (λ (k : ℕ). (now.notes k).made ≡ true → NoteGrown (now.notes k) value) (sym here) grows e) (λ _. note_same (now.notes n) e);
+}
+
 grown_next : (now : EnvStanding) (e : EnvEvent) → IsLegalEnvEvent now e → IsGrown now (env_next now e)
 grown_next now (Take who note) l = record { clock = omega arith; takes = omega arith; note = λ n e. note_same (now.notes n) e }
-grown_next now (New who note parent deadline) l = record {
-  clock = omega arith;
-  takes = omega arith;
-  note = λ n e. but_cases (λ (z : NoteStanding). NoteGrown (now.notes n) z) note n (made_note parent deadline) now.notes
-      (λ here. absurd (true≢false (sym e ∙ (ap (λ (k : ℕ). (now.notes k).made) here ∙ l.1)))) (λ _. note_same (now.notes n) e);
-}
-grown_next now (Notify who note) l = record {
-  clock = omega arith;
-  takes = omega arith;
-  note = λ n e. but_cases (λ (z : NoteStanding). NoteGrown (now.notes n) z) note n (notified_note (now.notes note)) now.notes
-      (λ here. subst (λ (k : ℕ). NoteGrown (now.notes n) (notified_note (now.notes k))) here (record { made = e; parent = refl; deadline = refl; called = λ _. refl })) (λ _. note_same (now.notes n) e);
-}
+grown_next now (New who note parent deadline) l = grown_note now note (made_note parent deadline) (λ e. absurd (true≢false (sym e ∙ l.1)))
+grown_next now (Notify who note) l = grown_note now note (notified_note (now.notes note)) (λ e. record { made = e; parent = refl; deadline = refl; called = λ _. refl })
 grown_next now (Advance who to) l = record { clock = omega arith; takes = omega arith; note = λ n e. note_same (now.notes n) e }
 
 pub grown_from : (now : EnvStanding) (h : List EnvEvent) → IsLegalEnvFrom now h → IsGrown now (env_from now h)
@@ -140,15 +139,16 @@ legal_begins h g l b = (legal_env_parts first_env g b.0 (subst IsLegalEnv b.1 l)
 
 -- ---- the line up to the root
 
-parents_same : (f g : ℕ → List ℕ) (o : Option ℕ) → ((p : ℕ) → o ≡ Some p → f p ≡ g p) → from_parent f o ≡ from_parent g o
-parents_same f g None h = refl
-parents_same f g (Some p) h = h p refl
+-- what is so of the lines of a parent, if there is one, and of no line, is so of both
+by_parent : (P : List ℕ → List ℕ → Type 0) (f g : ℕ → List ℕ) (o : Option ℕ) → P [] [] → ((p : ℕ) → o ≡ Some p → P (f p) (g p)) → P (from_parent f o) (from_parent g o)
+by_parent P f g None none some = none
+by_parent P f g (Some p) none some = some p refl
 
 -- there are no more ancestors than the number says
 line_enough : (notes : ℕ → NoteStanding) → ((n p : ℕ) → (notes n).parent ≡ Some p → p < n) → (k j n : ℕ) → n < k → n < j → line k notes n ≡ line j notes n
 line_enough notes above zero j n h i = absurd (omega arith)
 line_enough notes above (suc k) zero n h i = absurd (omega arith)
-line_enough notes above (suc k) (suc j) n h i = ap (λ (r : List ℕ). n ∷ r) (parents_same (line k notes) (line j notes) (notes n).parent (λ p e. let lt = above n p e in line_enough notes above k j p (omega arith) (omega arith)))
+line_enough notes above (suc k) (suc j) n h i = ap (λ (r : List ℕ). n ∷ r) (by_parent (λ l m. l ≡ m) (line k notes) (line j notes) (notes n).parent refl (λ p e. let lt = above n p e in line_enough notes above k j p (omega arith) (omega arith)))
 
 line-up : (now : EnvStanding) (n p : ℕ) → IsSound now → (now.notes n).parent ≡ Some p → line_of now n ≡ n ∷ line_of now p
 line-up now n p s e = let lt = (s.above n p e).0 in ap (λ (o : Option ℕ). n ∷ from_parent (line n now.notes) o) e ∙ ap (λ (r : List ℕ). n ∷ r) (line_enough now.notes (λ m q is. (s.above m q is).0) n (suc p) p lt (omega arith))
@@ -191,30 +191,24 @@ over_grown c d old new h g e = ⊎_elim
     (or_cases old.called (is_due c old.deadline) e)
 
 module _ (old new : EnvStanding) (s : IsSound old) (g : IsGrown old new) where
-  any_parent : (k : ℕ) (o : Option ℕ) → ((p : ℕ) → o ≡ Some p → list_any (λ m. is_over old.clock (old.notes m)) (line k old.notes p) ≡ true → list_any (λ m. is_over new.clock (new.notes m)) (line k new.notes p) ≡ true)
-      → list_any (λ m. is_over old.clock (old.notes m)) (from_parent (line k old.notes) o) ≡ true → list_any (λ m. is_over new.clock (new.notes m)) (from_parent (line k new.notes) o) ≡ true
-  any_parent k None h e = e
-  any_parent k (Some p) h e = h p refl e
+  abbrev AnyGrows : List ℕ → List ℕ → Type 0
+  AnyGrows l m = list_any (λ n. is_over old.clock (old.notes n)) l ≡ true → list_any (λ n. is_over new.clock (new.notes n)) m ≡ true
 
-  any_grown : (k n : ℕ) → (old.notes n).made ≡ true → list_any (λ m. is_over old.clock (old.notes m)) (line k old.notes n) ≡ true → list_any (λ m. is_over new.clock (new.notes m)) (line k new.notes n) ≡ true
+  any_grown : (k n : ℕ) → (old.notes n).made ≡ true → AnyGrows (line k old.notes n) (line k new.notes n)
   any_grown zero n made e = absurd (cc)
   any_grown (suc k) n made e = let grown = g.note n made in let test = λ (m : ℕ). is_over new.clock (new.notes m) in
       let above : Bool = list_any (λ m. is_over new.clock (new.notes m)) (from_parent (line k new.notes) (new.notes n).parent) in ⊎_elim
       (λ (t : is_over old.clock (old.notes n) ≡ true). or_left (is_over new.clock (new.notes n)) above (over_grown old.clock new.clock (old.notes n) (new.notes n) g.clock grown t))
       (λ (t : list_any (λ m. is_over old.clock (old.notes m)) (from_parent (line k old.notes) (old.notes n).parent) ≡ true). or_right (is_over new.clock (new.notes n)) above
       (ap (λ (o : Option ℕ). list_any (λ m. is_over new.clock (new.notes m)) (from_parent (line k new.notes) o)) grown.parent
-      ∙ any_parent k (old.notes n).parent (λ p is. any_grown k p (s.above n p is).1) t))
+      ∙ by_parent AnyGrows (line k old.notes) (line k new.notes) (old.notes n).parent (λ none. none) (λ p is. any_grown k p (s.above n p is).1) t))
       (or_cases (is_over old.clock (old.notes n)) (list_any (λ m. is_over old.clock (old.notes m)) (from_parent (line k old.notes) (old.notes n).parent)) e)
-
-  earliest_parent : (k : ℕ) (o : Option ℕ) → ((p : ℕ) → o ≡ Some p → earliest new.notes (line k new.notes p) ≡ earliest old.notes (line k old.notes p)) → earliest new.notes (from_parent (line k new.notes) o) ≡ earliest old.notes (from_parent (line k old.notes) o)
-  earliest_parent k None h = refl
-  earliest_parent k (Some p) h = h p refl
 
   earliest_grown : (k n : ℕ) → (old.notes n).made ≡ true → earliest new.notes (line k new.notes n) ≡ earliest old.notes (line k old.notes n)
   earliest_grown zero n made = refl
   earliest_grown (suc k) n made = let grown = g.note n made in
       (λ i. earlier (grown.deadline i) (earliest new.notes (from_parent (line k new.notes) (grown.parent i))))
-      ∙ ap (earlier (old.notes n).deadline) (earliest_parent k (old.notes n).parent (λ p is. earliest_grown k p (s.above n p is).1))
+      ∙ ap (earlier (old.notes n).deadline) (by_parent (λ l m. earliest new.notes l ≡ earliest old.notes m) (line k new.notes) (line k old.notes) (old.notes n).parent refl (λ p is. earliest_grown k p (s.above n p is).1))
 
   pub expiry_grown : (n : ℕ) → (old.notes n).made ≡ true → expiry_in new n ≡ expiry_in old n
   expiry_grown n made = earliest_grown (suc n) n made

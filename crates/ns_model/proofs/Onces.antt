@@ -1,6 +1,6 @@
 -- What a legal history of a once cell means.
-use Rattle.std.proofs.Common.{Bool, List, [], ap, false, fold, inl, inr, refl, true, ℕ, ◌||◌, ◌∙◌, ◌∷◌, ◌≡◌, ◌⊎◌}
-use Rattle.ns_model.proofs.Prelude.{Began, Done, IsCourseOfOnce, IsLegalFrom, IsLegalOnce, IsLegalOnceEvent, OnceEvent, OnceState, Ran, Running, Unused, is_done, is_ran, list_any, once_after, once_next}
+use Rattle.std.proofs.Common.{List, [], ap, fold, inl, inr, refl, ℕ, ◌||◌, ◌∙◌, ◌∷◌, ◌≡◌, ◌⊎◌}
+use Rattle.ns_model.proofs.Prelude.{or-false, Began, Done, IsCourseOfOnce, IsLegalFrom, IsLegalOnce, IsLegalOnceEvent, OnceEvent, OnceState, Ran, Running, Unused, is_done, is_ran, list_any, once_after, once_next}
 
 -- nothing comes after the end
 ended : (events : List OnceEvent) → IsLegalFrom IsLegalOnceEvent once_next Done events → events ≡ []
@@ -33,7 +33,4 @@ done_from Done (event ∷ events) legal = absurd legal.0
 
 -- A cell is done just where its function has run.
 pub done_once_run : (history : List OnceEvent) → IsLegalOnce history → is_done (once_after history) ≡ list_any is_ran history
-done_once_run history legal = done_from Unused history legal ∙ no_more (list_any is_ran history) where
-  no_more : (b : Bool) → (b || false) ≡ b
-  no_more true = refl
-  no_more false = refl
+done_once_run history legal = done_from Unused history legal ∙ or-false (list_any is_ran history)

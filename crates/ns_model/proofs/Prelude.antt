@@ -28,7 +28,7 @@ pub use Rattle.ns_model.specs.declared.cvs.Variables.{Variables}
 pub use Rattle.ns_model.specs.declared.environment.EnvEvent.{EnvEvent}
 pub use Rattle.ns_model.specs.declared.environment.EnvEvent.TheVariants.{Advance, New, Notify, Take}
 pub use Rattle.ns_model.specs.declared.event.Answer.{Answer}
-pub use Rattle.ns_model.specs.declared.event.Answer.TheVariants.{Canceled, Met, TimedOut}
+pub use Rattle.ns_model.specs.declared.event.Answer.TheVariants.{Met}
 pub use Rattle.ns_model.specs.declared.event.Entry.TheVariants.{AfterCv, Plain, Waited}
 pub use Rattle.ns_model.specs.declared.event.Event.{Event}
 pub use Rattle.ns_model.specs.declared.event.Mode.{Mode}
@@ -38,10 +38,10 @@ pub use Rattle.ns_model.specs.declared.once.OnceEvent.TheVariants.{Began, Ran}
 pub use Rattle.ns_model.specs.declared.once.OnceState.{OnceState}
 pub use Rattle.ns_model.specs.declared.once.OnceState.TheVariants.{Done, Running, Unused}
 pub use Rattle.ns_model.specs.declared.phase.Phase.{Phase}
-pub use Rattle.ns_model.specs.declared.phase.Phase.TheVariants.{Cond, Idle, Left, Waiting, Woken}
+pub use Rattle.ns_model.specs.declared.phase.Phase.TheVariants.{Cond, Idle, Left, Woken}
 pub use Rattle.ns_model.specs.declared.seats.Seats.{Seats}
-pub use Rattle.std.proofs.Common.{arith, falls, inl, inr, le-ltb, lt-ltb, ne_eqb, refl}
-pub use Rattle.std.proofs.Common.{sym, take, w64, w8}
+pub use Rattle.std.proofs.Common.{arith, inl, inr, le-ltb, lt-ltb, ne_eqb, refl, sym, take, w64, w8}
+pub use Rattle.std.proofs.Math.Bool.{or-false, or-true}
 pub use Rattle.std.proofs.lemmas.Bool.{cases_eq, cases_lt, false≢true, or_cases, or_left, or_right}
 pub use Rattle.std.proofs.lemmas.Grind.{common_steps}
 pub use Rattle.std.proofs.lemmas.Int.{ints}

@@ -1,6 +1,6 @@
 -- Sets of seats, seat by seat.
-use Rattle.std.proofs.Common.{Bool, List, [], ap, arith, bit_or, eq-eqb, eqb, false, inl, inr, ne_eqb, refl, sym, true, ℕ, ◌%◌, ◌*◌, ◌<◌, ◌^◌, ◌||◌, ◌∙◌, ◌∷◌, ◌≡◌, ◌≢◌}
-use Rattle.ns_model.proofs.Prelude.{Seats, Width, bit_at, bit_at-lt, bit_at-pow_other, bit_at-pow_same, bit_at-zero, bit_at_or, bit_at_set_other, bit_at_set_same, bits, cases_eq, is_in, same_from_bits, seats_in}
+use Rattle.std.proofs.Common.{List, [], ap, arith, bit_or, eq-eqb, eqb, false, inl, inr, ne_eqb, refl, sym, true, ℕ, ◌%◌, ◌*◌, ◌<◌, ◌^◌, ◌||◌, ◌∙◌, ◌∷◌, ◌≡◌, ◌≢◌}
+use Rattle.ns_model.proofs.Prelude.{or-false, or-true, Seats, Width, bit_at, bit_at-lt, bit_at-pow_other, bit_at-pow_same, bit_at-zero, bit_at_or, bit_at_set_other, bit_at_set_same, bits, cases_eq, is_in, same_from_bits, seats_in}
 
 same_bit : (a b : ℕ) → a < 2 → b < 2 → eqb a 1 ≡ eqb b 1 → a ≡ b
 same_bit a b low small same =
@@ -32,17 +32,9 @@ in_more n seats seat = elim (cases_eq n seat) [
   | inr ne ↦ rw (ne_eqb n seat ne) (in_other (seats_in seats).0 n seat (λ e. ne (sym e)))
 ]
 
-or_true : (b : Bool) → (b || true) ≡ true
-or_true true = refl
-or_true false = refl
-
-or_false : (b : Bool) → (b || false) ≡ b
-or_false true = refl
-or_false false = refl
-
 -- a number with one bit set, bit by bit
 pub bit_set : (w : Width) (s k n : ℕ) → k < bits w → eqb (bit_at (bit_or s (1 * 2 ^ k % 2 ^ bits w)) n) 1 ≡ (eqb (bit_at s n) 1 || eqb n k)
 bit_set w s k n within = elim (cases_eq n k) [
-  | inl e ↦ rw (e, bit_at_set_same w s k within, eq-eqb k k refl, or_true) refl
-  | inr ne ↦ rw (bit_at_set_other w s k within n ne, ne_eqb n k ne, or_false) refl
+  | inl e ↦ rw (e, bit_at_set_same w s k within, eq-eqb k k refl, or-true) refl
+  | inr ne ↦ rw (bit_at_set_other w s k within n ne, ne_eqb n k ne, or-false) refl
 ]

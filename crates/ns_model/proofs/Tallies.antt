@@ -41,8 +41,7 @@ module _ {A : Type 0} where
   every_both P Q R f (x ∷ xs) p q = (f x p.0 q.0, every_both P Q R f xs p.1 q.1)
 
   pub every_map : (P R : A → Type 0) → ((u : A) → P u → R u) → (l : List A) → Every P l → Every R l
-  every_map P R f [] p = tt
-  every_map P R f (x ∷ xs) p = (f x p.0, every_map P R f xs p.1)
+  every_map P R f l p = every_both P P R (λ u q _. f u q) l p p
 
   pub others_of : (P : A → Type 0) (l : List A) (i : ℕ) → Every P l → Others P i l
   others_of P [] i h = tt
@@ -55,9 +54,7 @@ module _ {A : Type 0} where
   others_both P Q R f (x ∷ xs) (suc i) p q = (f x p.0 q.0, others_both P Q R f xs i p.1 q.1)
 
   pub others_map : (P R : A → Type 0) → ((u : A) → P u → R u) → (l : List A) (i : ℕ) → Others P i l → Others R i l
-  others_map P R f [] i p = tt
-  others_map P R f (x ∷ xs) zero p = every_map P R f xs p
-  others_map P R f (x ∷ xs) (suc i) p = (f x p.0, others_map P R f xs i p.1)
+  others_map P R f l i p = others_both P P R (λ u q _. f u q) l i p p
 
   -- where one element has all of the sum, the others have none
   pub others_none : (f : A → ℕ) (l : List A) (i : ℕ) (v : A) → get_elem? l i ≡ some v → total f l ≤ f v → Others (λ u. f u ≡ 0) i l
@@ -81,13 +78,11 @@ module _ {A : Type 0} where
   -- ---- one element among the others
 
   pub total_amid : (f : A → ℕ) (front : List A) (x : A) (back : List A) → total f (front ++ x ∷ back) ≡ total f front + (f x + total f back)
-  total_amid f [] x back = omega arith
-  total_amid f (y ∷ front) x back = let rest = total_amid f front x back in omega arith
+  total_amid f front x back = total-append f front (x ∷ back)
 
   pub every_parts : (P : A → Type 0) (front : List A) (x : A) (back : List A) → Every P (front ++ x ∷ back) → Every P front × P x × Every P back
   every_parts P [] x back p = (tt, p.0, p.1)
   every_parts P (y ∷ front) x back p = let rest = every_parts P front x back p.1 in ((p.0, rest.0), rest.1, rest.2)
 
   pub every_join : (P : A → Type 0) (front : List A) (x : A) (back : List A) → Every P front → P x → Every P back → Every P (front ++ x ∷ back)
-  every_join P [] x back p q r = (q, r)
-  every_join P (y ∷ front) x back p q r = (p.0, every_join P front x back p.1 q r)
+  every_join P front x back p q r = every-append P front (x ∷ back) p (q, r)

@@ -1,14 +1,8 @@
-use Rattle.std.proofs.Common.{arith, le-ltb, sym, ◌∙◌}
+use Rattle.std.proofs.Common.{le-ltb, sym, ◌∙◌}
 use Rattle.ns_model.proofs.Prelude.{false≢true, number}
 use Rattle.ns_model.proofs.Sizes.{events_fit}
 use Rattle.ns_model.proofs.history.event_fits.Goals as goal
 use Rattle.ns_model.proofs.history.event_fits.Goals.{then-who-lt64, else-who-lt64, then-is_row_after, else-is_row_after}
-
-pub is_row_after-requires : goal.is_row_after-requires
-is_row_after-requires g c = (events_fit g.row.C (number g.row.N) g.met.C.Condition.has_room, omega (arith, g.met.C.Condition.has_cells))
-
-pub mode_fits-requires : goal.mode_fits-requires
-mode_fits-requires g c = omega (arith, g.met.C.Condition.has_cells)
 
 pub phase_of-requires : goal.phase_of-requires
 phase_of-requires g c = (
@@ -22,48 +16,18 @@ phase_of-requires g c = (
   ],
 )
 
-pub entry_fits-requires : goal.entry_fits-requires
-entry_fits-requires g c = omega (arith, g.met.C.Condition.has_cells)
-
-pub exit_fits-requires : goal.exit_fits-requires
-exit_fits-requires g c = omega (arith, g.met.C.Condition.has_cells)
-
-pub signal_fits-requires : goal.signal_fits-requires
-signal_fits-requires g c = events_fit g.row.C (number g.row.N) g.met.C.Condition.has_room
-
-pub broadcast_fits-requires : goal.broadcast_fits-requires
-broadcast_fits-requires g c = events_fit g.row.C (number g.row.N) g.met.C.Condition.has_room
-
-pub phase_of-requires-then-who-lt64-4 : goal.phase_of-requires-then-who-lt64-4
-phase_of-requires-then-who-lt64-4 g c = (events_fit g.row.C (number g.row.N) g.met.C.Condition.has_room, c.if-who-lt64-4.true)
-
-pub phase_of-requires-then-who-lt64-5 : goal.phase_of-requires-then-who-lt64-5
-phase_of-requires-then-who-lt64-5 g c = (events_fit g.row.C (number g.row.N) g.met.C.Condition.has_room, c.if-who-lt64-5.true)
-
 pub returns-then-who-lt64-2 : goal.returns-then-who-lt64-2
 returns-then-who-lt64-2 g c = rw c.in-Signal.is (λ yes. (c.if-who-lt64-2.true, c.signal_fits.ensures.0 yes), λ fits. c.signal_fits.ensures.1 fits.1)
 
-pub returns-else-who-lt64-2 : goal.returns-else-who-lt64-2
-returns-else-who-lt64-2 g c = rw (c.in-Signal.is, le-ltb c.in-Signal.who 64 c.if-who-lt64-2.false) (λ no. absurd cc, λ fits. absurd (omega (arith, fits.0, c.if-who-lt64-2.false)))
-
 pub returns-then-who-lt64-3 : goal.returns-then-who-lt64-3
 returns-then-who-lt64-3 g c = rw c.in-Broadcast.is (λ yes. (c.if-who-lt64-3.true, c.broadcast_fits.ensures.0 yes), λ fits. c.broadcast_fits.ensures.1 fits.1)
-
-pub returns-else-who-lt64-3 : goal.returns-else-who-lt64-3
-returns-else-who-lt64-3 g c = rw (c.in-Broadcast.is, le-ltb c.in-Broadcast.who 64 c.if-who-lt64-3.false) (λ no. absurd cc, λ fits. absurd (omega (arith, fits.0, c.if-who-lt64-3.false)))
 
 pub returns-then-who-lt64-4 : goal.returns-then-who-lt64-4
 returns-then-who-lt64-4 g c =
     let fits = rw c.phase_of-then-who-lt64-4.ensures at c.leave_fits.ensures in
     rw c.in-Leave.is (λ yes. (c.if-who-lt64-4.true, fits.0 yes), λ legal. fits.1 legal.1)
 
-pub returns-else-who-lt64-4 : goal.returns-else-who-lt64-4
-returns-else-who-lt64-4 g c = rw (c.in-Leave.is, le-ltb c.in-Leave.who 64 c.if-who-lt64-4.false) (λ no. absurd cc, λ fits. absurd (omega (arith, fits.0, c.if-who-lt64-4.false)))
-
 pub returns-then-who-lt64-5 : goal.returns-then-who-lt64-5
 returns-then-who-lt64-5 g c =
     let fits = rw c.phase_of-then-who-lt64-5.ensures at c.leave_any_fits.ensures in
     rw c.in-LeaveAny.is (λ yes. (c.if-who-lt64-5.true, fits.0 yes), λ legal. fits.1 legal.1)
-
-pub returns-else-who-lt64-5 : goal.returns-else-who-lt64-5
-returns-else-who-lt64-5 g c = rw (c.in-LeaveAny.is, le-ltb c.in-LeaveAny.who 64 c.if-who-lt64-5.false) (λ no. absurd cc, λ fits. absurd (omega (arith, fits.0, c.if-who-lt64-5.false)))

@@ -1,7 +1,6 @@
-use Rattle.std.proofs.Common.{falls, length, sym, ◌∙◌}
-use Rattle.ns_model.proofs.Prelude.{IsLegal, first_standing, number}
+use Rattle.std.proofs.Common.{sym, ◌∙◌}
+use Rattle.ns_model.proofs.Prelude.{IsLegal, first_standing}
 use Rattle.ns_model.proofs.Histories.{legal_at, legal_more}
-use Rattle.ns_model.proofs.Sizes.{events_fit}
 use Rattle.ns_model.proofs.history.legal.Goals as goal
 
 pub returns-then-not-event_fits : goal.returns-then-not-event_fits
@@ -18,9 +17,3 @@ pub loop-i-preserved : goal.loop-i-preserved
 loop-i-preserved g c =
     legal_more g.C.Condition.means.holds (first_standing g.row.N) c.args.history.now c.loop-i.i c.index-history-i.result c.loop-i-test.true c.loop-i.invariant
     (rw (← c.index-history-i.is) (c.event_fits.ensures.0 c.if-not-event_fits.false))
-
-pub event_fits-requires : goal.event_fits-requires
-event_fits-requires g c = events_fit g.row.C (number g.row.N) g.met.C.Condition.has_room
-
-pub loop-i-smaller : goal.loop-i-smaller
-loop-i-smaller g c = falls (length c.args.history.now) c.loop-i.i c.loop-i-test.true

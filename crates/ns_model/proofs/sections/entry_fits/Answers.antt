@@ -1,14 +1,8 @@
-use Rattle.std.proofs.Common.{arith, eq-eqb, eqb-true, refl, sym, ◌∙◌}
+use Rattle.std.proofs.Common.{eq-eqb, eqb-true, refl, sym, ◌∙◌}
 use Rattle.ns_model.proofs.Prelude.{booleans_Decides, false≢true}
 use Rattle.ns_model.proofs.Entries.{after_cv_at_end, met_told, mode_same, mode_told, plain_at_rest, waited_at_wait}
 use Rattle.ns_model.proofs.sections.entry_fits.Goals as goal
 use Rattle.ns_model.proofs.sections.entry_fits.Goals.{then-eq, else-eq, then-eq-2, else-eq-2, then-eq-3, else-eq-3}
-
-pub test-requires : goal.test-requires
-test-requires g c = omega (arith, g.met.C.Condition.has_cells)
-
-pub test-requires-then-test-met : goal.test-requires-then-test-met
-test-requires-then-test-met g c = omega (arith, g.met.C.Condition.has_cells)
 
 pub returns-in-Plain-Idle : goal.returns-in-Plain-Idle
 returns-in-Plain-Idle g c = rw (c.in-Plain-Idle.is-0, c.in-Plain-Idle.is-1) (λ yes. tt, λ fits. refl)

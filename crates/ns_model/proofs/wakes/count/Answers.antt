@@ -1,4 +1,4 @@
-use Rattle.ns_model.proofs.Prelude.{falls, is_counted, standing_after, sym}
+use Rattle.ns_model.proofs.Prelude.{is_counted, standing_after, sym}
 use Rattle.ns_model.proofs.Counts.{count_none, count_told, count_yes, count_no, count_fits, count_whole}
 use Rattle.ns_model.proofs.wakes.count.Goals as goal
 use Rattle.ns_model.proofs.wakes.count.Goals.{then-is_counted, else-is_counted}
@@ -6,14 +6,8 @@ use Rattle.ns_model.proofs.wakes.count.Goals.{then-is_counted, else-is_counted}
 pub loop-seat-init : goal.loop-seat-init
 loop-seat-init g c = sym (count_none _)
 
-pub is_counted-requires : goal.is_counted-requires
-is_counted-requires g c = c.loop-seat-test.true
-
 pub overflow_add-count : goal.overflow_add-count
 overflow_add-count g c = count_fits _ c.loop-seat.seat c.loop-seat.count c.loop-seat-test.true c.loop-seat.invariant
-
-pub loop-seat-smaller : goal.loop-seat-smaller
-loop-seat-smaller g c = falls 64 c.loop-seat.seat c.loop-seat-test.true
 
 pub loop-seat-preserved : goal.loop-seat-preserved
 loop-seat-preserved g c =
