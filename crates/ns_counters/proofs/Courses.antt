@@ -1,11 +1,11 @@
 -- How far a call on counters and once cells has come: whatever others do leaves that as it is, and each step of its own takes it on to an answer that means what it says.
 use Rattle.std.proofs.Common.{Bool, Err, List, None, Ok, Option, Result, Some, [], ap, append-nil, arith, cond, drop, eq-eqb, eqb, eqb-true, false, inl, inr, ltb-false, nat_lt, refl, slice_get, slice_index, subst, suc, sym, take, true, ℕ, ℤ, ◌++◌, ◌<◌, ◌∙◌, ◌∷◌, ◌≡◌, ◌≤◌}
 use Rattle.ns_counters.proofs.Prelude.{AddExchange, AddLoad, AnyAnswers, AtCounter, AtNote, AtSomeMoment, AtSomePoint, BeginsWith, ChainFits, Clock, CounterFault, CounterState, DoneLoad, Env, EnvEvent, EnvFound, EnvNext, EnvState, FirstClock, ForIsNotified, Free, HadValue, HasLookedUpTo}
-use Rattle.ns_counters.proofs.Prelude.{HasShownNone, HaveShownNothing, InRound, InTurn, IsBetween, IsLater, IsLawful, IsLawfulEnv, IsLegalEnv, IsReady, IsSo, Item, Items, Note, NoteLoad, Number, ObjectEffect, ObjectEvent, ObjectFound, ObjectGoes, ObjectSoFar, ObjectStanding, ObjectWalk}
+use Rattle.ns_counters.proofs.Prelude.{HasShownNone, HaveShownNothing, InRound, InTurn, IsBetween, IsLater, IsLawful, IsLawfulEnv, IsLegalEnv, IsReady, IsSo, Item, Items, LookOnce, Note, NoteLoad, Number, ObjectEffect, ObjectEvent, ObjectFound, ObjectGoes, ObjectSoFar, ObjectStanding, ObjectWalk}
 use Rattle.ns_counters.proofs.Prelude.{OnCounterItem, OnNote, OnOnce, OnVariable, OnceBegin, OnceEnd, OnceLoad, OnceState, Outcome, Over, Past, Round, RoundGo, RoundNext, RoundOver, RoundPlace, RoundSoFar, Running, Setup, Stage, ValueLoad, WaitClock, WaitLoad, WaitMark, WalkFits, WereThere, Word}
-use Rattle.ns_counters.proofs.Prelude.{both, by_test, either, looked, take-suc, take-append-drop, slice_get_within, get_or_from_slice_get, begins_itself, begins_through, by_answer, by_begun, by_chain, by_deadline, by_round, by_stage, chain_answers, chain_from, clock_of, counter_of, counter_word}
-use Rattle.ns_counters.proofs.Prelude.{env_after, env_got_of, first_objects, fold-append, from_items, from_place, has_run, is_done, is_due, is_ready, item_at, items_of, judged, legal_begins, line_starts, made_begins, object_asked, object_got, object_next, object_place, object_want, objects_after}
-use Rattle.ns_counters.proofs.Prelude.{objects_own, past_and, round_got, round_want, stage, stage_of, tried, waited_next, word_of_once}
+use Rattle.ns_counters.proofs.Prelude.{begins_itself, begins_through, both, by_answer, by_begun, by_chain, by_deadline, by_round, by_stage, by_test, chain_answers, chain_from, clock_of, counter_of, counter_word, either, env_after, env_got_of, first_objects, fold-append, from_items, from_place}
+use Rattle.ns_counters.proofs.Prelude.{get_or_from_slice_get, has_run, is_done, is_due, is_ready, item_at, items_of, judged, legal_begins, line_starts, made_begins, object_asked, object_got, object_next, object_place, object_want, objects_after, objects_own, outcome, past_and, round_got, round_want}
+use Rattle.ns_counters.proofs.Prelude.{slice_get_within, stage, stage_of, take-append-drop, take-suc, tried, waited_next, word_of_once}
 use Rattle.ns_counters.specs.Prelude.{OnCounter}
 use Rattle.ns_counters.proofs.Listed.{listed, stands_at}
 use Rattle.ns_counters.proofs.Objects.{own-append}
@@ -105,11 +105,6 @@ RoundGoes setup earlier now round (RoundGo place) = RoundSoFar setup earlier now
 RoundGoes setup earlier now round (RoundOver None) = (rounds : ℕ) × HaveShownNothing (IsReady setup) (items_of round.items) round.deadline (suc rounds) earlier now
 RoundGoes setup earlier now round (RoundOver (Some answer)) = AnyAnswers setup earlier now round.items round.deadline answer
 
-goes_on : (setup : Setup) (earlier now more : Past) (round : Round) (next : RoundNext) → RoundGoes setup earlier now round next → RoundGoes setup earlier (past_and now more) round next
-goes_on setup earlier now more round (RoundGo place) goes = round_on setup earlier now more round place goes
-goes_on setup earlier now more round (RoundOver None) goes = (goes.0, nothing_on setup earlier now more round (suc goes.0) goes.1)
-goes_on setup earlier now more round (RoundOver (Some answer)) goes = any_on setup earlier now more round.items round.deadline answer goes
-
 module _ (setup : Setup) (earlier now : Past) (round : Round) (start : Past) (clock : ℕ) where
   abbrev HasLooked : ℕ → Type 0
   HasLooked at = HasLookedUpTo setup earlier now round start clock at
@@ -126,7 +121,8 @@ module _ (setup : Setup) (earlier now : Past) (round : Round) (start : Past) (cl
     nothing = looked.nothing;
     begins = looked.begins;
     loaded = looked.loaded;
-    unready = subst (InTurn (IsReady setup false) start here) (sym (take_next at (items_of round.items) item (stands_at round.items at item is))) (turn_more (IsReady setup false) start here here here (take at (items_of round.items)) item looked.unready (later_itself here) unready (later_itself here));
+    unready = subst (InTurn (IsReady setup false) start here) (sym (take_next at (items_of round.items) item (stands_at round.items at item is)))
+        (turn_more (IsReady setup false) start here here here (take at (items_of round.items)) item looked.unready (later_itself here) unready (later_itself here));
     since = looked.since;
   }
 
@@ -258,11 +254,17 @@ module _ (setup : Setup) (earlier : Past) (seat : ℕ) (now : Past) (words : Lis
   pub round_by : (round : Round) (place : RoundPlace) (found : ObjectFound) (words' : List ℕ) → WalkFits setup (objects_after setup now.objects) state.plain.notes seat (InRound round place) →
       WereThere setup earlier round.items → RoundSoFar setup earlier now round place → ObjectEffect seat Free (round_want place) words state.plain found words' more →
       RoundGoes setup earlier (past_and now (record { notes = []; objects = more })) round (round_got round place found)
-  round_by round place found words' fits there so effect = goes_on setup earlier now (record { notes = []; objects = more }) round (round_got round place found) (shows_now round place found words' fits there so effect)
+  round_by round place found words' fits there so effect =
+      let none : more ≡ [] = round_makes_none place found words' effect in
+      subst (λ (z : List EnvEvent × List ObjectEvent). RoundGoes setup earlier (record { notes = z.0; objects = z.1 }) round (round_got round place found)) (λ i. (sym (append-nil now.notes) i, (sym (append-nil now.objects) ∙ ap (λ es. now.objects ++ es) (sym none)) i))
+      (shows_now round place found words' fits there so effect)
 
 module _ (setup : Setup) (earlier : Past) (seat : ℕ) (now : Past) (words : List ℕ) (law : IsLawful setup words now.objects) (state : EnvState) (led : IsLawfulEnv now.notes state) (since : BeginsWith now.notes earlier.notes) (since_objects : BeginsWith now.objects earlier.objects) where
   abbrev stands : ObjectStanding
   stands = objects_after setup now.objects
+
+  value_was : (counter : ℕ) → counter < setup.counters → (word : ℕ) → word ≡ slice_index words counter → (stands.counters counter).value ≡ (counter_of word).value
+  value_was counter there word is = sym (ap (λ w. (counter_of w).value) is ∙ ap (λ (c : CounterState). c.value) (counter_is setup words now.objects law counter there))
 
   module _ (events : List ObjectEvent) (added : objects_own now.objects seat ≡ objects_own earlier.objects seat ++ events) (more : List ObjectEvent) where
     abbrev so_far : Past
@@ -299,11 +301,11 @@ module _ (setup : Setup) (earlier : Past) (seat : ℕ) (now : Past) (words : Lis
         (joined events more (OnCounter counter (TheCounter.Add seat delta (Ok value)) ∷ []) so)
         (judged_goes counter delta word (counter_of word) (judged (counter_of word) delta) so) effect.2
     word_takes_on (ValueLoad counter) word words' fits so effect =
-        (joined events more [] so effect.2, moment_now (λ standing. (standing.counters counter).value ≡ (counter_of word).value) (sym (ap (λ w. (counter_of w).value) effect.0 ∙ ap (λ (c : CounterState). c.value) (counter_is setup words now.objects law counter fits))))
+        (joined events more [] so effect.2, moment_now (λ standing. (standing.counters counter).value ≡ (counter_of word).value) (value_was counter fits word effect.0))
     word_takes_on (WaitMark counter deadline) word words' fits so effect =
         let mark = OnCounter counter (TheCounter.Begun seat) ∷ [] in
         let value = (counter_of word).value in
-        let was : (stands.counters counter).value ≡ value = sym (ap (λ w. (counter_of w).value) effect.0 ∙ ap (λ (c : CounterState). c.value) (counter_is setup words now.objects law counter fits)) in
+        let was = value_was counter fits word effect.0 in
         let own : objects_own (now.objects ++ more) seat ≡ objects_own earlier.objects seat ++ mark =
         ap (λ m. objects_own (now.objects ++ m) seat) effect.2 ∙ own-append now.objects mark seat ∙ (λ i. (added ∙ ap (λ es. objects_own earlier.objects seat ++ es) so ∙ append-nil (objects_own earlier.objects seat)) i ++ own_one seat counter i) in
         waited_goes counter deadline value (events ++ more) (joined events more mark so effect.2) (
@@ -314,7 +316,7 @@ module _ (setup : Setup) (earlier : Past) (seat : ℕ) (now : Past) (words : Lis
         )
     word_takes_on (WaitLoad counter deadline) word words' fits so effect =
         let value = (counter_of word).value in
-        let was : (stands.counters counter).value ≡ value = sym (ap (λ w. (counter_of w).value) effect.0 ∙ ap (λ (c : CounterState). c.value) (counter_is setup words now.objects law counter fits)) in
+        let was = value_was counter fits word effect.0 in
         waited_goes counter deadline value (events ++ more) (λ i. so i ++ effect.2 i)
         (now.objects, between_on earlier.objects now.objects now.objects more (between_now earlier.objects now.objects since_objects), added ∙ ap (λ es. objects_own earlier.objects seat ++ es) so, was)
     word_takes_on (WaitClock counter moment value) word words' fits so effect = absurd effect
@@ -323,7 +325,7 @@ module _ (setup : Setup) (earlier : Past) (seat : ℕ) (now : Past) (words : Lis
     word_takes_on (OnceBegin once) word words' fits so effect =
         let Goes = λ (left : Outcome) (at : Stage). more ≡ left.events → stage (stands.onces once) ≡ at → ObjectGoes setup earlier so_far seat (OnceLoad once) (events ++ more) (by_begun once at) in
         both Goes (eqb word 0) (λ is at. (refl, joined events more (OnOnce once (TheOnce.Began seat) ∷ []) so is))
-        (either (Goes (looked Free word)) (eqb word 1) (λ is at. stage_goes once TheStage.Running (events ++ more) (joined events more [] so is) at) (λ is at. stage_goes once TheStage.Done (events ++ more) (joined events more [] so is) at))
+        (either (Goes (outcome seat (LookOnce once) Free word)) (eqb word 1) (λ is at. stage_goes once TheStage.Running (events ++ more) (joined events more [] so is) at) (λ is at. stage_goes once TheStage.Done (events ++ more) (joined events more [] so is) at))
         effect.2 (sym (ap stage_of effect.0 ∙ stage_is setup words now.objects law once fits))
     word_takes_on (OnceEnd once) word words' fits so effect = λ i. so i ++ effect.2 i
     word_takes_on (DoneLoad once) word words' fits so effect =

@@ -1,7 +1,7 @@
 -- A step keeps the law: what has happened by it is legal, the words are those of the objects as they then stand, and its caller and all others stand where they may.
 use Rattle.std.proofs.Common.{Err, List, Ok, Result, [], ap, arith, bit_or, eqb, eqb-true, get_or, get_or-set_other, get_or-set_same, length, length-set, refl, set, slice_index, subst, sym, true, ℕ, ℤ, ◌+◌, ◌<◌, ◌^◌, ◌∙◌, ◌∷◌, ◌≡◌, ◌≢◌, ◌≤◌}
 use Rattle.ns_counters.proofs.Prelude.{Adding, AreWordsOf, Began, BeginOnce, Begun, CanAct, CounterFault, CounterState, EndOnce, Every, ExchangeToAdd, Free, HasWords, IsLegalFrom, IsLegalObjectEvent, IsLegalOnceEvent, IsWordOf, LoadToAdd, LookCounter, LookOnce, MarkWait, ObjectAct, ObjectEvent}
-use Rattle.ns_counters.proofs.Prelude.{ObjectStanding, OnOnce, OnceEvent, OnceState, Outcome, Place, PlaceFits, Ran, Running, Setup, accepted, but-here, but_at, but_cases, counter_of, counter_word, judged, looked, most, object_next, object_who, objects_from, once_next, outcome, by_test, set-get_or}
+use Rattle.ns_counters.proofs.Prelude.{ObjectStanding, OnOnce, OnceEvent, OnceState, Outcome, Place, PlaceFits, Ran, Running, Setup, accepted, but-here, but_at, but_cases, by_test, counter_of, counter_word, judged, looked, most, object_next, object_who, objects_from, once_next, outcome, set-get_or}
 use Rattle.ns_counters.proofs.Prelude.{stage, stage_word, tried, word_at, word_of_once}
 use Rattle.ns_counters.specs.Prelude.{OnCounter}
 use Rattle.ns_counters.proofs.Words.{counter_of-counter_word, marked}

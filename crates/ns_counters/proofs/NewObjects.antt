@@ -1,6 +1,6 @@
 -- New objects are lawful.
-use Rattle.std.proofs.Common.{List, [], ap, arith, get_or, length, length-append, refl, replicate, subst, suc, zero, ℕ, ◌++◌, ◌+◌, ◌-◌, ◌<◌, ◌∙◌, ◌∷◌, ◌≡◌, ◌≤◌}
-use Rattle.ns_counters.proofs.Prelude.{AreWordsOf, IsLawful, first_objects, first_words, length-replicate, most, padded, setup_of}
+use Rattle.std.proofs.Common.{List, [], arith, get_or, length, length-append, refl, replicate, subst, suc, zero, ℕ, ◌++◌, ◌+◌, ◌-◌, ◌∙◌, ◌∷◌, ◌≡◌, ◌≤◌}
+use Rattle.ns_counters.proofs.Prelude.{AreWordsOf, IsLawful, first_objects, first_words, get_or-append, get_or-append-add, length-replicate, most, padded, setup_of}
 
 get_zero : (m k : ℕ) → ◌≡◌ {A = ℕ} (get_or (replicate m 0) k 0) 0
 get_zero zero k = refl
@@ -12,22 +12,13 @@ padded_few [] m few k = let z = get_zero m k in omega (arith, z)
 padded_few (x ∷ values) m few zero = few zero
 padded_few (x ∷ values) m few (suc k) = padded_few values m (λ n. few (suc n)) k
 
-before_zeros : (l : List ℕ) (m k : ℕ) → k < length l → get_or (l ++ replicate m 0) k 0 ≡ get_or l k 0
-before_zeros [] m k low = absurd (omega (arith, low))
-before_zeros (x ∷ l) m zero low = refl
-before_zeros (x ∷ l) m (suc k) low = before_zeros l m k (omega (arith, low))
-
-behind_zeros : (l : List ℕ) (m k : ℕ) → get_or (l ++ replicate m 0) (length l + k) 0 ≡ 0
-behind_zeros [] m k = get_zero m (0 + k)
-behind_zeros (x ∷ l) m k = let up : suc (length l) + k ≡ suc (length l + k) = omega arith in ap (λ n. get_or (x ∷ (l ++ replicate m 0)) n 0) up ∙ behind_zeros l m k
-
 -- the words are those of the objects before any event
 first_words_are : (seats : ℕ) (values : List ℕ) (cells : ℕ) → length values ≤ 16 → ((k : ℕ) → get_or values k 0 ≤ most) → AreWordsOf (first_objects (setup_of seats values cells)) (first_words (padded values))
 first_words_are seats values cells short few =
     let wide : length (padded values) ≡ 16 = let a = length-append values (replicate (16 - length values) 0) in let r = length-replicate {A = ℕ} (16 - length values) 0 in omega (arith, a, r, short) in record {
       width = let a = length-append (padded values) (replicate 16 0) in let r = length-replicate {A = ℕ} 16 0 in omega (arith, a, r, wide);
-      counters = λ k below. let is = before_zeros (padded values) 16 k (omega (arith, wide, below)) in (omega (arith, is), padded_few values (16 - length values) few k);
-      onces = λ k below. subst (λ n. get_or (first_words (padded values)) (n + k) 0 ≡ 0) wide (behind_zeros (padded values) 16 k);
+      counters = λ k below. let is = get_or-append (padded values) (replicate 16 0) 0 k (omega (arith, wide, below)) in (omega (arith, is), padded_few values (16 - length values) few k);
+      onces = λ k below. subst (λ n. get_or (first_words (padded values)) (n + k) 0 ≡ 0) wide (get_or-append-add (padded values) (replicate 16 0) k 0 ∙ get_zero 16 k);
     }
 
 pub new_lawful : (seats : ℕ) (values : List ℕ) (cells : ℕ) → seats ≤ 64 → length values ≤ 16 → cells ≤ 16 → ((k : ℕ) → get_or values k 0 ≤ most) → IsLawful (setup_of seats values cells) (first_words (padded values)) []

@@ -1,6 +1,6 @@
 -- Histories of all objects: their parts, and the history of each object in them.
 use Rattle.std.proofs.Common.{Bool, List, [], ap, cond, eq-eqb, eqb, eqb-true, false, fold, ne_eqb, refl, subst, sym, true, ℕ, ◌++◌, ◌∙◌, ◌∷◌, ◌≡◌, ◌≢◌}
-use Rattle.ns_counters.proofs.Prelude.{but_at, Every, IsLegalCounterEvent, IsLegalFrom, IsLegalObjectEvent, IsLegalOnceEvent, ObjectEvent, ObjectStanding, OnOnce, Setup, counter_next, filter-append, object_next, object_who, objects_from, objects_own, of_counter, of_once, once_next}
+use Rattle.ns_counters.proofs.Prelude.{Every, IsLegalCounterEvent, IsLegalFrom, IsLegalObjectEvent, IsLegalOnceEvent, ObjectEvent, ObjectStanding, OnOnce, Setup, but_at, counter_next, filter-append, object_next, object_who, objects_from, objects_own, of_counter, of_once, once_next}
 use Rattle.ns_counters.specs.Prelude.{OnCounter}
 
 -- ---- each object by itself

@@ -1,8 +1,8 @@
 -- Where seats stand in calls on counters and once cells: after one of them is put elsewhere, and while more notes are made; what a step leaves of what was asked, and what it needs.
 use Rattle.std.proofs.Common.{Bool, List, None, Option, Some, [], ap, eqb, length, nat_lt, refl, slice_get, slice_set, unwrap_or, IfSome, ◌≢◌, sym, true, ℕ, ℤ, ◌<◌, ◌∷◌, ◌≡◌, ◌≢◌}
-use Rattle.ns_counters.proofs.Prelude.{AddExchange, AddLoad, AreThere, AtCounter, AtNote, Clock, DoneLoad, Env, FirstClock, InRound, IsLawfulObjects, Item, Items, NoteStanding, ObjectEvent, ObjectFound, ObjectNext, ObjectStanding, ObjectState, ObjectWalk, OnCounter, OnNote, OnVariable, OnceBegin}
-use Rattle.ns_counters.proofs.Prelude.{OnceEnd, OnceLoad, Round, RoundFits, RoundPlace, Setup, ValueLoad, WaitClock, WaitLoad, WaitMark, WalkFits, Word, by_judging, IfSome_then, either, object_after, set_each, slice_get_within, counter_of, counter_word, is_there, items_of, judged, list_all}
-use Rattle.ns_counters.proofs.Prelude.{object_asked, object_got, objects_after, round_got, stage_of, waited_next, walk_in}
+use Rattle.ns_counters.proofs.Prelude.{AddExchange, AddLoad, AreThere, AtCounter, AtNote, Clock, DoneLoad, Env, FirstClock, IfSome_then, InRound, IsLawfulObjects, Item, Items, NoteStanding, ObjectEvent, ObjectFound, ObjectNext, ObjectStanding, ObjectState, ObjectWalk, OnCounter, OnNote, OnVariable}
+use Rattle.ns_counters.proofs.Prelude.{OnceBegin, OnceEnd, OnceLoad, Round, RoundFits, RoundPlace, Setup, ValueLoad, WaitClock, WaitLoad, WaitMark, WalkFits, Word, by_judging, counter_of, counter_word, either, is_there, items_of, judged, list_all, object_after, object_asked, object_got}
+use Rattle.ns_counters.proofs.Prelude.{objects_after, round_got, set_each, slice_get_within, stage_of, waited_next, walk_in}
 use Rattle.ns_counters.proofs.Ways.{at_answer, at_begun, at_round, at_stage, at_waited}
 use Rattle.ns_counters.proofs.Listed.{first_of_all, rest_of_all}
 use Rattle.ns_counters.specs.declared.word.Stage.TheVariants as TheStage

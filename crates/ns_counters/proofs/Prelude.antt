@@ -23,7 +23,8 @@ pub use Rattle.ns_model.proofs.Lines.{line_starts}
 pub use Rattle.ns_model.proofs.Tallies.{every-append, every_map}
 pub use Rattle.std.proofs.lemmas.Bool.{or_cases}
 pub use Rattle.std.proofs.Math.Seq.{drop-cons, take-suc}
-pub use Rattle.std.proofs.lemmas.List.{length-replicate, length-take, take-append-drop}
+pub use Rattle.std.proofs.Math.ListN.{get_or-append}
+pub use Rattle.std.proofs.lemmas.List.{get_or-append-add, length-replicate, length-take, take-append-drop}
 pub use Rattle.std.proofs.lemmas.List.Elements.{filter-append}
 pub use Rattle.std.proofs.lemmas.List.Sums.{fold-append}
 pub use Rattle.std.proofs.lemmas.Option.{IfSome_then, get_or_from_slice_get, slice_get_past, slice_get_within}

@@ -1,7 +1,7 @@
 -- Where a call on counters and once cells may go: it is over, or goes on to one of these places.
 use Rattle.std.proofs.Common.{Err, None, Ok, Option, Result, Some, eqb, refl, ℕ, ℤ, ◌≡◌}
-use Rattle.ns_counters.proofs.Prelude.{AddExchange, CounterFault, CounterState, FirstClock, Go, InRound, Number, ObjectNext, ObjectReply, OnceBegin, OnceEnd, OnceLoad, Over, Refused, Repeat, Round, RoundGo, RoundNext, RoundOver, RoundPlace, Stage, WaitClock, WaitLoad, Already, by_answer}
-use Rattle.ns_counters.proofs.Prelude.{by_begun, by_deadline, by_round, by_stage, either, waited_next}
+use Rattle.ns_counters.proofs.Prelude.{AddExchange, Already, CounterFault, CounterState, FirstClock, Go, InRound, Number, ObjectNext, ObjectReply, OnceBegin, OnceEnd, OnceLoad, Over, Refused, Repeat, Round, RoundGo, RoundNext, RoundOver, RoundPlace, Stage, WaitClock, WaitLoad, by_answer, by_begun}
+use Rattle.ns_counters.proofs.Prelude.{by_deadline, by_round, by_stage, either, waited_next}
 use Rattle.ns_counters.specs.declared.word.Stage.TheVariants as TheStage
 
 module _ (P : ObjectNext → Type 0) (over : (reply : ObjectReply) → P (Over reply)) where

@@ -1,8 +1,8 @@
 -- A step keeps the law: what has happened by it is legal, the clock and the notes are as it leaves them, and its caller and all others have come as far as they say.
 use Rattle.std.proofs.Common.{◌≡◌, ◌≢◌, ℕ, ◌+◌, ◌<◌, ◌≤◌, min, max, nat_lt, Bool, true, false, cond, List, [], ◌∷◌, ◌++◌, Some, sym, refl, ap, ◌∙◌, subst, arith, append-nil}
 use Rattle.std.proofs.lemmas.Bool.Decides.{nat_tests}
-use Rattle.ns_env.specs.Prelude.{Adding, Advance, CanAct, Clock, EnvAct, EnvEvent, EnvFound, EnvPlain, EnvStanding, Every, IsLawful, IsLegalEnv, IsLegalEnvEvent, IsLegalEnvFrom, LoadClock, LoadNext, LoadNote, Making, MakingFits, Meets, MoveClock, New, NextNumber, Note, NoteStanding, Nothing}
-use Rattle.ns_env.specs.Prelude.{Notify, NotifyNote, Outcome, StoreNote, Stored, Take, TakeNext, Taken, adds, but_at, env_after, env_from, env_next, env_who, first_env, loaded, made_note, making_after, notified_note, outcome, state_of, takes_in}
+use Rattle.ns_env.specs.Prelude.{Adding, Advance, CanAct, Clock, EnvAct, EnvEvent, EnvFound, EnvPlain, EnvStanding, Every, IsLawful, IsLegalEnv, IsLegalEnvEvent, IsLegalEnvFrom, LoadClock, LoadNext, LoadNote, Making, MakingFits, Meets, MoveClock, New, NextNumber, Note, NoteStanding, Nothing, Notify}
+use Rattle.ns_env.specs.Prelude.{NotifyNote, Outcome, StoreNote, Stored, Take, TakeNext, Taken, adds, but_at, env_after, env_from, env_next, env_who, first_env, loaded, made_note, making_after, notified_note, outcome, state_of, takes_in}
 use Rattle.ns_model.proofs.Environments.{env_from-append, legal_env_append, by_seats_append, but_cases, but-here, but-there, IsSound, sound_from, sound_after}
 use Rattle.ns_env.specs.declared.view.Making.TheVariants as TheMaking
 

@@ -1,7 +1,7 @@
 -- What a legal history of a counter means.
 use Rattle.std.proofs.Common.{Bool, Err, List, Ok, Result, [], ap, arith, false, fold, pos, refl, sym, true, ℕ, ℤ, ◌+ℤ◌, ◌<ℤ◌, ◌||◌, ◌∙◌, ◌∷◌, ◌≡◌, ◌≤ℤ◌, ◌≤◌}
-use Rattle.ns_model.proofs.Prelude.{or-false, Add, AfterWait, AnswersRightly, Begun, CounterEvent, CounterFault, CounterState, IsLegalCounter, IsLegalCounterEvent, IsLegalFrom, Over, Under, added, added_by, counter_after, counter_next, first_counter, ints, is_begun, judged, list_any, most, rises_after_wait}
-use Rattle.ns_model.proofs.Prelude.{sum_of}
+use Rattle.ns_model.proofs.Prelude.{Add, AfterWait, AnswersRightly, Begun, CounterEvent, CounterFault, CounterState, IsLegalCounter, IsLegalCounterEvent, IsLegalFrom, Over, Under, added, added_by, counter_after, counter_next, first_counter, ints, is_begun, judged, list_any, most, or-false}
+use Rattle.ns_model.proofs.Prelude.{rises_after_wait, sum_of}
 
 -- ---- one change
 

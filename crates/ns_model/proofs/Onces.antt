@@ -1,6 +1,6 @@
 -- What a legal history of a once cell means.
 use Rattle.std.proofs.Common.{List, [], ap, fold, inl, inr, refl, ℕ, ◌||◌, ◌∙◌, ◌∷◌, ◌≡◌, ◌⊎◌}
-use Rattle.ns_model.proofs.Prelude.{or-false, Began, Done, IsCourseOfOnce, IsLegalFrom, IsLegalOnce, IsLegalOnceEvent, OnceEvent, OnceState, Ran, Running, Unused, is_done, is_ran, list_any, once_after, once_next}
+use Rattle.ns_model.proofs.Prelude.{Began, Done, IsCourseOfOnce, IsLegalFrom, IsLegalOnce, IsLegalOnceEvent, OnceEvent, OnceState, Ran, Running, Unused, is_done, is_ran, list_any, once_after, once_next, or-false}
 
 -- nothing comes after the end
 ended : (events : List OnceEvent) → IsLegalFrom IsLegalOnceEvent once_next Done events → events ≡ []

@@ -1,6 +1,6 @@
 -- Sets of seats, seat by seat.
 use Rattle.std.proofs.Common.{List, [], ap, arith, bit_or, eq-eqb, eqb, false, inl, inr, ne_eqb, refl, sym, true, ℕ, ◌%◌, ◌*◌, ◌<◌, ◌^◌, ◌||◌, ◌∙◌, ◌∷◌, ◌≡◌, ◌≢◌}
-use Rattle.ns_model.proofs.Prelude.{or-false, or-true, Seats, Width, bit_at, bit_at-lt, bit_at-pow_other, bit_at-pow_same, bit_at-zero, bit_at_or, bit_at_set_other, bit_at_set_same, bits, cases_eq, is_in, same_from_bits, seats_in}
+use Rattle.ns_model.proofs.Prelude.{Seats, Width, bit_at, bit_at-lt, bit_at-pow_other, bit_at-pow_same, bit_at-zero, bit_at_or, bit_at_set_other, bit_at_set_same, bits, cases_eq, is_in, or-false, or-true, same_from_bits, seats_in}
 
 same_bit : (a b : ℕ) → a < 2 → b < 2 → eqb a 1 ≡ eqb b 1 → a ≡ b
 same_bit a b low small same =
