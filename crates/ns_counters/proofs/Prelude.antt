@@ -1,12 +1,13 @@
 -- The names that proofs cite, of specs and of what stands below, passed on from one place. Declares nothing.
-pub use Rattle.ns_counters.specs.Prelude.{AddExchange, AddLoad, Adding, AnswersByRounds, AnyAnswers, AreObjectsBySeats, AreThere, AreWordsOf, AtCounter, AtNote, AtSomeMoment, AtSomePoint, Began, BeginOnce, BeginsWith, Begun, CanAct, ChainFits, Clock, CounterFault, CounterState, DoneLoad, EndOnce}
-pub use Rattle.ns_counters.specs.Prelude.{Env, EnvEvent, EnvFound, EnvNext, EnvPlain, EnvState, Every, ExchangeToAdd, FirstClock, ForIsNotified, Free, HadValue, HasActed, HasLookedUpTo, HasShownNone, HasShownOne, HasWords, HaveShownNothing, InRound, InTurn, Is, IsBetween, IsFoundAt, IsInBounds}
-pub use Rattle.ns_counters.specs.Prelude.{IsLater, IsLawful, IsLawfulEnv, IsLawfulObjects, IsLegalCounterEvent, IsLegalEnv, IsLegalFrom, IsLegalObjectEvent, IsLegalObjects, IsLegalOnceEvent, IsLow, IsReady, IsSo, IsWordOf, Item, Items, LoadToAdd, LookCounter, LookOnce, MarkWait, Meets, Note}
-pub use Rattle.ns_counters.specs.Prelude.{NoteLoad, NoteStanding, NoteWord, Number, ObjectAct, ObjectEffect, ObjectEvent, ObjectFound, ObjectGoes, ObjectNext, ObjectSoFar, ObjectStanding, ObjectState, ObjectView, ObjectWalk, ObjectWant, OnCounterItem, OnEnv, OnNote, OnOnce, OnVariable, OnWord}
-pub use Rattle.ns_counters.specs.Prelude.{OnceBegin, OnceEnd, OnceEvent, OnceLoad, OnceState, Outcome, Past, Place, PlaceFits, Ran, Repeat, Round, RoundFits, RoundGo, RoundNext, RoundOver, RoundPlace, RoundShows, RoundSoFar, Running, Setup, Stage, StepFits, Unused, ValueLoad, ViewFits, WaitClock}
-pub use Rattle.ns_counters.specs.Prelude.{WaitLoad, WaitMark, WalkFits, WantFits, WereThere, Word, acted, but_at, by_answer, by_begun, by_chain, by_deadline, by_judging, by_round, by_stage, chain_from, clock_of, counter_next, counter_of, counter_word, env_after, env_got_of, first_objects}
-pub use Rattle.ns_counters.specs.Prelude.{first_words, from_items, from_place, has_run, is_among, is_done, is_due, is_in, is_ready, is_there, is_this, is_variable, item_at, items_of, judged, looked, most, object_after, object_asked, object_got, object_next, object_place, object_want, object_who}
-pub use Rattle.ns_counters.specs.Prelude.{objects_after, objects_from, objects_own, of_counter, of_once, once_next, outcome, padded, past_and, place_in, round_got, round_want, setup_of, stage, stage_of, stage_word, standing_of, state_of, tried, waited_next, walk_in, word_at, word_left, word_of_once}
+pub use Rattle.ns_counters.specs.Names.{AddExchange, AddLoad, Adding, AtCounter, AtNote, AtSomePoint, Began, BeginOnce, BeginsWith, Begun, ChainFits, Clock, CounterFault, CounterState, DoneLoad, EndOnce, Env, EnvEvent, EnvFound, EnvNext, EnvPlain, EnvState, Every, ExchangeToAdd, FirstClock}
+pub use Rattle.ns_counters.specs.Names.{ForIsNotified, Free, InRound, Is, IsBetween, IsLawfulEnv, IsLegalCounterEvent, IsLegalEnv, IsLegalFrom, IsLegalOnceEvent, IsSo, Item, Items, LoadToAdd, LookCounter, LookOnce, MarkWait, Meets, Note, NoteLoad, NoteStanding, NoteWord, Number, ObjectAct}
+pub use Rattle.ns_counters.specs.Names.{ObjectEvent, ObjectFound, ObjectNext, ObjectView, ObjectWalk, ObjectWant, OnCounterItem, OnEnv, OnNote, OnOnce, OnVariable, OnWord, OnceBegin, OnceEnd, OnceEvent, OnceLoad, OnceState, Place, Ran, Repeat, Round, RoundGo, RoundNext, RoundOver, RoundPlace}
+pub use Rattle.ns_counters.specs.Names.{Running, Setup, Stage, Unused, ValueLoad, WaitClock, WaitLoad, WaitMark, Word, but_at, clock_of, counter_next, env_after, env_got_of, is_done, is_due, is_in, is_ready, judged, most, once_next, standing_of, state_of}
+pub use Rattle.ns_counters.specs.Prelude.{AnswersByRounds, AnyAnswers, AreObjectsBySeats, AreThere, AreWordsOf, AtSomeMoment, CanAct, HadValue, HasActed, HasLookedUpTo, HasShownNone, HasShownOne, HasWords, HaveShownNothing, InTurn, IsFoundAt, IsInBounds, IsLater, IsLawful, IsLawfulObjects}
+pub use Rattle.ns_counters.specs.Prelude.{IsLegalObjectEvent, IsLegalObjects, IsLow, IsReady, IsWordOf, ObjectEffect, ObjectGoes, ObjectSoFar, ObjectStanding, ObjectState, Outcome, Past, PlaceFits, RoundFits, RoundShows, RoundSoFar, StepFits, ViewFits, WalkFits, WantFits, WereThere, acted}
+pub use Rattle.ns_counters.specs.Prelude.{by_answer, by_begun, by_chain, by_deadline, by_judging, by_round, by_stage, chain_from, counter_of, counter_word, first_objects, first_words, from_items, from_place, has_run, is_among, is_there, is_this, is_variable, item_at, items_of, looked, object_after}
+pub use Rattle.ns_counters.specs.Prelude.{object_asked, object_got, object_next, object_place, object_want, object_who, objects_after, objects_from, objects_own, of_counter, of_once, outcome, padded, past_and, place_in, round_got, round_want, setup_of, stage, stage_of, stage_word, tried}
+pub use Rattle.ns_counters.specs.Prelude.{waited_next, walk_in, word_at, word_left, word_of_once}
 pub use Rattle.ns_counters.specs.declared.items.Item.TheVariants.{OnCounter}
 pub use Rattle.ns_counters.specs.declared.walk.ObjectNext.TheVariants.{Go, Over}
 pub use Rattle.ns_counters.specs.declared.reply.ObjectReply.{ObjectReply}

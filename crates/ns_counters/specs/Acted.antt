@@ -22,9 +22,7 @@ events_of act found old = (outcome old.seat act old.place found).events
 
 -- what a caller knows once it has made a step, which has found this word, after this history
 abbrev pub acted : ObjectAct → ℕ → List ObjectEvent → ObjectView → ObjectView
-acted act found history view = record {
-  setup = view.setup;
-  seat = view.seat;
+acted act found history view = record view {
   place = (outcome view.seat act view.place found).place;
   seen = history ++ events_of act found view;
   mine = view.mine ++ events_of act found view;

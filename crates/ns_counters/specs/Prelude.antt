@@ -11,7 +11,4 @@ pub use Rattle.ns_counters.specs.Rounds.{AnswersByRounds, HasShownNone, HasShown
 pub use Rattle.ns_counters.specs.Steps.{CanAct, Outcome, looked, outcome, tried, word_at, word_of_once}
 pub use Rattle.ns_counters.specs.Walks.{IsInBounds, by_answer, by_begun, by_deadline, by_judging, by_round, by_stage, has_run, object_after, object_got, object_place, object_want, waited_next}
 pub use Rattle.ns_counters.specs.Words.{counter_of, counter_word, stage, stage_of, stage_word}
-pub use Rattle.ns_counters.specs.Names.{AddExchange, AddLoad, Adding, AtCounter, AtNote, AtSomePoint, Began, BeginOnce, BeginsWith, Begun, ChainFits, Clock, CounterFault, CounterState, DoneLoad, EndOnce, Env, EnvEvent, EnvFound, EnvNext, EnvPlain, EnvState, Every, ExchangeToAdd, FirstClock}
-pub use Rattle.ns_counters.specs.Names.{ForIsNotified, Free, InRound, Is, IsBetween, IsLawfulEnv, IsLegalCounterEvent, IsLegalEnv, IsLegalFrom, IsLegalOnceEvent, IsSo, Item, Items, LoadToAdd, LookCounter, LookOnce, MarkWait, Meets, Note, NoteLoad, NoteStanding, NoteWord, Number, ObjectAct}
-pub use Rattle.ns_counters.specs.Names.{ObjectEvent, ObjectFound, ObjectNext, ObjectView, ObjectWalk, ObjectWant, OnCounter, OnCounterItem, OnEnv, OnNote, OnOnce, OnVariable, OnWord, OnceBegin, OnceEnd, OnceEvent, OnceLoad, OnceState, Place, Ran, Repeat, Round, RoundGo, RoundNext, RoundOver}
-pub use Rattle.ns_counters.specs.Names.{RoundPlace, Running, Setup, Stage, Unused, ValueLoad, WaitClock, WaitLoad, WaitMark, Word, but_at, clock_of, counter_next, env_after, env_got_of, is_done, is_due, is_in, is_ready, judged, most, once_next, standing_of, state_of}
+pub use Rattle.ns_counters.specs.Names.{AtSomePoint, EnvPlain, EnvState, IsLawfulEnv, NoteStanding, OnCounter, env_after, env_got_of, is_due, most, standing_of, state_of}

@@ -53,9 +53,8 @@ by_begun once stage = by_stage once stage
 
 -- whether the function has run
 abbrev pub has_run : Stage → Bool
-has_run TheStage.Unused = false
-has_run TheStage.Running = false
 has_run TheStage.Done = true
+has_run stage = false
 
 -- A wait for any answers what its round shows; if that is nothing, it waits for a new round.
 abbrev pub by_round : Round → RoundNext → ObjectNext

@@ -10,9 +10,7 @@ events_of act plain old = (outcome old.seat act plain).events
 
 -- what a caller knows once it has made a step where the clock and the notes stood so, after this history
 abbrev pub acted : EnvAct → EnvPlain → List EnvEvent → EnvView → EnvView
-acted act plain history view = record {
-  seat_count = view.seat_count;
-  seat = view.seat;
+acted act plain history view = record view {
   making = making_after act plain view.making;
   seen = history ++ events_of act plain view;
   mine = view.mine ++ events_of act plain view;

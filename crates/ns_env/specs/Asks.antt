@@ -40,14 +40,9 @@ pub record EnvStep (old : EnvState) (seat : ℕ) (found : EnvFound) (new : EnvSt
 
 -- how far a seat at this place has come in making a note
 abbrev pub making_of : EnvWalk → Making
-making_of (NextLoad parent deadline) = Nothing
 making_of (TakeNumber parent deadline) = Adding
 making_of (MakeNote note parent deadline) = Taken note
-making_of (Notifying note) = Nothing
-making_of (Advancing moment) = Nothing
-making_of (ClockLoad chain) = Nothing
-making_of (NoteLoad chain clock note) = Nothing
-making_of (ExpiryLoad asked note least) = Nothing
+making_of walk = Nothing
 
 -- the same of a seat that may be in no call
 abbrev pub making_at : Option EnvWalk → Making
@@ -88,13 +83,11 @@ fresh_asks seats = record { plain = fresh_plain; askings = replicate seats None 
 -- the first place of a call or of a look, each of whose notes is made
 abbrev pub IsFirstAsk : (ℕ → NoteStanding) → EnvWalk → Type 0
 IsFirstAsk notes (NextLoad parent deadline) = IfMade notes parent
-IsFirstAsk notes (TakeNumber parent deadline) = ⊥
-IsFirstAsk notes (MakeNote note parent deadline) = ⊥
 IsFirstAsk notes (Notifying note) = (notes note).made ≡ true
 IsFirstAsk notes (Advancing moment) = Unit {0}
 IsFirstAsk notes (ClockLoad chain) = IfMade notes (chain_note chain)
-IsFirstAsk notes (NoteLoad chain clock note) = ⊥
 IsFirstAsk notes (ExpiryLoad asked note least) = (note ≡ asked) × (least ≡ None) × ((notes asked).made ≡ true)
+IsFirstAsk notes walk = ⊥
 
 -- A seat that stands in no such call begins one: its place changes, and nothing else.
 pub record EnvBegins (old : EnvState) (seat : ℕ) (walk : EnvWalk) (new : EnvState) : Type 0 where

@@ -13,9 +13,8 @@ pub record Meets (history : List EnvEvent) (plain : EnvPlain) : Type 0 where
 
 -- 1 for who goes to take a number
 abbrev pub adds : Making → ℕ
-adds Nothing = 0
 adds Adding = 1
-adds (Taken note) = 0
+adds making = 0
 
 -- A number that a seat has taken is its own, and its note isn't made yet.
 abbrev pub MakingFits : EnvStanding → ℕ → Making → Type 0

@@ -41,10 +41,7 @@ abbrev pub making_after : EnvAct → EnvPlain → Making → Making
 making_after LoadNext plain making = if nat_lt plain.next 64 then Adding else Nothing
 making_after TakeNext plain making = if nat_lt plain.next 64 then TheMaking.Taken plain.next else Nothing
 making_after (StoreNote note parent deadline) plain making = Nothing
-making_after (NotifyNote note) plain making = making
-making_after (MoveClock moment) plain making = making
-making_after LoadClock plain making = making
-making_after (LoadNote note) plain making = making
+making_after act plain making = making
 
 -- Which step a caller may make that has come so far in making a note, by what has happened. Only who has seen a number left may take one, and only who has taken a number may make its note.
 abbrev pub CanAct : EnvStanding → Making → EnvAct → Type 0
