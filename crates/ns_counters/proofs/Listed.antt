@@ -82,18 +82,15 @@ some_among (OnCounter counter ∷ items) some = some_among items some
 -- ---- the place of a variable
 
 -- there it stands
-place_drops : (k : ℕ) (items : List Item) → is_among k items ≡ true → (more : List Item) × (drop (place_in k items) items ≡ OnVariable k ∷ more)
-place_drops k [] is = absurd (cc)
-place_drops k (item ∷ items) is = by (is_this k item) refl (λ some. place_drops k items some) is where
-  by : (b : Bool) → is_this k item ≡ b → (is_among k items ≡ true → (more : List Item) × (drop (place_in k items) items ≡ OnVariable k ∷ more)) → (b || is_among k items) ≡ true → (more : List Item) × (drop (cond b 0 (suc (place_in k items))) (item ∷ items) ≡ OnVariable k ∷ more)
-  by true this rest some = (items, ap (λ x. x ∷ items) (this_is k item this))
-  by false this rest some = rest some
+place_at : (k : ℕ) (items : List Item) → is_among k items ≡ true → slice_get items (place_in k items) ≡ Some (OnVariable k)
+place_at k [] is = absurd (cc)
+place_at k (item ∷ items) is = by_test (λ n. slice_get (item ∷ items) n ≡ Some (OnVariable k)) (is_this k item) (λ this. ap Some (this_is k item this)) (λ other. place_at k items (subst (λ b. (b || is_among k items) ≡ true) other is))
 
 -- and nowhere before
-before_place : (k : ℕ) (items : List Item) (i : ℕ) (more : List Item) → i < place_in k items → drop i items ≡ OnVariable k ∷ more → ⊥
-before_place k [] i more low is = absurd (omega (arith, low))
-before_place k (item ∷ items) i more low is = by (is_this k item) refl (λ j below there. before_place k items j more below there) i low is where
-  by : (b : Bool) → is_this k item ≡ b → ((j : ℕ) → j < place_in k items → drop j items ≡ OnVariable k ∷ more → ⊥) → (i : ℕ) → i < cond b 0 (suc (place_in k items)) → drop i (item ∷ items) ≡ OnVariable k ∷ more → ⊥
+before_place : (k : ℕ) (items : List Item) (i : ℕ) → i < place_in k items → slice_get items i ≡ Some (OnVariable k) → ⊥
+before_place k [] i low is = absurd (omega (arith, low))
+before_place k (item ∷ items) i low is = by (is_this k item) refl (λ j below there. before_place k items j below there) i low is where
+  by : (b : Bool) → is_this k item ≡ b → ((j : ℕ) → j < place_in k items → slice_get items j ≡ Some (OnVariable k) → ⊥) → (i : ℕ) → i < cond b 0 (suc (place_in k items)) → slice_get (item ∷ items) i ≡ Some (OnVariable k) → ⊥
   by true this rest i low is = absurd (omega (arith, low))
   by false this rest zero low is =
       let here : item ≡ OnVariable k = cc in
@@ -102,9 +99,7 @@ before_place k (item ∷ items) i more low is = by (is_this k item) refl (λ j b
 
 -- the place of a variable among objects is the first at which it stands
 pub first_place : (items : Items) (k : ℕ) → is_among k (items_of items) ≡ true → (item_at items (place_in k (items_of items)) ≡ Some (OnVariable k)) × ((i : ℕ) → i < place_in k (items_of items) → item_at items i ≡ Some (OnVariable k) → ⊥)
-first_place items k is =
-    let there = place_drops k (items_of items) is in
-    ((listed items (place_in k (items_of items)) (OnVariable k) there.0 there.1).0, λ i low at. before_place k (items_of items) i (drop (suc i) (items_of items)) low (left_at items i (OnVariable k) at))
+first_place items k is = (sym (got_within items.count (place_in k (items_of items)) items.all) ∙ place_at k (items_of items) is, λ i low at. before_place k (items_of items) i low (stands_at items i (OnVariable k) at))
 
 -- where none of them is a variable, no variable is among them
 pub none_among : (items : List Item) (k : ℕ) → list_any is_variable items ≡ false → is_among k items ≡ true → ⊥

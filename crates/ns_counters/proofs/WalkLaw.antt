@@ -70,22 +70,21 @@ module _ (setup : Setup) (now : ObjectStanding) (notes : ℕ → NoteStanding) (
   round_stands round (RoundOver None) there fits = (there, tt)
   round_stands round (RoundOver (Some at)) there fits = tt
 
--- where a step on a word leads, in what it leaves
-module _ (setup : Setup) (now : ObjectStanding) (notes : ℕ → NoteStanding) (seat word : ℕ) where
-  pub word_leads : (walk : ObjectWalk) (was : ObjectStanding) → WalkFits setup was notes seat walk → PlaceFits setup now seat (object_place (object_after (object_got walk (Word word)))) → NextFits setup now notes seat (object_got walk (Word word))
-  word_leads (AddLoad counter delta) was fits placed = judged_stands setup now notes seat counter delta word fits
-  word_leads (AddExchange counter delta seen value) was fits placed = either (Fits setup now notes seat) (eqb word (counter_word seen)) tt (judged_stands setup now notes seat counter delta word fits.0)
-  word_leads (WaitMark counter deadline) was fits placed = at_waited (Fits setup now notes seat) (λ _. tt) counter deadline (counter_of word).value (λ _. fits) (λ _ _. fits)
-  word_leads (WaitLoad counter deadline) was fits placed = at_waited (Fits setup now notes seat) (λ _. tt) counter deadline (counter_of word).value (λ _. fits) (λ _ _. fits)
-  word_leads (WaitClock counter moment value) was fits placed = fits
-  word_leads (OnceLoad once) was fits placed = at_stage (Fits setup now notes seat) (λ _. tt) once (stage_of word) fits fits
-  word_leads (OnceBegin once) was fits placed =
-      at_begun (λ next. PlaceFits setup now seat (object_place (object_after next)) → Fits setup now notes seat next) (λ _ _. tt) once (stage_of word) (λ p. p) (λ _. fits) placed
-  word_leads (InRound round FirstClock) was fits placed = (fits.0, tt)
-  word_leads (InRound round (AtNote at clock asked note)) was fits placed = (fits.0, fits.1)
-  word_leads (InRound round (AtCounter at clock counter)) was fits placed =
-      round_stands setup now notes seat round (round_got round (AtCounter at clock counter) (Word word)) fits.0 (either (RoundStands setup notes round) (eqb (counter_of word).value 0) tt (from_stands setup notes round clock (suc at) fits.0))
-  word_leads other was fits placed = tt
+  -- where a step on a word leads, in what it leaves
+  pub word_leads : (word : ℕ) (walk : ObjectWalk) (was : ObjectStanding) → WalkFits setup was notes seat walk → PlaceFits setup now seat (object_place (object_after (object_got walk (Word word)))) → Fits (object_got walk (Word word))
+  word_leads word (AddLoad counter delta) was fits placed = judged_stands counter delta word fits
+  word_leads word (AddExchange counter delta seen value) was fits placed = either Fits (eqb word (counter_word seen)) tt (judged_stands counter delta word fits.0)
+  word_leads word (WaitMark counter deadline) was fits placed = at_waited Fits (λ _. tt) counter deadline (counter_of word).value (λ _. fits) (λ _ _. fits)
+  word_leads word (WaitLoad counter deadline) was fits placed = at_waited Fits (λ _. tt) counter deadline (counter_of word).value (λ _. fits) (λ _ _. fits)
+  word_leads word (WaitClock counter moment value) was fits placed = fits
+  word_leads word (OnceLoad once) was fits placed = at_stage Fits (λ _. tt) once (stage_of word) fits fits
+  word_leads word (OnceBegin once) was fits placed =
+      at_begun (λ next. PlaceFits setup now seat (object_place (object_after next)) → Fits next) (λ _ _. tt) once (stage_of word) (λ p. p) (λ _. fits) placed
+  word_leads word (InRound round FirstClock) was fits placed = (fits.0, tt)
+  word_leads word (InRound round (AtNote at clock asked note)) was fits placed = (fits.0, fits.1)
+  word_leads word (InRound round (AtCounter at clock counter)) was fits placed =
+      round_stands round (round_got round (AtCounter at clock counter) (Word word)) fits.0 (either (RoundStands setup notes round) (eqb (counter_of word).value 0) tt (from_stands setup notes round clock (suc at) fits.0))
+  word_leads word other was fits placed = tt
 
 -- what a load finds
 pub note_found : (state : NoteWord) (note : NoteStanding) → Note state ≡ Note (state_of note) → standing_of state ≡ note
@@ -221,8 +220,8 @@ module _ (objects : ObjectState) (env : EnvPlain) (happened : List EnvEvent) (me
   abbrev view : ObjectView
   view = view_at setup history seat (Some walk)
 
-  view_fits : ViewFits setup history view
-  view_fits = record { made = refl; below = led.within seat walk walks; seen = begins_itself history; mine = refl; mine_seen = refl; place = placed_by setup standing env.notes seat walk fits }
+  knows : (other : ℕ) (w : ObjectWalk) → walk_in objects.walks other ≡ Some w → ViewFits setup history (view_at setup history other (Some w))
+  knows other w at = record { made = refl; below = led.within other w at; seen = begins_itself history; mine = refl; mine_seen = refl; place = placed_by setup standing env.notes other w (led.each other w at) }
 
   -- the objects after the step
   abbrev after : List ℕ → ObjectNext → ObjectState
@@ -249,26 +248,24 @@ module _ (objects : ObjectState) (env : EnvPlain) (happened : List EnvEvent) (me
     later = objects_after setup (history ++ made_by)
 
     placed : PlaceFits setup later seat (object_place (object_after next))
-    placed = subst (PlaceFits setup later seat) (sym (subst (Leads seat walk word) wants (leads seat walk word))) (acted_fits setup objects.words history led.lawful view view_fits act can).place
+    placed = subst (PlaceFits setup later seat) (sym (subst (Leads seat walk word) wants (leads seat walk word))) (acted_fits setup objects.words history led.lawful view (knows seat walk walks) act can).place
 
     goes : NextFits setup later env.notes seat next
     goes = word_leads setup later env.notes seat word walk standing fits placed
 
     others : (other : ℕ) (w : ObjectWalk) → other ≢ seat → walk_in objects.walks other ≡ Some w → WalkFits setup later env.notes other w
     others other w ne at =
-        let theirs = led.each other w at in
-        let knew : ViewFits setup history (view_at setup history other (Some w)) = record { made = refl; below = led.within other w at; seen = begins_itself history; mine = refl; mine_seen = refl; place = placed_by setup standing env.notes other w theirs } in
-        stays_put setup standing later env.notes other w theirs (others_fit setup objects.words history led.lawful view view_fits act can (view_at setup history other (Some w)) ne knew).place
+        stays_put setup standing later env.notes other w (led.each other w at) (others_fit setup objects.words history led.lawful view (knows seat walk walks) act can (view_at setup history other (Some w)) ne (knows other w at)).place
 
     word_keeps : IsLawfulObjects (history ++ made_by) (after (slice_set objects.words (word_at act) (outcome seat act view.place word).word) next) env.notes
     word_keeps = record {
-      lawful = acted_lawful setup objects.words history led.lawful view view_fits act can;
+      lawful = acted_lawful setup objects.words history led.lawful view (knows seat walk walks) act can;
       within = put_each (λ other w. other < setup.seats) objects.walks seat (object_after next) inside (IfSome_then (object_after next) goes (λ _ _. led.within seat walk walks)) (λ other w _ at. led.within other w at);
       each = put_each (WalkFits setup later env.notes) objects.walks seat (object_after next) inside goes others;
     }
 
     by_seat : Every (λ event. object_who event ≡ seat) made_by
-    by_seat = (step_keeps setup standing objects.words seat led.lawful.room led.lawful.words_are act view.place view_fits.place can).by
+    by_seat = (step_keeps setup standing objects.words seat led.lawful.room led.lawful.words_are act view.place (knows seat walk walks).place can).by
 
   -- a load of the clock or of a note
   env_keeps : (found : EnvFound) → NextFits setup standing env.notes seat (object_got walk (Env found)) → IsLawfulObjects (history ++ []) (after objects.words (object_got walk (Env found))) env.notes

@@ -1,14 +1,14 @@
 -- A step of one seat keeps the law of a clock and notes that stand as plain data, with the places of seats in their calls.
-use Rattle.std.proofs.Common.{◌≡◌, ◌≢◌, ℕ, zero, suc, ◌+◌, ◌<◌, ◌≤◌, nat_lt, Bool, true, false, cond, List, [], ◌∷◌, ◌++◌, length, Option, None, Some, IfSome, slice_get, slice_set, refl, inl, inr, sym, ap, ◌∙◌, subst, arith}
+use Rattle.std.proofs.Common.{◌≡◌, ◌≢◌, ℕ, zero, suc, ◌+◌, ◌<◌, ◌≤◌, nat_lt, List, [], ◌∷◌, ◌++◌, length, Option, None, Some, IfSome, slice_get, slice_set, refl, inl, inr, sym, ap, ◌∙◌, subst, arith}
 use Rattle.std.proofs.lemmas.Bool.{cases_eq}
 use Rattle.std.proofs.lemmas.List.{length-set}
 use Rattle.std.proofs.lemmas.Option.{slice_get_within}
-use Rattle.ns_env.specs.Prelude.{Advancing, AskFits, BeginsWith, CanAct, Chain, ClockLoad, EnvEvent, EnvFound, EnvNext, EnvPlain, EnvState, EnvStep, EnvWalk, ExpiryLoad, Go, IfMade, IsLawful, IsLawfulEnv, IsLegalEnv, IsMade, MakeNote, Making, MakingFits, Meets, NextLoad, NoteLoad, NoteStanding}
-use Rattle.ns_env.specs.Prelude.{NotesFull, Nothing, Notifying, Over, ParentFits, TakeNumber, adders, adds, chain_note, earlier, env_after, env_got_of, env_walk_after, env_want_of, expiry_of, is_over, lowered_to, making_after, making_at, making_of, outcome, up_to}
+use Rattle.ns_env.specs.Prelude.{Advancing, AskFits, BeginsWith, CanAct, Chain, ClockLoad, EnvEvent, EnvFound, EnvNext, EnvPlain, EnvState, EnvStep, EnvWalk, ExpiryLoad, IfMade, IsLawful, IsLawfulEnv, IsLegalEnv, IsMade, MakeNote, Making, MakingFits, Meets, NextLoad, NoteLoad, NoteStanding, Nothing}
+use Rattle.ns_env.specs.Prelude.{Notifying, ParentFits, TakeNumber, adders, adds, chain_note, earlier, env_after, env_got_of, env_walk_after, env_want_of, expiry_of, is_over, lowered_to, making_after, making_at, making_of, outcome, up_to}
 use Rattle.ns_model.proofs.Beginnings.{begins_itself}
 use Rattle.ns_model.proofs.Environments.{sound_after, grown_begins, made_begins, expiry_begins}
 use Rattle.ns_model.proofs.Lines.{IsExpiryAt, expiry_goes_on}
-use Rattle.ns_env.proofs.Ways.{at_next, at_stop, either}
+use Rattle.ns_env.proofs.Ways.{at_next, at_stop, both, either}
 use Rattle.ns_env.proofs.Keeps.{StepKeeps, outcome_by, step_keeps, others_make, adds_most}
 
 -- ---- a list of places, one of them set
@@ -78,10 +78,6 @@ can_ask h other fits = refl
 abbrev making_next : EnvNext → Making
 making_next next = making_at (env_walk_after next)
 
-by_two : (b : Bool) (x y : EnvNext) → making_next (cond b x y) ≡ cond b (making_next x) (making_next y)
-by_two true x y = refl
-by_two false x y = refl
-
 abbrev MakesNone : EnvNext → Type 0
 MakesNone next = making_next next ≡ Nothing
 
@@ -94,8 +90,8 @@ lowered_makes asked (Some note) least = refl
 
 -- a step takes its walk to where its seat has come as far as the step brings it
 goes_making : (seat : ℕ) (plain : EnvPlain) (walk : EnvWalk) → making_next (env_got_of walk (outcome seat (env_want_of walk) plain).found) ≡ making_after (env_want_of walk) plain (making_of walk)
-goes_making seat plain (NextLoad parent deadline) = by_two (nat_lt plain.next 64) (Go (TakeNumber parent deadline)) (Over NotesFull)
-goes_making seat plain (TakeNumber parent deadline) = by_two (nat_lt plain.next 64) (Go (MakeNote plain.next parent deadline)) (Over NotesFull)
+goes_making seat plain (NextLoad parent deadline) = both (λ next making. making_next next ≡ making) (nat_lt plain.next 64) refl refl
+goes_making seat plain (TakeNumber parent deadline) = both (λ next making. making_next next ≡ making) (nat_lt plain.next 64) refl refl
 goes_making seat plain (ClockLoad chain) = up_makes chain plain.clock (chain_note chain)
 goes_making seat plain (NoteLoad chain clock at) = either MakesNone (is_over clock (plain.notes at)) (at_stop MakesNone (λ _. refl) (λ _. refl) chain) (up_makes chain clock (plain.notes at).parent)
 goes_making seat plain (ExpiryLoad asked at least) = lowered_makes asked (plain.notes at).parent (earlier least (plain.notes at).deadline)

@@ -4,6 +4,7 @@ use Rattle.std.proofs.lemmas.Bool.Decides.{nat_tests}
 use Rattle.ns_env.specs.Prelude.{Adding, Advance, CanAct, Clock, EnvAct, EnvEvent, EnvFound, EnvPlain, EnvStanding, Every, IsLawful, IsLegalEnv, IsLegalEnvEvent, IsLegalEnvFrom, LoadClock, LoadNext, LoadNote, Making, MakingFits, Meets, MoveClock, New, NextNumber, Note, NoteStanding, Nothing, Notify}
 use Rattle.ns_env.specs.Prelude.{NotifyNote, Outcome, StoreNote, Stored, Take, TakeNext, Taken, adds, but_at, env_after, env_from, env_next, env_who, first_env, loaded, made_note, making_after, notified_note, outcome, state_of, takes_in}
 use Rattle.ns_model.proofs.Environments.{env_from-append, legal_env_append, by_seats_append, but_cases, but-here, but-there, IsSound, sound_from, sound_after}
+use Rattle.ns_env.proofs.Ways.{by_test, either}
 use Rattle.ns_env.specs.declared.view.Making.TheVariants as TheMaking
 
 pub adds_most : (making : Making) → adds making ≤ 1
@@ -54,10 +55,7 @@ others_make h events who seat making legal more apart by fits =
 
 -- what has happened by it is its caller's
 pub outcome_by : (seat : ℕ) (act : EnvAct) (plain : EnvPlain) → Every (λ e. env_who e ≡ seat) (outcome seat act plain).events
-outcome_by seat TakeNext plain = taken (nat_lt plain.next 64) where
-  taken : (b : Bool) → Every (λ e. env_who e ≡ seat) (cond b (Take seat plain.next ∷ []) [])
-  taken true = (refl, tt)
-  taken false = tt
+outcome_by seat TakeNext plain = either (Every (λ e. env_who e ≡ seat)) (nat_lt plain.next 64) (refl, tt) tt
 outcome_by seat (StoreNote note parent deadline) plain = (refl, tt)
 outcome_by seat (NotifyNote note) plain = (refl, tt)
 outcome_by seat (MoveClock moment) plain = (refl, tt)
@@ -97,11 +95,6 @@ module _ (seats others seat : ℕ) (plain : EnvPlain) (making : Making) (h : Lis
     more = (legal, tt);
   }
 
-  -- the next number is loaded, which is below 64 or not
-  next_loaded : (b : Bool) → nat_lt plain.next 64 ≡ b → StepKeeps seats others seat h (loaded (NextNumber plain.next) plain) (cond b Adding Nothing)
-  next_loaded true lt = let below : plain.next < 64 = grind (arith, nat_tests) in rests (NextNumber plain.next) plain Adding law.meets tt (omega (arith, below, few))
-  next_loaded false lt = let room = law.room in rests (NextNumber plain.next) plain Nothing law.meets tt (omega (arith, room))
-
   -- a number is taken, which is one of 64 or not
   taken : making ≡ Adding → (b : Bool) → nat_lt plain.next 64 ≡ b → StepKeeps seats others seat h (record { found = Taken plain.next; plain = record plain { next = plain.next + 1 }; events = cond b (Take seat plain.next ∷ []) [] }) (cond b (TheMaking.Taken plain.next) Nothing)
   taken goes true lt =
@@ -118,7 +111,9 @@ module _ (seats others seat : ℕ) (plain : EnvPlain) (making : Making) (h : Lis
 
   -- A step that its caller may make keeps the law.
   pub step_keeps : (act : EnvAct) → CanAct (env_after h) making act → StepKeeps seats others seat h (outcome seat act plain) (making_after act plain making)
-  step_keeps LoadNext can = next_loaded (nat_lt plain.next 64) refl
+  step_keeps LoadNext can = by_test (StepKeeps seats others seat h (loaded (NextNumber plain.next) plain)) (nat_lt plain.next 64)
+      (λ lt. let below : plain.next < 64 = grind (arith, nat_tests) in rests (NextNumber plain.next) plain Adding law.meets tt (omega (arith, below, few)))
+      (λ _. let room = law.room in rests (NextNumber plain.next) plain Nothing law.meets tt (omega (arith, room)))
   step_keeps TakeNext can = taken can (nat_lt plain.next 64) refl
   step_keeps (StoreNote note parent deadline) can =
       let mine = subst (MakingFits (env_after h) seat) can.0 fits in let room = law.room in

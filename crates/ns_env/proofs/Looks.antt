@@ -5,7 +5,7 @@ use Rattle.ns_env.specs.Prelude.{stopped, up_by, up_to}
 use Rattle.ns_env.proofs.Ways.{at_end, at_stop}
 use Rattle.ns_model.proofs.Beginnings.{begins_itself}
 use Rattle.ns_model.proofs.Lines.{IsExpiryAt, expiry_goes_on}
-use Rattle.ns_model.proofs.Environments.{sound_after, notified_in-up, notified_in-root}
+use Rattle.ns_model.proofs.Environments.{sound_after, notified_in-next}
 
 -- ---- in one go
 
@@ -31,11 +31,11 @@ module _ (h : List EnvEvent) (plain : EnvPlain) (m : Meets h plain) where
       up_by (looked most plain chain) (cond (is_over plain.clock (plain.notes note)) (stopped chain) (up_to chain plain.clock parent)) ≡ cond (notified_in (env_after h) note) (stopped chain) (passed chain plain.clock)
   go_from most chain note None rest up =
       one_note (looked most plain chain) chain plain.clock (is_over plain.clock (plain.notes note)) false (notified_in (env_after h) note) None
-      (notified_in-root (env_after h) note (ap (λ (s : NoteStanding). s.parent) (sym (note_is note)) ∙ up) ∙ ap (λ b. b || false) (sym (over_is note)))
+      (notified_in-next (env_after h) note None (sound_after h m.legal) (ap (λ (s : NoteStanding). s.parent) (sym (note_is note)) ∙ up) ∙ ap (λ b. b || false) (sym (over_is note)))
       (at_end (IsLeft (looked most plain chain)) (λ _. refl) (λ _. refl) chain plain.clock refl)
   go_from most chain note (Some p) rest up =
       one_note (looked most plain chain) chain plain.clock (is_over plain.clock (plain.notes note)) (notified_in (env_after h) p) (notified_in (env_after h) note) (Some p)
-      (notified_in-up (env_after h) note p (sound_after h m.legal) (ap (λ (s : NoteStanding). s.parent) (sym (note_is note)) ∙ up) ∙ ap (λ b. b || notified_in (env_after h) p) (sym (over_is note)))
+      (notified_in-next (env_after h) note (Some p) (sound_after h m.legal) (ap (λ (s : NoteStanding). s.parent) (sym (note_is note)) ∙ up) ∙ ap (λ b. b || notified_in (env_after h) p) (sym (over_is note)))
       (rest p refl)
 
   in_one_go : (most : ℕ) (chain : Chain) (note : ℕ) → note < most → looked most plain chain note ≡ cond (notified_in (env_after h) note) (stopped chain) (passed chain plain.clock)

@@ -150,23 +150,17 @@ line_enough notes above zero j n h i = absurd (omega arith)
 line_enough notes above (suc k) zero n h i = absurd (omega arith)
 line_enough notes above (suc k) (suc j) n h i = ap (λ (r : List ℕ). n ∷ r) (by_parent (λ l m. l ≡ m) (line k notes) (line j notes) (notes n).parent refl (λ p e. let lt = above n p e in line_enough notes above k j p (omega arith) (omega arith)))
 
-line-up : (now : EnvStanding) (n p : ℕ) → IsSound now → (now.notes n).parent ≡ Some p → line_of now n ≡ n ∷ line_of now p
-line-up now n p s e = let lt = (s.above n p e).0 in ap (λ (o : Option ℕ). n ∷ from_parent (line n now.notes) o) e ∙ ap (λ (r : List ℕ). n ∷ r) (line_enough now.notes (λ m q is. (s.above m q is).0) n (suc p) p lt (omega arith))
+-- it goes on as the line of its parent, if it has one
+line-next : (now : EnvStanding) (n : ℕ) (parent : Option ℕ) → IsSound now → (now.notes n).parent ≡ parent → line_of now n ≡ n ∷ from_parent (line_of now) parent
+line-next now n parent s e = ap (λ (r : List ℕ). n ∷ r) (by_parent (λ l m. l ≡ m) (line n now.notes) (line_of now) (now.notes n).parent refl
+    (λ p is. let lt = (s.above n p is).0 in line_enough now.notes (λ m q up. (s.above m q up).0) n (suc p) p lt (omega arith)) ∙ ap (from_parent (line_of now)) e)
 
-line-root : (now : EnvStanding) (n : ℕ) → (now.notes n).parent ≡ None → line_of now n ≡ n ∷ []
-line-root now n e = ap (λ (o : Option ℕ). n ∷ from_parent (line n now.notes) o) e
+-- so it is notified if it is over or its parent is, and its expiry is the earlier of its own deadline and that of its parent
+pub notified_in-next : (now : EnvStanding) (n : ℕ) (parent : Option ℕ) → IsSound now → (now.notes n).parent ≡ parent → notified_in now n ≡ (is_over now.clock (now.notes n) || list_any (λ m. is_over now.clock (now.notes m)) (from_parent (line_of now) parent))
+notified_in-next now n parent s e = ap (λ (l : List ℕ). list_any (λ m. is_over now.clock (now.notes m)) l) (line-next now n parent s e)
 
-pub notified_in-up : (now : EnvStanding) (n p : ℕ) → IsSound now → (now.notes n).parent ≡ Some p → notified_in now n ≡ (is_over now.clock (now.notes n) || notified_in now p)
-notified_in-up now n p s e = ap (λ (l : List ℕ). list_any (λ m. is_over now.clock (now.notes m)) l) (line-up now n p s e)
-
-pub notified_in-root : (now : EnvStanding) (n : ℕ) → (now.notes n).parent ≡ None → notified_in now n ≡ (is_over now.clock (now.notes n) || false)
-notified_in-root now n e = ap (λ (l : List ℕ). list_any (λ m. is_over now.clock (now.notes m)) l) (line-root now n e)
-
-pub expiry_in-up : (now : EnvStanding) (n p : ℕ) → IsSound now → (now.notes n).parent ≡ Some p → expiry_in now n ≡ earlier (now.notes n).deadline (expiry_in now p)
-expiry_in-up now n p s e = ap (earliest now.notes) (line-up now n p s e)
-
-pub expiry_in-root : (now : EnvStanding) (n : ℕ) → (now.notes n).parent ≡ None → expiry_in now n ≡ earlier (now.notes n).deadline None
-expiry_in-root now n e = ap (earliest now.notes) (line-root now n e)
+pub expiry_in-next : (now : EnvStanding) (n : ℕ) (parent : Option ℕ) → IsSound now → (now.notes n).parent ≡ parent → expiry_in now n ≡ earlier (now.notes n).deadline (earliest now.notes (from_parent (line_of now) parent))
+expiry_in-next now n parent s e = ap (earliest now.notes) (line-next now n parent s e)
 
 pub earlier-none : (a : Option ℕ) → earlier a None ≡ a
 earlier-none None = refl

@@ -1,7 +1,7 @@
 -- A walk from a note up to its root, while the history grows.
 use Rattle.std.proofs.Common.{Bool, List, None, Option, Some, ap, arith, false, refl, subst, suc, sym, true, true≢false, ℕ, ◌<◌, ◌||◌, ◌∙◌, ◌≡◌}
-use Rattle.ns_model.proofs.Prelude.{BeginsWith, EnvEvent, EnvStanding, IsLeftAt, IsLegalEnv, IsMade, IsNotified, clock_of, earlier, env_after, expiry_in, expiry_of, is_notified, is_over, notified_in, or_left, or_right}
-use Rattle.ns_model.proofs.Environments.{IsSound, sound_after, grown_begins, legal_begins, over_grown, notified_in-up, notified_in-root, expiry_in-up, expiry_in-root, earlier-none, earlier_assoc}
+use Rattle.ns_model.proofs.Prelude.{BeginsWith, EnvEvent, IsLeftAt, IsLegalEnv, IsMade, IsNotified, clock_of, earlier, env_after, expiry_in, expiry_of, is_notified, is_over, notified_in, or_left, or_right}
+use Rattle.ns_model.proofs.Environments.{sound_after, grown_begins, legal_begins, over_grown, notified_in-next, expiry_in-next, earlier-none, earlier_assoc}
 
 pub line_starts : (seen : List EnvEvent) (note : ℕ) → IsMade seen note → IsLeftAt seen note (Some note)
 line_starts seen note made = (made, (λ e. e), (λ h l b e. e))
@@ -11,13 +11,9 @@ abbrev pub height : Option ℕ → ℕ
 height None = 0
 height (Some place) = suc place
 
-notified_up : (now : EnvStanding) (n : ℕ) (o : Option ℕ) → IsSound now → (now.notes n).parent ≡ o → is_over now.clock (now.notes n) ≡ true → notified_in now n ≡ true
-notified_up now n None s e over = notified_in-root now n e ∙ or_left (is_over now.clock (now.notes n)) false over
-notified_up now n (Some p) s e over = notified_in-up now n p s e ∙ or_left (is_over now.clock (now.notes n)) (notified_in now p) over
-
 over_is_notified : (h : List EnvEvent) (n : ℕ) → IsLegalEnv h → is_over (clock_of h) ((env_after h).notes n) ≡ true → IsNotified h n
 unfolding is_notified
-over_is_notified h n l over = notified_up (env_after h) n ((env_after h).notes n).parent (sound_after h l) refl over
+over_is_notified h n l over = notified_in-next (env_after h) n ((env_after h).notes n).parent (sound_after h l) refl ∙ or_left (is_over (clock_of h) ((env_after h).notes n)) _ over
 
 false_of : (b : Bool) → (b ≡ true → ⊥) → b ≡ false
 false_of true h = absurd (h refl)
@@ -36,15 +32,15 @@ module _ (seen now : List EnvEvent) (legal : IsLegalEnv now) (begins : BeginsWit
   parent_notified : (place p : ℕ) → IsMade seen place → ((env_after seen).notes place).parent ≡ Some p → (h : List EnvEvent) → IsLegalEnv h → BeginsWith h seen → IsNotified h p → IsNotified h place
   unfolding is_notified
   parent_notified place p made is h l b e = let parent = ((grown_begins h seen l b).note place made).parent in
-      notified_in-up (env_after h) place p (sound_after h l) (parent ∙ is) ∙ or_right (is_over (clock_of h) ((env_after h).notes place)) (notified_in (env_after h) p) e
+      notified_in-next (env_after h) place (Some p) (sound_after h l) (parent ∙ is) ∙ or_right (is_over (clock_of h) ((env_after h).notes place)) (notified_in (env_after h) p) e
 
   unnotified_root : (place : ℕ) → ((env_after seen).notes place).parent ≡ None → is_over (clock_of seen) ((env_after seen).notes place) ≡ false → is_notified seen place ≡ false
   unfolding is_notified
-  unnotified_root place is e = notified_in-root (env_after seen) place is ∙ ap (λ (b : Bool). b || false) e
+  unnotified_root place is e = notified_in-next (env_after seen) place None (sound_after seen (legal_begins now seen legal begins)) is ∙ ap (λ (b : Bool). b || false) e
 
   unnotified_up : (place p : ℕ) → ((env_after seen).notes place).parent ≡ Some p → is_over (clock_of seen) ((env_after seen).notes place) ≡ false → is_notified seen p ≡ false → is_notified seen place ≡ false
   unfolding is_notified
-  unnotified_up place p is e f = let l = legal_begins now seen legal begins in notified_in-up (env_after seen) place p (sound_after seen l) is ∙ (λ i. e i || f i)
+  unnotified_up place p is e f = let l = legal_begins now seen legal begins in notified_in-next (env_after seen) place (Some p) (sound_after seen l) is ∙ (λ i. e i || f i)
 
   line_goes_to : (note place : ℕ) (o : Option ℕ) → ((env_after seen).notes place).parent ≡ o → IsLeftAt seen note (Some place) → is_over (clock_of seen) ((env_after seen).notes place) ≡ false → IsLeftAt seen note o
   line_goes_to note place None is at e = at.1 (unnotified_root place is e)
@@ -85,10 +81,10 @@ expiry_starts seen note made = (made, refl)
 
 expiry_goes_to : (seen : List EnvEvent) (note place : ℕ) (earliest o : Option ℕ) → IsLegalEnv seen → ((env_after seen).notes place).parent ≡ o → IsExpiryAt seen note earliest (Some place) → IsExpiryAt seen note (earlier earliest ((env_after seen).notes place).deadline) o
 unfolding expiry_of
-expiry_goes_to seen note place earliest None l is at = at.1 ∙ ap (earlier earliest) (expiry_in-root (env_after seen) place is ∙ earlier-none ((env_after seen).notes place).deadline)
+expiry_goes_to seen note place earliest None l is at = at.1 ∙ ap (earlier earliest) (expiry_in-next (env_after seen) place None (sound_after seen l) is ∙ earlier-none ((env_after seen).notes place).deadline)
 expiry_goes_to seen note place earliest (Some p) l is at = (
   ((sound_after seen l).above place p is).1,
-  at.1 ∙ (ap (earlier earliest) (expiry_in-up (env_after seen) place p (sound_after seen l) is) ∙ sym (earlier_assoc earliest ((env_after seen).notes place).deadline (expiry_in (env_after seen) p))),
+  at.1 ∙ (ap (earlier earliest) (expiry_in-next (env_after seen) place (Some p) (sound_after seen l) is) ∙ sym (earlier_assoc earliest ((env_after seen).notes place).deadline (expiry_in (env_after seen) p))),
 )
 
 pub expiry_goes_on : (seen now : List EnvEvent) (note place : ℕ) (earliest : Option ℕ) → IsLegalEnv now → BeginsWith now seen → IsExpiryAt seen note earliest (Some place) → IsExpiryAt seen note (earlier earliest ((env_after now).notes place).deadline) ((env_after now).notes place).parent
