@@ -50,7 +50,7 @@ module _ (h : List EnvEvent) (plain : EnvPlain) (m : Meets h plain) where
 
 -- ---- the next note of a chain
 
--- that it is over isn't this place
+-- a way to go that isn't to this place
 abbrev IsNot : EnvNext → EnvNext → Type 0
 IsNot place next = next ≡ place → ⊥
 

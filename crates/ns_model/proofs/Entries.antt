@@ -1,6 +1,6 @@
--- Which entries fit no phase but that of their wait, and what the tests of modes and answers tell.
-use Rattle.std.proofs.Common.{Bool, List, refl, true, ℕ, ◌≡◌}
-use Rattle.ns_model.proofs.Prelude.{AfterCv, Answer, Cond, EntryFits, Idle, Left, Met, Mode, Phase, Plain, Read, Variables, Waited, Woken, Write, answers, is_met, modes, sameb}
+-- Which entries fit no phase but that of their wait.
+use Rattle.std.proofs.Common.{Bool, List, refl, ℕ, ◌≡◌}
+use Rattle.ns_model.proofs.Prelude.{AfterCv, Answer, Cond, EntryFits, Idle, Left, Mode, Phase, Plain, Variables, Waited, Woken}
 
 -- a plain entry fits one that waits for nothing
 pub plain_at_rest : {C : Type 0} (holds : C → List ℕ → Bool) (before : List ℕ) (mode : Mode) (phase : Phase C) → (phase ≡ Idle → ⊥) → EntryFits holds before mode Plain phase → ⊥
@@ -18,19 +18,3 @@ pub after_cv_at_end : {C : Type 0} (holds : C → List ℕ → Bool) (before : L
 after_cv_at_end holds before mode k answer (Woken j m) unwoken stayed fits = unwoken j m refl
 after_cv_at_end holds before mode k answer (Left variables m) unwoken stayed fits = stayed variables m refl
 after_cv_at_end holds before mode k answer phase unwoken stayed fits = fits
-
--- the test of two modes
-pub mode_same : (m n : Mode) → sameb modes m n ≡ true → m ≡ n
-mode_same Write Write e = refl
-mode_same Read Read e = refl
-mode_same m n e = absurd cc
-
-pub mode_told : (m n : Mode) → m ≡ n → sameb modes m n ≡ true
-mode_told Write Write e = refl
-mode_told Read Read e = refl
-mode_told m n e = absurd cc
-
--- the test for Met
-pub met_told : (answer : Answer) → sameb answers answer Met ≡ is_met answer
-met_told Met = refl
-met_told other = refl

@@ -14,11 +14,9 @@ pub use Rattle.ns_model.specs.Phases.{count_seats}
 unfoldable pub use Rattle.ns_model.specs.Phases.{count_below}
 pub use Rattle.ns_model.specs.Room.{HasRoom, room, small_by}
 pub use Rattle.ns_model.specs.Seats.{is_in, seats_in}
-pub use Rattle.ns_model.specs.Sections.{EntryFits, is_met}
+pub use Rattle.ns_model.specs.Sections.{EntryFits}
 pub use Rattle.ns_model.specs.Tallies.{Every, one_if, total}
-pub use Rattle.ns_model.specs.contracts.event.Answer.{the_type as answers}
 pub use Rattle.ns_model.specs.contracts.event.Event.{the_row as event_row}
-pub use Rattle.ns_model.specs.contracts.event.Mode.{the_type as modes}
 pub use Rattle.ns_model.specs.declared.counter.CounterEvent.{CounterEvent}
 pub use Rattle.ns_model.specs.declared.counter.CounterEvent.TheVariants.{Add, Begun}
 pub use Rattle.ns_model.specs.declared.counter.CounterFault.{CounterFault}
@@ -28,11 +26,9 @@ pub use Rattle.ns_model.specs.declared.cvs.Variables.{Variables}
 pub use Rattle.ns_model.specs.declared.environment.EnvEvent.{EnvEvent}
 pub use Rattle.ns_model.specs.declared.environment.EnvEvent.TheVariants.{Advance, New, Notify, Take}
 pub use Rattle.ns_model.specs.declared.event.Answer.{Answer}
-pub use Rattle.ns_model.specs.declared.event.Answer.TheVariants.{Met}
 pub use Rattle.ns_model.specs.declared.event.Entry.TheVariants.{AfterCv, Plain, Waited}
 pub use Rattle.ns_model.specs.declared.event.Event.{Event}
 pub use Rattle.ns_model.specs.declared.event.Mode.{Mode}
-pub use Rattle.ns_model.specs.declared.event.Mode.TheVariants.{Read, Write}
 pub use Rattle.ns_model.specs.declared.once.OnceEvent.{OnceEvent}
 pub use Rattle.ns_model.specs.declared.once.OnceEvent.TheVariants.{Began, Ran}
 pub use Rattle.ns_model.specs.declared.once.OnceState.{OnceState}
@@ -49,11 +45,9 @@ pub use Rattle.std.proofs.lemmas.List.{take_more}
 pub use Rattle.std.proofs.lemmas.List.Elements.{filter-append}
 pub use Rattle.std.proofs.lemmas.List.Sums.{fold_more}
 pub use Rattle.std.proofs.lemmas.Nat.Bits.{bit_at-lt, bit_at-pow_other, bit_at-pow_same, bit_at-zero, bit_at_or, bit_at_set_other, bit_at_set_same, same_from_bits}
-pub use Rattle.std.specs.Cmp.{booleans_Decides}
 pub use Rattle.std.specs.Int.{Width, bit_at}
 pub use Rattle.std.specs.List.{list_any}
 pub use Rattle.std.specs.Mem.{FitsInMemory}
-pub use denote.Enum.Bare.{sameb}
 pub use denote.Param.{copied, layout, number, param}
 pub use denote.RattleType.{RattleType}
 pub use lib.ListN.{get_elem?}
