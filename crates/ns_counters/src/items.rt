@@ -52,6 +52,7 @@ fn has_variable(items: &[Item]) -> bool
 }
 
 /// The condition variables among the items. Needs variables below 4.
+#[tactic(auto, using(crate::proofs::Listed::low_at))]
 pub fn variables_in<T: AsItem>(items: &[T]) -> Cvs
     requires { Every IsLow (map T.item items.now) }
     ensures among { AreAmong result (map T.item items.now) }

@@ -85,6 +85,7 @@ impl Round {
     }
 
     /// Where the round goes to look at the first note or counter from this place on, or at the end.
+    #[tactic(auto, using(crate::proofs::Listed::left_at))]
     fn from_place(&self, clock: u64, at: u8) -> RoundNext
         ensures { result ≡ from_place self.now clock at }
     {

@@ -1,15 +1,8 @@
 use Rattle.std.proofs.Common.{None, Some, ap, arith, suc, sym, ℕ, ◌+◌, ◌∙◌, ◌≡◌}
-use Rattle.ns_counters.proofs.Prelude.{OnCounter, OnNote, OnVariable, Round, from_items, from_place, item_at}
+use Rattle.ns_counters.proofs.Prelude.{OnVariable, Round, from_items, from_place, item_at}
 use Rattle.ns_counters.proofs.Listed.{left_at, none_behind_it, none_left}
 use Rattle.ns_counters.proofs.round.Round.from_place.Goals.{in-None, in-Some-OnVariable}
 use Rattle.ns_counters.proofs.round.Round.from_place.Goals as goal
-
-pub returns-in-Some-OnNote : goal.returns-in-Some-OnNote
-returns-in-Some-OnNote c = sym (ap (from_items c.args.self.now c.args.clock c.loop-place.place) (left_at c.args.self.now.items c.loop-place.place (OnNote c.in-Some-OnNote.note) (sym c.get.ensures ∙ c.in-Some-OnNote.is ∙ ap Some c.in-Some-OnNote.field-0-is))) ∙ c.loop-place.invariant
-
-pub returns-in-Some-OnCounter : goal.returns-in-Some-OnCounter
-returns-in-Some-OnCounter c = sym (ap (from_items c.args.self.now c.args.clock c.loop-place.place) (left_at c.args.self.now.items c.loop-place.place (OnCounter c.in-Some-OnCounter.counter)
-    (sym c.get.ensures ∙ c.in-Some-OnCounter.is ∙ ap Some c.in-Some-OnCounter.field-0-is))) ∙ c.loop-place.invariant
 
 -- a variable leads on to the next place
 past_variable : (round : Round) (clock at k : ℕ) → item_at round.items at ≡ Some (OnVariable k) → from_place round clock (at + 1) ≡ from_place round clock at
