@@ -1,9 +1,9 @@
 -- What a wait answers is what its section is committed with.
-use Rattle.std.proofs.Common.{Bool, List, None, Option, Some, ap, cond, false, not, refl, subst, sym, true, ℕ, ◌∙◌, ◌≡◌, ◌≢◌}
-use Rattle.ns_word.proofs.Prelude.{AcquireExchange, AcquirePlace, Answer, Answered, Any, CameBack, CanWait, Cause, ComesBack, Done, Effect, Ended, Event, Expired, ForWait, Found, Held, InAcquire, InQueuing, InWait, IsForCondition, IsLawful, IsSaidBy, IsUnmet, JudgeMet, Load, LockState, LookIn}
-use Rattle.ns_word.proofs.Prelude.{Looked, Made, MayWait, Met, Notified, On, OnCondition, OnEntry, OnReturn, OnVariables, Only, Outcome, Part, Reply, SeatView, Step, Subject, TestLast, Tested, Tests, Truths, Variables, Visit, Wait, WaitFits, WaitPlace, Waited, Walk, Woken, answer_of, back_with}
-use Rattle.ns_word.proofs.Prelude.{both_ways, comes_back, entry_for, entry_of, got_acquiring, got_of, got_waiting, has_come_back, held_after, is_limited, is_met, judge_of, look_or_queue, newly_held, not-false, opening_by, part_of, place_has_come_back, reply_for, unmet_by, want_acquiring, want_of}
-use Rattle.ns_word.proofs.Prelude.{want_waiting}
+use Rattle.std.proofs.Common.{◌≡◌, ◌≢◌}
+use Rattle.ns_word.proofs.Prelude.{AcquireExchange, AcquirePlace, Answer, Answered, Any, Bool, CameBack, CanWait, Cause, ComesBack, Done, Effect, Ended, Event, Expired, ForWait, Found, Held, InAcquire, InQueuing, InWait, IsForCondition, IsLawful, IsSaidBy, IsUnmet, JudgeMet, List, Load, LockState}
+use Rattle.ns_word.proofs.Prelude.{LookIn, Looked, Made, MayWait, Met, None, Notified, On, OnCondition, OnEntry, OnReturn, OnVariables, Only, Option, Outcome, Part, Reply, SeatView, Some, Step, Subject, TestLast, Tested, Tests, Truths, Variables, Visit, Wait, WaitFits, WaitPlace, Waited, Walk}
+use Rattle.ns_word.proofs.Prelude.{Woken, answer_of, ap, back_with, both_ways, comes_back, cond, entry_for, entry_of, false, got_acquiring, got_of, got_waiting, has_come_back, held_after, is_limited, is_met, judge_of, look_or_queue, newly_held, not, not-false, opening_by, part_of}
+use Rattle.ns_word.proofs.Prelude.{place_has_come_back, refl, reply_for, subst, sym, true, unmet_by, want_acquiring, want_of, want_waiting, ℕ, ◌∙◌}
 use Rattle.ns_word.proofs.Follows.{Follows, follows, may_end}
 use Rattle.ns_word.proofs.Effects.{BeganSo, makes}
 use Rattle.ns_word.proofs.Looks.{looks_by}
@@ -22,13 +22,13 @@ looks_on wait again reply is = go (is_limited wait.limits) is where
 -- ---- what it answers, and what is left of the section
 
 -- a wait that was ended early wasn't met
-pub unmet_cause : (cause : Cause) → is_met (answer_of cause) ≡ false
+unmet_cause : (cause : Cause) → is_met (answer_of cause) ≡ false
 unmet_cause Expired = refl
 unmet_cause Notified = refl
 
 module _ {C : Type 0} {N : ℕ} (truths : Truths C) (wait : Wait C) (c : C) where
   -- The wait answers rightly of the section that is left in hand; one that has come back says the same of itself.
-  abbrev AnswersOf : Bool → Option (Held C N) → Answer → Type 0
+  abbrev pub AnswersOf : Bool → Option (Held C N) → Answer → Type 0
   AnswersOf back left answer =
       (held : Held C N) × (left ≡ Some held) × (held.mode ≡ wait.mode) × (is_met answer ≡ truths.holds c held.row)
       × (back ≡ true → entry_of truths.holds held.before held.entry ≡ Waited c answer)
@@ -49,13 +49,13 @@ module _ {C : Type 0} {N : ℕ} (truths : Truths C) (wait : Wait C) (c : C) wher
   begins_met by held for back = opens wait.on (Woken by) held for back.entry
 
   -- a test that finds the condition true
-  met_answers : (visit : Visit) (held : Held C N) → wait.on ≡ OnCondition c → Tests truths wait visit (Some held) → truths.holds c held.row ≡ true → AnswersOf (comes_back visit) (Some held) Met
+  pub met_answers : (visit : Visit) (held : Held C N) → wait.on ≡ OnCondition c → Tests truths wait visit (Some held) → truths.holds c held.row ≡ true → AnswersOf (comes_back visit) (Some held) Met
   met_answers OnEntry held for p e = (held, refl, p.0, sym e, λ b. absurd (cc))
   met_answers (OnReturn (Woken by)) held for p e = (held, refl, p.0, sym e, λ _. begins_met by held for p.1)
   met_answers (OnReturn (Ended cause)) held for p e = (held, refl, p.0, sym e, λ _. begins_so cause held true for p.1 e)
 
   -- and one that finds it false
-  unmet_answers : (visit : Visit) (held : Held C N) (answer : Answer) → wait.on ≡ OnCondition c → Tests truths wait visit (Some held) → truths.holds c held.row ≡ false → unmet_by wait visit ≡ Done (Answered answer) →
+  pub unmet_answers : (visit : Visit) (held : Held C N) (answer : Answer) → wait.on ≡ OnCondition c → Tests truths wait visit (Some held) → truths.holds c held.row ≡ false → unmet_by wait visit ≡ Done (Answered answer) →
       AnswersOf (comes_back visit) (Some held) answer
   unmet_answers OnEntry held answer for p e is = absurd (looks_on wait false (Answered answer) is)
   unmet_answers (OnReturn (Woken by)) held answer for p e is = absurd (looks_on wait true (Answered answer) is)
@@ -72,7 +72,7 @@ module _ {C : Type 0} {N : ℕ} (truths : Truths C) (wait : Wait C) (c : C) wher
   unmet_held again held for p = subst (λ on. IsUnmet truths on held.row) for p.unmet
 
   -- a look that shows something: the condition was false, and a section that has come back goes by what is shown
-  look_answers : (again : Bool) (cause : Cause) (held : Held C N) → wait.on ≡ OnCondition c → MayWait truths wait again held → AnswersOf again (held_after again (Some cause) (Some held)) (answer_of cause)
+  pub look_answers : (again : Bool) (cause : Cause) (held : Held C N) → wait.on ≡ OnCondition c → MayWait truths wait again held → AnswersOf again (held_after again (Some cause) (Some held)) (answer_of cause)
   look_answers false cause held for p = (held, refl, p.mode, unmet_cause cause ∙ sym (unmet_held false held for p), λ b. absurd (cc))
   look_answers true cause held for p =
       let shown : Held C N = record held { entry = opening_by cause held.entry } in

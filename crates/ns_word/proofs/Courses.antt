@@ -1,23 +1,23 @@
 -- Each step takes its call on: it goes on as it was asked, or its answer means what it says.
-use Rattle.std.proofs.Common.{Bool, IsSome, List, None, Option, Some, [], ap, append-nil, cond, eqb, false, inl, inr, ltb, not, refl, slice_index, subst, sym, true, ℕ, ◌&&◌, ◌++◌, ◌+◌, ◌-◌, ◌∙◌, ◌∷◌, ◌≡◌}
-use Rattle.ns_word.proofs.Prelude.{Acquire, AcquireExchange, AcquireLoad, AcquirePlace, AcquireSoFar, Aim, AimFits, Answer, Answered, Any, AnyWait, AnyWaitMeans, Arm, ArmToWait, Arrival, AsFresh, AtVariables, Await, AwaitWake, AwaitWakeInWait, AwaitWakeToLeave, Busy, CallGoes, CameBack, CanLeave}
-use Rattle.ns_word.proofs.Prelude.{CanWait, Cause, Cell, CellFits, CellPlace, ComesBack, ConditionWaitMeans, Course, Cv, CvWait, Cvs, Done, Effect, Ended, Event, Expired, Flag, ForLock, ForWait, Found, Get, GetLoad, HasLeft, HasLocked, HasLookedFor, HasReleased, HasWoken, Held, HeldFits, Idle}
-use Rattle.ns_word.proofs.Prelude.{InAcquire, InCells, InHand, InLeaving, InQueuing, InRelease, InShow, InSignal, InTry, InWait, Is, IsComing, IsFirst, IsForCondition, IsForVariables, IsLawful, IsLeft, IsQuiet, IsQuietSection, KeptFits, Leave, LeaveLoad, LeavePlace, LeaveSelf, Left, Limits, Load}
-use Rattle.ns_word.proofs.Prelude.{LoadToScan, LockState, Look, LookIn, LookOut, Looked, Made, MayAnswer, MayEnd, MayShow, MayWait, Means, Met, Mode, Next, Noisy, Notified, Number, On, OnCondition, OnEntry, OnReturn, OnVariables, Only, Outcome, OutcomeFits, Paid, Part, Pay, PayInWait, PayTheWoken}
-use Rattle.ns_word.proofs.Prelude.{PlaceFits, Plain, Queue, QueueFits, QueuePlace, QueueToWait, QueuesAfter, QueuesSoFar, Quiet, QuietCells, QuietLast, QuietWriter, Release, ReleaseExchange, ReleaseFits, ReleaseLoad, ReleasePlace, ReleaseSoFar, Releasing, Request, ReturnQueues, ReturnShown, Saw}
-use Rattle.ns_word.proofs.Prelude.{ScanAndRelease, ScanCells, Scanned, SeatView, SectionFits, Set, SetLoad, SetStore, Show, ShowLoad, ShowPlace, SignalLoad, SignalPlace, SignalSoFar, SoFar, Step, Subject, Succeeded, Take, TakeToLeave, TakeToQueue, TakeToScan, TakeToShow, TakeToWake, TestCells}
-use Rattle.ns_word.proofs.Prelude.{TestLast, Tested, Tests, TestsSoFar, ToChange, ToQueue, ToRelease, ToTell, Truths, TryAcquire, TryLoad, TryLock, TryPlace, Unchanged, VariableWaitMeans, Variables, ViewFits, Visit, Wait, WaitFits, WaitPlace, WaitReturning, WaitSoFar, Waited, Wake, WakeAndReturn}
-use Rattle.ns_word.proofs.Prelude.{Waking, Walk, Woke, Woken, WokenBy, Word, acquire_by, acquired_for, answer_of, answer_of_wait, armed_place, arrival_of, asked_in_cells, asked_of, asked_to_judge, back_with, cause_by, cause_in, course_after, course_from, entry_of, exit_for, got_acquiring}
-use Rattle.ns_word.proofs.Prelude.{got_in_cells, got_leaving, got_of, got_queuing, got_releasing, got_showing, got_signaling, got_trying, got_waiting, has_some, held_after, held_by, home_of, is_held, is_limited, is_met, judge_of, leave_any_told, leave_by, leave_of, leave_told, left_by, load_place}
-use Rattle.ns_word.proofs.Prelude.{look_or_queue, looked_after, may_acquire, mode_for, mode_released, needs_scan, new_section, newly_held, opening_by, outcome_taken, part_of, pay_releasing, pay_waiting, pay_woken, place_cause_kept, queue_by, quiet_place, release_by, request_for, rest_or_look}
-use Rattle.ns_word.proofs.Prelude.{row_after, scan_place, section_of, show_by, signal_by, standing_after, stands_at, taken_by, test_place, tries_of, unmet_by, variable_in, waiters_of, wake_of, want_acquiring, want_in_cells, want_leaving, want_of, want_queuing, want_releasing, want_showing}
-use Rattle.ns_word.proofs.Prelude.{want_signaling, want_trying, want_waiting, woken_by, word_taken}
+use Rattle.std.proofs.Common.{◌&&◌, ◌++◌, ◌+◌, ◌-◌, ◌∷◌, ◌≡◌, ◌⊎◌}
+use Rattle.ns_word.proofs.Prelude.{Acquire, AcquireExchange, AcquireLoad, AcquirePlace, AcquireSoFar, Aim, AimFits, Answer, Answered, Any, AnyWait, AnyWaitMeans, Arm, ArmToWait, Arrival, AsFresh, AtVariables, Await, AwaitWake, AwaitWakeInWait, AwaitWakeToLeave, Bool, Busy, CallGoes, CanLeave}
+use Rattle.ns_word.proofs.Prelude.{CanWait, Cause, Cell, CellFits, CellPlace, ConditionWaitMeans, Course, Cv, CvWait, Cvs, Done, Effect, Ended, Event, Expired, Flag, ForLock, ForWait, Found, Get, GetLoad, HasLeft, HasLocked, HasLookedFor, HasReleased, HasWoken, Held, HeldFits, Idle, InAcquire}
+use Rattle.ns_word.proofs.Prelude.{InCells, InHand, InLeaving, InQueuing, InRelease, InShow, InSignal, InTry, InWait, Is, IsComing, IsFirst, IsForCondition, IsForVariables, IsLawful, IsLeft, IsQuiet, IsQuietSection, IsSome, KeptFits, Leave, LeaveLoad, LeavePlace, LeaveSelf, Left, Limits, List, Load}
+use Rattle.ns_word.proofs.Prelude.{LoadToScan, LockState, Look, LookIn, LookOut, Looked, Made, MayAnswer, MayEnd, MayShow, MayWait, Means, Met, Mode, Next, Noisy, None, Notified, Number, On, OnCondition, OnEntry, OnReturn, OnVariables, Only, Option, Outcome, OutcomeFits, Paid, Part, Pay, PayInWait}
+use Rattle.ns_word.proofs.Prelude.{PayTheWoken, PlaceFits, Plain, Queue, QueueFits, QueuePlace, QueueToWait, QueuesAfter, QueuesSoFar, Quiet, QuietCells, QuietLast, QuietWriter, Release, ReleaseExchange, ReleaseFits, ReleaseLoad, ReleasePlace, ReleaseSoFar, Releasing, Request, ReturnQueues}
+use Rattle.ns_word.proofs.Prelude.{ReturnShown, Saw, ScanAndRelease, ScanCells, Scanned, SeatView, SectionFits, Set, SetLoad, SetStore, Show, ShowLoad, ShowPlace, SignalLoad, SignalPlace, SignalSoFar, SoFar, Some, Step, Subject, Succeeded, Take, TakeToLeave, TakeToQueue, TakeToScan, TakeToShow}
+use Rattle.ns_word.proofs.Prelude.{TakeToWake, TestCells, TestLast, Tested, Tests, TestsSoFar, ToChange, ToQueue, ToRelease, ToTell, Truths, TryAcquire, TryLoad, TryLock, TryPlace, Unchanged, VariableWaitMeans, Variables, ViewFits, Visit, Wait, WaitFits, WaitPlace, WaitReturning, WaitSoFar, Waited}
+use Rattle.ns_word.proofs.Prelude.{Wake, WakeAndReturn, Waking, Walk, Woke, Woken, WokenBy, Word, [], acquire_by, acquired_for, answer_of, answer_of_wait, ap, append-nil, armed_place, arrival_of, asked_in_cells, asked_of, asked_to_judge, back_with, cause_by, cause_in, comes_back, cond, course_after}
+use Rattle.ns_word.proofs.Prelude.{course_from, entry_of, eqb, exit_for, false, got_acquiring, got_in_cells, got_leaving, got_of, got_queuing, got_releasing, got_showing, got_signaling, got_trying, got_waiting, has_some, held_after, home_of, inl, inr, is_held, is_limited, is_met, judge_of}
+use Rattle.ns_word.proofs.Prelude.{leave_any_told, leave_by, leave_of, leave_told, left_by, load_place, look_or_queue, looked_after, ltb, may_acquire, mode_for, mode_released, needs_scan, new_section, newly_held, not, outcome_taken, part_of, pay_releasing, pay_waiting, pay_woken, place_cause_kept}
+use Rattle.ns_word.proofs.Prelude.{queue_by, quiet_place, refl, release_by, request_for, rest_or_look, row_after, scan_place, section_of, show_by, signal_by, slice_index, standing_after, stands_at, subst, sym, taken_by, test_place, tries_of, true, unmet_by, variable_in, waiters_of, wake_of}
+use Rattle.ns_word.proofs.Prelude.{want_acquiring, want_in_cells, want_leaving, want_of, want_queuing, want_releasing, want_showing, want_signaling, want_trying, want_waiting, woken_by, word_taken, ℕ, ◌∙◌}
 use Rattle.ns_word.proofs.Keeps.{acquired_holders}
-use Rattle.ns_word.proofs.Answers.{unmet_cause}
-use Rattle.ns_word.proofs.Leaving.{not_left}
+use Rattle.ns_word.proofs.Answers.{AnswersOf, look_answers, met_answers, unmet_answers}
+use Rattle.ns_word.specs.Meanings.{HasWaited, IsBack}
+use Rattle.ns_word.proofs.Bases.{not_left, place_at, step_fits}
 use Rattle.ns_word.proofs.Follows.{follows, next_asked}
 use Rattle.ns_word.specs.declared.request.Request.TheVariants.{Release}
-use Rattle.ns_word.proofs.Stepping.{place_at, step_fits}
 use Rattle.ns_model.specs.declared.event.Exit.TheVariants as TheExit
 
 -- a wait by its parts, so that what it is for may be known
@@ -171,10 +171,10 @@ module _ (C : Type 0) (N : ℕ) (truths : Truths C) (seat : ℕ) (row : List ℕ
   may_end cvs limits looked (Ended cause) given shown so = (cause, given, shown)
 
   -- a wait that came back has acquired
-  comes_back : (request : Request C) (course : Course C N) (mode : Mode) (on : Subject C) (limits : Limits) (outcome : Outcome) (held : Option (Held C N)) (cells : List ℕ) → let wait = wait_for mode on limits in
+  came_back : (request : Request C) (course : Course C N) (mode : Mode) (on : Subject C) (limits : Limits) (outcome : Outcome) (held : Option (Held C N)) (cells : List ℕ) → let wait = wait_for mode on limits in
       request ≡ Await wait → cells ≡ row → held ≡ Some (newly_held (ForWait wait outcome) cells) → MayShow limits (cause_in outcome) → OutcomeFits on outcome → IsComing truths seat wait outcome course → Comes request course (back_with N on wait outcome) held
-  comes_back request course mode (OnCondition c) limits outcome held cells asked same e given so coming = test_so_far course held (wait_for mode (OnCondition c) limits) (OnReturn outcome) 0 coming
-  comes_back request course mode (OnVariables (Only k)) limits outcome held cells asked same e given so coming =
+  came_back request course mode (OnCondition c) limits outcome held cells asked same e given so coming = test_so_far course held (wait_for mode (OnCondition c) limits) (OnReturn outcome) 0 coming
+  came_back request course mode (OnVariables (Only k)) limits outcome held cells asked same e given so coming =
       subst (λ r. Means truths seat row r course (Answered (answer_of_wait outcome)) held) (sym asked) (subst (λ h. InHand h (λ back. VariableWaitMeans truths seat row mode k limits course (answer_of_wait outcome) back)) (sym e)
       (record {
         was = coming.left.was;
@@ -185,7 +185,7 @@ module _ (C : Type 0) (N : ℕ) (truths : Truths C) (seat : ℕ) (row : List ℕ
         begins = record { mode = refl; before = same; cells = same };
         entry = refl;
       }))
-  comes_back request course mode (OnVariables (Any cvs)) limits outcome held cells asked same e given so coming =
+  came_back request course mode (OnVariables (Any cvs)) limits outcome held cells asked same e given so coming =
       subst (λ r. Means truths seat row r course (WokenBy (variable_in outcome)) held) (sym asked) (subst (λ h. InHand h (λ back. AnyWaitMeans truths seat row mode cvs limits course (variable_in outcome) back)) (sym e)
       (record {
         was = coming.left.was;
@@ -211,82 +211,53 @@ module _ (C : Type 0) (N : ℕ) (truths : Truths C) (seat : ℕ) (row : List ℕ
 
   -- ---- waits for a condition
 
-  -- what a section says of how it began that came back, where the condition is true, and where it is false
-  says_met : (c : C) (outcome : Outcome) (before : List ℕ) → truths.holds c before ≡ true → entry_of truths.holds before (CameBack (OnCondition c) outcome) ≡ Waited c Met
-  says_met c (Woken by) before e = refl
-  says_met c (Ended cause) before e = ap (λ b. Waited c (cond b Met (answer_of cause))) e
-
-  says_ended : (c : C) (cause : Cause) (before : List ℕ) → truths.holds c before ≡ false → entry_of truths.holds before (CameBack (OnCondition c) (Ended cause)) ≡ Waited c (answer_of cause)
-  says_ended c cause before e = ap (λ b. Waited c (cond b Met (answer_of cause))) e
-
   module _ (mode : Mode) (c : C) (limits : Limits) where
     abbrev asked : Wait C
-    asked = record { mode = mode; on = OnCondition c; limits = limits }
+    asked = wait_for mode (OnCondition c) limits
 
-    -- a wait answers on entry
-    answers_on_entry : (course : Course C N) (held : Option (Held C N)) (section : Held C N) (answer : Answer) → held ≡ Some section → section.mode ≡ mode → is_met answer ≡ truths.holds c section.row → MayAnswer limits course.looked answer → Unchanged course held →
-        Means truths seat row (Await asked) course (Answered answer) held
-    answers_on_entry course held section answer e m met may was =
-        subst (λ h. InHand h (λ back. ConditionWaitMeans truths seat row mode c limits course answer back)) (sym e)
-        (record { mode = m; met = met; may = may; how = inl (subst (λ h. Unchanged course h) e was) })
+    abbrev Answering : Bool → Option (Held C N) → Answer → Type 0
+    Answering back held answer = AnswersOf truths asked c back held answer
 
-    -- a wait answers that has come back
-    answers_back : (course : Course C N) (held : Option (Held C N)) (section : Held C N) (ended : Option Cause) (answer : Answer) → held ≡ Some section → section.mode ≡ mode → section.before ≡ row → section.row ≡ section.before →
-        is_met answer ≡ truths.holds c section.row → MayAnswer limits course.looked answer → entry_of truths.holds section.before section.entry ≡ Waited c answer → HasLeft truths seat asked ended course →
-        Means truths seat row (Await asked) course (Answered answer) held
-    answers_back course held section ended answer e m starts cells met may says left =
-        subst (λ h. InHand h (λ back. ConditionWaitMeans truths seat row mode c limits course answer back)) (sym e)
-        (record {
-          mode = m;
-          met = met;
-          may = may;
-          how = inr (record {
-            was = left.was;
-            began = left.began;
-            mode = left.mode;
-            unmet = left.unmet;
-            committed = left.committed;
-            begins = record { mode = m; before = starts; cells = cells ∙ starts };
-            entry = says;
-          });
-        })
+    -- how it has come to the section in hand: it has left none, or has left one and come back with another
+    abbrev Been : Bool → Course C N → Option (Held C N) → Type 0
+    Been false course held = Unchanged course held
+    Been true course held = ((ended : Option Cause) × HasLeft truths seat asked ended course) × InHand held (λ back. IsBack row mode back)
 
-    -- its condition was tested, and is true
-    met_comes : (visit : Visit) (course : Course C N) (held : Option (Held C N)) (section : Held C N) → held ≡ Some section → truths.holds c section.row ≡ true → Tests truths asked visit held → section.before ≡ row → TestsSoFar truths seat asked visit course held →
-        Means truths seat row (Await asked) course (Answered Met) held
-    met_comes OnEntry course held section e holding tests starts so_far =
-        let tested = subst (λ h. Tests truths asked OnEntry h) e tests in
-        answers_on_entry course held section Met e tested.0 (sym holding) tt so_far
-    met_comes (OnReturn outcome) course held section e holding tests starts so_far =
-        let tested : (section.mode ≡ mode) × ComesBack asked outcome section = subst (λ h. Tests truths asked (OnReturn outcome) h) e tests in
-        let cells : section.row ≡ section.before = tested.1.cells in
-        let says : entry_of truths.holds section.before section.entry ≡ Waited c Met = ap (λ entry. entry_of truths.holds section.before entry) tested.1.entry ∙ says_met c outcome section.before (ap (truths.holds c) (sym cells) ∙ holding) in
-        answers_back course held section (cause_in outcome) Met e tested.0 starts cells (sym holding) tt says so_far.left
+    -- a wait answers
+    answers : (back : Bool) (course : Course C N) (held : Option (Held C N)) (answer : Answer) → Answering back held answer → MayAnswer limits course.looked answer → Been back course held → Means truths seat row (Await asked) course (Answered answer) held
+    answers back course held answer of may been =
+        subst (λ h. InHand h (λ back. ConditionWaitMeans truths seat row mode c limits course answer back)) (sym of.1)
+        (record { mode = of.2; met = of.3; may = may; how = go back of.4 (subst (Been back course) of.1 been) })
+      where
+        go : (b : Bool) → (b ≡ true → entry_of truths.holds of.0.before of.0.entry ≡ Waited c answer) → Been b course (Some of.0) → Unchanged course (Some of.0) ⊎ HasWaited truths seat row mode c course answer of.0
+        go false says was = inl was
+        go true says came = let left = came.0.1 in inr (record { was = left.was; began = left.began; mode = left.mode; unmet = left.unmet; committed = left.committed; begins = came.1; entry = says refl })
 
-    -- its condition was tested, and is false: it goes on waiting, or was ended early and answers that
-    unmet_comes : (visit : Visit) (course : Course C N) (held : Option (Held C N)) (section : Held C N) → held ≡ Some section → truths.holds c section.row ≡ false → Tests truths asked visit held →
-        MayShow limits (cause_by visit) → section.before ≡ row → TestsSoFar truths seat asked visit course held →
-        Comes (Await asked) course (unmet_by asked visit) held
-    unmet_comes OnEntry course held section e failing tests given starts so_far = look_comes (Await asked) course held asked false so_far
-    unmet_comes (OnReturn (Woken by)) course held section e failing tests given starts so_far = look_comes (Await asked) course held asked true so_far.left
-    unmet_comes (OnReturn (Ended cause)) course held section e failing tests given starts so_far =
-        let tested : (section.mode ≡ mode) × ComesBack asked (Ended cause) section = subst (λ h. Tests truths asked (OnReturn (Ended cause)) h) e tests in
-        let cells : section.row ≡ section.before = tested.1.cells in
-        let says : entry_of truths.holds section.before section.entry ≡ Waited c (answer_of cause) = ap (λ entry. entry_of truths.holds section.before entry) tested.1.entry ∙ says_ended c cause section.before (ap (truths.holds c) (sym cells) ∙ failing) in
-        answers_back course held section (Some cause) (answer_of cause) e tested.0 starts cells (unmet_cause cause ∙ sym failing) (may_answer limits course.looked (Ended cause) given so_far.shown) says so_far.left
+    -- where its condition was tested
+    been_tested : (visit : Visit) (course : Course C N) (section : Held C N) → Tests truths asked visit (Some section) → section.before ≡ row → TestsSoFar truths seat asked visit course (Some section) → Been (comes_back visit) course (Some section)
+    been_tested OnEntry course section tests starts so_far = so_far
+    been_tested (OnReturn outcome) course section tests starts so_far = ((cause_in outcome, so_far.left), record { mode = tests.0; before = starts; cells = tests.1.cells ∙ starts })
+
+    -- it is true, or false: the wait goes on, or was ended early and answers that
+    tested_comes : (visit : Visit) (met : Bool) (course : Course C N) (section : Held C N) → truths.holds c section.row ≡ met → Tests truths asked visit (Some section) → MayShow limits (cause_by visit) → section.before ≡ row →
+        TestsSoFar truths seat asked visit course (Some section) → Comes (Await asked) course (cond met (Done (Answered Met)) (unmet_by asked visit)) (Some section)
+    tested_comes visit true course section is tests given starts so_far =
+        answers (comes_back visit) course (Some section) Met (met_answers truths asked c visit section refl tests is) tt (been_tested visit course section tests starts so_far)
+    tested_comes OnEntry false course section is tests given starts so_far = look_comes (Await asked) course (Some section) asked false so_far
+    tested_comes (OnReturn (Woken by)) false course section is tests given starts so_far = look_comes (Await asked) course (Some section) asked true so_far.left
+    tested_comes (OnReturn (Ended cause)) false course section is tests given starts so_far =
+        answers true course (Some section) (answer_of cause) (unmet_answers truths asked c (OnReturn (Ended cause)) section (answer_of cause) refl tests is refl)
+        (may_answer limits course.looked (Ended cause) given so_far.shown) (been_tested (OnReturn (Ended cause)) course section tests starts so_far)
 
     -- a look has shown what ends it, before it queued
-    shown_comes : (again : Bool) (cause : Cause) (course : Course C N) (old new : Option (Held C N)) (section : Held C N) → old ≡ Some section → new ≡ held_after again (Some cause) old →
-        MayWait truths asked again section → MayShow limits (Some cause) → section.before ≡ row → course.looked ≡ Some (Some cause) →
-        QueuesSoFar truths seat asked again course old → Means truths seat row (Await asked) course (Answered (answer_of cause)) new
-    shown_comes false cause course old new section e same may given starts shown so_far =
-        answers_on_entry course new section (answer_of cause) (same ∙ e) may.mode (unmet_cause cause ∙ sym may.unmet) (may_answer limits course.looked (Ended cause) given shown) (subst (λ h. Unchanged course h) (sym same) so_far)
-    shown_comes true cause course old new section e same may given starts shown so_far =
-        let back : ComesBack asked (Woken None) section = (may.back refl).1 in
-        let now : Held C N = record section { entry = opening_by cause section.entry } in
-        let cells : section.row ≡ section.before = back.cells in
-        let says : entry_of truths.holds section.before now.entry ≡ Waited c (answer_of cause) = ap (λ entry. entry_of truths.holds section.before (opening_by cause entry)) back.entry ∙ says_ended c cause section.before (ap (truths.holds c) (sym cells) ∙ may.unmet) in
-        answers_back course new now None (answer_of cause) (same ∙ ap (λ h. held_by cause h) e) may.mode starts cells (unmet_cause cause ∙ sym may.unmet) (may_answer limits course.looked (Ended cause) given shown) says so_far
+    shown_comes : (again : Bool) (cause : Cause) (course : Course C N) (section : Held C N) → MayWait truths asked again section → MayShow limits (Some cause) → section.before ≡ row → course.looked ≡ Some (Some cause) →
+        QueuesSoFar truths seat asked again course (Some section) → Means truths seat row (Await asked) course (Answered (answer_of cause)) (held_after again (Some cause) (Some section))
+    shown_comes again cause course section may given starts shown so_far =
+        answers again course (held_after again (Some cause) (Some section)) (answer_of cause) (look_answers truths asked c again cause section refl may) (may_answer limits course.looked (Ended cause) given shown) (been again may so_far)
+      where
+        been : (b : Bool) → MayWait truths asked b section → QueuesSoFar truths seat asked b course (Some section) → Been b course (held_after b (Some cause) (Some section))
+        been false may was = was
+        been true may left = ((None, left), record { mode = may.mode; before = starts; cells = (may.back refl).1.cells ∙ starts })
 
   -- ---- by group
 
@@ -313,7 +284,7 @@ module _ (C : Type 0) (N : ℕ) (truths : Truths C) (seat : ℕ) (row : List ℕ
         has_locked mode course part.held next.held commits part.row (stands.free e.4 (acquired_holders mode arrival part.word (subst (λ word. may_acquire mode arrival word ≡ true) e.0 e.1)).0) (ap (λ p. p.held) e.3) e.4 so_far
     acquired_on (ForWait wait outcome) arrival last e given so_far =
         subst (λ now. Comes (Await wait) now (back_with N wait.on wait outcome) next.held) (sym (same_course Made commits course refl e.4))
-        (comes_back (Await wait) course wait.mode wait.on wait.limits outcome next.held part.row refl (stands.free e.4 (acquired_holders wait.mode arrival part.word (subst (λ word. may_acquire wait.mode arrival word ≡ true) e.0 e.1)).0) (ap (λ p. p.held) e.3) given.1 given.0 so_far)
+        (came_back (Await wait) course wait.mode wait.on wait.limits outcome next.held part.row refl (stands.free e.4 (acquired_holders wait.mode arrival part.word (subst (λ word. may_acquire wait.mode arrival word ≡ true) e.0 e.1)).0) (ap (λ p. p.held) e.3) given.1 given.0 so_far)
 
     acquires_on : (aim : Aim C) (place : AcquirePlace) (found : Found) → Effect truths seat (want_acquiring aim place) part found next commits → AimFits aim → AcquireSoFar truths seat aim course part.held →
         Comes (asked_of (InAcquire aim place)) (course_after found commits course) (got_acquiring N aim place found) next.held
@@ -382,9 +353,8 @@ module _ (C : Type 0) (N : ℕ) (truths : Truths C) (seat : ℕ) (row : List ℕ
         Comes (Await wait) (course_after found commits course) (got_waiting N wait (TestLast visit i) found) next.held
     tested_on mode (OnCondition c) limits visit i (Tested is_met) e fits given so_far =
         let wait = wait_for mode (OnCondition c) limits in
-        finds (Await wait) (Tested is_met) _ refl (held_in part e.3) e.4 (either (Await wait) course part.held (λ n. n) is_met (Done (Answered Met)) (unmet_by wait visit)
-        (λ b. met_comes mode c limits visit course part.held e.0 e.1 (sym e.2 ∙ b) fits.0 (stands.starts e.4 e.0 e.1) so_far)
-        (λ b. unmet_comes mode c limits visit course part.held e.0 e.1 (sym e.2 ∙ b) fits.0 given (stands.starts e.4 e.0 e.1) so_far))
+        finds (Await wait) (Tested is_met) _ refl (held_in part e.3) e.4 (subst (Comes (Await wait) course (cond is_met (Done (Answered Met)) (unmet_by wait visit))) (sym e.1)
+        (tested_comes mode c limits visit is_met course e.0 (sym e.2) (subst (Tests truths wait visit) e.1 fits.0) given (stands.starts e.4 e.0 e.1) (subst (TestsSoFar truths seat wait visit course) e.1 so_far)))
     tested_on mode (OnCondition c) limits visit i _ e fits given so_far = absurd e
     tested_on mode (OnVariables variables) limits visit i found e fits given so_far = absurd fits.2
 
@@ -397,24 +367,28 @@ module _ (C : Type 0) (N : ℕ) (truths : Truths C) (seat : ℕ) (row : List ℕ
     untold (OnVariables (Only k)) = refl
     untold (OnVariables (Any cvs)) = refl
 
+    still_queues : (wait : Wait C) (again : Bool) (found : Found) → commits ≡ [] → QueuesSoFar truths seat wait again course part.held → QueuesSoFar truths seat wait again (course_after found commits course) part.held
+    still_queues wait false found silent was = still_unchanged found commits course part.held part.held refl silent was
+    still_queues wait true found silent left = still_left wait None found commits course silent left
+
     -- a wait looks before it queues
     looks_on : (mode : Mode) (on : Subject C) (limits : Limits) (again : Bool) (shown : Option Cause) → let wait = wait_for mode on limits in
         Effect truths seat (Look limits again) part (Looked shown) next commits → CanWait truths wait again part.held → IsForCondition on → QueuesSoFar truths seat wait again course part.held →
         Comes (Await wait) (course_after (Looked shown) commits course) (got_queuing N wait again LookIn (Looked shown)) next.held
-    looks_on mode on limits false None e can for so_far = (still_unchanged (Looked None) commits course part.held next.held (ap (λ p. p.held) e.1) e.2 so_far, looked_none on limits)
-    looks_on mode on limits true None e can for so_far = (still_left (wait_for mode on limits) None (Looked None) commits course e.2 so_far, looked_none on limits)
+    looks_on mode on limits again None e can for so_far =
+        let wait = wait_for mode on limits in (subst (QueuesSoFar truths seat wait again (course_after (Looked None) commits course)) (sym (ap (λ p. p.held) e.1)) (still_queues wait again (Looked None) e.2 so_far), looked_none on limits)
     looks_on mode (OnVariables variables) limits again (Some cause) e can for so_far = absurd for
-    looks_on mode (OnCondition c) limits again (Some cause) e can for so_far = go part.held refl can
+    looks_on mode (OnCondition c) limits again (Some cause) e can for so_far = go part.held refl can (still_queues (wait_for mode (OnCondition c) limits) again (Looked (Some cause)) e.2 so_far)
       where
-        so : (b : Bool) → QueuesSoFar truths seat (wait_for mode (OnCondition c) limits) b course part.held → QueuesSoFar truths seat (wait_for mode (OnCondition c) limits) b (course_after (Looked (Some cause)) commits course) part.held
-        so false was = still_unchanged (Looked (Some cause)) commits course part.held part.held refl e.2 was
-        so true left = still_left (wait_for mode (OnCondition c) limits) None (Looked (Some cause)) commits course e.2 left
+        after : Course C N
+        after = course_after (Looked (Some cause)) commits course
 
-        go : (held : Option (Held C N)) → part.held ≡ held → CanWait truths (wait_for mode (OnCondition c) limits) again held →
-            Means truths seat row (Await (wait_for mode (OnCondition c) limits)) (course_after (Looked (Some cause)) commits course) (Answered (answer_of cause)) next.held
-        go None is may = absurd may
-        go (Some section) is may =
-            shown_comes mode c limits again cause (course_after (Looked (Some cause)) commits course) part.held next.held section is (ap (λ p. p.held) e.1) may e.0 (stands.starts e.2 section is) refl (so again so_far)
+        go : (held : Option (Held C N)) → part.held ≡ held → CanWait truths (wait_for mode (OnCondition c) limits) again held → QueuesSoFar truths seat (wait_for mode (OnCondition c) limits) again after part.held →
+            Means truths seat row (Await (wait_for mode (OnCondition c) limits)) after (Answered (answer_of cause)) next.held
+        go None is may been = absurd may
+        go (Some section) is may been =
+            subst (Means truths seat row (Await (wait_for mode (OnCondition c) limits)) after (Answered (answer_of cause))) (sym (ap (λ p. p.held) e.1 ∙ ap (held_after again (Some cause)) is))
+            (shown_comes mode c limits again cause after section may e.0 (stands.starts e.2 section is) refl (subst (QueuesSoFar truths seat (wait_for mode (OnCondition c) limits) again after) is been))
 
     -- a wait queues, and leaves its section; one that queues again says nothing of it
     queued_on : (mode : Mode) (on : Subject C) (limits : Limits) (again : Bool) (last : Word) (owes : Bool) (tests : ℕ) → let wait = wait_for mode on limits in

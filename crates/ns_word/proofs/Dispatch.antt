@@ -1,28 +1,23 @@
 -- A step keeps the law: which kind of step it is, by the place in the walk and what was found.
-use Rattle.std.proofs.Common.{Bool, List, None, Option, Some, [], ap, append-nil, arith, cond, eq-eqb, eqb, false, inl, inr, is_some, ltb, ltb-true, not, refl, subst, suc, sym, true, zero, ℕ, ◌&&◌, ◌++◌, ◌+◌, ◌<◌, ◌||◌, ◌∙◌, ◌∷◌, ◌≡◌, ◌≢◌, ◌≤◌, ◌⊎◌}
-use Rattle.ns_word.proofs.Prelude.{Acquire, AcquireExchange, AcquireLoad, Aim, AimFits, AreWaiting, Arm, ArmToWait, Arrival, AsFresh, AsWoken, AtVariables, AwaitWake, AwaitWakeInWait, AwaitWakeToLeave, Broadcasting, CanLeave, CanWait, Cause, Cell, Cond, Cv, Effect, Ended, Event, Every}
-use Rattle.ns_word.proofs.Prelude.{Flag, ForLock, ForWait, Found, GetLoad, HasMode, HasNumber, Held, Idle, InAcquire, InCells, InLeaving, InQueuing, InRelease, InShow, InSignal, InTry, InWait, IsExpected, IsInRange, IsLawful, IsLegalEvent, IsSettled, IsToldSo, Leave}
-use Rattle.ns_word.proofs.Prelude.{LeaveLoad, Left, Limits, Load, LoadFlag, LoadToScan, LockState, LookIn, LookOut, Looked, Made, MayShow, MayWait, Mode, Next, On, OnCondition, OnVariables, Outcome, OutcomeFits, Owed, Paid, Part, Pay, PayInWait, PayTheWoken, PayWake, Phase, PlaceFits}
-use Rattle.ns_word.proofs.Prelude.{Queue, QueueToWait, Quiet, QuietCells, QuietKeeps, QuietLast, QuietWriter, Read, ReleaseExchange, ReleaseLoad, Releasing, ReturnQueues, ReturnShown, Saw, ScanAndRelease, ScanCells, Scanned, SeatView, SetLoad, SetStore, ShowLoad, ShowPlace, SignalLoad}
-use Rattle.ns_word.proofs.Prelude.{SignalPlace, Signaling, Step, Subject, Take, TakeQueues, TakeToLeave, TakeToQueue, TakeToScan, TakeToShow, TakeToWake, TestCells, TestLast, Tested, ToChange, ToQueue, ToldOn, Truths, TryAcquire, TryLoad, VariableWaiterFits, Visit, Wait, WaitPlace}
-use Rattle.ns_word.proofs.Prelude.{WaitReturning, Waiter, Waiting, WakeAndReturn, WakeWaiters, Waking, Walk, Woke, Word, Write, acquired_for, armed_place, arrival_of, awaits, bits_of, both_ways, broadcast_legal, called_of, calls_from_lock, cause_in, change_found, changed, counts_in, cvs_without}
-use Rattle.ns_word.proofs.Prelude.{every_join, every_parts, every_signaled, expected_for, got_leaving, got_of, got_showing, got_signaling, got_waiting, has, has_armed, has_queues, has_some, held_after, home_of, is_from_lock, is_held, is_met, is_on_way, is_queuing, is_woken}
-use Rattle.ns_word.proofs.Prelude.{judge_of, kept_by, leave_of, left_of, may_acquire, meets_at, mode_for, mode_released, moved_to, moves, needs_scan, newly_held, opening_for, outcome_taken, owed_after, part_of, pay_releasing, pay_waiting, pay_woken, pays, phase_before, phase_by, phase_for}
-use Rattle.ns_word.proofs.Prelude.{phase_kept, queued, releasing_of, rest_or_look, row_in, signal_legal, standing_after, standing_next, stands_at, sum_by, taken_by, taken_set, times_in, times_signaled, tries_of, variable_told, waited_in, waiters_of}
-use Rattle.ns_word.proofs.Prelude.{waits_in, wake_of, wakes_of, walk_after, want_of, want_showing, want_signaling, want_waiting, was_woken, who_of, with_lock, without, without_in, woken_by, woken_of, woken_phases, word_acquired, word_released, word_released_returning, word_returned, word_seen}
-use Rattle.ns_word.proofs.Prelude.{word_taken}
+use Rattle.std.proofs.Common.{◌&&◌, ◌++◌, ◌+◌, ◌<◌, ◌||◌, ◌∷◌, ◌≡◌, ◌≢◌, ◌≤◌, ◌⊎◌}
+use Rattle.ns_word.proofs.Prelude.{Acquire, AcquireExchange, AcquireLoad, Aim, AimFits, AreWaiting, Arm, ArmToWait, Arrival, AsFresh, AsWoken, AtVariables, AwaitWake, AwaitWakeInWait, AwaitWakeToLeave, Bool, Broadcasting, CanLeave, CanWait, Cause, Cell, Cond, Cv, Effect, Ended, Event, Every, Flag}
+use Rattle.ns_word.proofs.Prelude.{ForLock, ForWait, Found, GetLoad, HasMode, HasNumber, Held, Idle, InAcquire, InCells, InLeaving, InQueuing, InRelease, InShow, InSignal, InTry, InWait, IsExpected, IsInRange, IsLawful, IsLegalEvent, IsSettled, IsToldSo, Leave, LeaveLoad, Left, Limits, List, Load}
+use Rattle.ns_word.proofs.Prelude.{LoadFlag, LoadToScan, LockState, LookIn, LookOut, Looked, Made, MayShow, MayWait, Mode, Next, None, On, OnCondition, OnVariables, Option, Outcome, OutcomeFits, Owed, Paid, Part, Pay, PayInWait, PayTheWoken, PayWake, Phase, PlaceFits, Queue, QueueToWait, Quiet}
+use Rattle.ns_word.proofs.Prelude.{QuietCells, QuietKeeps, QuietLast, QuietWriter, Read, ReleaseExchange, ReleaseLoad, Releasing, ReturnQueues, ReturnShown, Saw, ScanAndRelease, ScanCells, Scanned, SeatView, SetLoad, SetStore, ShowLoad, ShowPlace, SignalLoad, SignalPlace, Signaling, Some, Step}
+use Rattle.ns_word.proofs.Prelude.{Subject, Take, TakeQueues, TakeToLeave, TakeToQueue, TakeToScan, TakeToShow, TakeToWake, TestCells, TestLast, Tested, ToChange, ToQueue, ToldOn, Truths, TryAcquire, TryLoad, VariableWaiterFits, Visit, Wait, WaitPlace, WaitReturning, Waiter, Waiting, WakeAndReturn}
+use Rattle.ns_word.proofs.Prelude.{WakeWaiters, Waking, Walk, Woke, Word, Write, [], acquired_for, ap, append-nil, arith, armed_place, arrival_of, awaits, bits_of, both_ways, broadcast_legal, called_of, calls_from_lock, cause_in, change_found, changed, cond, counts_in, cvs_without, eq-eqb, eqb}
+use Rattle.ns_word.proofs.Prelude.{every_join, every_parts, every_signaled, expected_for, false, got_leaving, got_of, got_showing, got_signaling, got_waiting, has, has_armed, has_queues, has_some, held_after, home_of, inl, inr, is_from_lock, is_held, is_met, is_on_way, is_queuing, is_some, is_woken}
+use Rattle.ns_word.proofs.Prelude.{judge_of, kept_by, leave_of, left_of, ltb, ltb-true, may_acquire, meets_at, mode_for, mode_released, moved_to, moves, needs_scan, newly_held, not, opening_for, outcome_taken, owed_after, part_of, pay_releasing, pay_waiting, pay_woken, pays, phase_before, phase_by}
+use Rattle.ns_word.proofs.Prelude.{phase_for, phase_kept, queued, refl, releasing_of, rest_or_look, row_in, signal_legal, standing_after, standing_next, stands_at, subst, suc, sum_by, sym, taken_by, taken_set, times_in, times_signaled, tries_of, true, variable_told, waited_in, waiters_of, waits_in}
+use Rattle.ns_word.proofs.Prelude.{wake_of, wakes_of, walk_after, want_of, want_showing, want_signaling, want_waiting, was_woken, who_of, with_lock, without, without_in, woken_by, woken_of, woken_phases, word_acquired, word_released, word_released_returning, word_returned, word_seen, word_taken}
+use Rattle.ns_word.proofs.Prelude.{zero, ℕ, ◌∙◌}
 use Rattle.ns_model.specs.declared.phase.Phase.TheVariants.{Woken}
-use Rattle.ns_word.proofs.Listed.{none_of}
-use Rattle.ns_word.proofs.Groups.{Groups, groups_of, lawful_by}
-use Rattle.ns_word.proofs.Views.{apart_parts, view_of, each_parts, walk_here}
-use Rattle.ns_word.proofs.Leaving.{left_told, not_left}
+use Rattle.ns_word.proofs.Bases.{Groups, apart_parts, counts_somewhere, cvs_left, each_parts, groups_of, lawful_by, left_told, none_of, not_left, out_of_cvs, out_of_lock, some_wakes, view_of, walk_here}
 use Rattle.ns_word.proofs.Variables.{are_waiting}
-use Rattle.ns_word.proofs.CountsIn.{counts_somewhere, cvs_left, out_of_cvs, out_of_lock}
 use Rattle.ns_word.proofs.Ranges.{counts_once, lists_orderly}
 use Rattle.ns_word.proofs.Safes.{same_section}
 use Rattle.ns_word.proofs.Follows.{follows}
 use Rattle.ns_word.proofs.Seen.{packable, found_fits}
-use Rattle.ns_word.proofs.Scans.{some_wakes}
 use Rattle.ns_word.proofs.Keeps.{PutsBack, Same, Stays, Way, rests, acquires, stores, releases, takes_to_change, takes_to_queue, arms, enqueues, withdraws, returns, leaves as leaves_variable, scans, waits, waits_on, waits_for, wakes, sees, wakes_waiters}
 use Rattle.ns_word.proofs.Leads.{Leads, leads_to, none_settled, shown_settled, try_leads, acquire_leads, acquired_leads, test_leads, met_leads, shown_section, queue_leads, leave_leads, rest_leads}
 use Rattle.ns_word.proofs.Leads.{pay_waiting_leads, release_leads, scan_leads, taken_leads, quiet_leads, judged_leads, pay_leads, calm_release}

@@ -1,7 +1,8 @@
 -- Where a wait for variables stands: in the list of each of them.
-use Rattle.std.proofs.Common.{Bool, List, None, Some, [], ap, arith, cond, eq-eqb, eqb, eqb-true, false, inl, inr, length, lt-ltb, ltb, ne_eqb, refl, subst, suc, sym, true, zero, ℕ, ◌%◌, ◌&&◌, ◌*◌, ◌++◌, ◌+◌, ◌/◌, ◌<◌, ◌^◌, ◌∙◌, ◌∷◌, ◌≡◌, ◌≢◌, ◌≤◌, ◌⊎◌}
-use Rattle.ns_word.proofs.Prelude.{Any, AreVariables, Cv, Cvs, Lists, Mode, OnVariables, Only, Variables, Waiter, bit_at, bit_at-lt, bit_at-zero, bit_at_above, bit_at_cat_low, cases_Bool, cases_eq, cases_lt, counts_in, four_kept, get_or-le-sum_by, has, named_for, one_if, one_most, read_apart}
-use Rattle.ns_word.proofs.Prelude.{read_back, same_from_bits_below, sum_by, sum_by-cons, times, times_at_most, times_in, times_in-append, times_in-cons, waiters_of, waits_at, with_each, with_waiters}
+use Rattle.std.proofs.Common.{◌%◌, ◌&&◌, ◌*◌, ◌++◌, ◌+◌, ◌/◌, ◌<◌, ◌^◌, ◌∷◌, ◌≡◌, ◌≢◌, ◌≤◌, ◌⊎◌}
+use Rattle.ns_word.proofs.Prelude.{Any, AreVariables, Bool, Cv, Cvs, List, Lists, Mode, None, OnVariables, Only, Some, Variables, Waiter, [], ap, arith, bit_at, bit_at-lt, bit_at-zero, bit_at_above, bit_at_cat_low, cases_Bool, cases_eq, cases_lt, cond, counts_in, eq-eqb, eqb, eqb-true, false}
+use Rattle.ns_word.proofs.Prelude.{four_kept, get_or-le-sum_by, has, inl, inr, length, lt-ltb, ltb, named_for, ne_eqb, one_if, one_most, read_apart, read_back, refl, same_from_bits_below, subst, suc, sum_by, sum_by-cons, sym, times, times_at_most, times_in, times_in-append, times_in-cons, true}
+use Rattle.ns_word.proofs.Prelude.{waiters_of, waits_at, with_each, with_waiters, zero, ℕ, ◌∙◌}
 use Rattle.ns_model.specs.Cvs.{is_in}
 use Rattle.ns_word.proofs.CountsIn.{OnceInEach, none_one, some_one}
 
@@ -33,28 +34,24 @@ clear_bit cvs k low out = elim (cases_eq (bit_at cvs.0 k) 1) [
   lt_eight : (k : ℕ) → k < 4 → ltb k 8 ≡ true
   lt_eight k low = search (arith, low)
 
+-- one of the first n, or none of them
+one_below : (cvs : Cvs) (n : ℕ) → ((k : ℕ) × (is_in cvs k ≡ true)) ⊎ ((i : ℕ) → i < n → is_in cvs i ≡ false)
+one_below cvs zero = inr (λ i low. absurd (omega (arith, low)))
+one_below cvs (suc n) = elim (one_below cvs n) [
+  | inl one ↦ inl one
+  | inr none ↦ elim (cases_Bool (is_in cvs n)) [
+    | inl is ↦ inl (n, is)
+    | inr out ↦ inr (λ i low. elim (cases_eq i n) [ inl e ↦ ap (is_in cvs) e ∙ out | inr ne ↦ none i (omega (arith, low, ne)) ])
+  ]
+]
+
 -- there is one
 pub one_has : (variables : Variables) → AreVariables variables → (k : ℕ) × (has variables k ≡ true)
 one_has (Only j) low = (j, eq-eqb j j refl)
-one_has (Any cvs) are = elim (cases_Bool (is_in cvs 0)) [
-  | inl is ↦ (0, is)
-  | inr no0 ↦ elim (cases_Bool (is_in cvs 1)) [
-    | inl is ↦ (1, is)
-    | inr no1 ↦ elim (cases_Bool (is_in cvs 2)) [
-      | inl is ↦ (2, is)
-      | inr no2 ↦ elim (cases_Bool (is_in cvs 3)) [
-        | inl is ↦ (3, is)
-        | inr no3 ↦ absurd (omega (arith, are.0, same_from_bits_below 4 cvs.0 0 are.1 (omega arith) (λ i low. all_clear i low no0 no1 no2 no3)))
-      ]
-    ]
-  ]
-] where
-  all_clear : (i : ℕ) → i < 4 → is_in cvs 0 ≡ false → is_in cvs 1 ≡ false → is_in cvs 2 ≡ false → is_in cvs 3 ≡ false → bit_at cvs.0 i ≡ bit_at 0 i
-  all_clear zero low a b c d = clear_bit cvs 0 low a
-  all_clear (suc zero) low a b c d = clear_bit cvs 1 low b
-  all_clear (suc (suc zero)) low a b c d = clear_bit cvs 2 low c
-  all_clear (suc (suc (suc zero))) low a b c d = clear_bit cvs 3 low d
-  all_clear (suc (suc (suc (suc i)))) low a b c d = absurd (omega (arith, low))
+one_has (Any cvs) are = elim (one_below cvs 4) [
+  | inl one ↦ one
+  | inr none ↦ absurd (omega (arith, are.0, same_from_bits_below 4 cvs.0 0 are.1 (omega arith) (λ i low. clear_bit cvs i low (none i low))))
+]
 
 -- a set of which all are below 4, and which has some, is of variables that there are
 pub are_some : (cvs : Cvs) (k : ℕ) → cvs.0 < 256 → is_in cvs k ≡ true → ((j : ℕ) → is_in cvs j ≡ true → j < 4) → AreVariables (Any cvs)

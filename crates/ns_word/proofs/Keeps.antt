@@ -1,25 +1,20 @@
 -- Each kind of step keeps what holds of a lock and its seats.
-use Rattle.std.proofs.Common.{Bool, List, None, Option, Some, [], ap, arith, cond, eqb, eqb-true, false, inl, inr, is_some, length, not, refl, slice_set, subst, sym, true, ℕ, ◌&&◌, ◌++◌, ◌+◌, ◌<◌, ◌∙◌, ◌∷◌, ◌≡◌, ◌≢◌, ◌≤◌, ◌⊎◌}
-use Rattle.ns_word.proofs.Prelude.{Any, AreVariables, Arrival, Cond, CondWait, Cv, Event, Every, Exit, ExitFits, Held, IsExpected, IsLegalEvent, IsNamed, IsSettledBy, Lists, LockState, Mode, OnCondition, OnVariables, Only, Opening, Owed, OwesAs, Part, Phase, PlaceFits, Plain, QuietWriter}
-use Rattle.ns_word.proofs.Prelude.{Read, Reader, Releasing, SeatView, Stance, Standing, TakenTold, Taking, Tells, ToChange, ToQueue, Truths, VariableWaiterFits, Variables, VariablesTell, ViewFits, Waiter, WaiterNames, WaitersOwn, Waiting, Walk, Word, Write, Writer, and_parts}
-use Rattle.ns_word.proofs.Prelude.{awaits, bits_in, bits_of, both_ways, called_of, called_to, calls_from_lock, cases_Bool, counts_in, cvs_without, exit_for, first_standing, flags_with, has_armed, has_eligible, has_queues, has_some, in_stands, is_armed, is_held, is_in, is_of, is_on_way, is_queuing}
-use Rattle.ns_word.proofs.Prelude.{is_unwoken, is_woken, left_of, length-map, lock_stance, may_acquire, meets_at, mode_released, needs_scan, not-true, one_if, one_most, outside, owed_to, pays, phase_after, phase_before, phase_by, queued, section_of, standing_after, standing_from-append}
-use Rattle.ns_word.proofs.Prelude.{standing_next, stands_waits, sum_by, taken_set, times, times_among, times_at_most, times_in, times_in-append, tries_of, waiters_of, waits_at, waits_in, wakes_of, was_woken, who_of, with_lock, without_in, woken_of, woken_phase, woken_phases, word_acquired}
-use Rattle.ns_word.proofs.Prelude.{word_released, word_released_returning, word_returned, word_taken}
+use Rattle.std.proofs.Common.{◌&&◌, ◌++◌, ◌+◌, ◌<◌, ◌∷◌, ◌≡◌, ◌≢◌, ◌≤◌, ◌⊎◌}
+use Rattle.ns_word.proofs.Prelude.{Any, AreVariables, Arrival, Bool, Cond, CondWait, Cv, Event, Every, Exit, ExitFits, Held, IsExpected, IsLegalEvent, IsNamed, IsSettledBy, List, Lists, LockState, Mode, None, OnCondition, OnVariables, Only, Opening, Option, Owed, OwesAs, Part, Phase, PlaceFits}
+use Rattle.ns_word.proofs.Prelude.{Plain, QuietWriter, Read, Reader, Releasing, SeatView, Some, Stance, Standing, TakenTold, Taking, Tells, ToChange, ToQueue, Truths, VariableWaiterFits, Variables, VariablesTell, ViewFits, Waiter, WaiterNames, WaitersOwn, Waiting, Walk, Word, Write, Writer, []}
+use Rattle.ns_word.proofs.Prelude.{and_parts, ap, arith, awaits, bits_in, bits_of, both_ways, called_of, called_to, calls_from_lock, cases_Bool, cond, counts_in, cvs_without, eqb, eqb-true, exit_for, false, first_standing, flags_with, has_armed, has_eligible, has_queues, has_some, in_stands, inl}
+use Rattle.ns_word.proofs.Prelude.{inr, is_armed, is_held, is_in, is_of, is_on_way, is_queuing, is_some, is_unwoken, is_woken, left_of, length, length-map, lock_stance, may_acquire, meets_at, mode_released, needs_scan, not, not-true, one_if, one_most, outside, owed_to, pays, phase_after}
+use Rattle.ns_word.proofs.Prelude.{phase_before, phase_by, queued, refl, section_of, slice_set, standing_after, standing_from-append, standing_next, stands_waits, subst, sum_by, sym, taken_set, times, times_among, times_at_most, times_in, times_in-append, tries_of, true, waiters_of, waits_at}
+use Rattle.ns_word.proofs.Prelude.{waits_in, wakes_of, was_woken, who_of, with_lock, without_in, woken_of, woken_phase, woken_phases, word_acquired, word_released, word_released_returning, word_returned, word_taken, ℕ, ◌∙◌}
 use Rattle.ns_model.specs.declared.phase.Phase.TheVariants.{Idle, Left}
-use Rattle.ns_word.proofs.Listed.{listed_left, listed_queued, listed_without, none_of}
-use Rattle.ns_word.proofs.Groups.{Safe, Homed, Known, Groups}
+use Rattle.ns_word.proofs.Bases.{Groups, Homed, Known, Move, Safe, apart_parts, called_most, calls_tell, counts_entered, counts_gone, counts_lock, counts_none, counts_others, counts_somewhere, counts_taken, cvs_left, each_parts, entered_at, filter_eligible, left_event, listed_left, listed_queued}
+use Rattle.ns_word.proofs.Bases.{listed_without, news, none_of, olds, once_entered, once_left, once_taken, queued_eligible, tells_clear, tells_few, tells_from, times_others, times_queued, times_scan, times_seats, times_wakes, times_without, view_of, wakes_tell, walk_is, walk_was}
 use Rattle.ns_word.proofs.Knows.{is_loud, due_flag, nothing_called, rests as known_rests, acquires as known_acquires, takes as known_takes, arms as known_arms, puts, withdraws as known_withdraws, moves_in as known_moves, releases as known_releases, scans as known_scans, pays_one as known_pays}
 use Rattle.ns_word.proofs.Knows.{sees_wake as known_sees}
-use Rattle.ns_word.proofs.Views.{Move, apart_parts, called_most, each_parts, news, olds, view_of, walk_is, walk_was}
 use Rattle.ns_word.proofs.Waits.{not_due, cleared, placed_here, rested, armed, taken, entered, withdraws as withdrawn, woke, seen}
 use Rattle.ns_word.proofs.Owns.{long_eligible, own_stays, own_same, nowhere, own_queued, own_scanned, own_waited, own_without, own_moved}
-use Rattle.ns_word.proofs.CountsIn.{counts_gone, counts_lock, counts_none, counts_others, counts_somewhere, counts_taken, cvs_left, once_left, once_taken}
 use Rattle.ns_word.proofs.TakenTold.{left_stays, listed_woken, same_stays, told_arms, told_enters, told_pays, told_stays, told_wakes}
 use Rattle.ns_word.proofs.Variables.{stands_still, tell_same, tell_moves, tell_enters, tell_leaves, tell_lists, tell_taken, waits_of}
-use Rattle.ns_word.proofs.Scans.{calls_tell, tells_clear, tells_few, tells_from, times_wakes, wakes_tell, times_queued, times_seats, times_scan, times_without, times_others, filter_eligible, queued_eligible}
-use Rattle.ns_word.proofs.Enters.{counts_entered, entered_at, once_entered}
-use Rattle.ns_word.proofs.Leaving.{left_event}
 use Rattle.ns_word.proofs.Homes.{at_home, away, back_home}
 use Rattle.ns_word.proofs.Safes.{section, SameSection, same_section, unchanged, unchanged_by, woken, left_variables, Acquires, GivesUp, acquired, left_here, left_same, left_there, phases_here, phases_there, row_left, stored, released, dropped}
 

@@ -1,12 +1,9 @@
 -- Whether a wait that leaves still stands where it waits.
-use Rattle.std.proofs.Common.{Bool, List, None, Some, [], ap, arith, cond, false, inl, inr, length, ltb, ltb-false, ltb-true, refl, subst, sym, true, ℕ, ◌<◌, ◌∙◌, ◌≡◌}
-use Rattle.ns_word.proofs.Prelude.{AreApart, Cause, Cv, Event, InLeaving, InWait, IsExpected, IsFoundLeaving, IsLawful, Leave, Left, Lists, LockState, Mode, OnCondition, OnVariables, Phase, SeatView, SectionFits, Step, Truths, Variables, VariablesTell, ViewFits, Wait, Word, expected_for}
-use Rattle.ns_word.proofs.Prelude.{get_or-le-sum_by, home_of, phase_by, standing_after, stands_at, sum_by, times, times_in, waiters_of, waits_in, walk_at, without, without_in}
-use Rattle.ns_word.proofs.CountsIn.{gone_from, left_at}
+use Rattle.std.proofs.Common.{◌<◌, ◌≡◌}
+use Rattle.ns_word.proofs.Prelude.{AreApart, Bool, Cause, Cv, Event, InLeaving, InWait, IsExpected, IsFoundLeaving, IsLawful, Leave, Left, List, Lists, LockState, Mode, None, OnCondition, OnVariables, Phase, SeatView, SectionFits, Some, Step, Truths, Variables, VariablesTell, ViewFits, Wait, Word}
+use Rattle.ns_word.proofs.Prelude.{[], ap, arith, cond, expected_for, false, get_or-le-sum_by, home_of, inl, inr, length, ltb, ltb-false, ltb-true, phase_by, refl, standing_after, stands_at, subst, sum_by, sym, times, times_in, true, waiters_of, waits_in, walk_at, without, without_in, ℕ, ◌∙◌}
+use Rattle.ns_word.proofs.Bases.{apart_parts, effect_at, gone_from, left_at, place_at, step_fits, times_without, walk_here}
 use Rattle.ns_word.proofs.Variables.{stands_still}
-use Rattle.ns_word.proofs.Scans.{times_without}
-use Rattle.ns_word.proofs.Stepping.{effect_at, place_at, step_fits}
-use Rattle.ns_word.proofs.Views.{apart_parts, walk_here}
 
 module _ {C : Type 0} {N : ℕ} (phases : ℕ → Phase C) (lists : Lists C) (views : List (SeatView C N)) (seat : ℕ) (mode : Mode) (variables : Variables) where
   -- who waits for variables, by its place, and stands in none of their lists, has been woken by one of them

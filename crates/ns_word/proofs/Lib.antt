@@ -1,6 +1,7 @@
 pub mod Acts
 pub mod Answers
 pub mod Asked
+pub mod Bases
 pub mod Called
 pub mod Calls
 pub mod Causes

@@ -1,12 +1,9 @@
 -- What the steps leave of the waiters: each is its seat's own.
-use Rattle.std.proofs.Common.{Bool, List, None, Option, Some, [], ap, arith, cond, eqb-true, false, refl, subst, suc, sym, true, ℕ, ◌++◌, ◌+◌, ◌||◌, ◌∙◌, ◌∷◌, ◌≡◌}
-use Rattle.ns_word.proofs.Prelude.{AwaitWake, Every, InAcquire, InWait, Lists, Mode, Phase, SeatView, VariableWaiterFits, Waiter, WaiterFits, WaitersOwn, WaitersPlaced, Walk, counts_in, every-append, every_map, has_eligible, is_eligible, is_long, is_unwoken, left_of}
-use Rattle.ns_word.proofs.Prelude.{list_any, lock_stance, one_if, or_right, owed_to, place_awaits, queued, times, times_in, waits_in, walk_at, without_in}
-use Rattle.ns_word.proofs.Listed.{every_apart, listed_left, listed_queued, listed_without}
-use Rattle.ns_word.proofs.CountsIn.{counts_none}
-use Rattle.ns_word.proofs.Views.{Move, news, olds, stance_same, stance_stays, walk_is, walk_was}
+use Rattle.std.proofs.Common.{◌++◌, ◌+◌, ◌||◌, ◌∷◌, ◌≡◌}
+use Rattle.ns_word.proofs.Prelude.{AwaitWake, Bool, Every, InAcquire, InWait, List, Lists, Mode, None, Option, Phase, SeatView, Some, VariableWaiterFits, Waiter, WaiterFits, WaitersOwn, WaitersPlaced, Walk, [], ap, arith, cond, counts_in, eqb-true, every-append, every_map, false, has_eligible}
+use Rattle.ns_word.proofs.Prelude.{is_eligible, is_long, is_unwoken, left_of, list_any, lock_stance, one_if, or_right, owed_to, place_awaits, queued, refl, subst, suc, sym, times, times_in, true, waits_in, walk_at, without_in, ℕ, ◌∙◌}
+use Rattle.ns_word.proofs.Bases.{Move, counts_none, every_apart, listed_left, listed_queued, listed_without, news, olds, stance_same, stance_stays, times_scan, times_without, walk_is, walk_was}
 use Rattle.ns_word.proofs.Phases.{cond_in, tries_in}
-use Rattle.ns_word.proofs.Scans.{times_scan, times_without}
 
 module _ {C : Type 0} {N : ℕ} (m : Move C N) where
   open m use {who, walk, walk'}

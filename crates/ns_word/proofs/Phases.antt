@@ -1,7 +1,7 @@
 -- A waiter that has a condition is in the wait for it, by the history.
-use Rattle.std.proofs.Common.{Bool, List, None, Option, Some, [], ap, arith, cond, false, refl, slice_get, subst, suc, true, zero, ℕ, ◌∙◌, ◌∷◌, ◌≡◌, ◌≤◌}
-use Rattle.ns_word.proofs.Prelude.{AwaitWake, AwaitWakeInWait, Cond, Event, Held, InAcquire, InLeaving, InWait, IsExpected, IsLawful, LockState, LookOut, Mode, OnCondition, OnVariables, PayInWait, Phase, PlaceFits, SeatView, SectionFits, Stance, Standing, Subject, Truths, Wait, WaitFits, WaitPlace}
-use Rattle.ns_word.proofs.Prelude.{Waiter, WaiterFits, WaitersOwn, Walk, cond_on, expected_for, lock_stance, phase_of, place_awaits, standing_after, waits_in, walk_at}
+use Rattle.std.proofs.Common.{◌∷◌, ◌≡◌, ◌≤◌}
+use Rattle.ns_word.proofs.Prelude.{AwaitWake, AwaitWakeInWait, Bool, Cond, Event, Held, InAcquire, InLeaving, InWait, IsExpected, IsLawful, List, LockState, LookOut, Mode, None, OnCondition, OnVariables, Option, PayInWait, Phase, PlaceFits, SeatView, SectionFits, Some, Stance, Standing, Subject}
+use Rattle.ns_word.proofs.Prelude.{Truths, Wait, WaitFits, WaitPlace, Waiter, WaiterFits, WaitersOwn, Walk, [], ap, arith, cond, cond_on, expected_for, false, lock_stance, phase_of, place_awaits, refl, slice_get, standing_after, subst, suc, true, waits_in, walk_at, zero, ℕ, ◌∙◌}
 use Rattle.ns_word.proofs.Views.{view_with}
 
 -- how one waits that waits for this condition in this mode

@@ -1,12 +1,11 @@
 -- What the steps leave of the sections.
-use Rattle.std.proofs.Common.{Bool, List, None, Option, Some, [], ap, arith, cond, eq-eqb, eqb-true, false, inl, inr, length, length-set, ne_eqb, not, refl, slice_set, subst, sym, true, ℕ, ◌++◌, ◌+◌, ◌-◌, ◌<◌, ◌∙◌, ◌∷◌, ◌≡◌, ◌≢◌, ◌≤◌, ◌⊎◌}
-use Rattle.ns_word.proofs.Prelude.{Any, CameBack, Cause, Ended, EntryFits, Event, Exit, ExitFits, Expired, Held, HeldFits, IsBySeats, IsExpected, IsLegal, IsLegalEvent, IsSettledBy, Locked, Met, Mode, ModeFits, Notified, OnCondition, OnVariables, OneWriter, Only, Opening, OwesAs, Phase, PlaceFits}
-use Rattle.ns_word.proofs.Prelude.{Read, ReadersCounted, SeatView, SectionFits, Standing, Truths, Variables, ViewFits, Waiting, Walk, Woken, Word, Write, answer_of, both_ways, entry_of, first_standing, is_met, is_reading, is_write, is_writing, left_phase, legal_append, one_if, phase_after}
-use Rattle.ns_word.proofs.Prelude.{phase_before, phase_by, readers, section_of, standing_after, standing_from-append, standing_next, total_amid, who_of, writers}
+use Rattle.std.proofs.Common.{◌++◌, ◌+◌, ◌-◌, ◌<◌, ◌∷◌, ◌≡◌, ◌≢◌, ◌≤◌, ◌⊎◌}
+use Rattle.ns_word.proofs.Prelude.{Any, Bool, CameBack, Cause, Ended, EntryFits, Event, Exit, ExitFits, Expired, Held, HeldFits, IsBySeats, IsExpected, IsLegal, IsLegalEvent, IsSettledBy, List, Locked, Met, Mode, ModeFits, None, Notified, OnCondition, OnVariables, OneWriter, Only, Opening, Option}
+use Rattle.ns_word.proofs.Prelude.{OwesAs, Phase, PlaceFits, Read, ReadersCounted, SeatView, SectionFits, Some, Standing, Truths, Variables, ViewFits, Waiting, Walk, Woken, Word, Write, [], answer_of, ap, arith, both_ways, cond, entry_of, eq-eqb, eqb-true, false, first_standing, inl, inr, is_met}
+use Rattle.ns_word.proofs.Prelude.{is_reading, is_write, is_writing, left_phase, legal_append, length, length-set, ne_eqb, not, one_if, phase_after, phase_before, phase_by, readers, refl, section_of, slice_set, standing_after, standing_from-append, standing_next, subst, sym, total_amid, true}
+use Rattle.ns_word.proofs.Prelude.{who_of, writers, ℕ, ◌∙◌}
 use Rattle.ns_model.specs.declared.phase.Phase.TheVariants.{Left}
-use Rattle.ns_word.proofs.Leaving.{left_event, left_is_legal, left_next_here, left_next_there, left_row, left_who}
-use Rattle.ns_word.proofs.Groups.{Safe}
-use Rattle.ns_word.proofs.Views.{IsWokenBy, Move, apart_moves, apart_parts, each_join, each_moves, each_parts, each_woken, news, olds, view_of}
+use Rattle.ns_word.proofs.Bases.{IsWokenBy, Move, Safe, apart_moves, apart_parts, each_join, each_moves, each_parts, each_woken, left_event, left_is_legal, left_next_here, left_next_there, left_row, left_who, news, olds, view_of}
 
 pub by_seats_more : {C : Type 0} {N : ℕ} (seats : ℕ) (h : List (Event C N)) (e : Event C N) → IsBySeats seats h → who_of e < seats → IsBySeats seats (h ++ e ∷ [])
 by_seats_more seats [] e p q = (q, tt)

@@ -1,7 +1,8 @@
 -- How often a seat stands in the lists that a scan makes of one, or one that queues or leaves, and who is in them.
-use Rattle.std.proofs.Common.{Bool, List, None, Option, Some, [], ap, arith, cond, eq-eqb, eqb, false, inl, inr, le-ltb, length, lt-ltb, ltb, ltb-true, map, ne_eqb, not, refl, subst, sym, true, ℕ, ◌&&◌, ◌+◌, ◌<◌, ◌||◌, ◌∙◌, ◌∷◌, ◌≡◌, ◌≢◌, ◌≤◌, ◌⊎◌}
-use Rattle.ns_word.proofs.Prelude.{Every, Mode, Owed, Tells, Waiter, both_ways, called_by, called_of, cases_Bool, cases_eq, false_from_ne_true, filter, has_condition, has_eligible, has_some, is_eligible, is_from_lock, is_satisfied, left_of, length-map, list_any, one_if, or_parts, queued, reads}
-use Rattle.ns_word.proofs.Prelude.{seats_of, times_among, times_in, times_in-append, times_in-cons, value_of, wakes_of, without_in, woken_of, writes}
+use Rattle.std.proofs.Common.{◌&&◌, ◌+◌, ◌<◌, ◌||◌, ◌∷◌, ◌≡◌, ◌≢◌, ◌≤◌, ◌⊎◌}
+use Rattle.ns_word.proofs.Prelude.{Bool, Every, List, Mode, None, Option, Owed, Some, Tells, Waiter, [], ap, arith, both_ways, called_by, called_of, cases_Bool, cases_eq, cond, eq-eqb, eqb, false, false_from_ne_true, filter, has_condition, has_eligible, has_some, inl, inr, is_eligible, is_from_lock}
+use Rattle.ns_word.proofs.Prelude.{is_satisfied, le-ltb, left_of, length, length-map, list_any, lt-ltb, ltb, ltb-true, map, ne_eqb, not, one_if, or_parts, queued, reads, refl, seats_of, subst, sym, times_among, times_in, times_in-append, times_in-cons, true, value_of, wakes_of, without_in, woken_of}
+use Rattle.ns_word.proofs.Prelude.{writes, ℕ, ◌∙◌}
 
 -- what a wake from the lock list tells is 0, or of 6 to 9
 value_tells : (via : Option ℕ) → (value_of via ≡ 0) ⊎ ((6 ≤ value_of via) × (value_of via < 10))

@@ -1,12 +1,12 @@
 -- A fresh lock is lawful, and so is one where a call begins.
-use Rattle.std.proofs.Common.{Bool, List, None, Option, Some, [], ap, arith, cond, eqb, false, ltb, ltb-false, refl, replicate, subst, suc, sym, true, zero, ℕ, ◌++◌, ◌+◌, ◌-◌, ◌<◌, ◌∷◌, ◌≡◌, ◌≤◌}
-use Rattle.ns_word.proofs.Prelude.{AcquireLoad, AreApart, Begins, CanWait, Cv, EachFits, Event, Every, ForLock, HasNumber, Held, InAcquire, InCells, InQueuing, InRelease, InShow, InSignal, InTry, InWait, IsFirst, IsForVariables, IsLawful, Judging, Load, LockState, NoneIs, OnCondition, OnEntry}
-use Rattle.ns_word.proofs.Prelude.{OnVariables, PlaceFits, QuietCells, QuietLast, ReleaseLoad, SeatView, ShowLoad, SignalLoad, Subject, TestCells, TestLast, Tests, Truths, TryLoad, Wait, WakeTells, Walk, WordsSeen, both_ways, every_join, every_parts, first_for, first_row, first_standing}
-use Rattle.ns_word.proofs.Prelude.{fresh_state, fresh_views, has_armed, has_queues, is_queuing, is_reading, is_writing, length-replicate, one_if, owed_in, part_of, queuers, quiet_first, readers, times_among, total, wait_first, waiters_of, walk_at, word_seen, writers}
+use Rattle.std.proofs.Common.{◌++◌, ◌+◌, ◌-◌, ◌<◌, ◌∷◌, ◌≡◌, ◌≤◌}
+use Rattle.ns_word.proofs.Prelude.{AcquireLoad, AreApart, Begins, Bool, CanWait, Cv, EachFits, Event, Every, ForLock, HasNumber, Held, InAcquire, InCells, InQueuing, InRelease, InShow, InSignal, InTry, InWait, IsFirst, IsForVariables, IsLawful, Judging, List, Load, LockState, None, NoneIs}
+use Rattle.ns_word.proofs.Prelude.{OnCondition, OnEntry, OnVariables, Option, PlaceFits, QuietCells, QuietLast, ReleaseLoad, SeatView, ShowLoad, SignalLoad, Some, Subject, TestCells, TestLast, Tests, Truths, TryLoad, Wait, WakeTells, Walk, WordsSeen, [], ap, arith, both_ways, cond, eqb, every_join}
+use Rattle.ns_word.proofs.Prelude.{every_parts, false, first_for, first_row, first_standing, fresh_state, fresh_views, has_armed, has_queues, is_queuing, is_reading, is_writing, length-replicate, ltb, ltb-false, one_if, owed_in, part_of, queuers, quiet_first, readers, refl, replicate, subst, suc}
+use Rattle.ns_word.proofs.Prelude.{sym, times_among, total, true, wait_first, waiters_of, walk_at, word_seen, writers, zero, ℕ}
 use Rattle.ns_model.specs.declared.phase.Phase.TheVariants.{Idle}
 use Rattle.ns_word.proofs.Firsts.{first_is_bare}
-use Rattle.ns_word.proofs.Groups.{groups_of, lawful_by}
-use Rattle.ns_word.proofs.Views.{view_of}
+use Rattle.ns_word.proofs.Bases.{groups_of, lawful_by, view_of}
 use Rattle.ns_word.proofs.Safes.{same_section}
 use Rattle.ns_word.proofs.Keeps.{rests}
 use Rattle.ns_word.proofs.Leads.{Leads, leads_as, leads_to, tags_of}

@@ -1,6 +1,6 @@
 -- What the law says of the seat that makes a step, and what the step does, where its place is known.
-use Rattle.std.proofs.Common.{List, Some, ap, subst, ℕ, ◌∙◌, ◌≡◌}
-use Rattle.ns_word.proofs.Prelude.{EachFits, Effect, Event, Found, IsLawful, LockState, PlaceFits, SeatView, Step, Truths, ViewFits, Walk, part_of, standing_after, want_of}
+use Rattle.std.proofs.Common.{◌≡◌}
+use Rattle.ns_word.proofs.Prelude.{EachFits, Effect, Event, Found, IsLawful, List, LockState, PlaceFits, SeatView, Some, Step, Truths, ViewFits, Walk, ap, part_of, standing_after, subst, want_of, ℕ, ◌∙◌}
 use Rattle.ns_word.proofs.Views.{each_parts}
 
 module _ {C : Type 0} {N : ℕ} {truths : Truths C} {old new : LockState C N} {view : SeatView C N} {found : Found} {commits : List (Event C N)} (step : Step truths old view found new commits) where

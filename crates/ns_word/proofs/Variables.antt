@@ -1,14 +1,10 @@
 -- What the steps leave of the lists of the variables.
-use Rattle.std.proofs.Common.{Bool, List, None, Option, Some, [], ap, arith, cond, eq-eqb, eqb, false, inl, inr, length, ne_eqb, not, refl, subst, sum_by, sym, true, ℕ, ◌<◌, ◌∙◌, ◌∷◌, ◌≡◌, ◌≢◌, ◌≤◌}
-use Rattle.ns_word.proofs.Prelude.{AreVariables, AreWaiting, Cv, Every, IsOrderly, Lists, Mode, OnVariables, Only, Phase, SeatView, Seats, Stance, Subject, VariableWaiterFits, Variables, VariablesTell, WaitFor, Waiter, Waiting, Write, below_in, cases_Bool, cases_eq}
-use Rattle.ns_word.proofs.Prelude.{cvs_without, every_filter, every_join, gone_outside, has, is_in, is_waiting, once_in, one_if, outside, taken_set, times, times_at_most, times_in, times_in-append, times_in-cons, times_outside, waiters_of, waits_in, walk_at, with_lock, without_in, woken_phase}
-use Rattle.ns_word.proofs.Prelude.{woken_phases}
+use Rattle.std.proofs.Common.{◌<◌, ◌∷◌, ◌≡◌, ◌≢◌, ◌≤◌}
+use Rattle.ns_word.proofs.Prelude.{AreVariables, AreWaiting, Bool, Cv, Every, IsOrderly, List, Lists, Mode, None, OnVariables, Only, Option, Phase, SeatView, Seats, Some, Stance, Subject, VariableWaiterFits, Variables, VariablesTell, WaitFor, Waiter, Waiting, Write, [], ap, arith, below_in}
+use Rattle.ns_word.proofs.Prelude.{cases_Bool, cases_eq, cond, cvs_without, eq-eqb, eqb, every_filter, every_join, false, gone_outside, has, inl, inr, is_in, is_waiting, length, ne_eqb, not, once_in, one_if, outside, refl, subst, sum_by, sym, taken_set, times, times_at_most, times_in}
+use Rattle.ns_word.proofs.Prelude.{times_in-append, times_in-cons, times_outside, true, waiters_of, waits_in, walk_at, with_lock, without_in, woken_phase, woken_phases, ℕ, ◌∙◌}
 use Rattle.ns_model.specs.declared.phase.Phase.TheVariants.{Idle}
-use Rattle.ns_word.proofs.Enters.{HasEntered, one_has, stander, times_other, variable_low}
-use Rattle.ns_word.proofs.Listed.{listed_without}
-use Rattle.ns_word.proofs.CountsIn.{some_list, cvs_left, left_at, outside_same, taken_at}
-use Rattle.ns_word.proofs.Scans.{times_without, times_others}
-use Rattle.ns_word.proofs.Views.{Move, news, olds, stance_same, stance_stays, walk_is}
+use Rattle.ns_word.proofs.Bases.{HasEntered, Move, cvs_left, left_at, listed_without, news, olds, one_has, outside_same, some_list, stance_same, stance_stays, stander, taken_at, times_other, times_others, times_without, variable_low, walk_is}
 
 abbrev CvOf : {C : Type 0} → Lists C → ℕ → List (Waiter C)
 CvOf lists k = waiters_of lists (Cv k)

@@ -1,6 +1,5 @@
 -- When a wait for a condition has come back, and is about to answer; and what ends it early, once a look has shown that.
-use Rattle.std.specs.Prelude.{Bool, None, Option, Some, false, true}
-use Rattle.ns_word.specs.Names.{Aim, Cause, ForLock, ForWait, InAcquire, InLeaving, InQueuing, InWait, LookIn, OnEntry, OnReturn, TestCells, TestLast, Visit, WaitPlace, Walk}
+use Rattle.ns_word.specs.Names.{Aim, Bool, Cause, ForLock, ForWait, InAcquire, InLeaving, InQueuing, InWait, LookIn, None, OnEntry, OnReturn, Option, Some, TestCells, TestLast, Visit, WaitPlace, Walk, false, true}
 use Rattle.ns_word.specs.Waits.{cause_in}
 
 -- the condition is tested after the lock was acquired again

@@ -1,4 +1,5 @@
 -- The names of crates below and of this crate's own types, passed on from one place. Declares nothing.
+pub use Rattle.std.specs.Prelude.{All, Bool, IsSome, List, None, Option, Some, [], false, is_some, length, map, min, nat_lt, not, replicate, slice_index, slice_set, suc, sum_by, true, zero, ℕ}
 pub use Rattle.ns_env.specs.Walks.{is_limited}
 pub use Rattle.ns_env.specs.declared.limits.Cause.{Cause}
 pub use Rattle.ns_env.specs.declared.limits.Cause.TheVariants.{Expired, Notified}

@@ -1,9 +1,9 @@
 -- What a place in a call needs of its seat, and what an act needs.
-use Rattle.std.specs.Prelude.{Bool, IsSome, List, None, Option, Some, [], false, true, ℕ, ◌+◌, ◌<◌, ◌∷◌, ◌≡◌, ◌≤◌}
-use Rattle.ns_word.specs.Names.{Acquire, AcquireExchange, AcquirePlace, Act, Aim, Any, ArmFlag, AsFresh, AwaitWake, CameBack, CellPlace, Change, Ended, ForLock, ForWait, GetLoad, Held, InAcquire, InCells, InLeaving, InQueuing, InRelease, InShow, InSignal, InTry, InWait, JudgeMet, JudgeQuiet}
-use Rattle.ns_word.specs.Names.{LeavePlace, LeaveSelf, LoadCell, LoadFlag, LoadToScan, LoadWord, Locked, Look, LookIn, Mode, Nothing, OnCondition, OnEntry, OnReturn, OnVariables, Only, Opening, Outcome, Owed, Pay, PayWake, QueuePlace, QueueSelf, QuietCells, QuietLast, QuietWriter, Reader, Release}
-use Rattle.ns_word.specs.Names.{ReleaseExchange, ReleaseLoad, ReleasePlace, ReleaseReturning, Releasing, ReturnQueues, ScanAndRelease, ScanCells, SetLoad, SetStore, ShowPlace, SignalPlace, StoreCell, Subject, Take, TakeQueues, TakeToLeave, TakeToQueue, TakeToScan, TakeToShow, TakeToWake, TestCells}
-use Rattle.ns_word.specs.Names.{TestLast, Truths, TryAcquire, TryPlace, Variables, Visit, Wait, WaitPlace, WaitReturning, WakeWaiters, Walk, Woken, Write, Writer, times}
+use Rattle.std.specs.Prelude.{◌+◌, ◌<◌, ◌∷◌, ◌≡◌, ◌≤◌}
+use Rattle.ns_word.specs.Names.{Acquire, AcquireExchange, AcquirePlace, Act, Aim, Any, ArmFlag, AsFresh, AwaitWake, Bool, CameBack, CellPlace, Change, Ended, ForLock, ForWait, GetLoad, Held, InAcquire, InCells, InLeaving, InQueuing, InRelease, InShow, InSignal, InTry, InWait, IsSome, JudgeMet}
+use Rattle.ns_word.specs.Names.{JudgeQuiet, LeavePlace, LeaveSelf, List, LoadCell, LoadFlag, LoadToScan, LoadWord, Locked, Look, LookIn, Mode, None, Nothing, OnCondition, OnEntry, OnReturn, OnVariables, Only, Opening, Option, Outcome, Owed, Pay, PayWake, QueuePlace, QueueSelf, QuietCells, QuietLast}
+use Rattle.ns_word.specs.Names.{QuietWriter, Reader, Release, ReleaseExchange, ReleaseLoad, ReleasePlace, ReleaseReturning, Releasing, ReturnQueues, ScanAndRelease, ScanCells, SetLoad, SetStore, ShowPlace, SignalPlace, Some, StoreCell, Subject, Take, TakeQueues, TakeToLeave, TakeToQueue, TakeToScan}
+use Rattle.ns_word.specs.Names.{TakeToShow, TakeToWake, TestCells, TestLast, Truths, TryAcquire, TryPlace, Variables, Visit, Wait, WaitPlace, WaitReturning, WakeWaiters, Walk, Woken, Write, Writer, [], false, times, true, ℕ}
 use Rattle.ns_word.specs.Words.{mode_released, may_acquire, needs_scan}
 use Rattle.ns_word.specs.Waits.{OutcomeFits, cause_in, mode_for}
 use Rattle.ns_word.specs.Answers.{place_cause_kept}

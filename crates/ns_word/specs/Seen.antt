@@ -1,7 +1,6 @@
 -- The word that a seat has last seen, as its place in a call keeps it.
-use Rattle.std.specs.Prelude.{None, Option, Some}
-use Rattle.ns_word.specs.Names.{AcquireExchange, AcquirePlace, Arm, ArmToWait, InAcquire, InLeaving, InQueuing, InRelease, InShow, InSignal, InTry, InWait, Leave, LeavePlace, LoadToScan, Queue, QueuePlace, QueueToWait, ReleaseExchange, ReleasePlace, ReturnShown, ScanAndRelease, ScanCells}
-use Rattle.ns_word.specs.Names.{ShowPlace, SignalPlace, Take, TakeToLeave, TakeToQueue, TakeToScan, TakeToShow, TakeToWake, TryAcquire, TryPlace, WaitPlace, WakeAndReturn, Walk, Word}
+use Rattle.ns_word.specs.Names.{AcquireExchange, AcquirePlace, Arm, ArmToWait, InAcquire, InLeaving, InQueuing, InRelease, InShow, InSignal, InTry, InWait, Leave, LeavePlace, LoadToScan, None, Option, Queue, QueuePlace, QueueToWait, ReleaseExchange, ReleasePlace, ReturnShown, ScanAndRelease}
+use Rattle.ns_word.specs.Names.{ScanCells, ShowPlace, SignalPlace, Some, Take, TakeToLeave, TakeToQueue, TakeToScan, TakeToShow, TakeToWake, TryAcquire, TryPlace, WaitPlace, WakeAndReturn, Walk, Word}
 use Rattle.ns_word.specs.Codec.{IsPackable}
 
 abbrev pub try_seen : TryPlace → Option Word

@@ -1,5 +1,4 @@
-use Rattle.std.proofs.Common.{ap, arith, ◌∙◌}
-use Rattle.ns_word.proofs.Prelude.{word_of}
+use Rattle.ns_word.proofs.Prelude.{ap, arith, word_of, ◌∙◌}
 use Rattle.ns_word.proofs.Puts.{less, none}
 use Rattle.ns_word.proofs.number.LockWord.without_reader.Goals.{then-readers-gt0, else-readers-gt0}
 use Rattle.ns_word.proofs.number.LockWord.without_reader.Goals as goal

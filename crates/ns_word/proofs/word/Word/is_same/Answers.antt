@@ -1,4 +1,4 @@
-use Rattle.std.proofs.Common.{sym, ◌∙◌}
+use Rattle.ns_word.proofs.Prelude.{sym, ◌∙◌}
 use Rattle.ns_word.proofs.Same.{same_word}
 use Rattle.ns_word.proofs.word.Word.is_same.Goals as goal
 
