@@ -3,8 +3,8 @@ use Rattle.std.proofs.Common.{◌++◌, ◌+◌, ◌<◌, ◌∷◌, ◌≡◌, 
 use Rattle.ns_word.proofs.Prelude.{AcquireExchange, ActFits, AreApart, Arm, ArmToWait, AwaitWake, AwaitWakeInWait, AwaitWakeToLeave, Bool, CanWait, EachFits, Event, GetLoad, HasList, Held, InAcquire, InCells, InLeaving, InQueuing, InRelease, InShow, InSignal, InTry, InWait, IsForCondition}
 use Rattle.ns_word.proofs.Prelude.{IsInRange, IsLawful, IsSome, IsUnmet, Leave, List, LoadToScan, LockState, None, OnCondition, OnVariables, Option, Owed, OwesOne, Pay, PayInWait, PayTheWoken, PlaceFits, Queue, QueueToWait, QuietCells, QuietLast, ReleaseExchange, ReturnShown, ScanAndRelease}
 use Rattle.ns_word.proofs.Prelude.{ScanCells, SeatView, SetLoad, SetStore, Some, Subject, Take, TakeToLeave, TakeToQueue, TakeToScan, TakeToShow, TakeToWake, TestCells, TestLast, Tests, Truths, TryAcquire, ViewFits, Visit, Wait, WaitFits, WaitPlace, WakeAndReturn, Walk, [], ap, arith, awaits}
-use Rattle.ns_word.proofs.Prelude.{eq-eqb, false, has_some, judge_of, part_of, pays, refl, standing_after, subst, times, times_among, true, walk_at, want_of, want_waiting, ℕ, ◌∙◌}
-use Rattle.ns_word.proofs.Bases.{apart_parts, each_parts, none_of, walk_here}
+use Rattle.ns_word.proofs.Prelude.{eq-eqb, every_parts, false, has_some, judge_of, part_of, pays, refl, standing_after, subst, times, times_among, true, walk_at, want_of, want_waiting, ℕ, ◌∙◌}
+use Rattle.ns_word.proofs.Bases.{apart_parts, none_of, walk_here}
 use Rattle.ns_word.proofs.Ranges.{else_not, owed_below, readers_fewer}
 
 -- ---- the list of a wait is one that there is
@@ -40,7 +40,7 @@ module _ {C : Type 0} {N : ℕ} (truths : Truths C) where
 module _ {C : Type 0} {N : ℕ} (truths : Truths C) (seats : ℕ) (few : seats ≤ 64) (h : List (Event C N)) (s : LockState C N) (front : List (SeatView C N)) (view : SeatView C N) (back : List (SeatView C N)) (split : s.views ≡ front ++ view ∷ back) (p : IsLawful truths seats h s) where
   -- what the law says of a seat's view
   pub view_fits : ViewFits truths seats (standing_after h) s.row view
-  view_fits = (each_parts truths seats (standing_after h) s.row front view back (subst (λ vs. EachFits truths seats (standing_after h) s.row vs) split p.one_history.each)).1
+  view_fits = (every_parts (ViewFits truths seats (standing_after h) s.row) front view back (subst (λ vs. EachFits truths seats (standing_after h) s.row vs) split p.one_history.each)).1
 
   pub walk_is : walk_at view.seat s.views ≡ view.walk
   walk_is = ap (walk_at view.seat) split ∙ walk_here front view back (apart_parts front view back (subst (λ vs. AreApart vs) split p.apart)).0

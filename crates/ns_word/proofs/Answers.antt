@@ -14,10 +14,7 @@ ends_not : {C : Type 0} (N : ℕ) (walk : Walk C) (found : Found) (reply : Reply
 ends_not N walk found reply e is = let ends : not (may_end walk found) ≡ false = (subst (λ next. Follows walk found next) is (follows N walk found)).ends in absurd (both_ways (may_end walk found) e (not-false (may_end walk found) ends))
 
 looks_on : {C : Type 0} (wait : Wait C) (again : Bool) (reply : Reply) → look_or_queue wait again ≢ Done reply
-looks_on wait again reply is = go (is_limited wait.limits) is where
-  go : (b : Bool) → cond b (On (InWait wait (InQueuing again LookIn))) (On (InWait wait (InQueuing again Load))) ≢ Done reply
-  go true e = absurd (cc)
-  go false e = absurd (cc)
+looks_on wait again reply is = elim (is_limited wait.limits) as (λ b. cond b (On (InWait wait (InQueuing again LookIn))) (On (InWait wait (InQueuing again Load))) ≢ Done reply) [ true ↦ λ e. absurd (cc) | false ↦ λ e. absurd (cc) ] is
 
 -- ---- what it answers, and what is left of the section
 

@@ -1,21 +1,15 @@
 -- No step of a call changes what it was asked to do.
 use Rattle.std.proofs.Common.{◌-◌, ◌≡◌}
-use Rattle.ns_word.proofs.Prelude.{Await, Bool, Done, Found, Idle, InWait, Judging, Next, On, QuietCells, QuietLast, Request, Some, TestCells, TestLast, Visit, Wait, Walk, ap, asked_in_cells, asked_of, asked_to_judge, cond, false, got_of, ltb, quiet_place, refl, sym, test_place, true, walk_after, ℕ}
+use Rattle.ns_word.proofs.Prelude.{Await, Done, Found, Idle, InWait, Judging, Next, On, QuietCells, QuietLast, Request, Some, TestCells, TestLast, Visit, Wait, Walk, ap, asked_in_cells, asked_of, asked_to_judge, cond, false, got_of, ltb, quiet_place, refl, sym, test_place, true, walk_after, ℕ}
 use Rattle.ns_word.proofs.Prelude.{◌∙◌}
 use Rattle.ns_word.proofs.Follows.{follows, next_asked}
 
 module _ (C : Type 0) where
   pub test_asks : (N : ℕ) (wait : Wait C) (visit : Visit) (loaded : ℕ) → asked_of (test_place N wait visit loaded) ≡ Await wait
-  test_asks N wait visit loaded = go (ltb loaded (N - 1)) where
-    go : (b : Bool) → asked_of (cond b (InWait wait (TestCells visit loaded)) (InWait wait (TestLast visit (N - 1)))) ≡ Await wait
-    go true = refl
-    go false = refl
+  test_asks N wait visit loaded = elim (ltb loaded (N - 1)) as (λ b. asked_of (cond b (InWait wait (TestCells visit loaded)) (InWait wait (TestLast visit (N - 1)))) ≡ Await wait) [ true ↦ refl | false ↦ refl ]
 
   pub quiet_asks : (N : ℕ) (judging : Judging) (loaded : ℕ) → asked_in_cells {C = C} (quiet_place N judging loaded) ≡ asked_to_judge judging
-  quiet_asks N judging loaded = go (ltb loaded (N - 1)) where
-    go : (b : Bool) → asked_in_cells {C = C} (cond b (QuietCells judging loaded) (QuietLast judging (N - 1))) ≡ asked_to_judge judging
-    go true = refl
-    go false = refl
+  quiet_asks N judging loaded = elim (ltb loaded (N - 1)) as (λ b. asked_in_cells {C = C} (cond b (QuietCells judging loaded) (QuietLast judging (N - 1))) ≡ asked_to_judge judging) [ true ↦ refl | false ↦ refl ]
 
   asked_after : (request : Request C) (next : Next C) (walk : Walk C) → walk_after next ≡ Some walk → next_asked request next ≡ request → asked_of walk ≡ request
   asked_after request (On one) walk e p = let same : one ≡ walk = cc in sym (ap asked_of same) ∙ p

@@ -1,10 +1,10 @@
 -- What a call owes once it is over, whom it wakes, and when it looks and acquires as woken.
 use Rattle.std.proofs.Common.{◌<◌, ◌∷◌, ◌≡◌, ◌≤◌, ◌⊎◌}
 use Rattle.ns_word.proofs.Prelude.{Await, AwaitWakeInWait, Bool, Broadcasting, Cv, EachFits, Effect, Event, Every, Flag, ForLock, Found, Idle, InAcquire, InCells, InQueuing, InSignal, InWait, IsLawful, Left, Limits, List, Lists, LockState, Look, LookIn, LookOut, Made, None, On, Paid, Part}
-use Rattle.ns_word.proofs.Prelude.{PayTheWoken, PlaceFits, QuietCells, QuietLast, Saw, SeatView, SignalLoad, SignalPlace, Signaling, Some, Step, TakeToWake, Tells, ToTell, Truths, Wait, Waiter, Wake, WakeAndReturn, WakeWaiters, Waking, Walk, Woke, Word, [], ap, asked_of, broadcast_outside}
-use Rattle.ns_word.proofs.Prelude.{calls_from_lock, changed, cond, cvs_without, drop, false, got_of, has_come_back, inl, inr, is_held, is_limited, kept_by, length, outside, part_of, pays, refl, signal_outside, slice_get, standing_after, subst, suc, sym, take, taken_by, taken_set, times_in, true}
-use Rattle.ns_word.proofs.Prelude.{waiters_of, wake_of, walk_after, want_of, want_signaling, was_woken, ℕ, ◌∙◌}
-use Rattle.ns_word.proofs.Bases.{OnceInEach, each_parts, moved_at, none_of, place_at, taken_at}
+use Rattle.ns_word.proofs.Prelude.{PayTheWoken, PlaceFits, QuietCells, QuietLast, Saw, SeatView, SignalLoad, SignalPlace, Signaling, Some, Step, TakeToWake, Tells, ToTell, Truths, ViewFits, Wait, Waiter, Wake, WakeAndReturn, WakeWaiters, Waking, Walk, Woke, Word, [], ap, asked_of, broadcast_outside}
+use Rattle.ns_word.proofs.Prelude.{calls_from_lock, changed, cond, cvs_without, drop, every_parts, false, got_of, has_come_back, inl, inr, is_held, is_limited, kept_by, length, outside, part_of, pays, refl, signal_outside, slice_get, standing_after, subst, suc, sym, take, taken_by, taken_set}
+use Rattle.ns_word.proofs.Prelude.{times_in, true, waiters_of, wake_of, walk_after, want_of, want_signaling, was_woken, ℕ, ◌∙◌}
+use Rattle.ns_word.proofs.Bases.{OnceInEach, moved_at, none_of, place_at, taken_at}
 use Rattle.ns_word.proofs.Looks.{look_here, look_in}
 use Rattle.ns_word.proofs.Follows.{FoundCalled, follows}
 use Rattle.ns_word.proofs.Numbers.{split_at}
@@ -12,13 +12,13 @@ use Rattle.ns_word.proofs.Numbers.{split_at}
 -- A seat whose call is over owes nobody a wake.
 pub over_owes_nothing : {C : Type 0} {N : ℕ} (truths : Truths C) (seats : ℕ) (h : List (Event C N)) (s : LockState C N) (at : ℕ) (view : SeatView C N) → IsLawful truths seats h s → slice_get s.views at ≡ Some view → view.walk ≡ None → view.owed ≡ []
 over_owes_nothing truths seats h s at view lawful here over =
-    let fits = (each_parts truths seats (standing_after h) s.row (take at s.views) view (drop (suc at) s.views) (subst (λ vs. EachFits truths seats (standing_after h) s.row vs) (split_at s.views at view here) lawful.one_history.each)).1 in
+    let fits = (every_parts (ViewFits truths seats (standing_after h) s.row) (take at s.views) view (drop (suc at) s.views) (subst (λ vs. EachFits truths seats (standing_after h) s.row vs) (split_at s.views at view here) lawful.one_history.each)).1 in
     none_of view.owed (fits.owes.0 ∙ ap pays over)
 
 -- What a seat owes tells from where those were taken to whom it is owed.
 pub owed_tells : {C : Type 0} {N : ℕ} (truths : Truths C) (seats : ℕ) (h : List (Event C N)) (s : LockState C N) (at : ℕ) (view : SeatView C N) → IsLawful truths seats h s → slice_get s.views at ≡ Some view → Every (Tells (calls_from_lock view.walk)) view.owed
 owed_tells truths seats h s at view lawful here =
-    (each_parts truths seats (standing_after h) s.row (take at s.views) view (drop (suc at) s.views) (subst (λ vs. EachFits truths seats (standing_after h) s.row vs) (split_at s.views at view here) lawful.one_history.each)).1.owes.1
+    (every_parts (ViewFits truths seats (standing_after h) s.row) (take at s.views) view (drop (suc at) s.views) (subst (λ vs. EachFits truths seats (standing_after h) s.row vs) (split_at s.views at view here) lawful.one_history.each)).1.owes.1
 
 -- ---- whom a call wakes
 

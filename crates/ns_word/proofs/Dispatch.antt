@@ -4,24 +4,23 @@ use Rattle.ns_word.proofs.Prelude.{Acquire, AcquireExchange, AcquireLoad, Aim, A
 use Rattle.ns_word.proofs.Prelude.{ForLock, ForWait, Found, GetLoad, HasMode, HasNumber, Held, Idle, InAcquire, InCells, InLeaving, InQueuing, InRelease, InShow, InSignal, InTry, InWait, IsExpected, IsInRange, IsLawful, IsLegalEvent, IsSettled, IsToldSo, Leave, LeaveLoad, Left, Limits, List, Load}
 use Rattle.ns_word.proofs.Prelude.{LoadFlag, LoadToScan, LockState, LookIn, LookOut, Looked, Made, MayShow, MayWait, Mode, Next, None, On, OnCondition, OnVariables, Option, Outcome, OutcomeFits, Owed, Paid, Part, Pay, PayInWait, PayTheWoken, PayWake, Phase, PlaceFits, Queue, QueueToWait, Quiet}
 use Rattle.ns_word.proofs.Prelude.{QuietCells, QuietKeeps, QuietLast, QuietWriter, Read, ReleaseExchange, ReleaseLoad, Releasing, ReturnQueues, ReturnShown, Saw, ScanAndRelease, ScanCells, Scanned, SeatView, SetLoad, SetStore, ShowLoad, ShowPlace, SignalLoad, SignalPlace, Signaling, Some, Step}
-use Rattle.ns_word.proofs.Prelude.{Subject, Take, TakeQueues, TakeToLeave, TakeToQueue, TakeToScan, TakeToShow, TakeToWake, TestCells, TestLast, Tested, ToChange, ToQueue, ToldOn, Truths, TryAcquire, TryLoad, VariableWaiterFits, Visit, Wait, WaitPlace, WaitReturning, Waiter, Waiting, WakeAndReturn}
-use Rattle.ns_word.proofs.Prelude.{WakeWaiters, Waking, Walk, Woke, Word, Write, [], acquired_for, ap, append-nil, arith, armed_place, arrival_of, awaits, bits_of, both_ways, broadcast_legal, called_of, calls_from_lock, cause_in, change_found, changed, cond, counts_in, cvs_without, eq-eqb, eqb}
-use Rattle.ns_word.proofs.Prelude.{every_join, every_parts, every_signaled, expected_for, false, got_leaving, got_of, got_showing, got_signaling, got_waiting, has, has_armed, has_queues, has_some, held_after, home_of, inl, inr, is_from_lock, is_held, is_met, is_on_way, is_queuing, is_some, is_woken}
-use Rattle.ns_word.proofs.Prelude.{judge_of, kept_by, leave_of, left_of, ltb, ltb-true, may_acquire, meets_at, mode_for, mode_released, moved_to, moves, needs_scan, newly_held, not, opening_for, outcome_taken, owed_after, part_of, pay_releasing, pay_waiting, pay_woken, pays, phase_before, phase_by}
-use Rattle.ns_word.proofs.Prelude.{phase_for, phase_kept, queued, refl, releasing_of, rest_or_look, row_in, signal_legal, standing_after, standing_next, stands_at, subst, suc, sum_by, sym, taken_by, taken_set, times_in, times_signaled, tries_of, true, variable_told, waited_in, waiters_of, waits_in}
-use Rattle.ns_word.proofs.Prelude.{wake_of, wakes_of, walk_after, want_of, want_showing, want_signaling, want_waiting, was_woken, who_of, with_lock, without, without_in, woken_by, woken_of, woken_phases, word_acquired, word_released, word_released_returning, word_returned, word_seen, word_taken}
-use Rattle.ns_word.proofs.Prelude.{zero, ℕ, ◌∙◌}
+use Rattle.ns_word.proofs.Prelude.{Subject, Take, TakeQueues, TakeToLeave, TakeToQueue, TakeToScan, TakeToShow, TakeToWake, TestCells, TestLast, Tested, ToChange, ToQueue, ToldOn, Truths, TryAcquire, TryLoad, VariableWaiterFits, ViewFits, Visit, Wait, WaitPlace, WaitReturning, Waiter, Waiting}
+use Rattle.ns_word.proofs.Prelude.{WakeAndReturn, WakeWaiters, Waking, Walk, Woke, Word, Write, [], acquired_for, ap, append-nil, arith, armed_place, arrival_of, awaits, bits_of, both_ways, broadcast_legal, called_of, calls_from_lock, cause_in, change_found, changed, cond, counts_in, cvs_without}
+use Rattle.ns_word.proofs.Prelude.{eq-eqb, eqb, every_join, every_parts, every_signaled, expected_for, false, got_leaving, got_of, got_showing, got_signaling, got_waiting, has, has_armed, has_queues, has_some, held_after, home_of, inl, inr, is_from_lock, is_held, is_met, is_on_way, is_queuing}
+use Rattle.ns_word.proofs.Prelude.{is_some, is_woken, judge_of, kept_by, leave_of, left_of, ltb, ltb-true, may_acquire, meets_at, mode_for, mode_released, moved_to, moves, needs_scan, newly_held, not, opening_for, outcome_taken, owed_after, part_of, pay_releasing, pay_waiting, pay_woken, pays}
+use Rattle.ns_word.proofs.Prelude.{phase_before, phase_by, phase_for, phase_kept, queued, refl, releasing_of, rest_or_look, row_in, signal_legal, standing_after, standing_next, stands_at, subst, suc, sum_by, sym, taken_by, taken_set, times_in, times_signaled, tries_of, true, variable_told}
+use Rattle.ns_word.proofs.Prelude.{waited_in, waiters_of, waits_in, wake_of, wakes_of, walk_after, want_of, want_showing, want_signaling, want_waiting, was_woken, who_of, with_lock, without, without_in, woken_by, woken_of, woken_phases, word_acquired, word_released, word_released_returning}
+use Rattle.ns_word.proofs.Prelude.{word_returned, word_seen, word_taken, zero, ℕ, ◌∙◌}
 use Rattle.ns_model.specs.declared.phase.Phase.TheVariants.{Woken}
-use Rattle.ns_word.proofs.Bases.{Groups, apart_parts, counts_somewhere, cvs_left, each_parts, groups_of, lawful_by, left_told, none_of, not_left, out_of_cvs, out_of_lock, some_wakes, view_of, walk_here}
+use Rattle.ns_word.proofs.Bases.{Groups, apart_parts, counts_somewhere, cvs_left, groups_of, lawful_by, left_told, none_of, not_left, out_of_cvs, out_of_lock, some_wakes, view_of, walk_here}
 use Rattle.ns_word.proofs.Variables.{are_waiting}
 use Rattle.ns_word.proofs.Ranges.{counts_once, lists_orderly}
 use Rattle.ns_word.proofs.Safes.{same_section}
 use Rattle.ns_word.proofs.Follows.{follows}
-use Rattle.ns_word.proofs.Seen.{packable, found_fits}
-use Rattle.ns_word.proofs.Keeps.{PutsBack, Same, Stays, Way, rests, acquires, stores, releases, takes_to_change, takes_to_queue, arms, enqueues, withdraws, returns, leaves as leaves_variable, scans, waits, waits_on, waits_for, wakes, sees, wakes_waiters}
-use Rattle.ns_word.proofs.Leads.{Leads, leads_to, none_settled, shown_settled, try_leads, acquire_leads, acquired_leads, test_leads, met_leads, shown_section, queue_leads, leave_leads, rest_leads}
-use Rattle.ns_word.proofs.Leads.{pay_waiting_leads, release_leads, scan_leads, taken_leads, quiet_leads, judged_leads, pay_leads, calm_release}
-use Rattle.ns_word.proofs.Leads.{load_leads, armed_leads, signal_leads, pay_woken_leads, show_leads}
+use Rattle.ns_word.proofs.Seen.{found_fits, packable}
+use Rattle.ns_word.proofs.Keeps.{PutsBack, Same, Stays, Way, acquires, arms, enqueues, leaves as leaves_variable, releases, rests, returns, scans, sees, stores, takes_to_change, takes_to_queue, waits, waits_for, waits_on, wakes, wakes_waiters, withdraws}
+use Rattle.ns_word.proofs.Leads.{Leads, acquire_leads, acquired_leads, armed_leads, calm_release, judged_leads, leads_to, leave_leads, load_leads, met_leads, none_settled, pay_leads, pay_waiting_leads, pay_woken_leads, queue_leads, quiet_leads, release_leads, rest_leads, scan_leads, show_leads}
+use Rattle.ns_word.proofs.Leads.{shown_section, shown_settled, signal_leads, taken_leads, test_leads, try_leads}
 
 -- whether one that leaves found itself in the list
 abbrev stood_in : Found → Bool
@@ -118,24 +117,17 @@ module _ {C : Type 0} {N : ℕ} (truths : Truths C) (seats : ℕ) (h : List (Eve
   at part walk = record { word = part.word; row = part.row; lists = part.lists; flags = part.flags; views = front ++ view_of who walk part.held part.owed ∷ back }
 
   place : (walk : Walk C) (part : Part C N) → Groups truths seats h (at part (Some walk)) → PlaceFits truths (Some walk) part.held
-  place walk part p = (each_parts truths seats (standing_after h) part.row front (view_of who (Some walk) part.held part.owed) back p.safe.one_history.each).1.place
+  place walk part p = (every_parts (ViewFits truths seats (standing_after h) part.row) front (view_of who (Some walk) part.held part.owed) back p.safe.one_history.each).1.place
 
   puts_back : (wait : Wait C) (again : Bool) (last : Word) (owes : Bool) (took : List Owed) → owes ≡ has_some took → PutsBack (Some (InWait wait (InQueuing again (QueueToWait last)))) (walk_after (pay_waiting wait owes)) took
   puts_back wait again last true took e = record { idle = refl; owes = e; from = refl; had = refl; gave = refl; still = refl; unarmed = refl; unqueued = refl; off_way = λ flag n. refl }
   puts_back wait again last false took e = record { idle = refl; owes = e; from = refl; had = refl; gave = refl; still = refl; unarmed = refl; unqueued = refl; off_way = λ flag n. refl }
 
-  -- the event of a call that wakes is legal, and wakes just those
-  wake_legal : (waking : Waking) (k : ℕ) (ws : List (Waiter C)) → who < 64 → AreWaiting k (standing_after h).phases ws → IsLegalEvent truths.holds (standing_after h) (wake_of {C = C} {N = N} who waking k (taken_by waking ws))
-  wake_legal Signaling k ws low are = (low, signal_legal k (standing_after h).phases ws are)
-  wake_legal Broadcasting k ws low are = (low, broadcast_legal k (standing_after h).phases ws are)
-
-  wake_leaves : (waking : Waking) (k : ℕ) (took : List (Waiter C)) → standing_next {N = N} (standing_after h) (wake_of who waking k took) ≡ record { row = (standing_after h).row; phases = woken_phases k (taken_set took) (standing_after h).phases }
-  wake_leaves Signaling k took = refl
-  wake_leaves Broadcasting k took = refl
-
-  wake_by : (waking : Waking) (k : ℕ) (took : List (Waiter C)) → who_of (wake_of {C = C} {N = N} who waking k took) ≡ who
-  wake_by Signaling k took = refl
-  wake_by Broadcasting k took = refl
+  -- the event of a call that wakes is its own and legal, and wakes just those
+  wake_so : (waking : Waking) (k : ℕ) (ws : List (Waiter C)) → who < 64 → let now = standing_after h in let took = taken_by waking ws in let event = wake_of {C = C} {N = N} who waking k took in
+      AreWaiting k now.phases ws → (who_of event ≡ who) × IsLegalEvent truths.holds now event × (standing_next now event ≡ record { row = now.row; phases = woken_phases k (taken_set took) now.phases })
+  wake_so Signaling k ws low are = (refl, (low, signal_legal k (standing_after h).phases ws are), refl)
+  wake_so Broadcasting k ws low are = (refl, (low, broadcast_legal k (standing_after h).phases ws are), refl)
 
   module _ (part next : Part C N) (commits : List (Event C N)) (few : seats ≤ 64) where
     -- what holds before the step, with the seat at this place, and after it
@@ -156,12 +148,9 @@ module _ {C : Type 0} {N : ℕ} (truths : Truths C) (seats : ℕ) (h : List (Eve
     finds : {to : Option (Walk C)} (walk : Walk C) → next ≡ part → commits ≡ [] → pays (Some walk) ≡ false → Leads truths (Some walk) to part.held → Old (Some walk) → New to
     finds {to} walk e f idle fits p = silent to e f (rests truths seats h front who (Some walk) to back part part.held idle fits.place fits.same fits.queuing fits.way (same_section (Some walk) to part.held fits.stays) p)
 
-    -- the part with another section, and with other wakes to pay
+    -- the part with another section
     with_held : (walk : Walk C) (held : Option (Held C N)) → part.held ≡ held → Old (Some walk) → Groups truths seats h (at (record part { held = held }) (Some walk))
     with_held walk held e p = subst (λ x. Groups truths seats h (at (record part { held = x }) (Some walk))) e p
-
-    with_owed : (walk : Walk C) (owed : List Owed) → part.owed ≡ owed → Old (Some walk) → Groups truths seats h (at (record part { owed = owed }) (Some walk))
-    with_owed walk owed e p = subst (λ x. Groups truths seats h (at (record part { owed = x }) (Some walk))) e p
 
     acquired : (walk : Walk C) (to : Option (Walk C)) (aim : Aim C) (arrival : Arrival) (last : Word) → Effect truths who (Acquire aim arrival last) part Made next commits →
         pays (Some walk) ≡ false → ((ph : Phase C) → IsExpected (phase_by (Some walk)) ph → ph ≡ phase_for aim) → PlaceFits {N = N} truths to (Some (newly_held aim part.row)) → Same (Some walk) to → is_queuing to ≡ is_queuing (Some walk) →
@@ -181,7 +170,7 @@ module _ {C : Type 0} {N : ℕ} (truths : Truths C) (seats : ℕ) (h : List (Eve
     paid : (walk : Walk C) (to : Option (Walk C)) (owes : Bool) → (e : Effect truths who PayWake part (Paid owes) next commits) → (calls_from_lock to ≡ calls_from_lock (Some walk)) ⊎ (e.1 ≡ []) → PlaceFits truths to part.held → pays to ≡ owes → has_queues to ≡ has_queues (Some walk) →
         waits_in to ≡ waits_in (Some walk) →
         was_woken to ≡ was_woken (Some walk) → has_armed to ≡ false → is_queuing to ≡ is_queuing (Some walk) → Stays (Some walk) to part.held → Old (Some walk) → New to
-    paid walk to owes e from fits pay s a w set q stays p = silent to e.3 e.5 (wakes truths seats h front who (Some walk) to back part e.0 e.1 from fits (pay ∙ e.4) s a w set q stays (with_owed walk (e.0 ∷ e.1) e.2 p))
+    paid walk to owes e from fits pay s a w set q stays p = silent to e.3 e.5 (wakes truths seats h front who (Some walk) to back part e.0 e.1 from fits (pay ∙ e.4) s a w set q stays (subst (λ x. Groups truths seats h (at (record part { owed = x }) (Some walk))) e.2 p))
 
     -- a seat looks at its flag: cleared, it goes on to acquire, as woken where it was taken from the lock list; else where it waits on
     checks : (walk : Walk C) (aim : Aim C) (tries : ℕ) (other : Next C) (v : ℕ) (b : Bool) → eqb v 1 ≡ b → Effect truths who LoadFlag part (Flag v) next commits → part.held ≡ None →
@@ -293,11 +282,12 @@ module _ {C : Type 0} {N : ℕ} (truths : Truths C) (seats : ℕ) (h : List (Eve
         let walk = InSignal waking k (WakeAndReturn last) in
         let ws = waiters_of part.lists (Cv k) in
         let here = place walk part p in
-        let fit = (each_parts truths seats (standing_after h) part.row front (view_of who (Some walk) part.held part.owed) back p.safe.one_history.each).1 in
+        let fit = (every_parts (ViewFits truths seats (standing_after h) part.row) front (view_of who (Some walk) part.held part.owed) back p.safe.one_history.each).1 in
         let to = pay_woken_leads truths waking k part.held owes in
         let orderly = lists_orderly truths seats h (at part (Some walk)) p.placed p.safe.one_history.each few in
+        let so = wake_so waking k ws (omega (arith, few, fit.in_range)) (are_waiting (standing_after h).phases part.lists _ k orderly here.1 p.told) in
         wakes_waiters truths seats h front who (Some walk) (walk_after (pay_woken waking k owes)) back (wake_of who waking k (taken_by waking ws)) k (taken_by waking ws) part owed' lock' moved few here.1
-        (wake_by waking k (taken_by waking ws)) (wake_legal waking k ws (omega (arith, few, fit.in_range)) (are_waiting (standing_after h).phases part.lists _ k orderly here.1 p.told)) (wake_leaves waking k (taken_by waking ws))
+        so.0 so.1 so.2
         (λ seat. part_of_list waking ws seat) (taken_fit waking (Some walk) k ws (p.told.own k here.1)) refl ways (to.0 here.1 here.2) (to.1 ∙ is) (from_by C waking k owes owed' is) refl to.2 refl to.3 to.4 refl to.5 to.6 (λ none. to.7) p
 
     woken_at : (waking : Waking) (k : ℕ) (last : Word) (owes : Bool) (held some : Bool) →

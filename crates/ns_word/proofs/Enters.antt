@@ -1,8 +1,8 @@
 -- Where a wait for variables stands: in the list of each of them.
 use Rattle.std.proofs.Common.{◌%◌, ◌&&◌, ◌*◌, ◌++◌, ◌+◌, ◌/◌, ◌<◌, ◌^◌, ◌∷◌, ◌≡◌, ◌≢◌, ◌≤◌, ◌⊎◌}
 use Rattle.ns_word.proofs.Prelude.{Any, AreVariables, Bool, Cv, Cvs, List, Lists, Mode, None, OnVariables, Only, Some, Variables, Waiter, [], ap, arith, bit_at, bit_at-lt, bit_at-zero, bit_at_above, bit_at_cat_low, cases_Bool, cases_eq, cases_lt, cond, counts_in, eq-eqb, eqb, eqb-true, false}
-use Rattle.ns_word.proofs.Prelude.{four_kept, get_or-le-sum_by, has, inl, inr, length, lt-ltb, ltb, named_for, ne_eqb, one_if, one_most, read_apart, read_back, refl, same_from_bits_below, subst, suc, sum_by, sum_by-cons, sym, times, times_at_most, times_in, times_in-append, times_in-cons, true}
-use Rattle.ns_word.proofs.Prelude.{waiters_of, waits_at, with_each, with_waiters, zero, ℕ, ◌∙◌}
+use Rattle.ns_word.proofs.Prelude.{four_kept, get_or, get_or-le-sum_by, has, inl, inr, length, lt-ltb, ltb, named_for, ne_eqb, one_if, one_most, read_apart, read_back, refl, same_from_bits_below, subst, suc, sum_by, sum_by-cons, sym, times, times_at_most, times_in, times_in-append, times_in-cons}
+use Rattle.ns_word.proofs.Prelude.{true, waiters_of, waits_at, with_each, with_waiters, zero, ℕ, ◌∙◌}
 use Rattle.ns_model.specs.Cvs.{is_in}
 use Rattle.ns_word.proofs.CountsIn.{OnceInEach, none_one, some_one}
 
@@ -203,7 +203,7 @@ module _ {C : Type 0} where
     counts_entered seat = elim (cases_eq who seat) [
       | inl e ↦ subst (λ s. counts_in s new ≡ one_if (eqb who s) + counts_in s old) e here
       | inr ne ↦
-          let same = sums_same seat old.cvs new.cvs four entered.four (λ k low. times_other seat k ne low) in
+          let same = sums_same seat old.cvs new.cvs (entered.four ∙ sym four) (λ k low. times_other seat k ne (omega (arith, low, four))) in
           let zero : one_if (eqb who seat) ≡ 0 = ap one_if (ne_eqb who seat ne) in
           omega (arith, ap (times_in seat) entered.lock, ap (λ n. one_if (ltb 0 n)) same, zero)
     ] where
@@ -218,15 +218,10 @@ module _ {C : Type 0} where
           let after = some_one (sum_by (times_in who) new.cvs) (omega (arith, some, there, self)) in
           omega (arith, ap (times_in who) entered.lock, before, after, self)
 
-      -- lists of four that hold the same at each place hold the same in all
-      four_sum : (seat : ℕ) (cvs : List (List (Waiter C))) (lock : List (Waiter C)) → length cvs ≡ 4 →
-          sum_by (times_in seat) cvs ≡ times_in seat (waiters_of (record { lock = lock; cvs = cvs }) (Cv 0)) +
-          (times_in seat (waiters_of (record { lock = lock; cvs = cvs }) (Cv 1)) + (times_in seat (waiters_of (record { lock = lock; cvs = cvs }) (Cv 2)) + times_in seat
-          (waiters_of (record { lock = lock; cvs = cvs }) (Cv 3))))
-      four_sum seat (a ∷ b ∷ c ∷ d ∷ []) lock four = omega (arith, sum_by-cons (times_in seat) a (b ∷ c ∷ d ∷ []), sum_by-cons (times_in seat) b (c ∷ d ∷ []), sum_by-cons (times_in seat) c (d ∷ []), sum_by-cons (times_in seat) d [])
-      four_sum seat _ lock four = absurd (omega (arith, four))
-
-      sums_same : (seat : ℕ) (cvs cvs' : List (List (Waiter C))) → length cvs ≡ 4 → length cvs' ≡ 4 →
-          ((k : ℕ) → k < 4 → times_in seat (waiters_of (record { lock = []; cvs = cvs' }) (Cv k)) ≡ times_in seat (waiters_of (record { lock = []; cvs = cvs }) (Cv k))) → sum_by (times_in seat) cvs' ≡ sum_by (times_in seat) cvs
-      sums_same seat cvs cvs' four four' same =
-          omega (arith, four_sum seat cvs [] four, four_sum seat cvs' [] four', same 0 (omega arith), same 1 (omega arith), same 2 (omega arith), same 3 (omega arith))
+      -- lists that hold the same at each place hold the same in all
+      sums_same : (seat : ℕ) (cvs cvs' : List (List (Waiter C))) → length cvs' ≡ length cvs → ((k : ℕ) → k < length cvs → times_in seat (get_or cvs' k []) ≡ times_in seat (get_or cvs k [])) → sum_by (times_in seat) cvs' ≡ sum_by (times_in seat) cvs
+      sums_same seat [] [] as_many same = refl
+      sums_same seat (ws ∷ cvs) (ws' ∷ cvs') as_many same =
+          let rest = sums_same seat cvs cvs' (omega (arith, as_many)) (λ k low. same (suc k) (omega (arith, low))) in
+          omega (arith, sum_by-cons (times_in seat) ws cvs, sum_by-cons (times_in seat) ws' cvs', same 0 (omega arith), rest)
+      sums_same seat _ _ as_many same = absurd (omega (arith, as_many))

@@ -1,16 +1,16 @@
 -- What the steps leave of the queues' place and of the bits that tell of them.
 use Rattle.std.proofs.Common.{◌+◌, ◌≡◌, ◌≤◌}
-use Rattle.ns_word.proofs.Prelude.{List, Waiter, Word, ap, arith, bits_in, bits_of, false, has_queues, one_if, one_most, sym, takers, true, ℕ, ◌∙◌}
-use Rattle.ns_word.proofs.Bases.{Homed, Move, news, olds, takers_at, view_of}
+use Rattle.ns_word.proofs.Prelude.{List, Waiter, Word, ap, arith, bits_in, bits_of, false, has_queues, one_if, one_most, sym, takers, total_amid, true, ℕ, ◌∙◌}
+use Rattle.ns_word.proofs.Bases.{Homed, Move, news, olds, view_of}
 
 module _ {C : Type 0} {N : ℕ} (m : Move C N) where
   open m use {front, who, walk, held, owed, walk', held', owed', back}
 
   was : takers (olds m) ≡ takers front + (one_if (has_queues walk) + takers back)
-  was = takers_at front (view_of who walk held owed) back
+  was = total_amid (λ view. one_if (has_queues view.walk)) front (view_of who walk held owed) back
 
   is : takers (news m) ≡ takers front + (one_if (has_queues walk') + takers back)
-  is = takers_at front (view_of who walk' held' owed') back
+  is = total_amid (λ view. one_if (has_queues view.walk)) front (view_of who walk' held' owed') back
 
   -- the queues stay where they are
   pub at_home : (word word' : Word) (lock : List (Waiter C)) → word'.spin ≡ word.spin → bits_in word' ≡ bits_in word →

@@ -2,21 +2,21 @@
 use Rattle.std.proofs.Common.{◌&&◌, ◌++◌, ◌+◌, ◌<◌, ◌∷◌, ◌≡◌, ◌≢◌, ◌≤◌, ◌⊎◌}
 use Rattle.ns_word.proofs.Prelude.{Any, AreVariables, Arrival, Bool, Cond, CondWait, Cv, Event, Every, Exit, ExitFits, Held, IsExpected, IsLegalEvent, IsNamed, IsSettledBy, List, Lists, LockState, Mode, None, OnCondition, OnVariables, Only, Opening, Option, Owed, OwesAs, Part, Phase, PlaceFits}
 use Rattle.ns_word.proofs.Prelude.{Plain, QuietWriter, Read, Reader, Releasing, SeatView, Some, Stance, Standing, TakenTold, Taking, Tells, ToChange, ToQueue, Truths, VariableWaiterFits, Variables, VariablesTell, ViewFits, Waiter, WaiterNames, WaitersOwn, Waiting, Walk, Word, Write, Writer, []}
-use Rattle.ns_word.proofs.Prelude.{and_parts, ap, arith, awaits, bits_in, bits_of, both_ways, called_of, called_to, calls_from_lock, cases_Bool, cond, counts_in, cvs_without, eqb, eqb-true, exit_for, false, first_standing, flags_with, has_armed, has_eligible, has_queues, has_some, in_stands, inl}
-use Rattle.ns_word.proofs.Prelude.{inr, is_armed, is_held, is_in, is_of, is_on_way, is_queuing, is_some, is_unwoken, is_woken, left_of, length, length-map, lock_stance, may_acquire, meets_at, mode_released, needs_scan, not, not-true, one_if, one_most, outside, owed_to, pays, phase_after}
-use Rattle.ns_word.proofs.Prelude.{phase_before, phase_by, queued, refl, section_of, slice_set, standing_after, standing_from-append, standing_next, stands_waits, subst, sum_by, sym, taken_set, times, times_among, times_at_most, times_in, times_in-append, tries_of, true, waiters_of, waits_at}
-use Rattle.ns_word.proofs.Prelude.{waits_in, wakes_of, was_woken, who_of, with_lock, without_in, woken_of, woken_phase, woken_phases, word_acquired, word_released, word_released_returning, word_returned, word_taken, ℕ, ◌∙◌}
+use Rattle.ns_word.proofs.Prelude.{and_parts, ap, arith, awaits, bits_in, bits_of, both_ways, called_of, called_to, calls_from_lock, cases_Bool, cond, counts_in, cvs_without, eqb, eqb-true, every_parts, exit_for, false, first_standing, flags_with, has_armed, has_eligible, has_queues, has_some}
+use Rattle.ns_word.proofs.Prelude.{in_stands, inl, inr, is_armed, is_held, is_in, is_of, is_on_way, is_queuing, is_some, is_unwoken, is_woken, left_of, length, length-map, lock_stance, may_acquire, meets_at, mode_released, needs_scan, not, not-true, one_if, one_most, outside, owed_to, pays}
+use Rattle.ns_word.proofs.Prelude.{phase_after, phase_before, phase_by, queued, refl, section_of, slice_set, standing_after, standing_from-append, standing_next, stands_waits, subst, sum_by, sym, taken_set, times, times_among, times_at_most, times_in, times_in-append, tries_of, true, waiters_of}
+use Rattle.ns_word.proofs.Prelude.{waits_at, waits_in, wakes_of, was_woken, who_of, with_lock, without_in, woken_of, woken_phase, woken_phases, word_acquired, word_released, word_released_returning, word_returned, word_taken, ℕ, ◌∙◌}
 use Rattle.ns_model.specs.declared.phase.Phase.TheVariants.{Idle, Left}
-use Rattle.ns_word.proofs.Bases.{Groups, Homed, Known, Move, Safe, apart_parts, called_most, calls_tell, counts_entered, counts_gone, counts_lock, counts_none, counts_others, counts_somewhere, counts_taken, cvs_left, each_parts, entered_at, filter_eligible, left_event, listed_left, listed_queued}
+use Rattle.ns_word.proofs.Bases.{Groups, Homed, Known, Move, Safe, apart_parts, called_most, calls_tell, counts_entered, counts_gone, counts_lock, counts_none, counts_others, counts_somewhere, counts_taken, cvs_left, entered_at, filter_eligible, left_event, listed_left, listed_queued}
 use Rattle.ns_word.proofs.Bases.{listed_without, news, none_of, olds, once_entered, once_left, once_taken, queued_eligible, tells_clear, tells_few, tells_from, times_others, times_queued, times_scan, times_seats, times_wakes, times_without, view_of, wakes_tell, walk_is, walk_was}
-use Rattle.ns_word.proofs.Knows.{is_loud, due_flag, nothing_called, rests as known_rests, acquires as known_acquires, takes as known_takes, arms as known_arms, puts, withdraws as known_withdraws, moves_in as known_moves, releases as known_releases, scans as known_scans, pays_one as known_pays}
-use Rattle.ns_word.proofs.Knows.{sees_wake as known_sees}
-use Rattle.ns_word.proofs.Waits.{not_due, cleared, placed_here, rested, armed, taken, entered, withdraws as withdrawn, woke, seen}
-use Rattle.ns_word.proofs.Owns.{long_eligible, own_stays, own_same, nowhere, own_queued, own_scanned, own_waited, own_without, own_moved}
+use Rattle.ns_word.proofs.Knows.{acquires as known_acquires, arms as known_arms, due_flag, is_loud, moves_in as known_moves, nothing_called, pays_one as known_pays, puts, releases as known_releases, rests as known_rests, scans as known_scans, sees_wake as known_sees, takes as known_takes}
+use Rattle.ns_word.proofs.Knows.{withdraws as known_withdraws}
+use Rattle.ns_word.proofs.Waits.{armed, cleared, entered, not_due, placed_here, rested, seen, taken, withdraws as withdrawn, woke}
+use Rattle.ns_word.proofs.Owns.{long_eligible, nowhere, own_moved, own_queued, own_same, own_scanned, own_stays, own_waited, own_without}
 use Rattle.ns_word.proofs.TakenTold.{left_stays, listed_woken, same_stays, told_arms, told_enters, told_pays, told_stays, told_wakes}
-use Rattle.ns_word.proofs.Variables.{stands_still, tell_same, tell_moves, tell_enters, tell_leaves, tell_lists, tell_taken, waits_of}
+use Rattle.ns_word.proofs.Variables.{stands_still, tell_enters, tell_leaves, tell_lists, tell_moves, tell_same, tell_taken, waits_of}
 use Rattle.ns_word.proofs.Homes.{at_home, away, back_home}
-use Rattle.ns_word.proofs.Safes.{section, SameSection, same_section, unchanged, unchanged_by, woken, left_variables, Acquires, GivesUp, acquired, left_here, left_same, left_there, phases_here, phases_there, row_left, stored, released, dropped}
+use Rattle.ns_word.proofs.Safes.{Acquires, GivesUp, SameSection, acquired, dropped, left_here, left_same, left_there, left_variables, phases_here, phases_there, released, row_left, same_section, section, stored, unchanged, unchanged_by, woken}
 
 -- the places tell the same
 abbrev pub Same : {C : Type 0} → Option (Walk C) → Option (Walk C) → Type 0
@@ -34,17 +34,10 @@ NoWay walk = (flag n : ℕ) → is_on_way walk flag n ≡ false
 abbrev pub Stays : {C : Type 0} {N : ℕ} → Option (Walk C) → Option (Walk C) → Option (Held C N) → Type 0
 Stays walk walk' held = held ≡ None → phase_by walk' ≡ phase_by walk
 
--- the words tell the same of the sections
-abbrev pub SameHolders : Word → Word → Type 0
-SameHolders word word' = (word'.write ≡ word.write) × (word'.readers ≡ word.readers)
-
-taken_holders : (taking : Taking) (word : Word) → SameHolders word (word_taken taking word)
-taken_holders ToChange word = (refl, refl)
-taken_holders (ToQueue mode arrival) word = (refl, refl)
-
-taken_spin : (taking : Taking) (word : Word) → (word_taken taking word).spin ≡ true
-taken_spin ToChange word = refl
-taken_spin (ToQueue mode arrival) word = refl
+-- with the queues taken, the word tells the same of the sections
+taken_word : (taking : Taking) (word : Word) → let word' = word_taken taking word in (word'.write ≡ word.write) × (word'.readers ≡ word.readers) × (word'.spin ≡ true)
+taken_word ToChange word = (refl, refl, refl)
+taken_word (ToQueue mode arrival) word = (refl, refl, refl)
 
 released_queues : (releasing : Releasing) (word : Word) → ((word_released releasing word).spin ≡ word.spin) × (bits_in (word_released releasing word) ≡ bits_in word)
 released_queues Writer word = (refl, refl)
@@ -75,13 +68,9 @@ wakes_told b k took owed low (inr are) (inr none) = subst (λ xs. Every (Tells b
 wakes_told b k took owed low (inr are) (inl other) = subst (λ xs. Every (Tells b) xs) (sym are) (subst (λ c. Every (Tells c) (wakes_of k took)) (sym other) (wakes_tell k took low))
 
 -- a section that ends with a wait for variables may end so, and leaves its seat waiting for them
-exit_fits : {C : Type 0} (holds : C → List ℕ → Bool) (after : List ℕ) (variables : Variables) → ExitFits holds after (exit_for {C = C} (OnVariables variables))
-exit_fits holds after (Only k) = tt
-exit_fits holds after (Any cvs) = tt
-
-after_exit : {C : Type 0} (mode : Mode) (variables : Variables) → phase_after mode (exit_for {C = C} (OnVariables variables)) ≡ Waiting variables mode
-after_exit mode (Only k) = refl
-after_exit mode (Any cvs) = refl
+waiting_exit : {C : Type 0} (holds : C → List ℕ → Bool) (after : List ℕ) (mode : Mode) (variables : Variables) → let exit = exit_for {C = C} (OnVariables variables) in ExitFits holds after exit × (phase_after mode exit ≡ Waiting variables mode)
+waiting_exit holds after mode (Only k) = (tt, refl)
+waiting_exit holds after mode (Any cvs) = (tt, refl)
 
 not_waiting : {C : Type 0} (stance : Option (Stance C)) → is_some stance ≡ false → stance ≡ None
 not_waiting None e = refl
@@ -128,7 +117,7 @@ module _ {C : Type 0} {N : ℕ} (truths : Truths C) (seats : ℕ) (h : List (Eve
   with_left held exit = h ++ section_of truths.holds who held exit ∷ []
 
   fits : (part : Part C N) → Was part → ViewFits truths seats now part.row (view_of who walk part.held part.owed)
-  fits part p = (each_parts truths seats now part.row front (view_of who walk part.held part.owed) back p.safe.one_history.each).1
+  fits part p = (every_parts (ViewFits truths seats now part.row) front (view_of who walk part.held part.owed) back p.safe.one_history.each).1
 
   due : waits_in walk' ≡ waits_in walk → (flag : ℕ) → one_if (awaits walk' && is_armed flag) ≡ one_if (awaits walk && is_armed flag)
   due e flag = ap (λ w. one_if (is_some w && is_armed flag)) e
@@ -240,9 +229,9 @@ module _ {C : Type 0} {N : ℕ} (truths : Truths C) (seats : ℕ) (h : List (Eve
   takes taking part p idle none place pay a a' wait set stays known =
       let m = move part part p in
       let word' = word_taken taking part.word in
-      let same = taken_holders taking part.word in
+      let same = taken_word taking part.word in
       steady part word' part.row part.held p wait (λ f. absurd (cc)) (unchanged truths seats h m part.word word' part.row part.held part.held same.0 same.1 place (still_owes walk walk' part.owed idle pay (fits part p).owes) (same_section walk walk' part.held stays) p.safe)
-      (away m part.word word' part.lists.lock none (taken_spin taking part.word) a a' p.homed) known
+      (away m part.word word' part.lists.lock none same.2 a a' p.homed) known
 
   -- to change them
   pub takes_to_change : (part : Part C N) → pays walk ≡ false → part.word.spin ≡ false → PlaceFits truths walk' part.held → pays walk' ≡ pays walk → has_queues walk ≡ false → has_queues walk' ≡ true → waits_in walk' ≡ waits_in walk → has_armed walk' ≡ false → Stays walk walk' part.held →
@@ -302,7 +291,7 @@ module _ {C : Type 0} {N : ℕ} (truths : Truths C) (seats : ℕ) (h : List (Eve
       let views = front ++ view_of who walk part.held part.owed ∷ back in
       let here = placed_here (move part part p) part.lists part.flags p.placed in
       let most = one_most (is_unwoken walk (part.flags who)) in
-      let flag : part.flags who ≡ 1 = due_flag walk (part.flags who) (omega (arith, here, most, stood)) in
+      let flag : part.flags who ≡ 1 = due_flag walk (part.flags who) (omega (arith, here, stood)) in
       let unowed : called_to who views ≡ 0 = let few = called_most who views in omega (arith, here, most, stood, few) in
       (omega (arith, here, most, stood), (λ i. is_on_way walk (flag i) (unowed i)) ∙ o)
 
@@ -490,18 +479,18 @@ module _ {C : Type 0} {N : ℕ} (truths : Truths C) (seats : ℕ) (h : List (Eve
       let after = standing_after (with_left held exit) in
       let there = phases_there truths seats h who held exit in
       let in_lists = entered_at variables who mode false stay p.placed.four are in
-      let waits_now : phase_after held.mode exit ≡ Waiting variables held.mode = after_exit held.mode variables in
+      let ends = waiting_exit truths.holds held.row held.mode variables in
       let none = stands_not old puts.still p in
       let out : times who stay ≡ 0 = omega (arith, none, times_scan who meets lists.lock) in
       let known = scan_known releasing lists' old after.row p (sym (fits old p).section.cells ∙ sym (row_left truths seats h who held exit)) puts (subst (λ ws. has_eligible meets ws ≡ false) (sym in_lists.lock)) in
       record {
-        safe = released truths seats h m (mode_released releasing) exit part.word next.word part.row held is few settled (exit_fits truths.holds held.row variables) (subst (IsExpected (phase_by walk')) (sym waits_now) phase)
+        safe = released truths seats h m (mode_released releasing) exit part.word next.word part.row held is few settled ends.0 (subst (IsExpected (phase_by walk')) (sym ends.1) phase)
             (released_holders releasing part.word) place (sym puts.owes, calls_told walk' (woken_of meets lists.lock) puts.from) p.safe;
         homed = known.0;
         placed = entered m lists lists' part.flags in_lists.four (once_entered variables who mode stay lists' p.placed.four are out in_lists p.placed.once) (owes_none old puts.idle p)
             (λ seat. omega (arith, scan_parts meets lists seat, counts_entered variables who mode stay lists' p.placed.four are out in_lists seat)) set puts.still (ap is_some a') puts.unarmed p.placed;
         own = subst (λ lock. WaitersOwn lock (news m)) (sym in_lists.lock) (own_scanned m meets lists.lock (lock_nowhere lists none) p.own);
-        told = tell_enters m now.phases after.phases stay lists' variables mode p.placed.four are out in_lists a' (phases_here truths seats h who held exit ∙ waits_now ∙ ap (Waiting variables) in_mode) there (tell_lists now.phases lists stay.lock (olds m) p.told);
+        told = tell_enters m now.phases after.phases stay lists' variables mode p.placed.four are out in_lists a' (phases_here truths seats h who held exit ∙ ends.1 ∙ ap (Waiting variables) in_mode) there (tell_lists now.phases lists stay.lock (olds m) p.told);
         taken = subst (λ lock. TakenTold after.phases part.flags lock (news m)) (sym in_lists.lock)
             (told_enters m now.phases after.phases part.flags lists.lock (left_of meets lists.lock) there (lock_nowhere lists none) (unowed old puts.still p) (armed_now old set p)
             (λ due listed. listed_woken after.phases (news m) meets lists.lock listed) (λ listed. listed_left (WaiterNames after.phases (news m)) meets lists.lock listed) p.taken);

@@ -2,22 +2,24 @@
 use Rattle.std.proofs.Common.{◌&&◌, ◌++◌, ◌+◌, ◌||◌, ◌∷◌, ◌≡◌, ◌≢◌, ◌≤◌, ◌⊎◌}
 use Rattle.ns_word.proofs.Prelude.{Arrival, Bool, InAcquire, List, Lists, Mode, NobodyCouldGoOn, Option, Owed, QuietWriter, Read, Reader, Releasing, SeatView, Some, ToQueue, Waiter, WaitersPlaced, Walk, Word, Write, Writer, [], and_cases, and_parts, ap, arith, awaits, bits_of, both_ways, called_of}
 use Rattle.ns_word.proofs.Prelude.{called_to, calls_from_lock, cases_Bool, cases_eq, cond, counts_in, eq-eqb, eqb, eqb-true, false, flags_with, has_eligible, has_queues, has_some, inl, inr, is_armed, is_from_lock, is_held, is_long, is_on_way, is_queuing, is_unwoken, is_woken, left_of, list_any}
-use Rattle.ns_word.proofs.Prelude.{lt-ltb, ltb, ltb-true, may_acquire, ne_eqb, needs_scan, not, not-false, not-true, one_if, one_most, or_cases, or_parts, owed_to, queued, queuers, refl, subst, sym, takers, times_among, times_in, true, walk_at, was_woken, woken_of, word_acquired, word_released}
-use Rattle.ns_word.proofs.Prelude.{word_released_returning, word_returned, word_taken, ℕ, ◌∙◌}
-use Rattle.ns_word.proofs.Bases.{Homed, Known, Move, called_at, called_most, news, none_eligible, olds, queuers_at, some_queued, takers_at, times_scan, times_seats, view_of, walk_is, walk_stays, walk_was, woken_none, woken_some, writer_eligible}
+use Rattle.ns_word.proofs.Prelude.{lt-ltb, ltb, ltb-true, may_acquire, ne_eqb, needs_scan, not, not-false, not-true, one_if, one_most, or_cases, or_parts, owed_to, queued, queuers, refl, subst, sym, takers, times_among, times_in, total_amid, true, walk_at, was_woken, woken_of, word_acquired}
+use Rattle.ns_word.proofs.Prelude.{word_released, word_released_returning, word_returned, word_taken, ℕ, ◌∙◌}
+use Rattle.ns_word.proofs.Bases.{Homed, Known, Move, called_most, news, none_eligible, olds, one_set, some_queued, some_seat, times_scan, times_seats, view_of, walk_is, walk_stays, walk_was, woken_none, writer_eligible}
 use Rattle.ns_word.proofs.Waits.{cleared, due_of, placed_here}
 
 -- one that waits, and whose wake from the lock list is owed, is on its way
 called_on_way : {C : Type 0} (walk : Option (Walk C)) (flag owed : ℕ) → awaits walk ≡ true → 1 ≤ owed → is_on_way walk flag owed ≡ true
 called_on_way walk flag owed a some = rw a (rw (lt-ltb 0 owed some) (elim (was_woken walk) as (λ b. (b || (true && (is_from_lock flag || true))) ≡ true) [ true ↦ refl | false ↦ elim (is_from_lock flag) as (λ c. (c || true) ≡ true) [ true ↦ refl | false ↦ refl ] ]))
 
+-- with more to say so, one is on its way still
+or_more : (b a c c' : Bool) → (c ≡ true → c' ≡ true) → (b || (a && c)) ≡ true → (b || (a && c')) ≡ true
+or_more true a c c' more e = refl
+or_more false true c c' more e = more e
+or_more false false c c' more e = absurd (cc)
+
 -- a wake of one taken from the lock list was paid
 cleared_on_way : {C : Type 0} (walk : Option (Walk C)) (flag value owed owed' : ℕ) → is_from_lock value ≡ true → is_on_way walk flag owed ≡ true → is_on_way walk value owed' ≡ true
-cleared_on_way walk flag value owed owed' from e = rw from (go (was_woken walk) (awaits walk) e) where
-  go : (b a : Bool) → (b || (a && (is_from_lock flag || ltb 0 owed))) ≡ true → (b || (a && (true || ltb 0 owed'))) ≡ true
-  go true a f = refl
-  go false true f = refl
-  go false false f = absurd (cc)
+cleared_on_way walk flag value owed owed' from e = or_more (was_woken walk) (awaits walk) _ (is_from_lock value || ltb 0 owed') (λ z. rw from refl) e
 
 -- and one of another
 woken_on_way : {C : Type 0} (walk : Option (Walk C)) (value owed : ℕ) → is_from_lock value ≡ false → is_on_way walk 1 owed ≡ true → is_on_way walk value owed ≡ true
@@ -25,23 +27,15 @@ woken_on_way walk value owed other e = rw other e
 
 -- more wakes owed are no fewer
 more_on_way : {C : Type 0} (walk : Option (Walk C)) (flag owed owed' : ℕ) → owed ≤ owed' → is_on_way walk flag owed ≡ true → is_on_way walk flag owed' ≡ true
-more_on_way walk flag owed owed' less e = go (was_woken walk) (awaits walk) (is_from_lock flag) e where
-  some : ltb 0 owed ≡ true → ltb 0 owed' ≡ true
-  some f = lt-ltb 0 owed' (omega (arith, ltb-true 0 owed f, less))
+more_on_way walk flag owed owed' less e =
+    or_more (was_woken walk) (awaits walk) _ _ (or_more (is_from_lock flag) true (ltb 0 owed) (ltb 0 owed') (λ f. lt-ltb 0 owed' (omega (arith, ltb-true 0 owed f, less)))) e
 
-  go : (b a c : Bool) → (b || (a && (c || ltb 0 owed))) ≡ true → (b || (a && (c || ltb 0 owed'))) ≡ true
-  go true a c f = refl
-  go false true true f = refl
-  go false true false f = some f
-  go false false c f = absurd (cc)
+-- a seat that is due has its flag set, and waits
+pub due_flag : {C : Type 0} (walk : Option (Walk C)) (flag : ℕ) → 1 ≤ one_if (is_unwoken walk flag) → flag ≡ 1
+due_flag walk flag e = eqb-true flag 1 (and_parts (awaits walk) (eqb flag 1) (one_set _ e)).1
 
--- a seat that is due has its flag set
-pub due_flag : {C : Type 0} (walk : Option (Walk C)) (flag : ℕ) → one_if (is_unwoken walk flag) ≡ 1 → flag ≡ 1
-due_flag walk flag e = go (awaits walk) (eqb flag 1) refl e where
-  go : (a b : Bool) → eqb flag 1 ≡ b → one_if (a && b) ≡ 1 → flag ≡ 1
-  go true true f g = eqb-true flag 1 f
-  go true false f g = absurd (cc)
-  go false b f g = absurd (cc)
+pub due_awaits : {C : Type 0} (walk : Option (Walk C)) (flag : ℕ) → 1 ≤ one_if (is_unwoken walk flag) → awaits walk ≡ true
+due_awaits walk flag e = (and_parts (awaits walk) (is_armed flag) (one_set _ e)).0
 
 -- places that tell the same are on the way alike
 goes_on : {C : Type 0} (walk walk' : Option (Walk C)) (flag owed : ℕ) → awaits walk' ≡ awaits walk → was_woken walk' ≡ was_woken walk → is_on_way walk flag owed ≡ true → is_on_way walk' flag owed ≡ true
@@ -50,12 +44,6 @@ goes_on walk walk' flag owed a w e = rw (w, a) e
 some_append : {A : Type 0} (xs ys : List A) → has_some ys ≡ true → has_some (xs ++ ys) ≡ true
 some_append [] ys e = e
 some_append (x ∷ xs) ys e = refl
-
-pub due_awaits : {C : Type 0} (walk : Option (Walk C)) (flag : ℕ) → 1 ≤ one_if (is_unwoken walk flag) → awaits walk ≡ true
-due_awaits walk flag e = go (awaits walk) e where
-  go : (b : Bool) → 1 ≤ one_if (b && is_armed flag) → b ≡ true
-  go true f = refl
-  go false f = absurd (omega (arith, f))
 
 queuer_spins : {C : Type 0} (walk : Option (Walk C)) → one_if (is_queuing walk) ≤ one_if (has_queues walk)
 queuer_spins (Some (InAcquire aim place)) = omega arith
@@ -85,10 +73,8 @@ refused Read arrival word e w r =
 
 -- one that owes no wake owes none of one taken from the lock list
 pub nothing_called : {C : Type 0} (at : Option (Walk C)) (owing : List Owed) (seat : ℕ) → owing ≡ [] → ◌≡◌ {A = ℕ} (cond (calls_from_lock at) (times_among seat owing) 0) 0
-nothing_called at owing seat none = subst (λ xs. ◌≡◌ {A = ℕ} (cond (calls_from_lock at) (times_among seat xs) 0) 0) (sym none) (go (calls_from_lock at)) where
-  go : (b : Bool) → ◌≡◌ {A = ℕ} (cond b 0 0) 0
-  go true = refl
-  go false = refl
+nothing_called at owing seat none =
+    subst (λ xs. ◌≡◌ {A = ℕ} (cond (calls_from_lock at) (times_among seat xs) 0) 0) (sym none) (elim (calls_from_lock at) as (λ b. ◌≡◌ {A = ℕ} (cond b 0 0) 0) [ true ↦ refl | false ↦ refl ])
 
 module _ {C : Type 0} {N : ℕ} where
   queuers_most : (views : List (SeatView C N)) → queuers views ≤ takers views
@@ -99,7 +85,7 @@ module _ {C : Type 0} {N : ℕ} (holds : C → List ℕ → Bool) (m : Move C N)
   open m use {front, who, walk, held, owed, walk', held', owed', back}
 
   same_queuers : is_queuing walk' ≡ is_queuing walk → queuers (news m) ≡ queuers (olds m)
-  same_queuers e = queuers_at front (view_of who walk' held' owed') back ∙ rw e (sym (queuers_at front (view_of who walk held owed) back))
+  same_queuers e = total_amid (λ (view : SeatView C N). one_if (is_queuing view.walk)) front (view_of who walk' held' owed') back ∙ rw e (sym (total_amid (λ (view : SeatView C N). one_if (is_queuing view.walk)) front (view_of who walk held owed) back))
 
   abbrev Way : (ℕ → ℕ) → List (SeatView C N) → Type 0
   Way flags views = (seat : ℕ) × (is_on_way (walk_at seat views) (flags seat) (called_to seat views) ≡ true)
@@ -112,10 +98,10 @@ module _ {C : Type 0} {N : ℕ} (holds : C → List ℕ → Bool) (m : Move C N)
   CallsSame = (seat : ℕ) → called walk' owed' seat ≡ called walk owed seat
 
   called_old : (seat : ℕ) → called_to seat (olds m) ≡ called_to seat front + (called walk owed seat + called_to seat back)
-  called_old seat = called_at seat front (view_of who walk held owed) back
+  called_old seat = total_amid (λ view. called view.walk view.owed seat) front (view_of who walk held owed) back
 
   called_new : (seat : ℕ) → called_to seat (news m) ≡ called_to seat front + (called walk' owed' seat + called_to seat back)
-  called_new seat = called_at seat front (view_of who walk' held' owed') back
+  called_new seat = total_amid (λ view. called view.walk view.owed seat) front (view_of who walk' held' owed') back
 
   same_called : CallsSame → (seat : ℕ) → called_to seat (news m) ≡ called_to seat (olds m)
   same_called e seat = omega (arith, called_old seat, called_new seat, e seat)
@@ -145,12 +131,12 @@ module _ {C : Type 0} {N : ℕ} (holds : C → List ℕ → Bool) (m : Move C N)
   -- while the seat has the queues, nobody queues beside it
   alone : (word : Word) (lock : List (Waiter C)) → has_queues walk ≡ true → is_queuing walk' ≡ false → Homed word lock (olds m) → queuers (news m) ≡ 0
   alone word lock spin q' homed =
-      let all = takers_at front (view_of who walk held owed) back in
+      let all = total_amid (λ (view : SeatView C N). one_if (has_queues view.walk)) front (view_of who walk held owed) back in
       let here : one_if (has_queues walk) ≡ 1 = ap one_if spin in
       let sum : takers (olds m) ≡ one_if word.spin = homed.spin in
       let most = one_most word.spin in
       let f = queuers_most front in let b = queuers_most back in
-      let count = queuers_at front (view_of who walk' held' owed') back in
+      let count = total_amid (λ (view : SeatView C N). one_if (is_queuing view.walk)) front (view_of who walk' held' owed') back in
       let none : one_if (is_queuing walk') ≡ 0 = ap one_if q' in
       omega (arith, all, here, sum, most, f, b, count, none)
 
@@ -204,7 +190,7 @@ module _ {C : Type 0} {N : ℕ} (holds : C → List ℕ → Bool) (m : Move C N)
   pub puts : (mode : Mode) (c : Option C) (tries : ℕ) (first : Bool) (word : Word) (now : List ℕ) (lock : List (Waiter C)) (flags : ℕ → ℕ) → CallsSame → is_queuing walk ≡ true → ((flag n : ℕ) → is_on_way walk flag n ≡ false) →
       Known holds word now lock flags (olds m) → Known holds (word_returned false (bits_of (queued who mode c tries first lock)) word) now (queued who mode c tries first lock) flags (news m)
   puts mode c tries first word now lock flags calls q o p =
-      let count : queuers (olds m) ≡ queuers front + (one_if (is_queuing walk) + queuers back) = queuers_at front (view_of who walk held owed) back in
+      let count : queuers (olds m) ≡ queuers front + (one_if (is_queuing walk) + queuers back) = total_amid (λ (view : SeatView C N). one_if (is_queuing view.walk)) front (view_of who walk held owed) back in
       let one : one_if (is_queuing walk) ≡ 1 = ap one_if q in
       let some : queuers (olds m) ≢ 0 = λ z. absurd (omega (arith, count, one, z)) in
       record {
@@ -285,7 +271,7 @@ module _ {C : Type 0} {N : ℕ} (holds : C → List ℕ → Bool) (m : Move C N)
       record {
         on_way = λ e. elim (or_cases took word.desig e) [
           | inl t ↦
-              let one = woken_some meets lock t in
+              let one = some_seat (woken_of meets lock) t in
               let seat = one.0 in
               let sum : counts_in seat lists + _ ≡ one_if (is_unwoken (walk_at seat (olds m)) (flags seat)) = placed.placed seat in
               let part = times_scan seat meets lock in
@@ -318,7 +304,7 @@ module _ {C : Type 0} {N : ℕ} (holds : C → List ℕ → Bool) (m : Move C N)
       Known holds word now lists.lock flags (olds m) → Known holds word now lists.lock (flags_with flags wake.seat wake.value) (news m)
   pays_one word now lists flags wake owes calls after_all q a w placed p =
       let target = wake.seat in let value = wake.value in
-      let due : (seat : ℕ) → target ≡ seat → flags seat ≡ 1 = λ seat e. due_flag (walk_at seat (olds m)) (flags seat) (due_of m wake seat lists flags owes e placed) in
+      let due : (seat : ℕ) → target ≡ seat → flags seat ≡ 1 = λ seat e. let due = due_of m wake seat lists flags owes e placed in due_flag (walk_at seat (olds m)) (flags seat) (omega (arith, due)) in
       let goes : (seat : ℕ) (at : Option (Walk C)) → is_on_way at (flags seat) (called_to seat (olds m)) ≡ true → is_on_way at (flags_with flags target value seat) (called_to seat (news m)) ≡ true = λ seat at f.
       elim (cases_eq target seat) [
         | inl e ↦ subst (λ n. is_on_way at n (called_to seat (news m)) ≡ true) (sym (ap (λ b. cond b value (flags seat)) (eq-eqb target seat e))) (elim (cases_Bool (is_from_lock value)) [

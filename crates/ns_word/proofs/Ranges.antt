@@ -1,8 +1,8 @@
 -- Which seats the law speaks of, and how many: those that wait or are owed a wake are seats, each stands once, and not all of 64 read while one asks to.
 use Rattle.std.proofs.Common.{◌++◌, ◌+◌, ◌<◌, ◌∷◌, ◌≡◌, ◌≤◌}
-use Rattle.ns_word.proofs.Prelude.{AreApart, Cv, EachFits, Event, IsLawful, IsOrderly, List, Lists, LockState, None, NoneIs, Read, SeatView, Standing, Truths, Waiter, WaitersPlaced, [], ap, arith, awaits, beside, cases_eq, cond, counts_in, eqb, false, few, inl, inr, is_reading, is_unwoken, length}
-use Rattle.ns_word.proofs.Prelude.{ne_eqb, one_if, one_most, owed_to, readers, refl, room_for, standing_after, subst, sym, times, times_among, times_in, times_in-cons, true, waiters_of, walk_at, ℕ, ◌∙◌}
-use Rattle.ns_word.proofs.Bases.{counts_none, counts_there, each_parts, none_parts, owed_at, view_with}
+use Rattle.ns_word.proofs.Prelude.{AreApart, Cv, EachFits, Event, IsLawful, IsOrderly, List, Lists, LockState, None, NoneIs, Read, SeatView, Standing, Truths, ViewFits, Waiter, WaitersPlaced, [], ap, arith, awaits, beside, cases_eq, cond, counts_in, eqb, every_parts, false, few, inl, inr}
+use Rattle.ns_word.proofs.Prelude.{is_reading, is_unwoken, length, ne_eqb, one_if, one_most, owed_to, readers, refl, room_for, standing_after, subst, sym, times, times_among, times_in, times_in-cons, true, waiters_of, walk_at, ℕ, ◌∙◌}
+use Rattle.ns_word.proofs.Bases.{counts_none, counts_there, none_parts, owed_at, view_with}
 use Rattle.ns_word.proofs.Knows.{due_awaits}
 
 -- ---- seats that wait
@@ -133,6 +133,6 @@ module _ {C : Type 0} {N : ℕ} (truths : Truths C) (seats : ℕ) (h : List (Eve
       let apart = subst (λ vs. AreApart vs) split p.apart in
       let each = subst (λ vs. EachFits truths seats (standing_after h) s.row vs) split p.one_history.each in
       let count : s.word.readers ≡ readers views = p.readers_counted ∙ ap (λ vs. readers vs) split in
-      let here = (each_parts truths seats (standing_after h) s.row front view back each).1 in
+      let here = (every_parts (ViewFits truths seats (standing_after h) s.row) front view back each).1 in
       let room = room_for seats (reading views) (reader view) (λ seat. reading_once seat views apart) (λ seat high. reading_below truths seats (standing_after h) s.row seat views each high) here.in_range (reading_not front view back apart none) in
       omega (arith, count, reading_length views, room)

@@ -1,19 +1,15 @@
 -- What the steps leave of the sections.
 use Rattle.std.proofs.Common.{◌++◌, ◌+◌, ◌-◌, ◌<◌, ◌∷◌, ◌≡◌, ◌≢◌, ◌≤◌, ◌⊎◌}
 use Rattle.ns_word.proofs.Prelude.{Any, Bool, CameBack, Cause, Ended, EntryFits, Event, Exit, ExitFits, Expired, Held, HeldFits, IsBySeats, IsExpected, IsLegal, IsLegalEvent, IsSettledBy, List, Locked, Met, Mode, ModeFits, None, Notified, OnCondition, OnVariables, OneWriter, Only, Opening, Option}
-use Rattle.ns_word.proofs.Prelude.{OwesAs, Phase, PlaceFits, Read, ReadersCounted, SeatView, SectionFits, Some, Standing, Truths, Variables, ViewFits, Waiting, Walk, Woken, Word, Write, [], answer_of, ap, arith, both_ways, cond, entry_of, eq-eqb, eqb-true, false, first_standing, inl, inr, is_met}
-use Rattle.ns_word.proofs.Prelude.{is_reading, is_write, is_writing, left_phase, legal_append, length, length-set, ne_eqb, not, one_if, phase_after, phase_before, phase_by, readers, refl, section_of, slice_set, standing_after, standing_from-append, standing_next, subst, sym, total_amid, true}
-use Rattle.ns_word.proofs.Prelude.{who_of, writers, ℕ, ◌∙◌}
+use Rattle.ns_word.proofs.Prelude.{OwesAs, Phase, PlaceFits, Read, ReadersCounted, SeatView, SectionFits, Some, Standing, Truths, Variables, ViewFits, Waiting, Walk, Woken, Word, Write, [], answer_of, ap, arith, both_ways, cond, entry_of, eq-eqb, eqb-true, every_join, every_parts, false}
+use Rattle.ns_word.proofs.Prelude.{first_standing, inl, inr, is_met, is_reading, is_write, is_writing, left_phase, legal_append, length, length-set, ne_eqb, not, one_if, phase_after, phase_before, phase_by, readers, refl, section_of, slice_set, standing_after, standing_from-append, standing_next}
+use Rattle.ns_word.proofs.Prelude.{subst, sym, total_amid, true, who_of, writers, ℕ, ◌∙◌}
 use Rattle.ns_model.specs.declared.phase.Phase.TheVariants.{Left}
-use Rattle.ns_word.proofs.Bases.{IsWokenBy, Move, Safe, apart_moves, apart_parts, each_join, each_moves, each_parts, each_woken, left_event, left_is_legal, left_next_here, left_next_there, left_row, left_who, news, olds, view_of}
+use Rattle.ns_word.proofs.Bases.{IsWokenBy, Move, Safe, apart_moves, apart_parts, each_moves, each_woken, left_event, left_is_legal, left_next_here, left_next_there, left_row, left_who, news, olds, one_set, view_of}
 
 pub by_seats_more : {C : Type 0} {N : ℕ} (seats : ℕ) (h : List (Event C N)) (e : Event C N) → IsBySeats seats h → who_of e < seats → IsBySeats seats (h ++ e ∷ [])
 by_seats_more seats [] e p q = (q, tt)
 by_seats_more seats (d ∷ h) e p q = (p.0, by_seats_more seats h e p.1 q)
-
-bit_set : (b : Bool) → 0 < cond b 1 0 → b ≡ true
-bit_set true p = refl
-bit_set false p = absurd (omega (arith, p))
 
 abbrev pub section : {C : Type 0} {N : ℕ} → Mode → Opening C → List ℕ → List ℕ → Held C N
 section mode entry before row = record { mode = mode; entry = entry; before = before; row = row }
@@ -171,7 +167,7 @@ module _ {C : Type 0} {N : ℕ} (truths : Truths C) (seats : ℕ) (h : List (Eve
 
     -- beside a writer nobody else has a section
     writes : (word : Word) (held : Held C N) → held.mode ≡ Write → Counted word (had (Some held)) → word.write ≡ true
-    writes word held e p = let one : one_if (is_write held.mode) ≡ 1 = ap (λ mode. one_if (is_write mode)) e in bit_set word.write (omega (arith, p.0.bit, writers_old (Some held), one))
+    writes word held e p = let one : one_if (is_write held.mode) ≡ 1 = ap (λ mode. one_if (is_write mode)) e in one_set word.write (omega (arith, p.0.bit, writers_old (Some held), one))
 
     alone : (word : Word) (held : Held C N) → held.mode ≡ Write → Counted word (had (Some held)) → (writers front + readers front ≡ 0) × (writers back + readers back ≡ 0)
     alone word held e p =
@@ -201,7 +197,7 @@ module _ {C : Type 0} {N : ℕ} (truths : Truths C) (seats : ℕ) (h : List (Eve
     -- ---- what holds of the sections
 
     here : (word : Word) (row : List ℕ) (held : Option (Held C N)) → Safe truths seats h word row (had held) → ViewFits truths seats (standing_after h) row (view_of who walk held owed)
-    here word row held p = (each_parts truths seats (standing_after h) row front (view_of who walk held owed) back p.one_history.each).1
+    here word row held p = (every_parts (ViewFits truths seats (standing_after h) row) front (view_of who walk held owed) back p.one_history.each).1
 
     -- The seat's own section may change. The history leaves the others' phases, and the row too, or nobody else has a section.
     moved : (h' : List (Event C N)) (word word' : Word) (row row' : List ℕ) (held held' : Option (Held C N)) → Counted word' (has held') → IsLegal truths.holds h' → IsBySeats seats h' →
@@ -214,7 +210,7 @@ module _ {C : Type 0} {N : ℕ} (truths : Truths C) (seats : ℕ) (h : List (Eve
         let view' = view_of who walk' held' owed' in
         let now = standing_after h in
         let next = standing_after h' in
-        let parts = each_parts truths seats now row front view back p.one_history.each in
+        let parts = every_parts (ViewFits truths seats now row) front view back p.one_history.each in
         let apart = apart_parts front view back p.apart in
         let there : (seat : ℕ) → seat ≢ who → next.phases seat ≡ now.phases seat = λ seat ne. others seat (λ e. ne (sym e)) in
         record {
@@ -223,7 +219,7 @@ module _ {C : Type 0} {N : ℕ} (truths : Truths C) (seats : ℕ) (h : List (Eve
           one_history = record {
             legal = legal;
             by_seats = by_seats;
-            each = each_join truths seats next row' front view' back (each_moves truths seats now next row row' who front apart.0 there (elim same [ inl s ↦ inl s | inr none ↦ inr none.0 ]) parts.0)
+            each = every_join (ViewFits truths seats next row') front view' back (each_moves truths seats now next row row' who front apart.0 there (elim same [ inl s ↦ inl s | inr none ↦ inr none.0 ]) parts.0)
                 (record { in_range = parts.1.in_range; place = place; owes = owes; section = section }) (each_moves truths seats now next row row' who back apart.1 there (elim same [ inl s ↦ inl s | inr none ↦ inr none.1 ]) parts.2);
             free = free;
             cells = cells;

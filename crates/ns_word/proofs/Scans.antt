@@ -1,8 +1,12 @@
 -- How often a seat stands in the lists that a scan makes of one, or one that queues or leaves, and who is in them.
 use Rattle.std.proofs.Common.{◌&&◌, ◌+◌, ◌<◌, ◌||◌, ◌∷◌, ◌≡◌, ◌≢◌, ◌≤◌, ◌⊎◌}
 use Rattle.ns_word.proofs.Prelude.{Bool, Every, List, Mode, None, Option, Owed, Some, Tells, Waiter, [], ap, arith, both_ways, called_by, called_of, cases_Bool, cases_eq, cond, eq-eqb, eqb, false, false_from_ne_true, filter, has_condition, has_eligible, has_some, inl, inr, is_eligible, is_from_lock}
-use Rattle.ns_word.proofs.Prelude.{is_satisfied, le-ltb, left_of, length, length-map, list_any, lt-ltb, ltb, ltb-true, map, ne_eqb, not, one_if, or_parts, queued, reads, refl, seats_of, subst, sym, times_among, times_in, times_in-append, times_in-cons, true, value_of, wakes_of, without_in, woken_of}
-use Rattle.ns_word.proofs.Prelude.{writes, ℕ, ◌∙◌}
+use Rattle.ns_word.proofs.Prelude.{is_satisfied, le-ltb, left_of, length, length-map, list_any, lt-ltb, ltb, ltb-true, map, ne_eqb, not, one_if, or_parts, own_times, queued, reads, refl, seats_of, subst, sym, times_among, times_in, times_in-append, times_in-cons, true, value_of, wakes_of}
+use Rattle.ns_word.proofs.Prelude.{without_in, woken_of, writes, ℕ, ◌∙◌}
+
+pub one_set : (b : Bool) → 1 ≤ one_if b → b ≡ true
+one_set true some = refl
+one_set false some = absurd (omega (arith, some))
 
 -- what a wake from the lock list tells is 0, or of 6 to 9
 value_tells : (via : Option ℕ) → (value_of via ≡ 0) ⊎ ((6 ≤ value_of via) × (value_of via < 10))
@@ -167,12 +171,10 @@ module _ {C : Type 0} where
         let rest = ih (subst (λ b. has_some (cond b (w ∷ cond (writes w) [] (filter (is_reader meets) ws)) (woken_of meets ws)) ≡ false) f e) in
         rw f (rest.0, ap (λ vs. w ∷ vs) rest.1)
 
-  -- one that a scan takes
-  pub woken_some : (meets : C → Bool) (ws : List (Waiter C)) → has_some (woken_of meets ws) ≡ true → (seat : ℕ) × (1 ≤ times_in seat (woken_of meets ws))
-  woken_some meets ws e = pick (woken_of meets ws) e where
-    pick : (vs : List (Waiter C)) → has_some vs ≡ true → (seat : ℕ) × (1 ≤ times_in seat vs)
-    pick [] f = absurd (cc)
-    pick (v ∷ vs) f = let one : ◌≡◌ {A = ℕ} (cond (eqb v.seat v.seat) 1 0) 1 = rw (eq-eqb v.seat v.seat refl) refl in (v.seat, omega (arith, times_in-cons v.seat v vs, one))
+  -- one that stands in a list
+  pub some_seat : (ws : List (Waiter C)) → has_some ws ≡ true → (seat : ℕ) × (1 ≤ times_in seat ws)
+  some_seat [] e = absurd (cc)
+  some_seat (w ∷ ws) e = (w.seat, omega (arith, own_times w ws))
 
   -- where none is true of a row, and a quiet change makes another of it, none is true of that
   pub quiet_eligible : (holds : C → List ℕ → Bool) (before after : List ℕ) → ((c : C) → holds c after ≡ true → holds c before ≡ true) → (ws : List (Waiter C)) →

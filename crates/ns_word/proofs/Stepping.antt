@@ -1,11 +1,10 @@
 -- What the law says of the seat that makes a step, and what the step does, where its place is known.
 use Rattle.std.proofs.Common.{◌≡◌}
-use Rattle.ns_word.proofs.Prelude.{EachFits, Effect, Event, Found, IsLawful, List, LockState, PlaceFits, SeatView, Some, Step, Truths, ViewFits, Walk, ap, part_of, standing_after, subst, want_of, ℕ, ◌∙◌}
-use Rattle.ns_word.proofs.Views.{each_parts}
+use Rattle.ns_word.proofs.Prelude.{EachFits, Effect, Event, Found, IsLawful, List, LockState, PlaceFits, SeatView, Some, Step, Truths, ViewFits, Walk, ap, every_parts, part_of, standing_after, subst, want_of, ℕ, ◌∙◌}
 
 module _ {C : Type 0} {N : ℕ} {truths : Truths C} {old new : LockState C N} {view : SeatView C N} {found : Found} {commits : List (Event C N)} (step : Step truths old view found new commits) where
   pub step_fits : (seats : ℕ) (h : List (Event C N)) → IsLawful truths seats h old → ViewFits truths seats (standing_after h) old.row view
-  step_fits seats h lawful = (each_parts truths seats (standing_after h) old.row step.front view step.back (subst (λ vs. EachFits truths seats (standing_after h) old.row vs) step.was lawful.one_history.each)).1
+  step_fits seats h lawful = (every_parts (ViewFits truths seats (standing_after h) old.row) step.front view step.back (subst (λ vs. EachFits truths seats (standing_after h) old.row vs) step.was lawful.one_history.each)).1
 
   pub place_at : (seats : ℕ) (h : List (Event C N)) (walk : Walk C) → step.walk ≡ walk → IsLawful truths seats h old → PlaceFits truths (Some walk) view.held
   place_at seats h walk walks lawful = subst (λ w. PlaceFits truths w view.held) (step.walks ∙ ap Some walks) (step_fits seats h lawful).place

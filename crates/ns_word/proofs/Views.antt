@@ -1,8 +1,8 @@
 -- A view among the views: what holds of all of them, by the views before it, itself, and those behind it.
 use Rattle.std.proofs.Common.{◌++◌, ◌+◌, ◌∷◌, ◌≡◌, ◌≢◌, ◌≤◌, ◌⊎◌}
 use Rattle.ns_word.proofs.Prelude.{Aim, AreApart, Bool, CameBack, Cond, EachFits, ForLock, ForWait, Held, InAcquire, InWait, IsEither, IsExpected, List, Locked, Mode, None, NoneIs, OnCondition, OnVariables, Opening, Option, Outcome, Owed, Phase, SeatView, SectionFits, Some, Standing, Subject}
-use Rattle.ns_word.proofs.Prelude.{Truths, Variables, ViewFits, Waiting, Walk, [], ap, arith, called_to, calls_from_lock, cases_eq, cond, eq-eqb, eqb, every_join, every_parts, expected_for, false, has_queues, inl, inr, is_queuing, is_reading, is_waiting, is_write, is_writing, ne_eqb, not, one_if}
-use Rattle.ns_word.proofs.Prelude.{owed_to, phase_before, phase_by, phase_by_wake, phase_for, phase_kept, queuers, readers, refl, subst, sym, takers, times_among, total_amid, true, variable_in, waits_in, walk_at, woken_phase, writers, ℕ, ◌∙◌}
+use Rattle.ns_word.proofs.Prelude.{Truths, Variables, ViewFits, Waiting, Walk, [], ap, arith, called_to, calls_from_lock, cases_eq, cond, eq-eqb, eqb, expected_for, false, inl, inr, is_reading, is_waiting, is_write, is_writing, ne_eqb, not, owed_to, phase_before, phase_by, phase_by_wake, phase_for}
+use Rattle.ns_word.proofs.Prelude.{phase_kept, readers, refl, subst, sym, times_among, total_amid, true, variable_in, waits_in, walk_at, woken_phase, writers, ℕ, ◌∙◌}
 use Rattle.ns_model.specs.declared.phase.Phase.TheVariants.{Idle}
 
 -- a seat with this place, this section and these wakes to pay
@@ -34,30 +34,16 @@ one_of true = refl
 one_of false = refl
 
 module _ {C : Type 0} {N : ℕ} where
-  -- ---- counts
-
-  pub takers_at : (front : List (SeatView C N)) (view : SeatView C N) (back : List (SeatView C N)) →
-      takers (front ++ view ∷ back) ≡ takers front + (cond (has_queues view.walk) 1 0 + takers back)
-  takers_at front view back = total_amid (λ view. one_if (has_queues view.walk)) front view back
-
   pub owed_at : (seat : ℕ) (front : List (SeatView C N)) (view : SeatView C N) (back : List (SeatView C N)) →
       owed_to seat (front ++ view ∷ back) ≡ owed_to seat front + (times_among seat view.owed + owed_to seat back)
   owed_at seat front view back = total_amid (λ view. times_among seat view.owed) front view back
 
-  pub called_at : (seat : ℕ) (front : List (SeatView C N)) (view : SeatView C N) (back : List (SeatView C N)) →
-      called_to seat (front ++ view ∷ back) ≡ called_to seat front + (cond (calls_from_lock view.walk) (times_among seat view.owed) 0 + called_to seat back)
-  called_at seat front view back = total_amid (λ view. cond (calls_from_lock view.walk) (times_among seat view.owed) 0) front view back
-
-  -- those are some of all that a seat is owed
+  -- the wakes of those taken from the lock list are some of all that a seat is owed
   pub called_most : (seat : ℕ) (views : List (SeatView C N)) → called_to seat views ≤ owed_to seat views
   called_most seat [] = omega arith
   called_most seat (u ∷ views) =
       let rest = called_most seat views in
       elim (calls_from_lock u.walk) as (λ b. cond b (times_among seat u.owed) 0 + called_to seat views ≤ times_among seat u.owed + owed_to seat views) [ true ↦ omega (arith, rest) | false ↦ omega (arith, rest) ]
-
-  pub queuers_at : (front : List (SeatView C N)) (view : SeatView C N) (back : List (SeatView C N)) →
-      queuers (front ++ view ∷ back) ≡ queuers front + (cond (is_queuing view.walk) 1 0 + queuers back)
-  queuers_at front view back = total_amid (λ view. one_if (is_queuing view.walk)) front view back
 
   none_held : (held : Option (Held C N)) → cond (is_writing held) 1 0 + cond (is_reading held) 1 0 ≡ 0 → held ≡ None
   none_held None e = refl
@@ -128,16 +114,6 @@ module _ {C : Type 0} {N : ℕ} where
 
   -- ---- each
   module _ (truths : Truths C) (seats : ℕ) where
-    pub each_parts : (now : Standing C) (row : List ℕ) (front : List (SeatView C N)) (view : SeatView C N) (back : List (SeatView C N)) →
-        EachFits truths seats now row (front ++ view ∷ back) →
-        EachFits truths seats now row front × ViewFits truths seats now row view × EachFits truths seats now row back
-    each_parts now row front view back p = every_parts (ViewFits truths seats now row) front view back p
-
-    pub each_join : (now : Standing C) (row : List ℕ) (front : List (SeatView C N)) (view : SeatView C N) (back : List (SeatView C N)) →
-        EachFits truths seats now row front → ViewFits truths seats now row view → EachFits truths seats now row back →
-        EachFits truths seats now row (front ++ view ∷ back)
-    each_join now row front view back p q r = every_join (ViewFits truths seats now row) front view back p q r
-
     section_moves : (now next : Standing C) (row cells : List ℕ) (who : ℕ) (walk : Option (Walk C)) (held : Option (Held C N)) →
         next.phases who ≡ now.phases who →
         ((next.row ≡ now.row) × (cells ≡ row)) ⊎ (held ≡ None) →

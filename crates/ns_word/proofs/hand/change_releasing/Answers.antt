@@ -1,8 +1,5 @@
 use Rattle.ns_word.proofs.Prelude.{number, queues_fit, row_fits}
 use Rattle.ns_word.proofs.hand.change_releasing.Goals as goal
 
-pub returns-in-ScanAndRelease : goal.returns-in-ScanAndRelease
-returns-in-ScanAndRelease g c = rw c.in-ScanAndRelease.is c.scan.ensures.left
-
 pub scan-requires : goal.scan-requires
 scan-requires g c = (queues_fit g.row.C (number g.row.N) g.met.C.Condition.has_room g.C.Condition, row_fits g.row.C (number g.row.N) g.met.C.Condition.has_room)

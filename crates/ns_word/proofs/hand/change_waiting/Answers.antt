@@ -5,9 +5,6 @@ use Rattle.ns_word.proofs.hand.change_waiting.Goals as goal
 pub change_queuing-requires : goal.change_queuing-requires
 change_queuing-requires g c = (queues_fit g.row.C (number g.row.N) g.met.C.Condition.has_room g.C.Condition, (row_fits g.row.C (number g.row.N) g.met.C.Condition.has_room, (c.requires.list, (c.requires.below, rw c.in-InQueuing.is at c.requires.free))))
 
-pub returns-in-InQueuing : goal.returns-in-InQueuing
-returns-in-InQueuing g c = rw c.in-InQueuing.is c.change_queuing.ensures
-
 -- who leaves needs no row
 at_any_row : {C : Type 0} (truths : Truths C) (seat : ℕ) (wait : Wait C) (cause : Cause) (place : LeavePlace) (row : List ℕ) (lists left : Lists C) →
     left ≡ wait_hand truths seat wait (InLeaving cause place) [] lists → left ≡ wait_hand truths seat wait (InLeaving cause place) row lists

@@ -1,9 +1,6 @@
 use Rattle.ns_word.proofs.Prelude.{number, queues_fit, rules}
 use Rattle.ns_word.proofs.hand.enter.Goals as goal
 
-pub returns-in-OnCondition : goal.returns-in-OnCondition
-returns-in-OnCondition g c = rw c.in-OnCondition.is c.queue.ensures
-
 pub queue-requires : goal.queue-requires
 queue-requires g c = (queues_fit g.row.C (number g.row.N) g.met.C.Condition.has_room g.C.Condition, (c.requires.below, c.requires.free))
 

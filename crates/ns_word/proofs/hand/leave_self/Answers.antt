@@ -15,15 +15,6 @@ left_it lists new home seat false stands stood out = let bad = stood.1 (omega (a
 pub returns-then-stands-clause-left : goal.returns-then-stands-clause-left
 returns-then-stands-clause-left g c = λ last. left_it c.args.queues.now c.remove.new.self c.args.home c.args.seat c.remove.result (sym c.stands_at-stands.ensures ∙ c.if-stands.true) c.remove.ensures.stood c.remove.ensures.removed
 
-pub returns-else-stands-clause-left : goal.returns-else-stands-clause-left
-returns-else-stands-clause-left g c = λ last. rw (sym c.stands_at-stands.ensures ∙ c.if-stands.false) refl
-
-pub returns-then-stands-clause-stood : goal.returns-then-stands-clause-stood
-returns-then-stands-clause-stood g c = c.stands_at-stands.ensures
-
-pub returns-else-stands-clause-stood : goal.returns-else-stands-clause-stood
-returns-else-stands-clause-stood g c = c.stands_at-stands.ensures
-
 pub stands_at-stands-requires : goal.stands_at-stands-requires
 stands_at-stands-requires g c = queues_fit g.row.C (number g.row.N) g.met.C.Condition.has_room g.C.Condition
 

@@ -5,17 +5,5 @@ use Rattle.ns_word.proofs.hand.scan_and_queue.Goals as goal
 pub enter-requires : goal.enter-requires
 enter-requires g c = (queues_fit g.row.C (number g.row.N) g.met.C.Condition.has_room g.C.Condition, (c.requires.list, (c.requires.below, free_scanned c.args.seat (λ x. g.C.Condition.means.holds x c.args.row.now) c.args.queues.now c.scan-scan.new.self c.scan-scan.ensures.left c.requires.free)))
 
-pub returns-clause-woken : goal.returns-clause-woken
-returns-clause-woken g c = c.scan-scan.ensures.woken
-
-pub returns-clause-vias : goal.returns-clause-vias
-returns-clause-vias g c = c.scan-scan.ensures.vias
-
-pub returns-clause-lists : goal.returns-clause-lists
-returns-clause-lists g c = c.enter.ensures ∙ ap (waits_at c.args.wait.on c.args.seat c.args.wait.mode c.args.again) c.scan-scan.ensures.left
-
-pub returns-clause-tests : goal.returns-clause-tests
-returns-clause-tests g c = c.scan-scan.ensures.tests
-
 pub scan-scan-requires : goal.scan-scan-requires
 scan-scan-requires g c = (queues_fit g.row.C (number g.row.N) g.met.C.Condition.has_room g.C.Condition, row_fits g.row.C (number g.row.N) g.met.C.Condition.has_room)

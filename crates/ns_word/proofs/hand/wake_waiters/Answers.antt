@@ -56,9 +56,6 @@ returns-else-held-clause-lists g c = elim c.match-waking.branch [
   | in-Broadcasting w ↦ rw w.in-Broadcasting.is (were_left c.args.held _ c.match-waking.queues _ c.if-held.false (w.queues-is ∙ w.take_all-taken.ensures.left))
 ]
 
-pub returns-then-held-clause-owed : goal.returns-then-held-clause-owed
-returns-then-held-clause-owed g c = rw c.if-held.true c.new.ensures
-
 pub take_signal-taken-requires : goal.take_signal-taken-requires
 take_signal-taken-requires g c = (queues_fit g.row.C (number g.row.N) g.met.C.Condition.has_room g.C.Condition, (list_small _ g.met.C.Queueable.list_fits, c.requires))
 
