@@ -20,22 +20,11 @@ module _ (C : Type 0) (N : ℕ) (who : ℕ) where
   not_left (AtVariables (Only k)) = refl
   not_left (AtVariables (Any cvs)) = refl
 
-  pub left_who : (variables : Variables) → who_of (left_event {C = C} {N = N} who variables) ≡ who
-  left_who (Only k) = refl
-  left_who (Any cvs) = refl
-
-  -- what it leaves: the row, and all phases but that of the seat
-  pub left_row : (variables : Variables) (now : Standing C) → (standing_next now (left_event {N = N} who variables)).row ≡ now.row
-  left_row (Only k) now = refl
-  left_row (Any cvs) now = refl
-
-  pub left_next_there : (variables : Variables) (now : Standing C) (seat : ℕ) → who ≢ seat → (standing_next now (left_event {N = N} who variables)).phases seat ≡ now.phases seat
-  left_next_there (Only k) now seat ne = rw (ne_eqb who seat ne) refl
-  left_next_there (Any cvs) now seat ne = rw (ne_eqb who seat ne) refl
-
-  pub left_next_here : (variables : Variables) (now : Standing C) → (standing_next now (left_event {N = N} who variables)).phases who ≡ left_phase (now.phases who)
-  left_next_here (Only k) now = rw (eq-eqb who who refl) refl
-  left_next_here (Any cvs) now = rw (eq-eqb who who refl) refl
+  -- It is its seat's. It leaves the row, and all phases but that of the seat.
+  pub left_next : (variables : Variables) (now : Standing C) → let event = left_event {C = C} {N = N} who variables in let next = standing_next now event in
+      (who_of event ≡ who) × (next.row ≡ now.row) × ((seat : ℕ) → who ≢ seat → next.phases seat ≡ now.phases seat) × (next.phases who ≡ left_phase (now.phases who))
+  left_next (Only k) now = (refl, refl, λ seat ne. rw (ne_eqb who seat ne) refl, rw (eq-eqb who who refl) refl)
+  left_next (Any cvs) now = (refl, refl, λ seat ne. rw (ne_eqb who seat ne) refl, rw (eq-eqb who who refl) refl)
 
   -- who waits for just these may leave
   pub left_is_legal : (holds : C → List ℕ → Bool) (variables : Variables) (mode : Mode) (now : Standing C) → who < 64 → now.phases who ≡ Waiting variables mode → IsLegalEvent {N = N} holds now (left_event who variables)

@@ -1,9 +1,8 @@
 -- What the steps leave of the waiters: each is its seat's own.
 use Rattle.std.proofs.Common.{◌++◌, ◌+◌, ◌||◌, ◌∷◌, ◌≡◌}
-use Rattle.ns_word.proofs.Prelude.{AwaitWake, Bool, Every, InAcquire, InWait, List, Lists, Mode, None, Option, Phase, SeatView, Some, VariableWaiterFits, Waiter, WaiterFits, WaitersOwn, WaitersPlaced, Walk, [], ap, arith, cond, counts_in, eqb-true, every-append, every_map, false, has_eligible}
-use Rattle.ns_word.proofs.Prelude.{is_eligible, is_long, is_unwoken, left_of, list_any, lock_stance, one_if, or_right, owed_to, place_awaits, queued, refl, subst, suc, sym, times, times_in, true, waits_in, walk_at, without_in, ℕ, ◌∙◌}
+use Rattle.ns_word.proofs.Prelude.{AwaitWake, Bool, Every, InAcquire, InWait, List, Lists, Mode, None, Option, Phase, SeatView, Some, VariableWaiterFits, Waiter, WaiterFits, WaitersOwn, WaitersPlaced, Walk, [], ap, arith, cond, cond_on, counts_in, eqb-true, every-append, every_map, false}
+use Rattle.ns_word.proofs.Prelude.{has_eligible, is_eligible, is_long, is_unwoken, left_of, list_any, lock_stance, mode_for, one_if, or_right, owed_to, place_awaits, queued, refl, subst, suc, sym, times, times_in, true, waits_in, walk_at, without_in, ℕ, ◌∙◌}
 use Rattle.ns_word.proofs.Bases.{Move, counts_none, every_apart, listed_left, listed_queued, listed_without, news, olds, stance_same, stance_stays, times_scan, times_without, walk_is, walk_was}
-use Rattle.ns_word.proofs.Phases.{cond_in, tries_in}
 
 module _ {C : Type 0} {N : ℕ} (m : Move C N) where
   open m use {who, walk, walk'}
@@ -53,10 +52,10 @@ own_moved phases views k ws taken p q = every-append (WaiterFits views) ws taken
 
 -- one that has failed waits for the lock alone
 tried_plain : {C : Type 0} (walk : Option (Walk C)) (mode : Mode) (c : Option C) (tries : ℕ) → lock_stance (waits_in walk) ≡ Some (mode, c, suc tries) → c ≡ None
-tried_plain (Some (InAcquire aim (AwaitWake count))) mode c tries e = sym (ap cond_in e)
-tried_plain (Some (InWait wait place)) mode c tries e = go (place_awaits place) e where
+tried_plain {C} (Some (InAcquire aim (AwaitWake count))) mode c tries e = let same : ◌≡◌ {A = Mode × Option C × ℕ} (mode_for aim, None, count) (mode, c, suc tries) = cc in sym (ap (λ s. s.1) same)
+tried_plain {C} (Some (InWait wait place)) mode c tries e = go (place_awaits place) e where
   go : (b : Bool) → lock_stance (cond b (Some (record { mode = wait.mode; on = Some wait.on; tries = 0 })) None) ≡ Some (mode, c, suc tries) → c ≡ None
-  go true f = let never : 0 ≡ suc tries = ap tries_in f in absurd (cc)
+  go true f = let same : ◌≡◌ {A = Mode × Option C × ℕ} (wait.mode, cond_on (Some wait.on), 0) (mode, c, suc tries) = cc in let never : 0 ≡ suc tries = ap (λ s. s.2) same in absurd (cc)
   go false f = absurd (cc)
 tried_plain _ mode c tries e = absurd (cc)
 

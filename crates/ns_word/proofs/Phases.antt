@@ -1,7 +1,7 @@
 -- A waiter that has a condition is in the wait for it, by the history.
 use Rattle.std.proofs.Common.{◌∷◌, ◌≡◌, ◌≤◌}
 use Rattle.ns_word.proofs.Prelude.{AwaitWake, AwaitWakeInWait, Bool, Cond, Event, Held, InAcquire, InLeaving, InWait, IsExpected, IsLawful, List, LockState, LookOut, Mode, None, OnCondition, OnVariables, Option, PayInWait, Phase, PlaceFits, SeatView, SectionFits, Some, Stance, Standing, Subject}
-use Rattle.ns_word.proofs.Prelude.{Truths, Wait, WaitFits, WaitPlace, Waiter, WaiterFits, WaitersOwn, Walk, [], ap, arith, cond, cond_on, expected_for, false, lock_stance, phase_of, place_awaits, refl, slice_get, standing_after, subst, suc, true, waits_in, walk_at, zero, ℕ, ◌∙◌}
+use Rattle.ns_word.proofs.Prelude.{Truths, Wait, WaitFits, WaitPlace, Waiter, WaiterFits, WaitersOwn, Walk, [], ap, arith, cond, cond_on, expected_for, false, lock_stance, mode_for, phase_of, place_awaits, refl, slice_get, standing_after, subst, suc, true, waits_in, walk_at, zero, ℕ, ◌∙◌}
 use Rattle.ns_word.proofs.Views.{view_with}
 
 -- how one waits that waits for this condition in this mode
@@ -17,35 +17,17 @@ abbrev FitsStance : {C : Type 0} → Phase C → Option (Stance C) → Type 0
 FitsStance phase None = ⊥
 FitsStance phase (Some stance) = FitsOn phase stance.mode stance.on
 
-abbrev on_in : {C : Type 0} → Option (Stance C) → Option (Subject C)
-on_in None = None
-on_in (Some stance) = stance.on
-
-abbrev mode_in : {C : Type 0} → Mode → Option (Mode × Option C × ℕ) → Mode
-mode_in mode None = mode
-mode_in mode (Some pair) = pair.0
-
-abbrev pub cond_in : {C : Type 0} → Option (Mode × Option C × ℕ) → Option C
-cond_in None = None
-cond_in (Some pair) = pair.1
-
-abbrev pub tries_in : {C : Type 0} → Option (Mode × Option C × ℕ) → ℕ
-tries_in None = 0
-tries_in (Some pair) = pair.2
-
-abbrev waited_for : {C : Type 0} → Option C → Option (Subject C)
-waited_for None = None
-waited_for (Some c) = Some (OnCondition c)
-
 module _ {C : Type 0} where
   -- one that stands in the lock list with a condition waits for that
   stance_of : (stance : Option (Stance C)) (mode : Mode) (c : C) (tries : ℕ) → lock_stance stance ≡ Some (mode, Some c, tries) → stance ≡ waiting_for mode c tries
   stance_of None mode c tries e = absurd (cc)
-  stance_of (Some stance) mode c tries e = go stance.on (ap (mode_in mode) e) (ap cond_in e) (ap tries_in e) where
-    go : (on : Option (Subject C)) → stance.mode ≡ mode → cond_on on ≡ Some c → stance.tries ≡ tries → ◌≡◌ {A = Option (Stance C)} (Some (record { mode = stance.mode; on = on; tries = stance.tries })) (waiting_for mode c tries)
-    go None m f n = absurd (cc)
-    go (Some (OnCondition d)) m f n = λ i. Some (record { mode = m i; on = ap waited_for f i; tries = n i })
-    go (Some (OnVariables variables)) m f n = absurd (cc)
+  stance_of (Some stance) mode c tries e =
+      let same : ◌≡◌ {A = Mode × Option C × ℕ} (stance.mode, cond_on stance.on, stance.tries) (mode, Some c, tries) = cc in go stance.on (ap (λ s. s.0) same) (ap (λ s. s.1) same) (ap (λ s. s.2) same)
+    where
+      go : (on : Option (Subject C)) → stance.mode ≡ mode → cond_on on ≡ Some c → stance.tries ≡ tries → ◌≡◌ {A = Option (Stance C)} (Some (record { mode = stance.mode; on = on; tries = stance.tries })) (waiting_for mode c tries)
+      go None m f n = absurd (cc)
+      go (Some (OnCondition d)) m f n = let same : d ≡ c = cc in λ i. Some (record { mode = m i; on = Some (OnCondition (same i)); tries = n i })
+      go (Some (OnVariables variables)) m f n = absurd (cc)
 
 module _ {C : Type 0} {N : ℕ} (truths : Truths C) where
   -- one that waits has no section in hand
@@ -58,7 +40,7 @@ module _ {C : Type 0} {N : ℕ} (truths : Truths C) where
 
   module _ (now : Standing C) (row : List ℕ) where
     phase_by_place : (seat : ℕ) (walk : Option (Walk C)) (held : Option (Held C N)) (mode : Mode) (c : C) (tries : ℕ) → waits_in walk ≡ waiting_for mode c tries → PlaceFits truths walk held → SectionFits now row seat walk held → now.phases seat ≡ Cond c mode
-    phase_by_place seat (Some (InAcquire aim (AwaitWake count))) held mode c tries e place section = let never : ◌≡◌ {A = Option (Subject C)} None (Some (OnCondition c)) = ap on_in e in absurd (cc)
+    phase_by_place seat (Some (InAcquire aim (AwaitWake count))) held mode c tries e place section = let same : ◌≡◌ {A = Stance C} (record { mode = mode_for aim; on = None; tries = count }) (record { mode = mode; on = Some (OnCondition c); tries = tries }) = cc in let never : ◌≡◌ {A = Option (Subject C)} None (Some (OnCondition c)) = ap (λ s. s.on) same in absurd (cc)
     phase_by_place seat (Some (InWait wait at_place)) held mode c tries e place section = go (place_awaits at_place) refl e where
       go : (b : Bool) → place_awaits at_place ≡ b → cond b (Some (record { mode = wait.mode; on = Some wait.on; tries = 0 })) None ≡ waiting_for mode c tries → now.phases seat ≡ Cond c mode
       go true a f = subst (λ stance. FitsStance (now.phases seat) stance) f (subst (λ x. SectionFits now row seat (Some (InWait wait at_place)) x) (waits_free wait at_place held a place.0) section)
@@ -77,10 +59,10 @@ module _ {C : Type 0} {N : ℕ} where
 
   -- nobody has failed more than 30 times
   few_tries : (truths : Truths C) (walk : Option (Walk C)) (held : Option (Held C N)) (mode : Mode) (c : Option C) (tries : ℕ) → PlaceFits truths walk held → lock_stance (waits_in walk) ≡ Some (mode, c, tries) → tries ≤ 30
-  few_tries truths (Some (InAcquire aim (AwaitWake count))) held mode c tries place e = subst (λ n. n ≤ 30) (ap tries_in e) place.1
+  few_tries truths (Some (InAcquire aim (AwaitWake count))) held mode c tries place e = let same : ◌≡◌ {A = Mode × Option C × ℕ} (mode_for aim, None, count) (mode, c, tries) = cc in subst (λ n. n ≤ 30) (ap (λ s. s.2) same) place.1
   few_tries truths (Some (InWait wait at_place)) held mode c tries place e = go (place_awaits at_place) e where
     go : (b : Bool) → lock_stance (cond b (Some (record { mode = wait.mode; on = Some wait.on; tries = 0 })) None) ≡ Some (mode, c, tries) → tries ≤ 30
-    go true f = let none : 0 ≡ tries = ap tries_in f in omega (arith, none)
+    go true f = let same : ◌≡◌ {A = Mode × Option C × ℕ} (wait.mode, cond_on (Some wait.on), 0) (mode, c, tries) = cc in let none : 0 ≡ tries = ap (λ s. s.2) same in omega (arith, none)
     go false f = absurd (cc)
   few_tries truths _ held mode c tries place e = absurd (cc)
 

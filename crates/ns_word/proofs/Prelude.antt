@@ -40,7 +40,7 @@ pub use Rattle.ns_word.specs.Walks.{Expected}
 pub use Rattle.std.proofs.Common.{All, Bool, IsSome, IsSomeAnd, IsTrue, List, None, Ok, Option, Some, [], ap, append-nil, append_assoc, arith, cond, drop, eq-eqb, eqb, eqb-true, false, get_or, inl, inr, is_some, le-ltb, length, length-set, length-take-le, lt-ltb, ltb, ltb-false}
 pub use Rattle.std.proofs.Common.{ltb-true, map, min, ne_eqb, not, refl, replicate, rules, slice_get, slice_index, slice_set, subst, suc, sym, take, take_all, true, zero, zero-add, ℕ, ◌∙◌}
 pub use Rattle.std.proofs.lemmas.Bool.{and_cases, and_parts, both_ways, cases_Bool, cases_eq, cases_lt, false_from_ne_true, not-false, not-true, or_cases, or_parts, or_right}
-pub use Rattle.std.proofs.lemmas.List.{get_or-map, length-map, length-replicate, map_more, take_more}
+pub use Rattle.std.proofs.lemmas.List.{get_or-map, get_or-replicate, length-map, length-replicate, map_more, take_more}
 pub use Rattle.std.proofs.lemmas.List.Elements.{All-append, All-nil, All-push, filter-append}
 pub use Rattle.std.proofs.lemmas.List.Sums.{get_or-le-sum_by, sum_by-cons}
 pub use Rattle.std.proofs.lemmas.Nat.Bits.{bit_at-lt, bit_at-zero, bit_at_above, bit_at_cat_low, same_from_bits_below}

@@ -5,7 +5,7 @@ use Rattle.ns_word.proofs.Prelude.{OwesAs, Phase, PlaceFits, Read, ReadersCounte
 use Rattle.ns_word.proofs.Prelude.{first_standing, inl, inr, is_met, is_reading, is_write, is_writing, left_phase, legal_append, length, length-set, ne_eqb, not, one_if, phase_after, phase_before, phase_by, readers, refl, section_of, slice_set, standing_after, standing_from-append, standing_next}
 use Rattle.ns_word.proofs.Prelude.{subst, sym, total_amid, true, who_of, writers, ℕ, ◌∙◌}
 use Rattle.ns_model.specs.declared.phase.Phase.TheVariants.{Left}
-use Rattle.ns_word.proofs.Bases.{IsWokenBy, Move, Safe, apart_moves, apart_parts, each_moves, each_woken, left_event, left_is_legal, left_next_here, left_next_there, left_row, left_who, news, olds, one_set, view_of}
+use Rattle.ns_word.proofs.Bases.{IsWokenBy, Move, Safe, apart_moves, apart_parts, each_moves, each_woken, left_event, left_is_legal, left_next, news, olds, one_set, view_of}
 
 pub by_seats_more : {C : Type 0} {N : ℕ} (seats : ℕ) (h : List (Event C N)) (e : Event C N) → IsBySeats seats h → who_of e < seats → IsBySeats seats (h ++ e ∷ [])
 by_seats_more seats [] e p q = (q, tt)
@@ -95,13 +95,13 @@ module _ {C : Type 0} {N : ℕ} (truths : Truths C) (seats : ℕ) (h : List (Eve
 
   -- after the seat has left its variables
   pub left_same : (who : ℕ) (variables : Variables) → (standing_after (h ++ left_event who variables ∷ [])).row ≡ (standing_after h).row
-  left_same who variables = ap (λ (s : Standing C). s.row) (after (left_event who variables)) ∙ left_row C N who variables (standing_after h)
+  left_same who variables = ap (λ (s : Standing C). s.row) (after (left_event who variables)) ∙ (left_next C N who variables (standing_after h)).1
 
   pub left_there : (who : ℕ) (variables : Variables) (seat : ℕ) → who ≢ seat → (standing_after (h ++ left_event who variables ∷ [])).phases seat ≡ (standing_after h).phases seat
-  left_there who variables seat ne = ap (λ (s : Standing C). s.phases seat) (after (left_event who variables)) ∙ left_next_there C N who variables (standing_after h) seat ne
+  left_there who variables seat ne = ap (λ (s : Standing C). s.phases seat) (after (left_event who variables)) ∙ (left_next C N who variables (standing_after h)).2 seat ne
 
   pub left_here : (who : ℕ) (variables : Variables) (mode : Mode) → (standing_after h).phases who ≡ Waiting variables mode → (standing_after (h ++ left_event who variables ∷ [])).phases who ≡ Left variables mode
-  left_here who variables mode was = ap (λ (s : Standing C). s.phases who) (after (left_event who variables)) ∙ left_next_here C N who variables (standing_after h) ∙ ap left_phase was
+  left_here who variables mode was = ap (λ (s : Standing C). s.phases who) (after (left_event who variables)) ∙ (left_next C N who variables (standing_after h)).3 ∙ ap left_phase was
 
   keeps_row : (mode : Mode) (before row : List ℕ) → (mode ≡ Read → row ≡ before) → ModeFits mode before row
   keeps_row Write before row e = tt
@@ -269,7 +269,7 @@ module _ {C : Type 0} {N : ℕ} (truths : Truths C) (seats : ℕ) (h : List (Eve
         let in_range = (here word row None p).in_range in
         moved (h ++ left_event who variables ∷ []) word word' row row None None (counted_same word word' None None same_write same_readers refl refl (p.one_writer, p.count))
         (legal_append truths.holds (first_standing N) h (left_event who variables ∷ []) p.one_history.legal (left_is_legal C N who truths.holds variables mode (standing_after h) (omega (arith, few, in_range)) phase, tt))
-        (by_seats_more seats h (left_event who variables) p.one_history.by_seats (subst (λ s. s < seats) (sym (left_who C N who variables)) in_range))
+        (by_seats_more seats h (left_event who variables) p.one_history.by_seats (subst (λ s. s < seats) (sym (left_next C N who variables (standing_after h)).0) in_range))
         (left_there who variables) (inl (left_same who variables, refl)) place owes (subst (λ ph. IsExpected (phase_by walk') ph) (sym (left_here who variables mode phase)) is)
         (λ f. p.one_history.free (sym same_write ∙ f) ∙ sym (left_same who variables)) p.one_history.cells (ap length (left_same who variables) ∙ p.one_history.cells_after) p
 

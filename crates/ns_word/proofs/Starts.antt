@@ -1,9 +1,9 @@
 -- A fresh lock is lawful, and so is one where a call begins.
 use Rattle.std.proofs.Common.{◌++◌, ◌+◌, ◌-◌, ◌<◌, ◌∷◌, ◌≡◌, ◌≤◌}
-use Rattle.ns_word.proofs.Prelude.{AcquireLoad, AreApart, Begins, Bool, CanWait, Cv, EachFits, Event, Every, ForLock, HasNumber, Held, InAcquire, InCells, InQueuing, InRelease, InShow, InSignal, InTry, InWait, IsFirst, IsForVariables, IsLawful, Judging, List, Load, LockState, None, NoneIs}
-use Rattle.ns_word.proofs.Prelude.{OnCondition, OnEntry, OnVariables, Option, PlaceFits, QuietCells, QuietLast, ReleaseLoad, SeatView, ShowLoad, SignalLoad, Some, Subject, TestCells, TestLast, Tests, Truths, TryLoad, Wait, WakeTells, Walk, WordsSeen, [], ap, arith, both_ways, cond, eqb, every_join}
-use Rattle.ns_word.proofs.Prelude.{every_parts, false, first_for, first_row, first_standing, fresh_state, fresh_views, has_armed, has_queues, is_queuing, is_reading, is_writing, length-replicate, ltb, ltb-false, one_if, owed_in, part_of, queuers, quiet_first, readers, refl, replicate, subst, suc}
-use Rattle.ns_word.proofs.Prelude.{sym, times_among, total, true, wait_first, waiters_of, walk_at, word_seen, writers, zero, ℕ}
+use Rattle.ns_word.proofs.Prelude.{AcquireLoad, AreApart, Begins, Bool, CanWait, EachFits, Event, Every, ForLock, HasNumber, Held, InAcquire, InCells, InQueuing, InRelease, InShow, InSignal, InTry, InWait, IsFirst, IsForVariables, IsLawful, Judging, List, Load, LockState, None, NoneIs, OnCondition}
+use Rattle.ns_word.proofs.Prelude.{OnEntry, OnVariables, Option, PlaceFits, QuietCells, QuietLast, ReleaseLoad, SeatView, ShowLoad, SignalLoad, Some, Subject, TestCells, TestLast, Tests, Truths, TryLoad, Wait, Waiter, WakeTells, Walk, WordsSeen, [], ap, arith, both_ways, cond, eqb, every_join}
+use Rattle.ns_word.proofs.Prelude.{every_parts, false, first_for, first_row, first_standing, fresh_state, fresh_views, get_or-replicate, has_armed, has_queues, is_queuing, is_reading, is_writing, length-replicate, ltb, ltb-false, one_if, owed_in, part_of, queuers, quiet_first, refl, subst, suc, sym}
+use Rattle.ns_word.proofs.Prelude.{times_among, total, true, wait_first, walk_at, word_seen, zero, ℕ}
 use Rattle.ns_model.specs.declared.phase.Phase.TheVariants.{Idle}
 use Rattle.ns_word.proofs.Firsts.{first_is_bare}
 use Rattle.ns_word.proofs.Bases.{groups_of, lawful_by, view_of}
@@ -19,12 +19,6 @@ module _ (C : Type 0) (N : ℕ) where
   none_counted : (count : SeatView C N → ℕ) → ((seat : ℕ) → count (record { seat = seat; walk = None; held = None; owed = [] }) ≡ 0) → (first n : ℕ) → total count (fresh first n) ≡ 0
   none_counted count none first zero = refl
   none_counted count none first (suc n) = omega (arith, none first, none_counted count none (first + 1) n)
-
-  no_writers : (n : ℕ) → writers (fresh 0 n) ≡ 0
-  no_writers n = none_counted (λ view. one_if (is_writing view.held)) (λ seat. refl) 0 n
-
-  no_readers : (n : ℕ) → readers (fresh 0 n) ≡ 0
-  no_readers n = none_counted (λ view. one_if (is_reading view.held)) (λ seat. refl) 0 n
 
   no_queuers : (n : ℕ) → queuers (fresh 0 n) ≡ 0
   no_queuers n = none_counted (λ view. one_if (is_queuing view.walk)) (λ seat. refl) 0 n
@@ -45,14 +39,6 @@ module _ (C : Type 0) (N : ℕ) where
   each truths seats first zero row few = tt
   each truths seats first (suc n) row few = (record { in_range = omega arith; place = tt; owes = (refl, tt); section = refl }, each truths seats (first + 1) n row (omega arith))
 
-  -- nobody stands in the list of a variable
-  none_at : (k : ℕ) → waiters_of {C = C} (record { lock = []; cvs = replicate 4 [] }) (Cv k) ≡ []
-  none_at zero = refl
-  none_at (suc zero) = refl
-  none_at (suc (suc zero)) = refl
-  none_at (suc (suc (suc zero))) = refl
-  none_at (suc (suc (suc (suc k)))) = refl
-
   none_seen : (first n : ℕ) → WordsSeen (fresh first n)
   none_seen first zero = tt
   none_seen first (suc n) = (tt, none_seen (first + 1) n)
@@ -63,8 +49,8 @@ module _ (C : Type 0) (N : ℕ) where
 
   pub lawful_fresh : (truths : Truths C) (seats : ℕ) → seats ≤ 64 → IsLawful truths seats [] (fresh_state {C = C} {N = N} seats)
   lawful_fresh truths seats few = record {
-    one_writer = record { bit = no_writers seats; alone = λ e. absurd (cc) };
-    readers_counted = sym (no_readers seats);
+    one_writer = record { bit = none_counted (λ view. one_if (is_writing view.held)) (λ seat. refl) 0 seats; alone = λ e. absurd (cc) };
+    readers_counted = sym (none_counted (λ view. one_if (is_reading view.held)) (λ seat. refl) 0 seats);
     one_history = record {
       legal = tt;
       by_seats = tt;
@@ -77,13 +63,13 @@ module _ (C : Type 0) (N : ℕ) where
     bits_tell = record { at_home = λ e. refl; nobody = λ e. (refl, no_queuers seats) };
     waiters_placed = record {
       four = refl;
-      once = λ seat k low. rw (none_at k) (omega arith);
+      once = λ seat k low. rw (get_or-replicate {A = List (Waiter C)} 4 k [] [] low) (omega arith);
       placed = λ seat. let none = none_counted (λ view. times_among seat view.owed) (λ other. refl) 0 seats in rw (no_walk seat 0 seats) (omega (arith, none));
       armed = λ seat e. absurd (both_ways (has_armed (walk_at seat (fresh 0 seats))) (rw (no_walk seat 0 seats) refl) e);
       flag = λ seat. omega arith;
     };
     waiters_own = tt;
-    variables_tell = record { own = λ k low. rw (none_at k) tt; all = λ vs k seat mode e is. absurd (cc); some = λ vs seat mode e. absurd (cc) };
+    variables_tell = record { own = λ k low. rw (get_or-replicate {A = List (Waiter C)} 4 k [] [] low) tt; all = λ vs k seat mode e is. absurd (cc); some = λ vs seat mode e. absurd (cc) };
     taken_told = record { flag = λ seat clear. rw (no_walk seat 0 seats) tt; owed = subst (Every (WakeTells (λ seat. Idle) (fresh 0 seats))) (sym (none_owed_in 0 seats)) tt; listed = tt };
     desig_on_its_way = λ e. absurd (cc);
     idle_waiters_false = λ e f g. (refl, no_queuers seats);

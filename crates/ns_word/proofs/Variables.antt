@@ -1,8 +1,8 @@
 -- What the steps leave of the lists of the variables.
 use Rattle.std.proofs.Common.{◌<◌, ◌∷◌, ◌≡◌, ◌≢◌, ◌≤◌}
-use Rattle.ns_word.proofs.Prelude.{AreVariables, AreWaiting, Bool, Cv, Every, IsOrderly, List, Lists, Mode, None, OnVariables, Only, Option, Phase, SeatView, Seats, Some, Stance, Subject, VariableWaiterFits, Variables, VariablesTell, WaitFor, Waiter, Waiting, Write, [], ap, arith, below_in}
-use Rattle.ns_word.proofs.Prelude.{cases_Bool, cases_eq, cond, cvs_without, eq-eqb, eqb, every_filter, every_join, false, gone_outside, has, inl, inr, is_in, is_waiting, length, ne_eqb, not, once_in, one_if, outside, refl, subst, sum_by, sym, taken_set, times, times_at_most, times_in}
-use Rattle.ns_word.proofs.Prelude.{times_in-append, times_in-cons, times_outside, true, waiters_of, waits_in, walk_at, with_lock, without_in, woken_phase, woken_phases, ℕ, ◌∙◌}
+use Rattle.ns_word.proofs.Prelude.{AreVariables, AreWaiting, Bool, Cv, Every, IsOrderly, List, Lists, Mode, OnVariables, Option, Phase, SeatView, Seats, Some, Stance, Subject, VariableWaiterFits, Variables, VariablesTell, WaitFor, Waiter, Waiting, [], ap, arith, below_in, cases_Bool, cases_eq, cond}
+use Rattle.ns_word.proofs.Prelude.{cvs_without, eq-eqb, eqb, every_filter, every_join, false, gone_outside, has, inl, inr, is_in, is_waiting, length, ne_eqb, not, once_in, one_if, outside, refl, subst, sum_by, sym, taken_set, times, times_at_most, times_in, times_in-append, times_in-cons}
+use Rattle.ns_word.proofs.Prelude.{times_outside, true, waiters_of, waits_in, walk_at, with_lock, without_in, woken_phase, woken_phases, ℕ, ◌∙◌}
 use Rattle.ns_model.specs.declared.phase.Phase.TheVariants.{Idle}
 use Rattle.ns_word.proofs.Bases.{HasEntered, Move, cvs_left, left_at, listed_without, news, olds, one_has, outside_same, some_list, stance_same, stance_stays, stander, taken_at, times_other, times_others, times_without, variable_low, walk_is}
 
@@ -98,30 +98,18 @@ module _ {C : Type 0} {N : ℕ} where
         (listed_without (VariableWaiterFits phases (olds m) k) who (CvOf lists k) (p.own k few))))
         (λ k seat few ne. ap (times_in seat) (left_at who k lists four few) ∙ times_others seat who (CvOf lists k) ne) p
 
--- the mode in which one waits
-abbrev stance_mode : {C : Type 0} → Option (Stance C) → Mode
-stance_mode None = Write
-stance_mode (Some stance) = stance.mode
-
--- and for which variables, if it is for any
-abbrev variables_on : {C : Type 0} → Option (Subject C) → Variables
-variables_on (Some (OnVariables variables)) = variables
-variables_on on = Only 0
-
-abbrev stance_variables : {C : Type 0} → Option (Stance C) → Variables
-stance_variables None = Only 0
-stance_variables (Some stance) = variables_on stance.on
-
 module _ {C : Type 0} {N : ℕ} (phases : ℕ → Phase C) (lists : Lists C) (views : List (SeatView C N)) (seat : ℕ) (mode : Mode) (variables : Variables) where
   -- one that waits for variables, by its place, and stands in some list, waits for them by the history
   pub stands_still : VariablesTell phases lists views → length lists.cvs ≡ 4 → waits_in (walk_at seat views) ≡ Some (record { mode = mode; on = Some (OnVariables variables); tries = 0 }) → 1 ≤ sum_by (times_in seat) lists.cvs → phases seat ≡ Waiting variables mode
   stands_still p four stance some =
       let list = some_list seat lists four some in
       let waiter = one_of (VariableWaiterFits phases views list.0) seat (waiters_of lists (Cv list.0)) list.2 (p.own list.0 list.1) in
-      let both : Some (record { mode = waiter.0.mode; on = Some (OnVariables waiter.2.among); tries = 0 }) ≡ Some (record { mode = mode; on = Some (OnVariables variables); tries = 0 }) =
+      let both : ◌≡◌ {A = Option (Stance C)} (Some (record { mode = waiter.0.mode; on = Some (OnVariables waiter.2.among); tries = 0 })) (Some (record { mode = mode; on = Some (OnVariables variables); tries = 0 })) =
       sym waiter.2.stands ∙ ap (λ s. waits_in (walk_at s views)) waiter.1 ∙ stance in
-      let same_mode : waiter.0.mode ≡ mode = ap stance_mode both in
-      let same_among : waiter.2.among ≡ variables = ap stance_variables both in
+      let same : ◌≡◌ {A = Stance C} (record { mode = waiter.0.mode; on = Some (OnVariables waiter.2.among); tries = 0 }) (record { mode = mode; on = Some (OnVariables variables); tries = 0 }) = cc in
+      let on : ◌≡◌ {A = Option (Subject C)} (Some (OnVariables waiter.2.among)) (Some (OnVariables variables)) = ap (λ (s : Stance C). s.on) same in
+      let same_mode : waiter.0.mode ≡ mode = ap (λ (s : Stance C). s.mode) same in
+      let same_among : waiter.2.among ≡ variables = cc in
       subst (λ s. phases s ≡ Waiting waiter.2.among waiter.0.mode) waiter.1 waiter.2.waits ∙ (λ i. Waiting (same_among i) (same_mode i))
 
 -- ---- a call wakes some of a variable's waiters
