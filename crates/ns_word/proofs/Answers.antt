@@ -41,14 +41,10 @@ module _ {C : Type 0} {N : ℕ} (truths : Truths C) (wait : Wait C) (c : C) wher
       opens wait.on (Ended cause) held for back.entry
       ∙ ap (λ (z : Bool). Waited c (cond z Met (answer_of cause))) (ap (truths.holds c) (sym back.cells) ∙ e)
 
-  -- and where nothing has ended it
-  begins_met : (by : Option ℕ) (held : Held C N) → wait.on ≡ OnCondition c → ComesBack wait (Woken by) held → entry_of truths.holds held.before held.entry ≡ Waited c Met
-  begins_met by held for back = opens wait.on (Woken by) held for back.entry
-
   -- a test that finds the condition true
   pub met_answers : (visit : Visit) (held : Held C N) → wait.on ≡ OnCondition c → Tests truths wait visit (Some held) → truths.holds c held.row ≡ true → AnswersOf (comes_back visit) (Some held) Met
   met_answers OnEntry held for p e = (held, refl, p.0, sym e, λ b. absurd (cc))
-  met_answers (OnReturn (Woken by)) held for p e = (held, refl, p.0, sym e, λ _. begins_met by held for p.1)
+  met_answers (OnReturn (Woken by)) held for p e = (held, refl, p.0, sym e, λ _. opens wait.on (Woken by) held for p.1.entry)
   met_answers (OnReturn (Ended cause)) held for p e = (held, refl, p.0, sym e, λ _. begins_so cause held true for p.1 e)
 
   -- and one that finds it false

@@ -4,10 +4,10 @@ use Rattle.ns_word.proofs.Prelude.{Acquire, AcquireExchange, AcquireLoad, Acquir
 use Rattle.ns_word.proofs.Prelude.{CanWait, Cause, Cell, CellFits, CellPlace, ConditionWaitMeans, Course, Cv, CvWait, Cvs, Done, Effect, Ended, Event, Expired, Flag, ForLock, ForWait, Found, Get, GetLoad, HasLeft, HasLocked, HasLookedFor, HasReleased, HasWoken, Held, HeldFits, Idle, InAcquire}
 use Rattle.ns_word.proofs.Prelude.{InCells, InHand, InLeaving, InQueuing, InRelease, InShow, InSignal, InTry, InWait, Is, IsComing, IsFirst, IsForCondition, IsForVariables, IsLawful, IsLeft, IsQuiet, IsQuietSection, IsSome, KeptFits, Leave, LeaveLoad, LeavePlace, LeaveSelf, Left, Limits, List, Load}
 use Rattle.ns_word.proofs.Prelude.{LoadToScan, LockState, Look, LookIn, LookOut, Looked, Made, MayAnswer, MayEnd, MayShow, MayWait, Means, Met, Mode, Next, Noisy, None, Notified, Number, On, OnCondition, OnEntry, OnReturn, OnVariables, Only, Option, Outcome, OutcomeFits, Paid, Part, Pay, PayInWait}
-use Rattle.ns_word.proofs.Prelude.{PayTheWoken, PlaceFits, Plain, Queue, QueueFits, QueuePlace, QueueToWait, QueuesAfter, QueuesSoFar, Quiet, QuietCells, QuietLast, QuietWriter, Release, ReleaseExchange, ReleaseFits, ReleaseLoad, ReleasePlace, ReleaseSoFar, Releasing, Request, ReturnQueues}
-use Rattle.ns_word.proofs.Prelude.{ReturnShown, Saw, ScanAndRelease, ScanCells, Scanned, SeatView, SectionFits, Set, SetLoad, SetStore, Show, ShowLoad, ShowPlace, SignalLoad, SignalPlace, SignalSoFar, SoFar, Some, Step, Subject, Succeeded, Take, TakeToLeave, TakeToQueue, TakeToScan, TakeToShow}
-use Rattle.ns_word.proofs.Prelude.{TakeToWake, TestCells, TestLast, Tested, Tests, TestsSoFar, ToChange, ToQueue, ToRelease, ToTell, Truths, TryAcquire, TryLoad, TryLock, TryPlace, Unchanged, VariableWaitMeans, Variables, ViewFits, Visit, Wait, WaitFits, WaitPlace, WaitReturning, WaitSoFar, Waited}
-use Rattle.ns_word.proofs.Prelude.{Wake, WakeAndReturn, Waking, Walk, Woke, Woken, WokenBy, Word, [], acquire_by, acquired_for, answer_of, answer_of_wait, ap, append-nil, armed_place, arrival_of, asked_in_cells, asked_of, asked_to_judge, back_with, cause_by, cause_in, comes_back, cond, course_after}
+use Rattle.ns_word.proofs.Prelude.{PayTheWoken, PlaceFits, Queue, QueueFits, QueuePlace, QueueToWait, QueuesAfter, QueuesSoFar, Quiet, QuietCells, QuietLast, QuietWriter, Release, ReleaseExchange, ReleaseFits, ReleaseLoad, ReleasePlace, ReleaseSoFar, Releasing, Request, ReturnQueues, ReturnShown}
+use Rattle.ns_word.proofs.Prelude.{Saw, ScanAndRelease, ScanCells, Scanned, SeatView, SectionFits, Set, SetLoad, SetStore, Show, ShowLoad, ShowPlace, SignalLoad, SignalPlace, SignalSoFar, SoFar, Some, Step, Subject, Succeeded, Take, TakeToLeave, TakeToQueue, TakeToScan, TakeToShow, TakeToWake}
+use Rattle.ns_word.proofs.Prelude.{TestCells, TestLast, Tested, Tests, TestsSoFar, ToChange, ToQueue, ToRelease, ToTell, Truths, TryAcquire, TryLoad, TryLock, TryPlace, Unchanged, VariableWaitMeans, Variables, ViewFits, Visit, Wait, WaitFits, WaitPlace, WaitReturning, WaitSoFar, Waited, Wake}
+use Rattle.ns_word.proofs.Prelude.{WakeAndReturn, Waking, Walk, Woke, Woken, WokenBy, Word, [], acquire_by, acquired_for, answer_of, answer_of_wait, ap, append-nil, armed_place, arrival_of, asked_in_cells, asked_of, asked_to_judge, back_with, cause_by, cause_in, comes_back, cond, course_after}
 use Rattle.ns_word.proofs.Prelude.{course_from, entry_of, eqb, exit_for, false, got_acquiring, got_in_cells, got_leaving, got_of, got_queuing, got_releasing, got_showing, got_signaling, got_trying, got_waiting, has_some, held_after, home_of, inl, inr, is_held, is_limited, is_met, judge_of}
 use Rattle.ns_word.proofs.Prelude.{leave_any_told, leave_by, leave_of, leave_told, left_by, load_place, look_or_queue, looked_after, ltb, may_acquire, mode_for, mode_released, needs_scan, new_section, newly_held, not, outcome_taken, part_of, pay_releasing, pay_waiting, pay_woken, place_cause_kept}
 use Rattle.ns_word.proofs.Prelude.{queue_by, quiet_place, refl, release_by, request_for, rest_or_look, row_after, scan_place, section_of, show_by, signal_by, slice_index, standing_after, stands_at, subst, sym, taken_by, test_place, tries_of, true, unmet_by, variable_in, waiters_of, wake_of}
@@ -50,12 +50,6 @@ module _ (C : Type 0) (N : ℕ) (truths : Truths C) (seat : ℕ) (row : List ℕ
       ap (λ cs. course_after found cs course) silent
       ∙ ap (λ cs. record { began = course.began; committed = cs; looked = looked_after found course.looked }) (append-nil course.committed)
       ∙ ap (λ l. record { began = course.began; committed = course.committed; looked = l }) looks
-
-  -- so a step leads where it does that leaves the section too
-  leaves_course : (request : Request C) (course : Course C N) (found : Found) (next : Next C) (old new : Option (Held C N)) (commits : List (Event C N)) →
-      looked_after found course.looked ≡ course.looked → new ≡ old → commits ≡ [] → Comes request course next old → Comes request (course_after found commits course) next new
-  leaves_course request course found next old new commits looks same silent so_far =
-      subst (λ now. Comes request now next new) (sym (same_course found commits course looks silent)) (subst (λ held. Comes request course next held) (sym same) so_far)
 
   -- one that has left has left so whatever ended it, if it has committed just its section and what goes with that end
   left_with : (wait : Wait C) (ended ended' : Option Cause) (course course' : Course C N) → course'.began ≡ course.began → (left : HasLeft truths seat wait ended course) →
@@ -215,16 +209,13 @@ module _ (C : Type 0) (N : ℕ) (truths : Truths C) (seat : ℕ) (row : List ℕ
     abbrev asked : Wait C
     asked = wait_for mode (OnCondition c) limits
 
-    abbrev Answering : Bool → Option (Held C N) → Answer → Type 0
-    Answering back held answer = AnswersOf truths asked c back held answer
-
     -- how it has come to the section in hand: it has left none, or has left one and come back with another
     abbrev Been : Bool → Course C N → Option (Held C N) → Type 0
     Been false course held = Unchanged course held
     Been true course held = ((ended : Option Cause) × HasLeft truths seat asked ended course) × InHand held (λ back. IsBack row mode back)
 
     -- a wait answers
-    answers : (back : Bool) (course : Course C N) (held : Option (Held C N)) (answer : Answer) → Answering back held answer → MayAnswer limits course.looked answer → Been back course held → Means truths seat row (Await asked) course (Answered answer) held
+    answers : (back : Bool) (course : Course C N) (held : Option (Held C N)) (answer : Answer) → AnswersOf truths asked c back held answer → MayAnswer limits course.looked answer → Been back course held → Means truths seat row (Await asked) course (Answered answer) held
     answers back course held answer of may been =
         subst (λ h. InHand h (λ back. ConditionWaitMeans truths seat row mode c limits course answer back)) (sym of.1)
         (record { mode = of.2; met = of.3; may = may; how = go back of.4 (subst (Been back course) of.1 been) })
@@ -268,7 +259,8 @@ module _ (C : Type 0) (N : ℕ) (truths : Truths C) (seat : ℕ) (row : List ℕ
 
     -- a step that finds something and changes neither section nor history leads where its place does
     finds : (request : Request C) (found : Found) (to : Next C) → looked_after found course.looked ≡ course.looked → next.held ≡ part.held → commits ≡ [] → Comes request course to part.held → Comes request (course_after found commits course) to next.held
-    finds request found to looks same silent so_far = leaves_course request course found to part.held next.held commits looks same silent so_far
+    finds request found to looks same silent so_far =
+        subst (λ now. Comes request now to next.held) (sym (same_course found commits course looks silent)) (subst (λ held. Comes request course to held) (sym same) so_far)
 
     tries_on : (mode : Mode) (place : TryPlace) (found : Found) → Effect truths seat (want_trying mode place) part found next commits → Unchanged course part.held → Comes (TryLock mode) (course_after found commits course) (got_trying mode place found) next.held
     tries_on mode TryLoad (Saw word) e was = finds (TryLock mode) (Saw word) _ refl (held_in part e.1) e.2 (either (TryLock mode) course part.held (λ n. n) (may_acquire mode AsFresh word) (On (InTry mode (TryAcquire word))) (Done Busy) (λ b. was) (λ b. was))

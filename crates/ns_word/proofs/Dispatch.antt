@@ -53,10 +53,6 @@ parts_of : {C : Type 0} (waking : Waking) (ws : List (Waiter C)) (seat : ℕ) �
 parts_of Signaling ws seat = times_signaled ws seat
 parts_of Broadcasting ws seat = omega arith
 
--- whom a call takes stands in its list
-part_of_list : {C : Type 0} (waking : Waking) (ws : List (Waiter C)) (seat : ℕ) → times_in seat (taken_by waking ws) ≤ times_in seat ws
-part_of_list waking ws seat = omega (arith, parts_of waking ws seat)
-
 -- those whom a call that wakes owes wakes were not taken from the lock list
 from_by : (C : Type 0) (waking : Waking) (k : ℕ) (owes : Bool) (owed : List Owed) → owes ≡ has_some owed → (calls_from_lock {C = C} (walk_after (pay_woken waking k owes)) ≡ false) ⊎ (owed ≡ [])
 from_by C waking k true owed e = inl refl
@@ -288,7 +284,7 @@ module _ {C : Type 0} {N : ℕ} (truths : Truths C) (seats : ℕ) (h : List (Eve
         let so = wake_so waking k ws (omega (arith, few, fit.in_range)) (are_waiting (standing_after h).phases part.lists _ k orderly here.1 p.told) in
         wakes_waiters truths seats h front who (Some walk) (walk_after (pay_woken waking k owes)) back (wake_of who waking k (taken_by waking ws)) k (taken_by waking ws) part owed' lock' moved few here.1
         so.0 so.1 so.2
-        (λ seat. part_of_list waking ws seat) (taken_fit waking (Some walk) k ws (p.told.own k here.1)) refl ways (to.0 here.1 here.2) (to.1 ∙ is) (from_by C waking k owes owed' is) refl to.2 refl to.3 to.4 refl to.5 to.6 (λ none. to.7) p
+        (λ seat. omega (arith, parts_of waking ws seat)) (taken_fit waking (Some walk) k ws (p.told.own k here.1)) refl ways (to.0 here.1 here.2) (to.1 ∙ is) (from_by C waking k owes owed' is) refl to.2 refl to.3 to.4 refl to.5 to.6 (λ none. to.7) p
 
     woken_at : (waking : Waking) (k : ℕ) (last : Word) (owes : Bool) (held some : Bool) →
         let took = taken_by waking (waiters_of part.lists (Cv k)) in let put = cvs_without (taken_set took) part.lists in is_held part.word ≡ held → has_some took ≡ some → (not held && some) ≡ owes → Old (Some (InSignal waking k (WakeAndReturn last))) →

@@ -28,11 +28,9 @@ variable_low (Any cvs) k are is = in_set_low cvs k are.1 is
 -- a bit of a variable that isn't in the set
 clear_bit : (cvs : Cvs) (k : ℕ) → k < 4 → is_in cvs k ≡ false → bit_at cvs.0 k ≡ bit_at 0 k
 clear_bit cvs k low out = elim (cases_eq (bit_at cvs.0 k) 1) [
-  | inl one ↦ let is : is_in cvs k ≡ true = rw (lt_eight k low, eq-eqb (bit_at cvs.0 k) 1 one) refl in let both : true ≡ false = sym is ∙ out in absurd (cc)
+  | inl one ↦ let is : is_in cvs k ≡ true = rw (lt-ltb k 8 (omega (arith, low)), eq-eqb (bit_at cvs.0 k) 1 one) refl in let both : true ≡ false = sym is ∙ out in absurd (cc)
   | inr other ↦ omega (arith, bit_at-lt cvs.0 k, bit_at-zero k, other)
-] where
-  lt_eight : (k : ℕ) → k < 4 → ltb k 8 ≡ true
-  lt_eight k low = search (arith, low)
+]
 
 -- one of the first n, or none of them
 one_below : (cvs : Cvs) (n : ℕ) → ((k : ℕ) × (is_in cvs k ≡ true)) ⊎ ((i : ℕ) → i < n → is_in cvs i ≡ false)

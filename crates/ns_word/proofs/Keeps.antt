@@ -1,18 +1,18 @@
 -- Each kind of step keeps what holds of a lock and its seats.
 use Rattle.std.proofs.Common.{◌&&◌, ◌++◌, ◌+◌, ◌<◌, ◌∷◌, ◌≡◌, ◌≢◌, ◌≤◌, ◌⊎◌}
 use Rattle.ns_word.proofs.Prelude.{Any, AreVariables, Arrival, Bool, Cond, CondWait, Cv, Event, Every, Exit, ExitFits, Held, IsExpected, IsLegalEvent, IsNamed, IsSettledBy, List, Lists, LockState, Mode, None, OnCondition, OnVariables, Only, Opening, Option, Owed, OwesAs, Part, Phase, PlaceFits}
-use Rattle.ns_word.proofs.Prelude.{Plain, QuietWriter, Read, Reader, Releasing, SeatView, Some, Stance, Standing, TakenTold, Taking, Tells, ToChange, ToQueue, Truths, VariableWaiterFits, Variables, VariablesTell, ViewFits, Waiter, WaiterNames, WaitersOwn, Waiting, Walk, Word, Write, Writer, []}
-use Rattle.ns_word.proofs.Prelude.{and_parts, ap, arith, awaits, bits_in, bits_of, both_ways, called_of, called_to, calls_from_lock, cases_Bool, cond, counts_in, cvs_without, eqb, eqb-true, every_parts, exit_for, false, first_standing, flags_with, has_armed, has_eligible, has_queues, has_some}
-use Rattle.ns_word.proofs.Prelude.{in_stands, inl, inr, is_armed, is_held, is_in, is_of, is_on_way, is_queuing, is_some, is_unwoken, is_woken, left_of, length, length-map, lock_stance, may_acquire, meets_at, mode_released, needs_scan, not, not-true, one_if, one_most, outside, owed_to, pays}
-use Rattle.ns_word.proofs.Prelude.{phase_after, phase_before, phase_by, queued, refl, section_of, slice_set, standing_after, standing_from-append, standing_next, stands_waits, subst, sum_by, sym, taken_set, times, times_among, times_at_most, times_in, times_in-append, tries_of, true, waiters_of}
-use Rattle.ns_word.proofs.Prelude.{waits_at, waits_in, wakes_of, was_woken, who_of, with_lock, without_in, woken_of, woken_phase, woken_phases, word_acquired, word_released, word_released_returning, word_returned, word_taken, ℕ, ◌∙◌}
+use Rattle.ns_word.proofs.Prelude.{Plain, QuietWriter, Read, Reader, Releasing, SeatView, Some, Stance, Standing, TakenTold, Taking, Tells, ToChange, ToQueue, Truths, VariableWaiterFits, Variables, VariablesTell, ViewFits, Waiter, WaiterFits, WaiterNames, WaitersOwn, Waiting, Walk, Word, Write}
+use Rattle.ns_word.proofs.Prelude.{Writer, [], and_parts, ap, arith, awaits, bits_in, bits_of, both_ways, called_of, called_to, calls_from_lock, cases_Bool, cond, counts_in, cvs_without, eqb, eqb-true, every_parts, exit_for, false, first_standing, flags_with, has_armed, has_eligible, has_queues}
+use Rattle.ns_word.proofs.Prelude.{has_some, in_stands, inl, inr, is_armed, is_held, is_in, is_of, is_on_way, is_queuing, is_some, is_unwoken, is_woken, left_of, length, length-map, lock_stance, may_acquire, meets_at, mode_released, needs_scan, not, not-true, one_if, one_most, outside, owed_to}
+use Rattle.ns_word.proofs.Prelude.{pays, phase_after, phase_before, phase_by, queued, refl, section_of, slice_set, standing_after, standing_from-append, standing_next, stands_waits, subst, sum_by, sym, taken_set, times, times_among, times_at_most, times_in, times_in-append, tries_of, true}
+use Rattle.ns_word.proofs.Prelude.{waiters_of, waits_at, waits_in, wakes_of, was_woken, who_of, with_lock, without_in, woken_of, woken_phase, woken_phases, word_acquired, word_released, word_released_returning, word_returned, word_taken, ℕ, ◌∙◌}
 use Rattle.ns_model.specs.declared.phase.Phase.TheVariants.{Idle, Left}
 use Rattle.ns_word.proofs.Bases.{Groups, Homed, Known, Move, Safe, apart_parts, called_most, calls_tell, counts_entered, counts_gone, counts_lock, counts_none, counts_others, counts_somewhere, counts_taken, cvs_left, entered_at, filter_eligible, left_event, listed_left, listed_queued}
 use Rattle.ns_word.proofs.Bases.{listed_without, news, none_of, olds, once_entered, once_left, once_taken, queued_eligible, tells_clear, tells_few, tells_from, times_others, times_queued, times_scan, times_seats, times_wakes, times_without, view_of, wakes_tell, walk_is, walk_was}
 use Rattle.ns_word.proofs.Knows.{acquires as known_acquires, arms as known_arms, due_flag, is_loud, moves_in as known_moves, nothing_called, pays_one as known_pays, puts, releases as known_releases, rests as known_rests, scans as known_scans, sees_wake as known_sees, takes as known_takes}
 use Rattle.ns_word.proofs.Knows.{withdraws as known_withdraws}
 use Rattle.ns_word.proofs.Waits.{armed, cleared, entered, not_due, placed_here, rested, seen, taken, withdraws as withdrawn, woke}
-use Rattle.ns_word.proofs.Owns.{long_eligible, nowhere, own_moved, own_queued, own_same, own_scanned, own_stays, own_waited, own_without}
+use Rattle.ns_word.proofs.Owns.{long_eligible, nowhere, own_moved, own_queued, own_same, own_scanned, own_stays}
 use Rattle.ns_word.proofs.TakenTold.{left_stays, listed_woken, same_stays, told_arms, told_enters, told_pays, told_stays, told_wakes}
 use Rattle.ns_word.proofs.Variables.{stands_still, tell_enters, tell_leaves, tell_lists, tell_moves, tell_same, tell_taken, waits_of}
 use Rattle.ns_word.proofs.Homes.{at_home, away, back_home}
@@ -314,7 +314,7 @@ module _ {C : Type 0} {N : ℕ} (truths : Truths C) (seats : ℕ) (h : List (Eve
         homed = back_home m part.word word' lists.lock lock' refl refl s s' p.homed;
         placed = withdrawn m lists (with_lock lists lock') (times_in who lists.lock) part.flags p.placed.four p.placed.once refl set' (omega (arith, counts_lock lists lock' who, gone))
             (λ seat ne. let same = times_others seat who lists.lock ne in omega (arith, counts_lock lists lock' seat, same)) (λ some. a') (λ z. absurd (omega (arith, stood, z))) p.placed;
-        own = own_without m lists.lock p.own;
+        own = own_stays m lock' gone (listed_without (WaiterFits (olds m)) who lists.lock p.own);
         told = tell_moves m now.phases now.phases (with_lock lists lock') lock' p.placed.four nowhere_now (λ seat ne. refl) (waits_not (with_lock lists lock') _ p.placed.four nowhere_now as_put) as_put;
         taken = told_stays m now.phases now.phases part.flags lists.lock lock' (left_stays m now.phases now.phases (not_waiting (waits_in walk') a') (λ seat ne. refl)) (λ due listed. due) (λ listed. listed_without (WaiterNames now.phases (news m)) who lists.lock listed) p.taken;
         known = known_withdraws truths.holds m part.word now.row lists.lock lock' part.flags (calls old idle p) s q q' (λ f. absurd (both_ways _ stands.1 f)) (filter_eligible (meets_at truths now.row) (λ w. not (is_of who w)) lists.lock) p.homed p.known;
@@ -426,7 +426,7 @@ module _ {C : Type 0} {N : ℕ} (truths : Truths C) (seats : ℕ) (h : List (Eve
         homed = known.0;
         placed = entered m lists (with_lock lists lock') part.flags p.placed.four p.placed.once (owes_none part puts.idle p)
             (λ seat. omega (arith, times_scan seat meets lists.lock, times_seats seat (woken_of meets lists.lock), counts_lock lists lock' seat, times_queued seat who mode (Some c) 0 again (left_of meets lists.lock))) set puts.still (ap is_some a') puts.unarmed p.placed;
-        own = own_waited m meets mode (Some c) 0 again lists.lock (lock_nowhere lists none) (ap lock_stance a') p.own;
+        own = own_queued m mode (Some c) 0 again (left_of meets lists.lock) (omega (arith, lock_nowhere lists none, times_scan who meets lists.lock)) (ap lock_stance a') (listed_left (WaiterFits (olds m)) meets lists.lock p.own);
         told = tell_moves m now.phases phases' lists lock' p.placed.four none there idles p.told;
         taken = told_enters m now.phases phases' part.flags lists.lock lock' there (lock_nowhere lists none) (unowed part puts.still p) (armed_now part set p) (λ due listed. listed_woken phases' (news m) meets lists.lock listed)
             (λ listed. listed_queued (WaiterNames phases' (news m)) who mode (Some c) 0 again (left_of meets lists.lock) (subst (λ s. IsNamed s (phases' who) None) (sym (ap waits_in (walk_is m) ∙ a')) refl) (listed_left (WaiterNames phases' (news m)) meets lists.lock listed)) p.taken;

@@ -17,14 +17,6 @@ or_more true a c c' more e = refl
 or_more false true c c' more e = more e
 or_more false false c c' more e = absurd (cc)
 
--- a wake of one taken from the lock list was paid
-cleared_on_way : {C : Type 0} (walk : Option (Walk C)) (flag value owed owed' : ℕ) → is_from_lock value ≡ true → is_on_way walk flag owed ≡ true → is_on_way walk value owed' ≡ true
-cleared_on_way walk flag value owed owed' from e = or_more (was_woken walk) (awaits walk) _ (is_from_lock value || ltb 0 owed') (λ z. rw from refl) e
-
--- and one of another
-woken_on_way : {C : Type 0} (walk : Option (Walk C)) (value owed : ℕ) → is_from_lock value ≡ false → is_on_way walk 1 owed ≡ true → is_on_way walk value owed ≡ true
-woken_on_way walk value owed other e = rw other e
-
 -- more wakes owed are no fewer
 more_on_way : {C : Type 0} (walk : Option (Walk C)) (flag owed owed' : ℕ) → owed ≤ owed' → is_on_way walk flag owed ≡ true → is_on_way walk flag owed' ≡ true
 more_on_way walk flag owed owed' less e =
@@ -36,10 +28,6 @@ due_flag walk flag e = eqb-true flag 1 (and_parts (awaits walk) (eqb flag 1) (on
 
 pub due_awaits : {C : Type 0} (walk : Option (Walk C)) (flag : ℕ) → 1 ≤ one_if (is_unwoken walk flag) → awaits walk ≡ true
 due_awaits walk flag e = (and_parts (awaits walk) (is_armed flag) (one_set _ e)).0
-
--- places that tell the same are on the way alike
-goes_on : {C : Type 0} (walk walk' : Option (Walk C)) (flag owed : ℕ) → awaits walk' ≡ awaits walk → was_woken walk' ≡ was_woken walk → is_on_way walk flag owed ≡ true → is_on_way walk' flag owed ≡ true
-goes_on walk walk' flag owed a w e = rw (w, a) e
 
 some_append : {A : Type 0} (xs ys : List A) → has_some ys ≡ true → has_some (xs ++ ys) ≡ true
 some_append [] ys e = e
@@ -308,12 +296,12 @@ module _ {C : Type 0} {N : ℕ} (holds : C → List ℕ → Bool) (m : Move C N)
       let goes : (seat : ℕ) (at : Option (Walk C)) → is_on_way at (flags seat) (called_to seat (olds m)) ≡ true → is_on_way at (flags_with flags target value seat) (called_to seat (news m)) ≡ true = λ seat at f.
       elim (cases_eq target seat) [
         | inl e ↦ subst (λ n. is_on_way at n (called_to seat (news m)) ≡ true) (sym (ap (λ b. cond b value (flags seat)) (eq-eqb target seat e))) (elim (cases_Bool (is_from_lock value)) [
-          | inl said ↦ cleared_on_way at (flags seat) value (called_to seat (olds m)) (called_to seat (news m)) said f
+          | inl said ↦ or_more (was_woken at) (awaits at) _ (is_from_lock value || ltb 0 (called_to seat (news m))) (λ z. rw said refl) f
           | inr other ↦
               let here : called walk owed seat ≡ 0 = ap (λ b. cond b (times_among seat owed) 0) (calls ∙ other) in
               let there : called walk' owed' seat ≡ 0 = after_all seat ∙ ap (λ b. cond b (times_among seat owed') 0) other in
               let now_is : called_to seat (news m) ≡ called_to seat (olds m) = omega (arith, called_old seat, called_new seat, here, there) in
-              subst (λ n. is_on_way at value n ≡ true) (sym now_is) (woken_on_way at value (called_to seat (olds m)) other (subst (λ n. is_on_way at n (called_to seat (olds m)) ≡ true) (due seat e) f))
+              subst (λ n. is_on_way at value n ≡ true) (sym now_is) (rw other (subst (λ n. is_on_way at n (called_to seat (olds m)) ≡ true) (due seat e) f))
         ])
         | inr ne ↦
             let fewer : times_among seat owed ≡ times_among seat owed' = ap (times_among seat) owes ∙ rw (ne_eqb target seat ne) (omega arith) in
@@ -322,7 +310,7 @@ module _ {C : Type 0} {N : ℕ} (holds : C → List ℕ → Bool) (m : Move C N)
             subst (λ n. is_on_way at n (called_to seat (news m)) ≡ true) (sym (ap (λ b. cond b value (flags seat)) (ne_eqb target seat ne))) (subst (λ n. is_on_way at (flags seat) n ≡ true) (sym now_is) f)
       ] in
       known_on word word now lists.lock flags (flags_with flags target value) q (refl, refl) (λ e f g. (e, f, g))
-      (λ e. way flags (flags_with flags target value) (λ f. goes_on walk walk' (flags_with flags target value who) (called_to who (news m)) a w (goes who walk f)) (λ seat ne f. goes seat (walk_at seat (olds m)) f) (p.on_way e)) p
+      (λ e. way flags (flags_with flags target value) (λ f. rw (w, a) (goes who walk f)) (λ seat ne f. goes seat (walk_at seat (olds m)) f) (p.on_way e)) p
 
   -- a seat sees its flag cleared
   pub sees_wake : (word : Word) (now : List ℕ) (lists : Lists C) (flags : ℕ → ℕ) → CallsSame → is_queuing walk' ≡ is_queuing walk → flags who ≢ 1 →

@@ -1,8 +1,8 @@
 -- What the steps leave of the waiters: each is its seat's own.
 use Rattle.std.proofs.Common.{◌++◌, ◌+◌, ◌||◌, ◌∷◌, ◌≡◌}
 use Rattle.ns_word.proofs.Prelude.{AwaitWake, Bool, Every, InAcquire, InWait, List, Lists, Mode, None, Option, Phase, SeatView, Some, VariableWaiterFits, Waiter, WaiterFits, WaitersOwn, WaitersPlaced, Walk, [], ap, arith, cond, cond_on, counts_in, eqb-true, every-append, every_map, false}
-use Rattle.ns_word.proofs.Prelude.{has_eligible, is_eligible, is_long, is_unwoken, left_of, list_any, lock_stance, mode_for, one_if, or_right, owed_to, place_awaits, queued, refl, subst, suc, sym, times, times_in, true, waits_in, walk_at, without_in, ℕ, ◌∙◌}
-use Rattle.ns_word.proofs.Bases.{Move, counts_none, every_apart, listed_left, listed_queued, listed_without, news, olds, stance_same, stance_stays, times_scan, times_without, walk_is, walk_was}
+use Rattle.ns_word.proofs.Prelude.{has_eligible, is_eligible, is_long, is_unwoken, left_of, list_any, lock_stance, mode_for, one_if, or_right, owed_to, place_awaits, queued, refl, subst, suc, sym, times, times_in, true, waits_in, walk_at, ℕ, ◌∙◌}
+use Rattle.ns_word.proofs.Bases.{Move, counts_none, every_apart, listed_left, listed_queued, news, olds, stance_same, stance_stays, times_scan, walk_is, walk_was}
 
 module _ {C : Type 0} {N : ℕ} (m : Move C N) where
   open m use {who, walk, walk'}
@@ -32,16 +32,6 @@ module _ {C : Type 0} {N : ℕ} (m : Move C N) where
   -- a scan takes some, and the seat stands nowhere
   pub own_scanned : (meets : C → Bool) (ws : List (Waiter C)) → times_in who ws ≡ 0 → WaitersOwn ws (olds m) → WaitersOwn (left_of meets ws) (news m)
   own_scanned meets ws none p = let parts = times_scan who meets ws in own_stays (left_of meets ws) (omega (arith, parts, none)) (listed_left (WaiterFits (olds m)) meets ws p)
-
-  -- and puts itself in as it does
-  pub own_waited : (meets : C → Bool) (mode : Mode) (c : Option C) (tries : ℕ) (again : Bool) (ws : List (Waiter C)) → times_in who ws ≡ 0 → lock_stance (waits_in walk') ≡ Some (mode, c, tries) →
-      WaitersOwn ws (olds m) → WaitersOwn (queued who mode c tries again (left_of meets ws)) (news m)
-  own_waited meets mode c tries again ws none waits p =
-      let parts = times_scan who meets ws in own_queued mode c tries again (left_of meets ws) (omega (arith, parts, none)) waits (listed_left (WaiterFits (olds m)) meets ws p)
-
-  -- the seat stands there no more
-  pub own_without : (ws : List (Waiter C)) → WaitersOwn ws (olds m) → WaitersOwn (without_in who ws) (news m)
-  own_without ws p = own_stays (without_in who ws) (times_without who ws) (listed_without (WaiterFits (olds m)) who ws p)
 
 -- those who wait for a variable may stand in the lock list, where they have no condition
 pub own_moved : {C : Type 0} {N : ℕ} (phases : ℕ → Phase C) (views : List (SeatView C N)) (k : ℕ) (ws taken : List (Waiter C)) → WaitersOwn ws views → Every (VariableWaiterFits phases views k) taken → WaitersOwn (ws ++ taken) views

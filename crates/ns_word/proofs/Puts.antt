@@ -9,10 +9,6 @@ pub record Puts (w' : Word) (n old new : ℕ) : Type 0 where
   pub fits : n - old + new < 2 ^ 64
   pub is : word_of (n - old + new) ≡ w'
 
--- the readers of a word whose number fits, and the number of such a word
-readers_few : (w : Word) → number_of w < 2 ^ 64 → w.readers < 2 ^ 56
-readers_few w fits = omega (arith, fits)
-
 number_few : (w : Word) → w.readers < 2 ^ 56 → number_of w < 2 ^ 64
 number_few w few = omega (arith, few, bit_few w.write, bit_few w.spin, bit_few w.waiting, bit_few w.desig, bit_few w.cond, bit_few w.writer_waits, bit_few w.all_false, bit_few w.long)
 
@@ -23,7 +19,7 @@ has w n old view less = omega (arith, sym (ap number_of view) ∙ encoded n, les
 pub puts : (w w' : Word) (n old new : ℕ) → word_of n ≡ w → n < 2 ^ 64 → w'.readers ≡ w.readers → old ≤ number_of w → number_of w + new ≡ number_of w' + old → Puts w' n old new
 puts w w' n old new view fits readers less sum =
     let own : number_of w ≡ n = sym (ap number_of view) ∙ encoded n in
-    let few = readers_few w (rw own fits) in
+    let whole : number_of w < 2 ^ 64 = rw own fits in let few : w.readers < 2 ^ 56 = omega (arith, whole) in
     let low = number_few w' (rw readers few) in
     let made : n - old + new ≡ number_of w' = omega (arith, own, less, sum) in
     record {

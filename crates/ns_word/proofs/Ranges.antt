@@ -31,10 +31,6 @@ module _ {C : Type 0} {N : ℕ} (truths : Truths C) (seats : ℕ) (h : List (Eve
       let most = one_most (is_unwoken (walk_at seat s.views) (s.flags seat)) in
       omega (arith, sum, most)
 
-  -- so none stands twice in one of them
-  pub once_in_lock : (seat : ℕ) → times_in seat s.lists.lock ≤ 1
-  once_in_lock seat = omega (arith, counts_once seat)
-
   pub placed_below : (seat : ℕ) → 1 ≤ counts_in seat s.lists + owed_to seat s.views → seat < seats
   placed_below seat some = waiting_below truths seats (standing_after h) s.row seat s.views each (placed_awaits s.lists s.flags s.views seat placed some)
 
@@ -48,7 +44,7 @@ module _ {C : Type 0} {N : ℕ} (truths : Truths C) (seats : ℕ) (h : List (Eve
   -- nor does one stand in the lock list and in that of a variable
   pub beside_once : (seat k : ℕ) → k < 4 → beside s.lists seat k ≤ 1
   beside_once seat k low = elim (cases_eq (times_in seat (waiters_of s.lists (Cv k))) 0) [
-    | inl none ↦ omega (arith, none, once_in_lock seat)
+    | inl none ↦ omega (arith, none, counts_once seat)
     | inr some ↦ let there = counts_there seat k s.lists placed.four low (omega (arith, some)) in omega (arith, there, counts_once seat, placed.once seat k low)
   ]
 

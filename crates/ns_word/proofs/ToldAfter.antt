@@ -19,9 +19,6 @@ led_at N begun (Some walk) earlier first founds last leads = record { earlier = 
 led_on : {C : Type 0} (N : ℕ) (begun : List (Walk C)) (walk : Walk C) (found : Found) → LedBy N begun walk → IsLed N begun (walk_after (got_of N walk found))
 led_on N begun walk found led = led_at N begun (walk_after (got_of N walk found)) led.earlier led.first (led.founds ++ found ∷ []) led.last (over_more N led.founds found (Some led.first) walk led.leads)
 
-led_from : {C : Type 0} (N : ℕ) (earlier : List (Walk C)) (first : Walk C) (found : Found) (next : Option (Walk C)) → walk_after (got_of N first found) ≡ next → IsLed N (earlier ++ first ∷ []) next
-led_from N earlier first found next e = led_at N (earlier ++ first ∷ []) next earlier first (found ∷ []) refl e
-
 module _ {C : Type 0} {N : ℕ} where
   -- what a step commits is its seat's
   pub step_by : (truths : Truths C) (old : LockState C N) (view : SeatView C N) (found : Found) (new : LockState C N) (commits : List (Event C N)) → Step truths old view found new commits → AreBy view.seat commits
@@ -84,7 +81,7 @@ module _ {C : Type 0} {N : ℕ} (truths : Truths C) where
       (All-nil (IsFirst N), subst (λ begun. IsLed N begun (walk_after (got_of N step.walk found))) (sym (append-nil told)) (led_on N told step.walk found led))
   led_if view (Some walk) between found new commits old start step told was =
       let same : walk ≡ step.walk = cc (step.walks) in
-      (All-push (IsFirst N) [] walk (All-nil (IsFirst N)) start.first, led_from N told walk found (walk_after (got_of N step.walk found)) (ap (λ w. walk_after (got_of N w found)) same))
+      (All-push (IsFirst N) [] walk (All-nil (IsFirst N)) start.first, led_at N (told ++ walk ∷ []) (walk_after (got_of N step.walk found)) told walk (found ∷ []) refl (ap (λ w. walk_after (got_of N w found)) same))
 
   -- a view's number stays where its call begins
   pub seat_in : (view : SeatView C N) (begun : Option (Walk C)) → (view_in view begun).seat ≡ view.seat

@@ -135,17 +135,14 @@ module _ {C : Type 0} {N : ℕ} (m : Move C N) where
       (λ seat ne f. p.armed seat f)
       p.flag p
 
-  owed_here : (seat : ℕ) → times_among seat owed ≤ owed_to seat (olds m)
-  owed_here seat = let was = owed_at seat front (view_of who walk held owed) back in omega (arith, was)
-
   -- one that the seat owes a wake is due
   pub due_of : (wake : Owed) (seat : ℕ) (lists : Lists C) (flags : ℕ → ℕ) → owed ≡ wake ∷ owed' → wake.seat ≡ seat → WaitersPlaced lists flags (olds m) → one_if (is_unwoken (walk_at seat (olds m)) (flags seat)) ≡ 1
   due_of wake seat lists flags owes e p =
-      let here : times_among seat owed ≤ owed_to seat (olds m) = owed_here seat in
+      let all = owed_at seat front (view_of who walk held owed) back in
       let one : times_among seat owed ≡ 1 + times_among seat owed' = ap (times_among seat) owes ∙ rw (eq-eqb wake.seat seat e) refl in
       let most = one_most (is_unwoken (walk_at seat (olds m)) (flags seat)) in
       let sum : counts_in seat lists + owed_to seat (olds m) ≡ one_if (is_unwoken (walk_at seat (olds m)) (flags seat)) = p.placed seat in
-      omega (arith, here, one, most, sum)
+      omega (arith, all, one, most, sum)
 
   -- a seat clears the flag of one that is owed a wake
   pub woke : (wake : Owed) (lists : Lists C) (flags : ℕ → ℕ) → owed ≡ wake ∷ owed' → wake.value ≢ 1 → wake.value < 10 → awaits walk' ≡ awaits walk → has_armed walk' ≡ false →

@@ -1,7 +1,7 @@
 -- How far a call on the lock has come, at each of its places.
 use Rattle.std.specs.Prelude.{◌++◌, ◌∷◌, ◌≡◌}
-use Rattle.ns_word.specs.Names.{Aim, Any, Bool, Cause, Done, Event, ForLock, ForWait, Found, Held, Idle, InAcquire, InCells, InLeaving, InQueuing, InRelease, InShow, InSignal, InTry, InWait, Limits, List, LookIn, Looked, Next, None, On, OnCondition, OnEntry, OnReturn, OnVariables, Only, Option}
-use Rattle.ns_word.specs.Names.{Outcome, Pay, PayTheWoken, QueuePlace, ReleasePlace, Releasing, Request, SignalPlace, Some, Subject, TestCells, TestLast, Truths, Visit, Wait, WaitPlace, Waking, Walk, [], false, is_limited, true, ℕ}
+use Rattle.ns_word.specs.Names.{Aim, Any, Bool, Cause, Done, Event, ForLock, ForWait, Found, Held, Idle, InAcquire, InLeaving, InQueuing, InRelease, InSignal, InWait, Limits, List, LookIn, Looked, Next, None, On, OnCondition, OnEntry, OnReturn, OnVariables, Only, Option, Outcome, Pay, PayTheWoken}
+use Rattle.ns_word.specs.Names.{QueuePlace, ReleasePlace, Releasing, Request, SignalPlace, Some, Subject, TestCells, TestLast, Truths, Visit, Wait, WaitPlace, Waking, Walk, [], false, is_limited, true, ℕ}
 use Rattle.ns_word.specs.Asked.{asked_of}
 use Rattle.ns_word.specs.Waits.{cause_in}
 use Rattle.ns_word.specs.Places.{IsUnmet}
@@ -91,13 +91,11 @@ SignalSoFar seat waking k place course held = Unchanged course held
 
 -- How far a call has come, by its place: before it commits anything it has changed nothing, and from then on the place tells what it has committed.
 abbrev pub SoFar : {C : Type 0} {N : ℕ} → Truths C → ℕ → Course C N → Walk C → Option (Held C N) → Type 0
-SoFar truths seat course (InTry mode place) held = Unchanged course held
 SoFar truths seat course (InAcquire aim place) held = AcquireSoFar truths seat aim course held
 SoFar truths seat course (InRelease releasing place) held = ReleaseSoFar truths seat releasing place course held
-SoFar truths seat course (InCells place) held = Unchanged course held
 SoFar truths seat course (InWait wait place) held = WaitSoFar truths seat wait place course held
 SoFar truths seat course (InSignal waking k place) held = SignalSoFar seat waking k place course held
-SoFar truths seat course (InShow place) held = Unchanged course held
+SoFar truths seat course walk held = Unchanged course held
 
 -- ---- where a step leads
 

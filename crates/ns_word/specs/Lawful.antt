@@ -107,9 +107,8 @@ pub record WaitersPlaced {C : Type 0} {N : ℕ} (lists : Lists C) (flags : ℕ �
 
 -- With which condition one stands in the lock list that waits so: one that waits for variables, and was moved there, with none. The place of a moved waiter still has its variables, and doesn't tell that it was moved.
 abbrev pub cond_on : {C : Type 0} → Option (Subject C) → Option C
-cond_on None = None
 cond_on (Some (OnCondition c)) = Some c
-cond_on (Some (OnVariables variables)) = None
+cond_on on = None
 
 abbrev pub lock_stance : {C : Type 0} → Option (Stance C) → Option (Mode × Option C × ℕ)
 lock_stance None = None
@@ -144,9 +143,8 @@ pub record VariablesTell {C : Type 0} {N : ℕ} (phases : ℕ → Phase C) (list
 -- What a flag of this value tells one that waits so, in this phase, and was taken from a list: one that waits for variables was woken by one of them, and finds its number in one of two values; any
 -- other finds 0. Which of the two it is says from where it was taken, and that is said of the wakes that are owed (`OwesAs`).
 abbrev pub ToldOn : {C : Type 0} → Option (Subject C) → Mode → Phase C → ℕ → Type 0
-ToldOn None mode phase value = value ≡ 0
-ToldOn (Some (OnCondition c)) mode phase value = value ≡ 0
 ToldOn (Some (OnVariables variables)) mode phase value = (k : ℕ) × (has variables k ≡ true) × (phase ≡ Woken k mode) × (k < 4) × ((value ≡ 2 + k) ⊎ (value ≡ 6 + k))
+ToldOn on mode phase value = value ≡ 0
 
 abbrev pub IsToldSo : {C : Type 0} → Option (Stance C) → Phase C → ℕ → Type 0
 IsToldSo None phase value = Unit {0}
@@ -158,9 +156,8 @@ WakeTells phases views wake = IsToldSo (waits_in (walk_at wake.seat views)) (pha
 
 -- What one names that stands in the lock list, waits so and is in this phase: one that waits for variables was woken by one of them, which moved it there, and names that; any other names none.
 abbrev pub NamesOn : {C : Type 0} → Option (Subject C) → Mode → Phase C → Option ℕ → Type 0
-NamesOn None mode phase via = via ≡ None
-NamesOn (Some (OnCondition c)) mode phase via = via ≡ None
 NamesOn (Some (OnVariables variables)) mode phase via = (k : ℕ) × (has variables k ≡ true) × (phase ≡ Woken k mode) × (k < 4) × (via ≡ Some k)
+NamesOn on mode phase via = via ≡ None
 
 abbrev pub IsNamed : {C : Type 0} → Option (Stance C) → Phase C → Option ℕ → Type 0
 IsNamed None phase via = Unit {0}

@@ -1,9 +1,9 @@
 -- What a place in a call needs of its seat, and what an act needs.
 use Rattle.std.specs.Prelude.{◌+◌, ◌<◌, ◌∷◌, ◌≡◌, ◌≤◌}
-use Rattle.ns_word.specs.Names.{Acquire, AcquireExchange, AcquirePlace, Act, Aim, Any, ArmFlag, AsFresh, AwaitWake, Bool, CameBack, CellPlace, Change, Ended, ForLock, ForWait, GetLoad, Held, InAcquire, InCells, InLeaving, InQueuing, InRelease, InShow, InSignal, InTry, InWait, IsSome, JudgeMet}
-use Rattle.ns_word.specs.Names.{JudgeQuiet, LeavePlace, LeaveSelf, List, LoadCell, LoadFlag, LoadToScan, LoadWord, Locked, Look, LookIn, Mode, None, Nothing, OnCondition, OnEntry, OnReturn, OnVariables, Only, Opening, Option, Outcome, Owed, Pay, PayWake, QueuePlace, QueueSelf, QuietCells, QuietLast}
-use Rattle.ns_word.specs.Names.{QuietWriter, Reader, Release, ReleaseExchange, ReleaseLoad, ReleasePlace, ReleaseReturning, Releasing, ReturnQueues, ScanAndRelease, ScanCells, SetLoad, SetStore, ShowPlace, SignalPlace, Some, StoreCell, Subject, Take, TakeQueues, TakeToLeave, TakeToQueue, TakeToScan}
-use Rattle.ns_word.specs.Names.{TakeToShow, TakeToWake, TestCells, TestLast, Truths, TryAcquire, TryPlace, Variables, Visit, Wait, WaitPlace, WaitReturning, WakeWaiters, Walk, Woken, Write, Writer, [], false, times, true, ℕ}
+use Rattle.ns_word.specs.Names.{Acquire, AcquireExchange, AcquirePlace, Act, Aim, Any, ArmFlag, AsFresh, AwaitWake, Bool, CameBack, CellPlace, Change, ForLock, ForWait, GetLoad, Held, InAcquire, InCells, InLeaving, InQueuing, InRelease, InShow, InSignal, InTry, InWait, IsSome, JudgeMet, JudgeQuiet}
+use Rattle.ns_word.specs.Names.{LeavePlace, List, LoadCell, LoadFlag, LoadToScan, LoadWord, Look, LookIn, Mode, None, OnCondition, OnEntry, OnReturn, OnVariables, Only, Opening, Option, Outcome, Owed, Pay, PayWake, QueuePlace, QueueSelf, QuietCells, QuietLast, QuietWriter, Release, ReleaseExchange}
+use Rattle.ns_word.specs.Names.{ReleasePlace, ReleaseReturning, Releasing, ReturnQueues, ScanCells, SetLoad, SetStore, ShowPlace, SignalPlace, Some, StoreCell, Subject, Take, TakeQueues, TakeToLeave, TakeToQueue, TakeToScan, TakeToShow, TakeToWake, TestCells, TestLast, Truths, TryAcquire, TryPlace}
+use Rattle.ns_word.specs.Names.{Variables, Visit, Wait, WaitPlace, WaitReturning, WakeWaiters, Walk, Woken, Write, [], false, times, true, ℕ}
 use Rattle.ns_word.specs.Words.{mode_released, may_acquire, needs_scan}
 use Rattle.ns_word.specs.Waits.{OutcomeFits, cause_in, mode_for}
 use Rattle.ns_word.specs.Answers.{place_cause_kept}
@@ -16,10 +16,9 @@ HasMode mode (Some held) = held.mode ≡ mode
 
 -- How a section began is settled: it came back from no wait; or from one for a condition that something has ended, or whose condition is true of the row that the section began at; or from one for variables, and what came of that goes with them.
 abbrev pub IsSettledBy : {C : Type 0} → (C → List ℕ → Bool) → List ℕ → Opening C → Type 0
-IsSettledBy holds before Locked = Unit {0}
 IsSettledBy holds before (CameBack (OnCondition c) (Woken by)) = holds c before ≡ true
-IsSettledBy holds before (CameBack (OnCondition c) (Ended cause)) = Unit {0}
 IsSettledBy {C} holds before (CameBack (OnVariables variables) outcome) = OutcomeFits {C = C} (OnVariables variables) outcome
+IsSettledBy holds before entry = Unit {0}
 
 -- so it is of the section in hand, if there is one; an open one isn't committed
 abbrev pub IsSettled : {C : Type 0} {N : ℕ} → Truths C → Option (Held C N) → Type 0
@@ -28,9 +27,8 @@ IsSettled truths (Some held) = IsSettledBy truths.holds held.before held.entry
 
 -- what is declared of the section that is left
 abbrev pub IsLeft : {C : Type 0} {N : ℕ} → Truths C → Releasing → Held C N → Type 0
-IsLeft truths Writer held = Unit {0}
 IsLeft truths QuietWriter held = truths.quiet held.before held.row ≡ true
-IsLeft truths Reader held = Unit {0}
+IsLeft truths releasing held = Unit {0}
 
 -- a section that may be left so is in hand: in its mode, settled, and quiet where that is declared
 abbrev pub CanLeave : {C : Type 0} {N : ℕ} → Truths C → Releasing → Option (Held C N) → Type 0
@@ -95,12 +93,11 @@ AcquireFits aim place = Unit {0}
 
 -- A release has its section in hand until it owes wakes alone.
 abbrev pub ReleaseFits : {C : Type 0} {N : ℕ} → Truths C → Releasing → ReleasePlace → Option (Held C N) → Type 0
-ReleaseFits truths releasing ReleaseLoad held = CanLeave truths releasing held
 ReleaseFits truths releasing (ReleaseExchange last) held = CanLeave truths releasing held × (needs_scan releasing last ≡ false)
 ReleaseFits truths releasing (TakeToScan last) held = CanLeave truths releasing held × (last.spin ≡ false) × (needs_scan releasing last ≡ true)
 ReleaseFits {C} {N} truths releasing (ScanCells last i) held = CanLeave truths releasing held × (i < N)
-ReleaseFits truths releasing (ScanAndRelease last) held = CanLeave truths releasing held
 ReleaseFits truths releasing Pay held = held ≡ None
+ReleaseFits truths releasing place held = CanLeave truths releasing held
 
 -- A call on the row has a section in hand, in write mode but for a read, and names a cell of it.
 abbrev pub CellFits : {C : Type 0} {N : ℕ} → CellPlace → Option (Held C N) → Type 0
@@ -170,9 +167,8 @@ OwesOne seats (wake ∷ rest) = wake.seat < seats
 -- a seat that puts itself in stands nowhere yet, and a list is one that there is
 abbrev pub ChangeFits : {C : Type 0} {N : ℕ} → ℕ → Change → Part C N → Type 0
 ChangeFits seat (QueueSelf mode arrival) part = times seat part.lists ≡ 0
-ChangeFits seat (LeaveSelf home) part = Unit {0}
 ChangeFits seat (WakeWaiters waking k) part = k < 4
-ChangeFits seat Nothing part = Unit {0}
+ChangeFits seat change part = Unit {0}
 
 -- What an act needs, that it may be made by one of so many seats on its part of the state.
 abbrev pub ActFits : {C : Type 0} {N : ℕ} → Truths C → ℕ → ℕ → Act C → Part C N → Type 0

@@ -122,10 +122,9 @@ owed_after change last lists owed = owed
 
 -- what is found where they were put back: one that leaves learns whether it still stood there
 abbrev pub change_found : {C : Type 0} → ℕ → Change → Word → Lists C → Found
-change_found seat (QueueSelf mode arrival) last lists = Made
 change_found seat (LeaveSelf home) last lists = Left (stands_at seat home lists)
 change_found seat (WakeWaiters waking k) last lists = Woke (not (is_held last) && has_some (taken_by waking (waiters_of lists (Cv k))))
-change_found seat Nothing last lists = Made
+change_found seat change last lists = Made
 
 -- the event that a call is which wakes these
 abbrev pub wake_of : {C : Type 0} {N : ℕ} → ℕ → Waking → ℕ → List (Waiter C) → Event C N
@@ -140,10 +139,9 @@ leave_of seat home stood = []
 
 -- what is committed as they are put back
 abbrev pub change_commits : {C : Type 0} {N : ℕ} → ℕ → Change → Lists C → List (Event C N)
-change_commits seat (QueueSelf mode arrival) lists = []
 change_commits seat (LeaveSelf home) lists = leave_of seat home (stands_at seat home lists)
 change_commits seat (WakeWaiters waking k) lists = wake_of seat waking k (taken_by waking (waiters_of lists (Cv k))) ∷ []
-change_commits seat Nothing lists = []
+change_commits seat change lists = []
 
 -- a waiter of its own list, with its condition if it waits for one; of the list of each variable, if it waits for any of a set
 abbrev pub waits_at : {C : Type 0} → Subject C → ℕ → Mode → Bool → Lists C → Lists C
