@@ -1,51 +1,9 @@
 //! The laws by call: what a call has done at each of its places, and what its answer means.
 
 ghost use Rattle.std.specs.Prelude.{◌≡◌, ◌≢◌, ◌<◌, ◌⊎◌, ◌||◌, ◌==◌, nat_lt, Bool, ℕ, true, false, if◌then◌else◌, List, [], ◌∷◌, ◌++◌, Option, None, Some, slice_get};
-ghost use Rattle.ns_model.specs.declared.event.Answer.TheVariants.{Met};
-ghost use Rattle.ns_model.specs.declared.event.Event.{Event};
-ghost use Rattle.ns_model.specs.Histories.{row_after, standing_after};
-ghost use Rattle.ns_model.specs.Tallies.{Every};
-ghost use Rattle.ns_queue.specs.declared.waiter.Which.TheVariants.{Cv};
-ghost use Rattle.ns_queue.specs.Queues.{waiters_of};
-ghost use Rattle.ns_word.specs.declared.acquire_walk.AcquirePlace.TheVariants.{AcquireLoad, AwaitWake, Queue};
-ghost use Rattle.ns_word.specs.declared.act.Act.TheVariants.{LoadFlag, Look, PayWake};
-ghost use Rattle.ns_word.specs.declared.act.Found.{Found};
-ghost use Rattle.ns_word.specs.declared.act.Found.TheVariants.{Flag, Looked, Made, Saw};
-ghost use Rattle.ns_word.specs.declared.act.Waking.{Waking};
-ghost use Rattle.ns_env.specs.declared.limits.Cause.{Cause};
-ghost use Rattle.ns_env.specs.declared.limits.Limits.{Limits};
-ghost use Rattle.ns_word.specs.declared.request.Request.TheVariants.{Await, Wake};
-ghost use Rattle.ns_model.specs.declared.event.Mode.{Mode};
-ghost use Rattle.ns_model.specs.declared.event.Mode.TheVariants.{Read};
-ghost use Rattle.ns_word.specs.declared.owed.Owed.{Owed};
-ghost use Rattle.ns_word.specs.declared.try_walk.TryPlace.{TryPlace};
-ghost use Rattle.ns_word.specs.declared.try_walk.TryPlace.TheVariants.{TryAcquire};
-ghost use Rattle.ns_word.specs.declared.view.Held.{Held};
-ghost use Rattle.ns_word.specs.declared.view.SeatView.{SeatView};
-ghost use Rattle.ns_word.specs.declared.wait.Aim.{Aim};
-ghost use Rattle.ns_word.specs.declared.wait.Subject.TheVariants.{OnCondition};
-ghost use Rattle.ns_word.specs.declared.wait.Wait.{Wait};
-ghost use Rattle.ns_word.specs.declared.wait.WaitPlace.TheVariants.{AwaitWakeInWait};
-ghost use Rattle.ns_word.specs.declared.walk.Walk.{Walk};
-ghost use Rattle.ns_word.specs.declared.walk.Next.TheVariants.{Done, On};
-ghost use Rattle.ns_word.specs.declared.walk.Reply.TheVariants.{Answered, Busy};
-ghost use Rattle.ns_word.specs.declared.walk.Walk.TheVariants.{InAcquire, InTry, InWait};
-ghost use Rattle.ns_word.specs.declared.word.Arrival.{Arrival};
-ghost use Rattle.ns_word.specs.declared.word.Arrival.TheVariants.{AsFresh, AsWoken};
-ghost use Rattle.ns_word.specs.declared.word.Word.{Word};
-ghost use Rattle.ns_word.specs.Answers.{cause_kept, has_come_back};
-ghost use Rattle.ns_word.specs.Asked.{asked_of};
-ghost use Rattle.ns_word.specs.Begins.{IsFirst};
-ghost use Rattle.ns_word.specs.Courses.{course_after, CallGoes, SoFar};
-ghost use Rattle.ns_word.specs.Lawful.{IsLawful, IsToldSo};
-ghost use Rattle.ns_word.specs.Meanings.{Course, course_from};
-ghost use Rattle.ns_word.specs.Owed.{Tells};
-ghost use Rattle.ns_word.specs.Steps.{LockState, Step, kept_by, taken_by, wake_of};
-ghost use Rattle.ns_env.specs.Walks.{is_limited};
-ghost use Rattle.ns_word.specs.Waits.{answer_of};
-ghost use Rattle.ns_word.specs.Views.{walk_at};
-ghost use Rattle.ns_word.specs.Walks.{want_of, got_of, calls_from_lock, waits_in, walk_after, was_woken};
-ghost use Rattle.ns_word.specs.Words.{is_woken, may_acquire, tries_of};
+ghost use Rattle.ns_word.specs.Prelude.{AcquireLoad, Aim, Answered, Arrival, AsFresh, AsWoken, Await, AwaitWake, AwaitWakeInWait, Busy, CallGoes, Cause, Course, Cv, Done, Event, Every, Flag, Found, Held, InAcquire, InTry, InWait, IsFirst, IsLawful, IsToldSo, Limits, LoadFlag, LockState, Look, Looked};
+ghost use Rattle.ns_word.specs.Prelude.{Made, Met, Mode, On, OnCondition, Owed, PayWake, Queue, Read, Saw, SeatView, SoFar, Step, Tells, TryAcquire, TryPlace, Wait, Wake, Waking, Walk, Word, answer_of, asked_of, calls_from_lock, cause_kept, course_after, course_from, got_of, has_come_back, is_limited};
+ghost use Rattle.ns_word.specs.Prelude.{is_woken, kept_by, may_acquire, row_after, standing_after, taken_by, tries_of, waiters_of, waits_in, wake_of, walk_after, walk_at, want_of, was_woken};
 
 use ns_model::condition::Condition;
 

@@ -2,45 +2,9 @@
 
 ghost use Rattle.std.specs.Prelude.{◌≡◌, ◌≢◌, ◌⊎◌, ◌↔◌, ℕ, ◌<◌, ◌≤◌, true, false, List, [], ◌∷◌, ◌++◌, Option, None, Some, IsSome, IsSomeAnd, slice_get};
 ghost use Rattle.std.specs.List.{list_any};
-ghost use Rattle.ns_model.specs.declared.event.Answer.{Answer};
-ghost use Rattle.ns_model.specs.declared.cvs.Variables.{Variables};
-ghost use Rattle.ns_model.specs.declared.event.Entry.TheVariants.{Waited};
-ghost use Rattle.ns_model.specs.declared.event.Event.{Event};
-ghost use Rattle.ns_model.specs.declared.event.Mode.TheVariants.{Read};
-ghost use Rattle.ns_model.specs.declared.phase.Phase.TheVariants.{Cond};
-ghost use Rattle.ns_model.specs.Beginnings.{BeginsWith};
-ghost use Rattle.ns_model.specs.Histories.{phase_of, row_after};
-ghost use Rattle.ns_model.specs.Tallies.{Every};
-ghost use Rattle.ns_model.specs.Sections.{is_met};
-ghost use Rattle.ns_queue.specs.declared.waiter.Waiter.{Waiter};
-ghost use Rattle.ns_queue.specs.Queues.{beside};
-ghost use Rattle.ns_queue.specs.Waiters.{is_long};
-ghost use Rattle.ns_env.specs.declared.limits.Cause.{Cause};
-ghost use Rattle.ns_word.specs.declared.wait.Aim.TheVariants.{ForWait};
-ghost use Rattle.ns_word.specs.declared.wait.Outcome.{Outcome};
-ghost use Rattle.ns_word.specs.declared.wait.Subject.TheVariants.{OnCondition, OnVariables};
-ghost use Rattle.ns_word.specs.declared.wait.Wait.{Wait};
-ghost use Rattle.ns_word.specs.declared.wait.WaitPlace.{WaitPlace};
-ghost use Rattle.ns_word.specs.declared.acquire_walk.AcquirePlace.{AcquirePlace};
-ghost use Rattle.ns_word.specs.declared.view.Held.{Held};
-ghost use Rattle.ns_word.specs.declared.view.SeatView.{SeatView};
-ghost use Rattle.ns_word.specs.declared.walk.Walk.{Walk};
-ghost use Rattle.ns_word.specs.declared.walk.Walk.TheVariants.{InAcquire, InWait};
-ghost use Rattle.ns_word.specs.declared.walk.Next.TheVariants.{Done};
-ghost use Rattle.ns_word.specs.declared.walk.Reply.{Reply};
-ghost use Rattle.ns_word.specs.declared.walk.Reply.TheVariants.{Answered};
-ghost use Rattle.ns_word.specs.Meanings.{IsSaidBy};
-ghost use Rattle.ns_word.specs.declared.act.Found.{Found};
-ghost use Rattle.ns_word.specs.declared.act.Found.TheVariants.{Looked};
-ghost use Rattle.ns_word.specs.Answers.{cause_kept, has_come_back, is_back};
-ghost use Rattle.ns_word.specs.Begins.{Begins, SeatStep, IsFirst, fresh_state};
-ghost use Rattle.ns_word.specs.Steps.{LockState, Step, entry_of};
-ghost use Rattle.ns_word.specs.Finds.{found_of, content_at, IsLook};
-ghost use Rattle.ns_word.specs.Lawful.{IsLawful};
-ghost use Rattle.ns_word.specs.Lists.{HasOne, IsPlainWriter};
-ghost use Rattle.ns_word.specs.Told.{Told, IsTold, nothing_told, told_after, calls_of};
-ghost use Rattle.ns_word.specs.Waits.{answer_of};
-ghost use Rattle.ns_word.specs.Walks.{want_of, got_of, walk_after, was_woken};
+ghost use Rattle.ns_word.specs.Prelude.{AcquirePlace, Answer, Answered, Begins, BeginsWith, Cause, Cond, Done, Event, Every, ForWait, Found, HasOne, Held, InAcquire, InWait, IsFirst, IsLawful, IsLook, IsPlainWriter, IsSaidBy, IsTold, LockState, Looked, OnCondition, OnVariables, Outcome, Read, Reply};
+ghost use Rattle.ns_word.specs.Prelude.{SeatStep, SeatView, Step, Told, Variables, Wait, WaitPlace, Waited, Waiter, Walk, answer_of, beside, calls_of, cause_kept, content_at, entry_of, found_of, fresh_state, got_of, has_come_back, is_back, is_long, is_met, nothing_told, phase_of, row_after, told_after};
+ghost use Rattle.ns_word.specs.Prelude.{walk_after, want_of, was_woken};
 
 use ns_model::condition::Condition;
 

@@ -2,37 +2,9 @@
 //! finds that leaves.
 
 ghost use Rattle.std.specs.Prelude.{◌≡◌, ◌<◌, nat_lt, ℕ, Bool, true, List};
-ghost use Rattle.ns_model.specs.declared.event.Event.{Event};
-ghost use Rattle.ns_queue.specs.declared.waiter.Which.TheVariants.{Cv};
-ghost use Rattle.ns_queue.specs.Queues.{times, waiters_of};
-ghost use Rattle.ns_queue.specs.Signals.{taken_set};
-ghost use Rattle.ns_queue.specs.Waiters.{outside, times_in, without_in};
-ghost use Rattle.ns_word.specs.declared.acquire_walk.AcquirePlace.TheVariants.{Queue};
-ghost use Rattle.ns_word.specs.declared.act.Found.TheVariants.{Left, Made, Scanned, Woke};
-ghost use Rattle.ns_word.specs.declared.act.Waking.{Waking};
-ghost use Rattle.ns_word.specs.declared.signal_walk.SignalPlace.TheVariants.{WakeAndReturn};
-ghost use Rattle.ns_word.specs.declared.view.SeatView.{SeatView};
-ghost use Rattle.ns_word.specs.declared.wait.Aim.{Aim};
-ghost use Rattle.ns_env.specs.declared.limits.Cause.{Cause};
+ghost use Rattle.ns_word.specs.Prelude.{Aim, Any, AreCalled, Arrival, Cause, Cv, Cvs, Event, InAcquire, InLeaving, InQueuing, InSignal, InWait, IsFoundLeaving, IsInRange, IsLawful, Leave, Left, LockState, Made, OnCondition, OnVariables, Only, Queue, QueueToWait, QueuesFor, Scanned, SeatView, Step};
+ghost use Rattle.ns_word.specs.Prelude.{Variables, Wait, WaitsFor, WakeAndReturn, Waking, Woke, Word, is_held, mode_for, outside, standing_after, taken_by, taken_set, times, times_in, waiters_of, without_in};
 ghost use Rattle.ns_model.specs.Cvs.{is_in};
-ghost use Rattle.ns_model.specs.declared.cvs.Cvs.{Cvs};
-ghost use Rattle.ns_model.specs.declared.cvs.Variables.{Variables};
-ghost use Rattle.ns_model.specs.declared.cvs.Variables.TheVariants.{Any, Only};
-ghost use Rattle.ns_model.specs.Histories.{standing_after};
-ghost use Rattle.ns_word.specs.declared.wait.LeavePlace.TheVariants.{Leave};
-ghost use Rattle.ns_word.specs.declared.wait.QueuePlace.TheVariants.{QueueToWait};
-ghost use Rattle.ns_word.specs.declared.wait.Subject.TheVariants.{OnCondition, OnVariables};
-ghost use Rattle.ns_word.specs.declared.wait.Wait.{Wait};
-ghost use Rattle.ns_word.specs.declared.wait.WaitPlace.TheVariants.{InLeaving, InQueuing};
-ghost use Rattle.ns_word.specs.declared.walk.Walk.TheVariants.{InAcquire, InSignal, InWait};
-ghost use Rattle.ns_word.specs.declared.word.Arrival.{Arrival};
-ghost use Rattle.ns_word.specs.declared.word.Word.{Word};
-ghost use Rattle.ns_word.specs.Lawful.{IsLawful};
-ghost use Rattle.ns_word.specs.Places.{IsInRange};
-ghost use Rattle.ns_word.specs.Stands.{AreCalled, IsFoundLeaving, QueuesFor, WaitsFor};
-ghost use Rattle.ns_word.specs.Steps.{LockState, Step, taken_by};
-ghost use Rattle.ns_word.specs.Waits.{mode_for};
-ghost use Rattle.ns_word.specs.Words.{is_held};
 
 use ns_model::condition::Condition;
 
