@@ -5,12 +5,12 @@ use Rattle.ns_word.proofs.Prelude.{ForLock, ForWait, Found, GetLoad, HasMode, Ha
 use Rattle.ns_word.proofs.Prelude.{LoadFlag, LoadToScan, LockState, LookIn, LookOut, Looked, Made, MayShow, MayWait, Mode, Next, None, On, OnCondition, OnVariables, Option, Outcome, OutcomeFits, Owed, Paid, Part, Pay, PayInWait, PayTheWoken, PayWake, Phase, PlaceFits, Queue, QueueToWait, Quiet}
 use Rattle.ns_word.proofs.Prelude.{QuietCells, QuietKeeps, QuietLast, QuietWriter, Read, ReleaseExchange, ReleaseLoad, Releasing, ReturnQueues, ReturnShown, Saw, ScanAndRelease, ScanCells, Scanned, SeatView, SetLoad, SetStore, ShowLoad, ShowPlace, SignalLoad, SignalPlace, Signaling, Some, Step}
 use Rattle.ns_word.proofs.Prelude.{Subject, Take, TakeQueues, TakeToLeave, TakeToQueue, TakeToScan, TakeToShow, TakeToWake, TestCells, TestLast, Tested, ToChange, ToQueue, ToldOn, Truths, TryAcquire, TryLoad, VariableWaiterFits, ViewFits, Visit, Wait, WaitPlace, WaitReturning, Waiter, Waiting}
-use Rattle.ns_word.proofs.Prelude.{WakeAndReturn, WakeWaiters, Waking, Walk, Woke, Word, Write, [], acquired_for, ap, append-nil, arith, armed_place, arrival_of, awaits, bits_of, both_ways, broadcast_legal, called_of, calls_from_lock, cause_in, change_found, changed, cond, counts_in, cvs_without}
-use Rattle.ns_word.proofs.Prelude.{eq-eqb, eqb, every_join, every_parts, every_signaled, expected_for, false, got_leaving, got_of, got_showing, got_signaling, got_waiting, has, has_armed, has_queues, has_some, held_after, home_of, inl, inr, is_from_lock, is_held, is_met, is_on_way, is_queuing}
-use Rattle.ns_word.proofs.Prelude.{is_some, is_woken, judge_of, kept_by, leave_of, left_of, ltb, ltb-true, may_acquire, meets_at, mode_for, mode_released, moved_to, moves, needs_scan, newly_held, not, opening_for, outcome_taken, owed_after, part_of, pay_releasing, pay_waiting, pay_woken, pays}
-use Rattle.ns_word.proofs.Prelude.{phase_before, phase_by, phase_for, phase_kept, queued, refl, releasing_of, rest_or_look, row_in, signal_legal, standing_after, standing_next, stands_at, subst, suc, sum_by, sym, taken_by, taken_set, times_in, times_signaled, tries_of, true, variable_told}
-use Rattle.ns_word.proofs.Prelude.{waited_in, waiters_of, waits_in, wake_of, wakes_of, walk_after, want_of, want_showing, want_signaling, want_waiting, was_woken, who_of, with_lock, without, without_in, woken_by, woken_of, woken_phases, word_acquired, word_released, word_released_returning}
-use Rattle.ns_word.proofs.Prelude.{word_returned, word_seen, word_taken, zero, ℕ, ◌∙◌}
+use Rattle.ns_word.proofs.Prelude.{WakeAndReturn, WakeWaiters, Waking, Walk, Woke, Word, Write, [], acquired_for, and_parts, ap, append-nil, arith, armed_place, arrival_of, awaits, bits_of, both_ways, broadcast_legal, called_of, calls_from_lock, cause_in, change_found, changed, cond, counts_in}
+use Rattle.ns_word.proofs.Prelude.{cvs_without, eq-eqb, eqb, every_join, every_parts, every_signaled, expected_for, false, got_leaving, got_of, got_showing, got_signaling, got_waiting, has, has_armed, has_queues, has_some, held_after, home_of, inl, inr, is_from_lock, is_held, is_met, is_on_way}
+use Rattle.ns_word.proofs.Prelude.{is_queuing, is_some, is_woken, judge_of, kept_by, le-ltb, leave_of, left_of, lt-ltb, ltb, ltb-true, may_acquire, meets_at, mode_for, mode_released, moved_to, moves, needs_scan, newly_held, not, opening_for, outcome_taken, owed_after, part_of, pay_releasing}
+use Rattle.ns_word.proofs.Prelude.{pay_waiting, pay_woken, pays, phase_before, phase_by, phase_for, phase_kept, queued, refl, releasing_of, rest_or_look, row_in, signal_legal, standing_after, standing_next, stands_at, subst, sum_by, sym, taken_by, taken_set, times_in, times_signaled, tries_of, true}
+use Rattle.ns_word.proofs.Prelude.{variable_told, waited_in, waiters_of, waits_in, wake_of, wakes_of, walk_after, want_of, want_showing, want_signaling, want_waiting, was_woken, who_of, with_lock, without, without_in, woken_by, woken_of, woken_phases, word_acquired, word_released}
+use Rattle.ns_word.proofs.Prelude.{word_released_returning, word_returned, word_seen, word_taken, ℕ, ◌∙◌}
 use Rattle.ns_model.specs.declared.phase.Phase.TheVariants.{Woken}
 use Rattle.ns_word.proofs.Bases.{Groups, apart_parts, counts_somewhere, cvs_left, groups_of, lawful_by, left_told, none_of, not_left, out_of_cvs, out_of_lock, some_wakes, view_of, walk_here}
 use Rattle.ns_word.proofs.Variables.{are_waiting}
@@ -64,10 +64,7 @@ paid_phase releasing false = refl
 
 -- one that waits and was not woken from the lock list is on its way with no wake owed only where its flag tells so
 not_way : (w a z : Bool) → w ≡ false → z ≡ false → (w || (a && (z || ltb 0 0))) ≡ true → ⊥
-not_way true a z p q e = absurd (cc)
-not_way false false z p q e = absurd (cc)
-not_way false true true p q e = absurd (cc)
-not_way false true false p q e = absurd (cc)
+not_way w a z p q e = let off : (a && false) ≡ true = rw (p, q) at e in absurd (both_ways false refl (and_parts a false off).1)
 
 way_seen : {C : Type 0} (walk : Option (Walk C)) (aim : Aim C) (tries v : ℕ) → was_woken walk ≡ false → is_on_way walk v 0 ≡ true → is_on_way (Some (InAcquire aim (AcquireLoad (arrival_of tries v)))) v 0 ≡ true
 way_seen walk aim tries v none e = go (is_from_lock v) refl where
@@ -76,16 +73,9 @@ way_seen walk aim tries v none e = go (is_from_lock v) refl where
   go false z = absurd (not_way (was_woken walk) (awaits walk) (is_from_lock v) none z e)
 
 -- the variable that a flag tells
-told_number : (k : ℕ) → k < 4 → (variable_told (2 + k) ≡ k) × (variable_told (6 + k) ≡ k)
-told_number zero low = (refl, refl)
-told_number (suc zero) low = (refl, refl)
-told_number (suc (suc zero)) low = (refl, refl)
-told_number (suc (suc (suc zero))) low = (refl, refl)
-told_number (suc (suc (suc (suc k)))) low = absurd (omega (arith, low))
-
 told_variable : (k value : ℕ) → k < 4 → (value ≡ 2 + k) ⊎ (value ≡ 6 + k) → variable_told value ≡ k
-told_variable k value low (inl e) = ap variable_told e ∙ (told_number k low).0
-told_variable k value low (inr e) = ap variable_told e ∙ (told_number k low).1
+told_variable k value low (inl e) = ap variable_told e ∙ rw (le-ltb 5 (2 + k) (omega (arith, low))) (omega arith)
+told_variable k value low (inr e) = ap variable_told e ∙ rw (lt-ltb 5 (6 + k) (omega arith)) (omega arith)
 
 -- a wait that is told what is so comes back in the phase that goes with what came of it, and that goes with what it is for
 abbrev ComesSo : {C : Type 0} → Subject C → Mode → Phase C → Outcome → Type 0

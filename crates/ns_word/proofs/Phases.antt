@@ -1,21 +1,13 @@
 -- A waiter that has a condition is in the wait for it, by the history.
-use Rattle.std.proofs.Common.{◌∷◌, ◌≡◌, ◌≤◌}
-use Rattle.ns_word.proofs.Prelude.{AwaitWake, AwaitWakeInWait, Bool, Cond, Event, Held, InAcquire, InLeaving, InWait, IsExpected, IsLawful, List, LockState, LookOut, Mode, None, OnCondition, OnVariables, Option, PayInWait, Phase, PlaceFits, SeatView, SectionFits, Some, Stance, Standing, Subject}
-use Rattle.ns_word.proofs.Prelude.{Truths, Wait, WaitFits, WaitPlace, Waiter, WaiterFits, WaitersOwn, Walk, [], ap, arith, cond, cond_on, expected_for, false, lock_stance, mode_for, phase_of, place_awaits, refl, slice_get, standing_after, subst, suc, true, waits_in, walk_at, zero, ℕ, ◌∙◌}
+use Rattle.std.proofs.Common.{◌≡◌, ◌≤◌}
+use Rattle.ns_word.proofs.Prelude.{AwaitWake, AwaitWakeInWait, Bool, Cond, Event, Held, InAcquire, InLeaving, InWait, IsExpected, IsLawful, List, LockState, LookOut, Mode, None, OnCondition, OnVariables, Option, PayInWait, PlaceFits, SeatView, SectionFits, Some, Stance, Standing, Subject, Truths}
+use Rattle.ns_word.proofs.Prelude.{Wait, WaitFits, WaitPlace, Waiter, WaiterFits, WaitersOwn, Walk, ap, arith, cond, cond_on, drop, every_parts, expected_for, false, lock_stance, mode_for, phase_of, place_awaits, refl, slice_get, standing_after, subst, suc, take, true, waits_in, walk_at, ℕ, ◌∙◌}
 use Rattle.ns_word.proofs.Views.{view_with}
+use Rattle.ns_word.proofs.Numbers.{split_at}
 
 -- how one waits that waits for this condition in this mode
 abbrev pub waiting_for : {C : Type 0} → Mode → C → ℕ → Option (Stance C)
 waiting_for mode c tries = Some (record { mode = mode; on = Some (OnCondition c); tries = tries })
-
--- a phase fits what one waits for
-abbrev FitsOn : {C : Type 0} → Phase C → Mode → Option (Subject C) → Type 0
-FitsOn phase mode None = ⊥
-FitsOn phase mode (Some on) = IsExpected (expected_for on mode) phase
-
-abbrev FitsStance : {C : Type 0} → Phase C → Option (Stance C) → Type 0
-FitsStance phase None = ⊥
-FitsStance phase (Some stance) = FitsOn phase stance.mode stance.on
 
 module _ {C : Type 0} where
   -- one that stands in the lock list with a condition waits for that
@@ -40,22 +32,23 @@ module _ {C : Type 0} {N : ℕ} (truths : Truths C) where
 
   module _ (now : Standing C) (row : List ℕ) where
     phase_by_place : (seat : ℕ) (walk : Option (Walk C)) (held : Option (Held C N)) (mode : Mode) (c : C) (tries : ℕ) → waits_in walk ≡ waiting_for mode c tries → PlaceFits truths walk held → SectionFits now row seat walk held → now.phases seat ≡ Cond c mode
-    phase_by_place seat (Some (InAcquire aim (AwaitWake count))) held mode c tries e place section = let same : ◌≡◌ {A = Stance C} (record { mode = mode_for aim; on = None; tries = count }) (record { mode = mode; on = Some (OnCondition c); tries = tries }) = cc in let never : ◌≡◌ {A = Option (Subject C)} None (Some (OnCondition c)) = ap (λ s. s.on) same in absurd (cc)
+    phase_by_place seat (Some (InAcquire aim (AwaitWake count))) held mode c tries e place section =
+        let same : ◌≡◌ {A = Stance C} (record { mode = mode_for aim; on = None; tries = count }) (record { mode = mode; on = Some (OnCondition c); tries = tries }) = cc in
+        let never : ◌≡◌ {A = Option (Subject C)} None (Some (OnCondition c)) = ap (λ s. s.on) same in absurd (cc)
     phase_by_place seat (Some (InWait wait at_place)) held mode c tries e place section = go (place_awaits at_place) refl e where
       go : (b : Bool) → place_awaits at_place ≡ b → cond b (Some (record { mode = wait.mode; on = Some wait.on; tries = 0 })) None ≡ waiting_for mode c tries → now.phases seat ≡ Cond c mode
-      go true a f = subst (λ stance. FitsStance (now.phases seat) stance) f (subst (λ x. SectionFits now row seat (Some (InWait wait at_place)) x) (waits_free wait at_place held a place.0) section)
+      go true a f =
+          let same : ◌≡◌ {A = Stance C} (record { mode = wait.mode; on = Some wait.on; tries = 0 }) (record { mode = mode; on = Some (OnCondition c); tries = tries }) = cc in
+          let for : ◌≡◌ {A = Option (Subject C)} (Some wait.on) (Some (OnCondition c)) = ap (λ (s : Stance C). s.on) same in
+          let on : wait.on ≡ OnCondition c = cc in
+          let modes : wait.mode ≡ mode = ap (λ (s : Stance C). s.mode) same in
+          subst (λ (x : Mode × Subject C). IsExpected (expected_for x.1 x.0) (now.phases seat)) (λ i. (modes i, on i)) (subst (λ x. SectionFits now row seat (Some (InWait wait at_place)) x) (waits_free wait at_place held a place.0) section)
       go false a f = absurd (cc)
     phase_by_place seat _ held mode c tries e place section = absurd (cc)
 
 module _ {C : Type 0} {N : ℕ} where
-  abbrev FitsIf : List (SeatView C N) → Option (Waiter C) → Type 0
-  FitsIf views None = Unit {0}
-  FitsIf views (Some w) = WaiterFits views w
-
-  own_at : (ws : List (Waiter C)) (views : List (SeatView C N)) (at : ℕ) → WaitersOwn ws views → FitsIf views (slice_get ws at)
-  own_at [] views at p = tt
-  own_at (w ∷ ws) views zero p = p.0
-  own_at (w ∷ ws) views (suc at) p = own_at ws views at p.1
+  own_at : (ws : List (Waiter C)) (views : List (SeatView C N)) (at : ℕ) (w : Waiter C) → slice_get ws at ≡ Some w → WaitersOwn ws views → WaiterFits views w
+  own_at ws views at w found p = (every_parts (WaiterFits views) (take at ws) w (drop (suc at) ws) (subst (λ all. WaitersOwn all views) (split_at ws at w found) p)).1
 
   -- nobody has failed more than 30 times
   few_tries : (truths : Truths C) (walk : Option (Walk C)) (held : Option (Held C N)) (mode : Mode) (c : Option C) (tries : ℕ) → PlaceFits truths walk held → lock_stance (waits_in walk) ≡ Some (mode, c, tries) → tries ≤ 30
@@ -68,13 +61,13 @@ module _ {C : Type 0} {N : ℕ} where
 
   pub waiter_tries : (truths : Truths C) (seats : ℕ) (h : List (Event C N)) (s : LockState C N) (at : ℕ) (w : Waiter C) → IsLawful truths seats h s → slice_get s.lists.lock at ≡ Some w → w.tries ≤ 30
   waiter_tries truths seats h s at w p found =
-      let own : WaiterFits s.views w = subst (λ x. FitsIf s.views x) found (own_at s.lists.lock s.views at p.waiters_own) in
+      let own = own_at s.lists.lock s.views at w found p.waiters_own in
       let view = view_with truths seats (standing_after h) s.row (λ walk. lock_stance (waits_in walk) ≡ Some (w.mode, w.cond, w.tries)) w.seat s.views (λ e. absurd (cc)) p.one_history.each own in
       few_tries truths view.0.walk view.0.held w.mode w.cond w.tries view.3.place view.2
 
   pub waiter_phase : (truths : Truths C) (seats : ℕ) (h : List (Event C N)) (s : LockState C N) (at : ℕ) (w : Waiter C) (c : C) → IsLawful truths seats h s → slice_get s.lists.lock at ≡ Some w → w.cond ≡ Some c → phase_of h w.seat ≡ Cond c w.mode
   waiter_phase truths seats h s at w c p found e =
-      let own : WaiterFits s.views w = subst (λ x. FitsIf s.views x) found (own_at s.lists.lock s.views at p.waiters_own) in
+      let own = own_at s.lists.lock s.views at w found p.waiters_own in
       let stance = stance_of (waits_in (walk_at w.seat s.views)) w.mode c w.tries (own ∙ ap (λ x. Some (w.mode, x, w.tries)) e) in
       let view = view_with truths seats (standing_after h) s.row (λ walk. waits_in walk ≡ waiting_for w.mode c w.tries) w.seat s.views (λ e. absurd (cc)) p.one_history.each stance in
       subst (λ seat. phase_of h seat ≡ Cond c w.mode) view.1 (phase_by_place truths (standing_after h) s.row view.0.seat view.0.walk view.0.held w.mode c w.tries view.2 view.3.place view.3.section)
