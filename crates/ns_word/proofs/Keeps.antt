@@ -34,7 +34,7 @@ NoWay walk = (flag n : ℕ) → is_on_way walk flag n ≡ false
 abbrev pub Stays : {C : Type 0} {N : ℕ} → Option (Walk C) → Option (Walk C) → Option (Held C N) → Type 0
 Stays walk walk' held = held ≡ None → phase_by walk' ≡ phase_by walk
 
--- with the queues taken, the word tells the same of the sections
+-- with the queues taken, the word tells that they are, and the same of the sections
 taken_word : (taking : Taking) (word : Word) → let word' = word_taken taking word in (word'.write ≡ word.write) × (word'.readers ≡ word.readers) × (word'.spin ≡ true)
 taken_word ToChange word = (refl, refl, refl)
 taken_word (ToQueue mode arrival) word = (refl, refl, refl)
