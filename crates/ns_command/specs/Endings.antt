@@ -59,8 +59,7 @@ abbrev pub ending_by_seeds : Result ⊤ Fault → Option ℕ → Ending
 ending_by_seeds (Err StepLimit) (Some seed) = PastLimit seed
 ending_by_seeds result last = ending_of result
 
--- What was printed on the error side: the line of a fault, a text on wrong words, and else
--- nothing. Where printing failed, nothing is said.
+-- What was printed on the error side: the line of a fault, a text on wrong words, and else nothing. Where printing failed, nothing is said.
 abbrev pub Says : Bool → Option (List ℕ) → Option (List ℕ) → Ending → Type 0
 Says true old new ending = Unit {0}
 Says false old new Replayed = Keeps old new
@@ -71,8 +70,7 @@ Says false old new (Failed fault) = Appends old new (fault_line fault)
 Says false old new HelpShown = Keeps old new
 Says false old new Misused = PrintsSome old new
 
--- What was printed on the output side, beside the text of a run: help or the version, or some of
--- it before a failure.
+-- What was printed on the output side, beside the text of a run: help or the version, or some of it before a failure.
 abbrev pub Shows : Option (List ℕ) → Option (List ℕ) → Ending → Type 0
 Shows old new Replayed = Keeps old new
 Shows old new Lived = Keeps old new
@@ -95,8 +93,7 @@ EndsFor what (Failed fault) = ⊥
 EndsFor what HelpShown = is_request what ≡ true
 EndsFor what Misused = is_mistake what ≡ true
 
--- The ending where clap has one of these to say of the words, or none, if they are right. No run by
--- the words alone has made threads.
+-- The ending where clap has one of these to say of the words, or none, if they are right. No run by the words alone has made threads.
 abbrev pub EndsForOneOf : Kinds → Ending → Type 0
 EndsForOneOf kinds Replayed = kinds ≡ []
 EndsForOneOf kinds Lived = ⊥

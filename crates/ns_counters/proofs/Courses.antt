@@ -1,11 +1,11 @@
 -- How far a call on counters and once cells has come: whatever others do leaves that as it is, and each step of its own takes it on to an answer that means what it says.
-use Rattle.std.proofs.Common.{Bool, Err, List, None, Ok, Option, Result, Some, [], ap, append-nil, arith, cond, drop, eq-eqb, eqb, eqb-true, false, inl, inr, ltb-false, nat_lt, refl, slice_get, slice_index, subst, suc, sym, take, true, ℕ, ℤ, ◌++◌, ◌<◌, ◌∙◌, ◌∷◌, ◌≡◌, ◌≤◌}
+use Rattle.std.proofs.Common.{Bool, Err, List, None, Ok, Option, Result, Some, [], ap, append-nil, arith, cond, drop, eq-eqb, eqb, eqb-true, false, inl, inr, ltb-false, nat_lt, refl, slice_get, slice_index, subst, suc, sym, take, take-append-drop, true, ℕ, ℤ, ◌++◌, ◌<◌, ◌∙◌, ◌∷◌, ◌≡◌, ◌≤◌}
 use Rattle.ns_counters.proofs.Prelude.{AddExchange, AddLoad, AnyAnswers, AtCounter, AtNote, AtSomeMoment, AtSomePoint, BeginsWith, ChainFits, Clock, CounterFault, CounterState, DoneLoad, Env, EnvEvent, EnvFound, EnvNext, EnvState, FirstClock, ForIsNotified, Free, HadValue, HasLookedUpTo}
 use Rattle.ns_counters.proofs.Prelude.{HasShownNone, HaveShownNothing, InRound, InTurn, IsBetween, IsLater, IsLawful, IsLawfulEnv, IsLegalEnv, IsReady, IsSo, Item, Items, LookOnce, Note, NoteLoad, Number, ObjectEffect, ObjectEvent, ObjectFound, ObjectGoes, ObjectSoFar, ObjectStanding, ObjectWalk}
 use Rattle.ns_counters.proofs.Prelude.{OnCounterItem, OnNote, OnOnce, OnVariable, OnceBegin, OnceEnd, OnceLoad, OnceState, Outcome, Over, Past, Round, RoundGo, RoundNext, RoundOver, RoundPlace, RoundSoFar, Running, Setup, Stage, ValueLoad, WaitClock, WaitLoad, WaitMark, WalkFits, WereThere, Word}
 use Rattle.ns_counters.proofs.Prelude.{begins_itself, begins_through, both, by_answer, by_begun, by_chain, by_deadline, by_round, by_stage, by_test, chain_answers, chain_from, clock_of, counter_of, counter_word, either, env_after, env_got_of, first_objects, fold-append, from_items, from_place}
 use Rattle.ns_counters.proofs.Prelude.{get_or_from_slice_get, has_run, is_done, is_due, is_ready, item_at, items_of, judged, legal_begins, line_starts, made_begins, object_asked, object_got, object_next, object_place, object_want, objects_after, objects_own, outcome, past_and, round_got, round_want}
-use Rattle.ns_counters.proofs.Prelude.{slice_get_within, stage, stage_of, take-append-drop, take-suc, tried, waited_next, word_of_once}
+use Rattle.ns_counters.proofs.Prelude.{slice_get_within, stage, stage_of, take-suc, tried, waited_next, word_of_once}
 use Rattle.ns_counters.specs.Prelude.{OnCounter}
 use Rattle.ns_counters.proofs.Listed.{listed, stands_at}
 use Rattle.ns_counters.proofs.Objects.{own-append}

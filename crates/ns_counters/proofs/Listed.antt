@@ -1,6 +1,6 @@
 -- What stands at a place of a list of objects, and behind it.
-use Rattle.std.proofs.Common.{Bool, List, None, Some, [], ap, arith, cond, drop, eq-eqb, eqb-true, false, get_or, inl, inr, length, ltb-false, ltb-true, map, nat_lt, refl, slice_get, subst, suc, sym, take, true, zero, ℕ, ◌&&◌, ◌<◌, ◌||◌, ◌∙◌, ◌∷◌, ◌≡◌}
-use Rattle.ns_counters.proofs.Prelude.{Every, IsLow, Item, Items, OnCounter, OnNote, OnVariable, by_test, drop-cons, get_or_from_slice_get, is_among, is_this, is_variable, item_at, items_of, length-take, list_any, or_cases, place_in, slice_get_past, slice_get_within}
+use Rattle.std.proofs.Common.{Bool, List, None, Some, [], ap, arith, cond, drop, eq-eqb, eqb-true, false, get_or, inl, inr, length, length-take, ltb-false, ltb-true, map, nat_lt, refl, slice_get, subst, suc, sym, take, true, zero, ℕ, ◌&&◌, ◌<◌, ◌||◌, ◌∙◌, ◌∷◌, ◌≡◌}
+use Rattle.ns_counters.proofs.Prelude.{Every, IsLow, Item, Items, OnCounter, OnNote, OnVariable, by_test, drop-cons, get_or_from_slice_get, is_among, is_this, is_variable, item_at, items_of, list_any, or_cases, place_in, slice_get_past, slice_get_within}
 
 -- where something is left of a list from a place on, its first stands there
 drops_at : {A : Type 0} (at : ℕ) (xs : List A) (x : A) (more : List A) → drop at xs ≡ x ∷ more → (slice_get xs at ≡ Some x) × (drop (suc at) xs ≡ more)

@@ -1,6 +1,6 @@
 -- New objects are lawful.
-use Rattle.std.proofs.Common.{List, [], arith, get_or, length, length-append, refl, replicate, subst, suc, zero, ℕ, ◌++◌, ◌+◌, ◌-◌, ◌∙◌, ◌∷◌, ◌≡◌, ◌≤◌}
-use Rattle.ns_counters.proofs.Prelude.{AreWordsOf, IsLawful, first_objects, first_words, get_or-append, get_or-append-add, length-replicate, most, padded, setup_of}
+use Rattle.std.proofs.Common.{List, [], arith, get_or, get_or-append-add, length, length-append, refl, replicate, subst, suc, zero, ℕ, ◌++◌, ◌+◌, ◌-◌, ◌∙◌, ◌∷◌, ◌≡◌, ◌≤◌}
+use Rattle.ns_counters.proofs.Prelude.{AreWordsOf, IsLawful, first_objects, first_words, get_or-append, length-replicate, most, padded, setup_of}
 
 get_zero : (m k : ℕ) → ◌≡◌ {A = ℕ} (get_or (replicate m 0) k 0) 0
 get_zero zero k = refl

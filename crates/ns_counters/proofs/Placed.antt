@@ -1,5 +1,5 @@
 -- Where seats stand in calls on counters and once cells: after one of them is put elsewhere, and while more notes are made; what a step leaves of what was asked, and what it needs.
-use Rattle.std.proofs.Common.{Bool, List, None, Option, Some, [], ap, eqb, length, nat_lt, refl, slice_get, slice_set, unwrap_or, IfSome, ◌≢◌, sym, true, ℕ, ℤ, ◌<◌, ◌∷◌, ◌≡◌, ◌≢◌}
+use Rattle.std.proofs.Common.{Bool, List, None, Option, Some, [], ap, eqb, length, nat_lt, refl, slice_get, slice_set, unwrap_or, IfSome, ◌≢◌, sym, true, ℕ, ℤ, ◌<◌, ◌∷◌, ◌≡◌}
 use Rattle.ns_counters.proofs.Prelude.{AddExchange, AddLoad, AreThere, AtCounter, AtNote, Clock, DoneLoad, Env, FirstClock, IfSome_then, InRound, IsLawfulObjects, Item, Items, NoteStanding, ObjectEvent, ObjectFound, ObjectNext, ObjectStanding, ObjectState, ObjectWalk, OnCounter, OnNote, OnVariable}
 use Rattle.ns_counters.proofs.Prelude.{OnceBegin, OnceEnd, OnceLoad, Round, RoundFits, RoundPlace, Setup, ValueLoad, WaitClock, WaitLoad, WaitMark, WalkFits, Word, by_judging, counter_of, counter_word, either, is_there, items_of, judged, list_all, object_after, object_asked, object_got}
 use Rattle.ns_counters.proofs.Prelude.{objects_after, round_got, set_each, slice_get_within, stage_of, waited_next, walk_in}

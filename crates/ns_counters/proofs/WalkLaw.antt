@@ -1,10 +1,10 @@
 -- A step of a call on counters and once cells keeps their law, and leaves each seat where it may stand.
-use Rattle.std.proofs.Common.{Bool, Err, IfSome, List, None, length, Ok, Option, Result, Some, [], ap, append-nil, arith, drop, eqb, ltb-true, nat_lt, refl, slice_get, slice_index, slice_set, subst, suc, sym, true, zero, ℕ, ℤ, ◌%◌, ◌++◌, ◌<◌, ◌^◌, ◌∙◌, ◌∷◌, ◌≡◌, ◌≢◌, ◌≤◌}
+use Rattle.std.proofs.Common.{Bool, Err, IfSome, List, None, Ok, Option, Result, Some, [], ap, append-nil, arith, drop, eqb, length, length-take, ltb-true, nat_lt, refl, slice_get, slice_index, slice_set, subst, suc, sym, true, zero, ℕ, ℤ, ◌%◌, ◌++◌, ◌<◌, ◌^◌, ◌∙◌, ◌∷◌, ◌≡◌, ◌≢◌, ◌≤◌}
 use Rattle.ns_counters.proofs.Prelude.{AddExchange, AddLoad, AreThere, AtCounter, AtNote, BeginOnce, CanAct, Clock, CounterFault, CounterState, Env, EnvEvent, EnvFound, EnvNext, EnvPlain, Every, ExchangeToAdd, FirstClock, ForIsNotified, Free, Go, IfSome_then, InRound, Is, IsLawfulObjects, Item}
 use Rattle.ns_counters.proofs.Prelude.{Items, LoadToAdd, Meets, Note, NoteLoad, NoteStanding, NoteWord, ObjectAct, ObjectEffect, ObjectEvent, ObjectFound, ObjectNext, ObjectStanding, ObjectState, ObjectView, ObjectWalk, ObjectWant, OnCounter, OnEnv, OnNote, OnVariable, OnWord, OnceBegin, OnceEnd}
 use Rattle.ns_counters.proofs.Prelude.{OnceLoad, Outcome, Over, Place, PlaceFits, Round, RoundFits, RoundGo, RoundNext, RoundOver, Setup, ViewFits, WaitClock, WaitLoad, WaitMark, WalkFits, Word, begins_itself, both, by_answer, by_begun, by_chain, by_judging, by_round, chain_from, chain_up}
-use Rattle.ns_counters.proofs.Prelude.{counter_of, counter_word, either, env_got_of, from_items, from_place, is_due, is_there, item_at, items_of, judged, length-take, list_all, most, object_after, object_got, object_place, object_want, object_who, objects_after, objects_own, outcome, round_got}
-use Rattle.ns_counters.proofs.Prelude.{slice_get_within, stage_of, standing_of, state_of, tried, waited_next, walk_in, word_at, word_left}
+use Rattle.ns_counters.proofs.Prelude.{counter_of, counter_word, either, env_got_of, from_items, from_place, is_due, is_there, item_at, items_of, judged, list_all, most, object_after, object_got, object_place, object_want, object_who, objects_after, objects_own, outcome, round_got, slice_get_within}
+use Rattle.ns_counters.proofs.Prelude.{stage_of, standing_of, state_of, tried, waited_next, walk_in, word_at, word_left}
 use Rattle.ns_counters.proofs.Acts.{acted_fits, acted_lawful, others_fit}
 use Rattle.ns_counters.proofs.Keeps.{step_keeps}
 use Rattle.ns_counters.proofs.Listed.{first_of_all, listed, rest_of_all, stands_at}

@@ -2,14 +2,13 @@
 use Rattle.std.specs.List.{list_all}
 use Rattle.std.specs.Prelude.{Bool, List, None, Ok, Option, Some, [], bit_or, if◌then◌else◌, length, nat_lt, slice_get, slice_index, slice_set, true, unwrap_or, ℕ, ◌<◌, ◌==◌, ◌^◌, ◌≡◌, ◌≤◌}
 use Rattle.ns_counters.specs.Names.{AddExchange, AddLoad, AtCounter, AtNote, BeginOnce, DoneLoad, EndOnce, Env, EnvAct, EnvActFits, EnvEffect, EnvPlain, ExchangeToAdd, FirstClock, InRound, Item, Items, LoadClock, LoadNote, MarkWait, NoteStanding, ObjectAct, ObjectEvent, ObjectFound, ObjectWalk}
-use Rattle.ns_counters.specs.Names.{ObjectWant, OnEnv, OnNote, OnVariable, OnWord, OnceBegin, OnceEnd, OnceLoad, Place, Round, RoundPlace, Setup, ValueLoad, WaitClock, WaitLoad, WaitMark, Word, judged, most}
+use Rattle.ns_counters.specs.Names.{ObjectWant, OnCounterItem as OnCounter, OnEnv, OnNote, OnVariable, OnWord, OnceBegin, OnceEnd, OnceLoad, Place, Round, RoundPlace, Setup, ValueLoad, WaitClock, WaitLoad, WaitMark, Word, judged, most}
 use Rattle.ns_counters.specs.Items.{item_at, items_of}
 use Rattle.ns_counters.specs.Lawful.{IsLawful}
 use Rattle.ns_counters.specs.Objects.{ObjectStanding, objects_after}
 use Rattle.ns_counters.specs.Steps.{outcome, word_at}
 use Rattle.ns_counters.specs.Walks.{IsInBounds, object_after, object_got, object_place, object_want}
 use Rattle.ns_counters.specs.Words.{counter_word}
-use Rattle.ns_counters.specs.declared.items.Item.TheVariants.{OnCounter}
 use Rattle.ns_model.specs.declared.once.OnceState.TheVariants as TheOnce
 
 -- the counters and once cells, and each seat's place in a call on them, if it is in one

@@ -59,8 +59,7 @@ HadValue setup earlier now seat counter value = (point : List ObjectEvent) × Is
     × (objects_own point seat ≡ objects_own earlier.objects seat ++ OnCounter counter (TheCounter.Begun seat) ∷ []) × (((objects_after setup point).counters counter).value ≡ value)
 
 -- What an answer means, of what has happened since the call began. A change has just the event of its answer, of which the history of its counter tells what it means. A wait for 0 has begun, and
--- answers the value at a point since; one that isn't 0 where the clock had come to the deadline. A function has begun and ended by this call, or had ended by another's. All else was so at some point
--- of the call.
+-- answers the value at a point since; one that isn't 0 where the clock had come to the deadline. A function has begun and ended by this call, or had ended by another's. All else was so at some point of the call.
 abbrev pub ObjectMeans : Setup → Past → Past → ℕ → ObjectWalk → List ObjectEvent → ObjectReply → Type 0
 ObjectMeans setup earlier now seat (AddLoad counter delta) events (Number value) = events ≡ OnCounter counter (TheCounter.Add seat delta (Ok value)) ∷ []
 ObjectMeans setup earlier now seat (AddLoad counter delta) events (Refused fault) = events ≡ OnCounter counter (TheCounter.Add seat delta (Err fault)) ∷ []

@@ -27,13 +27,7 @@ pub use Rattle.ns_counters.specs.declared.walk.ObjectWalk.{ObjectWalk}
 pub use Rattle.ns_counters.specs.declared.walk.ObjectWalk.TheVariants.{AddExchange, AddLoad, DoneLoad, InRound, OnceBegin, OnceEnd, OnceLoad, ValueLoad, WaitClock, WaitLoad, WaitMark}
 pub use Rattle.ns_counters.specs.declared.word.Stage.{Stage}
 pub use Rattle.ns_counters.specs.declared.word.Stage.TheVariants.{Done, Unused}
-pub use Rattle.ns_env.specs.Asks.{EnvActFits, EnvEffect, EnvState, IsLawfulEnv}
-pub use Rattle.ns_env.specs.Chains.{ChainFits}
-pub use Rattle.ns_env.specs.Lawful.{Meets}
-pub use Rattle.ns_env.specs.Meanings.{AtSomePoint}
-pub use Rattle.ns_env.specs.Notes.{standing_of, state_of}
-pub use Rattle.ns_env.specs.Steps.{EnvPlain}
-pub use Rattle.ns_env.specs.Walks.{env_got_of}
+pub use Rattle.ns_env.specs.Prelude.{AtSomePoint, BeginsWith, EnvActFits, EnvEffect, EnvEvent, EnvPlain, EnvState, Every, IsBetween, IsLawfulEnv, IsLeftAt, Meets, NoteStanding, but_at, clock_of, env_after, env_got_of, is_due, standing_of, state_of}
 pub use Rattle.ns_env.specs.declared.act.EnvAct.{EnvAct}
 pub use Rattle.ns_env.specs.declared.act.EnvAct.TheVariants.{LoadClock, LoadNote}
 pub use Rattle.ns_env.specs.declared.act.EnvFound.{EnvFound}
@@ -45,21 +39,16 @@ pub use Rattle.ns_env.specs.declared.walk.EnvNext.{EnvNext}
 pub use Rattle.ns_env.specs.declared.walk.EnvNext.TheVariants.{Go, Over}
 pub use Rattle.ns_env.specs.declared.walk.EnvWalk.{EnvWalk}
 pub use Rattle.ns_env.specs.declared.walk.EnvWalk.TheVariants.{NoteLoad}
-pub use Rattle.ns_model.specs.Beginnings.{BeginsWith, IsBetween}
 pub use Rattle.ns_model.specs.Counters.{IsLegalCounterEvent, counter_next, first_counter, is_ready, judged, most}
 pub use Rattle.ns_model.specs.Courses.{IsLegalFrom}
 pub use Rattle.ns_model.specs.Cvs.{is_in}
-pub use Rattle.ns_model.specs.Environments.{IsLegalEnv, NoteStanding, but_at, clock_of, env_after, is_due}
-unfoldable pub use Rattle.ns_model.specs.Environments.{is_notified}
-pub use Rattle.ns_model.specs.Lines.{IsLeftAt}
 pub use Rattle.ns_model.specs.Onces.{IsLegalOnceEvent, is_done, once_next}
-pub use Rattle.ns_model.specs.Tallies.{Every}
 pub use Rattle.ns_model.specs.declared.counter.CounterEvent.{CounterEvent}
 pub use Rattle.ns_model.specs.declared.counter.CounterEvent.TheVariants.{Add, Begun}
 pub use Rattle.ns_model.specs.declared.counter.CounterFault.{CounterFault}
 pub use Rattle.ns_model.specs.declared.counter.CounterState.{CounterState}
 pub use Rattle.ns_model.specs.declared.cvs.Cvs.{Cvs}
-pub use Rattle.ns_model.specs.declared.environment.EnvEvent.{EnvEvent}
 pub use Rattle.ns_model.specs.declared.once.OnceEvent.{OnceEvent}
 pub use Rattle.ns_model.specs.declared.once.OnceEvent.TheVariants.{Began, Ran}
 pub use Rattle.ns_model.specs.declared.once.OnceState.{OnceState}
+unfoldable pub use Rattle.ns_model.specs.Environments.{is_notified}

@@ -1,10 +1,9 @@
 -- One round of a wait for any of several objects.
 use Rattle.std.specs.Prelude.{List, None, Some, [], drop, if◌then◌else◌, suc, true, ℕ, ◌<◌, ◌==◌, ◌∷◌}
-use Rattle.ns_counters.specs.Names.{AtCounter, AtNote, Clock, Env, EnvNext, EnvWalk, FirstClock, ForIsNotified, Go, Is, Item, LoadClock, LoadNote, LookCounter, NoteLoad, ObjectFound, ObjectWant, OnEnv, OnNote, OnVariable, OnWord, Over, Round, RoundGo, RoundNext, RoundOver, RoundPlace, Word}
-use Rattle.ns_counters.specs.Names.{env_got_of, is_due}
+use Rattle.ns_counters.specs.Names.{AtCounter, AtNote, Clock, Env, EnvNext, EnvWalk, FirstClock, ForIsNotified, Go, Is, Item, LoadClock, LoadNote, LookCounter, NoteLoad, ObjectFound, ObjectWant, OnCounterItem as OnCounter, OnEnv, OnNote, OnVariable, OnWord, Over, Round, RoundGo, RoundNext}
+use Rattle.ns_counters.specs.Names.{RoundOver, RoundPlace, Word, env_got_of, is_due}
 use Rattle.ns_counters.specs.Items.{items_of}
 use Rattle.ns_counters.specs.Words.{counter_of}
-use Rattle.ns_counters.specs.declared.items.Item.TheVariants.{OnCounter}
 
 -- the step that a round wants at each of its places
 abbrev pub round_want : RoundPlace → ObjectWant

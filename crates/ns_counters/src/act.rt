@@ -1,8 +1,7 @@
 //! The steps that calls on counters and once cells are made of. Each is one step on one word.
 
 ghost use Rattle.std.specs.Prelude.{◌≡◌};
-ghost use Rattle.ns_counters.specs.Asks.{word_left};
-ghost use Rattle.ns_counters.specs.Steps.{word_at as word_at_of};
+ghost use Rattle.ns_counters.specs.Prelude.{word_at as word_at_of, word_left};
 
 use crate::made::MOST;
 use crate::word::{WAITED, encode_counter};

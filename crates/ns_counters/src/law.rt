@@ -2,28 +2,8 @@
 //! theorem: its clause holds, and it does nothing.
 
 ghost use Rattle.std.specs.Prelude.{◌≡◌, ℕ, ◌<◌, ◌≤◌, ◌≢◌, ◌++◌, List, [], Some, length, slice_get, slice_index, slice_set};
-ghost use Rattle.ns_env.specs.Asks.{EnvState, IsLawfulEnv};
-ghost use Rattle.ns_env.specs.Lawful.{Meets};
-ghost use Rattle.ns_env.specs.Steps.{EnvPlain};
-ghost use Rattle.ns_model.specs.declared.environment.EnvEvent.{EnvEvent};
-ghost use Rattle.ns_model.specs.Tallies.{Every};
-ghost use Rattle.ns_counters.specs.Asks.{IsLawfulObjects, ObjectState, ObjectStep, WalkFits, walk_in};
-ghost use Rattle.ns_counters.specs.declared.round.ObjectFound.{ObjectFound};
-ghost use Rattle.ns_counters.specs.declared.walk.ObjectWalk.{ObjectWalk};
-ghost use Rattle.ns_counters.specs.Meanings.{ObjectGoes, ObjectSoFar, object_asked, past_and};
-ghost use Rattle.ns_counters.specs.Rounds.{IsLater, Past};
-ghost use Rattle.ns_counters.specs.Walks.{object_got};
-ghost use Rattle.ns_counters.specs.declared.act.ObjectAct.{ObjectAct};
-ghost use Rattle.ns_counters.specs.declared.object.ObjectEvent.{ObjectEvent};
-ghost use Rattle.ns_counters.specs.declared.object.ObjectView.{ObjectView};
-ghost use Rattle.ns_counters.specs.declared.object.Setup.{Setup};
-ghost use Rattle.ns_counters.specs.Acted.{HasActed, acted, events_of};
-ghost use Rattle.ns_model.specs.Counters.{IsLegalCounter, counter_after, most};
-ghost use Rattle.ns_counters.specs.Lawful.{IsLawful, ViewFits};
-ghost use Rattle.ns_counters.specs.Made.{first_words, padded, setup_of};
-ghost use Rattle.ns_counters.specs.Objects.{IsLegalObjects, object_who, objects_after, objects_own, of_counter, of_once};
-ghost use Rattle.ns_model.specs.Onces.{IsLegalOnce, once_after};
-ghost use Rattle.ns_counters.specs.Steps.{CanAct, outcome, word_at};
+ghost use Rattle.ns_counters.specs.Prelude.{CanAct, EnvEvent, EnvPlain, EnvState, Every, HasActed, IsLater, IsLawful, IsLawfulEnv, IsLawfulObjects, IsLegalCounter, IsLegalObjects, IsLegalOnce, Meets, ObjectAct, ObjectEvent, ObjectFound, ObjectGoes, ObjectSoFar, ObjectState, ObjectStep, ObjectView};
+ghost use Rattle.ns_counters.specs.Prelude.{ObjectWalk, Past, Setup, ViewFits, WalkFits, acted, counter_after, events_of, first_words, most, object_asked, object_got, object_who, objects_after, objects_own, of_counter, of_once, once_after, outcome, padded, past_and, setup_of, walk_in, word_at};
 
 /// In a legal history of all objects each counter has a legal history of its own, which leaves it as
 /// it then stands.

@@ -23,8 +23,7 @@ MakingFits now seat Adding = Unit {0}
 MakingFits now seat (Taken note) = (now.takers note ≡ Some seat) × ((now.notes note).made ≡ false)
 
 -- The law, where so many seats go to take a number: the clock and the notes are as this history leaves them, which is by the seats that there are. The next number may pass 64, where seats saw it
--- below 64 and go to take one, but no further than the seats go. So with 64 seats its word stays at most 127. It isn't said where the seats stand that go, so one theorem serves a table, which counts
--- them over what its seats know, and plain data, which counts them over places in calls (`making_of`).
+-- below 64 and go to take one, but no further than the seats go. So with 64 seats its word stays at most 127. It isn't said where the seats stand that go, so one theorem serves a table, which counts them over what its seats know, and plain data, which counts them over places in calls (`making_of`).
 pub record IsLawful (seats : ℕ) (plain : EnvPlain) (adders : ℕ) (history : List EnvEvent) : Type 0 where
   pub meets : Meets history plain
   pub by_seats : IsEnvBySeats seats history

@@ -22,8 +22,8 @@ pub use Rattle.ns_env.specs.declared.walk.EnvWalk.TheVariants.{Advancing, ClockL
 pub use Rattle.ns_model.specs.Beginnings.{BeginsWith, IsBetween}
 pub use Rattle.ns_model.specs.Environments.{EnvStanding, IsEnvBySeats, IsLegalEnv, IsLegalEnvEvent, IsLegalEnvFrom, IsMade, IsNotified, NoteStanding, ParentFits, but_at, clock_of, earlier, env_after, env_from, env_next, env_own, env_who, first_env, is_due, is_over, made_note, no_note, notified_in}
 pub use Rattle.ns_model.specs.Environments.{notified_note, takes_in}
-unfoldable pub use Rattle.ns_model.specs.Environments.{expiry_of, is_notified}
 pub use Rattle.ns_model.specs.Lines.{IsLeftAt}
 pub use Rattle.ns_model.specs.Tallies.{Every, total}
 pub use Rattle.ns_model.specs.declared.environment.EnvEvent.{EnvEvent}
 pub use Rattle.ns_model.specs.declared.environment.EnvEvent.TheVariants.{Advance, New, Notify, Take}
+unfoldable pub use Rattle.ns_model.specs.Environments.{expiry_of, is_notified}

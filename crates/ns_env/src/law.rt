@@ -2,27 +2,9 @@
 //! theorem: its clause holds, and it does nothing.
 
 ghost use Rattle.std.specs.Prelude.{◌≡◌, ◌≢◌, ℕ, ◌+◌, ◌<◌, ◌++◌, [], List, Option, Some, slice_get, if◌then◌else◌};
-ghost use Rattle.ns_model.specs.declared.environment.EnvEvent.{EnvEvent};
-ghost use Rattle.ns_model.specs.Beginnings.{BeginsWith};
-ghost use Rattle.ns_model.specs.Environments.{NoteStanding, IsMade, env_after, is_notified, expiry_of};
-ghost use Rattle.ns_env.specs.declared.note.NoteWord.{NoteWord};
-ghost use Rattle.ns_env.specs.declared.act.EnvAct.{EnvAct};
-ghost use Rattle.ns_env.specs.declared.act.EnvFound.{EnvFound};
-ghost use Rattle.ns_env.specs.declared.act.EnvFound.TheVariants.{Clock, Note};
-ghost use Rattle.ns_env.specs.declared.view.EnvView.{EnvView};
-ghost use Rattle.ns_env.specs.declared.walk.Chain.{Chain};
-ghost use Rattle.ns_env.specs.declared.walk.EnvWalk.{EnvWalk};
-ghost use Rattle.ns_env.specs.declared.walk.EnvWalk.TheVariants.{ClockLoad, NoteLoad, ExpiryLoad};
-ghost use Rattle.ns_env.specs.declared.walk.EnvNext.TheVariants.{Go, Over};
-ghost use Rattle.ns_env.specs.declared.reply.EnvReply.TheVariants.{Expiry};
-ghost use Rattle.ns_env.specs.Acted.{HasActed, acted, events_of};
-ghost use Rattle.ns_env.specs.Asks.{EnvState, EnvStep, EnvBegins, IsFirstAsk, IsLawfulEnv, fresh_asks, looked};
-ghost use Rattle.ns_env.specs.Chains.{ChainFits};
-ghost use Rattle.ns_env.specs.Lawful.{IsLawful, Meets, ViewFits, adds};
-ghost use Rattle.ns_env.specs.Meanings.{EnvCourse, EnvSoFar, EnvGoes, env_asked_of, env_course_at, env_course_after};
-ghost use Rattle.ns_env.specs.Notes.{standing_of};
-ghost use Rattle.ns_env.specs.Steps.{CanAct, EnvPlain, fresh_plain, making_after, outcome};
-ghost use Rattle.ns_env.specs.Walks.{env_got_of, env_walk_after, stopped, passed};
+ghost use Rattle.ns_env.specs.Prelude.{BeginsWith, CanAct, Chain, ChainFits, Clock, ClockLoad, EnvAct, EnvBegins, EnvCourse, EnvEvent, EnvFound, EnvGoes, EnvPlain, EnvSoFar, EnvState, EnvStep, EnvView, EnvWalk, Expiry, ExpiryLoad, Go, HasActed, IsFirstAsk, IsLawful, IsLawfulEnv, IsMade, Meets};
+ghost use Rattle.ns_env.specs.Prelude.{Note, NoteLoad, NoteStanding, NoteWord, Over, ViewFits, acted, adds, env_after, env_asked_of, env_course_after, env_course_at, env_got_of, env_walk_after, events_of, expiry_of, fresh_asks, fresh_plain, is_notified, looked, making_after, outcome, passed};
+ghost use Rattle.ns_env.specs.Prelude.{standing_of, stopped};
 
 /// A step that its caller may make keeps the law, and what has happened by it comes to the history.
 /// Of the other seats so many go to take a number.

@@ -1,8 +1,7 @@
 //! A note as it stands, and whether a moment has come.
 
 ghost use Rattle.std.specs.Prelude.{◌≡◌};
-ghost use Rattle.ns_model.specs.Environments.{is_due as is_due_of, is_over as is_over_of, earlier as earlier_of};
-ghost use Rattle.ns_env.specs.Notes.{standing_of};
+ghost use Rattle.ns_env.specs.Prelude.{earlier as earlier_of, is_due as is_due_of, is_over as is_over_of, standing_of};
 
 /// A note as it stands.
 #[derive(Clone, Copy, Debug, PartialEq, Eq)]

@@ -1,7 +1,6 @@
 -- A scan of the lock list in hand that takes a writer alone, or nobody: what is told of it.
 use Rattle.std.proofs.Common.{Bool, Err, List, None, Ok, Option, Result, Some, [], ap, cond, false, inl, inr, refl, sym, true, ℕ, ◌∙◌, ◌∷◌, ◌≡◌}
-use Rattle.ns_gate.proofs.Prelude.{Bits, Foremost, Lists, Lock, Nobody, Owed, Reader, Sought, Truths, Turned, Waiter, begins_with_reader, bits_of, called_by, cases_Bool, foremost_of, has_some, left_by_writer, left_of, lists_scanned, meets_at, wake_told, with_waiters, woken_of, writes}
-use Rattle.ns_gate.specs.Prelude.{value_of}
+use Rattle.ns_gate.proofs.Prelude.{Bits, Foremost, Lists, Lock, Nobody, Owed, Reader, Sought, Truths, Turned, Waiter, begins_with_reader, bits_of, called_by, cases_Bool, foremost_of, has_some, left_by_writer, left_of, lists_scanned, meets_at, value_of, wake_told, with_waiters, woken_of, writes}
 use Rattle.ns_queue.specs.declared.scan.Foremost.TheVariants.{Writer}
 
 -- whether whom a scan takes first is a reader

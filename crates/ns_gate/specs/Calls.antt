@@ -30,8 +30,7 @@ pub record IsAtRest {C : Type 0} {N : ℕ} (truths : Truths C) (me : SeatOf C N)
   pub true_to : IsTrueToHistory truths (the me.0).seat_count (the me.0).at.seat (the me.0).told.seen (the me.0).told.mine
 
 -- The same seat behind some steps of one call, the first of which began it, if the call is named, and else in the midst of it: it has seen more; what the call has committed since stands behind its
--- own events, and behind what the call had committed; and it has begun that call and no other. Where a call stands (`IsAtPlace`, `HasAnswered`, `HasReached`) is said apart from how it came there. So
--- a loop says how far it takes any call, and its caller joins two parts of the way (`since_then`).
+-- own events, and behind what the call had committed; and it has begun that call and no other. Where a call stands (`IsAtPlace`, `HasAnswered`, `HasReached`) is said apart from how it came there. So a loop says how far it takes any call, and its caller joins two parts of the way (`since_then`).
 pub record HasSince {C : Type 0} {N : ℕ} (begun : Option (Walk C)) (v w : GateView C N) : Type 0 where
   pub seat_count : w.seat_count ≡ v.seat_count
   pub seat : w.at.seat ≡ v.at.seat

@@ -1,7 +1,6 @@
 -- The rule of a gate's table: word 0 is the lock word, the cells follow, and then each seat's flag. The slot has the queues.
 use Rattle.std.specs.Prelude.{Bool, IfSome, List, None, Some, [], false, length, nat_lt, replicate, slice_get, slice_index, true, ℕ, ◌+◌, ◌<◌, ◌∷◌, ◌≡◌, ◌≤◌}
-use mathlib.Core.Option.{none, some}
-use Rattle.ns_gate.specs.Names.{Course, Event, Every, Fault, HoldsBy, IsLawful, IsTold, Lists, LockState, OutOfMemory, SeatView, SoFar, TableState, Told, TooManySeats, Truths, ViewsOf, Word, course_from, has_queues, is_numbered, nothing_told, number_of, numbered, one_if, tally}
+use Rattle.ns_gate.specs.Names.{Course, Event, Every, Fault, HoldsBy, IsLawful, IsTold, Lists, LockState, OutOfMemory, SeatView, SoFar, TableState, Told, TooManySeats, Truths, ViewsOf, Word, course_from, has_queues, is_numbered, none, nothing_told, number_of, numbered, one_if, some, tally}
 use mathlib.Core.Option as TheOption
 
 -- What one seat of a gate knows: how many seats there are, itself as the machine sees it, what it was told, how far the call in progress has come, and how the lists stood at home when it last made a step.

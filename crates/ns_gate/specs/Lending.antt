@@ -1,7 +1,6 @@
 -- What the queues are once a borrow of their lists is over.
 use Rattle.std.specs.Borrow.{Fml, Lends, MutBor}
-use denote.RattleType.{RattleType}
-use Rattle.ns_gate.specs.Names.{Ghosts, Lists, queues_row}
+use Rattle.ns_gate.specs.Names.{Ghosts, Lists, RattleType, queues_row}
 use denote.Param.{value_of}
 use Rattle.ns_gate.specs.contracts.boxed.BoxedQueues.{the_row as boxed_row}
 

@@ -2,8 +2,7 @@
 
 ghost use Rattle.std.specs.Prelude.{◌≡◌, IfOk};
 ghost use Rattle.std.specs.Borrow.{sem};
-ghost use Rattle.ns_gate.specs.Lending.{lends_lists};
-ghost use Rattle.ns_gate.specs.Prelude.{no_lists};
+ghost use Rattle.ns_gate.specs.Prelude.{lends_lists, no_lists};
 
 use ns_model::condition::Condition;
 use ns_queue::queues::Queues;

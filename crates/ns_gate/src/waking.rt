@@ -6,8 +6,7 @@
 //! differ in whether it is held. So they are kept apart, and the queues in hand are turned then.
 
 ghost use Rattle.std.specs.Prelude.{◌≡◌, ℕ, ◌<◌, ◌≤◌, ◌&&◌, not, true, false, IfNone, OnSome};
-ghost use Rattle.ns_gate.specs.Prelude.{Carries, HasUnchangedQueues, HaveSeats, IsOrderly, bits_of, has_some, lists_woken, moved_to, taken_from, the, times, times_in, turned_to, waiters_of, woken_nobody, woken_sole, without_each};
-ghost use Rattle.ns_queue.specs.declared.waiter.Which.TheVariants.{Cv};
+ghost use Rattle.ns_gate.specs.Prelude.{Carries, Cv, HasUnchangedQueues, HaveSeats, IsOrderly, bits_of, has_some, lists_woken, moved_to, taken_from, the, times, times_in, turned_to, waiters_of, without_each, woken_nobody, woken_sole};
 
 use crate::gate::{Gate, GateSeat};
 use crate::queues::Turned;

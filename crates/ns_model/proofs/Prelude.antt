@@ -5,13 +5,11 @@ pub use Rattle.ns_model.specs.Counters.{IsLegalCounter, IsLegalCounterEvent, cou
 pub use Rattle.ns_model.specs.Courses.{IsLegalFrom}
 pub use Rattle.ns_model.specs.Environments.{EnvStanding, IsEnvBySeats, IsLegalEnv, IsLegalEnvEvent, IsLegalEnvFrom, IsMade, IsNotified, NoteStanding, ParentFits, but_at, clock_of, earlier, earliest, env_after, env_from, env_next, env_own, env_who, expiry_in, first_env, from_parent, is_due, is_made}
 pub use Rattle.ns_model.specs.Environments.{is_over, line, line_of, made_note, notified_in, notified_note, takes_in}
-unfoldable pub use Rattle.ns_model.specs.Environments.{expiry_of, is_notified}
 pub use Rattle.ns_model.specs.Histories.{IsLegal, IsLegalEvent, Standing, first_standing, phase_next, row_next, standing_after, standing_from, standing_next}
 pub use Rattle.ns_model.specs.Lines.{IsLeftAt}
 pub use Rattle.ns_model.specs.Meanings.{AnswersRightly, IsCourseOfOnce, added, added_by, is_begun, is_ran}
 pub use Rattle.ns_model.specs.Onces.{IsLegalOnce, IsLegalOnceEvent, is_done, once_after, once_next}
 pub use Rattle.ns_model.specs.Phases.{count_seats}
-unfoldable pub use Rattle.ns_model.specs.Phases.{count_below}
 pub use Rattle.ns_model.specs.Room.{HasRoom, room, small_by}
 pub use Rattle.ns_model.specs.Seats.{is_in, seats_in}
 pub use Rattle.ns_model.specs.Sections.{EntryFits}
@@ -55,3 +53,5 @@ pub use mathlib.Core.Logic.{dite}
 pub use mathlib.Core.Option.{some, some-injective, some-ne-none}
 pub use mir.Val.{bits}
 pub use native.Mathlib.Decide.{ℕ_discrete}
+unfoldable pub use Rattle.ns_model.specs.Environments.{expiry_of, is_notified}
+unfoldable pub use Rattle.ns_model.specs.Phases.{count_below}

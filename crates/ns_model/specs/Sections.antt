@@ -22,8 +22,7 @@ is_met Met = true
 is_met TimedOut = false
 is_met Canceled = false
 
--- The entry of a section in this mode, which begins at this row, fits the phase of its caller:
--- a return from a wait fits the wait, in its mode, and answers Met exactly where the condition holds.
+-- The entry of a section in this mode, which begins at this row, fits the phase of its caller: a return from a wait fits the wait, in its mode, and answers Met exactly where the condition holds.
 abbrev pub EntryFits : {C : Type 0} → (C → List ℕ → Bool) → List ℕ → Mode → Entry C → Phase C → Type 0
 EntryFits holds before mode Plain Idle = Unit {0}
 EntryFits holds before mode (Waited c answer) (Cond d m) = (m ≡ mode) × (holds c before ≡ is_met answer) × (holds d before ≡ is_met answer)

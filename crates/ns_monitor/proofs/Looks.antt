@@ -1,7 +1,6 @@
 -- The looks of a wait at its note and its deadline.
 use Rattle.std.proofs.Common.{List, Option, Some, option_map, subst, sym, ℕ, ◌≡◌}
-use Rattle.ns_monitor.proofs.Prelude.{Answer, Canceled, EndedBy, EnvEvent, EnvKnown, HasLookedOn, IfAnswered, LookShows, Met, Note, TimedOut, made_grows}
-use Rattle.ns_monitor.specs.Names.{HasLooked, limits_by}
+use Rattle.ns_monitor.proofs.Prelude.{Answer, Canceled, EndedBy, EnvEvent, EnvKnown, HasLooked, HasLookedOn, IfAnswered, LookShows, Met, Note, TimedOut, limits_by, made_grows}
 use Rattle.ns_note.specs.Known.{Grows}
 
 -- A seat that has looked

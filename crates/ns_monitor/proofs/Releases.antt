@@ -1,9 +1,9 @@
 -- A scan of the lock list with the queues in hand, by a release or by a wait: what it takes and leaves.
 use Rattle.std.proofs.Common.{Bool, Err, List, None, Ok, Option, Some, [], ap, arith, cond, false, filter, inl, inr, is_some, length, map, ne_eqb, not, refl, subst, sym, true, ℕ, ◌&&◌, ◌<◌, ◌==◌, ◌||◌, ◌∙◌, ◌∷◌, ◌≡◌}
-use Rattle.ns_monitor.proofs.Prelude.{Await, Bits, Carries, Changed, GateView, HasInHand, HasReached, HasRow, HasUnchangedQueues, IsAtPlace, IsInRange, IsReady, Lists, MayEnter, MayScan, OnCondition, OnVariables, Owed, OwesTheWoken, Paid, Pays, PutsBack, Release, Released, Returning, Scanning}
-use Rattle.ns_monitor.proofs.Prelude.{ScansAs, SeatOf, Sought, Subject, ToRelease, ToWait, Truths, Turned, Waited, Waiter, Walk, Word, are_called, asked_of, begins_with_reader, bits_of, called_by, called_of, cases_Bool, entered, found_back, free_scanned, got_of, has_condition, has_queues, has_some}
-use Rattle.ns_monitor.proofs.Prelude.{is_eligible, is_satisfied, lacks_row, left_of, list_any, lists_returned, lists_scanned, meets_at, pay_releasing, pay_waiting, paying_at, reads, ready_at, returning_at, returning_for, returning_of, row_in, scanned_writer, seats_of, some_returned, the, times}
-use Rattle.ns_monitor.proofs.Prelude.{waits_at, wake_told, with_lock, woken_of, works, writes}
+use Rattle.ns_monitor.proofs.Prelude.{Await, Bits, Carries, Changed, GateView, HasInHand, HasReached, HasRow, HasScanned, HasSince, HasUnchangedQueues, IsAtPlace, IsInRange, IsReady, Lists, MayEnter, MayScan, OnCondition, OnVariables, Owed, OwesTheWoken, Paid, Pays, PutsBack, Release, Released}
+use Rattle.ns_monitor.proofs.Prelude.{Returning, Scanning, ScansAs, SeatOf, Sought, Subject, ToRelease, ToWait, Truths, Turned, Waited, Waiter, Walk, Word, are_called, asked_of, begins_with_reader, bits_of, called_by, called_of, cases_Bool, entered, found_back, free_scanned, got_of, has_condition}
+use Rattle.ns_monitor.proofs.Prelude.{has_queues, has_some, is_eligible, is_satisfied, lacks_row, left_of, list_any, lists_returned, lists_scanned, meets_at, pay_releasing, pay_waiting, paying_at, reads, ready_at, returning_at, returning_for, returning_of, row_in, scanned_writer, seats_of}
+use Rattle.ns_monitor.proofs.Prelude.{some_returned, the, times, waits_at, wake_told, with_lock, woken_of, works, writes}
 
 -- ---- the scan
 
@@ -135,6 +135,10 @@ module _ {C : Type 0} {N : ℕ} (truths : Truths C) where
   pub may_still : (scanning : Scanning C) (me now : SeatOf C N) → MayScan scanning me → now.0 ≡ me.0 → MayScan scanning now
   may_still (ToRelease releasing) me now may same = tt
   may_still (ToWait queuing) me now may same = subst (λ (vs : List (GateView C N)). IsInRange queuing.wait.on × ((queuing.number ≡ (the vs).at.seat) × (queuing.number < 64)) × (times queuing.number (the vs).stood ≡ 0)) (sym same) may
+
+  -- what a scan has come to that began where only the lists in hand have changed
+  pub scanned_still : (scanning : Scanning C) (me now left : SeatOf C N) → now.0 ≡ me.0 → HasScanned truths scanning now left → HasScanned truths scanning me left
+  scanned_still scanning me now left same e = record { since = subst (λ vs. HasSince None (the vs) (the left.0)) same e.since; paid = e.paid; none = e.none; true_to = e.true_to }
 
   -- a wait that stands in no list stands in none that a scan has left
   pub may_enter : (scanning : Scanning C) (row : List ℕ) (me now : SeatOf C N) → MayScan scanning me → Carries (lists_scanned truths row (the me.0).stood) now → MayEnter scanning now

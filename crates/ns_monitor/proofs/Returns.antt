@@ -1,10 +1,9 @@
 -- The rounds of a wait for a condition: where it goes by what it tests and sees.
 use Rattle.std.proofs.Common.{Bool, List, None, Option, Some, [], ap, append-nil, cond, false, inl, inr, is_some, option_map, refl, subst, sym, true, ℕ, ⊎_elim, ◌++◌, ◌-◌, ◌||◌, ◌∙◌, ◌∷◌, ◌≡◌, ◌⊎◌}
-use Rattle.ns_monitor.proofs.Prelude.{Answer, Answered, Await, Canceled, Cause, CondWait, ConditionWaitMeans, Course, EnvEvent, EnvKnown, Event, Expired, ForWait, HadLooked, HasAcquired, HasAnswered, HasComeBack, HasMode, HasReached, HasRow, HasSince, HasStayed, HasTested, HasWaited, HasWaitedFor}
-use Rattle.ns_monitor.proofs.Prelude.{Held, IfAnswered, InHand, InQueuing, InWait, IsAtPlace, IsFresh, IsFreshIn, IsInRange, IsWide, Known, Limits, Load, Look, LookIn, LookShows, Looked, Met, Mode, Note, Notified, On, OnCondition, OnReturn, Outcome, Part, Performed, PlaceFits, QueuesOrEnds, SeatOf}
-use Rattle.ns_monitor.proofs.Prelude.{SeatView, Subject, TableId, TestCells, TestLast, Tests, TimedOut, Truths, Unchanged, Visit, Wait, WaitMeans, WaitTells, Walk, answer_of, back_with, does, goes, got_queuing, hand_of, held_after, held_by, is_limited, known_of, limits_of, look_or_queue, row_after}
-use Rattle.ns_monitor.proofs.Prelude.{section_of, test_place, tested_by, the}
-use Rattle.ns_monitor.specs.Names.{HasLooked}
+use Rattle.ns_monitor.proofs.Prelude.{Answer, Answered, Await, Canceled, Cause, CondWait, ConditionWaitMeans, Course, EnvEvent, EnvKnown, Event, Expired, ForWait, HadLooked, HasAcquired, HasAnswered, HasComeBack, HasLooked, HasMode, HasReached, HasRow, HasSince, HasStayed, HasTested, HasWaited}
+use Rattle.ns_monitor.proofs.Prelude.{HasWaitedFor, Held, IfAnswered, InHand, InQueuing, InWait, IsAtPlace, IsFresh, IsFreshIn, IsInRange, IsWide, Known, Limits, Load, Look, LookIn, LookShows, Looked, Met, Mode, Note, Notified, On, OnCondition, OnReturn, Outcome, Part, Performed, PlaceFits}
+use Rattle.ns_monitor.proofs.Prelude.{QueuesOrEnds, SeatOf, SeatView, Subject, TableId, TestCells, TestLast, Tests, TimedOut, Truths, Unchanged, Visit, Wait, WaitMeans, WaitTells, Walk, answer_of, back_with, does, goes, got_queuing, hand_of, held_after, held_by, is_limited, known_of, limits_of}
+use Rattle.ns_monitor.proofs.Prelude.{look_or_queue, row_after, section_of, test_place, tested_by, the}
 
 -- a wait for a condition is for something that there is
 pub in_range : {C : Type 0} (on : Subject C) (c : C) → on ≡ OnCondition c → IsInRange on

@@ -2,12 +2,7 @@
 use Rattle.std.proofs.Common.{arith}
 use Rattle.std.specs.Prelude.{◌<◌, ◌^◌}
 use Rattle.std.specs.contracts.option.Option.{the_row as option_row}
-use denote.Builtin.{u64}
-use denote.Param.{layout}
-use denote.RattleType.{RattleType}
-use mir.Syntax.{Ty, ty_array, ty_array_p, ty_bool, ty_const, ty_enum, ty_float, ty_int, ty_named, ty_param, ty_ptr, ty_ref, ty_struct, ty_unit}
-use mir.Table.{array_at}
-use Rattle.ns_monitor.specs.Names.{room}
+use Rattle.ns_monitor.specs.Names.{RattleType, Ty, array_at, layout, room, ty_array, ty_array_p, ty_bool, ty_const, ty_enum, ty_float, ty_int, ty_named, ty_param, ty_ptr, ty_ref, ty_struct, ty_unit, u64}
 
 -- a section takes little, where a row of so many cells does
 abbrev pub TakesLittle : (H N : RattleType) → Type 0

@@ -1,10 +1,8 @@
 -- A scan of the lock list by a release, or by a wait that leaves its section: it takes waiters out of the list, the wait puts itself into its own, the queues go back, and those who were taken are paid their wakes.
 use Rattle.std.specs.Prelude.{None, [], false, ℕ, ◌<◌, ◌≡◌}
-use Rattle.ns_monitor.specs.Names.{HasReached, HasSince, InQueuing, InRelease, InWait, IsInRange, Lists, Paid, Pay, PayInWait, QueueToWait, Released, Returning, ScanAndRelease, SeatOf, StandsNowhere, Truths, Waited, Walk, Word, asked_of, got_of, the, times, waits_at}
+use Rattle.ns_monitor.specs.Names.{HasReached, HasSince, InQueuing, InRelease, InWait, IsInRange, Lists, Paid, Pay, PayInWait, QueueToWait, Released, Returning, ScanAndRelease, Scanning, SeatOf, StandsNowhere, ToRelease, ToWait, Truths, Waited, Walk, Word, asked_of, got_of, the, times, waits_at}
 use Rattle.ns_monitor.specs.Several.{HasSeenTrue}
 use Rattle.ns_monitor.specs.Standing.{IsNumberOf}
-use Rattle.ns_monitor.specs.declared.scanning.Scanning.{Scanning}
-use Rattle.ns_monitor.specs.declared.scanning.Scanning.TheVariants.{ToRelease, ToWait}
 
 -- what the queues are put back for after it
 abbrev pub returning_for : {C : Type 0} → Scanning C → Returning C

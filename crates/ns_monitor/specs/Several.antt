@@ -41,8 +41,7 @@ pub record IsWaitingForAny {C : Type 0} {N : ℕ} (truths : Truths C) (mode : Mo
   pub are : AreSome cvs
 
 -- The caller has begun to wait for these variables: the section that was in hand was committed, with the wait for them as its exit, and nothing else; nothing is in hand. What it has seen begins with
--- what it had seen, and is a legal history by the seats that there are, in which its own events are just its own. It has begun that call, in which it waits to be woken; and it owes no wake, and
--- carries nothing.
+-- what it had seen, and is a legal history by the seats that there are, in which its own events are just its own. It has begun that call, in which it waits to be woken; and it owes no wake, and carries nothing.
 pub record HasBegunToWait {C : Type 0} {N : ℕ} (truths : Truths C) (mode : Mode) (cvs : Cvs) (old : Known C N) (new : WaitKnown C N) : Type 0 where
   pub variables : new.cvs ≡ cvs
   pub monitor : new.known.monitor ≡ old.monitor
@@ -104,8 +103,7 @@ pub record SaysWoken {C : Type 0} {N : ℕ} (truths : Truths C) (row : List ℕ)
   pub entry : entry_of truths.holds back.before back.entry ≡ AfterAny by
 
 -- The wait is over: a wake of this variable, which is one of its own, has ended it, and nothing was committed since; or it was left before any wake took it, and that was committed, and nothing else.
--- A section is in hand that says so. What its caller has seen is a legal history by the seats that there are, in which its own events are just its own; it is in no call, and owes no wake, and carries
--- nothing.
+-- A section is in hand that says so. What its caller has seen is a legal history by the seats that there are, in which its own events are just its own; it is in no call, and owes no wake, and carries nothing.
 pub record HasComeBackFromAny {C : Type 0} {N : ℕ} (truths : Truths C) (mode : Mode) (by : Option ℕ) (old : WaitKnown C N) (new : Known C N) : Type 0 where
   pub monitor : new.monitor ≡ old.known.monitor
   pub seat_count : new.seat_count ≡ old.known.seat_count

@@ -1,7 +1,6 @@
 -- A section in hand takes little memory, in either mode.
 use Rattle.std.proofs.Common.{arith}
-use denote.Param.{layout}
-use denote.RattleType.{RattleType}
+use Rattle.ns_monitor.specs.Names.{RattleType, layout}
 use Rattle.ns_monitor.specs.Room.{TakesLittle, kept_small}
 use Rattle.ns_monitor.specs.contracts.caller.Reading.{the_row as reading_row}
 use Rattle.ns_monitor.specs.contracts.caller.Writing.{the_row as writing_row}

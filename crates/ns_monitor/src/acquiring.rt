@@ -1,8 +1,7 @@
 //! An acquire that may have to wait: in the lock list, for its flag.
 
 ghost use Rattle.std.specs.Prelude.{◌≡◌, None};
-ghost use Rattle.ns_gate.specs.Prelude.{IsPackable, AcquireLoad, Arm, InAcquire, HasSince, IsAtPlace, HasUnchangedQueues, the};
-ghost use Rattle.ns_monitor.specs.Prelude.{AcquiresBy, HasAcquired, IsNumberOf};
+ghost use Rattle.ns_monitor.specs.Prelude.{AcquireLoad, AcquiresBy, Arm, HasAcquired, HasSince, HasUnchangedQueues, InAcquire, IsAtPlace, IsNumberOf, IsPackable, the};
 
 use crate::going::Going;
 use crate::monitor::Monitor;

@@ -2,8 +2,7 @@
 //! whether the section is quiet, and a scan.
 
 ghost use Rattle.std.specs.Prelude.{◌≡◌, ◌≤◌, None, Some, false, if◌then◌else◌};
-ghost use Rattle.ns_gate.specs.Prelude.{Write, before_in, row_in, HasMode, IsQuiet, OnCondition, Is, HasAnswered, HasSince, IsAtPlace, IsAtRest, HasUnchangedQueues, the};
-ghost use Rattle.ns_monitor.specs.Prelude.{HasLoaded, HasTested, IsReady, MayTest, ScansAs, StandsAt, judging, loading, loading_at};
+ghost use Rattle.ns_monitor.specs.Prelude.{HasAnswered, HasLoaded, HasMode, HasSince, HasTested, HasUnchangedQueues, Is, IsAtPlace, IsAtRest, IsQuiet, IsReady, MayTest, OnCondition, ScansAs, StandsAt, Write, before_in, judging, loading, loading_at, row_in, the};
 
 use crate::monitor::Monitor;
 use ns_gate::gate::GateSeat;

@@ -1,8 +1,7 @@
 //! What a call does by the lock word that it has seen last, as long as it hasn't the waiter queues.
 
 ghost use Rattle.std.specs.Prelude.{◌≡◌, ⊤, None, Some, true, IfErr};
-ghost use Rattle.ns_gate.specs.Prelude.{CameByGuess, HasReached, HasSince, IsAtRest, CanStep, Performed, Saw, WantsNext, asked_of, got_of, the, tried, IsFirst, IsPackable, PlaceFits, Word};
-ghost use Rattle.ns_monitor.specs.Prelude.{Decides, HasBegunBy, MayGoAlone, WentAtOnce, going_act, going_of, may_go, taking_for};
+ghost use Rattle.ns_monitor.specs.Prelude.{CameByGuess, CanStep, Decides, HasBegunBy, HasReached, HasSince, IsAtRest, IsFirst, IsPackable, MayGoAlone, Performed, PlaceFits, Saw, WantsNext, WentAtOnce, Word, asked_of, going_act, going_of, got_of, may_go, taking_for, the, tried};
 
 use crate::monitor::Monitor;
 use ns_gate::gate::GateSeat;

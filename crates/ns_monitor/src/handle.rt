@@ -8,8 +8,7 @@
 
 ghost use Rattle.std.specs.Prelude.{◌≡◌, ◌<◌, ◌++◌, [], ◌∷◌, true, Some, All, IfErr, IfOk, length, slice_index, slice_set};
 ghost use Rattle.ns_model.specs.declared.event.Exit.TheVariants as TheExit;
-ghost use Rattle.ns_gate.specs.Prelude.{Broadcasting, Read, Signaling, Write, QuietWriter, Reader, Writer, InHand, HasMode, section_of};
-ghost use Rattle.ns_monitor.specs.Prelude.{AreOfOneHistory, Grows, HasLearned, HasLocked, HasSeenMore, HasWoken, ShowsState, getting, judging, locking, releasing_by, setting, showing, trying, waking_by};
+ghost use Rattle.ns_monitor.specs.Prelude.{AreOfOneHistory, Broadcasting, Grows, HasLearned, HasLocked, HasMode, HasSeenMore, HasWoken, InHand, QuietWriter, Read, Reader, ShowsState, Signaling, Write, Writer, getting, judging, locking, releasing_by, section_of, setting, showing, trying, waking_by};
 
 use crate::caller::{Caller, Free, Hand, Reading as Reads, Seat, Section, Writing as Writes};
 use crate::going::{Begun, locked, released};

@@ -1,9 +1,8 @@
 //! The waits of handles: for a condition on the row, and for condition variables.
 
 ghost use Rattle.std.specs.Prelude.{◌≡◌, ◌<◌, ◌⊎◌, ◌||◌, is_some, None, IfSome, Some, true};
-ghost use Rattle.ns_gate.specs.Prelude.{IsMade};
+ghost use Rattle.ns_monitor.specs.Prelude.{AreSome, EndedBy, Grows, HadLooked, HasBegunToWait, HasComeBackFromAny, HasWaitedFor, HasWaitedForVariable, IfStill, IfWoken, IsMade, WaitsStill, variable_waiting, waiting};
 ghost use Rattle.ns_note.specs.Known.{Grows as EnvGrows};
-ghost use Rattle.ns_monitor.specs.Prelude.{AreSome, EndedBy, Grows, HadLooked, HasBegunToWait, HasComeBackFromAny, HasWaitedFor, HasWaitedForVariable, IfStill, IfWoken, WaitsStill, variable_waiting, waiting};
 
 use crate::caller::Renewed;
 use crate::handle::Acting;

@@ -2,9 +2,8 @@
 //! which is for the proof alone: no code reads it.
 
 ghost use Rattle.std.specs.Prelude.{◌≡◌, ◌≢◌, ◌∷◌, None, Some, false, true, []};
-ghost use Rattle.ns_gate.specs.Prelude.{HasSince, IsAtPlace, IsAtRest, IsFirst, HasReached, PlaceFits, the, asked_of, IsPackable, has_some, got_of};
-ghost use Rattle.ns_monitor.specs.Prelude.{Decides, HasInHand, HasSeenTrue, HasTakenAt, IsNumberOf, OwesTheWoken, Pays, PutsBack, Sleeps, WentOrTook, found_back, going_of, returning_at, returning_of};
-ghost use Rattle.ns_monitor.specs.declared.going.Going.TheVariants.{Changing};
+ghost use Rattle.ns_monitor.specs.Prelude.{Changing, Decides, HasInHand, HasReached, HasSeenTrue, HasSince, HasTakenAt, IsAtPlace, IsAtRest, IsFirst, IsNumberOf, IsPackable, OwesTheWoken, Pays, PlaceFits, PutsBack, Sleeps, WentOrTook, asked_of, found_back, going_of, got_of, has_some, returning_at};
+ghost use Rattle.ns_monitor.specs.Prelude.{returning_of, the};
 
 use crate::going::Going;
 use crate::monitor::Monitor;

@@ -1,9 +1,8 @@
 //! A release, and what leads to its scan of the lock list where somebody may have to be woken.
 
 ghost use Rattle.std.specs.Prelude.{◌≡◌, None};
-ghost use Rattle.ns_gate.specs.Prelude.{IsPackable, bits_of, Succeeded, InRelease, HasAnswered, HasSince, IsAtPlace, HasUnchangedQueues, the};
+ghost use Rattle.ns_monitor.specs.Prelude.{HasAnswered, HasSince, HasUnchangedQueues, InRelease, IsAtPlace, IsPackable, ReleasesBy, Succeeded, bits_of, scanning_at, the};
 ghost use Rattle.ns_word.specs.declared.request.Request.TheVariants as TheRequest;
-ghost use Rattle.ns_monitor.specs.Prelude.{ReleasesBy, scanning_at};
 
 use crate::going::Going;
 use crate::monitor::Monitor;

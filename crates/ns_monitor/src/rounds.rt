@@ -2,10 +2,9 @@
 //! tests.
 
 ghost use Rattle.std.specs.Prelude.{◌≡◌, ◌⊎◌, ◌||◌, is_some, None, Some, IfSome, false, true};
-ghost use Rattle.ns_gate.specs.Prelude.{IsMade, row_in, is_limited, look_or_queue, wait_first, Await, Load, OnCondition, InQueuing, Answered, InWait, HasAnswered, HasSince, IsAtPlace, HasReached, the};
+ghost use Rattle.ns_monitor.specs.Prelude.{Answered, Await, EndedBy, Grows, HadLooked, HasAnswered, HasReached, HasSince, HasWaitedFor, IfAnswered, InQueuing, InWait, IsAtPlace, IsForCondition, IsFreshIn, IsMade, IsNumberOf, Load, OnCondition, QueuesOrEnds, is_limited, look_or_queue, row_in, the};
+ghost use Rattle.ns_monitor.specs.Prelude.{wait_first, waiting, waits_by};
 ghost use Rattle.ns_note.specs.Known.{Grows as EnvGrows};
-ghost use Rattle.ns_word.specs.Places.{IsForCondition};
-ghost use Rattle.ns_monitor.specs.Prelude.{EndedBy, Grows, HadLooked, HasWaitedFor, IfAnswered, IsFreshIn, IsNumberOf, QueuesOrEnds, waiting, waits_by};
 
 use crate::caller::{Caller, Renewed};
 use crate::monitor::Monitor;

@@ -1,8 +1,7 @@
 //! The scan of the lock list by a release, or by a wait that leaves its section.
 
 ghost use Rattle.std.specs.Prelude.{◌≡◌, ⊤};
-ghost use Rattle.ns_gate.specs.Prelude.{Carries, IsPackable, bits_of, sought_at, the};
-ghost use Rattle.ns_monitor.specs.Prelude.{HasScanned, IsReady, MayEnter, MayScan, entered, paying_at, returning_for, ready_at};
+ghost use Rattle.ns_monitor.specs.Prelude.{Carries, HasScanned, IsPackable, IsReady, MayEnter, MayScan, ToRelease, bits_of, entered, paying_at, ready_at, returning_for, sought_at, the};
 
 use crate::monitor::Monitor;
 use ns_gate::gate::GateSeat;
@@ -59,18 +58,6 @@ impl<C: Copy> Clone for Scanning<C> {
 }
 
 impl<C: Copy> Scanning<C> {
-    /// The same value, made anew. What a call that isn't inlined takes is zeroed in memory before it is written;
-    /// made here, only the path that makes that call pays for it.
-    #[inline(always)]
-    fn made_anew(self) -> Scanning<C>
-        ensures { result ≡ self }
-    {
-        match self {
-            Scanning::ToRelease(releasing) => Scanning::ToRelease(releasing),
-            Scanning::ToWait(queuing) => Scanning::ToWait(queuing),
-        }
-    }
-
     /// What the queues are put back for after it.
     #[inline(always)]
     fn returning(self) -> Returning<C>
@@ -161,7 +148,14 @@ impl<C: Condition<N>, const N: usize> Monitor<C, N> {
         let (wake, left) = match self.gate.scan_writer_in_hand(seat, row) {
             Ok(told) => told,
             Err(sought) => {
-                self.scan_and_wake(rt, seat, scanning.made_anew(), word, row, sought);
+                match scanning {
+                    Scanning::ToRelease(releasing) => {
+                        self.wake_released(rt, seat, releasing, word, row, sought)
+                    }
+                    Scanning::ToWait(_) => self.scan_and_wake(
+                        rt, seat, scanning, word, row, sought,
+                    ),
+                }
                 return;
             }
         };
@@ -171,6 +165,29 @@ impl<C: Condition<N>, const N: usize> Monitor<C, N> {
         if let Some(wake) = wake {
             self.pay_one(seat, scanning.paying(), wake);
         }
+    }
+
+    /// The same for a release whose scan takes readers. What a call takes that isn't inlined is zeroed in
+    /// memory before it is written: made here, only who wakes readers pays for it.
+    #[cold]
+    fn wake_released<R: Wait>(
+        &self,
+        rt: &R,
+        seat: &mut GateSeat<C, N>,
+        releasing: Releasing,
+        word: LockWord,
+        row: &[u64; N],
+        sought: Sought,
+    )
+        requires of { seat.old.table_id ≡ self.now }
+        requires word { IsPackable word }
+        requires may { MayScan (ToRelease releasing) seat.old.me }
+        requires ready { IsReady C.means (ready_at (ToRelease releasing) word) row.now seat.old.me }
+        requires found { sought ≡ sought_at C.means row.now (the seat.old.me.0).stood }
+        ensures seat { seat.new.table_id ≡ self.now }
+        ensures scanned { HasScanned C.means (ToRelease releasing) seat.old.me seat.new.me }
+    {
+        self.scan_and_wake(rt, seat, Scanning::ToRelease(releasing), word, row, sought)
     }
 
     /// The same where a scan takes readers, of whom this is the first: goes on from there, with lists of those

@@ -5,8 +5,7 @@
 //! inside.
 
 ghost use Rattle.std.specs.Prelude.{◌≡◌, Some, None, [], ℕ};
-ghost use Rattle.ns_gate.specs.Prelude.{AwaitWakeInWait, ForWait, HasSince, InWait, IsAtPlace, the};
-ghost use Rattle.ns_monitor.specs.Prelude.{AreSome, HasAcquired, HasBegunToWait, HasComeBackFromAny, IfStill, IfWoken, IsNumberOf, IsWaitingForAny, WaitsStill, waits_for_any};
+ghost use Rattle.ns_monitor.specs.Prelude.{AreSome, AwaitWakeInWait, ForWait, HasAcquired, HasBegunToWait, HasComeBackFromAny, HasSince, IfStill, IfWoken, InWait, IsAtPlace, IsNumberOf, IsWaitingForAny, WaitsStill, the, waits_for_any};
 
 use crate::caller::{Caller, Renewed};
 use crate::monitor::Monitor;

@@ -1,8 +1,7 @@
 //! How a monitor stands, for whoever looks for a fault: its lock word and its waiters.
 
 ghost use Rattle.std.specs.Prelude.{◌≡◌, None, Some};
-ghost use Rattle.ns_gate.specs.Prelude.{HasSince, HasUnchangedQueues, InShow, IsAtPlace, IsAtRest, IsPackable, ReturnShown, ToChange, the, word_taken};
-ghost use Rattle.ns_monitor.specs.Prelude.{HasSeenMore, HasStood, ShowsState, known_of, showing};
+ghost use Rattle.ns_monitor.specs.Prelude.{HasSeenMore, HasSince, HasStood, HasUnchangedQueues, InShow, IsAtPlace, IsAtRest, IsPackable, ReturnShown, ShowsState, ToChange, known_of, showing, the, word_taken};
 
 use crate::caller::{Caller, Hand};
 use crate::monitor::Monitor;

@@ -1,8 +1,7 @@
 //! A wait outside: it leaves its section and queues, waits to be woken or ended, and may leave its list.
 
 ghost use Rattle.std.specs.Prelude.{◌≡◌, None, Some, IfErr, true, []};
-ghost use Rattle.ns_gate.specs.Prelude.{row_in, IsInRange, is_limited, AcquireLoad, ForWait, LeaveLoad, Load, AwaitWakeInWait, InLeaving, InQueuing, InAcquire, InWait, HasSince, IsAtPlace, the};
-ghost use Rattle.ns_monitor.specs.Prelude.{HasAcquired, HasRow, HasSeenTrue, HasTakenAt, IfEnded, IsNumberOf, WokenOrEnded, lacks_row};
+ghost use Rattle.ns_monitor.specs.Prelude.{AcquireLoad, AwaitWakeInWait, ForWait, HasAcquired, HasRow, HasSeenTrue, HasSince, HasTakenAt, IfEnded, InAcquire, InLeaving, InQueuing, InWait, IsAtPlace, IsInRange, IsNumberOf, LeaveLoad, Load, WokenOrEnded, is_limited, lacks_row, row_in, the};
 
 use crate::monitor::Monitor;
 use crate::scanning::{Queuing, Scanning};

@@ -1,9 +1,8 @@
 //! Condition variables: signals and broadcasts.
 
 ghost use Rattle.std.specs.Prelude.{◌≡◌, ◌<◌, [], ◌∷◌, None, Some};
-ghost use Rattle.ns_gate.specs.Prelude.{Broadcasting, HasAnswered, HasSince, IsAtPlace, IsAtRest, IsOrderly, IsPackable, InSignal, SignalLoad, Signaling, Succeeded, WakeAndReturn, is_held, taken_from, the};
+ghost use Rattle.ns_monitor.specs.Prelude.{Broadcasting, Grows, HasAnswered, HasReturnedWoken, HasSince, HasTakenAt, HasWoken, HasWokenInHand, InSignal, IsAtPlace, IsAtRest, IsOrderly, IsPackable, SignalLoad, Signaling, Succeeded, WakeAndReturn, is_held, is_held_by_one, taken_from, the, waking_by};
 ghost use Rattle.ns_word.specs.declared.request.Request.TheVariants as TheRequest;
-ghost use Rattle.ns_monitor.specs.Prelude.{Grows, HasReturnedWoken, HasTakenAt, HasWoken, HasWokenInHand, is_held_by_one, waking_by};
 
 use crate::caller::{Caller, Hand};
 use crate::monitor::Monitor;

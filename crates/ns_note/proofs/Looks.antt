@@ -1,8 +1,7 @@
 -- What calls that look may answer.
 use Rattle.std.proofs.Common.{Bool, IfSome, IsSomeAnd, List, None, Option, Some, false, refl, subst, sym, true, ℕ, ◌<◌, ◌∙◌, ◌≡◌, ◌≤◌}
-use Rattle.ns_note.proofs.Prelude.{Answer, BeginsWith, Canceled, EnvEvent, IsBetween, IsLeftAt, IsLegalEnv, IsNotified, IsUnnotified, LookAnswers, Note, NoteWord, TimedOut, WaitAnswers, begins_itself, begins_through, clock_of, due_is, env_after, is_due, is_notified, is_over, line_goes_on}
-use Rattle.ns_note.proofs.Prelude.{line_stops, not_due_is, standing_of, state_of}
-use Rattle.ns_note.specs.Names.{Expired, HasLooked, Limits}
+use Rattle.ns_note.proofs.Prelude.{Answer, BeginsWith, Canceled, EnvEvent, Expired, HasLooked, IsBetween, IsLeftAt, IsLegalEnv, IsNotified, IsUnnotified, Limits, LookAnswers, Note, NoteWord, TimedOut, WaitAnswers, begins_itself, begins_through, clock_of, due_is, env_after, is_due, is_notified}
+use Rattle.ns_note.proofs.Prelude.{is_over, line_goes_on, line_stops, not_due_is, standing_of, state_of}
 
 -- a true answer is of the last point, a false one of the point at which the clock was loaded
 pub notified_at : (answer : Bool) (old middle new : List EnvEvent) (note : ℕ) → BeginsWith middle old → BeginsWith new middle → (answer ≡ true → IsNotified new note) → (answer ≡ false → is_notified middle note ≡ false)

@@ -1,16 +1,8 @@
 //! The clock and the notes of several callers.
 
 ghost use Rattle.std.specs.Prelude.{◌≡◌, ◌<◌, ◌^◌, ◌++◌, ◌↔◌, [], ◌∷◌, true, false, All, List, length, IfSome, IfOk, IfErr, OnOk, option_map};
-ghost use Rattle.ns_model.specs.Beginnings.{IsBetween};
-ghost use Rattle.ns_model.specs.Environments.{IsMade, IsNotified, clock_of, env_after, expiry_of, is_made, is_notified, takes_in};
-ghost use Rattle.ns_note.specs.Answers.{LookAnswers, WaitAnswers};
-ghost use Rattle.ns_note.specs.Known.{AreNew, AreOfOneHistory, Grows, IsAtRest, IsNumberOf, IsTrueToHistory, known_of, the};
-ghost use Rattle.ns_seats.specs.Views.{IsOne};
-ghost use Rattle.ns_note.specs.Told.{FoundFull, HasTakenNumber};
-ghost use Rattle.ns_env.specs.declared.view.Making.TheVariants.{Nothing};
-ghost use Rattle.ns_env.specs.Chains.{HasLooked};
-ghost use Rattle.ns_env.specs.Notes.{state_of};
-ghost use Rattle.ns_note.specs.Words.{WordFits};
+ghost use Rattle.ns_note.specs.Prelude.{AreNew, AreOfOneHistory, FoundFull, Grows, HasLooked, HasTakenNumber, IsAtRest, IsBetween, IsMade, IsNotified, IsNumberOf, IsOne, IsTrueToHistory, LookAnswers, Nothing, WaitAnswers, WordFits, clock_of, env_after, expiry_of, is_made, is_notified, known_of};
+ghost use Rattle.ns_note.specs.Prelude.{state_of, takes_in, the};
 
 use crate::fault::{Fault, NotesFull};
 use crate::note::{Note, decode_note, encode_note, index_of};

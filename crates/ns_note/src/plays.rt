@@ -1,12 +1,8 @@
 //! The rule of the table, and what each step on it tells.
 
 ghost use Rattle.std.specs.Prelude.{◌≡◌, ◌+◌, ◌-◌, ◌++◌, []};
-ghost use Rattle.ns_note.specs.declared.table_words.TheConstants.{BELLS, NOTES};
-ghost use Rattle.ns_note.specs.Known.{the};
-ghost use Rattle.ns_note.specs.Law.{Holds, fresh};
-ghost use Rattle.ns_seats.specs.Views.{first_of, rest_of};
+ghost use Rattle.ns_note.specs.Prelude.{BELLS, Holds, Learned, NOTES, OneActs, OneMakes, first_of, fresh, note_stored, rest_of, the};
 ghost use Rattle.ns_env.specs.declared.act.EnvAct.TheVariants as TheAct;
-ghost use Rattle.ns_note.specs.Told.{Learned, OneActs, OneMakes, note_stored};
 
 use crate::view::View;
 use atomic_table::{Join, Play, Split, TableRule};

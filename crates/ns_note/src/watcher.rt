@@ -2,10 +2,7 @@
 //! which environment that is.
 
 ghost use Rattle.std.specs.Prelude.{◌≡◌, ◌<◌, ◌^◌, ◌++◌, ◌↔◌, [], ◌∷◌, All, IfErr, IfOk, IfSome, IsSome, List, None, length, option_map, option_to_list};
-ghost use Rattle.ns_model.specs.Beginnings.{IsBetween};
-ghost use Rattle.ns_model.specs.Environments.{IsMade, clock_of, expiry_of, is_made, is_notified, takes_in};
-ghost use Rattle.ns_note.specs.Answers.{LookAnswers, WaitAnswers};
-ghost use Rattle.ns_note.specs.Known.{AreOfOneHistory, Grows};
+ghost use Rattle.ns_note.specs.Prelude.{AreOfOneHistory, Grows, IsBetween, IsMade, LookAnswers, WaitAnswers, clock_of, expiry_of, is_made, is_notified, takes_in};
 
 use crate::env::Env;
 use crate::fault::NotesFull;

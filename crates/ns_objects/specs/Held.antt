@@ -1,7 +1,6 @@
 -- What a wait for condition variables among notes and counters answers, which is called with a section in hand.
 use Rattle.std.specs.Prelude.{◌≡◌, ◌⊎◌, ℕ, ◌<◌, List, ◌∷◌, ◌++◌, Option, None, Some, map, slice_get}
-use Rattle.ns_objects.specs.Names.{AnyItem, AnyWait, AreAmong, Cv, Cvs, HasComeBackFromAny, InHand, IsByOneOf, IsLater, Known, Mode, Past, SaysWoken, Setup, Truths, WaitKnown, any_waiting, leave_any_told, row_after, section_of}
-use Rattle.ns_monitor.specs.Known.{Grows}
+use Rattle.ns_objects.specs.Names.{AnyItem, AnyWait, AreAmong, Cv, Cvs, Grows, HasComeBackFromAny, InHand, IsByOneOf, IsLater, Known, Mode, Past, SaysWoken, Setup, Truths, WaitKnown, any_waiting, leave_any_told, row_after, section_of}
 use Rattle.ns_objects.specs.Any.{BothKnown, item_of, RoundAnswers, RoundsAnswer, past_of}
 
 -- The place that is answered: where a variable has woken the wait, one at which this variable stands, and before which it stands nowhere; else what rounds answer, of looks at the notes and counters alone.

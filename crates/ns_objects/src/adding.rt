@@ -1,11 +1,7 @@
 //! Changes of a counter.
 
 ghost use Rattle.std.specs.Prelude.{◌≡◌, ◌<◌, ◌≤◌, ◌++◌, [], ◌∷◌, Ok};
-ghost use Rattle.ns_model.specs.Counters.{judged};
-ghost use Rattle.ns_counters.specs.Lawful.{HasWords};
-ghost use Rattle.ns_objects.specs.Known.{Grows, the};
-ghost use Rattle.ns_objects.specs.Told.{HasJudged, IsCounterWord, OneActs, OneComes, change_in_hand, word_seen};
-ghost use Rattle.ns_seats.specs.Views.{IsOne};
+ghost use Rattle.ns_objects.specs.Prelude.{Grows, HasJudged, HasWords, IsCounterWord, IsOne, OneActs, OneComes, change_in_hand, judged, the, word_seen};
 
 use crate::objects::Objects;
 use crate::plays::{Change, Law, LoadToChange};

@@ -1,13 +1,7 @@
 //! Waits for condition variables of a monitor among notes and counters, from a section.
 
 ghost use Rattle.std.specs.Prelude.{◌≡◌, ◌≤◌, ◌<◌, ℕ, [], length, map, true};
-ghost use Rattle.ns_model.specs.Tallies.{Every};
-ghost use Rattle.ns_monitor.specs.Several.{KnowsTruly};
-ghost use Rattle.ns_note.specs.Known.{Grows as EnvGrows, IsTrueToHistory as EnvTrue};
-ghost use Rattle.ns_objects.specs.Any.{IsNamed, item_of};
-ghost use Rattle.ns_counters.specs.Items.{AreAmong, is_among};
-ghost use Rattle.ns_objects.specs.Held.{HeldAnswers, WaitAnswers};
-ghost use Rattle.ns_objects.specs.Known.{Grows, IsTrueToHistory};
+ghost use Rattle.ns_objects.specs.Prelude.{AreAmong, EnvGrows, EnvTrue, Every, Grows, HeldAnswers, IsNamed, IsTrueToHistory, KnowsTruly, WaitAnswers, is_among, item_of};
 
 use crate::any::AnyItem;
 use crate::objects::Objects;

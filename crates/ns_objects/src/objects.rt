@@ -1,9 +1,7 @@
 //! The counters and once cells of several callers.
 
 ghost use Rattle.std.specs.Prelude.{◌≡◌, ◌<◌, ◌≤◌, ◌++◌, ◌↔◌, [], ◌∷◌, All, length, IfOk, Err, OnOk, replicate, ◌-◌, ◌+◌};
-ghost use Rattle.ns_counters.specs.Made.{setup_of};
-ghost use Rattle.ns_model.specs.Onces.{is_done};
-ghost use Rattle.ns_objects.specs.Known.{AreNew, AreOfOneHistory, Grows, IsAtRest, known_of, standing_of, the};
+ghost use Rattle.ns_objects.specs.Prelude.{AreNew, AreOfOneHistory, Grows, IsAtRest, is_done, known_of, setup_of, standing_of, the};
 
 use crate::plays::{FirstOut, Law, Learn, LoadCounter, LoadOnce, Together};
 use crate::seat::{ObjSeat, TableSeat};

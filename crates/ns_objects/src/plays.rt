@@ -1,11 +1,7 @@
 //! The rule of the table, and what each step on it tells.
 
 ghost use Rattle.std.specs.Prelude.{◌-◌, ◌++◌, []};
-ghost use Rattle.ns_counters.specs.declared.act.ObjectAct.TheVariants.{LookCounter, LoadToAdd, ExchangeToAdd, MarkWait, LookOnce, BeginOnce};
-ghost use Rattle.ns_objects.specs.Law.{Holds, fresh};
-ghost use Rattle.ns_objects.specs.Known.{the};
-ghost use Rattle.ns_objects.specs.Told.{Learned, OneActs, OneEnds, change_said, change_in_hand, once_at, value_of, word_seen};
-ghost use Rattle.ns_seats.specs.Views.{first_of, rest_of};
+ghost use Rattle.ns_objects.specs.Prelude.{BeginOnce, ExchangeToAdd, Holds, Learned, LoadToAdd, LookCounter, LookOnce, MarkWait, OneActs, OneEnds, change_in_hand, change_said, first_of, fresh, once_at, rest_of, the, value_of, word_seen};
 
 use crate::view::View;
 use atomic_table::{Join, Play, Split, TableRule};

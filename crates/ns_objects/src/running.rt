@@ -1,13 +1,7 @@
 //! Functions that run once.
 
 ghost use Rattle.std.specs.Prelude.{◌≡◌, ◌≢◌, ◌<◌, [], ◌∷◌, true, false};
-ghost use Rattle.ns_counters.specs.Lawful.{HasWords};
-ghost use Rattle.ns_model.specs.Onces.{is_done};
-ghost use Rattle.ns_counters.specs.Words.{stage};
-ghost use Rattle.ns_objects.specs.Known.{Grows, standing_in, the};
-ghost use Rattle.ns_objects.specs.Told.{OneComes};
-ghost use Rattle.ns_objects.specs.Running.{MayRunOnceBegun, OnceAnswers};
-ghost use Rattle.ns_seats.specs.Views.{IsOne};
+ghost use Rattle.ns_objects.specs.Prelude.{Grows, HasWords, IsOne, MayRunOnceBegun, OnceAnswers, OneComes, is_done, stage, standing_in, the};
 
 use crate::objects::Objects;
 use crate::plays::{Begin, End, LoadOnce};

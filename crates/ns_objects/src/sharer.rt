@@ -2,15 +2,7 @@
 //! objects these are.
 
 ghost use Rattle.std.specs.Prelude.{◌≡◌, ◌≢◌, ◌<◌, ◌≤◌, ◌++◌, ◌↔◌, ℕ, [], ◌∷◌, true, All, IfSome, IsSome, IsSomeAnd, None, length, map, option_to_list};
-ghost use Rattle.ns_counters.specs.Items.{is_among};
-ghost use Rattle.ns_model.specs.Environments.{clock_of};
-ghost use Rattle.ns_model.specs.Onces.{is_done};
-ghost use Rattle.ns_model.specs.Tallies.{Every};
-ghost use Rattle.ns_note.specs.Known.{Grows as EnvGrows};
-ghost use Rattle.ns_objects.specs.Any.{AnyAnswers, IsKnown, IsNamed, item_of};
-ghost use Rattle.ns_objects.specs.Held.{HeldAnswers};
-ghost use Rattle.ns_objects.specs.Known.{AreOfOneHistory, Grows, standing_of};
-ghost use Rattle.ns_objects.specs.Running.{MayRunOnceBegun, OnceAnswers};
+ghost use Rattle.ns_objects.specs.Prelude.{AnyAnswers, AreOfOneHistory, EnvGrows, Every, Grows, HeldAnswers, IsKnown, IsNamed, MayRunOnceBegun, OnceAnswers, clock_of, is_among, is_done, item_of, standing_of};
 
 use crate::any::{AnyItem, Item};
 use crate::objects::Objects;

@@ -14,8 +14,7 @@
 //! of progress: no clause says that a sleep ends.
 
 ghost use Rattle.std.specs.Prelude.{◌≡◌, ◌<◌};
-ghost use Rattle.ns_model.specs.Tallies.{Every};
-ghost use Rattle.ns_objects.specs.Any.{IsNamed};
+ghost use Rattle.ns_objects.specs.Prelude.{Every, IsNamed};
 
 use crate::any::{AnyItem, Looked};
 use crate::objects::Objects;

@@ -1,9 +1,7 @@
 //! Waits for a counter.
 
 ghost use Rattle.std.specs.Prelude.{◌≡◌, ◌≢◌, ◌<◌, ◌≤◌, ◌++◌, [], ◌∷◌, true, false, IfSome, IsSomeAnd};
-ghost use Rattle.ns_model.specs.Environments.{clock_of};
-ghost use Rattle.ns_note.specs.Known.{Grows as EnvGrows, IsTrueToHistory};
-ghost use Rattle.ns_objects.specs.Known.{Grows, standing_of};
+ghost use Rattle.ns_objects.specs.Prelude.{EnvGrows, EnvTrue as IsTrueToHistory, Grows, clock_of, standing_of};
 
 use crate::objects::Objects;
 use crate::plays::Mark;

@@ -1,9 +1,7 @@
 -- The names that proofs cite, of specs and of what stands below, passed on from one place. Declares nothing.
-pub use Rattle.ns_model.specs.Seats.{is_in}
 pub use Rattle.ns_outcomes.specs.Answers.{Answers, ComesTo, EndsOtherwise, HasSeedRun, HasText, IsLike, IsReport, IsScheduled, IsUndrawn, IsUnscheduled}
 pub use Rattle.ns_outcomes.specs.Drawn.{AreFewest, Draws, Drew, GoesBefore, HasBegun, IsCutShort, IsDrawingFault, IsDrawn, IsDrawnWord, Lists, Stage, TurnStands, drawing_fault, first_standing, first_standings, generator, stage_of, turn_item}
 pub use Rattle.ns_outcomes.specs.Outcomes.{IsDrawFault, IsOutcomeOf, IsSeedRun, call_of_text, thread_text}
-unfoldable pub use Rattle.ns_outcomes.specs.Outcomes.{outcome_text}
 pub use Rattle.ns_outcomes.specs.Standings.{IsPick, going, stirred}
 pub use Rattle.ns_outcomes.specs.Tallies.{AreRuns, CountsOnceMore, HasCounted, IsBefore, IsCountFault, IsFound, IsTally, block_text, blocks_text, counted, counted_at, found_of, once_more, seed_at, texts_of, times}
 pub use Rattle.ns_outcomes.specs.Texts.{AreMembers, IsMember, IsScriptText, names_before, next_text}
@@ -17,35 +15,21 @@ pub use Rattle.ns_outcomes.specs.declared.tallying.Found.{Found}
 pub use Rattle.ns_replay.proofs.Outcomes.{unread}
 pub use Rattle.ns_replay.proofs.Runs.{idle_world, lists_fit, world_is}
 pub use Rattle.ns_replay.proofs.Texts.{flat_map-range, flat_map-same, grows}
-pub use Rattle.ns_replay.specs.Condition.{script_truths}
-pub use Rattle.ns_replay.specs.Prelude.{cell_text}
-pub use Rattle.ns_replay.specs.Replaying.{HasRun, IsRefused, IsRunFault, Answers as ReplayAnswers, WasRead, world_for}
-unfoldable pub use Rattle.ns_replay.specs.Replaying.{plan_from}
-pub use Rattle.ns_replay.specs.Script.{Plan, plan_of}
-pub use Rattle.ns_replay.specs.Text.{row_text}
-pub use Rattle.ns_replay.specs.Transfer.{Gave, IsEnough, WritesFront}
+pub use Rattle.ns_replay.specs.Prelude.{Answers as ReplayAnswers, Call, Data, Gave, HasRun, IsEnough, IsRefused, IsRunFault, Line, Plan, Runs, StopsFor, Turn, Turned, WasRead, Whole, WorldFault, WritesFront, cell_text, get, is_end, is_in, plan_of, rest_of, row_text, script_truths, start, view}
+pub use Rattle.ns_replay.specs.Prelude.{whole_busy, whole_of, world_for}
 pub use Rattle.ns_replay.specs.declared.condition.ScriptCondition.{ScriptCondition}
 pub use Rattle.ns_replay.specs.declared.fault.Fault.{Fault}
 pub use Rattle.ns_replay.specs.declared.fault.Fault.TheVariants.{BadScript, NotJson, OutOfMemory, Read, StepLimit, TooMany, Write}
 pub use Rattle.ns_replay.specs.declared.script.Script.{Script}
-pub use Rattle.ns_word.specs.declared.word.Word.{Word}
 pub use Rattle.ns_world.proofs.Counted.{start_counted}
+pub use Rattle.ns_world.proofs.Prelude.{Advances, IsCounted, Item, Progress, Stops, TurnsOf, Word, progress, word_items}
 pub use Rattle.ns_world.proofs.Schedules.{advance_both}
-pub use Rattle.ns_world.specs.Runs.{Advances, IsCounted, Item, Progress, Runs, Stops, StopsFor, Turned, TurnsOf, is_end, items_of, next_call, progress, rest_of, start, word_items}
-pub use Rattle.ns_world.specs.Whole.{Whole, whole_busy, whole_of}
-pub use Rattle.ns_world.specs.declared.call.Call.{Call}
-pub use Rattle.ns_world.specs.declared.fault.Fault.{Fault as WorldFault}
-pub use Rattle.ns_world.specs.declared.schedule.Line.{Line}
-pub use Rattle.ns_world.specs.declared.schedule.Turn.{Turn}
+pub use Rattle.ns_world.specs.Runs.{items_of, next_call}
 pub use Rattle.ns_world.specs.declared.step.Step.{Step}
 pub use Rattle.ns_world.specs.declared.step.Step.TheVariants.{Finished, Idle, Nothing, Went}
 pub use Rattle.rand_pcg.specs.Lcg.{Lcg}
 pub use Rattle.rand_pcg.specs.Pcg.{pcg32}
-pub use Rattle.serde_json.specs.Data.{Data}
-pub use Rattle.serde_json.specs.Find.{get}
-pub use Rattle.serde_json.specs.View.{view}
-pub use Rattle.std.proofs.Common.{arith}
-pub use Rattle.std.proofs.Common.{false, flat_map, inl, inr, length, map, refl, rules, string_bytes, sym}
+pub use Rattle.std.proofs.Common.{arith, false, flat_map, inl, inr, length, map, refl, rules, string_bytes, sym}
 pub use Rattle.std.proofs.Math.Seq.{take-suc}
 pub use Rattle.std.proofs.lemmas.Bool.{cases_lt, cases_order}
 pub use Rattle.std.proofs.lemmas.Iterator.Adapters.{position_from-zero}
@@ -78,3 +62,5 @@ pub use Rattle.std.specs.declared.alloc.AllocError.{AllocError}
 pub use Rattle.std.specs.declared.alloc.Global.{Global}
 pub use lib.Pointwise.{pointwise}
 pub use mathlib.Core.Bool.{beq}
+unfoldable pub use Rattle.ns_outcomes.specs.Outcomes.{outcome_text}
+unfoldable pub use Rattle.ns_replay.specs.Replaying.{plan_from}

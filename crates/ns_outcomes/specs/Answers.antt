@@ -1,13 +1,11 @@
 -- What is answered and written, for the outcomes of a script, and for a script with a schedule of its own.
 use Rattle.std.specs.Io.KnownBytes.{Appends, Keeps}
 use Rattle.std.specs.Prelude.{Err, List, Ok, Option, Result, length, ℕ, ⊤, ◌++◌, ◌<◌, ◌≡◌, ◌≢◌, ◌≤◌, ◌⊎◌}
-use Rattle.ns_outcomes.specs.Names.{BadScript, Fault, HasRun, IsRefused, Line, OutOfMemory, Plan, Read, ScriptCondition, StepLimit, TooMany, Turn, Whole, Write, max_bytes, plan_from}
+use Rattle.ns_outcomes.specs.Names.{BadScript, Fault, Found, HasRun, IsRefused, Line, OutOfMemory, Plan, Read, ScriptCondition, Seeds, StepLimit, TooMany, Turn, Whole, Write, max_bytes, plan_from}
 use Rattle.ns_replay.specs.declared.path.ScriptPath.TheVariants as at
 use Rattle.ns_outcomes.specs.Outcomes.{IsLong, IsSeedRun, lengthened, outcome_text}
 use Rattle.ns_outcomes.specs.Tallies.{HasLongRun, HasMade, report_text}
 use Rattle.ns_outcomes.specs.Texts.{IsScriptText}
-use Rattle.ns_outcomes.specs.declared.seeds.Seeds.{Seeds}
-use Rattle.ns_outcomes.specs.declared.tallying.Found.{Found}
 
 -- The text shows what the script that the bytes give comes to in the runs of these seeds: each distinct outcome once, with how many of the runs came to it and the first seed of them; and how many runs, distinct outcomes and turns there are.
 pub record IsReport (seeds : Seeds) (bytes text : List ℕ) : Type 0 where

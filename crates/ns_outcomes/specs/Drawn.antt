@@ -1,13 +1,10 @@
 -- Runs whose turns a generator draws.
 use Rattle.std.specs.List.{range_with_len}
 use Rattle.std.specs.Prelude.{List, Some, [], false, if◌then◌else◌, is_some, length, map, true, ℕ, ◌+◌, ◌<◌, ◌||◌, ◌∷◌, ◌≡◌, ◌≢◌, ◌≤◌, ◌⊎◌}
-use Rattle.ns_outcomes.specs.Names.{Advances, Call, Fault, Item, Lcg, OutOfMemory, Plan, Progress, ScriptCondition, StepLimit, Turn, TurnOf, Turned, WorldFault, items_of, next_call, pcg32, pcg32_of_seed, pcg32_seed, progress, script_truths, start, whole_busy, whole_of, world_for}
+use Rattle.ns_outcomes.specs.Names.{Advances, Call, Drawing, Fault, Going, Item, Lcg, Made, OutOfMemory, Over, Plan, Progress, ScriptCondition, Standing, StepLimit, Turn, TurnOf, Turned, WorldFault, items_of, next_call, pcg32, pcg32_of_seed, pcg32_seed, progress, script_truths, start, whole_busy}
+use Rattle.ns_outcomes.specs.Names.{whole_of, world_for}
 use Rattle.ns_world.specs.declared.fault.Fault.TheVariants as world
 use Rattle.ns_outcomes.specs.Standings.{IsPick, going, stood}
-use Rattle.ns_outcomes.specs.declared.drawing.Drawing.{Drawing}
-use Rattle.ns_outcomes.specs.declared.standing.Made.{Made}
-use Rattle.ns_outcomes.specs.declared.standing.Standing.{Standing}
-use Rattle.ns_outcomes.specs.declared.standing.Standing.TheVariants.{Going, Over}
 
 -- the calls of each thread
 abbrev pub Lists : Type 0

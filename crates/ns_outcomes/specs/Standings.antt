@@ -1,9 +1,6 @@
 -- Which threads of a drawn run can go on, and whose turn it is.
 use Rattle.std.specs.Prelude.{Bool, List, None, Option, Some, count_by, false, if◌then◌else◌, length, map, slice_get, slice_set, take, true, ℕ, ◌%◌, ◌<◌, ◌≡◌}
-use Rattle.ns_outcomes.specs.Names.{Finished, Idle, Nothing, Step, Went}
-use Rattle.ns_outcomes.specs.declared.standing.Made.{Made}
-use Rattle.ns_outcomes.specs.declared.standing.Standing.{Standing}
-use Rattle.ns_outcomes.specs.declared.standing.Standing.TheVariants.{Going, Waiting, Tried, Stuck, Over}
+use Rattle.ns_outcomes.specs.Names.{Finished, Going, Idle, Made, Nothing, Over, Standing, Step, Stuck, Tried, Waiting, Went}
 
 -- a thread can go on, unless it has been idle twice since a turn last stirred, or has ended its calls
 abbrev pub can_go : Standing → Bool

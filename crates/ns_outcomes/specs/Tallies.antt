@@ -3,12 +3,8 @@ use Rattle.std.specs.BTreeMap.{get_by_text}
 use Rattle.std.specs.List.{sum}
 use Rattle.std.specs.Prelude.{All, AllPairs, Contains, List, None, Option, Some, String, [], bytes_eq, codes, count_by, decimal, get_or, if◌then◌else◌, length, map, option_map, position, string_bytes, ℕ, ◌%◌, ◌++◌, ◌+◌, ◌<◌, ◌^◌, ◌∷◌, ◌≡◌, ◌≢◌, ◌≤◌, ◌⊎◌}
 use Rattle.std.specs.declared.alloc.Global.{Global}
-use Rattle.ns_outcomes.specs.Names.{Fault, OutOfMemory, Plan, StepLimit}
+use Rattle.ns_outcomes.specs.Names.{Count, Counts, Fault, Found, OutOfMemory, Plan, Seeds, StepLimit}
 use Rattle.ns_outcomes.specs.Outcomes.{IsLong, IsOutcomeOf}
-use Rattle.ns_outcomes.specs.declared.seeds.Seeds.{Seeds}
-use Rattle.ns_outcomes.specs.declared.tallying.Count.{Count}
-use Rattle.ns_outcomes.specs.declared.tallying.Found.{Found}
-use Rattle.ns_outcomes.specs.declared.tallying.Counts.{Counts}
 
 -- ---- the runs of some seeds
 

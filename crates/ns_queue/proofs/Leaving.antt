@@ -1,11 +1,7 @@
 -- What is left of a list whose taken waiters are taken out one by one.
 use Rattle.std.proofs.Common.{Bool, List, [], ap, arith, cond, drop, eq-eqb, false, get_or, inl, inr, length, map, ne_eqb, refl, sym, true, ℕ, ◌+◌, ◌-◌, ◌<◌, ◌∙◌, ◌∷◌, ◌≡◌, ◌≢◌, ◌≤◌}
 use Rattle.ns_queue.proofs.Prelude.{IsRow, Waiter, marked, unmarked, begins_with_reader, cases_Bool, is_eligible, left_by_writer, left_of, seats_of, times_in, without_all, without_in, woken_of, writes}
-use Rattle.ns_queue.proofs.Marking.{drop_step, filter_marks, times_parted}
-use Rattle.ns_queue.proofs.Seats.{none_without}
-use Rattle.ns_queue.proofs.Seeking.{goes_along}
-use Rattle.ns_queue.proofs.Hops.{stands_not}
-use Rattle.ns_queue.proofs.Places.{row_own, row_rest}
+use Rattle.ns_queue.proofs.Bases.{drop_step, filter_marks, goes_along, none_without, row_own, row_rest, stands_not, times_parted}
 
 module _ {C : Type 0} where
   -- one seat further

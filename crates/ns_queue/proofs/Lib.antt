@@ -1,5 +1,6 @@
 pub mod Appended
 pub mod Asking
+pub mod Bases
 pub mod Bounds
 pub mod Hops
 pub mod Inside

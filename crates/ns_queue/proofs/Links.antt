@@ -1,9 +1,7 @@
 -- The links of the runs: what a link written elsewhere leaves, and lists put together.
 use Rattle.std.proofs.Common.{Bool, List, None, Option, Some, [], ap, append_assoc, arith, false, get_or, get_or-set_other, inl, inr, refl, set, subst, sym, true, true≢false, ℕ, ◌++◌, ◌<◌, ◌∙◌, ◌∷◌, ◌≡◌, ◌≢◌, ◌⊎◌}
 use Rattle.ns_queue.proofs.Prelude.{IsRow, RunLinks, RunsOn, StandRuns, Waiter, cases_Bool, cases_lt, head_of, joins, last_run, last_seat, place_of, seated, times_in}
-use Rattle.ns_queue.proofs.Seats.{times_in-append}
-use Rattle.ns_queue.proofs.Hops.{stands_not, seated_none, seated_here}
-use Rattle.ns_queue.proofs.Places.{row_rest, row_own, row_parts, row_at, row_front, row_low}
+use Rattle.ns_queue.proofs.Bases.{row_at, row_front, row_low, row_own, row_parts, row_rest, seated_here, seated_none, stands_not, times_in-append}
 
 -- each link is as it was, but that of one place
 abbrev pub SameBut : ℕ → List ℕ → List ℕ → Type 0

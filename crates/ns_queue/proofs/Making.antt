@@ -1,9 +1,7 @@
 -- What a change of a list makes of the links of its runs.
 use Rattle.std.proofs.Common.{Bool, List, None, cond, Option, Some, [], ap, arith, false, get_or, get_or-set_other, get_or-set_same, inl, inr, length, length-set, refl, replicate, set, subst, sym, true, true≢false, ℕ, ◌++◌, ◌<◌, ◌∙◌, ◌∷◌, ◌≡◌, ◌≢◌}
 use Rattle.ns_queue.proofs.Prelude.{IsRow, IsRuns, MadeUpTo, RunLinks, RunsOn, StandRuns, Waiter, ahead, behind, cases_Bool, first_seat, from, get_or-replicate, head_of, joins, last_run, last_seat, length-replicate, place_of, seated, times_in, without_in}
-use Rattle.ns_queue.proofs.Hops.{seated_none, stands_not}
-use Rattle.ns_queue.proofs.Ringed.{last_low}
-use Rattle.ns_queue.proofs.Places.{split, ahead_out, from_none, found, cut_at, stepped, row_at, row_parts, row_rest, row_own, row_front, row_low, standing, without_is, row_without}
+use Rattle.ns_queue.proofs.Bases.{ahead_out, cut_at, found, from_none, last_low, row_at, row_front, row_low, row_own, row_parts, row_rest, row_without, seated_none, split, standing, stands_not, stepped, without_is}
 use Rattle.ns_queue.proofs.Links.{head_yes, head_no, last_run-append, last_seat-append, links_other, on_other, open_end, links_join, on_join, on_part, on_rest, on_at, head_link, run_first, run_inner, run_low, stand_of, stand_other, written}
 
 other_end : (links : List ℕ) (c v : ℕ) → c < 64 → get_or links 64 0 ≡ 64 → get_or (set links c v) 64 0 ≡ 64

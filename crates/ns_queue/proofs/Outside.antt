@@ -2,11 +2,7 @@
 use Rattle.std.proofs.Common.{Bool, List, [], ap, arith, drop, eqb, false, get_or, inl, inr, length, lt-ltb, map, nat_lt, ne_eqb, not, refl, set, sym, take, true, ℕ, ◌++◌, ◌+◌, ◌<◌, ◌||◌, ◌∙◌, ◌∷◌, ◌≡◌, ◌≢◌, ◌≤◌}
 use Rattle.ns_queue.proofs.Prelude.{cases_Bool, Anybody, ArrayVec, Cv, HaveSeats, IsOrderly, Lists, Seats, Waiter, cases_lt, cvs_without, get_or-le-sum_by, get_or-map, is_in, length-map, marked, one_if, outside, signal_marks, signaled_of, sum_by, sum_by-append, sum_by-cons, sum_by-take-drop}
 use Rattle.ns_queue.proofs.Prelude.{taken_set, times, times_in, unmarked, unsignaled_of, waiters_of, without, without_in}
-use Rattle.ns_queue.proofs.Inside.{shape}
-use Rattle.ns_queue.proofs.Marking.{drop_step, times_in-filter, times_parted}
-use Rattle.ns_queue.proofs.Meaning.{signal_parts}
-use Rattle.ns_queue.proofs.Orders.{orderly_less}
-use Rattle.ns_queue.proofs.Seats.{low_of, own_times, times_in-cons}
+use Rattle.ns_queue.proofs.Bases.{drop_step, low_of, orderly_less, own_times, shape, signal_parts, times_in-cons, times_in-filter, times_parted}
 use Rattle.ns_queue.proofs.Taken.{in_list, in_taken}
 
 module _ {C : Type 0} (set : Seats) where

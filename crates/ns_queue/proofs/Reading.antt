@@ -4,12 +4,9 @@ use Rattle.std.proofs.Common.{◌||◌, ◌∙◌, ◌∷◌, ◌≡◌, ◌≤�
 use Rattle.ns_queue.proofs.Prelude.{IsRow, Reader, Sought, Waiter, Writer, asked_for, asking, begins_with_reader, behind, cases_Bool, first_seat, foremost_of, from, in_front, is_alike, is_eligible, left_by_writer, left_of, reads, seated, seats_of, sought_of, sought_seat}
 use Rattle.ns_queue.proofs.Prelude.{asked_by, tests_of, tests_on, tests_seeking, without_all, without_in, woken_of, writes}
 use Rattle.ns_queue.specs.declared.scan.Foremost.TheVariants.{Nobody}
-use Rattle.ns_queue.proofs.Asking.{Enters, Knows, asking_most, knows_asked, knows_entered, met_entered, taken_asked}
+use Rattle.ns_queue.proofs.Bases.{Enters, Knows, all_sought, asking_most, cut_at, few, few_sought, found, from_none, front_most, goes_along, knows_asked, knows_entered, met_entered, nobody_taken, row_at, stepped, taken_asked, tests_found}
 use Rattle.ns_queue.proofs.RunCounts.{tests_is}
-use Rattle.ns_queue.proofs.Seats.{few}
-use Rattle.ns_queue.proofs.Seeking.{all_sought, few_sought, front_most, goes_along, nobody_taken, tests_found}
 use Rattle.ns_queue.proofs.Leaving.{woken_leave}
-use Rattle.ns_queue.proofs.Places.{cut_at, found, from_none, row_at, stepped}
 
 -- the first of what is left, by its index
 record Cut {A : Type 0} (k : ℕ) (xs : List A) (x : A) (ys : List A) : Type 0 where

@@ -1,11 +1,7 @@
 -- From run to run where nobody is taken: one test a run, and the link from the run's last.
 use Rattle.std.proofs.Common.{Bool, Fits, List, None, Option, Some, [], ap, append_assoc, arith, cond, drop, false, get_or, inl, inr, is_some, length, refl, subst, sym, true, w32, ℕ, ◌++◌, ◌+◌, ◌<◌, ◌∙◌, ◌∷◌, ◌≡◌, ◌≤◌}
 use Rattle.ns_queue.proofs.Prelude.{IsRow, RunsOn, Waiter, ahead, behind, cases_Bool, first_seat, from, head_of, in_front, is_alike, is_eligible, is_satisfied, joins, one_if, place_of, seated, sought_of, sought_seat, tests_seeking, times_in}
-use Rattle.ns_queue.proofs.Asking.{alike_none}
-use Rattle.ns_queue.proofs.Seats.{at_most_one, few, own_times, times_in-append}
-use Rattle.ns_queue.proofs.Seeking.{Unmet, alike_unmet, front_no, front_yes, seeking_alike, seeking_found, seeking_other, unmet_of}
-use Rattle.ns_queue.proofs.Hops.{stands_not}
-use Rattle.ns_queue.proofs.Places.{found, from_none, cut_at, own, parted, row_at, row_front, row_own, row_parts}
+use Rattle.ns_queue.proofs.Bases.{Unmet, alike_none, alike_unmet, at_most_one, cut_at, few, found, from_none, front_no, front_yes, own, own_times, parted, row_at, row_front, row_own, row_parts, seeking_alike, seeking_found, seeking_other, stands_not, times_in-append, unmet_of}
 use Rattle.ns_queue.proofs.Links.{head_yes, head_no, on_at, on_rest}
 
 -- tests stay few

@@ -1,8 +1,7 @@
 -- How often a seat stands in lists, and how many waiters a list can have.
 use Rattle.std.proofs.Common.{Bool, IsTrue, List, [], ap, arith, eq-eqb, eqb, false, get_or, inl, inr, length, lt-ltb, nat_lt, ne_eqb, refl, sym, take, take_all, true, ℕ, ◌++◌, ◌+◌, ◌<◌, ◌||◌, ◌↔◌, ◌∙◌, ◌∷◌, ◌≡◌, ◌≢◌, ◌≤◌}
-use Rattle.std.proofs.lemmas.Map.Steps.{length-le_from_distinct_below}
+use Rattle.ns_queue.proofs.Prelude.{HaveSeats, Waiter, cases_eq, cases_lt, count_by_more_no, is_of, length-le_from_distinct_below, length-map, list_any, one_if, seats_of, sum_by-append, sum_by-cons, sum_by_more_le, times_in, without_in}
 use Rattle.std.specs.List.{AllByRecursion, IsDistinct}
-use Rattle.ns_queue.proofs.Prelude.{seats_of, list_any, length-map, HaveSeats, Waiter, cases_eq, cases_lt, count_by_more_no, is_of, one_if, sum_by-append, sum_by-cons, sum_by_more_le, times_in, without_in}
 
 -- a number that there is stays below what none is above
 pub low_of : (n seat : ℕ) → (64 ≤ seat → n ≡ 0) → 0 < n → seat < 64

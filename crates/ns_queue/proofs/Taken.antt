@@ -1,9 +1,7 @@
 -- What a wake takes of a list, and what it leaves there.
 use Rattle.std.proofs.Common.{List, Some, [], ap, arith, eq-eqb, eqb, false, get_or, inl, inr, le-ltb, length, lt-ltb, ltb-true, nat_lt, ne_eqb, refl, subst, sym, take, true, ℕ, ◌+◌, ◌<◌, ◌||◌, ◌∙◌, ◌∷◌, ◌≡◌, ◌≤◌}
 use Rattle.ns_queue.proofs.Prelude.{Anybody, Every, HaveSeats, Seats, Waiter, cases_eq, in_more, is_in, none_in, one_if, or_comm, same_seats, seats_of, signal_marks, signaled_of, sole_of, take_more, taken_set, times_in, unsignaled_of}
-use Rattle.ns_queue.proofs.Seats.{found_in, stands_low, some_more, times_in-cons, times_in_push}
-use Rattle.ns_queue.proofs.Marking.{every_marked, times_parted}
-use Rattle.ns_queue.proofs.Meaning.{signal_parts}
+use Rattle.ns_queue.proofs.Bases.{every_marked, found_in, signal_parts, some_more, stands_low, times_in-cons, times_in_push, times_parted}
 
 module _ {C : Type 0} where
   -- a signal takes some and leaves the others

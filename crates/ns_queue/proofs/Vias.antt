@@ -1,10 +1,8 @@
 -- Which variables those name whom a scan takes.
 use Rattle.std.proofs.Common.{Bool, List, Some, [], ap, arith, filter, get_or, length, length-take, map, refl, sym, take, ℕ, ◌++◌, ◌+◌, ◌<◌, ◌∙◌, ◌∷◌, ◌≡◌}
 use Rattle.ns_queue.proofs.Prelude.{Every, IsRow, Waiter, length-map, map-append, seated, seats_of, take_more, times_in, via_in, woken_of}
-use Rattle.ns_queue.proofs.Hops.{seated_first, seated_rest, stands_not}
+use Rattle.ns_queue.proofs.Bases.{every_marked, filter_marks, row_own, row_rest, seated_first, seated_rest, stands_not}
 use Rattle.ns_queue.proofs.Leaving.{scan_is, scan_marks}
-use Rattle.ns_queue.proofs.Marking.{every_marked, filter_marks}
-use Rattle.ns_queue.proofs.Places.{row_own, row_rest}
 
 -- ---- a pass along a list that pushes what each element becomes
 

@@ -1,5 +1,6 @@
 -- The names of crates below and of this crate's own types, passed on from one place. Declares nothing.
 pub use Rattle.arrayvec.specs.ArrayVec.{ArrayVec}
+pub use Rattle.arrayvec.specs.contracts.array_vec.ArrayVec.{the_row as list_row}
 pub use Rattle.ns_model.specs.Cvs.{has}
 pub use Rattle.ns_model.specs.Phases.{is_waiting, is_waiting_as, is_write, woken_phase}
 pub use Rattle.ns_model.specs.Room.{HasRoom, room, room_enough, small_by}
@@ -23,7 +24,6 @@ pub use Rattle.ns_queue.specs.declared.waiter.Shown.{Shown}
 pub use Rattle.ns_queue.specs.declared.waiter.Waiter.{Waiter}
 pub use Rattle.ns_queue.specs.declared.waiter.Which.{Which}
 pub use Rattle.ns_queue.specs.declared.waiter.Which.TheVariants.{Cv, Lock}
-pub use Rattle.arrayvec.specs.contracts.array_vec.ArrayVec.{the_row as list_row}
 pub use denote.Builtin.{u64, unit}
 pub use denote.Param.{copied, layout, number, param, value_of}
 pub use denote.RattleType.{RattleType}

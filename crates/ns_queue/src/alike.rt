@@ -3,9 +3,7 @@
 
 ghost use Rattle.std.specs.Prelude.{◌≡◌, is_some};
 ghost use Rattle.std.specs.Option.{option_copied};
-ghost use Rattle.ns_model.specs.Tallies.{one_if};
-ghost use Rattle.ns_queue.specs.Scans.{is_alike, is_satisfied};
-ghost use Rattle.ns_queue.specs.Runs.{joins};
+ghost use Rattle.ns_queue.specs.Prelude.{is_alike, is_satisfied, joins, one_if};
 
 use crate::room::Queueable;
 use crate::waiter::Waiter;

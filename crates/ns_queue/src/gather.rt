@@ -1,8 +1,7 @@
 //! What is found along the links, from the first waiter to the last.
 
 ghost use Rattle.std.specs.Prelude.{◌≡◌, ◌≤◌, length, map};
-ghost use Rattle.ns_queue.specs.Rings.{seated, via_in};
-ghost use Rattle.ns_queue.specs.Waiters.{shown_of};
+ghost use Rattle.ns_queue.specs.Prelude.{seated, shown_of, via_in};
 
 use crate::ring::Ring;
 use crate::room::Queueable;

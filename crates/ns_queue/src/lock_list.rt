@@ -3,10 +3,7 @@
 ghost use Rattle.std.specs.Prelude.{◌≡◌, ◌<◌, ◌≤◌, ◌↔◌, ◌&&◌, ◌∷◌, ◌++◌, not, [], IsTrue, None, length, map, slice_index};
 ghost use Rattle.std.specs.Bool.{OnFalse};
 ghost use Rattle.std.specs.List.{list_any};
-ghost use Rattle.ns_queue.specs.Scans.{foremost_of, left_by_writer, left_of, runs_of, tests_of, woken_of};
-ghost use Rattle.ns_queue.specs.Waiters.{has_condition, is_long, seats_of, shown_of, times_in, without_in, writes};
-ghost use Rattle.ns_queue.specs.Rings.{IsRow, behind, first_seat, from, without_all};
-ghost use Rattle.ns_queue.specs.Runs.{RunsOn, head_of, last_run, place_of, sought_of};
+ghost use Rattle.ns_queue.specs.Prelude.{IsRow, RunsOn, behind, first_seat, foremost_of, from, has_condition, head_of, is_long, last_run, left_by_writer, left_of, place_of, runs_of, seats_of, shown_of, sought_of, tests_of, times_in, without_all, without_in, woken_of, writes};
 
 use crate::alike::{is_met, joins, tests_for};
 use crate::gather::{gathered, shown_ring, vias_of};

@@ -3,8 +3,7 @@
 ghost use Rattle.std.specs.Prelude.{◌≡◌, ◌<◌, ℕ, ◌+◌, ◌≤◌, ◌↔◌, ◌&&◌, not, [], ◌∷◌, ◌++◌, length, map, nat_lt, replicate, sum_by, take, IsTrue};
 ghost use Rattle.std.specs.Bool.{OnFalse, OnTrue};
 ghost use Rattle.std.specs.List.{list_any};
-ghost use Rattle.ns_queue.specs.Queues.{IsList, IsOrderly, beside, cvs_without, times, waiters_of, with_waiters, without};
-ghost use Rattle.ns_queue.specs.Waiters.{HaveSeats, has_condition, is_long, outside, shown_of, times_in, writes};
+ghost use Rattle.ns_queue.specs.Prelude.{HaveSeats, IsList, IsOrderly, beside, cvs_without, has_condition, is_long, outside, shown_of, times, times_in, waiters_of, with_waiters, without, writes};
 
 use crate::lock_list::LockList;
 use crate::room::Queueable;

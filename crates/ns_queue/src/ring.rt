@@ -2,8 +2,7 @@
 
 ghost use Rattle.std.specs.Prelude.{◌≡◌, ◌<◌, ◌↔◌, ◌∷◌, ◌++◌, [], IsTrue, OnSome, length, slice_set};
 ghost use Rattle.std.specs.Option.{option_copied};
-ghost use Rattle.ns_queue.specs.Rings.{IsRow, ahead, behind, counts_of, first_seat, from, last_seat, seated, without_all};
-ghost use Rattle.ns_queue.specs.Waiters.{times_in, without_in};
+ghost use Rattle.ns_queue.specs.Prelude.{IsRow, ahead, behind, counts_of, first_seat, from, last_seat, seated, times_in, without_all, without_in};
 
 use crate::counts::{Counts, with_one, without_one};
 use crate::room::Queueable;

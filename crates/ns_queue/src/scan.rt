@@ -2,13 +2,7 @@
 
 ghost use Rattle.std.specs.Prelude.{◌≡◌, ◌<◌, ◌&&◌, ◌++◌, ◌∷◌, [], None, if◌then◌else◌, true, unwrap_or, ◌≤◌, length, map};
 ghost use Rattle.std.specs.Option.{option_copied};
-ghost use Rattle.arrayvec.specs.ArrayVec.{array_vec_len};
-ghost use Rattle.ns_queue.specs.Tests.{asked_for, asking};
-ghost use Rattle.ns_queue.specs.Queues.{with_waiters};
-ghost use Rattle.ns_queue.specs.Scans.{foremost_of, left_by_writer, left_of, runs_of, tests_of, woken_of};
-ghost use Rattle.ns_queue.specs.Waiters.{reads, seats_of};
-ghost use Rattle.ns_queue.specs.Rings.{IsRow};
-ghost use Rattle.ns_queue.specs.Runs.{sought_of};
+ghost use Rattle.ns_queue.specs.Prelude.{IsRow, array_vec_len, asked_for, asking, foremost_of, left_by_writer, left_of, reads, runs_of, seats_of, sought_of, tests_of, with_waiters, woken_of};
 
 use crate::alike::{is_alike, is_met, tests_for};
 use crate::queues::Queues;

@@ -1,11 +1,7 @@
 //! Whom a signal and a broadcast take from the list of a condition variable.
 
 ghost use Rattle.std.specs.Prelude.{◌≡◌, ◌<◌, ◌≤◌, [], length, IfNone, OnSome};
-ghost use Rattle.ns_queue.specs.Marks.{is_wanted, signal_marks, wanted_after};
-ghost use Rattle.ns_queue.specs.Queues.{IsOrderly, waiters_of, cvs_without};
-ghost use Rattle.ns_queue.specs.Signals.{signaled_of, sole_of, taken_set};
-ghost use Rattle.ns_queue.specs.Waiters.{HaveSeats};
-ghost use Rattle.ns_queue.specs.declared.signal.Wanted.TheVariants.{Anybody};
+ghost use Rattle.ns_queue.specs.Prelude.{Anybody, HaveSeats, IsOrderly, cvs_without, is_wanted, signal_marks, signaled_of, sole_of, taken_set, waiters_of, wanted_after};
 
 use crate::marks::marked;
 use crate::queues::Queues;

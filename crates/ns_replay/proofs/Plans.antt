@@ -1,397 +1,328 @@
 -- What a script that was read is known to be.
-use Rattle.ns_replay.specs.Prelude.{Add, Advance, Broadcast, Call, CallInRange, CounterWait, CvWait, Data, Declared, Done, Expiry, Fault, Get, IsMoment, IsNoteNumber, IsNotified, IsRunnable, IsShort, IsVariable, Item, Items, Limits, Lock, NewNote, NoteWait, Notify, Once, Plan, RLock, RUnlock}
-use Rattle.ns_replay.specs.Prelude.{ScriptCondition, ScriptPath, Set, Signal, TryLock, TryRLock, Turn, Unlock, UnlockQuiet, Value, Wait, WaitAny, actor_of, add_of, any_variables, any_wait_of, as_array, as_number, as_str, as_u64, at_most, below, brief_call_of, call_at, call_of, calls_at, change_of}
-use Rattle.ns_replay.specs.Prelude.{condition_of, counter_at, counters_of, each_from, get, item_of, items_behind, items_in, json_of, limits_of, list_in, list_of, long_call_of, members_of, moment_of, moment_or_none_of, need, no_items, note_limit_of, note_or_none_of, number_of, onces_of, one_more}
-use Rattle.ns_replay.specs.Prelude.{parts, plain_call_of, plan_in, schedule_of, script_of, short_call_of, threads_of, turn_at, turn_of, variable_wait_of, variables_of, version_of, wait_of, with_item, words_of, ◌>>=◌}
-use Rattle.std.proofs.Common.{All, Bool, Err, IfSome, List, None, Ok, Option, Result, Some, [], arith, bytes_eq, codes, cond, false, length, map, nat_le, nat_lt, option_and_then, option_map, refl, subst, true, ℕ, ◌+◌, ◌<◌, ◌^◌, ◌∷◌, ◌≡◌, ◌≤◌}
+use Rattle.ns_replay.specs.Prelude.{Add, Advance, Broadcast, Call, CallInRange, CounterWait, CvWait, Data, Declared, Done, Expiry, Fault, Get, IsMoment, IsNoteNumber, IsNotified, IsRunnable, IsShort, IsVariable, Items, Limits, NewNote, NoteWait, Notify, Once, Plan, ScriptCondition}
+use Rattle.ns_replay.specs.Prelude.{ScriptPath, Set, Signal, Turn, Value, Wait, WaitAny, actor_of, add_of, any_variables, any_wait_of, as_array, as_number, as_str, as_u64, at_most, below, brief_call_of, call_at, call_of, calls_at, change_of, condition_of, counter_at, counters_of}
+use Rattle.ns_replay.specs.Prelude.{each_from, get, item_of, items_behind, items_in, json_of, limits_of, list_in, list_of, long_call_of, members_of, moment_of, moment_or_none_of, need, no_items, note_limit_of, note_or_none_of, number_of, one_more, onces_of, or_none}
+use Rattle.ns_replay.specs.Prelude.{parts, plain_call_of, plan_in, repeats_of, schedule_of, script_of, short_call_of, threads_of, turn_at, turn_of, variable_wait_of, variables_of, version_of, wait_of, with_item, words_of, ◌>>=◌}
+use Rattle.std.proofs.Common.{All, Bool, Err, IfOk, IfSome, List, None, Ok, Option, Result, Some, [], arith, bytes_eq, codes, cond, false, length, map, nat_le, nat_lt, option_and_then, option_map, refl, subst, true, ℕ, ◌+◌, ◌<◌, ◌^◌, ◌∷◌, ◌≡◌, ◌≤◌}
 use Rattle.ns_replay.proofs.Prelude.{All-cons, All-nil, Vec, length-map, nat_tests}
 use Rattle.ns_replay.specs.declared.path.ScriptPath.TheVariants as at
 
--- ---- what a reading that succeeded went through
+-- ---- what holds of whatever a reading gives
 
-bind_ok : {A B : Type 0} (r : Result A Fault) (f : A → Result B Fault) (y : B) → (r >>= f) ≡ Ok y → (x : A) × (r ≡ Ok x) × (f x ≡ Ok y)
-bind_ok (Ok x) f y e = (x, refl, e)
-bind_ok (Err fault) f y e = absurd cc
+module _ {A B : Type 0} (P : A → Type 0) (Q : B → Type 0) where
+  map_fits : (f : A → B) (o : Option A) → IfSome o P → ((x : A) → P x → Q (f x)) → IfSome (option_map f o) Q
+  map_fits f None fits next = tt
+  map_fits f (Some x) fits next = next x fits
 
-ok_is : {A : Type 0} (r : Result A Fault) (x y : A) → r ≡ Ok x → r ≡ Ok y → x ≡ y
-ok_is r x y e f = cc
+  then_fits : (f : A → Option B) (o : Option A) → IfSome o P → ((x : A) → P x → IfSome (f x) Q) → IfSome (option_and_then f o) Q
+  then_fits f None fits next = tt
+  then_fits f (Some x) fits next = next x fits
 
-need_ok : {A : Type 0} (path : ScriptPath) (o : Option A) (x : A) → need path o ≡ Ok x → o ≡ Some x
-need_ok path None x e = absurd cc
-need_ok path (Some y) x e = cc
+  bind_fits : (f : A → Result B Fault) (r : Result A Fault) → IfOk r P → ((x : A) → P x → IfOk (f x) Q) → IfOk (r >>= f) Q
+  bind_fits f (Ok x) fits next = next x fits
+  bind_fits f (Err fault) fits next = tt
 
-map_some : {A B : Type 0} (f : A → B) (o : Option A) (y : B) → option_map f o ≡ Some y → (x : A) × (o ≡ Some x) × (f x ≡ y)
-map_some f None y e = absurd cc
-map_some f (Some x) y e = (x, refl, cc)
+-- where nothing is known of what is read first
+module _ {A B : Type 0} (Q : B → Type 0) where
+  any_map : (f : A → B) (o : Option A) → ((x : A) → Q (f x)) → IfSome (option_map f o) Q
+  any_map f None next = tt
+  any_map f (Some x) next = next x
 
-then_some : {A B : Type 0} (f : A → Option B) (o : Option A) (y : B) → option_and_then f o ≡ Some y → (x : A) × (o ≡ Some x) × (f x ≡ Some y)
-then_some f None y e = absurd cc
-then_some f (Some x) y e = (x, refl, e)
+  any_then : (f : A → Option B) (o : Option A) → ((x : A) → IfSome (f x) Q) → IfSome (option_and_then f o) Q
+  any_then f None next = tt
+  any_then f (Some x) next = next x
 
-if_some : {A : Type 0} (b : Bool) (o : Option A) (y : A) → cond b o None ≡ Some y → (b ≡ true) × (o ≡ Some y)
-if_some true o y e = (refl, e)
-if_some false o y e = absurd cc
+  any_bind : (f : A → Result B Fault) (r : Result A Fault) → ((x : A) → IfOk (f x) Q) → IfOk (r >>= f) Q
+  any_bind f (Ok x) next = next x
+  any_bind f (Err fault) next = tt
 
-at_most_by : {A : Type 0} (b : Bool) (xs ys : List A) (fault : Fault) → cond b (Ok xs) (Err fault) ≡ Ok ys → (b ≡ true) × (xs ≡ ys)
-at_most_by true xs ys fault e = (refl, cc)
-at_most_by false xs ys fault e = absurd cc
+module _ {A : Type 0} (P : A → Type 0) where
+  need_fits : (path : ScriptPath) (o : Option A) → IfSome o P → IfOk (need path o) P
+  need_fits path None fits = tt
+  need_fits path (Some x) fits = fits
 
-at_most_few : {A : Type 0} (most : ℕ) (path : ScriptPath) (xs ys : List A) → at_most most path xs ≡ Ok ys → length ys ≤ most
-at_most_few most path xs ys e =
-    let p = at_most_by (nat_le (length xs) most) xs ys _ e in
-    let few : nat_le (length xs) most ≡ true = p.0 in
-    let fits : length xs ≤ most = grind (arith, nat_tests) in
-    rw (← p.1) fits
+  -- one reading or another
+  chosen : (b : Bool) (here rest : Option A) → IfSome here P → IfSome rest P → IfSome (cond b here rest) P
+  chosen true here rest fits others = fits
+  chosen false here rest fits others = others
 
--- ---- each element of a list
+  -- what has passed a test
+  tested : (b : Bool) (x : A) → (b ≡ true → P x) → IfSome (cond b (Some x) None) P
+  tested true x fits = fits refl
+  tested false x fits = tt
 
-each_length : {A B : Type 0} (f : ℕ → A → Result B Fault) (i : ℕ) (xs : List A) (ys : List B) → each_from f i xs ≡ Ok ys → length ys ≡ length xs
-each_length f i [] ys e = let none : [] ≡ ys = cc in rw (← none) refl
-each_length f i (x ∷ xs) ys e =
-    let (y, one, more) = bind_ok (f i x) _ ys e in
-    let (rest, others, made) = bind_ok (each_from f (i + 1) xs) _ ys more in
-    let is : y ∷ rest ≡ ys = cc in
-    rw (← is, each_length f (i + 1) xs rest others) refl
+  tested_or : (b : Bool) (x : A) (fault : Fault) → (b ≡ true → P x) → IfOk (cond b (Ok x) (Err fault)) P
+  tested_or true x fault fits = fits refl
+  tested_or false x fault fits = tt
 
-each_all : {A B : Type 0} (P : B → Type 0) (f : ℕ → A → Result B Fault) → ((i : ℕ) (x : A) (y : B) → f i x ≡ Ok y → P y) → (i : ℕ) (xs : List A) (ys : List B) → each_from f i xs ≡ Ok ys → All P ys
-each_all P f h i [] ys e = let none : [] ≡ ys = cc in subst (λ zs. All P zs) none (All-nil P)
-each_all P f h i (x ∷ xs) ys e =
-    let (y, one, more) = bind_ok (f i x) _ ys e in
-    let (rest, others, made) = bind_ok (each_from f (i + 1) xs) _ ys more in
-    let is : y ∷ rest ≡ ys = cc in
-    subst (λ zs. All P zs) is (All-cons P y rest (h i x y one) (each_all P f h (i + 1) xs rest others))
+  -- what was read
+  was_read : (r : Result A Fault) (x : A) → IfOk r P → r ≡ Ok x → P x
+  was_read (Ok y) x fits is = let same : y ≡ x = cc in subst P same fits
+  was_read (Err fault) x fits is = absurd cc
 
--- ---- the cells of calls
+-- each element of a list
+each_fits : {A B : Type 0} (P : B → Type 0) (f : ℕ → A → Result B Fault) → ((i : ℕ) (x : A) → IfOk (f i x) P) → (i : ℕ) (xs : List A) → IfOk (each_from f i xs) (λ ys. (length ys ≡ length xs) × All P ys)
+each_fits P f fits i [] = (refl, All-nil P)
+each_fits P f fits i (x ∷ xs) =
+    bind_fits P (λ ys. (length ys ≡ length (x ∷ xs)) × All P ys) _ (f i x) (fits i x)
+    (λ y one. bind_fits (λ ys. (length ys ≡ length xs) × All P ys) (λ ys. (length ys ≡ length (x ∷ xs)) × All P ys) _ (each_from f (i + 1) xs) (each_fits P f fits (i + 1) xs) (λ ys more. (rw more.0 refl, All-cons P y ys one more.1)))
 
-below_some : (bound : ℕ) (o : Option ℕ) (n : ℕ) → below bound o ≡ Some n → n < bound
-below_some bound o n e =
-    let (k, number, test) = then_some _ o n e in
-    let p = if_some (nat_lt k bound) (Some k) n test in
-    let is : k ≡ n = let same : Some k ≡ Some n = p.1 in cc in
-    let small : nat_lt k bound ≡ true = p.0 in
-    rw (← is) (grind (arith, nat_tests))
+-- what is known says less, too
+weaker : {A : Type 0} (P Q : A → Type 0) (r : Result A Fault) → IfOk r P → ((x : A) → P x → Q x) → IfOk r Q
+weaker P Q (Ok x) fits less = less x fits
+weaker P Q (Err fault) fits less = tt
+
+any_ok : {A : Type 0} (r : Result A Fault) → IfOk r (λ x. Unit {0})
+any_ok (Ok x) = tt
+any_ok (Err fault) = tt
+
+at_most_fits : {A : Type 0} (most : ℕ) (path : ScriptPath) (xs : List A) → IfOk (at_most most path xs) (λ ys. length ys ≤ most)
+at_most_fits most path xs = tested_or (λ ys. length ys ≤ most) (nat_le (length xs) most) xs _ (λ few. grind (arith, nat_tests))
+
+-- ---- the numbers of calls
+
+below_fits : (bound : ℕ) (o : Option ℕ) → IfSome (below bound o) (λ n. n < bound)
+below_fits bound None = tt
+below_fits bound (Some n) = tested (λ n. n < bound) (nat_lt n bound) n (λ small. grind (arith, nat_tests))
 
 -- what the word writes, where it isn't a dash
-or_none_by : (P : ℕ → Type 0) (dash : Bool) (number : Option ℕ) (o : Option ℕ) → ((n : ℕ) → number ≡ Some n → P n) → cond dash (Some None) (option_map (λ n. Some n) number) ≡ Some o → IfSome o P
-or_none_by P true number o h e = let is : None ≡ o = cc in subst (λ x. IfSome x P) is tt
-or_none_by P false number o h e = let (n, some, is) = map_some (λ n. Some n) number o e in subst (λ x. IfSome x P) is (h n some)
+or_none_fits : (P : ℕ → Type 0) (word : List ℕ) (number : Option ℕ) → IfSome number P → IfSome (or_none word number) (λ o. IfSome o P)
+or_none_fits P word number fits = chosen (λ o. IfSome o P) (bytes_eq word (codes "-")) _ _ tt (map_fits P (λ o. IfSome o P) (λ n. Some n) number fits (λ n fit. fit))
 
-moment_fits : (word : List ℕ) (n : ℕ) → moment_of word ≡ Some n → IsMoment n
-moment_fits word n e = below_some (2 ^ 54) (number_of word) n e
+moment_fits : (word : List ℕ) → IfSome (moment_of word) IsMoment
+moment_fits word = below_fits (2 ^ 54) (number_of word)
 
-moment_or_none_fits : (word : List ℕ) (o : Option ℕ) → moment_or_none_of word ≡ Some o → IfSome o IsMoment
-moment_or_none_fits word o e = or_none_by IsMoment (bytes_eq word (codes "-")) (moment_of word) o (moment_fits word) e
+moment_or_none_fits : (word : List ℕ) → IfSome (moment_or_none_of word) (λ o. IfSome o IsMoment)
+moment_or_none_fits word = or_none_fits IsMoment word (moment_of word) (moment_fits word)
 
-note_fits : (word : List ℕ) (n : ℕ) → below 64 (number_of word) ≡ Some n → IsNoteNumber n
-note_fits word n e = below_some 64 (number_of word) n e
+note_fits : (word : List ℕ) → IfSome (below 64 (number_of word)) IsNoteNumber
+note_fits word = below_fits 64 (number_of word)
 
-note_or_none_fits : (word : List ℕ) (o : Option ℕ) → note_or_none_of word ≡ Some o → IfSome o IsNoteNumber
-note_or_none_fits word o e = or_none_by IsNoteNumber (bytes_eq word (codes "-")) (below 64 (number_of word)) o (note_fits word) e
+note_or_none_fits : (word : List ℕ) → IfSome (note_or_none_of word) (λ o. IfSome o IsNoteNumber)
+note_or_none_fits word = or_none_fits IsNoteNumber word (below 64 (number_of word)) (note_fits word)
 
--- one or another
-chosen : {A : Type 0} (P : A → Type 0) (b : Bool) (here rest : Option A) (x : A) → (here ≡ Some x → P x) → (rest ≡ Some x → P x) → cond b here rest ≡ Some x → P x
-chosen P true here rest x fits others e = fits e
-chosen P false here rest x fits others e = others e
-
--- one name after another
-named : (b : Bool) (here rest : Option (Call ScriptCondition)) (call : Call ScriptCondition) → (here ≡ Some call → CallInRange 8 call) → (rest ≡ Some call → CallInRange 8 call) → cond b here rest ≡ Some call → CallInRange 8 call
-named b here rest call fits others e = chosen (CallInRange 8) b here rest call fits others e
-
-itself : (c call : Call ScriptCondition) → CallInRange 8 c → Some c ≡ Some call → CallInRange 8 call
-itself c call fits e = let is : c ≡ call = cc in subst (CallInRange 8) is fits
-
--- a call of one number
-of_one : (f : ℕ → Call ScriptCondition) (o : Option ℕ) (call : Call ScriptCondition) → ((n : ℕ) → o ≡ Some n → CallInRange 8 (f n)) → option_map f o ≡ Some call → CallInRange 8 call
-of_one f o call fits e = let (n, some, is) = map_some f o call e in subst (CallInRange 8) is (fits n some)
-
--- a call of two parts
-of_two : {A B : Type 0} (f : A → B → Call ScriptCondition) (o : Option A) (p : Option B) (call : Call ScriptCondition) → ((x : A) (y : B) → o ≡ Some x → p ≡ Some y → CallInRange 8 (f x y)) → option_and_then (λ x. option_map (f x) p) o ≡ Some call → CallInRange 8 call
-of_two f o p call fits e =
-    let (x, first, more) = then_some (λ x. option_map (f x) p) o call e in
-    let (y, second, is) = map_some (f x) p call more in
-    subst (CallInRange 8) is (fits x y first second)
-
-plain_fits : (name : List ℕ) (call : Call ScriptCondition) → plain_call_of name ≡ Some call → CallInRange 8 call
-plain_fits name call =
-    named (bytes_eq name (codes "lock")) (Some Lock) _ call (itself Lock call tt)
-    (named (bytes_eq name (codes "rlock")) (Some RLock) _ call (itself RLock call tt)
-    (named (bytes_eq name (codes "trylock")) (Some TryLock) _ call (itself TryLock call tt)
-    (named (bytes_eq name (codes "rtrylock")) (Some TryRLock) _ call (itself TryRLock call tt)
-    (named (bytes_eq name (codes "unlock")) (Some Unlock) _ call (itself Unlock call tt)
-    (named (bytes_eq name (codes "runlock")) (Some RUnlock) _ call (itself RUnlock call tt)
-    (named (bytes_eq name (codes "unlockquiet")) (Some UnlockQuiet) _ call (itself UnlockQuiet call tt) (λ e. absurd cc)))))))
-
-variable_fits : (cvs : ℕ) → cvs ≤ 4 → (word : List ℕ) (k : ℕ) → below cvs (number_of word) ≡ Some k → IsVariable k
-variable_fits cvs few word k e = let less = below_some cvs (number_of word) k e in omega (arith, few, less)
-
-short_fits : (declared : Declared) → declared.cvs ≤ 4 → (name word : List ℕ) (call : Call ScriptCondition) → short_call_of declared name word ≡ Some call → CallInRange 8 call
-short_fits declared few name word call =
-    named (bytes_eq name (codes "get")) _ _ call (of_one Get (below 8 (number_of word)) call (below_some 8 (number_of word)))
-    (named (bytes_eq name (codes "notify")) _ _ call (of_one Notify (below 64 (number_of word)) call (note_fits word))
-    (named (bytes_eq name (codes "advance")) _ _ call (of_one Advance (moment_of word) call (moment_fits word))
-    (named (bytes_eq name (codes "isnotified")) _ _ call (of_one IsNotified (below 64 (number_of word)) call (note_fits word))
-    (named (bytes_eq name (codes "expiry")) _ _ call (of_one Expiry (below 64 (number_of word)) call (note_fits word))
-    (named (bytes_eq name (codes "signal")) _ _ call (of_one Signal (below declared.cvs (number_of word)) call (variable_fits declared.cvs few word))
-    (named (bytes_eq name (codes "broadcast")) _ _ call (of_one Broadcast (below declared.cvs (number_of word)) call (variable_fits declared.cvs few word))
-    (named (bytes_eq name (codes "value")) _ _ call (of_one Value (below declared.counters (number_of word)) call (λ n e. tt))
-    (named (bytes_eq name (codes "once")) _ _ call (of_one Once (below declared.onces (number_of word)) call (λ n e. tt))
-    (named (bytes_eq name (codes "done")) _ _ call (of_one Done (below declared.onces (number_of word)) call (λ n e. tt)) (λ e. absurd cc))))))))))
-
-long_fits : (declared : Declared) (name first second : List ℕ) (call : Call ScriptCondition) → long_call_of declared name first second ≡ Some call → CallInRange 8 call
-long_fits declared name first second call =
-    named (bytes_eq name (codes "set")) _ _ call (of_two Set (below 8 (number_of first)) (number_of second) call (λ i v cell value. below_some 8 (number_of first) i cell))
-    (named (bytes_eq name (codes "newnote")) _ _ call (of_two NewNote (note_or_none_of first) (moment_or_none_of second) call (λ o p parent deadline. (note_or_none_fits first o parent, moment_or_none_fits second p deadline)))
-    (named (bytes_eq name (codes "notewait")) _ _ call (of_two NoteWait (below 64 (number_of first)) (moment_or_none_of second) call (λ n p note deadline. (note_fits first n note, moment_or_none_fits second p deadline)))
-    (named (bytes_eq name (codes "cwait")) _ _ call (of_two CounterWait (below declared.counters (number_of first)) (moment_or_none_of second) call (λ c p counter deadline. moment_or_none_fits second p deadline)) (λ e. absurd cc))))
-
-brief_fits : (declared : Declared) → declared.cvs ≤ 4 → (words : List (List ℕ)) (call : Call ScriptCondition) → brief_call_of declared words ≡ Some call → CallInRange 8 call
-unfolding brief_call_of
-brief_fits declared few [] call e = absurd cc
-brief_fits declared few (name ∷ []) call e = plain_fits name call e
-brief_fits declared few (name ∷ word ∷ []) call e = short_fits declared few name word call e
-brief_fits declared few (name ∷ first ∷ second ∷ []) call e = long_fits declared name first second call e
-brief_fits declared few (name ∷ first ∷ second ∷ third ∷ words) call e = absurd cc
+variable_fits : (cvs : ℕ) → cvs ≤ 4 → (word : List ℕ) → IfSome (below cvs (number_of word)) IsVariable
+variable_fits cvs few word = by (below cvs (number_of word)) (below_fits cvs (number_of word)) where
+  by : (o : Option ℕ) → IfSome o (λ k. k < cvs) → IfSome o IsVariable
+  by None less = tt
+  by (Some k) less = omega (arith, few, less)
 
 -- ---- the limits of waits
 
-note_limit_fits : (words : List (List ℕ)) (o : Option ℕ) → note_limit_of words ≡ Some o → IfSome o IsNoteNumber
+note_limit_fits : (words : List (List ℕ)) → IfSome (note_limit_of words) (λ o. IfSome o IsNoteNumber)
 unfolding note_limit_of
-note_limit_fits [] o e = let is : None ≡ o = cc in subst (λ x. IfSome x IsNoteNumber) is tt
-note_limit_fits (name ∷ []) o e = absurd cc
-note_limit_fits (name ∷ word ∷ []) o e =
-    let (n, some, is) = map_some (λ n. Some n) (below 64 (number_of word)) o (if_some (bytes_eq name (codes "note")) (option_map (λ n. Some n) (below 64 (number_of word))) o e).1 in
-    subst (λ x. IfSome x IsNoteNumber) is (note_fits word n some)
-note_limit_fits (name ∷ word ∷ more ∷ words) o e = absurd cc
+note_limit_fits [] = tt
+note_limit_fits (name ∷ []) = tt
+note_limit_fits (name ∷ word ∷ []) = chosen (λ o. IfSome o IsNoteNumber) (bytes_eq name (codes "note")) _ _ (map_fits IsNoteNumber (λ o. IfSome o IsNoteNumber) (λ n. Some n) (below 64 (number_of word)) (note_fits word) (λ n fits. fits)) tt
+note_limit_fits (name ∷ word ∷ more ∷ words) = tt
 
 -- the note is one of 64, and the deadline is a moment
 abbrev LimitsFit : Limits → Type 0
 LimitsFit l = IfSome l.note IsNoteNumber × IfSome l.deadline IsMoment
 
-abbrev limits_by : Option ℕ → Option ℕ → Limits
-limits_by deadline note = record { deadline = deadline; note = note }
+undated_fits : (words : List (List ℕ)) → IfSome (option_map (λ n. record { deadline = None; note = n }) (note_limit_of words)) LimitsFit
+undated_fits words = map_fits (λ o. IfSome o IsNoteNumber) LimitsFit (λ n. record { deadline = None; note = n }) (note_limit_of words) (note_limit_fits words) (λ n note. (note, tt))
 
-undated_fits : (words : List (List ℕ)) (l : Limits) → option_map (limits_by None) (note_limit_of words) ≡ Some l → LimitsFit l
-undated_fits words l e =
-    let (n, note, is) = map_some (limits_by None) (note_limit_of words) l e in
-    subst LimitsFit is (note_limit_fits words n note, tt)
-
-dated_fits : (word : List ℕ) (words : List (List ℕ)) (l : Limits) → option_and_then (λ t. option_map (limits_by (Some t)) (note_limit_of words)) (moment_of word) ≡ Some l → LimitsFit l
-dated_fits word words l e =
-    let (t, moment, more) = then_some (λ t. option_map (limits_by (Some t)) (note_limit_of words)) (moment_of word) l e in
-    let (n, note, is) = map_some (limits_by (Some t)) (note_limit_of words) l more in
-    subst LimitsFit is (note_limit_fits words n note, moment_fits word t moment)
-
-limits_fit : (words : List (List ℕ)) (l : Limits) → limits_of words ≡ Some l → LimitsFit l
+limits_fit : (words : List (List ℕ)) → IfSome (limits_of words) LimitsFit
 unfolding limits_of
-limits_fit [] l e = undated_fits [] l e
-limits_fit (name ∷ []) l e = undated_fits (name ∷ []) l e
-limits_fit (name ∷ word ∷ rest) l e = chosen LimitsFit (bytes_eq name (codes "deadline")) _ _ l (dated_fits word rest l) (undated_fits (name ∷ word ∷ rest) l) e
+limits_fit [] = undated_fits []
+limits_fit (name ∷ []) = undated_fits (name ∷ [])
+limits_fit (name ∷ word ∷ rest) =
+    let dated = then_fits IsMoment LimitsFit (λ t. option_map (λ n. record { deadline = Some t; note = n }) (note_limit_of rest)) (moment_of word) (moment_fits word)
+    (λ t moment. map_fits (λ o. IfSome o IsNoteNumber) LimitsFit (λ n. record { deadline = Some t; note = n }) (note_limit_of rest) (note_limit_fits rest) (λ n note. (note, moment))) in
+    chosen LimitsFit (bytes_eq name (codes "deadline")) _ _ dated (undated_fits (name ∷ word ∷ rest))
 
-wait_fits : (words : List (List ℕ)) (w : ScriptCondition × Limits) → wait_of words ≡ Some w → LimitsFit w.1
+wait_fits : (words : List (List ℕ)) → IfSome (wait_of words) (λ w. LimitsFit w.1)
 unfolding wait_of
-wait_fits [] w e = absurd cc
-wait_fits (condition ∷ rest) w e =
-    let by : ScriptCondition → Option (ScriptCondition × Limits) = λ c. option_map (λ l. (c, l)) (limits_of rest) in
-    let (c, first, more) = then_some by (condition_of (parts 38 condition)) w e in
-    let (l, limits, is) = map_some (λ l. (c, l)) (limits_of rest) w more in
-    subst (λ x. LimitsFit x.1) is (limits_fit rest l limits)
+wait_fits [] = tt
+wait_fits (condition ∷ rest) = any_then (λ (w : ScriptCondition × Limits). LimitsFit w.1) _ (condition_of (parts 38 condition)) (λ c. map_fits LimitsFit (λ w. LimitsFit w.1) (λ l. (c, l)) (limits_of rest) (limits_fit rest) (λ l limits. limits))
 
-wait_call_fits : (words : List (List ℕ)) (call : Call ScriptCondition) → option_map (λ w. Wait w.0 w.1) (wait_of words) ≡ Some call → CallInRange 8 call
-wait_call_fits words call e =
-    let (w, limits, is) = map_some (λ w. Wait w.0 w.1) (wait_of words) call e in
-    subst (CallInRange 8) is (wait_fits words w limits)
-
-variable_wait_fits : (cvs : ℕ) → cvs ≤ 4 → (words : List (List ℕ)) (w : ℕ × Limits) → variable_wait_of cvs words ≡ Some w → IsVariable w.0 × LimitsFit w.1
+variable_wait_fits : (cvs : ℕ) → cvs ≤ 4 → (words : List (List ℕ)) → IfSome (variable_wait_of cvs words) (λ w. IsVariable w.0 × LimitsFit w.1)
 unfolding variable_wait_of
-variable_wait_fits cvs few [] w e = absurd cc
-variable_wait_fits cvs few (word ∷ rest) w e =
-    let by : ℕ → Option (ℕ × Limits) = λ k. option_map (λ l. (k, l)) (limits_of rest) in
-    let (k, first, more) = then_some by (below cvs (number_of word)) w e in
-    let (l, limits, is) = map_some (λ l. (k, l)) (limits_of rest) w more in
-    subst (λ x. IsVariable x.0 × LimitsFit x.1) is (variable_fits cvs few word k first, limits_fit rest l limits)
-
-variable_call_fits : (cvs : ℕ) → cvs ≤ 4 → (words : List (List ℕ)) (call : Call ScriptCondition) → option_map (λ w. CvWait w.0 w.1) (variable_wait_of cvs words) ≡ Some call → CallInRange 8 call
-variable_call_fits cvs few words call e =
-    let (w, limits, is) = map_some (λ w. CvWait w.0 w.1) (variable_wait_of cvs words) call e in
-    let fits = variable_wait_fits cvs few words w limits in
-    subst (CallInRange 8) is (fits.0, fits.1.0, fits.1.1)
-
--- ---- objects and changes
-
-add_fits : (counters : ℕ) (words : List (List ℕ)) (call : Call ScriptCondition) → add_of counters words ≡ Some call → CallInRange 8 call
-unfolding add_of
-add_fits counters [] call e = absurd cc
-add_fits counters (counter ∷ []) call e = absurd cc
-add_fits counters (counter ∷ word ∷ []) call e = of_two Add (below counters (number_of counter)) (change_of (parts 45 word)) call (λ c d there change. tt) e
-add_fits counters (counter ∷ word ∷ more ∷ words) call e = absurd cc
+variable_wait_fits cvs few [] = tt
+variable_wait_fits cvs few (word ∷ rest) =
+    then_fits IsVariable (λ (w : ℕ × Limits). IsVariable w.0 × LimitsFit w.1) _ (below cvs (number_of word)) (variable_fits cvs few word)
+    (λ k first. map_fits LimitsFit (λ w. IsVariable w.0 × LimitsFit w.1) (λ l. (k, l)) (limits_of rest) (limits_fit rest) (λ l limits. (first, limits)))
 
 -- of objects there are at most 16
-one_few : (b : Bool) (items more : Items) (item : Item) → nat_lt items.count 16 ≡ b → cond b (Some (with_item items item)) None ≡ Some more → more.count ≤ 16
-one_few true items more item low e =
-    let is : with_item items item ≡ more = cc in
-    let room : items.count < 16 = grind (arith, nat_tests) in
-    rw (← is) (omega (arith, room))
-one_few false items more item low e = absurd cc
+items_few : (declared : Declared) (words : List (List ℕ)) (items : Items) → items.count ≤ 16 → IfSome (items_behind declared items words) (λ all. all.count ≤ 16)
+items_few declared [] items few = few
+items_few declared (word ∷ words) items few =
+    any_then (λ (all : Items). all.count ≤ 16) _ (item_of declared word)
+    (λ item. then_fits (λ (more : Items). more.count ≤ 16) (λ (all : Items). all.count ≤ 16) _ (one_more items item)
+    (tested (λ (more : Items). more.count ≤ 16) (nat_lt items.count 16) (with_item items item) (λ low. let room : items.count < 16 = grind (arith, nat_tests) in omega (arith, room)))
+    (λ more. items_few declared words more))
 
-items_few : (declared : Declared) (words : List (List ℕ)) (items all : Items) → items.count ≤ 16 → items_behind declared items words ≡ Some all → all.count ≤ 16
-items_few declared [] items all few e = let is : items ≡ all = cc in rw (← is) few
-items_few declared (word ∷ words) items all few e =
-    let (it, item, rest) = then_some (λ item. option_and_then (λ more. items_behind declared more words) (one_more items item)) (item_of declared word) all e in
-    let (more, one, others) = then_some (λ more. items_behind declared more words) (one_more items it) all rest in
-    items_few declared words more all (one_few (nat_lt items.count 16) items more it refl one) others
-
-any_wait_fits : (declared : Declared) (words : List (List ℕ)) (call : Call ScriptCondition) → option_map (λ w. WaitAny w.0 w.1) (any_wait_of declared words) ≡ Some call → CallInRange 8 call
+any_wait_fits : (declared : Declared) (words : List (List ℕ)) → IfSome (any_wait_of declared words) (λ w. (w.0.count ≤ 16) × IfSome w.1 IsMoment)
 unfolding any_wait_of
-any_wait_fits declared [] call e = absurd cc
-any_wait_fits declared (word ∷ words) call e =
-    let (w, any, is) = map_some (λ w. WaitAny w.0 w.1) (any_wait_of declared (word ∷ words)) call e in
-    let (items, all, more) = then_some (λ items. option_map (λ deadline. (items, deadline)) (moment_or_none_of word)) (items_in declared words) w any in
-    let (deadline, moment, both) = map_some (λ deadline. (items, deadline)) (moment_or_none_of word) w more in
-    subst (CallInRange {C = ScriptCondition} 8) is (subst (λ x. CallInRange {C = ScriptCondition} 8 (WaitAny x.0 x.1)) both (items_few declared words no_items items (omega arith) all, moment_or_none_fits word deadline moment))
+any_wait_fits declared [] = tt
+any_wait_fits declared (word ∷ words) =
+    then_fits (λ (items : Items). items.count ≤ 16) (λ (w : Items × Option ℕ). (w.0.count ≤ 16) × IfSome w.1 IsMoment) _ (items_in declared words) (items_few declared words no_items (omega arith))
+    (λ items few. map_fits (λ deadline. IfSome deadline IsMoment) (λ w. (w.0.count ≤ 16) × IfSome w.1 IsMoment) (λ deadline. (items, deadline)) (moment_or_none_of word) (moment_or_none_fits word) (λ deadline moment. (few, moment)))
 
-call_fits : (declared : Declared) → declared.cvs ≤ 4 → (words : List (List ℕ)) (call : Call ScriptCondition) → call_of declared words ≡ Some call → CallInRange 8 call
+-- ---- the calls
+
+abbrev InRange : Call ScriptCondition → Type 0
+InRange call = CallInRange 8 call
+
+-- one name after another
+named : (b : Bool) (here rest : Option (Call ScriptCondition)) → IfSome here InRange → IfSome rest InRange → IfSome (cond b here rest) InRange
+named = chosen InRange
+
+-- a call of two parts
+of_two : {A B : Type 0} (P : A → Type 0) (Q : B → Type 0) (f : A → B → Call ScriptCondition) (o : Option A) (p : Option B) → IfSome o P → IfSome p Q → ((x : A) (y : B) → P x → Q y → InRange (f x y)) → IfSome (option_and_then (λ x. option_map (f x) p) o) InRange
+of_two P Q f o p first second fits = then_fits P InRange (λ x. option_map (f x) p) o first (λ x one. map_fits Q InRange (f x) p second (λ y other. fits x y one other))
+
+plain_fits : (name : List ℕ) → IfSome (plain_call_of name) InRange
+plain_fits name =
+    named (bytes_eq name (codes "lock")) _ _ tt
+    (named (bytes_eq name (codes "rlock")) _ _ tt
+    (named (bytes_eq name (codes "trylock")) _ _ tt
+    (named (bytes_eq name (codes "rtrylock")) _ _ tt
+    (named (bytes_eq name (codes "unlock")) _ _ tt
+    (named (bytes_eq name (codes "runlock")) _ _ tt
+    (named (bytes_eq name (codes "unlockquiet")) _ _ tt tt))))))
+
+short_fits : (declared : Declared) → declared.cvs ≤ 4 → (name word : List ℕ) → IfSome (short_call_of declared name word) InRange
+short_fits declared few name word =
+    named (bytes_eq name (codes "get")) _ _ (map_fits (λ n. n < 8) InRange Get _ (below_fits 8 (number_of word)) (λ n fits. fits))
+    (named (bytes_eq name (codes "notify")) _ _ (map_fits IsNoteNumber InRange Notify _ (note_fits word) (λ n fits. fits))
+    (named (bytes_eq name (codes "advance")) _ _ (map_fits IsMoment InRange Advance _ (moment_fits word) (λ n fits. fits))
+    (named (bytes_eq name (codes "isnotified")) _ _ (map_fits IsNoteNumber InRange IsNotified _ (note_fits word) (λ n fits. fits))
+    (named (bytes_eq name (codes "expiry")) _ _ (map_fits IsNoteNumber InRange Expiry _ (note_fits word) (λ n fits. fits))
+    (named (bytes_eq name (codes "signal")) _ _ (map_fits IsVariable InRange Signal _ (variable_fits declared.cvs few word) (λ n fits. fits))
+    (named (bytes_eq name (codes "broadcast")) _ _ (map_fits IsVariable InRange Broadcast _ (variable_fits declared.cvs few word) (λ n fits. fits))
+    (named (bytes_eq name (codes "value")) _ _ (any_map InRange Value (below declared.counters (number_of word)) (λ n. tt))
+    (named (bytes_eq name (codes "once")) _ _ (any_map InRange Once (below declared.onces (number_of word)) (λ n. tt))
+    (named (bytes_eq name (codes "done")) _ _ (any_map InRange Done (below declared.onces (number_of word)) (λ n. tt)) tt)))))))))
+
+long_fits : (declared : Declared) (name first second : List ℕ) → IfSome (long_call_of declared name first second) InRange
+long_fits declared name first second =
+    named (bytes_eq name (codes "set")) _ _ (then_fits (λ n. n < 8) InRange _ (below 8 (number_of first)) (below_fits 8 (number_of first)) (λ i low. any_map InRange (Set i) (number_of second) (λ v. low)))
+    (named (bytes_eq name (codes "newnote")) _ _ (of_two (λ o. IfSome o IsNoteNumber) (λ o. IfSome o IsMoment) NewNote _ _ (note_or_none_fits first) (moment_or_none_fits second) (λ o p parent deadline. (parent, deadline)))
+    (named (bytes_eq name (codes "notewait")) _ _ (of_two IsNoteNumber (λ o. IfSome o IsMoment) NoteWait _ _ (note_fits first) (moment_or_none_fits second) (λ n p note deadline. (note, deadline)))
+    (named (bytes_eq name (codes "cwait")) _ _ (of_two (λ c. c < declared.counters) (λ o. IfSome o IsMoment) CounterWait _ _ (below_fits declared.counters (number_of first)) (moment_or_none_fits second) (λ c p counter deadline. deadline)) tt)))
+
+brief_fits : (declared : Declared) → declared.cvs ≤ 4 → (words : List (List ℕ)) → IfSome (brief_call_of declared words) InRange
+unfolding brief_call_of
+brief_fits declared few [] = tt
+brief_fits declared few (name ∷ []) = plain_fits name
+brief_fits declared few (name ∷ word ∷ []) = short_fits declared few name word
+brief_fits declared few (name ∷ first ∷ second ∷ []) = long_fits declared name first second
+brief_fits declared few (name ∷ first ∷ second ∷ third ∷ words) = tt
+
+add_fits : (counters : ℕ) (words : List (List ℕ)) → IfSome (add_of counters words) InRange
+unfolding add_of
+add_fits counters [] = tt
+add_fits counters (counter ∷ []) = tt
+add_fits counters (counter ∷ word ∷ []) = any_then InRange _ (below counters (number_of counter)) (λ c. any_map InRange (Add c) (change_of (parts 45 word)) (λ d. tt))
+add_fits counters (counter ∷ word ∷ more ∷ words) = tt
+
+call_fits : (declared : Declared) → declared.cvs ≤ 4 → (words : List (List ℕ)) → IfSome (call_of declared words) InRange
 unfolding call_of
-call_fits declared few [] call e = absurd cc
-call_fits declared few (name ∷ words) call e =
-    named (bytes_eq name (codes "wait")) _ _ call (wait_call_fits words call)
-    (named (bytes_eq name (codes "cvwait")) _ _ call (variable_call_fits declared.cvs few words call)
-    (named (bytes_eq name (codes "waitany")) _ _ call (any_wait_fits declared words call)
-    (named (bytes_eq name (codes "add")) _ _ call (add_fits declared.counters words call) (brief_fits declared few (name ∷ words) call)))) e
+call_fits declared few [] = tt
+call_fits declared few (name ∷ words) =
+    named (bytes_eq name (codes "wait")) _ _ (map_fits (λ w. LimitsFit w.1) InRange (λ w. Wait w.0 w.1) (wait_of words) (wait_fits words) (λ w limits. limits))
+    (named (bytes_eq name (codes "cvwait")) _ _ (map_fits (λ w. IsVariable w.0 × LimitsFit w.1) InRange (λ w. CvWait w.0 w.1) (variable_wait_of declared.cvs words) (variable_wait_fits declared.cvs few words) (λ w fits. (fits.0, fits.1.0, fits.1.1)))
+    (named (bytes_eq name (codes "waitany")) _ _ (map_fits (λ w. (w.0.count ≤ 16) × IfSome w.1 IsMoment) InRange (λ w. WaitAny w.0 w.1) (any_wait_of declared words) (any_wait_fits declared words) (λ w fits. fits))
+    (named (bytes_eq name (codes "add")) _ _ (add_fits declared.counters words) (brief_fits declared few (name ∷ words)))))
 
-call_at_fits : (declared : Declared) → declared.cvs ≤ 4 → (thread number : ℕ) (d : Data) (call : Call ScriptCondition) → call_at declared thread number d ≡ Ok call → CallInRange 8 call
+call_at_fits : (declared : Declared) → declared.cvs ≤ 4 → (thread number : ℕ) (d : Data) → IfOk (call_at declared thread number d) InRange
 unfolding call_at
-call_at_fits declared few thread number d call e =
-    let (text, is, more) = bind_ok (need (at.Call thread number) (as_str d)) _ call e in
-    call_fits declared few (parts 32 text) call (need_ok _ _ call more)
+call_at_fits declared few thread number d = any_bind InRange _ (need (at.Call thread number) (as_str d)) (λ text. need_fits InRange _ _ (call_fits declared few (parts 32 text)))
 
 -- ---- the threads
 
-list_few : (most : ℕ) (path : ScriptPath) (d : Option Data) (ds : List Data) → list_in most path d ≡ Ok ds → length ds ≤ most
+-- a list of at most so many, each read so
+list_fits : {B : Type 0} (P : B → Type 0) (most : ℕ) (path : ScriptPath) (d : Option Data) (f : ℕ → Data → Result B Fault) → ((i : ℕ) (x : Data) → IfOk (f i x) P) → IfOk (list_in most path d >>= each_from f 0) (λ ys. (length ys ≤ most) × All P ys)
 unfolding list_in
-list_few most path d ds e =
-    let (list, is, few) = bind_ok (need path (option_map list_of (option_and_then as_array d))) (at_most most path) ds e in
-    at_most_few most path list ds few
+list_fits {B} P most path d f fits =
+    let few = any_bind (λ (xs : List Data). length xs ≤ most) (at_most most path) (need path (option_map list_of (option_and_then as_array d))) (at_most_fits most path) in
+    bind_fits (λ (xs : List Data). length xs ≤ most) (λ (ys : List B). (length ys ≤ most) × All P ys) (each_from f 0) (list_in most path d) few
+    (λ xs less. weaker (λ ys. (length ys ≡ length xs) × All P ys) (λ ys. (length ys ≤ most) × All P ys) (each_from f 0 xs) (each_fits P f fits 0 xs) (λ ys each. (rw each.0 less, each.1)))
 
-calls_short : (declared : Declared) → declared.cvs ≤ 4 → (thread : ℕ) (d : Data) (calls : List (Call ScriptCondition)) → calls_at declared thread d ≡ Ok calls → IsShort calls
+calls_fit : (declared : Declared) → declared.cvs ≤ 4 → (thread : ℕ) (d : Data) → IfOk (calls_at declared thread d) IsShort
 unfolding calls_at
-calls_short declared variables thread d calls e =
-    let (list, is, each) = bind_ok (list_in 256 (at.Thread thread) (Some d)) _ calls e in
-    record {
-      few = rw (each_length (call_at declared thread) 0 list calls each) (list_few 256 _ _ list is);
-      in_range = each_all (CallInRange 8) (call_at declared thread) (call_at_fits declared variables thread) 0 list calls each;
-    }
+calls_fit declared few thread d =
+    weaker (λ calls. (length calls ≤ 256) × All InRange calls) IsShort _ (list_fits InRange 256 (at.Thread thread) (Some d) (call_at declared thread) (call_at_fits declared few thread)) (λ calls each. record { few = each.0; in_range = each.1 })
 
-pub few_threads : (declared : Declared) (d : Data) (threads : List (List (Call ScriptCondition))) → threads_of declared d ≡ Ok threads → length threads ≤ 64
+-- there are at most 64, and each is as its calls are known to be
+threads_fit : (P : List (Call ScriptCondition) → Type 0) (declared : Declared) → ((thread : ℕ) (d : Data) → IfOk (calls_at declared thread d) P) → (d : Data) → IfOk (threads_of declared d) (λ threads. (length threads ≤ 64) × All P threads)
 unfolding threads_of
-few_threads declared d threads e =
-    let (list, is, each) = bind_ok (list_in 64 at.Threads (get (codes "threads") d)) _ threads e in
-    rw (each_length (calls_at declared) 0 list threads each) (list_few 64 _ _ list is)
+threads_fit P declared fits d = list_fits P 64 at.Threads (get (codes "threads") d) (calls_at declared) fits
 
 pub few_lists : (declared : Declared) (d : Data) (threads : List (Vec (Call ScriptCondition))) → threads_of declared d ≡ Ok (map (λ w. w.items) threads) → length threads ≤ 64
 few_lists declared d threads e =
-    let few = few_threads declared d (map (λ w. w.items) threads) e in
+    let few = was_read _ (threads_of declared d) _ (threads_fit (λ calls. Unit {0}) declared (λ thread d. any_ok (calls_at declared thread d)) d) e in
     let same : length (map (λ (w : Vec (Call ScriptCondition)). w.items) threads) ≡ length threads = search (arith, length-map) in
-    rw (← same) few
-
-threads_short : (declared : Declared) → declared.cvs ≤ 4 → (d : Data) (threads : List (List (Call ScriptCondition))) → threads_of declared d ≡ Ok threads → All IsShort threads
-unfolding threads_of
-threads_short declared few d threads e =
-    let (list, is, each) = bind_ok (list_in 64 at.Threads (get (codes "threads") d)) _ threads e in
-    each_all IsShort (calls_at declared) (calls_short declared few) 0 list threads each
+    rw (← same) few.0
 
 -- ---- the schedule
 
-actor_below : (threads : ℕ) (words : List (List ℕ)) (a : ℕ × Bool) → actor_of threads words ≡ Some a → a.0 < threads
+actor_below : (threads : ℕ) (words : List (List ℕ)) → IfSome (actor_of threads words) (λ a. a.0 < threads)
 unfolding actor_of
-actor_below threads [] a e = absurd cc
-actor_below threads (thread ∷ []) a e =
-    let (t, number, is) = map_some _ _ a e in
-    rw (← is) (below_some threads _ t number)
-actor_below threads (thread ∷ [] ∷ []) a e =
-    let (t, number, is) = map_some _ _ a e in
-    rw (← is) (below_some threads _ t number)
-actor_below threads (thread ∷ (c ∷ cs) ∷ []) a e = absurd cc
-actor_below threads (thread ∷ [] ∷ word ∷ words) a e = absurd cc
-actor_below threads (thread ∷ (c ∷ cs) ∷ word ∷ words) a e = absurd cc
+actor_below threads [] = tt
+actor_below threads (thread ∷ []) = map_fits (λ t. t < threads) (λ (a : ℕ × Bool). a.0 < threads) _ _ (below_fits threads (number_of thread)) (λ t low. low)
+actor_below threads (thread ∷ [] ∷ []) = map_fits (λ t. t < threads) (λ (a : ℕ × Bool). a.0 < threads) _ _ (below_fits threads (number_of thread)) (λ t low. low)
+actor_below threads (thread ∷ (c ∷ cs) ∷ []) = tt
+actor_below threads (thread ∷ [] ∷ word ∷ words) = tt
+actor_below threads (thread ∷ (c ∷ cs) ∷ word ∷ words) = tt
 
-turn_below : (threads : ℕ) (words : List (List ℕ)) (turn : Turn) → turn_of threads words ≡ Some turn → turn.thread < threads
+abbrev IsTurnOf : ℕ → Turn → Type 0
+IsTurnOf threads turn = turn.thread < threads
+
+turn_below : (threads : ℕ) (words : List (List ℕ)) → IfSome (turn_of threads words) (IsTurnOf threads)
 unfolding turn_of
-turn_below threads [] turn e = absurd cc
-turn_below threads (actor ∷ []) turn e =
-    let (a, who, is) = map_some _ _ turn e in
-    rw (← is) (actor_below threads _ a who)
-turn_below threads (actor ∷ times ∷ []) turn e =
-    let (a, who, more) = then_some _ _ turn e in
-    let (r, number, is) = map_some _ _ turn more in
-    rw (← is) (actor_below threads _ a who)
-turn_below threads (actor ∷ times ∷ word ∷ words) turn e = absurd cc
+turn_below threads [] = tt
+turn_below threads (actor ∷ []) = map_fits (λ (a : ℕ × Bool). a.0 < threads) (IsTurnOf threads) _ _ (actor_below threads (parts 33 actor)) (λ a low. low)
+turn_below threads (actor ∷ times ∷ []) = then_fits (λ (a : ℕ × Bool). a.0 < threads) (IsTurnOf threads) _ _ (actor_below threads (parts 33 actor)) (λ a low. any_map (IsTurnOf threads) _ (repeats_of times) (λ r. low))
+turn_below threads (actor ∷ times ∷ word ∷ words) = tt
 
-turn_at_below : (threads number : ℕ) (word : List ℕ) (turn : Turn) → turn_at threads number word ≡ Ok turn → turn.thread < threads
+turn_at_below : (threads number : ℕ) (word : List ℕ) → IfOk (turn_at threads number word) (IsTurnOf threads)
 unfolding turn_at
-turn_at_below threads number word turn e = turn_below threads (parts 42 word) turn (need_ok _ _ turn e)
+turn_at_below threads number word = need_fits (IsTurnOf threads) _ _ (turn_below threads (parts 42 word))
 
-schedule_below : (threads : ℕ) (d : Data) (schedule : List Turn) → schedule_of threads d ≡ Ok schedule → All (λ turn. turn.thread < threads) schedule
+schedule_below : (threads : ℕ) (d : Data) → IfOk (schedule_of threads d) (All (IsTurnOf threads))
 unfolding schedule_of
-schedule_below threads d schedule e =
-    let by_words : List ℕ → Result (List Turn) Fault = λ text. at_most 4096 at.Schedule (words_of text) >>= λ words. each_from (turn_at threads) 0 words in
-    let (text, is, more) = bind_ok (need at.Schedule (option_and_then as_str (get (codes "schedule") d))) by_words schedule e in
-    let (words, few, each) = bind_ok (at_most 4096 at.Schedule (words_of text)) (each_from (turn_at threads) 0) schedule more in
-    each_all (λ turn. turn.thread < threads) (turn_at threads) (turn_at_below threads) 0 words schedule each
+schedule_below threads d =
+    any_bind (All (IsTurnOf threads)) _ (need at.Schedule (option_and_then as_str (get (codes "schedule") d)))
+    (λ text. any_bind (All (IsTurnOf threads)) _ (at_most 4096 at.Schedule (words_of text))
+    (λ words. weaker (λ turns. (length turns ≡ length words) × All (IsTurnOf threads) turns) (All (IsTurnOf threads)) _ (each_fits (IsTurnOf threads) (turn_at threads) (turn_at_below threads) 0 words) (λ turns each. each.1)))
 
 -- ---- the script
 
-most_four : (b : Bool) (n cvs : ℕ) (fault : Fault) → nat_le n 4 ≡ b → cond b (Ok n) (Err fault) ≡ Ok cvs → cvs ≤ 4
-most_four true n cvs fault small e = let is : n ≡ cvs = cc in rw (← is) (grind (arith, nat_tests))
-most_four false n cvs fault small e = absurd cc
-
-variables_few : (d : Option Data) (cvs : ℕ) → variables_of d ≡ Ok cvs → cvs ≤ 4
-unfolding variables_of
-variables_few None cvs e = let is : 0 ≡ cvs = cc in rw (← is) (omega arith)
-variables_few (Some d) cvs e =
-    let (n, is, more) = bind_ok (need at.Variables (option_and_then as_u64 (as_number d))) _ cvs e in
-    most_four (nat_le n 4) n cvs _ refl more
-
-most_sixteen : (b : Bool) (n onces : ℕ) (fault : Fault) → nat_le n 16 ≡ b → cond b (Ok n) (Err fault) ≡ Ok onces → onces ≤ 16
-most_sixteen true n onces fault small e = let is : n ≡ onces = cc in rw (← is) (grind (arith, nat_tests))
-most_sixteen false n onces fault small e = absurd cc
-
-onces_few : (d : Option Data) (onces : ℕ) → onces_of d ≡ Ok onces → onces ≤ 16
-unfolding onces_of
-onces_few None onces e = let is : 0 ≡ onces = cc in rw (← is) (omega arith)
-onces_few (Some d) onces e =
-    let (n, is, more) = bind_ok (need at.Onces (option_and_then as_u64 (as_number d))) _ onces e in
-    most_sixteen (nat_le n 16) n onces _ refl more
+counters_fit : (d : Option Data) → IfOk (counters_of d) (λ counters. length counters ≤ 16)
+unfolding counters_of
+counters_fit None = omega arith
+counters_fit (Some d) = weaker (λ counters. (length counters ≤ 16) × All (λ n. Unit {0}) counters) (λ counters. length counters ≤ 16) _ (list_fits (λ n. Unit {0}) 16 at.Counters (Some d) counter_at (λ i x. any_ok (counter_at i x))) (λ counters few. few.0)
 
 pub counters_few : (d : Option Data) (counters : List ℕ) → counters_of d ≡ Ok counters → length counters ≤ 16
-unfolding counters_of
-counters_few None counters e = let is : [] ≡ counters = cc in rw (← is) (omega arith)
-counters_few (Some d) counters e =
-    let (list, is, each) = bind_ok (list_in 16 at.Counters (Some d)) _ counters e in
-    rw (each_length counter_at 0 list counters each) (list_few 16 _ _ list is)
+counters_few d counters e = was_read (λ counters. length counters ≤ 16) (counters_of d) counters (counters_fit d) e
 
-plan_runs : (d : Data) (plan : Plan) → plan_in d ≡ Ok plan → IsRunnable plan
+onces_few : (d : Option Data) → IfOk (onces_of d) (λ onces. onces ≤ 16)
+unfolding onces_of
+onces_few None = omega arith
+onces_few (Some d) = any_bind (λ onces. onces ≤ 16) _ (need at.Onces (option_and_then as_u64 (as_number d))) (λ n. tested_or (λ onces. onces ≤ 16) (nat_le n 16) n _ (λ small. grind (arith, nat_tests)))
+
+variables_few : (d : Option Data) → IfOk (variables_of d) (λ cvs. cvs ≤ 4)
+unfolding variables_of
+variables_few None = omega arith
+variables_few (Some d) = any_bind (λ cvs. cvs ≤ 4) _ (need at.Variables (option_and_then as_u64 (as_number d))) (λ n. tested_or (λ cvs. cvs ≤ 4) (nat_le n 4) n _ (λ small. grind (arith, nat_tests)))
+
+plan_runs : (d : Data) → IfOk (plan_in d) IsRunnable
 unfolding plan_in
-plan_runs d plan e =
-    let (ms, members, e1) = bind_ok (members_of d) _ plan e in
-    let (n, version, e2) = bind_ok (version_of d) _ plan e1 in
-    let (counters, starts, e2a) = bind_ok (counters_of (get (codes "counters") d)) _ plan e2 in
-    let (onces, cells, e2b) = bind_ok (onces_of (get (codes "onces") d)) _ plan e2a in
-    let (cvs, variables, e2') = bind_ok (variables_of (get (codes "cvs") d)) _ plan e2b in
-    let declared : Declared = record { counters = length counters; onces = onces; cvs = cvs; any_cvs = any_variables n cvs } in
-    let (threads, calls, e3) = bind_ok (threads_of declared d) _ plan e2' in
-    let few = variables_few (get (codes "cvs") d) cvs variables in
-    let (schedule, turns, made) = bind_ok (schedule_of (length threads) d) _ plan e3 in
-    let is : record { counters = counters; onces = onces; cvs = cvs; threads = threads; schedule = schedule } ≡ plan = ok_is _ _ plan refl made in
-    subst IsRunnable is (record {
-      counters = counters_few (get (codes "counters") d) counters starts;
-      onces = onces_few (get (codes "onces") d) onces cells;
-      variables = few;
-      few = few_threads declared d threads calls;
-      short = threads_short declared few d threads calls;
-      in_range = schedule_below (length threads) d schedule turns;
-    })
+plan_runs d =
+    any_bind IsRunnable _ (members_of d)
+    (λ members. any_bind IsRunnable _ (version_of d)
+    (λ version. bind_fits (λ counters. length counters ≤ 16) IsRunnable _ (counters_of (get (codes "counters") d)) (counters_fit (get (codes "counters") d))
+    (λ counters starts. bind_fits (λ onces. onces ≤ 16) IsRunnable _ (onces_of (get (codes "onces") d)) (onces_few (get (codes "onces") d))
+    (λ onces cells. bind_fits (λ cvs. cvs ≤ 4) IsRunnable _ (variables_of (get (codes "cvs") d)) (variables_few (get (codes "cvs") d))
+    (λ cvs few. let declared : Declared = record { counters = length counters; onces = onces; cvs = cvs; any_cvs = any_variables version cvs } in
+    bind_fits (λ threads. (length threads ≤ 64) × All IsShort threads) IsRunnable _ (threads_of declared d) (threads_fit IsShort declared (calls_fit declared few) d)
+    (λ threads calls. bind_fits (All (IsTurnOf (length threads))) IsRunnable _ (schedule_of (length threads) d) (schedule_below (length threads) d)
+    (λ schedule turns. record { counters = starts; onces = cells; variables = few; few = calls.0; short = calls.1; in_range = turns })))))))
 
 -- A script that was read can be run.
 pub script_runs : (bytes : List ℕ) (plan : Plan) → script_of bytes ≡ Ok plan → IsRunnable plan
 unfolding script_of
-script_runs bytes plan e = let (d, json, is) = bind_ok (json_of bytes) _ plan e in plan_runs d plan is
+script_runs bytes plan e = was_read IsRunnable (script_of bytes) plan (any_bind IsRunnable plan_in (json_of bytes) plan_runs) e

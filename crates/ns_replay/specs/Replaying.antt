@@ -81,8 +81,7 @@ Ended before after (Err Read) = Counts before after 0
 Ended before after (Err (TooMany at.Root)) = Counts before after 0 ⊎ Counts before after 1
 Ended before after (Err fault) = Counts before after 1
 
--- What was written, where these bytes may give such texts: a whole text after Ok, a front of one after a failed
--- write, and else nothing.
+-- What was written, where these bytes may give such texts: a whole text after Ok, a front of one after a failed write, and else nothing.
 abbrev pub Answers : Option (List ℕ) → Option (List ℕ) → (List ℕ → List ℕ → Type 0) → ℕ → List ℕ → Result ⊤ Fault → Type 0
 Answers old new IsSuch limit bytes (Ok _) = (text : List ℕ) × IsSuch bytes text × Appends old new text
 Answers old new IsSuch limit bytes (Err Write) = (front : List ℕ) × (rest : List ℕ) × IsSuch bytes (front ++ rest) × (0 < length rest) × Appends old new front

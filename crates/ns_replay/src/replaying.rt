@@ -4,11 +4,7 @@
 //! written. Nothing else here takes memory.
 
 ghost use Rattle.std.specs.Prelude.{◌≡◌, ◌≢◌, ◌≤◌, length, IfOk, IfErr, IsErrOf, OnOk, true, false, string_bytes};
-ghost use Rattle.ns_replay.specs.Transfer.{Gave, IsAskedEnough, IsEnough, IsFine, IsReadFault, IsWriteFault};
-ghost use Rattle.ns_replay.specs.Replaying.{Answers, Ended, HasRun, IsText, IsRefused, WasRead};
-ghost use Rattle.ns_replay.specs.Condition.{script_truths};
-ghost use Rattle.ns_replay.specs.Script.{plan_of};
-ghost use Rattle.ns_world.specs.Whole.{whole_of};
+ghost use Rattle.ns_replay.specs.Prelude.{Answers, Ended, Gave, HasRun, IsAskedEnough, IsEnough, IsFine, IsReadFault, IsRefused, IsText, IsWriteFault, WasRead, plan_of, script_truths, whole_of};
 
 use crate::fault::Fault;
 use crate::options::Options;

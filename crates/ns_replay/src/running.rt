@@ -1,12 +1,7 @@
 //! The run of a script in a new world, and its text.
 
 ghost use Rattle.std.specs.Prelude.{◌≡◌, ◌≤◌, length, string_bytes, IfOk, IfErr};
-ghost use Rattle.ns_world.specs.Whole.{whole_of};
-ghost use Rattle.ns_replay.specs.Condition.{script_truths};
-ghost use Rattle.ns_replay.specs.Script.{plan_of};
-ghost use Rattle.ns_replay.specs.Runnable.{IsRunnable};
-ghost use Rattle.ns_replay.specs.Replaying.{RunsTo, IsRunFault};
-ghost use Rattle.ns_replay.specs.Text.{text_of};
+ghost use Rattle.ns_replay.specs.Prelude.{IsRunFault, IsRunnable, RunsTo, plan_of, script_truths, text_of, whole_of};
 
 use crate::condition::ScriptCondition;
 use crate::fault::Fault;

@@ -12,9 +12,7 @@
 ghost use Rattle.std.specs.Prelude.{◌≡◌, ◌≤◌, map, option_map, IfOk, string_bytes};
 ghost use Rattle.std.specs.List.{list_all};
 ghost use Rattle.std.specs.BTreeMap.{keys};
-ghost use Rattle.serde_json.specs.View.{view, members_view};
-ghost use Rattle.ns_replay.specs.Faults.{Gives, each_from};
-ghost use Rattle.ns_replay.specs.Script.{is_known, list_in, call_at, calls_at, threads_of, words_of, turn_at, schedule_of, members_of, version_of, counter_at, counters_of, onces_of, variables_of, plan_in, plan_of, json_of, script_of};
+ghost use Rattle.ns_replay.specs.Prelude.{Gives, call_at, calls_at, counter_at, counters_of, each_from, is_known, json_of, list_in, members_of, members_view, onces_of, plan_in, plan_of, schedule_of, script_of, threads_of, turn_at, variables_of, version_of, view, words_of};
 
 use crate::calls;
 use crate::condition::ScriptCondition;

@@ -2,8 +2,7 @@
 
 ghost use Rattle.std.specs.Prelude.{◌≡◌, IfErr, OnOk, OnErr, IsErrOf, true, false};
 ghost use Rattle.std.specs.Io.KnownBytes.{Appends};
-ghost use Rattle.ns_replay.specs.Streams.{Counts};
-ghost use Rattle.ns_replay.specs.Transfer.{Collects, Gave, IsAskedEnough, IsEnough, IsFine, IsReadFault, IsWriteFault, WritesFront, ends_for};
+ghost use Rattle.ns_replay.specs.Prelude.{Collects, Counts, Gave, IsAskedEnough, IsEnough, IsFine, IsReadFault, IsWriteFault, WritesFront, ends_for};
 
 use crate::fault::Fault;
 use crate::path::ScriptPath;

@@ -1,8 +1,7 @@
 //! What the words of a wait write.
 
 ghost use Rattle.std.specs.Prelude.{◌≡◌, map, IfOk};
-ghost use Rattle.ns_replay.specs.Words.{parts};
-ghost use Rattle.ns_replay.specs.Waits.{bounded_cell_of, at_least_of, condition_of, note_limit_of, limits_of, wait_of, variable_wait_of};
+ghost use Rattle.ns_replay.specs.Prelude.{at_least_of, bounded_cell_of, condition_of, limits_of, note_limit_of, parts, variable_wait_of, wait_of};
 
 use crate::condition::{AtLeast, ScriptCondition};
 use crate::words::{CELLS, NOTES, moment, number, number_below, parts_at};

@@ -1,9 +1,9 @@
 -- The act that a lawful place wants may be made.
-use Rattle.std.proofs.Common.{◌++◌, ◌+◌, ◌<◌, ◌∷◌, ◌≡◌, ◌≤◌}
-use Rattle.ns_word.proofs.Prelude.{AcquireExchange, ActFits, AreApart, Arm, ArmToWait, AwaitWake, AwaitWakeInWait, AwaitWakeToLeave, Bool, CanWait, EachFits, Event, GetLoad, HasList, Held, InAcquire, InCells, InLeaving, InQueuing, InRelease, InShow, InSignal, InTry, InWait, IsForCondition}
-use Rattle.ns_word.proofs.Prelude.{IsInRange, IsLawful, IsSome, IsUnmet, Leave, List, LoadToScan, LockState, None, OnCondition, OnVariables, Option, Owed, OwesOne, Pay, PayInWait, PayTheWoken, PlaceFits, Queue, QueueToWait, QuietCells, QuietLast, ReleaseExchange, ReturnShown, ScanAndRelease}
-use Rattle.ns_word.proofs.Prelude.{ScanCells, SeatView, SetLoad, SetStore, Some, Subject, Take, TakeToLeave, TakeToQueue, TakeToScan, TakeToShow, TakeToWake, TestCells, TestLast, Tests, Truths, TryAcquire, ViewFits, Visit, Wait, WaitFits, WaitPlace, WakeAndReturn, Walk, [], ap, arith, awaits}
-use Rattle.ns_word.proofs.Prelude.{eq-eqb, every_parts, false, has_some, judge_of, part_of, pays, refl, standing_after, subst, times, times_among, true, walk_at, want_of, want_waiting, ℕ, ◌∙◌}
+use Rattle.std.proofs.Common.{Bool, IsSome, List, None, Option, Some, [], ap, arith, eq-eqb, false, refl, subst, true, ℕ, ◌++◌, ◌+◌, ◌<◌, ◌∷◌, ◌≡◌, ◌≤◌}
+use Rattle.ns_word.proofs.Prelude.{AcquireExchange, ActFits, AreApart, Arm, ArmToWait, AwaitWake, AwaitWakeInWait, AwaitWakeToLeave, CanWait, EachFits, Event, GetLoad, HasList, Held, InAcquire, InCells, InLeaving, InQueuing, InRelease, InShow, InSignal, InTry, InWait, IsForCondition, IsInRange}
+use Rattle.ns_word.proofs.Prelude.{IsLawful, IsUnmet, Leave, LoadToScan, LockState, OnCondition, OnVariables, Owed, OwesOne, Pay, PayInWait, PayTheWoken, PlaceFits, Queue, QueueToWait, QuietCells, QuietLast, ReleaseExchange, ReturnShown, ScanAndRelease, ScanCells, SeatView, SetLoad, SetStore}
+use Rattle.ns_word.proofs.Prelude.{Subject, Take, TakeToLeave, TakeToQueue, TakeToScan, TakeToShow, TakeToWake, TestCells, TestLast, Tests, Truths, TryAcquire, ViewFits, Visit, Wait, WaitFits, WaitPlace, WakeAndReturn, Walk, awaits, every_parts, has_some, judge_of, part_of, pays, standing_after}
+use Rattle.ns_word.proofs.Prelude.{times, times_among, walk_at, want_of, want_waiting, ◌∙◌}
 use Rattle.ns_word.proofs.Bases.{apart_parts, none_of, walk_here}
 use Rattle.ns_word.proofs.Ranges.{else_not, owed_below, readers_fewer}
 

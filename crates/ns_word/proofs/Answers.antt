@@ -1,9 +1,9 @@
 -- What a wait answers is what its section is committed with.
-use Rattle.std.proofs.Common.{◌≡◌, ◌≢◌}
-use Rattle.ns_word.proofs.Prelude.{AcquireExchange, AcquirePlace, Answer, Answered, Any, Bool, CameBack, CanWait, Cause, ComesBack, Done, Effect, Ended, Event, Expired, ForWait, Found, Held, InAcquire, InQueuing, InWait, IsForCondition, IsLawful, IsSaidBy, IsUnmet, JudgeMet, List, Load, LockState}
-use Rattle.ns_word.proofs.Prelude.{LookIn, Looked, Made, MayWait, Met, None, Notified, On, OnCondition, OnEntry, OnReturn, OnVariables, Only, Option, Outcome, Part, Reply, SeatView, Some, Step, Subject, TestLast, Tested, Tests, Truths, Variables, Visit, Wait, WaitFits, WaitPlace, Waited, Walk}
-use Rattle.ns_word.proofs.Prelude.{Woken, answer_of, ap, back_with, both_ways, comes_back, cond, entry_for, entry_of, false, got_acquiring, got_of, got_waiting, has_come_back, held_after, is_limited, is_met, judge_of, look_or_queue, newly_held, not, not-false, opening_by, part_of}
-use Rattle.ns_word.proofs.Prelude.{place_has_come_back, refl, reply_for, subst, sym, true, unmet_by, want_acquiring, want_of, want_waiting, ℕ, ◌∙◌}
+use Rattle.std.proofs.Common.{Bool, List, None, Option, Some, ap, cond, false, not, refl, subst, sym, true, ℕ, ◌≡◌, ◌≢◌}
+use Rattle.ns_word.proofs.Prelude.{AcquireExchange, AcquirePlace, Answer, Answered, Any, CameBack, CanWait, Cause, ComesBack, Done, Effect, Ended, Event, Expired, ForWait, Found, Held, InAcquire, InQueuing, InWait, IsForCondition, IsLawful, IsSaidBy, IsUnmet, JudgeMet, Load, LockState, LookIn}
+use Rattle.ns_word.proofs.Prelude.{Looked, Made, MayWait, Met, Notified, On, OnCondition, OnEntry, OnReturn, OnVariables, Only, Outcome, Part, Reply, SeatView, Step, Subject, TestLast, Tested, Tests, Truths, Variables, Visit, Wait, WaitFits, WaitPlace, Waited, Walk, Woken, answer_of, back_with}
+use Rattle.ns_word.proofs.Prelude.{both_ways, comes_back, entry_for, entry_of, got_acquiring, got_of, got_waiting, has_come_back, held_after, is_limited, is_met, judge_of, look_or_queue, newly_held, not-false, opening_by, part_of, place_has_come_back, reply_for, unmet_by, want_acquiring, want_of}
+use Rattle.ns_word.proofs.Prelude.{want_waiting, ◌∙◌}
 use Rattle.ns_word.proofs.Follows.{Follows, follows, may_end}
 use Rattle.ns_word.proofs.Effects.{BeganSo, makes}
 use Rattle.ns_word.proofs.Looks.{looks_by}

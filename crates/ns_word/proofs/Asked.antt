@@ -1,7 +1,6 @@
 -- No step of a call changes what it was asked to do.
-use Rattle.std.proofs.Common.{◌-◌, ◌≡◌}
-use Rattle.ns_word.proofs.Prelude.{Await, Done, Found, Idle, InWait, Judging, Next, On, QuietCells, QuietLast, Request, Some, TestCells, TestLast, Visit, Wait, Walk, ap, asked_in_cells, asked_of, asked_to_judge, cond, false, got_of, ltb, quiet_place, refl, sym, test_place, true, walk_after, ℕ}
-use Rattle.ns_word.proofs.Prelude.{◌∙◌}
+use Rattle.std.proofs.Common.{Some, ap, cond, false, nat_lt as ltb, refl, sym, true, ℕ, ◌-◌, ◌≡◌}
+use Rattle.ns_word.proofs.Prelude.{Await, Done, Found, Idle, InWait, Judging, Next, On, QuietCells, QuietLast, Request, TestCells, TestLast, Visit, Wait, Walk, asked_in_cells, asked_of, asked_to_judge, got_of, quiet_place, test_place, walk_after, ◌∙◌}
 use Rattle.ns_word.proofs.Follows.{follows, next_asked}
 
 module _ (C : Type 0) where

@@ -1,6 +1,6 @@
 -- The wakes of those whom a scan took, made one by one.
-use Rattle.std.proofs.Common.{◌++◌, ◌+◌, ◌<◌, ◌∷◌, ◌≡◌, ◌≤◌}
-use Rattle.ns_word.proofs.Prelude.{List, Option, Owed, [], ap, arith, called_by, get_or, length, length-take-le, refl, sym, take, take_more, value_of, ℕ, ◌∙◌}
+use Rattle.std.proofs.Common.{List, Option, [], ap, arith, length, length-take-le, refl, slice_index_or as get_or, sym, take, ℕ, ◌++◌, ◌+◌, ◌<◌, ◌∷◌, ◌≡◌, ◌≤◌}
+use Rattle.ns_word.proofs.Prelude.{Owed, called_by, take_more, value_of, ◌∙◌}
 
 called_both : (xs ys : List ℕ) (vs us : List (Option ℕ)) → length xs ≡ length vs → called_by (xs ++ ys) (vs ++ us) ≡ called_by xs vs ++ called_by ys us
 called_both [] ys [] us e = refl

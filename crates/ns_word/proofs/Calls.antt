@@ -1,9 +1,8 @@
 -- What a call owes once it is over, whom it wakes, and when it looks and acquires as woken.
-use Rattle.std.proofs.Common.{◌<◌, ◌∷◌, ◌≡◌, ◌≤◌, ◌⊎◌}
-use Rattle.ns_word.proofs.Prelude.{Await, AwaitWakeInWait, Bool, Broadcasting, Cv, EachFits, Effect, Event, Every, Flag, ForLock, Found, Idle, InAcquire, InCells, InQueuing, InSignal, InWait, IsLawful, Left, Limits, List, Lists, LockState, Look, LookIn, LookOut, Made, None, On, Paid, Part}
-use Rattle.ns_word.proofs.Prelude.{PayTheWoken, PlaceFits, QuietCells, QuietLast, Saw, SeatView, SignalLoad, SignalPlace, Signaling, Some, Step, TakeToWake, Tells, ToTell, Truths, ViewFits, Wait, Waiter, Wake, WakeAndReturn, WakeWaiters, Waking, Walk, Woke, Word, [], ap, asked_of, broadcast_outside}
-use Rattle.ns_word.proofs.Prelude.{calls_from_lock, changed, cond, cvs_without, drop, every_parts, false, got_of, has_come_back, inl, inr, is_held, is_limited, kept_by, length, outside, part_of, pays, refl, signal_outside, slice_get, standing_after, subst, suc, sym, take, taken_by, taken_set}
-use Rattle.ns_word.proofs.Prelude.{times_in, true, waiters_of, wake_of, walk_after, want_of, want_signaling, was_woken, ℕ, ◌∙◌}
+use Rattle.std.proofs.Common.{Bool, List, None, Some, [], ap, cond, drop, false, inl, inr, length, refl, slice_get, subst, suc, sym, take, true, ℕ, ◌<◌, ◌∷◌, ◌≡◌, ◌≤◌, ◌⊎◌}
+use Rattle.ns_word.proofs.Prelude.{Await, AwaitWakeInWait, Broadcasting, Cv, EachFits, Effect, Event, Every, Flag, ForLock, Found, Idle, InAcquire, InCells, InQueuing, InSignal, InWait, IsLawful, Left, Limits, Lists, LockState, Look, LookIn, LookOut, Made, On, Paid, Part, PayTheWoken, PlaceFits}
+use Rattle.ns_word.proofs.Prelude.{QuietCells, QuietLast, Saw, SeatView, SignalLoad, SignalPlace, Signaling, Step, TakeToWake, Tells, ToTell, Truths, ViewFits, Wait, Waiter, Wake, WakeAndReturn, WakeWaiters, Waking, Walk, Woke, Word, asked_of, broadcast_outside, calls_from_lock, changed}
+use Rattle.ns_word.proofs.Prelude.{cvs_without, every_parts, got_of, has_come_back, is_held, is_limited, kept_by, outside, part_of, pays, signal_outside, standing_after, taken_by, taken_set, times_in, waiters_of, wake_of, walk_after, want_of, want_signaling, was_woken, ◌∙◌}
 use Rattle.ns_word.proofs.Bases.{OnceInEach, moved_at, none_of, place_at, taken_at}
 use Rattle.ns_word.proofs.Looks.{look_here, look_in}
 use Rattle.ns_word.proofs.Follows.{FoundCalled, follows}

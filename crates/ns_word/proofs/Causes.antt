@@ -1,6 +1,6 @@
 -- What ends a wait for a condition early is kept until the wait is over, and then answered, but where the condition is met.
-use Rattle.std.proofs.Common.{◌≡◌, ◌⊎◌}
-use Rattle.ns_word.proofs.Prelude.{Answer, Answered, Await, Canceled, Cause, Done, Expired, Found, Idle, IsForVariables, Met, Next, None, Notified, On, OnCondition, Reply, Some, TimedOut, Wait, Walk, answer_of, ap, asked_of, cause_kept, got_of, inl, inr, refl, subst, sym, walk_after, ℕ, ◌∙◌}
+use Rattle.std.proofs.Common.{None, Some, ap, inl, inr, refl, subst, sym, ℕ, ◌≡◌, ◌⊎◌}
+use Rattle.ns_word.proofs.Prelude.{Answer, Answered, Await, Canceled, Cause, Done, Expired, Found, Idle, IsForVariables, Met, Next, Notified, On, OnCondition, Reply, TimedOut, Wait, Walk, answer_of, asked_of, cause_kept, got_of, walk_after, ◌∙◌}
 use Rattle.ns_word.proofs.Follows.{CauseFollows, answer_cause, follows, next_cause, reply_cause}
 
 -- over with this or with 'met', or on with this kept

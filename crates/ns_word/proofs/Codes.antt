@@ -1,6 +1,6 @@
 -- A word and its number: each gives the other back.
-use Rattle.std.proofs.Common.{◌%◌, ◌/◌, ◌==◌, ◌≡◌, ◌≤◌, ◌⊎◌}
-use Rattle.ns_word.proofs.Prelude.{Bool, IsPackable, Word, ap, arith, bit, encoded, false, inl, inr, number_of, refl, true, word_of, ℕ}
+use Rattle.std.proofs.Common.{Bool, ap, arith, false, inl, inr, refl, true, ℕ, ◌%◌, ◌/◌, ◌==◌, ◌≡◌, ◌≤◌, ◌⊎◌}
+use Rattle.ns_word.proofs.Prelude.{IsPackable, Word, bit, encoded, number_of, word_of}
 
 pub bit_few : (b : Bool) → bit b ≤ 1
 bit_few true = omega arith

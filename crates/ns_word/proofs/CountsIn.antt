@@ -1,7 +1,7 @@
 -- How often a seat counts in the lists, where these change.
-use Rattle.std.proofs.Common.{◌+◌, ◌<◌, ◌∷◌, ◌≡◌, ◌≢◌, ◌≤◌}
-use Rattle.ns_word.proofs.Prelude.{Bool, Cv, List, Lists, Seats, Waiter, [], ap, arith, cases_eq, counts_in, cvs_without, eqb, false, get_or, get_or-le-sum_by, get_or-map, gone_each, in_list, inl, inr, is_in, length, lists_without, lt-ltb, ltb, map, moved_to, ne_eqb, none_without, not_in_list}
-use Rattle.ns_word.proofs.Prelude.{one_if, outside, refl, suc, sum_by, sum_by-cons, sym, taken_set, times, times_in, times_in-cons, times_outside, true, waiters_of, with_lock, without, without_in, ℕ, ◌∙◌}
+use Rattle.std.proofs.Common.{Bool, List, [], ap, arith, false, inl, inr, length, lt-ltb, map, nat_eq as eqb, nat_lt as ltb, ne_eqb, refl, slice_index_or as get_or, suc, sym, true, ℕ, ◌+◌, ◌<◌, ◌∷◌, ◌≡◌, ◌≢◌, ◌≤◌}
+use Rattle.ns_word.proofs.Prelude.{Cv, Lists, Seats, Waiter, cases_eq, counts_in, cvs_without, get_or-le-sum_by, get_or-map, gone_each, in_list, is_in, lists_without, moved_to, none_without, not_in_list, one_if, outside, sum_by, sum_by-cons, taken_set, times, times_in, times_in-cons, times_outside}
+use Rattle.ns_word.proofs.Prelude.{waiters_of, with_lock, without, without_in, ◌∙◌}
 use Rattle.ns_word.proofs.Scans.{times_others, times_without}
 
 -- ---- whether there is one

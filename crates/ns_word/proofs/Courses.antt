@@ -1,20 +1,19 @@
 -- Each step takes its call on: it goes on as it was asked, or its answer means what it says.
-use Rattle.std.proofs.Common.{◌&&◌, ◌++◌, ◌+◌, ◌-◌, ◌∷◌, ◌≡◌, ◌⊎◌}
-use Rattle.ns_word.proofs.Prelude.{Acquire, AcquireExchange, AcquireLoad, AcquirePlace, AcquireSoFar, Aim, AimFits, Answer, Answered, Any, AnyWait, AnyWaitMeans, Arm, ArmToWait, Arrival, AsFresh, AtVariables, Await, AwaitWake, AwaitWakeInWait, AwaitWakeToLeave, Bool, Busy, CallGoes, CanLeave}
-use Rattle.ns_word.proofs.Prelude.{CanWait, Cause, Cell, CellFits, CellPlace, ConditionWaitMeans, Course, Cv, CvWait, Cvs, Done, Effect, Ended, Event, Expired, Flag, ForLock, ForWait, Found, Get, GetLoad, HasLeft, HasLocked, HasLookedFor, HasReleased, HasWoken, Held, HeldFits, Idle, InAcquire}
-use Rattle.ns_word.proofs.Prelude.{InCells, InHand, InLeaving, InQueuing, InRelease, InShow, InSignal, InTry, InWait, Is, IsComing, IsFirst, IsForCondition, IsForVariables, IsLawful, IsLeft, IsQuiet, IsQuietSection, IsSome, KeptFits, Leave, LeaveLoad, LeavePlace, LeaveSelf, Left, Limits, List, Load}
-use Rattle.ns_word.proofs.Prelude.{LoadToScan, LockState, Look, LookIn, LookOut, Looked, Made, MayAnswer, MayEnd, MayShow, MayWait, Means, Met, Mode, Next, Noisy, None, Notified, Number, On, OnCondition, OnEntry, OnReturn, OnVariables, Only, Option, Outcome, OutcomeFits, Paid, Part, Pay, PayInWait}
-use Rattle.ns_word.proofs.Prelude.{PayTheWoken, PlaceFits, Queue, QueueFits, QueuePlace, QueueToWait, QueuesAfter, QueuesSoFar, Quiet, QuietCells, QuietLast, QuietWriter, Release, ReleaseExchange, ReleaseFits, ReleaseLoad, ReleasePlace, ReleaseSoFar, Releasing, Request, ReturnQueues, ReturnShown}
-use Rattle.ns_word.proofs.Prelude.{Saw, ScanAndRelease, ScanCells, Scanned, SeatView, SectionFits, Set, SetLoad, SetStore, Show, ShowLoad, ShowPlace, SignalLoad, SignalPlace, SignalSoFar, SoFar, Some, Step, Subject, Succeeded, Take, TakeToLeave, TakeToQueue, TakeToScan, TakeToShow, TakeToWake}
-use Rattle.ns_word.proofs.Prelude.{TestCells, TestLast, Tested, Tests, TestsSoFar, ToChange, ToQueue, ToRelease, ToTell, Truths, TryAcquire, TryLoad, TryLock, TryPlace, Unchanged, VariableWaitMeans, Variables, ViewFits, Visit, Wait, WaitFits, WaitPlace, WaitReturning, WaitSoFar, Waited, Wake}
-use Rattle.ns_word.proofs.Prelude.{WakeAndReturn, Waking, Walk, Woke, Woken, WokenBy, Word, [], acquire_by, acquired_for, answer_of, answer_of_wait, ap, append-nil, armed_place, arrival_of, asked_in_cells, asked_of, asked_to_judge, back_with, cause_by, cause_in, comes_back, cond, course_after}
-use Rattle.ns_word.proofs.Prelude.{course_from, entry_of, eqb, exit_for, false, got_acquiring, got_in_cells, got_leaving, got_of, got_queuing, got_releasing, got_showing, got_signaling, got_trying, got_waiting, has_some, held_after, home_of, inl, inr, is_held, is_limited, is_met, judge_of}
-use Rattle.ns_word.proofs.Prelude.{leave_any_told, leave_by, leave_of, leave_told, left_by, load_place, look_or_queue, looked_after, ltb, may_acquire, mode_for, mode_released, needs_scan, new_section, newly_held, not, outcome_taken, part_of, pay_releasing, pay_waiting, pay_woken, place_cause_kept}
-use Rattle.ns_word.proofs.Prelude.{queue_by, quiet_place, refl, release_by, request_for, rest_or_look, row_after, scan_place, section_of, show_by, signal_by, slice_index, standing_after, stands_at, subst, sym, taken_by, test_place, tries_of, true, unmet_by, variable_in, waiters_of, wake_of}
-use Rattle.ns_word.proofs.Prelude.{want_acquiring, want_in_cells, want_leaving, want_of, want_queuing, want_releasing, want_showing, want_signaling, want_trying, want_waiting, woken_by, word_taken, ℕ, ◌∙◌}
+use Rattle.std.proofs.Common.{Bool, IsSome, List, None, Option, Some, [], ap, append-nil, cond, false, inl, inr, nat_eq as eqb, nat_lt as ltb, not, refl, slice_index, subst, sym, true, ℕ, ◌&&◌, ◌++◌, ◌+◌, ◌-◌, ◌∷◌, ◌≡◌, ◌⊎◌}
+use Rattle.ns_word.proofs.Prelude.{Acquire, AcquireExchange, AcquireLoad, AcquirePlace, AcquireSoFar, Aim, AimFits, Answer, Answered, Any, AnyWait, AnyWaitMeans, Arm, ArmToWait, Arrival, AsFresh, AtVariables, Await, AwaitWake, AwaitWakeInWait, AwaitWakeToLeave, Busy, CallGoes, CanLeave, CanWait}
+use Rattle.ns_word.proofs.Prelude.{Cause, Cell, CellFits, CellPlace, ConditionWaitMeans, Course, Cv, CvWait, Cvs, Done, Effect, Ended, Event, Expired, Flag, ForLock, ForWait, Found, Get, GetLoad, HasLeft, HasLocked, HasLookedFor, HasReleased, HasWaited, HasWoken, Held, HeldFits, Idle, InAcquire}
+use Rattle.ns_word.proofs.Prelude.{InCells, InHand, InLeaving, InQueuing, InRelease, InShow, InSignal, InTry, InWait, Is, IsBack, IsComing, IsFirst, IsForCondition, IsForVariables, IsLawful, IsLeft, IsQuiet, IsQuietSection, KeptFits, Leave, LeaveLoad, LeavePlace, LeaveSelf, Left, Limits, Load}
+use Rattle.ns_word.proofs.Prelude.{LoadToScan, LockState, Look, LookIn, LookOut, Looked, Made, MayAnswer, MayEnd, MayShow, MayWait, Means, Met, Mode, Next, Noisy, Notified, Number, On, OnCondition, OnEntry, OnReturn, OnVariables, Only, Outcome, OutcomeFits, Paid, Part, Pay, PayInWait, PayTheWoken}
+use Rattle.ns_word.proofs.Prelude.{PlaceFits, Queue, QueueFits, QueuePlace, QueueToWait, QueuesAfter, QueuesSoFar, Quiet, QuietCells, QuietLast, QuietWriter, Release, ReleaseExchange, ReleaseFits, ReleaseLoad, ReleasePlace, ReleaseSoFar, Releasing, Request, ReturnQueues, ReturnShown, Saw}
+use Rattle.ns_word.proofs.Prelude.{ScanAndRelease, ScanCells, Scanned, SeatView, SectionFits, Set, SetLoad, SetStore, Show, ShowLoad, ShowPlace, SignalLoad, SignalPlace, SignalSoFar, SoFar, Step, Subject, Succeeded, Take, TakeToLeave, TakeToQueue, TakeToScan, TakeToShow, TakeToWake, TestCells}
+use Rattle.ns_word.proofs.Prelude.{TestLast, Tested, Tests, TestsSoFar, ToChange, ToQueue, ToRelease, ToTell, Truths, TryAcquire, TryLoad, TryLock, TryPlace, Unchanged, VariableWaitMeans, Variables, ViewFits, Visit, Wait, WaitFits, WaitPlace, WaitReturning, WaitSoFar, Waited, Wake, WakeAndReturn}
+use Rattle.ns_word.proofs.Prelude.{Waking, Walk, Woke, Woken, WokenBy, Word, acquire_by, acquired_for, answer_of, answer_of_wait, armed_place, arrival_of, asked_in_cells, asked_of, asked_to_judge, back_with, cause_by, cause_in, comes_back, course_after, course_from, entry_of, exit_for}
+use Rattle.ns_word.proofs.Prelude.{got_acquiring, got_in_cells, got_leaving, got_of, got_queuing, got_releasing, got_showing, got_signaling, got_trying, got_waiting, has_some, held_after, home_of, is_held, is_limited, is_met, judge_of, leave_any_told, leave_by, leave_of, leave_told, left_by}
+use Rattle.ns_word.proofs.Prelude.{load_place, look_or_queue, looked_after, may_acquire, mode_for, mode_released, needs_scan, new_section, newly_held, outcome_taken, part_of, pay_releasing, pay_waiting, pay_woken, place_cause_kept, queue_by, quiet_place, release_by, request_for, rest_or_look}
+use Rattle.ns_word.proofs.Prelude.{row_after, scan_place, section_of, show_by, signal_by, standing_after, stands_at, taken_by, test_place, tries_of, unmet_by, variable_in, waiters_of, wake_of, want_acquiring, want_in_cells, want_leaving, want_of, want_queuing, want_releasing, want_showing}
+use Rattle.ns_word.proofs.Prelude.{want_signaling, want_trying, want_waiting, woken_by, word_taken, ◌∙◌}
 use Rattle.ns_word.proofs.Keeps.{acquired_holders}
 use Rattle.ns_word.proofs.Answers.{AnswersOf, look_answers, met_answers, unmet_answers}
-use Rattle.ns_word.specs.Meanings.{HasWaited, IsBack}
 use Rattle.ns_word.proofs.Bases.{not_left, place_at, step_fits}
 use Rattle.ns_word.proofs.Follows.{follows, next_asked}
 use Rattle.ns_word.specs.declared.request.Request.TheVariants.{Release}

@@ -1,16 +1,15 @@
 -- A step keeps the law: which kind of step it is, by the place in the walk and what was found.
-use Rattle.std.proofs.Common.{◌&&◌, ◌++◌, ◌+◌, ◌<◌, ◌||◌, ◌∷◌, ◌≡◌, ◌≢◌, ◌≤◌, ◌⊎◌}
-use Rattle.ns_word.proofs.Prelude.{Acquire, AcquireExchange, AcquireLoad, Aim, AimFits, AreWaiting, Arm, ArmToWait, Arrival, AsFresh, AsWoken, AtVariables, AwaitWake, AwaitWakeInWait, AwaitWakeToLeave, Bool, Broadcasting, CanLeave, CanWait, Cause, Cell, Cond, Cv, Effect, Ended, Event, Every, Flag}
-use Rattle.ns_word.proofs.Prelude.{ForLock, ForWait, Found, GetLoad, HasMode, HasNumber, Held, Idle, InAcquire, InCells, InLeaving, InQueuing, InRelease, InShow, InSignal, InTry, InWait, IsExpected, IsInRange, IsLawful, IsLegalEvent, IsSettled, IsToldSo, Leave, LeaveLoad, Left, Limits, List, Load}
-use Rattle.ns_word.proofs.Prelude.{LoadFlag, LoadToScan, LockState, LookIn, LookOut, Looked, Made, MayShow, MayWait, Mode, Next, None, On, OnCondition, OnVariables, Option, Outcome, OutcomeFits, Owed, Paid, Part, Pay, PayInWait, PayTheWoken, PayWake, Phase, PlaceFits, Queue, QueueToWait, Quiet}
-use Rattle.ns_word.proofs.Prelude.{QuietCells, QuietKeeps, QuietLast, QuietWriter, Read, ReleaseExchange, ReleaseLoad, Releasing, ReturnQueues, ReturnShown, Saw, ScanAndRelease, ScanCells, Scanned, SeatView, SetLoad, SetStore, ShowLoad, ShowPlace, SignalLoad, SignalPlace, Signaling, Some, Step}
-use Rattle.ns_word.proofs.Prelude.{Subject, Take, TakeQueues, TakeToLeave, TakeToQueue, TakeToScan, TakeToShow, TakeToWake, TestCells, TestLast, Tested, ToChange, ToQueue, ToldOn, Truths, TryAcquire, TryLoad, VariableWaiterFits, ViewFits, Visit, Wait, WaitPlace, WaitReturning, Waiter, Waiting}
-use Rattle.ns_word.proofs.Prelude.{WakeAndReturn, WakeWaiters, Waking, Walk, Woke, Word, Write, [], acquired_for, and_parts, ap, append-nil, arith, armed_place, arrival_of, awaits, bits_of, both_ways, broadcast_legal, called_of, calls_from_lock, cause_in, change_found, changed, cond, counts_in}
-use Rattle.ns_word.proofs.Prelude.{cvs_without, eq-eqb, eqb, every_join, every_parts, every_signaled, expected_for, false, got_leaving, got_of, got_showing, got_signaling, got_waiting, has, has_armed, has_queues, has_some, held_after, home_of, inl, inr, is_from_lock, is_held, is_met, is_on_way}
-use Rattle.ns_word.proofs.Prelude.{is_queuing, is_some, is_woken, judge_of, kept_by, le-ltb, leave_of, left_of, lt-ltb, ltb, ltb-true, may_acquire, meets_at, mode_for, mode_released, moved_to, moves, needs_scan, newly_held, not, opening_for, outcome_taken, owed_after, part_of, pay_releasing}
-use Rattle.ns_word.proofs.Prelude.{pay_waiting, pay_woken, pays, phase_before, phase_by, phase_for, phase_kept, queued, refl, releasing_of, rest_or_look, row_in, signal_legal, standing_after, standing_next, stands_at, subst, sum_by, sym, taken_by, taken_set, times_in, times_signaled, tries_of, true}
-use Rattle.ns_word.proofs.Prelude.{variable_told, waited_in, waiters_of, waits_in, wake_of, wakes_of, walk_after, want_of, want_showing, want_signaling, want_waiting, was_woken, who_of, with_lock, without, without_in, woken_by, woken_of, woken_phases, word_acquired, word_released}
-use Rattle.ns_word.proofs.Prelude.{word_released_returning, word_returned, word_seen, word_taken, ℕ, ◌∙◌}
+use Rattle.std.proofs.Common.{Bool, List, None, Option, Some, [], ap, append-nil, arith, cond, eq-eqb, false, inl, inr, is_some, le-ltb, lt-ltb, ltb-true, nat_eq as eqb, nat_lt as ltb, not, refl, subst, sym, true, ℕ, ◌&&◌, ◌++◌, ◌+◌, ◌<◌, ◌||◌, ◌∷◌, ◌≡◌, ◌≢◌, ◌≤◌, ◌⊎◌}
+use Rattle.ns_word.proofs.Prelude.{Acquire, AcquireExchange, AcquireLoad, Aim, AimFits, AreWaiting, Arm, ArmToWait, Arrival, AsFresh, AsWoken, AtVariables, AwaitWake, AwaitWakeInWait, AwaitWakeToLeave, Broadcasting, CanLeave, CanWait, Cause, Cell, Cond, Cv, Effect, Ended, Event, Every, Flag}
+use Rattle.ns_word.proofs.Prelude.{ForLock, ForWait, Found, GetLoad, HasMode, HasNumber, Held, Idle, InAcquire, InCells, InLeaving, InQueuing, InRelease, InShow, InSignal, InTry, InWait, IsExpected, IsInRange, IsLawful, IsLegalEvent, IsSettled, IsToldSo, Leave, LeaveLoad, Left, Limits, Load}
+use Rattle.ns_word.proofs.Prelude.{LoadFlag, LoadToScan, LockState, LookIn, LookOut, Looked, Made, MayShow, MayWait, Mode, Next, On, OnCondition, OnVariables, Outcome, OutcomeFits, Owed, Paid, Part, Pay, PayInWait, PayTheWoken, PayWake, Phase, PlaceFits, Queue, QueueToWait, Quiet, QuietCells}
+use Rattle.ns_word.proofs.Prelude.{QuietKeeps, QuietLast, QuietWriter, Read, ReleaseExchange, ReleaseLoad, Releasing, ReturnQueues, ReturnShown, Saw, ScanAndRelease, ScanCells, Scanned, SeatView, SetLoad, SetStore, ShowLoad, ShowPlace, SignalLoad, SignalPlace, Signaling, Step, Subject, Take}
+use Rattle.ns_word.proofs.Prelude.{TakeQueues, TakeToLeave, TakeToQueue, TakeToScan, TakeToShow, TakeToWake, TestCells, TestLast, Tested, ToChange, ToQueue, ToldOn, Truths, TryAcquire, TryLoad, VariableWaiterFits, ViewFits, Visit, Wait, WaitPlace, WaitReturning, Waiter, Waiting, WakeAndReturn}
+use Rattle.ns_word.proofs.Prelude.{WakeWaiters, Waking, Walk, Woke, Word, Write, acquired_for, and_parts, armed_place, arrival_of, awaits, bits_of, both_ways, broadcast_legal, called_of, calls_from_lock, cause_in, change_found, changed, counts_in, cvs_without, every_join, every_parts}
+use Rattle.ns_word.proofs.Prelude.{every_signaled, expected_for, got_leaving, got_of, got_showing, got_signaling, got_waiting, has, has_armed, has_queues, has_some, held_after, home_of, is_from_lock, is_held, is_met, is_on_way, is_queuing, is_woken, judge_of, kept_by, leave_of, left_of, may_acquire}
+use Rattle.ns_word.proofs.Prelude.{meets_at, mode_for, mode_released, moved_to, moves, needs_scan, newly_held, opening_for, outcome_taken, owed_after, part_of, pay_releasing, pay_waiting, pay_woken, pays, phase_before, phase_by, phase_for, phase_kept, queued, releasing_of, rest_or_look, row_in}
+use Rattle.ns_word.proofs.Prelude.{signal_legal, standing_after, standing_next, stands_at, sum_by, taken_by, taken_set, times_in, times_signaled, tries_of, variable_told, waited_in, waiters_of, waits_in, wake_of, wakes_of, walk_after, want_of, want_showing, want_signaling, want_waiting, was_woken}
+use Rattle.ns_word.proofs.Prelude.{who_of, with_lock, without, without_in, woken_by, woken_of, woken_phases, word_acquired, word_released, word_released_returning, word_returned, word_seen, word_taken, ◌∙◌}
 use Rattle.ns_model.specs.declared.phase.Phase.TheVariants.{Woken}
 use Rattle.ns_word.proofs.Bases.{Groups, apart_parts, counts_somewhere, cvs_left, groups_of, lawful_by, left_told, none_of, not_left, out_of_cvs, out_of_lock, some_wakes, view_of, walk_here}
 use Rattle.ns_word.proofs.Variables.{are_waiting}

@@ -1,8 +1,7 @@
 -- What each act commits, and what it leaves of its seat's section.
-use Rattle.std.proofs.Common.{◌∷◌, ◌≡◌}
-use Rattle.ns_word.proofs.Prelude.{Acquire, Act, Any, AreBy, ArmFlag, Arrival, AtVariables, Bool, Broadcasting, Cell, Change, Effect, Event, Flag, Found, Held, Home, JudgeMet, JudgeQuiet, LeaveSelf, Left, List, Lists, LoadCell, LoadFlag, LoadWord, Look, Looked, Made, Mode, None, Only, Option, Paid}
-use Rattle.ns_word.proofs.Prelude.{Part, PayWake, Quiet, Release, ReleaseReturning, ReturnQueues, Saw, Scanned, Signaling, Some, StoreCell, TakeQueues, Tested, Truths, WaitReturning, Waiter, WakeWaiters, Waking, Woke, Word, [], ap, change_commits, false, held_after, leave_of, may_acquire}
-use Rattle.ns_word.proofs.Prelude.{newly_held, refl, slice_set, subst, sym, true, wake_of, who_of, ℕ, ◌∙◌}
+use Rattle.std.proofs.Common.{Bool, List, None, Option, Some, [], ap, false, refl, slice_set, subst, sym, true, ℕ, ◌∷◌, ◌≡◌}
+use Rattle.ns_word.proofs.Prelude.{Acquire, Act, Any, AreBy, ArmFlag, Arrival, AtVariables, Broadcasting, Cell, Change, Effect, Event, Flag, Found, Held, Home, JudgeMet, JudgeQuiet, LeaveSelf, Left, Lists, LoadCell, LoadFlag, LoadWord, Look, Looked, Made, Mode, Only, Paid, Part, PayWake, Quiet}
+use Rattle.ns_word.proofs.Prelude.{Release, ReleaseReturning, ReturnQueues, Saw, Scanned, Signaling, StoreCell, TakeQueues, Tested, Truths, WaitReturning, Waiter, WakeWaiters, Waking, Woke, Word, change_commits, held_after, leave_of, may_acquire, newly_held, wake_of, who_of, ◌∙◌}
 use Rattle.ns_word.proofs.Looks.{looks_again, marks_of}
 
 -- what is committed as the queues are put back is the seat's

@@ -1,6 +1,6 @@
 -- The first place of a call: nothing has been seen, kept or come back yet.
-use Rattle.std.proofs.Common.{◌≡◌}
-use Rattle.ns_word.proofs.Prelude.{AcquireLoad, ForLock, InAcquire, InCells, InQueuing, InRelease, InShow, InSignal, InTry, InWait, IsFirst, Load, None, OnEntry, ReleaseLoad, ShowLoad, SignalLoad, Some, TestCells, TestLast, TryLoad, Walk, cause_kept, false, has_come_back, refl, word_seen, ℕ}
+use Rattle.std.proofs.Common.{None, Some, false, refl, ℕ, ◌≡◌}
+use Rattle.ns_word.proofs.Prelude.{AcquireLoad, ForLock, InAcquire, InCells, InQueuing, InRelease, InShow, InSignal, InTry, InWait, IsFirst, Load, OnEntry, ReleaseLoad, ShowLoad, SignalLoad, TestCells, TestLast, TryLoad, Walk, cause_kept, has_come_back, word_seen}
 
 -- no word was seen, no cause of a wait's end is kept, and no wait has come back
 pub record IsBare {C : Type 0} (walk : Walk C) : Type 0 where

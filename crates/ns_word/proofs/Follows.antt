@@ -1,12 +1,12 @@
 -- What a step keeps of its call: what was asked, the word last seen, what ends a wait early, that a wait has come back, and that a seat was woken. It is said once of each way that a place may go.
-use Rattle.std.proofs.Common.{◌&&◌, ◌+◌, ◌-◌, ◌<◌, ◌||◌, ◌≡◌, ◌⊎◌}
-use Rattle.ns_word.proofs.Prelude.{AcquireExchange, AcquireLoad, AcquirePlace, Aim, Answer, Answered, Any, Arm, ArmToWait, Arrival, AsFresh, AsWoken, Await, AwaitWake, AwaitWakeInWait, AwaitWakeToLeave, Bool, Busy, Canceled, Cause, Cell, CellPlace, Done, Ended, Expired, Flag, ForLock, ForWait}
-use Rattle.ns_word.proofs.Prelude.{Found, GetLoad, HasNumber, Idle, InAcquire, InCells, InLeaving, InQueuing, InRelease, InShow, InSignal, InTry, InWait, IsForVariables, Leave, LeaveLoad, LeavePlace, Left, Load, LoadFlag, LoadToScan, LookIn, LookOut, Looked, Made, Met, Mode, Next, None, Notified}
-use Rattle.ns_word.proofs.Prelude.{On, OnCondition, OnEntry, OnReturn, OnVariables, Only, Option, Outcome, Paid, Pay, PayInWait, PayTheWoken, Queue, QueuePlace, QueueToWait, Quiet, QuietCells, QuietLast, ReleaseExchange, ReleaseLoad, ReleasePlace, Releasing, Reply, Request, ReturnShown, Saw}
-use Rattle.ns_word.proofs.Prelude.{ScanAndRelease, ScanCells, Scanned, SetLoad, SetStore, ShowLoad, ShowPlace, SignalLoad, SignalPlace, Some, Subject, Take, TakeToLeave, TakeToQueue, TakeToScan, TakeToShow, TakeToWake, TestCells, TestLast, Tested, TimedOut, ToChange, ToQueue, ToRelease, ToTell}
-use Rattle.ns_word.proofs.Prelude.{TryAcquire, TryLoad, TryPlace, Visit, Wait, WaitPlace, WakeAndReturn, Waking, Walk, Woke, Woken, Word, acquire_by, acquired_for, answer_of, ap, armed_place, arrival_of, asked_of, back_with, cases_eq, cause_by, cause_kept, comes_back, cond, eqb, false}
-use Rattle.ns_word.proofs.Prelude.{got_acquiring, got_in_cells, got_leaving, got_of, got_queuing, got_releasing, got_showing, got_signaling, got_trying, got_waiting, has_come_back, inl, inr, is_arrival_woken, is_back, is_from_lock, is_limited, is_woken, ltb, ltb-true, may_acquire, mode_for, ne_eqb}
-use Rattle.ns_word.proofs.Prelude.{needs_scan, not, outcome_taken, refl, release_by, subst, sym, test_place, true, unmet_by, walk_after, want_of, was_woken, word_seen, ℕ, ◌∙◌}
+use Rattle.std.proofs.Common.{Bool, None, Option, Some, ap, cond, false, inl, inr, ltb-true, nat_eq as eqb, nat_lt as ltb, ne_eqb, not, refl, subst, sym, true, ℕ, ◌&&◌, ◌+◌, ◌-◌, ◌<◌, ◌||◌, ◌≡◌, ◌⊎◌}
+use Rattle.ns_word.proofs.Prelude.{AcquireExchange, AcquireLoad, AcquirePlace, Aim, Answer, Answered, Any, Arm, ArmToWait, Arrival, AsFresh, AsWoken, Await, AwaitWake, AwaitWakeInWait, AwaitWakeToLeave, Busy, Canceled, Cause, Cell, CellPlace, Done, Ended, Expired, Flag, ForLock, ForWait, Found}
+use Rattle.ns_word.proofs.Prelude.{GetLoad, HasNumber, Idle, InAcquire, InCells, InLeaving, InQueuing, InRelease, InShow, InSignal, InTry, InWait, IsForVariables, Leave, LeaveLoad, LeavePlace, Left, Load, LoadFlag, LoadToScan, LookIn, LookOut, Looked, Made, Met, Mode, Next, Notified, On}
+use Rattle.ns_word.proofs.Prelude.{OnCondition, OnEntry, OnReturn, OnVariables, Only, Outcome, Paid, Pay, PayInWait, PayTheWoken, Queue, QueuePlace, QueueToWait, Quiet, QuietCells, QuietLast, ReleaseExchange, ReleaseLoad, ReleasePlace, Releasing, Reply, Request, ReturnShown, Saw, ScanAndRelease}
+use Rattle.ns_word.proofs.Prelude.{ScanCells, Scanned, SetLoad, SetStore, ShowLoad, ShowPlace, SignalLoad, SignalPlace, Subject, Take, TakeToLeave, TakeToQueue, TakeToScan, TakeToShow, TakeToWake, TestCells, TestLast, Tested, TimedOut, ToChange, ToQueue, ToRelease, ToTell, TryAcquire, TryLoad}
+use Rattle.ns_word.proofs.Prelude.{TryPlace, Visit, Wait, WaitPlace, WakeAndReturn, Waking, Walk, Woke, Woken, Word, acquire_by, acquired_for, answer_of, armed_place, arrival_of, asked_of, back_with, cases_eq, cause_by, cause_kept, comes_back, got_acquiring, got_in_cells, got_leaving, got_of}
+use Rattle.ns_word.proofs.Prelude.{got_queuing, got_releasing, got_showing, got_signaling, got_trying, got_waiting, has_come_back, is_arrival_woken, is_back, is_from_lock, is_limited, is_woken, may_acquire, mode_for, needs_scan, outcome_taken, release_by, test_place, unmet_by, walk_after, want_of}
+use Rattle.ns_word.proofs.Prelude.{was_woken, word_seen, ◌∙◌}
 use Rattle.ns_word.proofs.Seen.{FoundFits, taken_packable}
 
 -- what the place after was asked; a call that is over was asked what it was

@@ -1,7 +1,7 @@
 -- The law in groups, as its proof goes by them.
-use Rattle.std.proofs.Common.{◌≡◌}
-use Rattle.ns_word.proofs.Prelude.{AllFalseTrue, AreApart, Bool, DesigOnItsWay, Event, IdleWaitersFalse, IsLawful, List, LockState, OneHistory, OneWriter, ReadersCounted, SeatView, SpinHeldOnce, TakenTold, Truths, VariablesTell, Waiter, WaitersOwn, WaitersPlaced, Word, WordsSeen, bits_in, bits_of}
-use Rattle.ns_word.proofs.Prelude.{false, has_some, queuers, standing_after, ℕ}
+use Rattle.std.proofs.Common.{Bool, List, false, ℕ, ◌≡◌}
+use Rattle.ns_word.proofs.Prelude.{AllFalseTrue, AreApart, DesigOnItsWay, Event, IdleWaitersFalse, IsLawful, LockState, OneHistory, OneWriter, ReadersCounted, SeatView, SpinHeldOnce, TakenTold, Truths, VariablesTell, Waiter, WaitersOwn, WaitersPlaced, Word, WordsSeen, bits_in, bits_of, has_some}
+use Rattle.ns_word.proofs.Prelude.{queuers, standing_after}
 
 -- the sections
 pub record Safe {C : Type 0} {N : ℕ} (truths : Truths C) (seats : ℕ) (history : List (Event C N)) (word : Word) (row : List ℕ) (views : List (SeatView C N)) : Type 0 where

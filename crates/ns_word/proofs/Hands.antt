@@ -1,6 +1,6 @@
 -- What is done to the queues in a hand, over plain data.
-use Rattle.std.proofs.Common.{◌+◌, ◌≡◌}
-use Rattle.ns_word.proofs.Prelude.{Bool, Lists, Lock, arith, left_of, sum_by, times, times_in, with_waiters, ℕ}
+use Rattle.std.proofs.Common.{Bool, arith, ℕ, ◌+◌, ◌≡◌}
+use Rattle.ns_word.proofs.Prelude.{Lists, Lock, left_of, sum_by, times, times_in, with_waiters}
 use Rattle.ns_word.proofs.Scans.{times_scan}
 
 module _ {C : Type 0} (seat : ℕ) where

@@ -1,6 +1,6 @@
 -- What the steps leave of the queues' place and of the bits that tell of them.
-use Rattle.std.proofs.Common.{◌+◌, ◌≡◌, ◌≤◌}
-use Rattle.ns_word.proofs.Prelude.{List, Waiter, Word, ap, arith, bits_in, bits_of, false, has_queues, one_if, one_most, sym, takers, total_amid, true, ℕ, ◌∙◌}
+use Rattle.std.proofs.Common.{List, ap, arith, false, sym, true, ℕ, ◌+◌, ◌≡◌, ◌≤◌}
+use Rattle.ns_word.proofs.Prelude.{Waiter, Word, bits_in, bits_of, has_queues, one_if, one_most, takers, total_amid, ◌∙◌}
 use Rattle.ns_word.proofs.Bases.{Homed, Move, news, olds, view_of}
 
 module _ {C : Type 0} {N : ℕ} (m : Move C N) where

@@ -1,11 +1,11 @@
 -- Each kind of step keeps what holds of a lock and its seats.
-use Rattle.std.proofs.Common.{◌&&◌, ◌++◌, ◌+◌, ◌<◌, ◌∷◌, ◌≡◌, ◌≢◌, ◌≤◌, ◌⊎◌}
-use Rattle.ns_word.proofs.Prelude.{Any, AreVariables, Arrival, Bool, Cond, CondWait, Cv, Event, Every, Exit, ExitFits, Held, IsExpected, IsLegalEvent, IsNamed, IsSettledBy, List, Lists, LockState, Mode, None, OnCondition, OnVariables, Only, Opening, Option, Owed, OwesAs, Part, Phase, PlaceFits}
-use Rattle.ns_word.proofs.Prelude.{Plain, QuietWriter, Read, Reader, Releasing, SeatView, Some, Stance, Standing, TakenTold, Taking, Tells, ToChange, ToQueue, Truths, VariableWaiterFits, Variables, VariablesTell, ViewFits, Waiter, WaiterFits, WaiterNames, WaitersOwn, Waiting, Walk, Word, Write}
-use Rattle.ns_word.proofs.Prelude.{Writer, [], and_parts, ap, arith, awaits, bits_in, bits_of, both_ways, called_of, called_to, calls_from_lock, cases_Bool, cond, counts_in, cvs_without, eqb, eqb-true, every_parts, exit_for, false, first_standing, flags_with, has_armed, has_eligible, has_queues}
-use Rattle.ns_word.proofs.Prelude.{has_some, in_stands, inl, inr, is_armed, is_held, is_in, is_of, is_on_way, is_queuing, is_some, is_unwoken, is_woken, left_of, length, length-map, lock_stance, may_acquire, meets_at, mode_released, needs_scan, not, not-true, one_if, one_most, outside, owed_to}
-use Rattle.ns_word.proofs.Prelude.{pays, phase_after, phase_before, phase_by, queued, refl, section_of, slice_set, standing_after, standing_from-append, standing_next, stands_waits, subst, sum_by, sym, taken_set, times, times_among, times_at_most, times_in, times_in-append, tries_of, true}
-use Rattle.ns_word.proofs.Prelude.{waiters_of, waits_at, waits_in, wakes_of, was_woken, who_of, with_lock, without_in, woken_of, woken_phase, woken_phases, word_acquired, word_released, word_released_returning, word_returned, word_taken, ℕ, ◌∙◌}
+use Rattle.std.proofs.Common.{Bool, List, None, Option, Some, [], ap, arith, cond, eqb-true, false, inl, inr, is_some, length, nat_eq as eqb, not, refl, slice_set, subst, sym, true, ℕ, ◌&&◌, ◌++◌, ◌+◌, ◌<◌, ◌∷◌, ◌≡◌, ◌≢◌, ◌≤◌, ◌⊎◌}
+use Rattle.ns_word.proofs.Prelude.{Any, AreVariables, Arrival, Cond, CondWait, Cv, Event, Every, Exit, ExitFits, Held, IsExpected, IsLegalEvent, IsNamed, IsSettledBy, Lists, LockState, Mode, OnCondition, OnVariables, Only, Opening, Owed, OwesAs, Part, Phase, PlaceFits, Plain, QuietWriter, Read}
+use Rattle.ns_word.proofs.Prelude.{Reader, Releasing, SeatView, Stance, Standing, TakenTold, Taking, Tells, ToChange, ToQueue, Truths, VariableWaiterFits, Variables, VariablesTell, ViewFits, Waiter, WaiterFits, WaiterNames, WaitersOwn, Waiting, Walk, Word, Write, Writer, and_parts, awaits, bits_in}
+use Rattle.ns_word.proofs.Prelude.{bits_of, both_ways, called_of, called_to, calls_from_lock, cases_Bool, counts_in, cvs_without, every_parts, exit_for, first_standing, flags_with, has_armed, has_eligible, has_queues, has_some, in_stands, is_armed, is_held, is_in, is_of, is_on_way, is_queuing}
+use Rattle.ns_word.proofs.Prelude.{is_unwoken, is_woken, left_of, length-map, lock_stance, may_acquire, meets_at, mode_released, needs_scan, not-true, one_if, one_most, outside, owed_to, pays, phase_after, phase_before, phase_by, queued, section_of, standing_after, standing_from-append}
+use Rattle.ns_word.proofs.Prelude.{standing_next, stands_waits, sum_by, taken_set, times, times_among, times_at_most, times_in, times_in-append, tries_of, waiters_of, waits_at, waits_in, wakes_of, was_woken, who_of, with_lock, without_in, woken_of, woken_phase, woken_phases, word_acquired}
+use Rattle.ns_word.proofs.Prelude.{word_released, word_released_returning, word_returned, word_taken, ◌∙◌}
 use Rattle.ns_model.specs.declared.phase.Phase.TheVariants.{Idle, Left}
 use Rattle.ns_word.proofs.Bases.{Groups, Homed, Known, Move, Safe, apart_parts, called_most, calls_tell, counts_entered, counts_gone, counts_lock, counts_none, counts_others, counts_somewhere, counts_taken, cvs_left, entered_at, filter_eligible, left_event, listed_left, listed_queued}
 use Rattle.ns_word.proofs.Bases.{listed_without, news, none_of, olds, once_entered, once_left, once_taken, queued_eligible, tells_clear, tells_few, tells_from, times_others, times_queued, times_scan, times_seats, times_wakes, times_without, view_of, wakes_tell, walk_is, walk_was}

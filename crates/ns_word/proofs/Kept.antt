@@ -1,7 +1,6 @@
 -- What ends a wait early, from the look that shows it to the answer; and that a section in hand whose wait was answered meets no wait that comes back.
-use Rattle.std.proofs.Common.{◌≡◌, ◌⊎◌}
-use Rattle.ns_word.proofs.Prelude.{AcquireExchange, Answered, Cause, Done, Effect, Event, Found, Held, Idle, InAcquire, List, LockState, Looked, Made, Next, None, On, Part, SeatView, Some, Step, Truths, Walk, answer_of, ap, cause_kept, false, got_of, has_come_back, inl, inr, is_back, part_of, refl}
-use Rattle.ns_word.proofs.Prelude.{sym, walk_after, want_of, ℕ, ◌∙◌}
+use Rattle.std.proofs.Common.{List, None, Some, ap, false, inl, inr, refl, sym, ℕ, ◌≡◌, ◌⊎◌}
+use Rattle.ns_word.proofs.Prelude.{AcquireExchange, Answered, Cause, Done, Effect, Event, Found, Held, Idle, InAcquire, LockState, Looked, Made, Next, On, Part, SeatView, Step, Truths, Walk, answer_of, cause_kept, got_of, has_come_back, is_back, part_of, walk_after, want_of, ◌∙◌}
 use Rattle.ns_word.proofs.Follows.{CauseFollows, acquires, answer_back, follows, next_cause}
 
 module _ {C : Type 0} (N : ℕ) where

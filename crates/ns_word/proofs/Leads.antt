@@ -1,12 +1,11 @@
 -- Where a decision leads: the place goes with the section in hand, and tells the same as the place before.
-use Rattle.std.proofs.Common.{◌&&◌, ◌-◌, ◌<◌, ◌||◌, ◌≡◌}
-use Rattle.ns_word.proofs.Prelude.{AcquireExchange, AcquireLoad, Aim, AimFits, Answered, Arrival, AsFresh, AwaitWakeInWait, Bool, Busy, CameBack, CanLeave, CanWait, Cause, ComesBack, Done, Ended, Expected, ForLock, ForWait, HasMode, Held, Idle, InAcquire, InCells, InLeaving, InQueuing, InRelease}
-use Rattle.ns_word.proofs.Prelude.{InShow, InSignal, InTry, InWait, IsExpected, IsForCondition, IsInRange, IsLeft, IsSettled, IsSettledBy, IsUnmet, IsWokenBy, Judging, LeaveLoad, List, Load, LoadToScan, LookIn, LookOut, MayShow, MayWait, Met, Mode, None, On, OnCondition, OnEntry, OnReturn}
-use Rattle.ns_word.proofs.Prelude.{OnVariables, Option, Outcome, OutcomeFits, PlaceFits, QueueToWait, QuietCells, QuietKeeps, QuietLast, QuietWriter, Read, Reader, ReleaseExchange, ReleaseLoad, Releasing, Saw, ScanAndRelease, ScanCells, ShowLoad, SignalLoad, Some, Stance, Subject, Take, TakeToLeave}
-use Rattle.ns_word.proofs.Prelude.{TakeToQueue, TakeToScan, TakeToShow, TakeToWake, TestCells, TestLast, Tests, ToRelease, ToTell, Truths, TryAcquire, TryLoad, Visit, Wait, Waiter, Waking, Walk, Woken, Word, Write, Writer, acquire_by, acquired_for, after_judging, ap, arith, armed_place, back_with}
-use Rattle.ns_word.proofs.Prelude.{calls_from_lock, cause_by, cond, expected_for, false, got_trying, has_armed, has_eligible, has_queues, held_after, is_from_lock, is_limited, is_on_way, is_queuing, is_some, leave_by, length, load_place, look_or_queue, ltb, ltb-true, may_acquire, meets_at, mode_for}
-use Rattle.ns_word.proofs.Prelude.{mode_released, needs_scan, newly_held, not, not-false, not-true, opening_by, pay_releasing, pay_waiting, pay_woken, pays, phase_before, phase_by, phase_kept, queue_by, quiet_place, refl, release_by, rest_or_look, row_in, scan_place, show_by, signal_by, subst, sym}
-use Rattle.ns_word.proofs.Prelude.{test_place, true, unmet_by, waits_in, walk_after, was_woken, ℕ, ◌∙◌}
+use Rattle.std.proofs.Common.{Bool, List, None, Option, Some, ap, arith, cond, false, is_some, length, ltb-true, nat_lt as ltb, not, refl, subst, sym, true, ℕ, ◌&&◌, ◌-◌, ◌<◌, ◌||◌, ◌≡◌}
+use Rattle.ns_word.proofs.Prelude.{AcquireExchange, AcquireLoad, Aim, AimFits, Answered, Arrival, AsFresh, AwaitWakeInWait, Busy, CameBack, CanLeave, CanWait, Cause, ComesBack, Done, Ended, Expected, ForLock, ForWait, HasMode, Held, Idle, InAcquire, InCells, InLeaving, InQueuing, InRelease, InShow}
+use Rattle.ns_word.proofs.Prelude.{InSignal, InTry, InWait, IsExpected, IsForCondition, IsInRange, IsLeft, IsSettled, IsSettledBy, IsUnmet, IsWokenBy, Judging, LeaveLoad, Load, LoadToScan, LookIn, LookOut, MayShow, MayWait, Met, Mode, On, OnCondition, OnEntry, OnReturn, OnVariables, Outcome}
+use Rattle.ns_word.proofs.Prelude.{OutcomeFits, PlaceFits, QueueToWait, QuietCells, QuietKeeps, QuietLast, QuietWriter, Read, Reader, ReleaseExchange, ReleaseLoad, Releasing, Saw, ScanAndRelease, ScanCells, ShowLoad, SignalLoad, Stance, Subject, Take, TakeToLeave, TakeToQueue, TakeToScan}
+use Rattle.ns_word.proofs.Prelude.{TakeToShow, TakeToWake, TestCells, TestLast, Tests, ToRelease, ToTell, Truths, TryAcquire, TryLoad, Visit, Wait, Waiter, Waking, Walk, Woken, Word, Write, Writer, acquire_by, acquired_for, after_judging, armed_place, back_with, calls_from_lock, cause_by}
+use Rattle.ns_word.proofs.Prelude.{expected_for, got_trying, has_armed, has_eligible, has_queues, held_after, is_from_lock, is_limited, is_on_way, is_queuing, leave_by, load_place, look_or_queue, may_acquire, meets_at, mode_for, mode_released, needs_scan, newly_held, not-false, not-true, opening_by}
+use Rattle.ns_word.proofs.Prelude.{pay_releasing, pay_waiting, pay_woken, pays, phase_before, phase_by, phase_kept, queue_by, quiet_place, release_by, rest_or_look, row_in, scan_place, show_by, signal_by, test_place, unmet_by, waits_in, walk_after, was_woken, ◌∙◌}
 use Rattle.ns_word.proofs.Scans.{quiet_eligible}
 use Rattle.ns_word.proofs.Knows.{is_loud}
 use Rattle.ns_word.proofs.Keeps.{Same, Way}

@@ -1,6 +1,6 @@
 -- The event by which a wait for variables is left.
-use Rattle.std.proofs.Common.{◌<◌, ◌∷◌, ◌≡◌, ◌≢◌}
-use Rattle.ns_word.proofs.Prelude.{Any, AtLock, AtVariables, Bool, Event, Home, IsLegalEvent, IsLegalLeave, IsLegalLeaveAny, LeaveAny, List, Mode, Only, Phase, Standing, Variables, Waiting, [], eq-eqb, false, leave_of, left_phase, ne_eqb, refl, standing_next, subst, sym, true, who_of, ℕ}
+use Rattle.std.proofs.Common.{Bool, List, [], eq-eqb, false, ne_eqb, refl, subst, sym, true, ℕ, ◌<◌, ◌∷◌, ◌≡◌, ◌≢◌}
+use Rattle.ns_word.proofs.Prelude.{Any, AtLock, AtVariables, Event, Home, IsLegalEvent, IsLegalLeave, IsLegalLeaveAny, LeaveAny, Mode, Only, Phase, Standing, Variables, Waiting, leave_of, left_phase, standing_next, who_of}
 use Rattle.ns_model.specs.declared.event.Event.TheVariants.{Leave}
 
 -- the event

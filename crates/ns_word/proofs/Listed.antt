@@ -1,7 +1,6 @@
 -- What holds of each of a list, where some leave it or one more comes.
-use Rattle.std.proofs.Common.{◌++◌, ◌∷◌, ◌≡◌, ◌≢◌}
-use Rattle.ns_word.proofs.Prelude.{Bool, Every, List, Mode, None, Option, Waiter, [], ap, arith, cases_Bool, cases_eq, eq-eqb, eqb, every_filter, every_join, false, goes_along, has_some, inl, inr, is_eligible, is_of, left_of, not, one_if, queued, refl, sym, times_in, times_in-cons, true, without_in}
-use Rattle.ns_word.proofs.Prelude.{writes, ℕ}
+use Rattle.std.proofs.Common.{Bool, List, None, Option, [], ap, arith, eq-eqb, false, inl, inr, nat_eq as eqb, not, refl, sym, true, ℕ, ◌++◌, ◌∷◌, ◌≡◌, ◌≢◌}
+use Rattle.ns_word.proofs.Prelude.{Every, Mode, Waiter, cases_Bool, cases_eq, every_filter, every_join, goes_along, has_some, is_eligible, is_of, left_of, one_if, queued, times_in, times_in-cons, without_in, writes}
 
 pub none_of : {A : Type 0} (xs : List A) → has_some xs ≡ false → xs ≡ []
 none_of [] e = refl

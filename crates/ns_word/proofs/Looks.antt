@@ -1,7 +1,7 @@
 -- Which places look, which load their seat's flag, and which acquire.
-use Rattle.std.proofs.Common.{◌≡◌}
-use Rattle.ns_word.proofs.Prelude.{Acquire, AcquireExchange, AcquireLoad, Act, Arrival, AsFresh, AwaitWake, AwaitWakeInWait, AwaitWakeToLeave, Bool, GetLoad, InAcquire, InCells, InLeaving, InQueuing, InRelease, InShow, InSignal, InTry, InWait, LeaveLoad, Limits, Load, LoadFlag, Look, LookIn}
-use Rattle.ns_word.proofs.Prelude.{LookOut, Mode, None, OnCondition, OnVariables, Option, ReleaseLoad, ShowLoad, SignalLoad, Some, Subject, TestLast, TryAcquire, TryLoad, Walk, Word, ap, false, has_come_back, judge_of, mode_for, refl, sym, true, want_of, ℕ, ◌∙◌}
+use Rattle.std.proofs.Common.{Bool, None, Option, Some, ap, false, refl, sym, true, ℕ, ◌≡◌}
+use Rattle.ns_word.proofs.Prelude.{Acquire, AcquireExchange, AcquireLoad, Act, Arrival, AsFresh, AwaitWake, AwaitWakeInWait, AwaitWakeToLeave, GetLoad, InAcquire, InCells, InLeaving, InQueuing, InRelease, InShow, InSignal, InTry, InWait, LeaveLoad, Limits, Load, LoadFlag, Look, LookIn, LookOut}
+use Rattle.ns_word.proofs.Prelude.{Mode, OnCondition, OnVariables, ReleaseLoad, ShowLoad, SignalLoad, Subject, TestLast, TryAcquire, TryLoad, Walk, Word, has_come_back, judge_of, mode_for, want_of, ◌∙◌}
 
 -- what a look goes by, where the act is one, and whether its wait has come back; whether the act loads the flag; and how it acquires, and by which word, if it does
 abbrev pub marks_of : {C : Type 0} → Act C → Option (Limits × Bool) × Bool × Option (Mode × Arrival × Word)

@@ -1,6 +1,6 @@
 -- A list made by a loop that takes each item of another to one.
-use Rattle.std.proofs.Common.{◌++◌, ◌+◌, ◌<◌, ◌∷◌, ◌≡◌, ◌≤◌}
-use Rattle.ns_word.proofs.Prelude.{List, [], ap, arith, get_or, length, length-map, length-take-le, map, map_more, sym, take, take_all, ℕ, ◌∙◌}
+use Rattle.std.proofs.Common.{List, [], ap, arith, length, length-take-le, map, slice_index_or as get_or, sym, take, take_all, ℕ, ◌++◌, ◌+◌, ◌<◌, ◌∷◌, ◌≡◌, ◌≤◌}
+use Rattle.ns_word.proofs.Prelude.{length-map, map_more, ◌∙◌}
 
 module _ {A B : Type 0} (to : A → B) where
   -- so far, it has room for one more

@@ -1,6 +1,6 @@
 -- Views that stand at their seats' numbers, and a step or a beginning by the number of its seat.
-use Rattle.std.proofs.Common.{◌++◌, ◌+◌, ◌∷◌, ◌≡◌}
-use Rattle.ns_word.proofs.Prelude.{AreNumbered, Begins, Effect, Event, Found, IsFirst, List, LockState, None, Owed, PlaceFits, SeatView, Some, Step, Truths, Walk, [], ap, arith, drop, got_of, part_of, refl, slice_get, slice_set, suc, sym, take, walk_after, want_of, zero, zero-add, ℕ, ◌∙◌}
+use Rattle.std.proofs.Common.{List, None, Some, [], ap, arith, drop, refl, slice_get, slice_set, suc, sym, take, zero, zero-add, ℕ, ◌++◌, ◌+◌, ◌∷◌, ◌≡◌}
+use Rattle.ns_word.proofs.Prelude.{AreNumbered, Begins, Effect, Event, Found, IsFirst, LockState, Owed, PlaceFits, SeatView, Step, Truths, Walk, got_of, part_of, walk_after, want_of, ◌∙◌}
 
 module _ {C : Type 0} {N : ℕ} where
   pub number_from : (first : ℕ) (views : List (SeatView C N)) (i : ℕ) (view : SeatView C N) → slice_get views i ≡ Some view → AreNumbered first views → view.seat ≡ first + i

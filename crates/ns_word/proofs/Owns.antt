@@ -1,7 +1,7 @@
 -- What the steps leave of the waiters: each is its seat's own.
-use Rattle.std.proofs.Common.{◌++◌, ◌+◌, ◌||◌, ◌∷◌, ◌≡◌}
-use Rattle.ns_word.proofs.Prelude.{AwaitWake, Bool, Every, InAcquire, InWait, List, Lists, Mode, None, Option, Phase, SeatView, Some, VariableWaiterFits, Waiter, WaiterFits, WaitersOwn, WaitersPlaced, Walk, [], ap, arith, cond, cond_on, counts_in, eqb-true, every-append, every_map, false}
-use Rattle.ns_word.proofs.Prelude.{has_eligible, is_eligible, is_long, is_unwoken, left_of, list_any, lock_stance, mode_for, one_if, or_right, owed_to, place_awaits, queued, refl, subst, suc, sym, times, times_in, true, waits_in, walk_at, ℕ, ◌∙◌}
+use Rattle.std.proofs.Common.{Bool, List, None, Option, Some, [], ap, arith, cond, eqb-true, false, refl, subst, suc, sym, true, ℕ, ◌++◌, ◌+◌, ◌||◌, ◌∷◌, ◌≡◌}
+use Rattle.ns_word.proofs.Prelude.{AwaitWake, Every, InAcquire, InWait, Lists, Mode, Phase, SeatView, VariableWaiterFits, Waiter, WaiterFits, WaitersOwn, WaitersPlaced, Walk, cond_on, counts_in, every-append, every_map, has_eligible, is_eligible, is_long, is_unwoken, left_of, list_any, lock_stance}
+use Rattle.ns_word.proofs.Prelude.{mode_for, one_if, or_right, owed_to, place_awaits, queued, times, times_in, waits_in, walk_at, ◌∙◌}
 use Rattle.ns_word.proofs.Bases.{Move, counts_none, every_apart, listed_left, listed_queued, news, olds, stance_same, stance_stays, times_scan, walk_is, walk_was}
 
 module _ {C : Type 0} {N : ℕ} (m : Move C N) where

@@ -1,6 +1,6 @@
 -- What a paid wake stores.
-use Rattle.std.proofs.Common.{◌∷◌, ◌≡◌}
-use Rattle.ns_word.proofs.Prelude.{Effect, Event, Found, List, Owed, Paid, Part, PayWake, Truths, ap, cond, eq-eqb, refl, sym, ℕ, ◌∙◌}
+use Rattle.std.proofs.Common.{List, ap, cond, eq-eqb, refl, sym, ℕ, ◌∷◌, ◌≡◌}
+use Rattle.ns_word.proofs.Prelude.{Effect, Event, Found, Owed, Paid, Part, PayWake, Truths, ◌∙◌}
 
 module _ {C : Type 0} {N : ℕ} (truths : Truths C) where
   -- the first wake that was owed is paid, and those behind it are owed still

@@ -1,7 +1,7 @@
 -- A waiter that has a condition is in the wait for it, by the history.
-use Rattle.std.proofs.Common.{◌≡◌, ◌≤◌}
-use Rattle.ns_word.proofs.Prelude.{AwaitWake, AwaitWakeInWait, Bool, Cond, Event, Held, InAcquire, InLeaving, InWait, IsExpected, IsLawful, List, LockState, LookOut, Mode, None, OnCondition, OnVariables, Option, PayInWait, PlaceFits, SeatView, SectionFits, Some, Stance, Standing, Subject, Truths}
-use Rattle.ns_word.proofs.Prelude.{Wait, WaitFits, WaitPlace, Waiter, WaiterFits, WaitersOwn, Walk, ap, arith, cond, cond_on, drop, every_parts, expected_for, false, lock_stance, mode_for, phase_of, place_awaits, refl, slice_get, standing_after, subst, suc, take, true, waits_in, walk_at, ℕ, ◌∙◌}
+use Rattle.std.proofs.Common.{Bool, List, None, Option, Some, ap, arith, cond, drop, false, refl, slice_get, subst, suc, take, true, ℕ, ◌≡◌, ◌≤◌}
+use Rattle.ns_word.proofs.Prelude.{AwaitWake, AwaitWakeInWait, Cond, Event, Held, InAcquire, InLeaving, InWait, IsExpected, IsLawful, LockState, LookOut, Mode, OnCondition, OnVariables, PayInWait, PlaceFits, SeatView, SectionFits, Stance, Standing, Subject, Truths, Wait, WaitFits, WaitPlace, Waiter}
+use Rattle.ns_word.proofs.Prelude.{WaiterFits, WaitersOwn, Walk, cond_on, every_parts, expected_for, lock_stance, mode_for, phase_of, place_awaits, standing_after, waits_in, walk_at, ◌∙◌}
 use Rattle.ns_word.proofs.Views.{view_with}
 use Rattle.ns_word.proofs.Numbers.{split_at}
 

@@ -1,6 +1,6 @@
 -- One bit of a word's number, or the count of readers, in place of another.
-use Rattle.std.proofs.Common.{◌*◌, ◌+◌, ◌-◌, ◌<◌, ◌^◌, ◌≡◌, ◌≤◌}
-use Rattle.ns_word.proofs.Prelude.{Bit, Bool, Word, ap, arith, bit, encoded, is_set, number_of, refl, sym, value_of_bit, word_of, word_with, ℕ, ◌∙◌}
+use Rattle.std.proofs.Common.{Bool, ap, arith, refl, sym, ℕ, ◌*◌, ◌+◌, ◌-◌, ◌<◌, ◌^◌, ◌≡◌, ◌≤◌}
+use Rattle.ns_word.proofs.Prelude.{Bit, Word, bit, encoded, is_set, number_of, value_of_bit, word_of, word_with, ◌∙◌}
 use Rattle.ns_word.specs.declared.number.Bit.TheVariants as TheBit
 use Rattle.ns_word.proofs.Codes.{bit_few, decoded}
 

@@ -1,7 +1,7 @@
 -- Which seats the law speaks of, and how many: those that wait or are owed a wake are seats, each stands once, and not all of 64 read while one asks to.
-use Rattle.std.proofs.Common.{◌++◌, ◌+◌, ◌<◌, ◌∷◌, ◌≡◌, ◌≤◌}
-use Rattle.ns_word.proofs.Prelude.{AreApart, Cv, EachFits, Event, IsLawful, IsOrderly, List, Lists, LockState, None, NoneIs, Read, SeatView, Standing, Truths, ViewFits, Waiter, WaitersPlaced, [], ap, arith, awaits, beside, cases_eq, cond, counts_in, eqb, every_parts, false, few, inl, inr}
-use Rattle.ns_word.proofs.Prelude.{is_reading, is_unwoken, length, ne_eqb, one_if, one_most, owed_to, readers, refl, room_for, standing_after, subst, sym, times, times_among, times_in, times_in-cons, true, waiters_of, walk_at, ℕ, ◌∙◌}
+use Rattle.std.proofs.Common.{List, None, [], ap, arith, cond, false, inl, inr, length, nat_eq as eqb, ne_eqb, refl, subst, sym, true, ℕ, ◌++◌, ◌+◌, ◌<◌, ◌∷◌, ◌≡◌, ◌≤◌}
+use Rattle.ns_word.proofs.Prelude.{AreApart, Cv, EachFits, Event, IsLawful, IsOrderly, Lists, LockState, NoneIs, Read, SeatView, Standing, Truths, ViewFits, Waiter, WaitersPlaced, awaits, beside, cases_eq, counts_in, every_parts, few, is_reading, is_unwoken, one_if, one_most, owed_to, readers}
+use Rattle.ns_word.proofs.Prelude.{room_for, standing_after, times, times_among, times_in, times_in-cons, waiters_of, walk_at, ◌∙◌}
 use Rattle.ns_word.proofs.Bases.{counts_none, counts_there, none_parts, owed_at, view_with}
 use Rattle.ns_word.proofs.Knows.{due_awaits}
 

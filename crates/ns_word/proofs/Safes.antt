@@ -1,9 +1,8 @@
 -- What the steps leave of the sections.
-use Rattle.std.proofs.Common.{◌++◌, ◌+◌, ◌-◌, ◌<◌, ◌∷◌, ◌≡◌, ◌≢◌, ◌≤◌, ◌⊎◌}
-use Rattle.ns_word.proofs.Prelude.{Any, Bool, CameBack, Cause, Ended, EntryFits, Event, Exit, ExitFits, Expired, Held, HeldFits, IsBySeats, IsExpected, IsLegal, IsLegalEvent, IsSettledBy, List, Locked, Met, Mode, ModeFits, None, Notified, OnCondition, OnVariables, OneWriter, Only, Opening, Option}
-use Rattle.ns_word.proofs.Prelude.{OwesAs, Phase, PlaceFits, Read, ReadersCounted, SeatView, SectionFits, Some, Standing, Truths, Variables, ViewFits, Waiting, Walk, Woken, Word, Write, [], answer_of, ap, arith, both_ways, cond, entry_of, eq-eqb, eqb-true, every_join, every_parts, false}
-use Rattle.ns_word.proofs.Prelude.{first_standing, inl, inr, is_met, is_reading, is_write, is_writing, left_phase, legal_append, length, length-set, ne_eqb, not, one_if, phase_after, phase_before, phase_by, readers, refl, section_of, slice_set, standing_after, standing_from-append, standing_next}
-use Rattle.ns_word.proofs.Prelude.{subst, sym, total_amid, true, who_of, writers, ℕ, ◌∙◌}
+use Rattle.std.proofs.Common.{Bool, List, None, Option, Some, [], ap, arith, cond, eq-eqb, eqb-true, false, inl, inr, length, length-set, ne_eqb, not, refl, slice_set, subst, sym, true, ℕ, ◌++◌, ◌+◌, ◌-◌, ◌<◌, ◌∷◌, ◌≡◌, ◌≢◌, ◌≤◌, ◌⊎◌}
+use Rattle.ns_word.proofs.Prelude.{Any, CameBack, Cause, Ended, EntryFits, Event, Exit, ExitFits, Expired, Held, HeldFits, IsBySeats, IsExpected, IsLegal, IsLegalEvent, IsSettledBy, Locked, Met, Mode, ModeFits, Notified, OnCondition, OnVariables, OneWriter, Only, Opening, OwesAs, Phase, PlaceFits}
+use Rattle.ns_word.proofs.Prelude.{Read, ReadersCounted, SeatView, SectionFits, Standing, Truths, Variables, ViewFits, Waiting, Walk, Woken, Word, Write, answer_of, both_ways, entry_of, every_join, every_parts, first_standing, is_met, is_reading, is_write, is_writing, left_phase, legal_append}
+use Rattle.ns_word.proofs.Prelude.{one_if, phase_after, phase_before, phase_by, readers, section_of, standing_after, standing_from-append, standing_next, total_amid, who_of, writers, ◌∙◌}
 use Rattle.ns_model.specs.declared.phase.Phase.TheVariants.{Left}
 use Rattle.ns_word.proofs.Bases.{IsWokenBy, Move, Safe, apart_moves, apart_parts, each_moves, each_woken, left_event, left_is_legal, left_next, news, olds, one_set, view_of}
 

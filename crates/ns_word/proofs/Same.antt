@@ -1,6 +1,6 @@
 -- Words that are the same part by part.
-use Rattle.std.proofs.Common.{◌&&◌, ◌≡◌}
-use Rattle.ns_word.proofs.Prelude.{Bool, Word, and_parts, beq, eqb, eqb-true, false, refl, true}
+use Rattle.std.proofs.Common.{Bool, eqb-true, false, nat_eq as eqb, refl, true, ◌&&◌, ◌≡◌}
+use Rattle.ns_word.proofs.Prelude.{Word, and_parts, beq}
 
 same_bit : (a b : Bool) → beq a b ≡ true → a ≡ b
 same_bit true true e = refl

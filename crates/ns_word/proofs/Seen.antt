@@ -1,6 +1,6 @@
 -- The lock word has a number, and so has the word that a seat has last seen.
-use Rattle.std.proofs.Common.{◌≡◌, ◌≤◌}
-use Rattle.ns_word.proofs.Prelude.{Acquire, Act, Effect, Event, Found, IsLawful, IsPackable, List, LoadWord, LockState, Part, Release, ReleaseReturning, ReturnQueues, Saw, TakeQueues, Taking, ToChange, ToQueue, Truths, WaitReturning, Word, arith, readers, subst, sym, word_taken, ℕ}
+use Rattle.std.proofs.Common.{List, arith, subst, sym, ℕ, ◌≡◌, ◌≤◌}
+use Rattle.ns_word.proofs.Prelude.{Acquire, Act, Effect, Event, Found, IsLawful, IsPackable, LoadWord, LockState, Part, Release, ReleaseReturning, ReturnQueues, Saw, TakeQueues, Taking, ToChange, ToQueue, Truths, WaitReturning, Word, readers, word_taken}
 use Rattle.ns_word.proofs.Ranges.{readers_most}
 
 pub packable : {C : Type 0} {N : ℕ} (truths : Truths C) (seats : ℕ) (h : List (Event C N)) (s : LockState C N) → seats ≤ 64 → IsLawful truths seats h s → IsPackable s.word

@@ -1,8 +1,8 @@
 -- Where a seat stands that queues, and where those go that a call wakes.
-use Rattle.std.proofs.Common.{◌++◌, ◌+◌, ◌<◌, ◌∷◌, ◌≡◌}
-use Rattle.ns_word.proofs.Prelude.{Aim, AreCalled, Arrival, AsFresh, AsWoken, Bool, Cv, Event, InAcquire, InQueuing, InSignal, InWait, IsInRange, IsLawful, List, Lists, LockState, Made, Mode, None, OnCondition, OnVariables, Queue, QueueSelf, QueueToWait, QueuesFor, Scanned, SeatView, Some, Step}
-use Rattle.ns_word.proofs.Prelude.{Subject, Truths, Wait, Waiter, WaitsFor, WakeAndReturn, WakeWaiters, Waking, Woke, Word, [], ap, arith, cases_Bool, changed, cond, cvs_without, false, has, inl, inr, is_held, is_woken, left_of, length, ltb, ltb-false, ltb-true, meets_at, min, mode_for, moved_to}
-use Rattle.ns_word.proofs.Prelude.{outside, queued, refl, subst, sym, taken_by, taken_set, tries_of, true, waiter, waiters_of, waits_at, wakes_of, with_lock, ℕ, ◌∙◌}
+use Rattle.std.proofs.Common.{Bool, List, None, Some, [], ap, arith, cond, false, inl, inr, length, ltb-false, ltb-true, min, nat_lt as ltb, refl, subst, sym, true, ℕ, ◌++◌, ◌+◌, ◌<◌, ◌∷◌, ◌≡◌}
+use Rattle.ns_word.proofs.Prelude.{Aim, AreCalled, Arrival, AsFresh, AsWoken, Cv, Event, InAcquire, InQueuing, InSignal, InWait, IsInRange, IsLawful, Lists, LockState, Made, Mode, OnCondition, OnVariables, Queue, QueueSelf, QueueToWait, QueuesFor, Scanned, SeatView, Step, Subject, Truths, Wait}
+use Rattle.ns_word.proofs.Prelude.{Waiter, WaitsFor, WakeAndReturn, WakeWaiters, Waking, Woke, Word, cases_Bool, changed, cvs_without, has, is_held, is_woken, left_of, meets_at, mode_for, moved_to, outside, queued, taken_by, taken_set, tries_of, waiter, waiters_of, waits_at, wakes_of, with_lock}
+use Rattle.ns_word.proofs.Prelude.{◌∙◌}
 use Rattle.ns_word.proofs.Acts.{can_in_range}
 use Rattle.ns_word.proofs.Bases.{effect_at, entered_at, moved_at, place_at, taken_at}
 

@@ -1,6 +1,6 @@
 -- What the law says of the seat that makes a step, and what the step does, where its place is known.
-use Rattle.std.proofs.Common.{◌≡◌}
-use Rattle.ns_word.proofs.Prelude.{EachFits, Effect, Event, Found, IsLawful, List, LockState, PlaceFits, SeatView, Some, Step, Truths, ViewFits, Walk, ap, every_parts, part_of, standing_after, subst, want_of, ℕ, ◌∙◌}
+use Rattle.std.proofs.Common.{List, Some, ap, subst, ℕ, ◌≡◌}
+use Rattle.ns_word.proofs.Prelude.{EachFits, Effect, Event, Found, IsLawful, LockState, PlaceFits, SeatView, Step, Truths, ViewFits, Walk, every_parts, part_of, standing_after, want_of, ◌∙◌}
 
 module _ {C : Type 0} {N : ℕ} {truths : Truths C} {old new : LockState C N} {view : SeatView C N} {found : Found} {commits : List (Event C N)} (step : Step truths old view found new commits) where
   pub step_fits : (seats : ℕ) (h : List (Event C N)) → IsLawful truths seats h old → ViewFits truths seats (standing_after h) old.row view

@@ -1,7 +1,7 @@
 -- What a step leaves of what the seats were told.
-use Rattle.std.proofs.Common.{◌++◌, ◌<◌, ◌∷◌, ◌≡◌, ◌≢◌, ◌≤◌}
-use Rattle.ns_word.proofs.Prelude.{All, All-append, All-nil, All-push, AreBy, BeginsIf, BeginsWith, Bool, Event, Found, IsBySeats, IsFirst, IsLawful, IsLed, IsLegal, IsTold, LedBy, List, LockState, None, Option, QuietKeeps, SeatStep, SeatView, Some, Step, Told, Truths, Walk, [], ap, append-nil}
-use Rattle.ns_word.proofs.Prelude.{append_assoc, calls_of, eq-eqb, eqb, filter-append, got_of, ne_eqb, nothing_told, own, refl, subst, sym, told_after, view_in, walk_after, walk_over, want_of, who_of, ℕ, ◌∙◌}
+use Rattle.std.proofs.Common.{All, Bool, List, None, Option, Some, [], ap, append-nil, append_assoc, eq-eqb, nat_eq as eqb, ne_eqb, refl, subst, sym, ℕ, ◌++◌, ◌<◌, ◌∷◌, ◌≡◌, ◌≢◌, ◌≤◌}
+use Rattle.ns_word.proofs.Prelude.{All-append, All-nil, All-push, AreBy, BeginsIf, BeginsWith, Event, Found, IsBySeats, IsFirst, IsLawful, IsLed, IsLegal, IsTold, LedBy, LockState, QuietKeeps, SeatStep, SeatView, Step, Told, Truths, Walk, calls_of, filter-append, got_of, nothing_told, own}
+use Rattle.ns_word.proofs.Prelude.{told_after, view_in, walk_after, walk_over, want_of, who_of, ◌∙◌}
 use Rattle.ns_word.proofs.Starts.{begins}
 use Rattle.ns_word.proofs.Dispatch.{keeps}
 use Rattle.ns_word.proofs.Effects.{makes}

@@ -1,8 +1,7 @@
 -- What the steps leave of the lists of the variables.
-use Rattle.std.proofs.Common.{◌<◌, ◌∷◌, ◌≡◌, ◌≢◌, ◌≤◌}
-use Rattle.ns_word.proofs.Prelude.{AreVariables, AreWaiting, Bool, Cv, Every, IsOrderly, List, Lists, Mode, OnVariables, Option, Phase, SeatView, Seats, Some, Stance, Subject, VariableWaiterFits, Variables, VariablesTell, WaitFor, Waiter, Waiting, [], ap, arith, below_in, cases_Bool, cases_eq, cond}
-use Rattle.ns_word.proofs.Prelude.{cvs_without, eq-eqb, eqb, every_filter, every_join, false, gone_outside, has, inl, inr, is_in, is_waiting, length, ne_eqb, not, once_in, one_if, outside, refl, subst, sum_by, sym, taken_set, times, times_at_most, times_in, times_in-append, times_in-cons}
-use Rattle.ns_word.proofs.Prelude.{times_outside, true, waiters_of, waits_in, walk_at, with_lock, without_in, woken_phase, woken_phases, ℕ, ◌∙◌}
+use Rattle.std.proofs.Common.{Bool, List, Option, Some, [], ap, arith, cond, eq-eqb, false, inl, inr, length, nat_eq as eqb, ne_eqb, not, refl, subst, sym, true, ℕ, ◌<◌, ◌∷◌, ◌≡◌, ◌≢◌, ◌≤◌}
+use Rattle.ns_word.proofs.Prelude.{AreVariables, AreWaiting, Cv, Every, IsOrderly, Lists, Mode, OnVariables, Phase, SeatView, Seats, Stance, Subject, VariableWaiterFits, Variables, VariablesTell, WaitFor, Waiter, Waiting, below_in, cases_Bool, cases_eq, cvs_without, every_filter, every_join}
+use Rattle.ns_word.proofs.Prelude.{gone_outside, has, is_in, is_waiting, once_in, one_if, outside, sum_by, taken_set, times, times_at_most, times_in, times_in-append, times_in-cons, times_outside, waiters_of, waits_in, walk_at, with_lock, without_in, woken_phase, woken_phases, ◌∙◌}
 use Rattle.ns_model.specs.declared.phase.Phase.TheVariants.{Idle}
 use Rattle.ns_word.proofs.Bases.{HasEntered, Move, cvs_left, left_at, listed_without, news, olds, one_has, outside_same, some_list, stance_same, stance_stays, stander, taken_at, times_other, times_others, times_without, variable_low, walk_is}
 

@@ -1,8 +1,8 @@
 -- A view among the views: what holds of all of them, by the views before it, itself, and those behind it.
-use Rattle.std.proofs.Common.{◌++◌, ◌+◌, ◌∷◌, ◌≡◌, ◌≢◌, ◌≤◌, ◌⊎◌}
-use Rattle.ns_word.proofs.Prelude.{Aim, AreApart, Bool, CameBack, Cond, EachFits, ForLock, ForWait, Held, InAcquire, InWait, IsEither, IsExpected, List, Locked, Mode, None, NoneIs, OnCondition, OnVariables, Opening, Option, Outcome, Owed, Phase, SeatView, SectionFits, Some, Standing, Subject}
-use Rattle.ns_word.proofs.Prelude.{Truths, Variables, ViewFits, Waiting, Walk, [], ap, arith, called_to, calls_from_lock, cases_eq, cond, eq-eqb, eqb, expected_for, false, inl, inr, is_reading, is_waiting, is_write, is_writing, ne_eqb, not, owed_to, phase_before, phase_by, phase_by_wake, phase_for}
-use Rattle.ns_word.proofs.Prelude.{phase_kept, readers, refl, subst, sym, times_among, total_amid, true, variable_in, waits_in, walk_at, woken_phase, writers, ℕ, ◌∙◌}
+use Rattle.std.proofs.Common.{Bool, List, None, Option, Some, [], ap, arith, cond, eq-eqb, false, inl, inr, nat_eq as eqb, ne_eqb, not, refl, subst, sym, true, ℕ, ◌++◌, ◌+◌, ◌∷◌, ◌≡◌, ◌≢◌, ◌≤◌, ◌⊎◌}
+use Rattle.ns_word.proofs.Prelude.{Aim, AreApart, CameBack, Cond, EachFits, ForLock, ForWait, Held, InAcquire, InWait, IsEither, IsExpected, Locked, Mode, NoneIs, OnCondition, OnVariables, Opening, Outcome, Owed, Phase, SeatView, SectionFits, Standing, Subject, Truths, Variables, ViewFits, Waiting}
+use Rattle.ns_word.proofs.Prelude.{Walk, called_to, calls_from_lock, cases_eq, expected_for, is_reading, is_waiting, is_write, is_writing, owed_to, phase_before, phase_by, phase_by_wake, phase_for, phase_kept, readers, times_among, total_amid, variable_in, waits_in, walk_at, woken_phase, writers}
+use Rattle.ns_word.proofs.Prelude.{◌∙◌}
 use Rattle.ns_model.specs.declared.phase.Phase.TheVariants.{Idle}
 
 -- a seat with this place, this section and these wakes to pay

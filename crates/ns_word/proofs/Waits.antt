@@ -1,7 +1,6 @@
 -- What the steps leave of the waiters: each stands where it did, or where it ought to.
-use Rattle.std.proofs.Common.{◌&&◌, ◌+◌, ◌<◌, ◌∷◌, ◌≡◌, ◌≢◌, ◌≤◌}
-use Rattle.ns_word.proofs.Prelude.{Bool, InAcquire, InQueuing, InWait, Lists, LoadToScan, Option, Owed, Queue, QueueToWait, Some, WaitersPlaced, Walk, [], ap, arith, awaits, cases_eq, cond, counts_in, eq-eqb, eqb, false, flags_with, has_armed, inl, inr, is_armed, is_unwoken, length, ne_eqb, one_if}
-use Rattle.ns_word.proofs.Prelude.{one_most, owed_to, refl, subst, sym, times_among, true, walk_at, ℕ, ◌∙◌}
+use Rattle.std.proofs.Common.{Bool, Option, Some, [], ap, arith, cond, eq-eqb, false, inl, inr, length, nat_eq as eqb, ne_eqb, refl, subst, sym, true, ℕ, ◌&&◌, ◌+◌, ◌<◌, ◌∷◌, ◌≡◌, ◌≢◌, ◌≤◌}
+use Rattle.ns_word.proofs.Prelude.{InAcquire, InQueuing, InWait, Lists, LoadToScan, Owed, Queue, QueueToWait, WaitersPlaced, Walk, awaits, cases_eq, counts_in, flags_with, has_armed, is_armed, is_unwoken, one_if, one_most, owed_to, times_among, walk_at, ◌∙◌}
 use Rattle.ns_word.proofs.Bases.{Move, OnceInEach, news, olds, owed_at, view_of, walk_is, walk_stays, walk_was}
 
 pub not_due : {C : Type 0} (walk : Option (Walk C)) (flag : ℕ) → awaits walk ≡ false → is_unwoken walk flag ≡ false

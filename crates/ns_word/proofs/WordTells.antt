@@ -1,8 +1,7 @@
 -- What the lock word tells of the lock list, in words on the list; and who stands back where a writer waits.
-use Rattle.std.proofs.Common.{◌&&◌, ◌||◌, ◌↔◌, ◌∷◌, ◌≡◌}
+use Rattle.std.proofs.Common.{Bool, IsSome, IsSomeAnd, List, None, Option, Some, [], ap, false, inl, inr, is_some, not, refl, sym, true, ◌&&◌, ◌||◌, ◌↔◌, ◌∷◌, ◌≡◌}
+use Rattle.ns_word.proofs.Prelude.{Every, HasOne, IsPlainWriter, Mode, Read, Waiter, Write, has_condition, has_eligible, has_some, is_satisfied, is_write, list_any, or_cases, or_parts, writes, ◌∙◌}
 use Rattle.ns_word.proofs.Listed.{none_of}
-use Rattle.ns_word.proofs.Prelude.{Bool, Every, HasOne, IsPlainWriter, IsSome, IsSomeAnd, List, Mode, None, Option, Read, Some, Waiter, Write, [], ap, false, has_condition, has_eligible, has_some, inl, inr, is_satisfied, is_some, is_write, list_any, not, or_cases, or_parts, refl, sym, true, writes}
-use Rattle.ns_word.proofs.Prelude.{◌∙◌}
 
 module _ {C : Type 0} where
   -- nobody stands in a list that has nobody

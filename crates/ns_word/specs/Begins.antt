@@ -1,7 +1,7 @@
 -- How a lock begins, and how a seat's call begins.
-use Rattle.std.specs.Prelude.{◌++◌, ◌+◌, ◌∷◌, ◌≡◌}
-use Rattle.ns_word.specs.Names.{AcquireLoad, AsFresh, Event, ForLock, Found, GetLoad, InAcquire, InCells, InQueuing, InRelease, InShow, InSignal, InTry, InWait, List, Load, None, OnCondition, OnEntry, OnVariables, Option, QuietCells, QuietLast, ReleaseLoad, SeatView, SetLoad, ShowLoad, SignalLoad}
-use Rattle.ns_word.specs.Names.{Some, Subject, TestCells, TestLast, Truths, TryLoad, Walk, Word, [], false, first_row, replicate, suc, zero, ℕ}
+use Rattle.std.specs.Prelude.{List, None, Option, Some, [], false, replicate, suc, zero, ℕ, ◌++◌, ◌+◌, ◌∷◌, ◌≡◌}
+use Rattle.ns_word.specs.Names.{AcquireLoad, AsFresh, Event, ForLock, Found, GetLoad, InAcquire, InCells, InQueuing, InRelease, InShow, InSignal, InTry, InWait, Load, OnCondition, OnEntry, OnVariables, QuietCells, QuietLast, ReleaseLoad, SeatView, SetLoad, ShowLoad, SignalLoad, Subject, TestCells}
+use Rattle.ns_word.specs.Names.{TestLast, Truths, TryLoad, Walk, Word, first_row}
 use Rattle.ns_word.specs.Steps.{LockState, Step}
 use Rattle.ns_word.specs.Places.{PlaceFits}
 

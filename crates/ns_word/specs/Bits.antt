@@ -1,6 +1,5 @@
 -- The bits of the lock word, one by one.
-use Rattle.ns_word.specs.Names.{Bool, Word, ℕ}
-use Rattle.ns_word.specs.declared.number.Bit.{Bit}
+use Rattle.ns_word.specs.Names.{Bit, Bool, Word, ℕ}
 use Rattle.ns_word.specs.declared.number.Bit.TheVariants as TheBit
 
 -- what a bit counts in the number of a word

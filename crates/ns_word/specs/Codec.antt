@@ -1,6 +1,6 @@
 -- The lock word as one number.
-use Rattle.std.specs.Prelude.{if◌then◌else◌, ◌%◌, ◌*◌, ◌+◌, ◌/◌, ◌==◌, ◌≡◌, ◌≤◌, ◌⊎◌}
-use Rattle.ns_word.specs.Names.{Bool, Word, true, ℕ}
+use Rattle.std.specs.Prelude.{Bool, if◌then◌else◌, true, ℕ, ◌%◌, ◌*◌, ◌+◌, ◌/◌, ◌==◌, ◌≡◌, ◌≤◌, ◌⊎◌}
+use Rattle.ns_word.specs.Names.{Word}
 
 -- a bit as a number
 abbrev pub bit : Bool → ℕ

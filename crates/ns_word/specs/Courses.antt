@@ -1,7 +1,7 @@
 -- How far a call on the lock has come, at each of its places.
-use Rattle.std.specs.Prelude.{◌++◌, ◌∷◌, ◌≡◌}
-use Rattle.ns_word.specs.Names.{Aim, Any, Bool, Cause, Done, Event, ForLock, ForWait, Found, Held, Idle, InAcquire, InLeaving, InQueuing, InRelease, InSignal, InWait, Limits, List, LookIn, Looked, Next, None, On, OnCondition, OnEntry, OnReturn, OnVariables, Only, Option, Outcome, Pay, PayTheWoken}
-use Rattle.ns_word.specs.Names.{QueuePlace, ReleasePlace, Releasing, Request, SignalPlace, Some, Subject, TestCells, TestLast, Truths, Visit, Wait, WaitPlace, Waking, Walk, [], false, is_limited, true, ℕ}
+use Rattle.std.specs.Prelude.{Bool, List, None, Option, Some, [], false, true, ℕ, ◌++◌, ◌∷◌, ◌≡◌}
+use Rattle.ns_word.specs.Names.{Aim, Any, Cause, Done, Event, ForLock, ForWait, Found, Held, Idle, InAcquire, InLeaving, InQueuing, InRelease, InSignal, InWait, Limits, LookIn, Looked, Next, On, OnCondition, OnEntry, OnReturn, OnVariables, Only, Outcome, Pay, PayTheWoken, QueuePlace, ReleasePlace}
+use Rattle.ns_word.specs.Names.{Releasing, Request, SignalPlace, Subject, TestCells, TestLast, Truths, Visit, Wait, WaitPlace, Waking, Walk, is_limited}
 use Rattle.ns_word.specs.Asked.{asked_of}
 use Rattle.ns_word.specs.Waits.{cause_in}
 use Rattle.ns_word.specs.Places.{IsUnmet}

@@ -1,8 +1,7 @@
 -- A number is that of its word.
-use Rattle.std.specs.Prelude.{◌%◌, ◌/◌, ◌<◌, ◌==◌, ◌≡◌}
+use Rattle.std.specs.Prelude.{ℕ, ◌%◌, ◌/◌, ◌<◌, ◌==◌, ◌≡◌}
 use Rattle.std.proofs.Common.{arith}
 use Rattle.std.proofs.lemmas.Bool.Decides.{nat_tests}
-use Rattle.ns_word.specs.Names.{ℕ}
 use Rattle.ns_word.specs.Codec.{bit, number_of, word_of}
 
 -- a number's last digit is that of its bit

@@ -1,7 +1,7 @@
 -- The law: what holds of a lock and its seats between any two steps.
-use Rattle.std.specs.Prelude.{if◌then◌else◌, ◌&&◌, ◌+◌, ◌<◌, ◌==◌, ◌≡◌, ◌≢◌, ◌≤◌, ◌⊎◌}
-use Rattle.ns_word.specs.Names.{Bits, Bool, CameBack, Cv, Event, Every, Held, IsBySeats, IsLegal, List, Lists, Locked, Mode, None, OnCondition, OnVariables, Opening, Option, Owed, Phase, Read, SeatView, Some, Standing, Subject, Truths, Variables, Waiter, Waiting, Walk, Word, false, has}
-use Rattle.ns_word.specs.Names.{is_waiting, length, standing_after, times_in, true, waiters_of, woken_phase, ℕ}
+use Rattle.std.specs.Prelude.{Bool, List, None, Option, Some, false, if◌then◌else◌, length, true, ℕ, ◌&&◌, ◌+◌, ◌<◌, ◌==◌, ◌≡◌, ◌≢◌, ◌≤◌, ◌⊎◌}
+use Rattle.ns_word.specs.Names.{Bits, CameBack, Cv, Event, Every, Held, IsBySeats, IsLegal, Lists, Locked, Mode, OnCondition, OnVariables, Opening, Owed, Phase, Read, SeatView, Standing, Subject, Truths, Variables, Waiter, Waiting, Walk, Word, has, is_waiting, standing_after, times_in, waiters_of}
+use Rattle.ns_word.specs.Names.{woken_phase}
 use Rattle.ns_model.specs.declared.phase.Phase.TheVariants.{Idle, Woken}
 use Rattle.ns_word.specs.Lists.{counts_in, has_some, has_eligible, bits_of}
 use Rattle.ns_word.specs.Owed.{Tells}

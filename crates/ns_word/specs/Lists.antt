@@ -1,7 +1,7 @@
 -- The lock list, lists of seats, and how often a seat counts in the lists.
-use Rattle.std.specs.Prelude.{if◌then◌else◌, ◌&&◌, ◌++◌, ◌+◌, ◌||◌, ◌∷◌, ◌≡◌, ◌⊎◌}
+use Rattle.std.specs.Prelude.{Bool, List, None, Option, [], false, if◌then◌else◌, nat_lt, not, sum_by, true, ℕ, ◌&&◌, ◌++◌, ◌+◌, ◌||◌, ◌∷◌, ◌≡◌, ◌⊎◌}
+use Rattle.ns_word.specs.Names.{AtLock, AtVariables, Bits, Home, Lists, Mode, Waiter, Write, has_condition, is_eligible, is_long, times_in, writes}
 use Rattle.std.specs.List.{list_any}
-use Rattle.ns_word.specs.Names.{AtLock, AtVariables, Bits, Bool, Home, List, Lists, Mode, None, Option, Waiter, Write, [], false, has_condition, is_eligible, is_long, nat_lt, not, sum_by, times_in, true, writes, ℕ}
 
 -- whether the list has anything
 abbrev pub has_some : {A : Type 0} → List A → Bool

@@ -1,7 +1,7 @@
 -- What the answer of a call on the lock means. How a section is told in the history (`section_of`, `entry_of`) is the machine's; that it is told as it was, legality says.
-use Rattle.std.specs.Prelude.{◌∷◌, ◌≡◌, ◌⊎◌}
-use Rattle.ns_word.specs.Names.{AfterAny, AfterCv, Answer, Answered, Any, AnyWait, Bool, Busy, Canceled, Cause, CondWait, CvWait, Cvs, Entry, Event, Expired, Held, Is, IsSome, Limits, List, Locked, Met, Mode, Noisy, None, Notified, Number, OnCondition, OnVariables, Only, Option, QuietWriter}
-use Rattle.ns_word.specs.Names.{Releasing, Reply, Request, Some, Subject, Succeeded, TimedOut, Truths, Variables, Waited, Waiter, Waking, WokenBy, [], false, is_met, slice_index, slice_set, true, ℕ}
+use Rattle.std.specs.Prelude.{Bool, IsSome, List, None, Option, Some, [], false, slice_index, slice_set, true, ℕ, ◌∷◌, ◌≡◌, ◌⊎◌}
+use Rattle.ns_word.specs.Names.{AfterAny, AfterCv, Answer, Answered, Any, AnyWait, Busy, Canceled, Cause, CondWait, CvWait, Cvs, Entry, Event, Expired, Held, Is, Limits, Locked, Met, Mode, Noisy, Notified, Number, OnCondition, OnVariables, Only, QuietWriter, Releasing, Reply, Request, Subject}
+use Rattle.ns_word.specs.Names.{Succeeded, TimedOut, Truths, Variables, Waited, Waiter, Waking, WokenBy, is_met}
 use Rattle.ns_model.specs.Cvs.{is_in}
 use Rattle.ns_word.specs.Words.{mode_released}
 use Rattle.ns_word.specs.Places.{IsLeft}

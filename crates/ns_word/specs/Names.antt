@@ -1,20 +1,14 @@
 -- The names of crates below and of this crate's own types, passed on from one place. Declares nothing.
-pub use Rattle.std.specs.Prelude.{All, Bool, IsSome, List, None, Option, Some, [], false, is_some, length, map, min, nat_lt, not, replicate, slice_index, slice_set, suc, sum_by, true, zero, ℕ}
+pub use Rattle.ns_env.specs.Prelude.{BeginsWith}
 pub use Rattle.ns_env.specs.Walks.{is_limited}
 pub use Rattle.ns_env.specs.declared.limits.Cause.{Cause}
 pub use Rattle.ns_env.specs.declared.limits.Cause.TheVariants.{Expired, Notified}
 pub use Rattle.ns_env.specs.declared.limits.Limits.{Limits}
-pub use Rattle.ns_model.specs.Beginnings.{BeginsWith}
-pub use Rattle.ns_model.specs.Cvs.{has}
 pub use Rattle.ns_model.specs.Histories.{IsBySeats, IsLegal, IsLegalEvent, Standing, first_row, first_standing, own, phase_of, row_after, standing_after, standing_next, who_of}
-pub use Rattle.ns_model.specs.Phases.{is_waiting, is_write, left_phase, woken_phase}
-pub use Rattle.ns_model.specs.Seats.{is_in}
+pub use Rattle.ns_model.specs.Phases.{left_phase}
 pub use Rattle.ns_model.specs.Sections.{EntryFits, ExitFits, ModeFits, is_met, phase_after}
-pub use Rattle.ns_model.specs.Tallies.{Every, one_if, total}
 pub use Rattle.ns_model.specs.Truths.{QuietKeeps, Truths}
 pub use Rattle.ns_model.specs.Wakes.{IsLegalLeave, IsLegalLeaveAny}
-pub use Rattle.ns_model.specs.declared.cvs.Cvs.{Cvs}
-pub use Rattle.ns_model.specs.declared.cvs.Variables.{Variables}
 pub use Rattle.ns_model.specs.declared.cvs.Variables.TheVariants.{Any, Only}
 pub use Rattle.ns_model.specs.declared.event.Answer.{Answer}
 pub use Rattle.ns_model.specs.declared.event.Answer.TheVariants.{Canceled, Met, TimedOut}
@@ -24,16 +18,11 @@ pub use Rattle.ns_model.specs.declared.event.Event.{Event}
 pub use Rattle.ns_model.specs.declared.event.Event.TheVariants.{Broadcast, LeaveAny, Section, Signal}
 pub use Rattle.ns_model.specs.declared.event.Exit.{Exit}
 pub use Rattle.ns_model.specs.declared.event.Exit.TheVariants.{AnyWait, CondWait, CvWait, Plain}
-pub use Rattle.ns_model.specs.declared.event.Mode.{Mode}
 pub use Rattle.ns_model.specs.declared.event.Mode.TheVariants.{Read, Write}
-pub use Rattle.ns_model.specs.declared.phase.Phase.{Phase}
-pub use Rattle.ns_model.specs.declared.phase.Phase.TheVariants.{Cond, Waiting}
-pub use Rattle.ns_model.specs.declared.seats.Seats.{Seats}
-pub use Rattle.ns_queue.specs.Queues.{IsOrderly, Lists, beside, cvs_without, named_for, times, waiters_of, with_each, with_waiters, without}
-pub use Rattle.ns_queue.specs.Scans.{is_eligible, is_satisfied, left_of, tests_of, woken_of}
-pub use Rattle.ns_queue.specs.Signals.{signaled_of, taken_set, unsignaled_of}
-pub use Rattle.ns_queue.specs.Waiters.{HaveSeats, has_condition, is_long, is_of, outside, reads, seats_of, times_in, without_in, writes}
-pub use Rattle.ns_queue.specs.Wakes.{AreWaiting, WaitFor, WaitsAmong, woken_phases}
+pub use Rattle.ns_queue.specs.Names.{Variables, is_write, woken_phase}
+pub use Rattle.ns_queue.specs.Prelude.{AreWaiting, Cond, Cvs, Every, HaveSeats, IsOrderly, Lists, Mode, Phase, Seats, WaitFor, Waiting, WaitsAmong, beside, cvs_without, has, has_condition, is_eligible, is_in, is_long, is_of, is_satisfied, is_waiting, left_of, named_for, one_if, outside, reads}
+pub use Rattle.ns_queue.specs.Prelude.{seats_of, signaled_of, taken_set, tests_of, times, times_in, total, unsignaled_of, waiters_of, with_each, with_waiters, without, without_in, woken_of, writes}
+pub use Rattle.ns_queue.specs.Wakes.{woken_phases}
 pub use Rattle.ns_queue.specs.declared.waiter.Waiter.{Waiter}
 pub use Rattle.ns_queue.specs.declared.waiter.Which.TheVariants.{Cv, Lock}
 pub use Rattle.ns_word.specs.declared.acquire_walk.AcquirePlace.{AcquirePlace}
@@ -50,6 +39,7 @@ pub use Rattle.ns_word.specs.declared.cell_walk.CellPlace.{CellPlace}
 pub use Rattle.ns_word.specs.declared.cell_walk.CellPlace.TheVariants.{GetLoad, QuietCells, QuietLast, SetLoad, SetStore}
 pub use Rattle.ns_word.specs.declared.cell_walk.Judging.{Judging}
 pub use Rattle.ns_word.specs.declared.cell_walk.Judging.TheVariants.{ToRelease, ToTell}
+pub use Rattle.ns_word.specs.declared.number.Bit.{Bit}
 pub use Rattle.ns_word.specs.declared.owed.Owed.{Owed}
 pub use Rattle.ns_word.specs.declared.release_walk.ReleasePlace.{ReleasePlace}
 pub use Rattle.ns_word.specs.declared.release_walk.ReleasePlace.TheVariants.{Pay, ReleaseExchange, ReleaseLoad, ScanAndRelease, ScanCells, TakeToScan}
@@ -96,3 +86,4 @@ pub use Rattle.ns_word.specs.declared.word.Releasing.TheVariants.{QuietWriter, R
 pub use Rattle.ns_word.specs.declared.word.Taking.{Taking}
 pub use Rattle.ns_word.specs.declared.word.Taking.TheVariants.{ToChange, ToQueue}
 pub use Rattle.ns_word.specs.declared.word.Word.{Word}
+pub use Rattle.std.specs.Prelude.{Bool, None, Option, Some, false, true, ℕ}

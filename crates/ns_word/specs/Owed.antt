@@ -1,6 +1,6 @@
 -- Wakes that are owed, and what a flag tells that a wake has set.
-use Rattle.std.specs.Prelude.{if◌then◌else◌, ◌+◌, ◌-◌, ◌<◌, ◌==◌, ◌||◌, ◌∷◌, ◌≡◌, ◌≤◌, ◌⊎◌}
-use Rattle.ns_word.specs.Names.{Bool, List, None, Option, Owed, Some, Waiter, [], false, map, nat_lt, true, ℕ}
+use Rattle.std.specs.Prelude.{Bool, List, None, Option, Some, [], false, if◌then◌else◌, map, nat_lt, true, ℕ, ◌+◌, ◌-◌, ◌<◌, ◌==◌, ◌||◌, ◌∷◌, ◌≡◌, ◌≤◌, ◌⊎◌}
+use Rattle.ns_word.specs.Names.{Owed, Waiter}
 
 -- what the wake of one taken from the lock list sets the flag to: it tells the variable whose wake had moved it there, if one had
 abbrev pub value_of : Option ℕ → ℕ

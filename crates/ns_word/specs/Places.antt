@@ -1,9 +1,9 @@
 -- What a place in a call needs of its seat, and what an act needs.
-use Rattle.std.specs.Prelude.{◌+◌, ◌<◌, ◌∷◌, ◌≡◌, ◌≤◌}
-use Rattle.ns_word.specs.Names.{Acquire, AcquireExchange, AcquirePlace, Act, Aim, Any, ArmFlag, AsFresh, AwaitWake, Bool, CameBack, CellPlace, Change, ForLock, ForWait, GetLoad, Held, InAcquire, InCells, InLeaving, InQueuing, InRelease, InShow, InSignal, InTry, InWait, IsSome, JudgeMet, JudgeQuiet}
-use Rattle.ns_word.specs.Names.{LeavePlace, List, LoadCell, LoadFlag, LoadToScan, LoadWord, Look, LookIn, Mode, None, OnCondition, OnEntry, OnReturn, OnVariables, Only, Opening, Option, Outcome, Owed, Pay, PayWake, QueuePlace, QueueSelf, QuietCells, QuietLast, QuietWriter, Release, ReleaseExchange}
-use Rattle.ns_word.specs.Names.{ReleasePlace, ReleaseReturning, Releasing, ReturnQueues, ScanCells, SetLoad, SetStore, ShowPlace, SignalPlace, Some, StoreCell, Subject, Take, TakeQueues, TakeToLeave, TakeToQueue, TakeToScan, TakeToShow, TakeToWake, TestCells, TestLast, Truths, TryAcquire, TryPlace}
-use Rattle.ns_word.specs.Names.{Variables, Visit, Wait, WaitPlace, WaitReturning, WakeWaiters, Walk, Woken, Write, [], false, times, true, ℕ}
+use Rattle.std.specs.Prelude.{Bool, IsSome, List, None, Option, Some, [], false, true, ℕ, ◌+◌, ◌<◌, ◌∷◌, ◌≡◌, ◌≤◌}
+use Rattle.ns_word.specs.Names.{Acquire, AcquireExchange, AcquirePlace, Act, Aim, Any, ArmFlag, AsFresh, AwaitWake, CameBack, CellPlace, Change, ForLock, ForWait, GetLoad, Held, InAcquire, InCells, InLeaving, InQueuing, InRelease, InShow, InSignal, InTry, InWait, JudgeMet, JudgeQuiet, LeavePlace}
+use Rattle.ns_word.specs.Names.{LoadCell, LoadFlag, LoadToScan, LoadWord, Look, LookIn, Mode, OnCondition, OnEntry, OnReturn, OnVariables, Only, Opening, Outcome, Owed, Pay, PayWake, QueuePlace, QueueSelf, QuietCells, QuietLast, QuietWriter, Release, ReleaseExchange, ReleasePlace, ReleaseReturning}
+use Rattle.ns_word.specs.Names.{Releasing, ReturnQueues, ScanCells, SetLoad, SetStore, ShowPlace, SignalPlace, StoreCell, Subject, Take, TakeQueues, TakeToLeave, TakeToQueue, TakeToScan, TakeToShow, TakeToWake, TestCells, TestLast, Truths, TryAcquire, TryPlace, Variables, Visit, Wait, WaitPlace}
+use Rattle.ns_word.specs.Names.{WaitReturning, WakeWaiters, Walk, Woken, Write, times}
 use Rattle.ns_word.specs.Words.{mode_released, may_acquire, needs_scan}
 use Rattle.ns_word.specs.Waits.{OutcomeFits, cause_in, mode_for}
 use Rattle.ns_word.specs.Answers.{place_cause_kept}

@@ -1,6 +1,6 @@
 -- Where a seat stands that queues, said of the lists before and after.
-use Rattle.std.specs.Prelude.{if◌then◌else◌, ◌++◌, ◌+◌, ◌<◌, ◌∷◌, ◌≡◌}
-use Rattle.ns_word.specs.Names.{Arrival, AsFresh, AsWoken, Bool, Cv, List, Lists, Mode, None, OnCondition, OnVariables, Option, Owed, Phase, Some, Subject, Truths, Variables, Waiter, Waiting, [], false, has, left_of, map, min, true, waiters_of, ℕ}
+use Rattle.std.specs.Prelude.{Bool, List, None, Option, Some, [], false, if◌then◌else◌, map, min, true, ℕ, ◌++◌, ◌+◌, ◌<◌, ◌∷◌, ◌≡◌}
+use Rattle.ns_word.specs.Names.{Arrival, AsFresh, AsWoken, Cv, Lists, Mode, OnCondition, OnVariables, Owed, Phase, Subject, Truths, Variables, Waiter, Waiting, has, left_of, waiters_of}
 use Rattle.ns_model.specs.declared.phase.Phase.TheVariants.{Woken}
 use Rattle.ns_word.specs.Steps.{meets_at}
 

@@ -1,10 +1,9 @@
 -- One atomic step of one seat.
-use Rattle.std.specs.Prelude.{if◌then◌else◌, ◌&&◌, ◌++◌, ◌==◌, ◌∷◌, ◌≡◌, ◌≢◌}
-use Rattle.ns_word.specs.Names.{Acquire, AcquirePlace, Act, AfterAny, AfterCv, Aim, Any, AnyWait, ArmFlag, AtVariables, Bool, Broadcast, Broadcasting, CameBack, Cause, Cell, Change, CondWait, Cv, CvWait, Ended, Entry, Event, Exit, Expired, Flag, ForLock, ForWait, Found, Held, Home, InAcquire}
-use Rattle.ns_word.specs.Names.{InLeaving, InQueuing, InRelease, InSignal, InWait, IsSome, JudgeMet, JudgeQuiet, Leave, LeaveSelf, Left, Limits, List, Lists, LoadCell, LoadFlag, LoadWord, Locked, Look, Looked, Made, Met, Mode, None, Nothing, Notified, OnCondition, OnVariables, Only, Opening, Option}
-use Rattle.ns_word.specs.Names.{Outcome, Owed, Paid, PayWake, Queue, QueueSelf, QueueToWait, Quiet, Release, ReleasePlace, ReleaseReturning, ReturnQueues, Saw, ScanAndRelease, Scanned, SeatView, Section, Signal, SignalPlace, Signaling, Some, StoreCell, Subject, TakeQueues, Tested, Truths, Variables}
-use Rattle.ns_word.specs.Names.{Wait, WaitPlace, WaitReturning, Waited, Waiter, WakeAndReturn, WakeWaiters, Waking, Walk, Woke, Woken, Word, Write, [], cvs_without, false, left_of, not, signaled_of, slice_index, slice_set, taken_set, tests_of, true, unsignaled_of, waiters_of}
-use Rattle.ns_word.specs.Names.{with_each, with_waiters, without, woken_of, ℕ}
+use Rattle.std.specs.Prelude.{Bool, IsSome, List, None, Option, Some, [], false, if◌then◌else◌, not, slice_index, slice_set, true, ℕ, ◌&&◌, ◌++◌, ◌==◌, ◌∷◌, ◌≡◌, ◌≢◌}
+use Rattle.ns_word.specs.Names.{Acquire, AcquirePlace, Act, AfterAny, AfterCv, Aim, Any, AnyWait, ArmFlag, AtVariables, Broadcast, Broadcasting, CameBack, Cause, Cell, Change, CondWait, Cv, CvWait, Ended, Entry, Event, Exit, Expired, Flag, ForLock, ForWait, Found, Held, Home, InAcquire, InLeaving}
+use Rattle.ns_word.specs.Names.{InQueuing, InRelease, InSignal, InWait, JudgeMet, JudgeQuiet, Leave, LeaveSelf, Left, Limits, Lists, LoadCell, LoadFlag, LoadWord, Locked, Look, Looked, Made, Met, Mode, Nothing, Notified, OnCondition, OnVariables, Only, Opening, Outcome, Owed, Paid, PayWake, Queue}
+use Rattle.ns_word.specs.Names.{QueueSelf, QueueToWait, Quiet, Release, ReleasePlace, ReleaseReturning, ReturnQueues, Saw, ScanAndRelease, Scanned, SeatView, Section, Signal, SignalPlace, Signaling, StoreCell, Subject, TakeQueues, Tested, Truths, Variables, Wait, WaitPlace, WaitReturning, Waited}
+use Rattle.ns_word.specs.Names.{Waiter, WakeAndReturn, WakeWaiters, Waking, Walk, Woke, Woken, Word, Write, cvs_without, left_of, signaled_of, taken_set, tests_of, unsignaled_of, waiters_of, with_each, with_waiters, without, woken_of}
 use Rattle.ns_model.specs.declared.event.Entry.TheVariants.{Plain}
 use Rattle.ns_word.specs.Owed.{called_of, wakes_of}
 use Rattle.ns_word.specs.Words.{is_held, is_woken, tries_of, mode_released, releasing_of, may_acquire, word_acquired, word_taken, word_returned, word_released, word_released_returning}

@@ -1,6 +1,6 @@
 -- What a seat was told: the history that it has seen, its own events, and the calls that it has begun.
-use Rattle.std.specs.Prelude.{◌++◌, ◌∷◌, ◌≡◌}
-use Rattle.ns_word.specs.Names.{All, BeginsWith, Bool, Event, Found, IsBySeats, IsLegal, List, None, Option, Some, Walk, [], own, who_of, ℕ}
+use Rattle.std.specs.Prelude.{All, Bool, List, None, Option, Some, [], ℕ, ◌++◌, ◌∷◌, ◌≡◌}
+use Rattle.ns_word.specs.Names.{BeginsWith, Event, Found, IsBySeats, IsLegal, Walk, own, who_of}
 use Rattle.ns_word.specs.Begins.{IsFirst}
 use Rattle.ns_word.specs.Walks.{got_of, walk_after}
 

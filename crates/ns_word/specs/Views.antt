@@ -1,6 +1,6 @@
 -- What is counted over the seats' views, and one of them among the others.
-use Rattle.std.specs.Prelude.{if◌then◌else◌, ◌++◌, ◌+◌, ◌==◌, ◌∷◌, ◌≡◌, ◌≢◌}
-use Rattle.ns_word.specs.Names.{Bool, Held, List, None, Option, Owed, SeatView, Some, Walk, [], false, is_write, not, one_if, total, ℕ}
+use Rattle.std.specs.Prelude.{Bool, List, None, Option, Some, [], false, if◌then◌else◌, not, ℕ, ◌++◌, ◌+◌, ◌==◌, ◌∷◌, ◌≡◌, ◌≢◌}
+use Rattle.ns_word.specs.Names.{Held, Owed, SeatView, Walk, is_write, one_if, total}
 use Rattle.ns_word.specs.Owed.{times_among}
 use Rattle.ns_word.specs.Walks.{has_queues, is_queuing, calls_from_lock}
 

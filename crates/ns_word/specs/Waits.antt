@@ -1,6 +1,6 @@
 -- Waits, for a condition or for condition variables.
-use Rattle.std.specs.Prelude.{if◌then◌else◌, ◌≡◌}
-use Rattle.ns_word.specs.Names.{Aim, Answer, Arrival, AsFresh, AsWoken, AtLock, AtVariables, Canceled, Cause, Cond, Ended, Expired, ForLock, ForWait, Home, Met, Mode, None, Notified, OnCondition, OnVariables, Option, Outcome, Phase, Some, Subject, TimedOut, Variables, has, true, ℕ}
+use Rattle.std.specs.Prelude.{None, Option, Some, if◌then◌else◌, true, ℕ, ◌≡◌}
+use Rattle.ns_word.specs.Names.{Aim, Answer, Arrival, AsFresh, AsWoken, AtLock, AtVariables, Canceled, Cause, Cond, Ended, Expired, ForLock, ForWait, Home, Met, Mode, Notified, OnCondition, OnVariables, Outcome, Phase, Subject, TimedOut, Variables, has}
 use Rattle.ns_model.specs.declared.phase.Phase.TheVariants.{Idle, Woken, Left}
 use Rattle.ns_word.specs.Owed.{is_from_lock, variable_told}
 use Rattle.ns_word.specs.declared.wait.Outcome.TheVariants as TheOutcome

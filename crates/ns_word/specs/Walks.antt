@@ -1,11 +1,11 @@
 -- What each place in a call wants next, where what its step found leads it, and what the place tells.
-use Rattle.std.specs.Prelude.{if◌then◌else◌, ◌&&◌, ◌+◌, ◌-◌, ◌==◌, ◌||◌}
-use Rattle.ns_word.specs.Names.{Acquire, AcquireExchange, AcquireLoad, AcquirePlace, Act, Aim, Answered, Any, Arm, ArmFlag, ArmToWait, Arrival, AsFresh, AwaitWake, AwaitWakeInWait, AwaitWakeToLeave, Bool, Busy, Cause, Cell, CellPlace, Cond, Done, Ended, Flag, ForLock, ForWait, Found, GetLoad, Idle}
+use Rattle.std.specs.Prelude.{Bool, None, Option, Some, false, if◌then◌else◌, is_some, nat_lt, not, true, ℕ, ◌&&◌, ◌+◌, ◌-◌, ◌==◌, ◌||◌}
+use Rattle.ns_word.specs.Names.{Acquire, AcquireExchange, AcquireLoad, AcquirePlace, Act, Aim, Answered, Any, Arm, ArmFlag, ArmToWait, Arrival, AsFresh, AwaitWake, AwaitWakeInWait, AwaitWakeToLeave, Busy, Cause, Cell, CellPlace, Cond, Done, Ended, Flag, ForLock, ForWait, Found, GetLoad, Idle}
 use Rattle.ns_word.specs.Names.{InAcquire, InCells, InLeaving, InQueuing, InRelease, InShow, InSignal, InTry, InWait, Is, JudgeMet, JudgeQuiet, Judging, Leave, LeaveLoad, LeavePlace, LeaveSelf, Left, Load, LoadCell, LoadFlag, LoadToScan, LoadWord, Look, LookIn, LookOut, Looked, Made, Met, Mode}
-use Rattle.ns_word.specs.Names.{Next, Noisy, None, Nothing, Number, On, OnCondition, OnEntry, OnReturn, OnVariables, Only, Option, Outcome, Paid, Pay, PayInWait, PayTheWoken, PayWake, Phase, Queue, QueuePlace, QueueSelf, QueueToWait, Quiet, QuietCells, QuietLast, QuietWriter, Release}
-use Rattle.ns_word.specs.Names.{ReleaseExchange, ReleaseLoad, ReleasePlace, ReleaseReturning, Releasing, Reply, ReturnQueues, ReturnShown, Saw, ScanAndRelease, ScanCells, Scanned, SetLoad, SetStore, ShowLoad, ShowPlace, SignalLoad, SignalPlace, Some, StoreCell, Subject, Succeeded, Take, TakeQueues}
-use Rattle.ns_word.specs.Names.{TakeToLeave, TakeToQueue, TakeToScan, TakeToShow, TakeToWake, TestCells, TestLast, Tested, ToChange, ToQueue, ToRelease, ToTell, TryAcquire, TryLoad, TryPlace, Variables, Visit, Wait, WaitPlace, WaitReturning, Waiting, WakeAndReturn, WakeWaiters, Waking, Walk, Woke}
-use Rattle.ns_word.specs.Names.{Woken, WokenBy, Word, false, is_limited, is_some, nat_lt, not, true, ℕ}
+use Rattle.ns_word.specs.Names.{Next, Noisy, Nothing, Number, On, OnCondition, OnEntry, OnReturn, OnVariables, Only, Outcome, Paid, Pay, PayInWait, PayTheWoken, PayWake, Phase, Queue, QueuePlace, QueueSelf, QueueToWait, Quiet, QuietCells, QuietLast, QuietWriter, Release, ReleaseExchange}
+use Rattle.ns_word.specs.Names.{ReleaseLoad, ReleasePlace, ReleaseReturning, Releasing, Reply, ReturnQueues, ReturnShown, Saw, ScanAndRelease, ScanCells, Scanned, SetLoad, SetStore, ShowLoad, ShowPlace, SignalLoad, SignalPlace, StoreCell, Subject, Succeeded, Take, TakeQueues, TakeToLeave}
+use Rattle.ns_word.specs.Names.{TakeToQueue, TakeToScan, TakeToShow, TakeToWake, TestCells, TestLast, Tested, ToChange, ToQueue, ToRelease, ToTell, TryAcquire, TryLoad, TryPlace, Variables, Visit, Wait, WaitPlace, WaitReturning, Waiting, WakeAndReturn, WakeWaiters, Waking, Walk, Woke, Woken}
+use Rattle.ns_word.specs.Names.{WokenBy, Word, is_limited}
 use Rattle.ns_word.specs.Words.{is_woken, tries_of, may_acquire, needs_scan, word_taken}
 use Rattle.ns_word.specs.Owed.{is_from_lock}
 use Rattle.ns_word.specs.Waits.{answer_of, answer_of_wait, arrival_of, home_of, mode_for, outcome_taken, phase_for, variable_in, woken_by}

@@ -1,6 +1,6 @@
 -- The decisions by a word, and the words that the steps make of one.
-use Rattle.std.specs.Prelude.{if◌then◌else◌, ◌&&◌, ◌+◌, ◌-◌, ◌==◌, ◌||◌}
-use Rattle.ns_word.specs.Names.{Arrival, AsFresh, AsWoken, Bits, Bool, Mode, QuietWriter, Read, Reader, Releasing, Taking, ToChange, ToQueue, Word, Write, Writer, false, is_write, nat_lt, not, true, ℕ}
+use Rattle.std.specs.Prelude.{Bool, false, if◌then◌else◌, nat_lt, not, true, ℕ, ◌&&◌, ◌+◌, ◌-◌, ◌==◌, ◌||◌}
+use Rattle.ns_word.specs.Names.{Arrival, AsFresh, AsWoken, Bits, Mode, QuietWriter, Read, Reader, Releasing, Taking, ToChange, ToQueue, Word, Write, Writer, is_write}
 
 -- the mode of the section that is left
 abbrev pub mode_released : Releasing → Mode

@@ -3,8 +3,7 @@
 //! `specs/Encoded.antt` and `specs/Bits.antt`.
 
 ghost use Rattle.std.specs.Prelude.{◌≡◌, ◌*◌, ◌/◌, ◌<◌, ◌≤◌, Ok, MatchResult};
-ghost use Rattle.ns_word.specs.Begins.{free_word};
-ghost use Rattle.ns_word.specs.Codec.{bit, number_of, word_of, is_set, IsPackable, IsBad};
+ghost use Rattle.ns_word.specs.Prelude.{IsBad, IsPackable, bit, free_word, is_set, number_of, word_of};
 
 use crate::word::Word;
 

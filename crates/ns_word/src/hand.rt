@@ -1,15 +1,8 @@
 //! What a walk does to the queues in its hand, before it puts them back.
 
 ghost use Rattle.std.specs.Prelude.{◌≡◌, ◌<◌, ◌≤◌, ℕ, map, true, false, nat_lt, None, Some, [], ◌∷◌, ◌++◌, if◌then◌else◌};
-ghost use Rattle.ns_queue.specs.Queues.{cvs_without, times, waiters_of};
-ghost use Rattle.ns_queue.specs.Signals.{taken_set};
-ghost use Rattle.ns_queue.specs.Scans.{woken_of, tests_of};
-ghost use Rattle.ns_queue.specs.Waiters.{seats_of, times_in};
-ghost use Rattle.ns_word.specs.Lists.{bits_of, queued, stands_at};
-ghost use Rattle.ns_word.specs.Owed.{wakes_of};
-ghost use Rattle.ns_word.specs.Places.{HasList, IsInRange};
-ghost use Rattle.ns_word.specs.Steps.{acquire_hand, release_hand, wait_hand, signal_hand, in_hand, changed, waits_at, waited_in, with_lock, taken_by, moved_to};
-ghost use Rattle.ns_word.specs.Walks.{acquire_has_queues, release_has_queues, wait_has_queues, has_queues, has_armed};
+ghost use Rattle.ns_word.specs.Prelude.{HasList, IsInRange, acquire_hand, acquire_has_queues, bits_of, changed, cvs_without, has_armed, has_queues, in_hand, moved_to, queued, release_hand, release_has_queues, seats_of, signal_hand, stands_at, taken_by, taken_set, tests_of, times, times_in};
+ghost use Rattle.ns_word.specs.Prelude.{wait_hand, wait_has_queues, waited_in, waiters_of, waits_at, wakes_of, with_lock, woken_of};
 
 use crate::acquire_walk::AcquirePlace;
 use crate::act::{Change, Waking};

@@ -5,9 +5,7 @@
 //! others make the number of a word, read a part of it, or change one. The values of the bits stand in `codec.rt`.
 
 ghost use Rattle.std.specs.Prelude.{◌≡◌, ◌<◌, ◌+◌, ◌-◌};
-ghost use Rattle.ns_word.specs.Bits.{value_of_bit, word_with};
-ghost use Rattle.ns_word.specs.Codec.{number_of, word_of, IsPackable};
-ghost use Rattle.ns_word.specs.Words.{is_held, may_acquire, needs_scan, word_acquired, word_taken, word_returned, word_released, word_released_returning};
+ghost use Rattle.ns_word.specs.Prelude.{IsPackable, is_held, may_acquire, needs_scan, number_of, value_of_bit, word_acquired, word_of, word_released, word_released_returning, word_returned, word_taken, word_with};
 
 use crate::codec::{
     ALL_FALSE, COND, DESIG, LONG, READER, SPIN, WAITING, WRITE, WRITER_WAITS, encode, is_set,

@@ -29,8 +29,7 @@
 //! at.
 
 ghost use Rattle.std.specs.Prelude.{◌≡◌, ◌≤◌};
-ghost use Rattle.ns_word.specs.Waits.{arrival_of};
-ghost use Rattle.ns_word.specs.Walks.{want_queuing, want_leaving, want_waiting, judge_of, load_place, armed_place, got_queuing, got_leaving, got_waiting, test_place, queue_by, leave_by, unmet_by, look_or_queue, rest_or_look, pay_waiting};
+ghost use Rattle.ns_word.specs.Prelude.{armed_place, arrival_of, got_leaving, got_queuing, got_waiting, judge_of, leave_by, load_place, look_or_queue, pay_waiting, queue_by, rest_or_look, test_place, unmet_by, want_leaving, want_queuing, want_waiting};
 
 use crate::acquire_walk::AcquirePlace;
 use crate::act::{Act, Change, Found};

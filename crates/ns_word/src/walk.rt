@@ -41,11 +41,8 @@
 //! from that place.
 
 ghost use Rattle.std.specs.Prelude.{◌≡◌, ◌≤◌, ⊤};
-ghost use Rattle.ns_word.specs.declared.cell_walk.Judging.TheVariants.{ToTell, ToRelease};
+ghost use Rattle.ns_word.specs.Prelude.{QuietWriter, ToRelease, ToTell, asked_of, got_of, quiet_first, wait_first, want_of};
 ghost use Rattle.ns_word.specs.declared.request.Request.TheVariants as TheRequest;
-ghost use Rattle.ns_word.specs.declared.word.Releasing.TheVariants.{QuietWriter};
-ghost use Rattle.ns_word.specs.Asked.{asked_of};
-ghost use Rattle.ns_word.specs.Walks.{want_of, got_of, quiet_first, wait_first};
 
 use crate::acquire_walk::AcquirePlace;
 use crate::act::{Act, Found, Waking};

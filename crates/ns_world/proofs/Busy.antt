@@ -1,6 +1,6 @@
 -- Which seats are busy, one after another.
-use Rattle.std.proofs.Common.{Bool, ap, arith, eq-eqb, eqb, false, inl, inr, sym, true, ℕ, ◌+◌, ◌<◌, ◌||◌, ◌∙◌, ◌≡◌, ◌≤◌}
-use Rattle.ns_world.proofs.Prelude.{cases_eq, cases_lt, ne_eqb, or-false, or-true}
+use Rattle.std.proofs.Common.{Bool, ap, arith, eq-eqb, eqb, false, inl, inr, ne_eqb, sym, true, ℕ, ◌+◌, ◌<◌, ◌||◌, ◌∙◌, ◌≡◌, ◌≤◌}
+use Rattle.ns_world.proofs.Prelude.{cases_eq, cases_lt, or-false, or-true}
 
 -- these bits are so of the first, and none is of the others
 abbrev pub AreFirst : (ℕ → Bool) → ℕ → (ℕ → Bool) → Type 0

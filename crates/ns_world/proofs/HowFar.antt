@@ -1,13 +1,11 @@
 -- How far a call has come that is under way: what its seat's place says, with what has happened since it began.
-use Rattle.std.proofs.Common.{List, None, Option, Some, [], ap, slice_get, true, ℕ, ◌++◌, ◌<◌, ◌∙◌, ◌≡◌}
+use Rattle.std.proofs.Common.{List, None, Option, Some, [], ap, append-nil, slice_get, true, ℕ, ◌++◌, ◌<◌, ◌∙◌, ◌≡◌}
 use Rattle.ns_world.proofs.Prelude.{AnswersOfLock, AnswersTo, AnyAnswers, AnyWait, AreAmong, Asked, Await, BeginsWith, Cause, Course, Cvs, Doing, EnvCourse, EnvEvent, EnvRequest, EnvSoFar, EnvWalk, Event, Finished, FirstClock, HasLedTo, HaveShownNothing, Held, InRound, IsLater, IsReady}
-use Rattle.ns_world.proofs.Prelude.{IsUnfinished, LooksByLimits, LooksByRound, Next, ObjectEvent, ObjectSoFar, ObjectWalk, OfLock, OfNotes, OfObjects, On, OnLock, OnNotes, OnObjects, Past, Reply, Request, Round, RoundShows, RoundSoFar, Seat, SoFar, Step, Walk, WasShown, WereThere, Whole}
-use Rattle.ns_world.proofs.Prelude.{any_on, append-nil, asked_of, cause_of, env_asked_of, env_own, held_at, is_among, items_of, later_and, later_through, limits_of, mode_of, mode_waited, nothing_on, object_asked, objects_own, others_leave_course, own, past_and, round_on, so_far_on}
-use Rattle.ns_world.proofs.Prelude.{waits_for_any}
+use Rattle.ns_world.proofs.Prelude.{IsUnfinished, LooksByLimits, LooksByRound, Next, ObjectEvent, ObjectSoFar, ObjectWalk, OfLock, OfNotes, OfObjects, On, OnLock, OnNotes, OnObjects, Past, Reply, Request, Round, RoundShows, RoundSoFar, Seat, SoFar, Step, Walk, WasShown, WereThere, Whole, any_on}
+use Rattle.ns_world.proofs.Prelude.{asked_of, cause_of, env_asked_of, env_own, held_at, is_among, items_of, later_and, later_through, limits_of, mode_of, mode_waited, nothing_on, object_asked, objects_own, others_leave_course, own, past_and, reply_of_lock as told, round_on, so_far_on, waits_for_any}
 use Rattle.ns_world.proofs.Places.{IsNoLook}
 use Rattle.ns_world.proofs.Shown.{LookSoFar, look_on, shown_on}
 use Rattle.ns_word.specs.declared.walk.Next.TheVariants.{Done, Idle}
-use Rattle.ns_world.specs.Replies.{told}
 use Rattle.ns_word.specs.declared.request.Request.TheVariants as TheRequest
 
 -- what the last look has shown to the lock of a call that waits there, its last round has shown

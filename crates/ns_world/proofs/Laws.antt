@@ -1,15 +1,14 @@
 -- Each kind of step, and a call that begins, keep the law: the machines' laws, and that the seat stands as it may.
-use Rattle.std.proofs.Common.{None, Option, Some, ap, false, inl, inr, length, map, refl, slice_get, slice_set, subst, sym, true, unwrap_or, ℕ, ◌<◌, ◌∙◌, ◌≡◌}
-use Rattle.ns_world.proofs.Prelude.{AnyWait, AreEnvBy, AreObjectsBy, AtRest, Call, CallInRange, Doing, DoingFits, EnvPlain, EnvWalk, Found, HasLedTo, HaveLedTo, InRound, IsFirst, IsLawful, IsLawfulWhole, LedTo, Looked, LooksByLimits, LooksByRound, NeedsSection, ObjectLeads}
-use Rattle.ns_world.proofs.Prelude.{ObjectNext, ObjectWalk, OnLock, OnNotes, OnObjects, Past, PlaceFits, QuietKeeps, Repeat, Round, Seat, SeatMakes, StaysAsked, Step, Truths, WaitsFor, Walk, Whole, WholeMoves, WholeStarts, WholeStep, append-nil, asked_of, begin_at, begins, cause_of}
-use Rattle.ns_world.proofs.Prelude.{done_in, env_got_of, env_walk_after, keeps, lock_of, mode_of, mode_waited, notes_by, nothing_done, object_after, object_asked, objects_after, objects_by, operating_of, past_and, placed, shown_by, start_of, stays_asked, there, view_of}
-use Rattle.ns_world.proofs.Prelude.{waits_then, walk_of}
+use Rattle.std.proofs.Common.{None, Option, Some, ap, append-nil, false, inl, inr, length, map, refl, slice_get, slice_set, subst, sym, true, unwrap_or, ℕ, ◌<◌, ◌∙◌, ◌≡◌}
+use Rattle.ns_world.proofs.Prelude.{AnyWait, AreEnvBy, AreObjectsBy, AtRest, Call, CallInRange, Doing, DoingFits, EnvPlain, EnvWalk, Found, HasLedTo, HaveLedTo, InRound, IsFirst, IsLawful, IsLawfulWhole, LedTo, Looked, LooksByLimits, LooksByRound, NeedsSection, ObjectLeads, ObjectNext, ObjectWalk}
+use Rattle.ns_world.proofs.Prelude.{OnLock, OnNotes, OnObjects, Past, PlaceFits, QuietKeeps, Repeat, Round, Seat, SeatMakes, StaysAsked, Step, Truths, WaitsFor, Walk, Whole, WholeMoves, WholeStarts, WholeStep, asked_of, begin_at, begins, cause_of, done_in, env_got_of, env_walk_after, keeps, lock_of}
+use Rattle.ns_world.proofs.Prelude.{mode_of, mode_waited, notes_by, nothing_done, object_after, object_asked, objects_after, objects_by, operating_of, past_and, placed, shown_by, start_of, stays_asked, there, view_of, waits_then, walk_of}
+use Rattle.ns_world.specs.Prelude.{Over}
 use Rattle.ns_world.proofs.Led.{begun_led, first_if_at, fits_here, led_makes, makes_led}
 use Rattle.ns_world.proofs.Looking.{Acts, LockStays, lock_stays, look_goes, makes_means, round_goes, waits_is}
 use Rattle.ns_world.proofs.Mapped.{got-map}
 use Rattle.ns_world.proofs.Places.{StartFits, begins_among, first_at, first_fits, section_fits, start_alone, start_fits}
 use Rattle.ns_world.proofs.SeatSet.{lawful_set, reads, settled_here, stands_more, stays, view_at}
-use Rattle.ns_world.specs.Prelude.{Over}
 use Rattle.ns_world.proofs.Placing.{act_steps, at_rest, place_after}
 use Rattle.ns_counters.specs.declared.walk.ObjectNext.TheVariants as TheObject
 

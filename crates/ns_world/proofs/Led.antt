@@ -1,9 +1,9 @@
 -- What has led to a world, and a step or a call that begins, lead to the world after it: each extends what has happened to the clock and the notes, and to counters and once cells.
-use Rattle.std.proofs.Common.{List, None, Option, Some, [], ap, arith, inl, inr, length, map, refl, slice_get, slice_set, subst, sym, true, unwrap_or, ℕ, ◌++◌, ◌<◌, ◌∙◌, ◌≡◌, ◌⊎◌}
-use Rattle.ns_world.proofs.Prelude.{AnyWait, AreEnvBy, AreObjectsBy, AtRest, Doing, DoingFits, EnvAct, EnvEffect, EnvEvent, EnvFound, EnvNext, EnvPlain, EnvWalk, Fit, Found, Go, HasLedTo, IsLawfulEnv, IsLawfulObjects, IsLawfulWhole, LedTo, LookOver, Looked, LooksByLimits, LooksByRound}
-use Rattle.ns_world.proofs.Prelude.{NoteStanding, ObjectEffect, ObjectEvent, ObjectLeads, ObjectNext, ObjectStanding, ObjectWalk, OnLock, OnNotes, OnObjects, Operates, Past, Round, Seat, SeatMakes, Step, WaitsFor, Walk, Went, Whole, append-nil, asked_of, asking_of, begins_env, cause_of}
-use Rattle.ns_world.proofs.Prelude.{doing_after, env_got_of, env_state, env_walk_after, env_want_of, got_of, keeps_env, led_more, length-map, length-set, made_begins, notes_by, notes_of, object_after, object_got, object_place, object_want, objects_after, objects_by, objects_of}
-use Rattle.ns_world.proofs.Prelude.{operates_keeps, operating_of, outcome, outcome_by, past_and, placed, put_keeps, set_again, set_here, set_same, shown_by, there, waits_then, walk_in}
+use Rattle.std.proofs.Common.{List, None, Option, Some, [], ap, append-nil, arith, inl, inr, length, length-set, map, refl, slice_get, slice_set, subst, sym, true, unwrap_or, ℕ, ◌++◌, ◌<◌, ◌∙◌, ◌≡◌, ◌⊎◌}
+use Rattle.ns_world.proofs.Prelude.{AnyWait, AreEnvBy, AreObjectsBy, AtRest, Doing, DoingFits, EnvAct, EnvEffect, EnvEvent, EnvFound, EnvNext, EnvPlain, EnvWalk, Fit, Found, Go, HasLedTo, IsLawfulEnv, IsLawfulObjects, IsLawfulWhole, LedTo, LookOver, Looked, LooksByLimits, LooksByRound, NoteStanding}
+use Rattle.ns_world.proofs.Prelude.{ObjectEffect, ObjectEvent, ObjectLeads, ObjectNext, ObjectStanding, ObjectWalk, OnLock, OnNotes, OnObjects, Operates, Past, Round, Seat, SeatMakes, Step, WaitsFor, Walk, Went, Whole, asked_of, asking_of, begins_env, cause_of, doing_after, env_got_of, env_state}
+use Rattle.ns_world.proofs.Prelude.{env_walk_after, env_want_of, got_of, keeps_env, led_more, length-map, made_begins, notes_by, notes_of, object_after, object_got, object_place, object_want, objects_after, objects_by, objects_of, operates_keeps, operating_of, outcome, outcome_by, past_and, placed}
+use Rattle.ns_world.proofs.Prelude.{put_keeps, set_again, set_here, set_same, shown_by, there, waits_then, walk_in}
 use Rattle.ns_world.proofs.Looking.{Acts, FirstIf, look_goes, round_goes}
 use Rattle.ns_world.proofs.Mapped.{got-map}
 use Rattle.ns_world.proofs.Places.{IsFirstAt}

@@ -1,9 +1,9 @@
 -- The looks of a wait, over plain data: where a wait goes that looks, and what it needs of the notes. A wait for any of a set of variables looks as it rests, and nowhere else; and while it does, its seat stands nowhere on the clock and the notes.
 use Rattle.ns_counters.specs.declared.walk.ObjectNext.TheVariants as TheObject
-use Rattle.std.proofs.Common.{Bool, IsSome, List, None, Option, Some, [], ap, cond, false, inl, inr, refl, subst, sym, true, ℕ, ◌∙◌, ◌≡◌, ◌⊎◌}
+use Rattle.std.proofs.Common.{Bool, IsSome, List, None, Option, Some, [], ap, append-nil, cond, false, inl, inr, refl, subst, sym, true, ℕ, ◌∙◌, ◌≡◌, ◌⊎◌}
 use Rattle.ns_world.proofs.Prelude.{Act, AnyWait, Await, Cause, ClockLoad, Cvs, Effect, EnvEffect, EnvEvent, EnvFound, EnvNext, EnvPlain, EnvWalk, Expired, ForLook, Found, Go, GoesRound, InRound, IsFirstAsk, IsLoad, Limits, Look, LookFits, LookOver, Looked, Looks, LooksAt, LooksByLimits}
-use Rattle.ns_world.proofs.Prelude.{LooksByRound, MayShow, Mode, NoteLoad, NoteStanding, ObjectNext, ObjectWalk, ObjectWords, Part, Performs, Repeat, Round, RoundLeads, RoundPlace, Seat, SeatLooks, SeatMakes, Sees, Step, Truths, Wait, WaitsFor, Walk, Went, Whole, append-nil, asked_of}
-use Rattle.ns_world.proofs.Prelude.{at_will, came_back, cause_of, doing_after, env_got_of, env_want_of, got_of, have_variable, held_after, is_due, is_over, looks_at, looks_by_asked, outcome, part_in, passed, same_Some, shown_by, stopped, up_to, waits_for_any, waits_then, want_of}
+use Rattle.ns_world.proofs.Prelude.{LooksByRound, MayShow, Mode, NoteLoad, NoteStanding, ObjectNext, ObjectWalk, ObjectWords, Part, Performs, Repeat, Round, RoundLeads, RoundPlace, Seat, SeatLooks, SeatMakes, Sees, Step, Truths, Wait, WaitsFor, Walk, Went, Whole, asked_of, at_will, came_back}
+use Rattle.ns_world.proofs.Prelude.{cause_of, doing_after, env_got_of, env_want_of, got_of, have_variable, held_after, is_due, is_over, looks_at, looks_by_asked, outcome, part_in, passed, same_Some, shown_by, stopped, up_to, waits_for_any, waits_then, want_of}
 
 -- ---- where a look begins
 

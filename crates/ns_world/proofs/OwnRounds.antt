@@ -1,24 +1,23 @@
 -- Where a step of its own leads a call on counters and once cells, which may have gone on to wait on the lock.
-use Rattle.std.proofs.Common.{List, None, Option, Some, [], ap, inl, inr, refl, slice_get, slice_set, subst, suc, sym, unwrap_or, ℕ, ◌++◌, ◌∙◌, ◌≡◌}
-use Rattle.ns_world.proofs.Prelude.{Answer, AnswersOfLock, AnswersTo, Any, AnyAnswers, AnyMeans, AnyWait, AreObjectsBy, Await, BeginsWith, Cause, Doing, DoingFits, FirstClock, Found, Free, GoesRound, HasLedTo, Held, InHand, InRound, IsLater, IsLawfulWhole, IsReady, LookBy}
-use Rattle.ns_world.proofs.Prelude.{Looked, LooksByLimits, LooksByRound, MayEnd, Means, Next, Number, ObjectEffect, ObjectEvent, ObjectGoes, ObjectLeads, ObjectNext, ObjectSoFar, ObjectWalk, ObjectsSteps, OfObjects, On, OnLock, OnNotes, OnObjects, OnVariables, Operates, Past, PlaceBy}
-use Rattle.ns_world.proofs.Prelude.{Repeat, Reply, Request, Round, RoundGo, RoundGoes, RoundNext, RoundOver, RoundPlace, RoundSoFar, Seat, SeatMakes, Step, WaitMeans, Walk, WalkFits, WalkReply, WereThere, Whole, append-nil, append_assoc, at_will, begins_unchanged, by_round, cause_of}
-use Rattle.ns_world.proofs.Prelude.{course_from, doing_after, doing_by, env_after, env_own, first_place, got_of, held_at, items_of, last_nothing, later_itself, look_in, looks_at, made_begins, mode_of, mode_waited, notes_by, notes_of, nothing_done, object_after, object_asked, object_got}
-use Rattle.ns_world.proofs.Prelude.{object_place, object_step_of, object_want, objects_after, objects_by, objects_own, objects_own_all, operates_on, operating_of, option_map_or, own, own-append, past_and, place_told, reply_of_lock, reply_told, round_by, round_got}
-use Rattle.ns_world.proofs.Prelude.{round_makes_none, round_want, row_after, shown_by, some_among, step_of, there, there_more, wait_first, wait_is_first, waits_for_any, waits_then, walk_of, want_of, woken_by}
+use Rattle.std.proofs.Common.{List, None, Option, Some, [], ap, append-nil, append_assoc, inl, inr, refl, slice_get, slice_set, subst, suc, sym, unwrap_or, ℕ, ◌++◌, ◌∙◌, ◌≡◌}
+use Rattle.ns_world.proofs.Prelude.{Answer, AnswersOfLock, AnswersTo, Any, AnyAnswers, AnyMeans, AnyWait, AreObjectsBy, Await, BeginsToWait, BeginsWith, Cause, Doing, DoingFits, FirstClock, Found, Free, GoesRound, HasLedTo, Held, InHand, InRound, IsLater, IsLawfulWhole, IsReady, LookBy, Looked}
+use Rattle.ns_world.proofs.Prelude.{LooksByLimits, LooksByRound, MayEnd, Means, Next, Number, ObjectEffect, ObjectEvent, ObjectGoes, ObjectLeads, ObjectNext, ObjectSoFar, ObjectWalk, ObjectsSteps, OfObjects, On, OnLock, OnNotes, OnObjects, OnVariables, Operates, Past, PlaceBy, Repeat, Reply}
+use Rattle.ns_world.proofs.Prelude.{Request, Round, RoundGo, RoundGoes, RoundNext, RoundOver, RoundPlace, RoundSoFar, Seat, SeatMakes, Step, WaitMeans, Walk, WalkFits, WalkReply, WereThere, Whole, at_will, begins_unchanged, by_round, cause_of, course_from, doing_after, doing_by, env_after, env_own}
+use Rattle.ns_world.proofs.Prelude.{first_place, got_of, held_at, items_of, last_nothing, later_itself, look_in, looks_at, made_begins, mode_of, mode_waited, notes_by, notes_of, nothing_done, object_after, object_asked, object_got, object_place, object_step_of, object_want, objects_after}
+use Rattle.ns_world.proofs.Prelude.{objects_by, objects_own, objects_own_all, operates_on, operating_of, option_map_or, own, own-append, past_and, place_told, reply_of_lock, reply_told, round_by, round_got, round_makes_none, round_want, row_after, shown_by, some_among, step_of, there, there_more}
+use Rattle.ns_world.proofs.Prelude.{wait_first, wait_is_first, waits_for_any, waits_then, walk_of, want_of, woken_by}
+use Rattle.ns_world.specs.Prelude.{IsLawful, Over}
 use Rattle.ns_world.proofs.HowFar.{AsShown, Awaiting, HasCome, LockLeads, LockUnderway, ObjectsUnderway, Outcome, RoundOn, ShownOn, Untouched, lock_rests, no_own, no_own_notes, shown_rests, until_rests, wait_for}
 use Rattle.ns_world.proofs.Looking.{Acts, round_goes, waits_is}
 use Rattle.ns_world.proofs.Mapped.{got-map}
 use Rattle.ns_world.proofs.OwnSteps.{lock_looked, lock_quietly}
 use Rattle.ns_world.proofs.SeatSet.{here_then, number_here}
 use Rattle.ns_world.proofs.Shown.{begins_on}
-use Rattle.ns_world.specs.Prelude.{IsLawful, Over}
 use Rattle.ns_counters.specs.declared.walk.ObjectNext.TheVariants.{Go}
 use Rattle.ns_world.proofs.Led.{fits_here}
 use Rattle.ns_word.specs.declared.request.Request.TheVariants as TheRequest
 use Rattle.ns_word.specs.declared.walk.Reply.TheVariants as TheWalk
 use Rattle.ns_word.specs.declared.walk.Next.TheVariants as TheNext
-use Rattle.ns_world.specs.Among.{BeginsToWait}
 
 -- a wait on the lock for any of several tells which variable has woken it
 woken_is : (by : Option ℕ) → woken_by (reply_of_lock (TheWalk.WokenBy by)) ≡ by

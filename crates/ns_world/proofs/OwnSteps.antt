@@ -1,9 +1,9 @@
 -- Where a step of its own leads a call on the lock, or on the clock and the notes.
-use Rattle.std.proofs.Common.{List, None, Option, Some, [], ap, inl, inr, length, map, refl, slice_get, slice_set, subst, sym, ℕ, ◌++◌, ◌∙◌, ◌≡◌}
-use Rattle.ns_world.proofs.Prelude.{Act, AnyWait, AreBy, BeginsWith, CallGoes, Cause, Course, Doing, DoingFits, Effect, EnvCourse, EnvEffect, EnvEvent, EnvGoes, EnvGoesOn, EnvNext, EnvRequest, EnvWalk, Event, Found, Go, GoesOn, IsLawfulWhole, LedTo, Look, LookBy, LookOver, Looked}
-use Rattle.ns_world.proofs.Prelude.{Looks, LooksByLimits, LooksByRound, Means, Next, NotesSteps, OfLock, OfNotes, On, OnLock, OnNotes, OnObjects, Over, Part, Past, Request, Seat, SeatMakes, SoFar, Step, Truths, WaitsFor, Walk, WasShown, Whole, append_assoc, asked_of, asking_of}
-use Rattle.ns_world.proofs.Prelude.{course_after, doing_after, doing_by, env_asked_of, env_course_after, env_got_of, env_own, env_own-append, env_own_all, env_state, env_step_of, env_walk_after, env_want_of, got_of, held_at, limits_of, lock_of, look_in, looked_after, looks_at}
-use Rattle.ns_world.proofs.Prelude.{notes_by, notes_of, nothing_done, objects_after, objects_by, option_map_or, outcome, own, own_all, own_append, part_in, past_and, row_after, step_by, step_of, step_takes_on, takes_on, there, view_of, walk_of, want_of}
+use Rattle.std.proofs.Common.{List, None, Option, Some, [], ap, append_assoc, inl, inr, length, map, refl, slice_get, slice_set, subst, sym, ℕ, ◌++◌, ◌∙◌, ◌≡◌}
+use Rattle.ns_world.proofs.Prelude.{Act, AnyWait, AreBy, BeginsWith, CallGoes, Cause, Course, Doing, DoingFits, Effect, EnvCourse, EnvEffect, EnvEvent, EnvGoes, EnvGoesOn, EnvNext, EnvRequest, EnvWalk, Event, Found, Go, GoesOn, IsLawfulWhole, LedTo, Look, LookBy, LookOver, Looked, Looks}
+use Rattle.ns_world.proofs.Prelude.{LooksByLimits, LooksByRound, Means, Next, NotesSteps, OfLock, OfNotes, On, OnLock, OnNotes, OnObjects, Over, Part, Past, Request, Seat, SeatMakes, SoFar, Step, Truths, WaitsFor, Walk, WasShown, Whole, asked_of, asking_of, course_after, doing_after, doing_by}
+use Rattle.ns_world.proofs.Prelude.{env_asked_of, env_course_after, env_got_of, env_own, env_own-append, env_own_all, env_state, env_step_of, env_walk_after, env_want_of, got_of, held_at, limits_of, lock_of, look_in, looked_after, looks_at, notes_by, notes_of, nothing_done, objects_after}
+use Rattle.ns_world.proofs.Prelude.{objects_by, option_map_or, outcome, own, own_all, own_append, part_in, past_and, row_after, step_by, step_of, step_takes_on, takes_on, there, view_of, walk_of, want_of}
 use Rattle.ns_world.proofs.HowFar.{HasCome, LockLeads, LockUnderway, Outcome, Untouched, lock_rests, no_own, no_own_notes}
 use Rattle.ns_world.proofs.Led.{events_by, fits_here}
 use Rattle.ns_world.proofs.Looking.{Acts, FirstIf, look_goes}

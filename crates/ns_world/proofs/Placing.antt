@@ -1,7 +1,7 @@
 -- Where a call on the lock goes on: its seat may stand there, at the beginning of a look or of a round where it is to look.
-use Rattle.std.proofs.Common.{IsSome, None, Option, Some, ap, refl, slice_set, subst, sym, ℕ, ◌∙◌, ◌≡◌}
-use Rattle.ns_world.proofs.Prelude.{Act, AnyWait, AtRest, Doing, DoingFits, Fit, Found, Held, IfMade, Limits, Look, LookBy, Next, NoteStanding, ObjectStanding, On, Seat, Setup, Step, Steps, WaitsFor, Walk, Whole, asked_of, asked_stays, asking_of, doing_after, doing_at}
-use Rattle.ns_world.proofs.Prelude.{doing_by, false, got_of, is_call, lock_of, look_in, looks_at, looks_by_asked, note_asked, operating_of, slice_get, step_at, view_of, walk_after, walk_of, want_of}
+use Rattle.std.proofs.Common.{IsSome, None, Option, Some, ap, false, refl, slice_get, slice_set, subst, sym, ℕ, ◌∙◌, ◌≡◌}
+use Rattle.ns_world.proofs.Prelude.{Act, AnyWait, AtRest, Doing, DoingFits, Fit, Found, Held, IfMade, Limits, Look, LookBy, Next, NoteStanding, ObjectStanding, On, Seat, Setup, Step, Steps, WaitsFor, Walk, Whole, asked_of, asked_stays, asking_of, doing_after, doing_at, doing_by, got_of, is_call}
+use Rattle.ns_world.proofs.Prelude.{lock_of, look_in, looks_at, looks_by_asked, note_asked, operating_of, step_at, view_of, walk_after, walk_of, want_of}
 use Rattle.ns_world.proofs.SeatSet.{reads}
 use Rattle.ns_world.proofs.Looking.{Acts, FirstIf}
 use Rattle.ns_world.proofs.Mapped.{got-map}

@@ -1,7 +1,7 @@
 -- A world with one of its seats set: what each machine sees of it, and the law.
-use Rattle.std.proofs.Common.{List, None, Option, Some, ap, drop, inl, inr, length, map, refl, slice_get, slice_set, subst, suc, sym, take, true, zero-add, ℕ, ◌++◌, ◌<◌, ◌∙◌, ◌∷◌, ◌≡◌, ◌≢◌, ◌≤◌}
-use Rattle.ns_world.proofs.Prelude.{AnyWait, AreNumbered, Doing, DoingFits, HasLedTo, Held, IfMade, IsLawful, IsLawfulWhole, IsSettled, LooksByLimits, LooksByRound, NoteStanding, OnLock, Past, PlaceFits, Request, Seat, SeatView, Setup, WaitsFor, Whole, asked_of, cases_eq, kept}
-use Rattle.ns_world.proofs.Prelude.{length-set, lock_of, map-set, note_asked, number, number_at, numbers_stay, same_Some, set_here, set_same, set_there, slice_get_within, split_at, there_more, view_fits, view_of, walk_of}
+use Rattle.std.proofs.Common.{List, None, Option, Some, ap, drop, inl, inr, length, length-set, map, refl, slice_get, slice_set, subst, suc, sym, take, true, zero-add, ℕ, ◌++◌, ◌<◌, ◌∙◌, ◌∷◌, ◌≡◌, ◌≢◌, ◌≤◌}
+use Rattle.ns_world.proofs.Prelude.{AnyWait, AreNumbered, Doing, DoingFits, HasLedTo, Held, IfMade, IsLawful, IsLawfulWhole, IsSettled, LooksByLimits, LooksByRound, NoteStanding, OnLock, Past, PlaceFits, Request, Seat, SeatView, Setup, WaitsFor, Whole, asked_of, cases_eq, kept, lock_of, map-set}
+use Rattle.ns_world.proofs.Prelude.{note_asked, number, number_at, numbers_stay, same_Some, set_here, set_same, set_there, slice_get_within, split_at, there_more, view_fits, view_of, walk_of}
 use Rattle.ns_world.proofs.Mapped.{got-map}
 use Rattle.ns_world.proofs.Exchanged.{made}
 

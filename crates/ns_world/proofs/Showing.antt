@@ -1,6 +1,6 @@
 -- What is shown of a front of the seats, and of the rest.
-use Rattle.std.proofs.Common.{Bool, List, [], ap, arith, cond, drop, drop-cons, false, get_or, length, map, refl, suc, sym, take, true, ℕ, ◌++◌, ◌+◌, ◌<◌, ◌∙◌, ◌∷◌, ◌≡◌, ◌≤◌}
-use Rattle.ns_world.proofs.Prelude.{Lists, Seat, Truths, append-nil, drop_all, flat_map-append, hand_of, has_queues, length-append, lists_by, take-append-drop, take_more, wakes_by, wakes_owed, walk_of}
+use Rattle.std.proofs.Common.{Bool, List, [], ap, append-nil, arith, cond, drop, drop-cons, false, get_or, length, length-append, map, refl, suc, sym, take, take-append-drop, true, ℕ, ◌++◌, ◌+◌, ◌<◌, ◌∙◌, ◌∷◌, ◌≡◌, ◌≤◌}
+use Rattle.ns_world.proofs.Prelude.{Lists, Seat, Truths, drop_all, flat_map-append, hand_of, has_queues, lists_by, take_more, wakes_by, wakes_owed, walk_of}
 
 module _ {C : Type 0} {N : ℕ} (seats : List (Seat C N)) (i : ℕ) (seat : Seat C N) (within : i < length seats) (is : seat ≡ get_or seats i seat) where
   pub wakes_more : wakes_owed (take (i + 1) seats) ≡ wakes_owed (take i seats) ++ map (λ wake. (seat.number, wake.seat)) seat.owed.items

@@ -1,7 +1,7 @@
 -- What a lawful world gives to those who show it.
-use Rattle.std.proofs.Common.{IfSome, List, None, Option, Some, [], ap, arith, cond, drop, inl, inr, length, map, refl, slice_get, suc, sym, take, true, ℕ, ◌++◌, ◌+◌, ◌<◌, ◌∙◌, ◌∷◌, ◌≡◌, ◌≤◌}
-use Rattle.ns_world.proofs.Prelude.{Event, HasList, Inside, IsLawful, IsLawfulWhole, LockState, Owed, Read, Seat, SeatView, Truths, Waiter, Walk, Whole, cases_eq, counts_in, few, has_armed, has_list, is_unwoken, kept, length-append, length-map, lock_of, number, one_most, owed_to}
-use Rattle.ns_world.proofs.Prelude.{placed_below, slice_get_within, stands_nowhere, times, times_among, times_in, times_in-cons, unqueued, view_of, wakes_owed, walk_at, walk_of, whole_of}
+use Rattle.std.proofs.Common.{IfSome, List, None, Option, Some, [], ap, arith, cond, drop, inl, inr, length, length-append, map, refl, slice_get, suc, sym, take, true, ℕ, ◌++◌, ◌+◌, ◌<◌, ◌∙◌, ◌∷◌, ◌≡◌, ◌≤◌}
+use Rattle.ns_world.proofs.Prelude.{Event, HasList, Inside, IsLawful, IsLawfulWhole, LockState, Owed, Read, Seat, SeatView, Truths, Waiter, Walk, Whole, cases_eq, counts_in, few, has_armed, has_list, is_unwoken, kept, length-map, lock_of, number, one_most, owed_to, placed_below, slice_get_within}
+use Rattle.ns_world.proofs.Prelude.{stands_nowhere, times, times_among, times_in, times_in-cons, unqueued, view_of, wakes_owed, walk_at, walk_of, whole_of}
 use Rattle.ns_world.proofs.SeatSet.{number_here, split_here}
 
 module _ {C : Type 0} {N : ℕ} (truths : Truths C) (w : Inside C N) (lawful : IsLawfulWhole (whole_of truths (kept w.word w.row w.queues w.flags w.env w.seats.items w.history.items w.objects))) where

@@ -1,12 +1,11 @@
 -- What a lawful world gives to a step of one of its seats.
-use Rattle.std.proofs.Common.{IfSome, List, None, Option, Some, [], ap, drop, map, slice_get, subst, suc, sym, take, true, unwrap_or, ℕ, ◌∙◌, ◌∷◌, ◌≡◌, ◌≤◌}
-use Rattle.ns_world.proofs.Prelude.{ActFits, AnyWait, Commits, Doing, DoingFits, EnvActFits, EnvWalk, Every, InRound, IsFew, IsLawfulWhole, IsLow, MayGoOn, NeedsSection, NoteStanding, ObjectWalk, OnLock, OnObjects, OnVariable, OutOfMemory, Seat, SeatView, Setup, StepFits, Walk, WalkFits}
-use Rattle.ns_world.proofs.Prelude.{Whole, WholeFault, act_fits, asking_of, asks_in_range, env_want_of, first_of_all, is_there, items_of, length-map, list_all, lock_of, looks_at, ltb-true, may_step, notes_of, object_asked, objects_after, objects_of, operating_of, part_in, rest_of_all, view_of}
-use Rattle.ns_world.proofs.Prelude.{walk_of, want_of}
+use Rattle.std.proofs.Common.{IfSome, List, None, Option, Some, [], ap, drop, ltb-true, map, slice_get, subst, suc, sym, take, true, unwrap_or, ℕ, ◌∙◌, ◌∷◌, ◌≡◌, ◌≤◌}
+use Rattle.ns_world.proofs.Prelude.{ActFits, AnyWait, Commits, Doing, DoingFits, EnvActFits, EnvWalk, Every, InRound, IsFew, IsLawfulWhole, IsLow, MayGoOn, NeedsSection, NoteStanding, ObjectWalk, OnLock, OnObjects, OnVariable, OutOfMemory, Seat, SeatView, Setup, StepFits, Walk, WalkFits, Whole}
+use Rattle.ns_world.proofs.Prelude.{WholeFault, act_fits, asking_of, asks_in_range, env_want_of, first_of_all, is_there, items_of, length-map, list_all, lock_of, looks_at, may_step, notes_of, object_asked, objects_after, objects_of, operating_of, part_in, rest_of_all, view_of, walk_of, want_of}
+use Rattle.ns_world.specs.Prelude.{Item}
 use Rattle.ns_world.proofs.Mapped.{got-map}
 use Rattle.ns_world.proofs.Places.{fits_more}
 use Rattle.ns_world.proofs.SeatSet.{number_here, split_here}
-use Rattle.ns_world.specs.Prelude.{Item}
 
 low_if_there : (setup : Setup) (notes : ℕ → NoteStanding) (item : Item) → is_there setup notes item ≡ true → IsLow item
 low_if_there setup notes (OnVariable k) is = ltb-true k 4 is

@@ -1,8 +1,8 @@
 -- A turn of a run, by what beginning a call and a step promise.
-use Rattle.std.proofs.Common.{Bool, Err, IfErr, IfOk, List, None, Ok, Option, Result, Some, [], ap, arith, cond, false, inl, inr, length, nat_lt, not, refl, slice_get, subst, sym, true, ℕ, ◌-◌, ◌∙◌, ◌∷◌, ◌≡◌, ◌≢◌}
-use Rattle.ns_world.proofs.Prelude.{AnyWait, Call, Commits, EnvNext, Fault, Go, GoesOnOrBegins, InCells, Lists, LookOver, Looked, Mode, Next, NoSuchSeat, ObjectLeads, ObjectNext, On, OutOfMemory, Progress, Round, RoundLeads, Seat, SeatLooks, SeatMakes, Sees, Step, TurnOf, Turned, TurnsOf}
-use Rattle.ns_world.proofs.Prelude.{TurnsWith, UnlockQuiet, Walk, Went, Whole, WholeFault, WholeIsBusy, WholeIsIdle, WholeMoves, WholeStarts, WholeStep, Word, env_got_of, env_step_of, got_of, in_call, is_call, length-set, mode_of, object_step_of, option_map_or, placed, progress}
-use Rattle.ns_world.proofs.Prelude.{progressed, same_Some, set_here, slice_get_within, start_of, step_of, waits_then, walk_of, want_of, whole_busy}
+use Rattle.std.proofs.Common.{Bool, Err, IfErr, IfOk, List, None, Ok, Option, Result, Some, [], ap, arith, cond, false, inl, inr, length, length-set, nat_lt, not, refl, slice_get, subst, sym, true, ℕ, ◌-◌, ◌∙◌, ◌∷◌, ◌≡◌, ◌≢◌}
+use Rattle.ns_world.proofs.Prelude.{AnyWait, Call, Commits, EnvNext, Fault, Go, GoesOnOrBegins, InCells, Lists, LookOver, Looked, Mode, Next, NoSuchSeat, ObjectLeads, ObjectNext, On, OutOfMemory, Progress, Round, RoundLeads, Seat, SeatLooks, SeatMakes, Sees, Step, TurnOf, Turned, TurnsOf, TurnsWith}
+use Rattle.ns_world.proofs.Prelude.{UnlockQuiet, Walk, Went, Whole, WholeFault, WholeIsBusy, WholeIsIdle, WholeMoves, WholeStarts, WholeStep, Word, env_got_of, env_step_of, got_of, in_call, is_call, mode_of, object_step_of, option_map_or, placed, progress, progressed, same_Some, set_here}
+use Rattle.ns_world.proofs.Prelude.{slice_get_within, start_of, step_of, waits_then, walk_of, want_of, whole_busy}
 use Rattle.ns_world.specs.Prelude.{Nothing, Wait}
 use Rattle.ns_world.proofs.SeatSet.{as_many}
 use Rattle.ns_counters.specs.declared.walk.ObjectNext.TheVariants as TheObject

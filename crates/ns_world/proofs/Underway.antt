@@ -1,9 +1,10 @@
 -- From its beginning to its answer a call is under way, whatever others do, and its answer means what it says.
-use Rattle.std.proofs.Common.{List, None, Option, Some, [], ap, false, inl, inr, refl, slice_get, slice_set, subst, suc, sym, zero, ℕ, ◌++◌, ◌∙◌, ◌≡◌, ◌≢◌, ◌⊎◌}
-use Rattle.ns_world.proofs.Prelude.{Add, AnswersCall, AnyWait, AreEnvBy, AreObjectsBy, AreThere, Asked, AtRest, Call, CallFits, CounterWait, Doing, Done, Event, Finished, Found, Happens, HasLedTo, IsLawfulWhole, IsUnfinished, Meanwhile, Mode, ObjectSoFar, OfLock, OfNotes, OfObjects}
-use Rattle.ns_world.proofs.Prelude.{OnCondition, OnEntry, OnLock, OnNotes, OnObjects, Once, Past, Reply, Seat, SeatMakes, Started, Step, ToRelease, UnlockQuiet, Value, WaitAny, Walk, Whole, WholeBegins, WholeMoves, WholeStarts, WholeStep, append-nil, append_assoc, asked_of, asks_of}
-use Rattle.ns_world.proofs.Prelude.{begins_course, begins_itself, begins_unchanged, cases_eq, course_from, done_by, done_in, env_after, env_asked_of, env_course_at, env_own, env_own-append, env_own_none, happened, held_at, in_call, is_call, later_itself, mode_of, mode_waited, notes_by}
-use Rattle.ns_world.proofs.Prelude.{nothing_done, object_asked, objects_by, objects_own, option_map_or, own, own-append, own_none, own_row_append, own_row_none, past_and, placed, quiet_asks, same_Some, set_here, set_there, slice_get_within, start_of, step_by, test_asks, view_of, walk_of}
+use Rattle.std.proofs.Common.{List, None, Option, Some, [], ap, append-nil, append_assoc, false, inl, inr, refl, slice_get, slice_set, subst, suc, sym, zero, ℕ, ◌++◌, ◌∙◌, ◌≡◌, ◌≢◌, ◌⊎◌}
+use Rattle.ns_world.proofs.Prelude.{Add, AnswersCall, AnyWait, AreEnvBy, AreObjectsBy, AreThere, Asked, AtRest, Call, CallFits, CounterWait, Doing, Done, Event, Finished, Found, Happens, HasLedTo, IsLawfulWhole, IsUnfinished, Meanwhile, Mode, ObjectSoFar, OfLock, OfNotes, OfObjects, OnCondition}
+use Rattle.ns_world.proofs.Prelude.{OnEntry, OnLock, OnNotes, OnObjects, Once, Past, Reply, Seat, SeatMakes, Started, Step, ToRelease, UnlockQuiet, Value, WaitAny, Walk, Whole, WholeBegins, WholeMoves, WholeStarts, WholeStep, asked_of, asks_of, begins_course, begins_itself, begins_unchanged}
+use Rattle.ns_world.proofs.Prelude.{cases_eq, course_from, done_by, done_in, env_after, env_asked_of, env_course_at, env_own, env_own-append, env_own_none, happened, held_at, in_call, is_call, later_itself, mode_of, mode_waited, notes_by, nothing_done, object_asked, objects_by, objects_own}
+use Rattle.ns_world.proofs.Prelude.{option_map_or, own, own-append, own_none, own_row_append, own_row_none, past_and, placed, quiet_asks, same_Some, set_here, set_there, slice_get_within, start_of, step_by, test_asks, view_of, walk_of}
+use Rattle.ns_world.specs.Prelude.{Wait}
 use Rattle.ns_world.proofs.HowFar.{AddsNothing, HasCome, Outcome, UnderwayIn, has_rests, no_own, no_own_notes, unfinished}
 use Rattle.ns_world.proofs.Laws.{moves_led, no_more, starts_led, steps_led}
 use Rattle.ns_world.proofs.OwnRounds.{objects_take_on}
@@ -11,7 +12,6 @@ use Rattle.ns_world.proofs.OwnSteps.{lock_takes_on, notes_take_on}
 use Rattle.ns_world.proofs.Places.{IsFirstAt, IsNoLook, first_at}
 use Rattle.ns_world.proofs.SeatSet.{here_then, number_here, others_stay}
 use Rattle.ns_world.proofs.Shown.{begins_on}
-use Rattle.ns_world.specs.Prelude.{Wait}
 use Rattle.ns_world.proofs.Placing.{act_steps}
 use Rattle.ns_world.proofs.Looking.{Acts, makes_means}
 

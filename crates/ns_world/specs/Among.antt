@@ -1,8 +1,7 @@
 -- Waits for condition variables among notes and counters. As such a call begins, a round looks at the notes and counters; where that shows nothing, the call leaves its section and waits on the lock for the variables; and whenever that wait looks, another round does so.
 use Rattle.std.specs.Prelude.{Bool, IsSome, None, Option, Some, false, if◌then◌else◌, true, unwrap_or, ℕ, ◌≡◌, ◌≤◌}
-use Rattle.ns_world.specs.Names.{Any, AnyWait, AreAmong, AreVariables, Await, Cause, Cvs, Every, Expired, Held, InRound, IsLow, Limits, Mode, Number, ObjectNext, ObjectWalk, OnLock, OnVariables, Over, Repeat, Reply, Request, Round, Seat, Step, Subject, Went, have_variable, items_of}
+use Rattle.ns_world.specs.Names.{Any, AnyWait, AreAmong, AreVariables, Await, Cause, Cvs, Every, Expired, Held, InRound, IsLow, Limits, Mode, Number, ObjectNext, ObjectWalk, OnLock, OnVariables, Over, Repeat, Reply, Request, Round, Seat, Step, Subject, WaitFor as Wait, Went, have_variable, items_of}
 use Rattle.ns_world.specs.Names.{place_in, wait_first}
-use Rattle.ns_word.specs.declared.wait.Wait.{Wait}
 use Rattle.ns_world.specs.Calls.{mode_of, mode_waited}
 use Rattle.ns_world.specs.Doings.{placed}
 use Rattle.ns_counters.specs.declared.reply.ObjectReply.TheVariants as TheObject

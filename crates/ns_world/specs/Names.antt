@@ -1,9 +1,10 @@
 -- The names of crates below and of this crate's own types, passed on from one place. Declares nothing.
-pub use Rattle.ns_counters.specs.Prelude.{AnyAnswers, AreThere, AtSomePoint, EnvPlain, EnvState, HaveShownNothing, IsLater, IsLawful, IsLawfulEnv, IsLawfulObjects, IsLow, IsReady, NoteStanding, ObjectEffect, ObjectGoes, ObjectSoFar, ObjectStanding, ObjectState, Past, RoundShows, RoundSoFar}
-pub use Rattle.ns_counters.specs.Prelude.{StepFits, WalkFits, WereThere, by_round, env_after, env_got_of, first_words, is_among, is_due, is_there, item_at, items_of, most, object_after, object_asked, object_got, object_place, object_want, object_who, objects_after, objects_own, padded}
-pub use Rattle.ns_counters.specs.Prelude.{past_and, place_in, round_got, setup_of, standing_of, state_of, walk_in, word_at}
 pub use Rattle.ns_counters.specs.Items.{AreAmong, have_variable}
 pub use Rattle.ns_counters.specs.Meanings.{ObjectMeans}
+pub use Rattle.ns_counters.specs.Names.{EnvAct, EnvFound, EnvNext, EnvWalk, ForIsNotified, Go, NoteLoad, NoteWord}
+pub use Rattle.ns_counters.specs.Prelude.{AnyAnswers, AreThere, AtSomePoint, EnvEvent, EnvPlain, EnvState, HaveShownNothing, IsLater, IsLawful, IsLawfulEnv, IsLawfulObjects, IsLow, IsReady, NoteStanding, ObjectEffect, ObjectGoes, ObjectSoFar, ObjectStanding, ObjectState, Past, RoundShows}
+pub use Rattle.ns_counters.specs.Prelude.{RoundSoFar, StepFits, WalkFits, WereThere, by_round, env_after, env_got_of, first_words, is_among, is_due, is_there, item_at, items_of, most, object_after, object_asked, object_got, object_place, object_want, object_who, objects_after, objects_own, padded}
+pub use Rattle.ns_counters.specs.Prelude.{past_and, place_in, round_got, setup_of, standing_of, state_of, walk_in, word_at}
 pub use Rattle.ns_counters.specs.declared.items.Item.{Item}
 pub use Rattle.ns_counters.specs.declared.items.Item.TheVariants.{OnVariable}
 pub use Rattle.ns_counters.specs.declared.items.Items.{Items}
@@ -20,43 +21,23 @@ pub use Rattle.ns_counters.specs.declared.walk.ObjectNext.{ObjectNext}
 pub use Rattle.ns_counters.specs.declared.walk.ObjectNext.TheVariants.{Over, Repeat}
 pub use Rattle.ns_counters.specs.declared.walk.ObjectWalk.{ObjectWalk}
 pub use Rattle.ns_counters.specs.declared.walk.ObjectWalk.TheVariants.{AddLoad, DoneLoad, InRound, OnceLoad, ValueLoad, WaitMark}
-pub use Rattle.ns_env.specs.Prelude.{EnvActFits, EnvCourse, EnvEffect, EnvGoes, EnvSoFar, IfMade, IsFirstAsk, Shows, env_asked_of, env_course_after, env_course_at, env_own, env_walk_after, env_want_of, env_who, fresh_plain, is_over, outcome, passed, stopped, up_to}
 pub use Rattle.ns_env.specs.Meanings.{EnvGoesOn, EnvMeans, LookMeans}
-pub use Rattle.ns_env.specs.declared.act.EnvAct.{EnvAct}
-pub use Rattle.ns_env.specs.declared.act.EnvFound.{EnvFound}
-pub use Rattle.ns_env.specs.declared.limits.Cause.{Cause}
-pub use Rattle.ns_env.specs.declared.limits.Cause.TheVariants.{Expired}
-pub use Rattle.ns_env.specs.declared.limits.Limits.{Limits}
-pub use Rattle.ns_env.specs.declared.note.NoteWord.{NoteWord}
+pub use Rattle.ns_env.specs.Names.{no_note}
+pub use Rattle.ns_env.specs.Prelude.{EnvActFits, EnvCourse, EnvEffect, EnvGoes, EnvSoFar, IfMade, IsFirstAsk, Shows, env_asked_of, env_course_after, env_course_at, env_own, env_walk_after, env_want_of, env_who, fresh_plain, is_over, outcome, passed, stopped, up_to}
 pub use Rattle.ns_env.specs.declared.reply.EnvReply.{EnvReply}
 pub use Rattle.ns_env.specs.declared.request.EnvRequest.{EnvRequest}
-pub use Rattle.ns_env.specs.declared.walk.Chain.TheVariants.{ForIsNotified, ForLook, ForNoteWait}
-pub use Rattle.ns_env.specs.declared.walk.EnvNext.{EnvNext}
-pub use Rattle.ns_env.specs.declared.walk.EnvNext.TheVariants.{Go, LookOver}
-pub use Rattle.ns_env.specs.declared.walk.EnvWalk.{EnvWalk}
-pub use Rattle.ns_env.specs.declared.walk.EnvWalk.TheVariants.{Advancing, ClockLoad, ExpiryLoad, NextLoad, NoteLoad, Notifying}
-pub use Rattle.ns_word.specs.Prelude.{ActFits, AreBy, AreNumbered, AreVariables, BeginsWith, CallGoes, CanLeave, CanWait, Course, Effect, Every, HasList, HasMode, InHand, IsFirst, IsInRange, IsSettled, IsUnmet, Lists, LockState, MayEnd, MayShow, MayWait, Means, OwesOne, Part, PlaceFits}
-pub use Rattle.ns_word.specs.Prelude.{QuietKeeps, SoFar, Step as Steps, Truths, asked_of, bits_of, called_by, called_of, change_commits, changed, counts_in, course_after, course_from, cvs_without, exit_for, fresh_state, fresh_views, got_of, has_armed, has_queues, has_some, held_after, is_held}
-pub use Rattle.ns_word.specs.Prelude.{is_in, is_unwoken, leave_of, left_of, looked_after, meets_at, moved_to, owed_to, own, quiet_first, releasing_of, row_after, section_of, stands_at, taken_by, taken_set, times, times_among, times_in, wait_first, waited_in, waiters_of, wakes_of, walk_after}
-pub use Rattle.ns_word.specs.Prelude.{walk_at, want_of, with_waiters, woken_of, word_released, word_released_returning, word_returned}
-pub use Rattle.ns_model.specs.Environments.{no_note}
-pub use Rattle.ns_model.specs.Room.{HasRoom, room, room_enough, small_by}
-pub use Rattle.ns_model.specs.declared.cvs.Cvs.{Cvs}
-pub use Rattle.ns_model.specs.declared.cvs.Variables.TheVariants.{Any, Only}
-pub use Rattle.ns_model.specs.declared.environment.EnvEvent.{EnvEvent}
-pub use Rattle.ns_model.specs.declared.event.Answer.{Answer}
-pub use Rattle.ns_model.specs.declared.event.Event.{Event}
-pub use Rattle.ns_model.specs.declared.event.Exit.TheVariants.{Plain}
-pub use Rattle.ns_model.specs.declared.event.Mode.{Mode}
-pub use Rattle.ns_model.specs.declared.event.Mode.TheVariants.{Read, Write}
-pub use Rattle.ns_queue.specs.Scans.{tests_of}
-pub use Rattle.ns_queue.specs.Waiters.{shown_of}
-pub use Rattle.ns_queue.specs.declared.waiter.Waiter.{Waiter}
-pub use Rattle.ns_queue.specs.declared.waiter.Which.TheVariants.{Cv}
+pub use Rattle.ns_env.specs.declared.walk.Chain.TheVariants.{ForLook, ForNoteWait}
+pub use Rattle.ns_env.specs.declared.walk.EnvNext.TheVariants.{LookOver}
+pub use Rattle.ns_env.specs.declared.walk.EnvWalk.TheVariants.{Advancing, ClockLoad, ExpiryLoad, NextLoad, Notifying}
+pub use Rattle.ns_queue.specs.Names.{HasRoom, room, room_enough, small_by}
+pub use Rattle.ns_queue.specs.Prelude.{shown_of}
 pub use Rattle.ns_word.specs.Courses.{GoesOn}
 pub use Rattle.ns_word.specs.Meanings.{AnyMeans, WaitMeans}
 pub use Rattle.ns_word.specs.Places.{ChangeFits}
-pub use Rattle.ns_word.specs.Steps.{in_hand}
+pub use Rattle.ns_word.specs.Prelude.{ActFits, Answer, Any, AreBy, AreNumbered, AreVariables, BeginsWith, CallGoes, CanLeave, CanWait, Cause, Course, Cv, Cvs, Effect, Event, Every, Expired, HasList, HasMode, InHand, IsFirst, IsInRange, IsSettled, IsUnmet, Limits, Lists, LockState, MayEnd, MayShow}
+pub use Rattle.ns_word.specs.Prelude.{MayWait, Means, Mode, Only, OwesOne, Part, PlaceFits, Plain, QuietKeeps, Read, SoFar, Truths, Waiter, Write, asked_of, bits_of, called_by, called_of, change_commits, changed, counts_in, course_after, course_from, cvs_without, exit_for, fresh_state, fresh_views}
+pub use Rattle.ns_word.specs.Prelude.{got_of, has_armed, has_queues, has_some, held_after, in_hand, is_held, is_in, is_unwoken, leave_of, left_of, looked_after, meets_at, moved_to, owed_to, own, quiet_first, releasing_of, row_after, section_of, stands_at, taken_by, taken_set, tests_of, times}
+pub use Rattle.ns_word.specs.Prelude.{times_among, times_in, wait_first, waited_in, waiters_of, wakes_of, walk_after, walk_at, want_of, with_waiters, woken_of, word_released, word_released_returning, word_returned}
 pub use Rattle.ns_word.specs.declared.acquire_walk.AcquirePlace.TheVariants.{AcquireLoad}
 pub use Rattle.ns_word.specs.declared.act.Act.{Act}
 pub use Rattle.ns_word.specs.declared.act.Act.TheVariants.{ArmFlag, LoadFlag, Look, PayWake, Release, ReleaseReturning, ReturnQueues, WaitReturning}

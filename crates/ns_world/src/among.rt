@@ -13,14 +13,7 @@
 //! | is on the lock | ends the wait | the answer is the place of the variable which woke it, else what the last round has shown |
 
 ghost use Rattle.std.specs.Prelude.{◌≡◌, ◌≤◌, IfSome, IsSome, true};
-ghost use Rattle.ns_counters.specs.Asks.{StepFits};
-ghost use Rattle.ns_counters.specs.Items.{IsLow, have_variable, items_of};
-ghost use Rattle.ns_counters.specs.declared.walk.ObjectNext.{ObjectNext as ObjectNextOf};
-ghost use Rattle.ns_model.specs.Tallies.{Every};
-ghost use Rattle.ns_world.specs.Among.{BeginsToWait, IsFew, MayGoOn, NamesFew, cause_of, reply_for, reply_told, shown_by, waits_then};
-ghost use Rattle.ns_world.specs.Asks.{plain_of};
-ghost use Rattle.ns_world.specs.Looked.{RoundLeads};
-ghost use Rattle.ns_world.specs.Objects.{ObjectLeads, Operates};
+ghost use Rattle.ns_world.specs.Prelude.{BeginsToWait, Every, IsFew, IsLow, MayGoOn, NamesFew, ObjectLeads, ObjectNext as ObjectNextOf, Operates, RoundLeads, StepFits, cause_of, have_variable, items_of, plain_of, reply_for, reply_told, shown_by, waits_then};
 
 use crate::environment::Environment;
 use crate::looks::see;

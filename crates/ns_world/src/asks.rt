@@ -1,10 +1,8 @@
 //! One atomic step on the clock and the notes, as the seat's place in its call wants it.
 
 ghost use Rattle.std.specs.Prelude.{◌≡◌};
-ghost use Rattle.ns_env.specs.Asks.{EnvActFits};
-ghost use Rattle.ns_env.specs.Walks.{env_want_of, env_walk_after};
+ghost use Rattle.ns_world.specs.Prelude.{EnvActFits, env_walk_after, env_want_of, there};
 ghost use Rattle.ns_world.specs.Asks.{Asked, plain_of, env_step_of};
-ghost use Rattle.ns_world.specs.Doings.{there};
 
 use crate::environment::Environment;
 use crate::reply::env_told;

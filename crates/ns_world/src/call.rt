@@ -1,12 +1,7 @@
 //! The calls of a world.
 
 ghost use Rattle.std.specs.Prelude.{◌≡◌, ◌≤◌, ⊤, MatchOption, Some, None, ◌&&◌, is_some, length, if◌then◌else◌};
-ghost use Rattle.ns_world.specs.Asks.{note_at};
-ghost use Rattle.ns_word.specs.Walks.{wait_first};
-ghost use Rattle.ns_world.specs.Calls.{finds, mode_waited, object_start, start_of, CallFits, CallInRange, NamesAll, SectionFits};
-ghost use Rattle.ns_counters.specs.Items.{items_of};
-ghost use Rattle.ns_counters.specs.Asks.{is_there as is_there_in};
-ghost use Rattle.ns_counters.specs.declared.object.Setup.{Setup as SetupOf};
+ghost use Rattle.ns_world.specs.Prelude.{CallFits, CallInRange, NamesAll, SectionFits, Setup as SetupOf, finds, is_there as is_there_in, items_of, mode_waited, note_at, object_start, start_of, wait_first};
 ghost use Rattle.std.specs.List.{list_all};
 
 use crate::environment::{is_made, is_made_or_none};

@@ -1,11 +1,7 @@
 //! The acts on the cells of the row, on the flags and on the section in hand.
 
 ghost use Rattle.std.specs.Prelude.{◌<◌, IsSome, ℕ, List, []};
-ghost use Rattle.ns_model.specs.declared.event.Mode.TheVariants.{Write};
-ghost use Rattle.ns_word.specs.declared.owed.Owed.{Owed};
-ghost use Rattle.ns_word.specs.Places.{HasMode, OwesOne};
-ghost use Rattle.ns_word.specs.Steps.{Effect};
-ghost use Rattle.ns_world.specs.Performs.{part};
+ghost use Rattle.ns_world.specs.Prelude.{Effect, HasMode, Owed, OwesOne, Write, part};
 
 use crate::room::Seated;
 use arrayvec::ArrayVec;

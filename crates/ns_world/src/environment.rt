@@ -2,10 +2,7 @@
 
 ghost use Rattle.std.specs.Prelude.{◌≡◌, ◌<◌, ℕ, [], true};
 ghost use Rattle.std.specs.Option.{option_map_or};
-ghost use Rattle.ns_env.specs.Asks.{EnvEffect, EnvActFits};
-ghost use Rattle.ns_env.specs.Steps.{fresh_plain, outcome};
-ghost use Rattle.ns_world.specs.Asks.{plain_of, note_at};
-ghost use Rattle.ns_counters.specs.Asks.{IsLoad};
+ghost use Rattle.ns_world.specs.Prelude.{EnvActFits, EnvEffect, IsLoad, fresh_plain, note_at, outcome, plain_of};
 
 use ns_env::act::{EnvAct, EnvFound};
 use ns_env::note::NoteWord;

@@ -2,15 +2,7 @@
 //! last seen is made; any other changes nothing.
 
 ghost use Rattle.std.specs.Prelude.{◌≡◌, ◌<◌, ◌++◌, ◌∷◌, ℕ, true, false, None, List, [], IsSome, IfSome, MatchResult, if◌then◌else◌};
-ghost use Rattle.ns_queue.specs.Queues.{times};
-ghost use Rattle.ns_word.specs.declared.owed.Owed.{Owed};
-ghost use Rattle.ns_word.specs.Places.{ActFits, CanLeave, CanWait, ChangeFits, IsInRange};
-ghost use Rattle.ns_word.specs.Steps.{change_commits, entry_of, exit_for, leave_of, opening_for, section_of, Effect};
-ghost use Rattle.ns_word.specs.Waits.{mode_for};
-ghost use Rattle.ns_word.specs.Words.{may_acquire};
-ghost use Rattle.ns_world.specs.Commits.{Commits, IsEvent};
-ghost use Rattle.ns_world.specs.Looks.{looks_at};
-ghost use Rattle.ns_world.specs.Performs.{part, seat_part, Makes, StaysThere};
+ghost use Rattle.ns_world.specs.Prelude.{ActFits, CanLeave, CanWait, ChangeFits, Commits, Effect, IsEvent, IsInRange, Makes, Owed, StaysThere, change_commits, entry_of, exit_for, leave_of, looks_at, may_acquire, mode_for, opening_for, part, seat_part, section_of, times};
 
 use crate::cells::{arm_flag, judge, judge_met, pay_wake, store};
 use crate::room::Seated;

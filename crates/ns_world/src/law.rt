@@ -1,16 +1,7 @@
 //! What a step does to the histories of a world, and what the answer of a call means.
 
 ghost use Rattle.std.specs.Prelude.{ℕ, List};
-ghost use Rattle.ns_world.specs.declared.call.Call.{Call};
-ghost use Rattle.ns_world.specs.declared.reply.Reply.{Reply};
-ghost use Rattle.ns_world.specs.declared.step.Begun.TheVariants.{Started};
-ghost use Rattle.ns_world.specs.declared.step.Step.{Step};
-ghost use Rattle.ns_world.specs.declared.step.Step.TheVariants.{Finished};
-ghost use Rattle.ns_world.specs.Meanings.{AnswersCall, Meanwhile, done_in, happened};
-ghost use Rattle.ns_counters.specs.Rounds.{Past};
-ghost use Rattle.ns_counters.specs.Meanings.{past_and};
-ghost use Rattle.ns_world.specs.Moves.{AreEnvBy, AreObjectsBy, WholeBegins, WholeStep};
-ghost use Rattle.ns_world.specs.Whole.{HasLedTo, IsLawfulWhole, Whole};
+ghost use Rattle.ns_world.specs.Prelude.{AnswersCall, AreEnvBy, AreObjectsBy, Call, Finished, HasLedTo, IsLawfulWhole, Meanwhile, Past, Reply, Started, Step, Whole, WholeBegins, WholeStep, done_in, happened, past_and};
 
 use ns_model::condition::Condition;
 

@@ -1,14 +1,7 @@
 //! One atomic step of a look of a wait, which loads the clock or a note.
 
 ghost use Rattle.std.specs.Prelude.{◌≡◌, IfSome};
-ghost use Rattle.ns_env.specs.Asks.{EnvActFits};
-ghost use Rattle.ns_env.specs.Walks.{env_want_of};
-ghost use Rattle.ns_word.specs.Steps.{held_after, opening_by};
-ghost use Rattle.ns_word.specs.Walks.{want_of};
-ghost use Rattle.ns_world.specs.Among.{IsFew};
-ghost use Rattle.ns_world.specs.Asks.{plain_of};
-ghost use Rattle.ns_world.specs.Looked.{LookStep, Sees};
-ghost use Rattle.ns_world.specs.Looks.{LooksAt};
+ghost use Rattle.ns_world.specs.Prelude.{EnvActFits, IsFew, LookStep, LooksAt, Sees, env_want_of, held_after, opening_by, plain_of, want_of};
 
 use crate::environment::Environment;
 use crate::objects::AnyWait;

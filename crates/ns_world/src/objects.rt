@@ -1,9 +1,7 @@
 //! The counters and once cells of a world.
 
 ghost use Rattle.std.specs.Prelude.{◌≡◌, ◌<◌, ◌≤◌, length, slice_index, slice_set};
-ghost use Rattle.ns_counters.specs.Steps.{word_at};
-ghost use Rattle.ns_world.specs.Objects.{fresh_words};
-ghost use Rattle.ns_counters.specs.Asks.{word_left};
+ghost use Rattle.ns_world.specs.Prelude.{fresh_words, word_at, word_left};
 
 use ns_counters::act::ObjectAct;
 use ns_counters::object::Setup;

@@ -1,13 +1,7 @@
 //! A step of a call on counters and once cells, or of the round by which a wait looks, over the parts of a world.
 
 ghost use Rattle.std.specs.Prelude.{◌≡◌, ℕ, List};
-ghost use Rattle.ns_world.specs.Asks.{plain_of};
-ghost use Rattle.ns_world.specs.Objects.{Operates, object_step_of};
-ghost use Rattle.ns_world.specs.Doings.{there};
-ghost use Rattle.ns_counters.specs.Walks.{object_after};
-ghost use Rattle.ns_counters.specs.Asks.{ObjectEffect, StepFits, WantFits};
-ghost use Rattle.ns_counters.specs.declared.object.ObjectEvent.{ObjectEvent};
-ghost use Rattle.ns_counters.specs.declared.object.Place.{Place};
+ghost use Rattle.ns_world.specs.Prelude.{ObjectEffect, ObjectEvent, Operates, Place, StepFits, WantFits, object_after, object_step_of, plain_of, there};
 
 use crate::environment::Environment;
 use crate::objects::Objects;

@@ -2,8 +2,7 @@
 //! its call takes.
 
 ghost use Rattle.std.specs.Prelude.{◌≡◌, ◌≤◌, ◌<◌, ◌+◌, ◌∷◌, [], Some, IfSome, IfOk, IfErr, OnOk, OnErr, All, map, replicate, slice_get, slice_index, MatchResult, ◌^◌, ◌++◌};
-ghost use Rattle.ns_world.specs.Calls.{CallInRange};
-ghost use Rattle.ns_world.specs.Whole.{whole_of};
+ghost use Rattle.ns_world.specs.Prelude.{CallInRange, whole_of};
 ghost use Rattle.ns_world.specs.Runs.{calls_of, Counts, CountsTurn, progress, is_end, TurnsWith, tests_told, TurnFault, Advances, IsFinished, Stops, Runs, RunFault, AllIdle, IsCounted, ListFits, items_of};
 
 use crate::call::Call;

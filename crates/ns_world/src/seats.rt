@@ -2,8 +2,7 @@
 
 ghost use Rattle.std.specs.Prelude.{◌≡◌, ◌≤◌, ℕ, length, slice_get, false, IfOk};
 ghost use Rattle.std.specs.Option.{option_map_or};
-ghost use Rattle.ns_model.specs.Seats.{is_in};
-ghost use Rattle.ns_world.specs.Whole.{fresh_seats, in_call};
+ghost use Rattle.ns_world.specs.Prelude.{fresh_seats, in_call, is_in};
 
 use crate::room::Seated;
 use crate::seat::{Doing, Seat, is_call};

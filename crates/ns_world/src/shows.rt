@@ -1,12 +1,7 @@
 //! What a world shows of its queues and its owed wakes.
 
 ghost use Rattle.std.specs.Prelude.{◌≡◌, ◌≤◌, ◌<◌, ◌++◌, ◌+◌, ℕ, Some, IfSome, true, length, map, slice_get};
-ghost use Rattle.ns_queue.specs.Queues.{times};
-ghost use Rattle.ns_word.specs.Places.{HasList};
-ghost use Rattle.ns_word.specs.Steps.{in_hand};
-ghost use Rattle.ns_word.specs.Walks.{has_queues, has_armed};
-ghost use Rattle.ns_world.specs.Doings.{walk_of};
-ghost use Rattle.ns_world.specs.Shows.{hand_of, lists_by, wakes_owed};
+ghost use Rattle.ns_world.specs.Prelude.{HasList, hand_of, has_armed, has_queues, in_hand, lists_by, times, wakes_owed, walk_of};
 
 use crate::room::Seated;
 use crate::seat::{Seat, walk_of};

@@ -1,11 +1,7 @@
 //! What a seat's step was, where it leads, whether a call began, and where it begins.
 
 ghost use Rattle.std.specs.Prelude.{◌≡◌, IfSome};
-ghost use Rattle.ns_world.specs.Among.{IsFew};
-ghost use Rattle.ns_world.specs.Calls.{mode_of};
-ghost use Rattle.ns_world.specs.Doings.{placed};
-ghost use Rattle.ns_world.specs.Looks.{doing_after, doing_at};
-ghost use Rattle.ns_world.specs.Performs.{step_of, tests_after};
+ghost use Rattle.ns_world.specs.Prelude.{IsFew, doing_after, doing_at, mode_of, placed, step_of, tests_after};
 
 use crate::among::reply_for;
 use crate::objects::AnyWait;

@@ -2,8 +2,7 @@
 //! walk wants is large.
 
 ghost use Rattle.std.specs.Prelude.{◌≡◌};
-ghost use Rattle.ns_word.specs.Walks.{want_of, want_queuing, want_waiting};
-ghost use Rattle.ns_world.specs.Looks.{came_back, look_in};
+ghost use Rattle.ns_world.specs.Prelude.{came_back, look_in, want_of, want_queuing, want_waiting};
 
 use crate::room::Seated;
 use ns_env::limits::Limits;

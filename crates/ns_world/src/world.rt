@@ -2,15 +2,7 @@
 //! step at a time.
 
 ghost use Rattle.std.specs.Prelude.{◌≡◌, ◌≤◌, ◌<◌, ℕ, length, map, MatchResult, IfOk, IfErr};
-ghost use Rattle.ns_model.specs.Histories.{IsLegal, IsBySeats};
-ghost use Rattle.ns_model.specs.Seats.{is_in};
-ghost use Rattle.ns_queue.specs.Waiters.{shown_of};
-ghost use Rattle.ns_world.specs.Calls.{CallInRange};
-ghost use Rattle.ns_world.specs.Moves.{BeginFault, WholeBegins, WholeStep, WholeFault};
-ghost use Rattle.ns_world.specs.Runs.{tests_at};
-ghost use Rattle.ns_world.specs.Shows.{lists_shown, wakes_owed};
-ghost use Rattle.ns_world.specs.Whole.{fresh_whole, whole_of, whole_busy, IsLawfulWhole};
-ghost use Rattle.ns_world.specs.World.{RefusesWorld};
+ghost use Rattle.ns_world.specs.Prelude.{BeginFault, CallInRange, IsBySeats, IsLawfulWhole, IsLegal, RefusesWorld, WholeBegins, WholeFault, WholeStep, fresh_whole, is_in, lists_shown, shown_of, tests_at, wakes_owed, whole_busy, whole_of};
 
 use crate::among::{go_round, step_objects};
 use crate::asks::ask;

@@ -1,6 +1,5 @@
 use Rattle.ns_queue.proofs.Prelude.{arith}
-use Rattle.ns_queue.proofs.Ringed.{places_low}
-use Rattle.ns_queue.proofs.Places.{seated_low, standing}
+use Rattle.ns_queue.proofs.Bases.{places_low, seated_low, standing}
 use Rattle.ns_queue.proofs.Running.{next_begins, next_run}
 use Rattle.ns_queue.proofs.lock_list.beyond.Goals as goal
 

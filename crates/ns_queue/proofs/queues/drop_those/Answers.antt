@@ -1,7 +1,5 @@
 use Rattle.std.proofs.Common.{List, ap, arith, length, refl, take, take_all, ℕ, ◌∙◌, ◌≡◌, ◌≤◌}
-use Rattle.std.proofs.lemmas.List.{take-append-le}
-use Rattle.std.specs.List.{refill}
-use Rattle.ns_queue.proofs.Prelude.{outside, times_in}
+use Rattle.ns_queue.proofs.Prelude.{outside, refill, take-append-le, times_in}
 use Rattle.ns_queue.proofs.queues.drop_those.Goals as goal
 
 -- a list written over one of its length is what stands there

@@ -1,7 +1,6 @@
 use Rattle.std.proofs.Common.{ap, arith, get_or, sym, ◌∙◌}
 use Rattle.ns_queue.proofs.Making.{dropped, inner}
-use Rattle.ns_queue.proofs.Ringed.{places_low}
-use Rattle.ns_queue.proofs.Seats.{stands_low}
+use Rattle.ns_queue.proofs.Bases.{places_low, stands_low}
 use Rattle.ns_queue.proofs.remake.mend.Goals as goal
 
 pub bounds-heads-seat : goal.bounds-heads-seat

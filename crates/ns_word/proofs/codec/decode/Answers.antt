@@ -1,5 +1,5 @@
-use Rattle.std.proofs.Common.{◌/◌, ◌≡◌, ◌≤◌, ◌⊎◌}
-use Rattle.ns_word.proofs.Prelude.{Ok, Word, ap, false, subst, sym, true, word_of, ◌∙◌}
+use Rattle.std.proofs.Common.{Ok, ap, false, subst, sym, true, ◌/◌, ◌≡◌, ◌≤◌, ◌⊎◌}
+use Rattle.ns_word.proofs.Prelude.{Word, word_of, ◌∙◌}
 use Rattle.ns_word.proofs.Codes.{decoded, read_back}
 use Rattle.ns_word.proofs.codec.decode.Goals as goal
 

@@ -1,5 +1,5 @@
-use Rattle.std.proofs.Common.{◌≡◌}
-use Rattle.ns_word.proofs.Prelude.{Cause, InLeaving, Leave, LeavePlace, Lists, Truths, Wait, Word, [], number, queues_fit, refl, wait_hand, ℕ}
+use Rattle.std.proofs.Common.{[], refl, ℕ, ◌≡◌}
+use Rattle.ns_word.proofs.Prelude.{Cause, InLeaving, Leave, LeavePlace, Lists, Truths, Wait, Word, number, queues_fit, wait_hand}
 use Rattle.ns_word.proofs.hand.change_leaving.Goals as goal
 
 -- at no other place does it change the lists

@@ -1,5 +1,5 @@
-use Rattle.std.proofs.Common.{◌≡◌}
-use Rattle.ns_word.proofs.Prelude.{Lists, SignalPlace, WakeAndReturn, Waking, Word, number, queues_fit, refl, signal_hand, ℕ}
+use Rattle.std.proofs.Common.{refl, ℕ, ◌≡◌}
+use Rattle.ns_word.proofs.Prelude.{Lists, SignalPlace, WakeAndReturn, Waking, Word, number, queues_fit, signal_hand}
 use Rattle.ns_word.proofs.hand.change_signaling.Goals as goal
 
 pub returns-in-WakeAndReturn : goal.returns-in-WakeAndReturn

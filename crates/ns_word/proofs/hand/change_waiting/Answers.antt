@@ -1,5 +1,5 @@
-use Rattle.std.proofs.Common.{◌≡◌}
-use Rattle.ns_word.proofs.Prelude.{Bool, Cause, InLeaving, InQueuing, Leave, LeavePlace, List, Lists, QueuePlace, Truths, Wait, WaitPlace, [], number, queues_fit, refl, row_fits, wait_hand, ℕ}
+use Rattle.std.proofs.Common.{Bool, List, [], refl, ℕ, ◌≡◌}
+use Rattle.ns_word.proofs.Prelude.{Cause, InLeaving, InQueuing, Leave, LeavePlace, Lists, QueuePlace, Truths, Wait, WaitPlace, number, queues_fit, row_fits, wait_hand}
 use Rattle.ns_word.proofs.hand.change_waiting.Goals as goal
 
 pub change_queuing-requires : goal.change_queuing-requires

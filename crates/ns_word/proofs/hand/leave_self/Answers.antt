@@ -1,5 +1,5 @@
-use Rattle.std.proofs.Common.{◌<◌, ◌↔◌, ◌≡◌, ◌≤◌}
-use Rattle.ns_word.proofs.Prelude.{AtLock, AtVariables, Bool, Home, IsTrue, Lists, OnTrue, arith, cond, false, ltb-true, number, queues_fit, refl, stands_at, sym, times, true, without, ℕ, ◌∙◌}
+use Rattle.std.proofs.Common.{Bool, IsTrue, arith, cond, false, ltb-true, refl, sym, true, ℕ, ◌<◌, ◌↔◌, ◌≡◌, ◌≤◌}
+use Rattle.ns_word.proofs.Prelude.{AtLock, AtVariables, Home, Lists, OnTrue, number, queues_fit, stands_at, times, without, ◌∙◌}
 use Rattle.ns_word.proofs.hand.leave_self.Goals as goal
 
 -- who stands there stands in the lists

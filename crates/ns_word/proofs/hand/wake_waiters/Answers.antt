@@ -1,6 +1,5 @@
-use Rattle.std.proofs.Common.{if◌then◌else◌, ◌++◌, ◌<◌, ◌≡◌, ◌≤◌}
-use Rattle.ns_word.proofs.Prelude.{Bool, Cv, HaveSeats, IsOrderly, List, Lists, Lock, Owed, Waiter, [], ap, arith, below_in, cvs_without, false, gone_those, list_small, moved_to, number, once_in, queues_fit, taken_set, times, times_in, times_signaled, true, waiters_of, wakes_of}
-use Rattle.ns_word.proofs.Prelude.{with_waiters, ℕ, ◌∙◌}
+use Rattle.std.proofs.Common.{Bool, List, [], ap, arith, false, if◌then◌else◌, true, ℕ, ◌++◌, ◌<◌, ◌≡◌, ◌≤◌}
+use Rattle.ns_word.proofs.Prelude.{Cv, HaveSeats, IsOrderly, Lists, Lock, Owed, Waiter, below_in, cvs_without, gone_those, list_small, moved_to, number, once_in, queues_fit, taken_set, times, times_in, times_signaled, waiters_of, wakes_of, with_waiters, ◌∙◌}
 use Rattle.ns_word.proofs.hand.wake_waiters.Goals.{in-Signaling, in-Broadcasting}
 use Rattle.ns_word.proofs.hand.wake_waiters.Goals as goal
 

@@ -1,5 +1,5 @@
-use Rattle.std.proofs.Common.{◌≡◌}
-use Rattle.ns_word.proofs.Prelude.{called_by, take}
+use Rattle.std.proofs.Common.{take, ◌≡◌}
+use Rattle.ns_word.proofs.Prelude.{called_by}
 use Rattle.ns_word.proofs.owed.called.Given as goal
 
 -- the wakes so far

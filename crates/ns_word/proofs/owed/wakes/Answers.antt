@@ -1,5 +1,5 @@
-use Rattle.std.proofs.Common.{◌++◌, ◌∷◌}
-use Rattle.ns_word.proofs.Prelude.{Owed, Waiter, [], ap, arith, wake_by, ℕ, ◌∙◌}
+use Rattle.std.proofs.Common.{[], ap, arith, ℕ, ◌++◌, ◌∷◌}
+use Rattle.ns_word.proofs.Prelude.{Owed, Waiter, wake_by, ◌∙◌}
 use Rattle.ns_word.proofs.Mapped.{all_of, one_more, so_far}
 use Rattle.ns_word.proofs.owed.wakes.Goals as goal
 

@@ -1,5 +1,5 @@
-use Rattle.std.proofs.Common.{◌≡◌}
-use Rattle.ns_word.proofs.Prelude.{take, wakes_of}
+use Rattle.std.proofs.Common.{take, ◌≡◌}
+use Rattle.ns_word.proofs.Prelude.{wakes_of}
 use Rattle.ns_word.proofs.owed.wakes.Given as goal
 
 -- the wakes so far

@@ -1,6 +1,5 @@
 use Rattle.std.proofs.Common.{Option, subst, sym, ℕ, ◌∙◌}
-use Rattle.ns_world.proofs.Prelude.{Held, InRound, MayGoOn, ObjectLeads, ObjectWalk}
-use Rattle.ns_world.specs.Among.{NamesFew}
+use Rattle.ns_world.proofs.Prelude.{Held, InRound, MayGoOn, NamesFew, ObjectLeads, ObjectWalk}
 use Rattle.ns_world.proofs.Looking.{waits_is}
 use Rattle.ns_world.proofs.among.step_objects.Goals as goal
 

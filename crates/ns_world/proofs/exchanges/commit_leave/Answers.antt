@@ -1,5 +1,5 @@
-use Rattle.std.proofs.Common.{List, ap, false, nat_lt, rules, sum_by, sym, ℕ, ◌++◌, ◌∙◌, ◌≡◌}
-use Rattle.ns_world.proofs.Prelude.{AtVariables, Event, Home, Lists, Variables, append-nil, leave_of, stands_at, times_in}
+use Rattle.std.proofs.Common.{List, ap, append-nil, false, nat_lt, rules, sum_by, sym, ℕ, ◌++◌, ◌∙◌, ◌≡◌}
+use Rattle.ns_world.proofs.Prelude.{AtVariables, Event, Home, Lists, Variables, leave_of, stands_at, times_in}
 use Rattle.ns_world.proofs.Exchanged.{not_leaving}
 use Rattle.ns_world.proofs.exchanges.commit_leave.Goals as goal
 

@@ -8,17 +8,7 @@ acquire-requires g c = let fits = rw c.in-Acquire.is at c.requires.fits in (row_
 pub return_queues-requires : goal.return_queues-requires
 return_queues-requires g c = let fits = rw c.in-ReturnQueues.is at c.requires.fits in (
   g.met.C.Queueable.parts_fit.queues,
-  (
-    g.met.C.Seated.seat_fits,
-    (
-      g.met.C.Seated.event_fits,
-      (
-        fits.0,
-        λ row flags. fits_there c.args.seat.now.number c.in-ReturnQueues.change c.args.word.now c.args.row.now row
-            c.args.flags.now flags c.args.seat.now.held c.args.seat.now.owed.items c.args.queues.now fits.1,
-      ),
-    ),
-  ),
+  (g.met.C.Seated.seat_fits, (g.met.C.Seated.event_fits, (fits.0, λ row flags. fits_there c.args.seat.now.number c.in-ReturnQueues.change c.args.word.now c.args.row.now row c.args.flags.now flags c.args.seat.now.held c.args.seat.now.owed.items c.args.queues.now fits.1))),
 )
 
 pub release-requires : goal.release-requires

@@ -1,5 +1,5 @@
-use Rattle.std.proofs.Common.{arith, ◌≡◌}
-use Rattle.ns_world.proofs.Prelude.{append-nil, err_from_is_err_and, number}
+use Rattle.std.proofs.Common.{append-nil, arith, ◌≡◌}
+use Rattle.ns_world.proofs.Prelude.{err_from_is_err_and, number}
 use Rattle.ns_world.proofs.Sizes.{world_fits}
 use Rattle.ns_world.proofs.Schedules.{advance_none, advance_again, stops_again}
 use Rattle.ns_world.proofs.run.schedule_word.Goals as goal

@@ -1,5 +1,5 @@
-use Rattle.std.proofs.Common.{ap, arith, refl, sym, ℕ, ◌+◌, ◌-◌, ◌∙◌, ◌≡◌}
-use Rattle.ns_world.proofs.Prelude.{append-nil, fresh_seat}
+use Rattle.std.proofs.Common.{ap, append-nil, arith, refl, sym, ℕ, ◌+◌, ◌-◌, ◌∙◌, ◌≡◌}
+use Rattle.ns_world.proofs.Prelude.{fresh_seat}
 use Rattle.ns_world.proofs.Fresh.{one_more}
 use Rattle.ns_world.proofs.seats.new_seats.Goals as goal
 

@@ -1,5 +1,5 @@
-use Rattle.std.proofs.Common.{ap, arith, length, sym, take, ◌+◌, ◌∙◌, ◌≡◌}
-use Rattle.ns_world.proofs.Prelude.{length-append, length-map, take-length, wakes_owed}
+use Rattle.std.proofs.Common.{ap, arith, length, length-append, sym, take, ◌+◌, ◌∙◌, ◌≡◌}
+use Rattle.ns_world.proofs.Prelude.{length-map, take-length, wakes_owed}
 use Rattle.ns_world.proofs.Showing.{wakes_more, wakes_front}
 use Rattle.ns_world.proofs.shows.owed_wakes.Goals as goal
 

@@ -11,13 +11,7 @@ pub come_back-outcome-requires : goal.come_back-outcome-requires
 come_back-outcome-requires g c = let t = g.C.Condition.means in let w = c.waiting.invariant.0 in let cvs = c.waiting.inside.cvs in
     let is = c.for_any-wait.ensures ∙ ap (λ m. waits_for_any {C = g.row.C.Denot} m cvs) c.mode-mode.ensures in in_room (
       ◌∙◌ {A = TableId} (ap (λ (k : WaitKnown _ _). k.known.monitor) c.waiting.view_is) c.requires.of,
-      (
-        c.waiting.invariant.1,
-        (
-          subst (λ (v : Wait g.row.C.Denot). IsInRange v.on) (sym is) w.are,
-          (ap (λ (v : Wait g.row.C.Denot). v.limits) is, subst (λ (v : Wait g.row.C.Denot). IsAtPlace t (InWait v AwaitWakeInWait) c.waiting.inside.seat.me) (sym is) w.at),
-        ),
-      ),
+      (c.waiting.invariant.1, (subst (λ (v : Wait g.row.C.Denot). IsInRange v.on) (sym is) w.are, (ap (λ (v : Wait g.row.C.Denot). v.limits) is, subst (λ (v : Wait g.row.C.Denot). IsAtPlace t (InWait v AwaitWakeInWait) c.waiting.inside.seat.me) (sym is) w.at))),
     )
 
 answered : (g : Over) (c : After-variable-by g) → HasAnswered g.C.Condition.means (Await (waits_for_any g.H.Section.mode c.waiting.inside.cvs)) (WokenBy (variable_in c.come_back-outcome.result)) c.come_back-outcome.new.seat.me

@@ -7,19 +7,7 @@ use Rattle.ns_monitor.proofs.monitor.Monitor.begin_lock.Goals as goal
 pub go_at_once-last-requires : goal.go_at_once-last-requires
 go_at_once-last-requires g c = let seat = c.seat.inside.seat in in_room (
   ◌∙◌ {A = TableId} (ap (λ (k : Known g.row.C.Denot g.row.N). k.monitor) c.seat.view_is) c.requires,
-  (
-    c.seat.invariant.0,
-    (
-      search rules,
-      (
-        search rules,
-        (
-          may_lock g.C.Condition.means c.args.mode c.lock.result (the seat.me.0).at.held c.lock.ensures.first c.seat.invariant.2,
-          search rules,
-        ),
-      ),
-    ),
-  ),
+  (c.seat.invariant.0, (search rules, (search rules, (may_lock g.C.Condition.means c.args.mode c.lock.result (the seat.me.0).at.held c.lock.ensures.first c.seat.invariant.2, search rules)))),
 )
 
 pub returns : goal.returns

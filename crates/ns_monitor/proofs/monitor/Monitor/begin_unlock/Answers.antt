@@ -10,16 +10,7 @@ go_at_once-last-requires g c = let seat = c.held.inside.seat in let held = (the 
       ◌∙◌ {A = TableId} (ap (λ (k : Known g.row.C.Denot g.row.N). k.monitor) c.held.view_is) c.requires.of,
       (
         c.held.invariant.0,
-        (
-          search rules,
-          (
-            search rules,
-            (
-              may_release g.C.Condition.means g.H.Section.mode c.args.releasing c.release.result held c.release.ensures.first (g.met.H.Section.in_mode c.held.inside.hand held c.held.invariant.2) c.requires.mode quiet c.held.invariant.0.settled,
-              search rules,
-            ),
-          ),
-        ),
+        (search rules, (search rules, (may_release g.C.Condition.means g.H.Section.mode c.args.releasing c.release.result held c.release.ensures.first (g.met.H.Section.in_mode c.held.inside.hand held c.held.invariant.2) c.requires.mode quiet c.held.invariant.0.settled, search rules))),
       ),
     )
 

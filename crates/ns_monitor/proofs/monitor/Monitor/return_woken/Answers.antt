@@ -41,16 +41,7 @@ turn_in_hand-turned-requires g c = let after = (goal.at.turn_in_hand-turned-requ
     let differs = by_one c.loop.word c.in-Err.other (sym c.is_held_by_one.ensures ∙ c.if-is_held_by_one.true) in
     let other : is_held c.loop.word ≡ not held = sym (ap not c.is_held-held.ensures ∙ differs) in in_room (
       ◌∙◌ {A = TableId} c.exchange_to_return.ensures.seat (◌∙◌ {A = TableId} c.loop.invariant.2 (◌∙◌ {A = TableId} c.requires.of (sym c.self.view_is))),
-      (
-        c.requires.variable,
-        (
-          subst IsOrderly stood c.requires.orderly,
-          (
-            c.requires.taken ∙ ap (taken_from c.args.call.waking c.args.call.k) stood,
-            subst (λ b. Carries (lists_woken c.args.call.waking c.args.call.k b (the now.0).stood) now) other (kept g after).carries,
-          ),
-        ),
-      ),
+      (c.requires.variable, (subst IsOrderly stood c.requires.orderly, (c.requires.taken ∙ ap (taken_from c.args.call.waking c.args.call.k) stood, subst (λ b. Carries (lists_woken c.args.call.waking c.args.call.k b (the now.0).stood) now) other (kept g after).carries))),
     )
 
 pub loop-preserved-then-is_held_by_one : goal.loop-preserved-then-is_held_by_one

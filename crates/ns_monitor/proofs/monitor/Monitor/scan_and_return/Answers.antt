@@ -1,35 +1,28 @@
 use Rattle.std.proofs.Common.{List, None, ap, arith, false, subst, sym, true, ◌∙◌, ◌≡◌}
-use Rattle.ns_monitor.proofs.Prelude.{in_room, GateView, HasReached, HasSince, Paid, TableId, asked_of, got_of, has_some, lists_scanned, paying_at, ready_at, since_then, sought_at, the, works}
-use Rattle.ns_monitor.proofs.Releases.{calls_few, found_first, hand_scanned, may_enter, may_still, owes_scanned, pay_scanned, pays_at, put_scanned, ready_still, scans_in_hand, told_list, turned_writer}
+use Rattle.ns_monitor.proofs.Prelude.{in_room, GateView, HasReached, HasSince, IsReady, Paid, TableId, asked_of, got_of, has_some, lists_scanned, paying_at, ready_at, since_then, sought_at, the, works}
+use Rattle.ns_monitor.proofs.Releases.{calls_few, found_first, hand_scanned, may_enter, may_still, owes_scanned, pay_scanned, pays_at, put_scanned, ready_still, scanned_still, scans_in_hand, told_list, turned_writer}
 use Rattle.ns_monitor.proofs.monitor.Monitor.scan_and_return.Given.{Over}
 use Rattle.ns_monitor.proofs.monitor.Monitor.scan_and_return.Goals.{After-put_back}
 use Rattle.ns_monitor.proofs.monitor.Monitor.scan_and_return.Goals as goal
 
 pub scan_and_wake-requires : goal.scan_and_wake-requires
-scan_and_wake-requires g c = let t = g.C.Condition.means in let look = c.scan_writer_in_hand in let me = c.args.seat.now.me in let walk = ready_at c.args.scanning c.args.word in rw c.made_anew.ensures (in_room (
-  omega (arith, g.met.C.Condition.has_cells),
-  (
-    ◌∙◌ {A = TableId} look.ensures.seat.0 c.requires.of,
-    (
-      c.requires.word,
-      (
-        may_still t c.args.scanning me look.new.seat.me c.requires.may look.ensures.seat.1,
-        (
-          ready_still t walk c.args.row.now me look.new.seat.me (scans_in_hand c.args.scanning c.args.word) c.requires.ready look.ensures.seat.1 c.in-Err.ensures.still,
-          found_first _ _ (sought_at t c.args.row.now (the me.0).stood) c.in-Err.sought (sym look.ensures.told ∙ c.in-Err.is) ∙ ap (λ (vs : List (GateView _ g.row.N)). sought_at t c.args.row.now (the vs).stood) (sym look.ensures.seat.1),
-        ),
-      ),
-    ),
-  ),
-))
+scan_and_wake-requires g c = let t = g.C.Condition.means in let look = c.scan_writer_in_hand in let me = c.args.seat.now.me in let walk = ready_at c.args.scanning c.args.word in
+    let ready = ready_still t walk c.args.row.now me look.new.seat.me (scans_in_hand c.args.scanning c.args.word) c.requires.ready look.ensures.seat.1 c.in-Err.ensures.still in
+    let found = found_first _ _ (sought_at t c.args.row.now (the me.0).stood) c.in-Err.sought (sym look.ensures.told ∙ c.in-Err.is) ∙ ap (λ (vs : List (GateView _ g.row.N)). sought_at t c.args.row.now (the vs).stood) (sym look.ensures.seat.1) in
+    in_room (omega (arith, g.met.C.Condition.has_cells), (◌∙◌ {A = TableId} look.ensures.seat.0 c.requires.of, (c.requires.word, (may_still t c.args.scanning me look.new.seat.me c.requires.may look.ensures.seat.1, (ready, found)))))
 
-pub returns-in-Err-clause-scanned : goal.returns-in-Err-clause-scanned
-returns-in-Err-clause-scanned g c = let e = rw c.made_anew.ensures at c.scan_and_wake.ensures.scanned in record {
-  since = subst (λ vs. HasSince None (the vs) (the c.scan_and_wake.new.seat.me.0)) c.scan_writer_in_hand.ensures.seat.1 e.since;
-  paid = e.paid;
-  none = e.none;
-  true_to = e.true_to;
-}
+-- the same of a release, which may scan whatever it knows
+pub wake_released-requires : goal.wake_released-requires
+wake_released-requires g c = let t = g.C.Condition.means in let look = c.scan_writer_in_hand in let me = c.args.seat.now.me in let walk = ready_at c.args.scanning c.args.word in
+    let ready = ready_still t walk c.args.row.now me look.new.seat.me (scans_in_hand c.args.scanning c.args.word) c.requires.ready look.ensures.seat.1 c.in-Err.ensures.still in
+    let found = found_first _ _ (sought_at t c.args.row.now (the me.0).stood) c.in-Err.sought (sym look.ensures.told ∙ c.in-Err.is) ∙ ap (λ (vs : List (GateView _ g.row.N)). sought_at t c.args.row.now (the vs).stood) (sym look.ensures.seat.1) in
+    in_room (omega (arith, g.met.C.Condition.has_cells), (◌∙◌ {A = TableId} look.ensures.seat.0 c.requires.of, (c.requires.word, (tt, (subst (λ scanning. IsReady t (ready_at scanning c.args.word) c.args.row.now look.new.seat.me) c.in-ToRelease.is ready, found)))))
+
+pub returns-in-ToRelease-clause-scanned : goal.returns-in-ToRelease-clause-scanned
+returns-in-ToRelease-clause-scanned g c = scanned_still g.C.Condition.means c.args.scanning c.args.seat.now.me c.scan_writer_in_hand.new.seat.me c.wake_released.new.seat.me c.scan_writer_in_hand.ensures.seat.1 (rw (← c.in-ToRelease.is) at c.wake_released.ensures.scanned)
+
+pub returns-in-ToWait-clause-scanned : goal.returns-in-ToWait-clause-scanned
+returns-in-ToWait-clause-scanned g c = scanned_still g.C.Condition.means c.args.scanning c.args.seat.now.me c.scan_writer_in_hand.new.seat.me c.scan_and_wake.new.seat.me c.scan_writer_in_hand.ensures.seat.1 c.scan_and_wake.ensures.scanned
 
 pub enter-turned-requires : goal.enter-turned-requires
 enter-turned-requires g c = let t = g.C.Condition.means in let look = c.scan_writer_in_hand in

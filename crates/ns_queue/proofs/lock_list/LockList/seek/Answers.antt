@@ -1,6 +1,5 @@
 use Rattle.ns_queue.proofs.Prelude.{false, has_condition, option_copied, sym, true}
-use Rattle.ns_queue.proofs.Seeking.{answered, counted}
-use Rattle.ns_queue.proofs.Places.{seated_stands}
+use Rattle.ns_queue.proofs.Bases.{answered, counted, seated_stands}
 use Rattle.ns_queue.proofs.Running.{next_run, sought_few, sought_here, sought_none, sought_on, sought_smaller, sought_start, tests_fit}
 use Rattle.ns_queue.proofs.Making.{start_link}
 use Rattle.ns_queue.proofs.lock_list.LockList.seek.Goals as goal

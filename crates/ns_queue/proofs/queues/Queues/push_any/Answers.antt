@@ -1,7 +1,6 @@
 use Rattle.std.proofs.Common.{[], ap, arith, subst, sym, ◌++◌, ◌∙◌, ◌∷◌, ◌≡◌}
 use Rattle.ns_queue.proofs.Prelude.{Cv, Waiter, beside, waiters_of, with_each, with_waiters}
-use Rattle.ns_queue.proofs.Orders.{free_beside}
-use Rattle.ns_queue.proofs.Parts.{each_beside, each_less, each_more}
+use Rattle.ns_queue.proofs.Bases.{each_beside, each_less, each_more, free_beside}
 use Rattle.ns_queue.proofs.queues.Queues.push_any.Goals.{then-contains, else-contains}
 use Rattle.ns_queue.proofs.queues.Queues.push_any.Goals as goal
 

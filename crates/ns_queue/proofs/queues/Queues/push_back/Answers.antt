@@ -1,7 +1,5 @@
 use Rattle.std.proofs.Common.{arith, ◌<◌}
-use Rattle.ns_queue.proofs.Orders.{free_beside}
-use Rattle.ns_queue.proofs.Inside.{lock_more}
-use Rattle.ns_queue.proofs.Seats.{times_in_push}
+use Rattle.ns_queue.proofs.Bases.{free_beside, lock_more, times_in_push}
 use Rattle.ns_queue.proofs.queues.Queues.push_back.Goals as goal
 
 pub push_back-requires : goal.push_back-requires

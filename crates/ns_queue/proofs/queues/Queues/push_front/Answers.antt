@@ -1,6 +1,5 @@
 use Rattle.ns_queue.proofs.Prelude.{arith}
-use Rattle.ns_queue.proofs.Inside.{lock_more}
-use Rattle.ns_queue.proofs.Seats.{times_in-cons}
+use Rattle.ns_queue.proofs.Bases.{lock_more, times_in-cons}
 use Rattle.ns_queue.proofs.queues.Queues.push_front.Goals as goal
 
 pub push_front-requires : goal.push_front-requires

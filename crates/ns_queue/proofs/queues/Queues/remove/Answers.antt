@@ -1,9 +1,7 @@
-use Rattle.std.proofs.Common.{◌∙◌}
-use Rattle.ns_queue.proofs.Prelude.{arith, map, neither, refl, sum_by, times_in, told_no, told_yes}
-use Rattle.ns_queue.proofs.Inside.{lock_left, shape}
+use Rattle.std.proofs.Common.{arith, map, refl, ◌∙◌}
+use Rattle.ns_queue.proofs.Prelude.{neither, sum_by, times_in, told_no, told_yes}
+use Rattle.ns_queue.proofs.Bases.{lock_left, lock_without, low_of, shape}
 use Rattle.ns_queue.proofs.Outside.{all_below, without_one}
-use Rattle.ns_queue.proofs.Parts.{lock_without}
-use Rattle.ns_queue.proofs.Seats.{low_of}
 use Rattle.ns_queue.proofs.queues.Queues.remove.Goals as goal
 
 pub invariant_of-self : goal.invariant_of-self

@@ -1,5 +1,4 @@
-use Rattle.ns_queue.proofs.Parts.{below_in}
-use Rattle.ns_queue.proofs.Inside.{shape, list_at, list_there}
+use Rattle.ns_queue.proofs.Bases.{below_in, list_at, list_there, shape}
 use Rattle.std.proofs.Common.{sym, ◌∙◌}
 use Rattle.ns_queue.proofs.Prelude.{Cv, offset_fits}
 use Rattle.ns_queue.proofs.queues.Queues.variable.Goals as goal

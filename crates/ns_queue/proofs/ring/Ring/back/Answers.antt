@@ -1,5 +1,4 @@
-use Rattle.ns_queue.proofs.Hops.{last_hop}
-use Rattle.ns_queue.proofs.Ringed.{row_of}
+use Rattle.ns_queue.proofs.Bases.{last_hop, row_of}
 use Rattle.ns_queue.proofs.ring.Ring.back.Goals as goal
 
 pub returns : goal.returns

@@ -1,5 +1,4 @@
-use Rattle.ns_queue.proofs.Hops.{first_hop}
-use Rattle.ns_queue.proofs.Ringed.{row_of}
+use Rattle.ns_queue.proofs.Bases.{first_hop, row_of}
 use Rattle.ns_queue.proofs.ring.Ring.front.Goals as goal
 
 pub returns : goal.returns

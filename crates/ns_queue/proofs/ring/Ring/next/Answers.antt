@@ -1,6 +1,5 @@
 use Rattle.ns_queue.proofs.Prelude.{arith}
-use Rattle.ns_queue.proofs.Places.{smaller, standing}
-use Rattle.ns_queue.proofs.Ringed.{links_are, place_low, row_of}
+use Rattle.ns_queue.proofs.Bases.{links_are, place_low, row_of, smaller, standing}
 use Rattle.ns_queue.proofs.ring.Ring.next.Goals as goal
 
 pub bounds-self-inside-seat : goal.bounds-self-inside-seat

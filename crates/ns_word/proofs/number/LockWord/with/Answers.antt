@@ -1,5 +1,5 @@
-use Rattle.std.proofs.Common.{◌*◌, ◌<◌, ◌^◌, ◌≤◌}
-use Rattle.ns_word.proofs.Prelude.{ap, bit, is_set, rules, word_with, ◌∙◌}
+use Rattle.std.proofs.Common.{ap, rules, ◌*◌, ◌<◌, ◌^◌, ◌≤◌}
+use Rattle.ns_word.proofs.Prelude.{bit, is_set, word_with, ◌∙◌}
 use Rattle.ns_word.proofs.Puts.{Puts, put}
 use Rattle.ns_word.proofs.number.LockWord.with.Goals as goal
 

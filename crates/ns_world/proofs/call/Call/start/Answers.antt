@@ -1,6 +1,6 @@
-use Rattle.std.proofs.Common.{Bool, IsSome, None, Option, Some, ap, false, is_some, nat_lt, not, refl, subst, sym, true, ℕ, ◌&&◌, ◌<◌, ◌||◌, ◌∙◌, ◌≡◌}
-use Rattle.ns_world.proofs.Prelude.{Add, Call, CallFits, CallInRange, CounterWait, Done, Items, Mode, NamesAll, NoteStanding, ObjectWalk, OnObjects, Once, Setup, Value, WaitAny, finds, first_of_all, have_variable, is_among, is_there, items_of, list_all, lower, ltb-true, none_among, note_at}
-use Rattle.ns_world.proofs.Prelude.{object_start, rest_of_all, some_among, start_of}
+use Rattle.std.proofs.Common.{Bool, IsSome, None, Option, Some, ap, false, is_some, ltb-true, nat_lt, not, refl, subst, sym, true, ℕ, ◌&&◌, ◌<◌, ◌||◌, ◌∙◌, ◌≡◌}
+use Rattle.ns_world.proofs.Prelude.{Add, Call, CallFits, CallInRange, CounterWait, Done, Items, Mode, NamesAll, NoteStanding, ObjectWalk, OnObjects, Once, Setup, Value, WaitAny, finds, first_of_all, have_variable, is_among, is_there, items_of, list_all, lower, none_among, note_at, object_start}
+use Rattle.ns_world.proofs.Prelude.{rest_of_all, some_among, start_of}
 use Rattle.ns_world.proofs.Places.{begins_where}
 use Rattle.ns_world.proofs.call.Call.start.Goals as goal
 

@@ -53,13 +53,7 @@ pub step_objects-requires : goal.step_objects-requires
 step_objects-requires g c =
     let at = found_at c.self.inside.seats.items c.args.seat c.index_mut-here.result.now c.if-at-len.false (c.len.ensures ∙ c.self.inside.seats.ok.0) c.index_mut-here.ensures.value in (
       g.met.C.Seated.seat_fits,
-      (
-        g.met.C.Condition.has_cells.1,
-        (
-          operates_fit _ c.self.invariant c.args.seat c.index_mut-here.result.now at c.in-OnObjects.walk (ap operating_of c.in-OnObjects.is),
-          may_go_on _ c.self.invariant c.args.seat c.index_mut-here.result.now at c.in-OnObjects.walk c.in-OnObjects.is,
-        ),
-      ),
+      (g.met.C.Condition.has_cells.1, (operates_fit _ c.self.invariant c.args.seat c.index_mut-here.result.now at c.in-OnObjects.walk (ap operating_of c.in-OnObjects.is), may_go_on _ c.self.invariant c.args.seat c.index_mut-here.result.now at c.in-OnObjects.walk c.in-OnObjects.is)),
     )
 
 pub returns-in-OnObjects-clause-ok : goal.returns-in-OnObjects-clause-ok
