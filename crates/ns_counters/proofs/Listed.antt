@@ -16,7 +16,7 @@ none_from zero (x ∷ xs) none = absurd (cc)
 none_from (suc at) [] none = refl
 none_from (suc at) (x ∷ xs) none = none_from at xs none
 
--- at a place of the first of a list
+-- the first n of a list stand where they stood
 got_front : {A : Type 0} (n at : ℕ) (xs : List A) → at < n → slice_get (take n xs) at ≡ slice_get xs at
 got_front zero at xs low = absurd (omega (arith, low))
 got_front (suc n) at [] low = refl

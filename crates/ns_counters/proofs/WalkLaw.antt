@@ -177,7 +177,7 @@ tried_left : (seat counter : ℕ) (delta : ℤ) (word : ℕ) (r : Result ℕ Cou
 tried_left seat counter delta word (Ok value) = refl
 tried_left seat counter delta word (Err fault) = refl
 
--- nothing binds a seat that is over, or that goes on to most places
+-- a call that is over, or goes on to most places, goes where it may make no step of its own
 abbrev IsFree : ObjectNext → Type 0
 IsFree next = object_place (object_after next) ≡ Free
 

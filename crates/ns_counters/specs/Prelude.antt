@@ -1,4 +1,4 @@
--- The names of specs/ that proofs cite, and the specs of ns_world, passed on from one place. Declares nothing.
+-- The names that contracts, proofs and the crates above cite, passed on from one place. Declares nothing.
 pub use Rattle.ns_counters.specs.Acted.{HasActed, IsFoundAt, acted, events_of}
 pub use Rattle.ns_counters.specs.Asks.{AreThere, IsLawfulObjects, ObjectEffect, ObjectState, ObjectStep, RoundFits, StepFits, WalkFits, WantFits, is_there, walk_in, word_left}
 pub use Rattle.ns_counters.specs.Items.{IsLow, is_among, is_this, is_variable, item_at, items_of, place_in}

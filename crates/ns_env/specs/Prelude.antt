@@ -1,4 +1,4 @@
--- The names of specs/ that proofs cite, and the specs of ns_world, passed on from one place. Declares nothing.
+-- The names that contracts, proofs and the crates above cite, passed on from one place. Declares nothing.
 pub use Rattle.ns_env.specs.Acted.{HasActed, acted, events_of}
 pub use Rattle.ns_env.specs.Asks.{AskFits, EnvActFits, EnvBegins, EnvEffect, EnvState, EnvStep, IfMade, IsFirstAsk, IsLawfulEnv, adders, fresh_asks, looked, making_at, making_of, up_by}
 pub use Rattle.ns_env.specs.Chains.{ChainFits, HasLooked, IsUnnotified}

@@ -1,4 +1,4 @@
--- The names that contracts and proofs cite, passed on from one place. Declares nothing.
+-- The names that contracts, proofs and the crates above cite, passed on from one place. Declares nothing.
 pub use Rattle.atomic_table.specs.Seated.{TableId}
 pub use Rattle.ns_env.specs.Prelude.{IsMade}
 pub use Rattle.ns_gate.specs.Calls.{HasAnswered, HasReached, HasSince, IsAtPlace, IsAtRest, IsTrueToHistory, IsWide, OwesBelow, SeatOf}

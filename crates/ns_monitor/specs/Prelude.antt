@@ -1,4 +1,4 @@
--- The names that contracts and proofs cite, passed on from one place. Declares nothing.
+-- The names that contracts, proofs and the crates above cite, passed on from one place. Declares nothing.
 pub use Rattle.ns_monitor.specs.Begun.{HasBegun}
 pub use Rattle.ns_monitor.specs.Known.{AreNew, AreOfOneHistory, EndsAs, Grows, HasLearned, HasLocked, HasSeenMore, HasUnlocked, Known, known_of, new_seat}
 pub use Rattle.ns_monitor.specs.Limits.{HasLookedOn, IsLooking, LookShows}

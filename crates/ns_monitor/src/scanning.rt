@@ -167,8 +167,9 @@ impl<C: Condition<N>, const N: usize> Monitor<C, N> {
         }
     }
 
-    /// The same for a release whose scan takes readers. What a call takes that isn't inlined is zeroed in
-    /// memory before it is written: made here, only who wakes readers pays for it.
+    /// The same where a release's scan takes readers, of whom this is the first. What a call takes is zeroed in
+    /// memory before it is written, unless the call is inlined. So what is scanned for is made here, and a release
+    /// that wakes no readers pays nothing for it.
     #[cold]
     fn wake_released<R: Wait>(
         &self,

@@ -1,4 +1,4 @@
--- The names of specs/ that proofs cite, passed on from one place. Declares nothing.
+-- The names that contracts, proofs and the crates above cite, passed on from one place. Declares nothing.
 unfoldable pub use Rattle.ns_model.specs.Environments.{is_notified}
 pub use Rattle.ns_model.specs.Environments.{expiry_of, is_made}
 pub use Rattle.ns_note.specs.Answers.{LookAnswers, WaitAnswers}

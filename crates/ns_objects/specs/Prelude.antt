@@ -1,4 +1,4 @@
--- The names of specs/ that proofs cite, passed on from one place. Declares nothing.
+-- The names that contracts, proofs and the crates above cite, passed on from one place. Declares nothing.
 unfoldable pub use Rattle.ns_model.specs.Environments.{is_notified}
 pub use Rattle.ns_objects.specs.Any.{AnyAnswers, BothKnown, IsKnown, IsNamed, RoundAnswers, WasReady, WasReadyIn, any_of, item_of, past_of}
 pub use Rattle.ns_objects.specs.Held.{HasWaitedForAny, HeldAnswers, PlaceBy, WaitAnswers}

@@ -1,4 +1,4 @@
--- The names of specs/ that proofs cite, passed on from one place. Declares nothing.
+-- The names that contracts, proofs and the crates above cite, passed on from one place. Declares nothing.
 pub use Rattle.arrayvec.specs.ArrayVec.{array_vec_len}
 pub use Rattle.ns_queue.specs.Marks.{is_wanted, marked, signal_marks, unmarked, wanted_after}
 pub use Rattle.ns_queue.specs.Names.{Anybody, ArrayVec, Cond, Counts, Cv, Cvs, Every, Idle, IsLegalBroadcast, IsLegalSignal, Left, Lock, Mode, Nobody, Phase, Reader, Readers, ReadersAndWriter, Seats, Shown, Sought, Waiter, Waiting, Wanted, Which, Woken, Writer, has, is_in, is_waiting, is_waiting_as}

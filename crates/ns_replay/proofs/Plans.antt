@@ -67,7 +67,7 @@ each_fits P f fits i (x ∷ xs) =
     bind_fits P (λ ys. (length ys ≡ length (x ∷ xs)) × All P ys) _ (f i x) (fits i x)
     (λ y one. bind_fits (λ ys. (length ys ≡ length xs) × All P ys) (λ ys. (length ys ≡ length (x ∷ xs)) × All P ys) _ (each_from f (i + 1) xs) (each_fits P f fits (i + 1) xs) (λ ys more. (rw more.0 refl, All-cons P y ys one more.1)))
 
--- what is known says less, too
+-- who knows more of a reading knows less of it, too
 weaker : {A : Type 0} (P Q : A → Type 0) (r : Result A Fault) → IfOk r P → ((x : A) → P x → Q x) → IfOk r Q
 weaker P Q (Ok x) fits less = less x fits
 weaker P Q (Err fault) fits less = tt

@@ -1,4 +1,4 @@
--- The names of specs/ that proofs cite, passed on from one place. Declares nothing.
+-- The names that contracts, proofs and the crates above cite, passed on from one place. Declares nothing.
 pub use Rattle.ns_replay.specs.Calls.{long_call_of, plain_call_of, repeats_of, short_call_of}
 pub use Rattle.ns_replay.specs.Condition.{script_truths}
 pub use Rattle.ns_replay.specs.Faults.{Fails, Gives, each_from, fault_of_world, need, ◌>>=◌}

@@ -1,5 +1,5 @@
 -- No step of a call changes what it was asked to do.
-use Rattle.std.proofs.Common.{Some, ap, cond, false, nat_lt as ltb, refl, sym, true, ℕ, ◌-◌, ◌≡◌}
+use Rattle.std.proofs.Common.{Some, ap, cond, false, ltb, refl, sym, true, ℕ, ◌-◌, ◌≡◌}
 use Rattle.ns_word.proofs.Prelude.{Await, Done, Found, Idle, InWait, Judging, Next, On, QuietCells, QuietLast, Request, TestCells, TestLast, Visit, Wait, Walk, asked_in_cells, asked_of, asked_to_judge, got_of, quiet_place, test_place, walk_after, ◌∙◌}
 use Rattle.ns_word.proofs.Follows.{follows, next_asked}
 

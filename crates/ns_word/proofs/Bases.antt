@@ -6,4 +6,4 @@ pub use Rattle.ns_word.proofs.Leaving.{left_event, left_is_legal, left_next, lef
 pub use Rattle.ns_word.proofs.Listed.{every_apart, every_cut, listed_left, listed_queued, listed_without, none_of}
 pub use Rattle.ns_word.proofs.Scans.{calls_tell, filter_eligible, none_eligible, one_set, queued_eligible, some_queued, some_seat, some_wakes, tells_clear, tells_few, tells_from, times_others, times_queued, times_scan, times_seats, times_wakes, times_without, wakes_tell, woken_none, writer_eligible}
 pub use Rattle.ns_word.proofs.Stepping.{effect_at, place_at, step_fits}
-pub use Rattle.ns_word.proofs.Views.{IsWokenBy, Move, apart_moves, apart_parts, called_most, each_moves, each_woken, news, none_parts, olds, owed_at, stance_same, stance_stays, view_of, view_with, walk_here, walk_is, walk_stays, walk_was}
+pub use Rattle.ns_word.proofs.Views.{IsSameOrWoken, Move, apart_moves, apart_parts, called_most, each_moves, each_woken, news, none_parts, olds, owed_at, stance_same, stance_stays, view_of, view_with, walk_here, walk_is, walk_stays, walk_was}

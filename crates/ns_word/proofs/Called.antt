@@ -1,5 +1,5 @@
 -- The wakes of those whom a scan took, made one by one.
-use Rattle.std.proofs.Common.{List, Option, [], ap, arith, length, length-take-le, refl, slice_index_or as get_or, sym, take, ℕ, ◌++◌, ◌+◌, ◌<◌, ◌∷◌, ◌≡◌, ◌≤◌}
+use Rattle.std.proofs.Common.{List, Option, [], ap, arith, get_or, length, length-take-le, refl, sym, take, ℕ, ◌++◌, ◌+◌, ◌<◌, ◌∷◌, ◌≡◌, ◌≤◌}
 use Rattle.ns_word.proofs.Prelude.{Owed, called_by, take_more, value_of, ◌∙◌}
 
 called_both : (xs ys : List ℕ) (vs us : List (Option ℕ)) → length xs ≡ length vs → called_by (xs ++ ys) (vs ++ us) ≡ called_by xs vs ++ called_by ys us

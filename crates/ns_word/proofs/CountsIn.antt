@@ -1,5 +1,5 @@
 -- How often a seat counts in the lists, where these change.
-use Rattle.std.proofs.Common.{Bool, List, [], ap, arith, false, inl, inr, length, lt-ltb, map, nat_eq as eqb, nat_lt as ltb, ne_eqb, refl, slice_index_or as get_or, suc, sym, true, ℕ, ◌+◌, ◌<◌, ◌∷◌, ◌≡◌, ◌≢◌, ◌≤◌}
+use Rattle.std.proofs.Common.{Bool, List, [], ap, arith, eqb, false, get_or, inl, inr, length, lt-ltb, ltb, map, ne_eqb, refl, suc, sym, true, ℕ, ◌+◌, ◌<◌, ◌∷◌, ◌≡◌, ◌≢◌, ◌≤◌}
 use Rattle.ns_word.proofs.Prelude.{Cv, Lists, Seats, Waiter, cases_eq, counts_in, cvs_without, get_or-le-sum_by, get_or-map, gone_each, in_list, is_in, lists_without, moved_to, none_without, not_in_list, one_if, outside, sum_by, sum_by-cons, taken_set, times, times_in, times_in-cons, times_outside}
 use Rattle.ns_word.proofs.Prelude.{waiters_of, with_lock, without, without_in, ◌∙◌}
 use Rattle.ns_word.proofs.Scans.{times_others, times_without}

@@ -1,5 +1,5 @@
 -- Each step takes its call on: it goes on as it was asked, or its answer means what it says.
-use Rattle.std.proofs.Common.{Bool, IsSome, List, None, Option, Some, [], ap, append-nil, cond, false, inl, inr, nat_eq as eqb, nat_lt as ltb, not, refl, slice_index, subst, sym, true, ℕ, ◌&&◌, ◌++◌, ◌+◌, ◌-◌, ◌∷◌, ◌≡◌, ◌⊎◌}
+use Rattle.std.proofs.Common.{Bool, IsSome, List, None, Option, Some, [], ap, append-nil, cond, eqb, false, inl, inr, ltb, not, refl, slice_index, subst, sym, true, ℕ, ◌&&◌, ◌++◌, ◌+◌, ◌-◌, ◌∷◌, ◌≡◌, ◌⊎◌}
 use Rattle.ns_word.proofs.Prelude.{Acquire, AcquireExchange, AcquireLoad, AcquirePlace, AcquireSoFar, Aim, AimFits, Answer, Answered, Any, AnyWait, AnyWaitMeans, Arm, ArmToWait, Arrival, AsFresh, AtVariables, Await, AwaitWake, AwaitWakeInWait, AwaitWakeToLeave, Busy, CallGoes, CanLeave, CanWait}
 use Rattle.ns_word.proofs.Prelude.{Cause, Cell, CellFits, CellPlace, ConditionWaitMeans, Course, Cv, CvWait, Cvs, Done, Effect, Ended, Event, Expired, Flag, ForLock, ForWait, Found, Get, GetLoad, HasLeft, HasLocked, HasLookedFor, HasReleased, HasWaited, HasWoken, Held, HeldFits, Idle, InAcquire}
 use Rattle.ns_word.proofs.Prelude.{InCells, InHand, InLeaving, InQueuing, InRelease, InShow, InSignal, InTry, InWait, Is, IsBack, IsComing, IsFirst, IsForCondition, IsForVariables, IsLawful, IsLeft, IsQuiet, IsQuietSection, KeptFits, Leave, LeaveLoad, LeavePlace, LeaveSelf, Left, Limits, Load}

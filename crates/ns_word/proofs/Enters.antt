@@ -1,5 +1,5 @@
 -- Where a wait for variables stands: in the list of each of them.
-use Rattle.std.proofs.Common.{Bool, List, None, Some, [], ap, arith, cond, eq-eqb, eqb-true, false, inl, inr, length, lt-ltb, nat_eq as eqb, nat_lt as ltb, ne_eqb, refl, slice_index_or as get_or, subst, suc, sym, true, zero, ℕ, ◌%◌, ◌&&◌, ◌*◌, ◌++◌, ◌+◌, ◌/◌, ◌<◌, ◌^◌, ◌∷◌, ◌≡◌, ◌≢◌, ◌≤◌, ◌⊎◌}
+use Rattle.std.proofs.Common.{Bool, List, None, Some, [], ap, arith, cond, eq-eqb, eqb, eqb-true, false, get_or, inl, inr, length, lt-ltb, ltb, ne_eqb, refl, subst, suc, sym, true, zero, ℕ, ◌%◌, ◌&&◌, ◌*◌, ◌++◌, ◌+◌, ◌/◌, ◌<◌, ◌^◌, ◌∷◌, ◌≡◌, ◌≢◌, ◌≤◌, ◌⊎◌}
 use Rattle.ns_word.proofs.Prelude.{Any, AreVariables, Cv, Cvs, Lists, Mode, OnVariables, Only, Variables, Waiter, bit_at, bit_at-lt, bit_at-zero, bit_at_above, bit_at_cat_low, cases_Bool, cases_eq, cases_lt, counts_in, four_kept, get_or-le-sum_by, has, named_for, one_if, one_most, read_apart}
 use Rattle.ns_word.proofs.Prelude.{read_back, same_from_bits_below, sum_by, sum_by-cons, times, times_at_most, times_in, times_in-append, times_in-cons, waiters_of, waits_at, with_each, with_waiters, ◌∙◌}
 use Rattle.ns_model.specs.Cvs.{is_in}

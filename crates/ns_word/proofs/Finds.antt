@@ -1,5 +1,5 @@
 -- What a step finds is what the one word says that it loads or compares.
-use Rattle.std.proofs.Common.{Bool, List, None, Option, Some, ap, cond, eq-eqb, false, nat_eq as eqb, ne_eqb, refl, sym, ℕ, ◌≡◌, ◌≢◌, ◌≤◌}
+use Rattle.std.proofs.Common.{Bool, List, None, Option, Some, ap, cond, eq-eqb, eqb, false, ne_eqb, refl, sym, ℕ, ◌≡◌, ◌≢◌, ◌≤◌}
 use Rattle.ns_word.proofs.Prelude.{Acquire, Act, ArmFlag, Cell, Effect, Event, Flag, Found, Held, IsLawful, IsLook, JudgeMet, JudgeQuiet, Left, LoadCell, LoadFlag, LoadWord, LockState, Look, Made, Paid, Part, PayWake, Quiet, Release, ReleaseReturning, ReturnQueues, Saw, Scanned, SeatView}
 use Rattle.ns_word.proofs.Prelude.{SectionFits, Step, StoreCell, TakeQueues, Tested, Truths, WaitReturning, Walk, Woke, Word, before_in, content_at, exchanged, found_of, number_of, owes_more, part_of, row_in, scanned, standing_after, want_of, word_of, ◌∙◌}
 use Rattle.ns_word.proofs.Codes.{decoded}

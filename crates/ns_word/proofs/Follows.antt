@@ -1,5 +1,5 @@
 -- What a step keeps of its call: what was asked, the word last seen, what ends a wait early, that a wait has come back, and that a seat was woken. It is said once of each way that a place may go.
-use Rattle.std.proofs.Common.{Bool, None, Option, Some, ap, cond, false, inl, inr, ltb-true, nat_eq as eqb, nat_lt as ltb, ne_eqb, not, refl, subst, sym, true, ℕ, ◌&&◌, ◌+◌, ◌-◌, ◌<◌, ◌||◌, ◌≡◌, ◌⊎◌}
+use Rattle.std.proofs.Common.{Bool, None, Option, Some, ap, cond, eqb, false, inl, inr, ltb, ltb-true, ne_eqb, not, refl, subst, sym, true, ℕ, ◌&&◌, ◌+◌, ◌-◌, ◌<◌, ◌||◌, ◌≡◌, ◌⊎◌}
 use Rattle.ns_word.proofs.Prelude.{AcquireExchange, AcquireLoad, AcquirePlace, Aim, Answer, Answered, Any, Arm, ArmToWait, Arrival, AsFresh, AsWoken, Await, AwaitWake, AwaitWakeInWait, AwaitWakeToLeave, Busy, Canceled, Cause, Cell, CellPlace, Done, Ended, Expired, Flag, ForLock, ForWait, Found}
 use Rattle.ns_word.proofs.Prelude.{GetLoad, HasNumber, Idle, InAcquire, InCells, InLeaving, InQueuing, InRelease, InShow, InSignal, InTry, InWait, IsForVariables, Leave, LeaveLoad, LeavePlace, Left, Load, LoadFlag, LoadToScan, LookIn, LookOut, Looked, Made, Met, Mode, Next, Notified, On}
 use Rattle.ns_word.proofs.Prelude.{OnCondition, OnEntry, OnReturn, OnVariables, Only, Outcome, Paid, Pay, PayInWait, PayTheWoken, Queue, QueuePlace, QueueToWait, Quiet, QuietCells, QuietLast, ReleaseExchange, ReleaseLoad, ReleasePlace, Releasing, Reply, Request, ReturnShown, Saw, ScanAndRelease}

@@ -1,5 +1,5 @@
 -- Each kind of step keeps what holds of a lock and its seats.
-use Rattle.std.proofs.Common.{Bool, List, None, Option, Some, [], ap, arith, cond, eqb-true, false, inl, inr, is_some, length, nat_eq as eqb, not, refl, slice_set, subst, sym, true, ℕ, ◌&&◌, ◌++◌, ◌+◌, ◌<◌, ◌∷◌, ◌≡◌, ◌≢◌, ◌≤◌, ◌⊎◌}
+use Rattle.std.proofs.Common.{Bool, List, None, Option, Some, [], ap, arith, cond, eqb, eqb-true, false, inl, inr, is_some, length, not, refl, slice_set, subst, sym, true, ℕ, ◌&&◌, ◌++◌, ◌+◌, ◌<◌, ◌∷◌, ◌≡◌, ◌≢◌, ◌≤◌, ◌⊎◌}
 use Rattle.ns_word.proofs.Prelude.{Any, AreVariables, Arrival, Cond, CondWait, Cv, Event, Every, Exit, ExitFits, Held, IsExpected, IsLegalEvent, IsNamed, IsSettledBy, Lists, LockState, Mode, OnCondition, OnVariables, Only, Opening, Owed, OwesAs, Part, Phase, PlaceFits, Plain, QuietWriter, Read}
 use Rattle.ns_word.proofs.Prelude.{Reader, Releasing, SeatView, Stance, Standing, TakenTold, Taking, Tells, ToChange, ToQueue, Truths, VariableWaiterFits, Variables, VariablesTell, ViewFits, Waiter, WaiterFits, WaiterNames, WaitersOwn, Waiting, Walk, Word, Write, Writer, and_parts, awaits, bits_in}
 use Rattle.ns_word.proofs.Prelude.{bits_of, both_ways, called_of, called_to, calls_from_lock, cases_Bool, counts_in, cvs_without, every_parts, exit_for, first_standing, flags_with, has_armed, has_eligible, has_queues, has_some, in_stands, is_armed, is_held, is_in, is_of, is_on_way, is_queuing}

@@ -1,5 +1,5 @@
 -- What the steps leave of the designated waker and the idle list.
-use Rattle.std.proofs.Common.{Bool, List, Option, Some, [], ap, arith, cond, eq-eqb, eqb-true, false, inl, inr, lt-ltb, ltb-true, nat_eq as eqb, nat_lt as ltb, ne_eqb, not, refl, subst, sym, true, ℕ, ◌&&◌, ◌++◌, ◌+◌, ◌||◌, ◌∷◌, ◌≡◌, ◌≢◌, ◌≤◌, ◌⊎◌}
+use Rattle.std.proofs.Common.{Bool, List, Option, Some, [], ap, arith, cond, eq-eqb, eqb, eqb-true, false, inl, inr, lt-ltb, ltb, ltb-true, ne_eqb, not, refl, subst, sym, true, ℕ, ◌&&◌, ◌++◌, ◌+◌, ◌||◌, ◌∷◌, ◌≡◌, ◌≢◌, ◌≤◌, ◌⊎◌}
 use Rattle.ns_word.proofs.Prelude.{Arrival, InAcquire, Lists, Mode, NobodyCouldGoOn, Owed, QuietWriter, Read, Reader, Releasing, SeatView, ToQueue, Waiter, WaitersPlaced, Walk, Word, Write, Writer, and_cases, and_parts, awaits, bits_of, both_ways, called_of, called_to, calls_from_lock, cases_Bool}
 use Rattle.ns_word.proofs.Prelude.{cases_eq, counts_in, flags_with, has_eligible, has_queues, has_some, is_armed, is_from_lock, is_held, is_long, is_on_way, is_queuing, is_unwoken, is_woken, left_of, list_any, may_acquire, needs_scan, not-false, not-true, one_if, one_most, or_cases, or_parts}
 use Rattle.ns_word.proofs.Prelude.{owed_to, queued, queuers, takers, times_among, times_in, total_amid, walk_at, was_woken, woken_of, word_acquired, word_released, word_released_returning, word_returned, word_taken, ◌∙◌}

@@ -1,5 +1,5 @@
 -- Where a decision leads: the place goes with the section in hand, and tells the same as the place before.
-use Rattle.std.proofs.Common.{Bool, List, None, Option, Some, ap, arith, cond, false, is_some, length, ltb-true, nat_lt as ltb, not, refl, subst, sym, true, ℕ, ◌&&◌, ◌-◌, ◌<◌, ◌||◌, ◌≡◌}
+use Rattle.std.proofs.Common.{Bool, List, None, Option, Some, ap, arith, cond, false, is_some, length, ltb, ltb-true, not, refl, subst, sym, true, ℕ, ◌&&◌, ◌-◌, ◌<◌, ◌||◌, ◌≡◌}
 use Rattle.ns_word.proofs.Prelude.{AcquireExchange, AcquireLoad, Aim, AimFits, Answered, Arrival, AsFresh, AwaitWakeInWait, Busy, CameBack, CanLeave, CanWait, Cause, ComesBack, Done, Ended, Expected, ForLock, ForWait, HasMode, Held, Idle, InAcquire, InCells, InLeaving, InQueuing, InRelease, InShow}
 use Rattle.ns_word.proofs.Prelude.{InSignal, InTry, InWait, IsExpected, IsForCondition, IsInRange, IsLeft, IsSettled, IsSettledBy, IsUnmet, IsWokenBy, Judging, LeaveLoad, Load, LoadToScan, LookIn, LookOut, MayShow, MayWait, Met, Mode, On, OnCondition, OnEntry, OnReturn, OnVariables, Outcome}
 use Rattle.ns_word.proofs.Prelude.{OutcomeFits, PlaceFits, QueueToWait, QuietCells, QuietKeeps, QuietLast, QuietWriter, Read, Reader, ReleaseExchange, ReleaseLoad, Releasing, Saw, ScanAndRelease, ScanCells, ShowLoad, SignalLoad, Stance, Subject, Take, TakeToLeave, TakeToQueue, TakeToScan}

@@ -1,5 +1,5 @@
 -- Whether a wait that leaves still stands where it waits.
-use Rattle.std.proofs.Common.{Bool, List, None, Some, [], ap, arith, cond, false, inl, inr, length, ltb-false, ltb-true, nat_lt as ltb, refl, subst, sym, true, ℕ, ◌<◌, ◌≡◌}
+use Rattle.std.proofs.Common.{Bool, List, None, Some, [], ap, arith, cond, false, inl, inr, length, ltb, ltb-false, ltb-true, refl, subst, sym, true, ℕ, ◌<◌, ◌≡◌}
 use Rattle.ns_word.proofs.Prelude.{AreApart, Cause, Cv, Event, InLeaving, InWait, IsExpected, IsFoundLeaving, IsLawful, Leave, Left, Lists, LockState, Mode, OnCondition, OnVariables, Phase, SeatView, SectionFits, Step, Truths, Variables, VariablesTell, ViewFits, Wait, Word, expected_for}
 use Rattle.ns_word.proofs.Prelude.{get_or-le-sum_by, home_of, phase_by, standing_after, stands_at, sum_by, times, times_in, waiters_of, waits_in, walk_at, without, without_in, ◌∙◌}
 use Rattle.ns_word.proofs.Bases.{apart_parts, effect_at, gone_from, left_at, place_at, step_fits, times_without, walk_here}

@@ -20,7 +20,7 @@ module _ (C : Type 0) (N : ℕ) (who : ℕ) where
   not_left (AtVariables (Only k)) = refl
   not_left (AtVariables (Any cvs)) = refl
 
-  -- It is its seat's. It leaves the row, and all phases but that of the seat.
+  -- The event is its seat's. It leaves the row, and all phases but that of the seat.
   pub left_next : (variables : Variables) (now : Standing C) → let event = left_event {C = C} {N = N} who variables in let next = standing_next now event in
       (who_of event ≡ who) × (next.row ≡ now.row) × ((seat : ℕ) → who ≢ seat → next.phases seat ≡ now.phases seat) × (next.phases who ≡ left_phase (now.phases who))
   left_next (Only k) now = (refl, refl, λ seat ne. rw (ne_eqb who seat ne) refl, rw (eq-eqb who who refl) refl)

@@ -1,5 +1,5 @@
 -- What holds of each of a list, where some leave it or one more comes.
-use Rattle.std.proofs.Common.{Bool, List, None, Option, [], ap, arith, eq-eqb, false, inl, inr, nat_eq as eqb, not, refl, sym, true, ℕ, ◌++◌, ◌∷◌, ◌≡◌, ◌≢◌}
+use Rattle.std.proofs.Common.{Bool, List, None, Option, [], ap, arith, eq-eqb, eqb, false, inl, inr, not, refl, sym, true, ℕ, ◌++◌, ◌∷◌, ◌≡◌, ◌≢◌}
 use Rattle.ns_word.proofs.Prelude.{Every, Mode, Waiter, cases_Bool, cases_eq, every_filter, every_join, goes_along, has_some, is_eligible, is_of, left_of, one_if, queued, times_in, times_in-cons, without_in, writes}
 
 pub none_of : {A : Type 0} (xs : List A) → has_some xs ≡ false → xs ≡ []

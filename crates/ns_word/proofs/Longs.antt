@@ -1,5 +1,5 @@
 -- While one waits long, only those acquire who were woken.
-use Rattle.std.proofs.Common.{List, None, Some, ap, false, inl, inr, nat_eq as eqb, not, refl, subst, true, ℕ, ◌≡◌}
+use Rattle.std.proofs.Common.{List, None, Some, ap, eqb, false, inl, inr, not, refl, subst, true, ℕ, ◌≡◌}
 use Rattle.ns_word.proofs.Prelude.{AcquireExchange, Arrival, AsFresh, Event, Found, Held, InAcquire, InTry, LockState, Mode, Read, SeatView, Step, Truths, TryAcquire, Walk, Word, Write, and_parts, both_ways, is_woken, may_acquire, mode_for, not-true, or_cases, part_of, want_of, was_woken, ◌∙◌}
 use Rattle.ns_word.proofs.Effects.{Gains, makes}
 use Rattle.ns_word.proofs.Looks.{acquire_in, marks_at}

@@ -1,5 +1,5 @@
 -- A list made by a loop that takes each item of another to one.
-use Rattle.std.proofs.Common.{List, [], ap, arith, length, length-take-le, map, slice_index_or as get_or, sym, take, take_all, ℕ, ◌++◌, ◌+◌, ◌<◌, ◌∷◌, ◌≡◌, ◌≤◌}
+use Rattle.std.proofs.Common.{List, [], ap, arith, get_or, length, length-take-le, map, sym, take, take_all, ℕ, ◌++◌, ◌+◌, ◌<◌, ◌∷◌, ◌≡◌, ◌≤◌}
 use Rattle.ns_word.proofs.Prelude.{length-map, map_more, ◌∙◌}
 
 module _ {A B : Type 0} (to : A → B) where

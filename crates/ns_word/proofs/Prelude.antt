@@ -1,7 +1,7 @@
 -- The names that proofs cite, of specs and of what stands below, passed on from one place. Declares nothing.
-pub use Rattle.ns_env.specs.Names.{total}
 pub use Rattle.ns_model.proofs.Histories.{legal_append, standing_from-append}
 pub use Rattle.ns_model.proofs.Tallies.{every-append, every_join, every_map, every_parts, one_most, total_amid}
+pub use Rattle.ns_model.specs.Tallies.{total}
 pub use Rattle.ns_queue.proofs.Bounds.{list_small}
 pub use Rattle.ns_queue.proofs.Outside.{broadcast_outside, gone_each, gone_outside, gone_those, signal_outside, times_outside}
 pub use Rattle.ns_queue.proofs.Parts.{below_in, four_kept, lists_without, once_in, read_apart, read_back, times_at_most}

@@ -1,5 +1,5 @@
 -- Which seats the law speaks of, and how many: those that wait or are owed a wake are seats, each stands once, and not all of 64 read while one asks to.
-use Rattle.std.proofs.Common.{List, None, [], ap, arith, cond, false, inl, inr, length, nat_eq as eqb, ne_eqb, refl, subst, sym, true, ℕ, ◌++◌, ◌+◌, ◌<◌, ◌∷◌, ◌≡◌, ◌≤◌}
+use Rattle.std.proofs.Common.{List, None, [], ap, arith, cond, eqb, false, inl, inr, length, ne_eqb, refl, subst, sym, true, ℕ, ◌++◌, ◌+◌, ◌<◌, ◌∷◌, ◌≡◌, ◌≤◌}
 use Rattle.ns_word.proofs.Prelude.{AreApart, Cv, EachFits, Event, IsLawful, IsOrderly, Lists, LockState, NoneIs, Read, SeatView, Standing, Truths, ViewFits, Waiter, WaitersPlaced, awaits, beside, cases_eq, counts_in, every_parts, few, is_reading, is_unwoken, one_if, one_most, owed_to, readers}
 use Rattle.ns_word.proofs.Prelude.{room_for, standing_after, times, times_among, times_in, times_in-cons, waiters_of, walk_at, ◌∙◌}
 use Rattle.ns_word.proofs.Bases.{counts_none, counts_there, none_parts, owed_at, view_with}

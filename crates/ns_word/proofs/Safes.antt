@@ -4,7 +4,7 @@ use Rattle.ns_word.proofs.Prelude.{Any, CameBack, Cause, Ended, EntryFits, Event
 use Rattle.ns_word.proofs.Prelude.{Read, ReadersCounted, SeatView, SectionFits, Standing, Truths, Variables, ViewFits, Waiting, Walk, Woken, Word, Write, answer_of, both_ways, entry_of, every_join, every_parts, first_standing, is_met, is_reading, is_write, is_writing, left_phase, legal_append}
 use Rattle.ns_word.proofs.Prelude.{one_if, phase_after, phase_before, phase_by, readers, section_of, standing_after, standing_from-append, standing_next, total_amid, who_of, writers, ◌∙◌}
 use Rattle.ns_model.specs.declared.phase.Phase.TheVariants.{Left}
-use Rattle.ns_word.proofs.Bases.{IsWokenBy, Move, Safe, apart_moves, apart_parts, each_moves, each_woken, left_event, left_is_legal, left_next, news, olds, one_set, view_of}
+use Rattle.ns_word.proofs.Bases.{IsSameOrWoken, Move, Safe, apart_moves, apart_parts, each_moves, each_woken, left_event, left_is_legal, left_next, news, olds, one_set, view_of}
 
 pub by_seats_more : {C : Type 0} {N : ℕ} (seats : ℕ) (h : List (Event C N)) (e : Event C N) → IsBySeats seats h → who_of e < seats → IsBySeats seats (h ++ e ∷ [])
 by_seats_more seats [] e p q = (q, tt)
@@ -43,7 +43,7 @@ entry_fits holds before mode (CameBack (OnVariables (Any cvs)) (Ended cause)) se
 -- a wake leaves all views as they are
 pub after_wake : {C : Type 0} {N : ℕ} (truths : Truths C) (seats : ℕ) (h : List (Event C N)) (e : Event C N) (k : ℕ) (word : Word) (row : List ℕ) (views : List (SeatView C N)) → who_of e < seats → IsLegalEvent truths.holds (standing_after h) e →
     (standing_next (standing_after h) e).row ≡ (standing_after h).row →
-    ((seat : ℕ) → IsWokenBy k ((standing_after h).phases seat) ((standing_next (standing_after h) e).phases seat)) →
+    ((seat : ℕ) → IsSameOrWoken k ((standing_after h).phases seat) ((standing_next (standing_after h) e).phases seat)) →
     Safe truths seats h word row views → Safe truths seats (h ++ e ∷ []) word row views
 after_wake {C} {N} truths seats h e k word row views low legal same phases p =
     let next = standing_next (standing_after h) e in
@@ -252,7 +252,7 @@ module _ {C : Type 0} {N : ℕ} (truths : Truths C) (seats : ℕ) (h : List (Eve
     -- a wake of those who wait for a variable: beside its event, the seat's place changes, and what it owes
     pub woken : (e : Event C N) (k : ℕ) (word word' : Word) (row : List ℕ) (held : Option (Held C N)) → who_of e ≡ who → IsLegalEvent truths.holds (standing_after h) e →
         (standing_next (standing_after h) e).row ≡ (standing_after h).row →
-        ((seat : ℕ) → IsWokenBy k ((standing_after h).phases seat) ((standing_next (standing_after h) e).phases seat)) →
+        ((seat : ℕ) → IsSameOrWoken k ((standing_after h).phases seat) ((standing_next (standing_after h) e).phases seat)) →
         word'.write ≡ word.write → word'.readers ≡ word.readers → PlaceFits truths walk' held → OwesAs walk' owed' →
         (SectionFits (standing_after h) row who walk held → SectionFits (standing_after h) row who walk' held) →
         Safe truths seats h word row (had held) → Safe truths seats (h ++ e ∷ []) word' row (has held)

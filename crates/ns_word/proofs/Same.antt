@@ -1,5 +1,5 @@
 -- Words that are the same part by part.
-use Rattle.std.proofs.Common.{Bool, eqb-true, false, nat_eq as eqb, refl, true, ◌&&◌, ◌≡◌}
+use Rattle.std.proofs.Common.{Bool, eqb, eqb-true, false, refl, true, ◌&&◌, ◌≡◌}
 use Rattle.ns_word.proofs.Prelude.{Word, and_parts, beq}
 
 same_bit : (a b : Bool) → beq a b ≡ true → a ≡ b

@@ -1,5 +1,5 @@
 -- How often a seat stands in the lists that a scan makes of one, or one that queues or leaves, and who is in them.
-use Rattle.std.proofs.Common.{Bool, List, None, Option, Some, [], ap, arith, cond, eq-eqb, false, inl, inr, le-ltb, length, lt-ltb, ltb-true, map, nat_eq as eqb, nat_lt as ltb, ne_eqb, not, refl, subst, sym, true, ℕ, ◌&&◌, ◌+◌, ◌<◌, ◌||◌, ◌∷◌, ◌≡◌, ◌≢◌, ◌≤◌, ◌⊎◌}
+use Rattle.std.proofs.Common.{Bool, List, None, Option, Some, [], ap, arith, cond, eq-eqb, eqb, false, inl, inr, le-ltb, length, lt-ltb, ltb, ltb-true, map, ne_eqb, not, refl, subst, sym, true, ℕ, ◌&&◌, ◌+◌, ◌<◌, ◌||◌, ◌∷◌, ◌≡◌, ◌≢◌, ◌≤◌, ◌⊎◌}
 use Rattle.ns_word.proofs.Prelude.{Every, Mode, Owed, Tells, Waiter, both_ways, called_by, called_of, cases_Bool, cases_eq, false_from_ne_true, filter, has_condition, has_eligible, has_some, is_eligible, is_from_lock, is_satisfied, left_of, length-map, list_any, one_if, or_parts, own_times, queued}
 use Rattle.ns_word.proofs.Prelude.{reads, seats_of, times_among, times_in, times_in-append, times_in-cons, value_of, wakes_of, without_in, woken_of, writes, ◌∙◌}
 

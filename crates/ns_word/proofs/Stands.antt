@@ -1,5 +1,5 @@
 -- Where a seat stands that queues, and where those go that a call wakes.
-use Rattle.std.proofs.Common.{Bool, List, None, Some, [], ap, arith, cond, false, inl, inr, length, ltb-false, ltb-true, min, nat_lt as ltb, refl, subst, sym, true, ℕ, ◌++◌, ◌+◌, ◌<◌, ◌∷◌, ◌≡◌}
+use Rattle.std.proofs.Common.{Bool, List, None, Some, [], ap, arith, cond, false, inl, inr, length, ltb, ltb-false, ltb-true, min, refl, subst, sym, true, ℕ, ◌++◌, ◌+◌, ◌<◌, ◌∷◌, ◌≡◌}
 use Rattle.ns_word.proofs.Prelude.{Aim, AreCalled, Arrival, AsFresh, AsWoken, Cv, Event, InAcquire, InQueuing, InSignal, InWait, IsInRange, IsLawful, Lists, LockState, Made, Mode, OnCondition, OnVariables, Queue, QueueSelf, QueueToWait, QueuesFor, Scanned, SeatView, Step, Subject, Truths, Wait}
 use Rattle.ns_word.proofs.Prelude.{Waiter, WaitsFor, WakeAndReturn, WakeWaiters, Waking, Woke, Word, cases_Bool, changed, cvs_without, has, is_held, is_woken, left_of, meets_at, mode_for, moved_to, outside, queued, taken_by, taken_set, tries_of, waiter, waiters_of, waits_at, wakes_of, with_lock}
 use Rattle.ns_word.proofs.Prelude.{◌∙◌}

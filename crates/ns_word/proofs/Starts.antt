@@ -1,5 +1,5 @@
 -- A fresh lock is lawful, and so is one where a call begins.
-use Rattle.std.proofs.Common.{Bool, List, None, Option, Some, [], ap, arith, cond, false, ltb-false, nat_eq as eqb, nat_lt as ltb, refl, subst, suc, sym, true, zero, ℕ, ◌++◌, ◌+◌, ◌-◌, ◌<◌, ◌∷◌, ◌≡◌, ◌≤◌}
+use Rattle.std.proofs.Common.{Bool, List, None, Option, Some, [], ap, arith, cond, eqb, false, ltb, ltb-false, refl, subst, suc, sym, true, zero, ℕ, ◌++◌, ◌+◌, ◌-◌, ◌<◌, ◌∷◌, ◌≡◌, ◌≤◌}
 use Rattle.ns_word.proofs.Prelude.{AcquireLoad, AreApart, Begins, CanWait, EachFits, Event, Every, ForLock, HasNumber, Held, InAcquire, InCells, InQueuing, InRelease, InShow, InSignal, InTry, InWait, IsFirst, IsForVariables, IsLawful, Judging, Load, LockState, NoneIs, OnCondition, OnEntry}
 use Rattle.ns_word.proofs.Prelude.{OnVariables, PlaceFits, QuietCells, QuietLast, ReleaseLoad, SeatView, ShowLoad, SignalLoad, Subject, TestCells, TestLast, Tests, Truths, TryLoad, Wait, Waiter, WakeTells, Walk, WordsSeen, both_ways, every_join, every_parts, first_for, first_row, first_standing}
 use Rattle.ns_word.proofs.Prelude.{fresh_state, fresh_views, get_or-replicate, has_armed, has_queues, is_queuing, is_reading, is_writing, length-replicate, one_if, owed_in, part_of, queuers, quiet_first, times_among, total, wait_first, walk_at, word_seen}

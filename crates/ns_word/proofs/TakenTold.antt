@@ -1,5 +1,5 @@
 -- What the taken are told stays so, by each kind of step.
-use Rattle.std.proofs.Common.{Bool, List, None, Option, Some, [], ap, append_assoc, arith, cond, eq-eqb, inl, inr, lt-ltb, nat_eq as eqb, ne_eqb, refl, subst, sym, true, ℕ, ◌++◌, ◌+◌, ◌<◌, ◌∷◌, ◌≡◌, ◌≢◌, ◌≤◌, ◌⊎◌}
+use Rattle.std.proofs.Common.{Bool, List, None, Option, Some, [], ap, append_assoc, arith, cond, eq-eqb, eqb, inl, inr, lt-ltb, ne_eqb, refl, subst, sym, true, ℕ, ◌++◌, ◌+◌, ◌<◌, ◌∷◌, ◌≡◌, ◌≢◌, ◌≤◌, ◌⊎◌}
 use Rattle.ns_word.proofs.Prelude.{Every, IsNamed, IsToldSo, Mode, NamesOn, OnCondition, OnVariables, Owed, Phase, SeatView, Stance, Subject, TakenTold, ToldOn, VariableWaiterFits, Variables, Waiter, WaiterNames, Waiting, WaitsAmong, WakeTells, called_of, cases_Bool, cases_eq, every-append}
 use Rattle.ns_word.proofs.Prelude.{every_map, every_woken, flags_with, has, in_list, in_stands, is_in, owed_in, owed_to, own_times, stands_waiting, taken_set, times_among, times_in, times_in-cons, value_of, waits_in, wakes_of, walk_at, woken_of, woken_phase, woken_phases, ◌∙◌}
 use Rattle.ns_model.specs.declared.phase.Phase.TheVariants.{Woken}

@@ -1,5 +1,5 @@
 -- What a step leaves of what the seats were told.
-use Rattle.std.proofs.Common.{All, Bool, List, None, Option, Some, [], ap, append-nil, append_assoc, eq-eqb, nat_eq as eqb, ne_eqb, refl, subst, sym, ℕ, ◌++◌, ◌<◌, ◌∷◌, ◌≡◌, ◌≢◌, ◌≤◌}
+use Rattle.std.proofs.Common.{All, Bool, List, None, Option, Some, [], ap, append-nil, append_assoc, eq-eqb, eqb, ne_eqb, refl, subst, sym, ℕ, ◌++◌, ◌<◌, ◌∷◌, ◌≡◌, ◌≢◌, ◌≤◌}
 use Rattle.ns_word.proofs.Prelude.{All-append, All-nil, All-push, AreBy, BeginsIf, BeginsWith, Event, Found, IsBySeats, IsFirst, IsLawful, IsLed, IsLegal, IsTold, LedBy, LockState, QuietKeeps, SeatStep, SeatView, Step, Told, Truths, Walk, calls_of, filter-append, got_of, nothing_told, own}
 use Rattle.ns_word.proofs.Prelude.{told_after, view_in, walk_after, walk_over, want_of, who_of, ◌∙◌}
 use Rattle.ns_word.proofs.Starts.{begins}

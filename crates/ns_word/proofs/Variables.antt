@@ -1,5 +1,5 @@
 -- What the steps leave of the lists of the variables.
-use Rattle.std.proofs.Common.{Bool, List, Option, Some, [], ap, arith, cond, eq-eqb, false, inl, inr, length, nat_eq as eqb, ne_eqb, not, refl, subst, sym, true, ℕ, ◌<◌, ◌∷◌, ◌≡◌, ◌≢◌, ◌≤◌}
+use Rattle.std.proofs.Common.{Bool, List, Option, Some, [], ap, arith, cond, eq-eqb, eqb, false, inl, inr, length, ne_eqb, not, refl, subst, sym, true, ℕ, ◌<◌, ◌∷◌, ◌≡◌, ◌≢◌, ◌≤◌}
 use Rattle.ns_word.proofs.Prelude.{AreVariables, AreWaiting, Cv, Every, IsOrderly, Lists, Mode, OnVariables, Phase, SeatView, Seats, Stance, Subject, VariableWaiterFits, Variables, VariablesTell, WaitFor, Waiter, Waiting, below_in, cases_Bool, cases_eq, cvs_without, every_filter, every_join}
 use Rattle.ns_word.proofs.Prelude.{gone_outside, has, is_in, is_waiting, once_in, one_if, outside, sum_by, taken_set, times, times_at_most, times_in, times_in-append, times_in-cons, times_outside, waiters_of, waits_in, walk_at, with_lock, without_in, woken_phase, woken_phases, ◌∙◌}
 use Rattle.ns_model.specs.declared.phase.Phase.TheVariants.{Idle}

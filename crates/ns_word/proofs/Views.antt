@@ -1,5 +1,5 @@
 -- A view among the views: what holds of all of them, by the views before it, itself, and those behind it.
-use Rattle.std.proofs.Common.{Bool, List, None, Option, Some, [], ap, arith, cond, eq-eqb, false, inl, inr, nat_eq as eqb, ne_eqb, not, refl, subst, sym, true, ℕ, ◌++◌, ◌+◌, ◌∷◌, ◌≡◌, ◌≢◌, ◌≤◌, ◌⊎◌}
+use Rattle.std.proofs.Common.{Bool, List, None, Option, Some, [], ap, arith, cond, eq-eqb, eqb, false, inl, inr, ne_eqb, not, refl, subst, sym, true, ℕ, ◌++◌, ◌+◌, ◌∷◌, ◌≡◌, ◌≢◌, ◌≤◌, ◌⊎◌}
 use Rattle.ns_word.proofs.Prelude.{Aim, AreApart, CameBack, Cond, EachFits, ForLock, ForWait, Held, InAcquire, InWait, IsEither, IsExpected, Locked, Mode, NoneIs, OnCondition, OnVariables, Opening, Outcome, Owed, Phase, SeatView, SectionFits, Standing, Subject, Truths, Variables, ViewFits, Waiting}
 use Rattle.ns_word.proofs.Prelude.{Walk, called_to, calls_from_lock, cases_eq, expected_for, is_reading, is_waiting, is_write, is_writing, owed_to, phase_before, phase_by, phase_by_wake, phase_for, phase_kept, readers, times_among, total_amid, variable_in, waits_in, walk_at, woken_phase, writers}
 use Rattle.ns_word.proofs.Prelude.{◌∙◌}
@@ -154,8 +154,8 @@ module _ {C : Type 0} {N : ℕ} where
 -- ---- what a wake leaves of the phases
 
 -- a phase after a wake by the variable k: it is as it was, or it waited for that and was woken
-abbrev pub IsWokenBy : {C : Type 0} → ℕ → Phase C → Phase C → Type 0
-IsWokenBy k was now = (now ≡ was) ⊎ ((is_waiting k was ≡ true) × (now ≡ woken_phase k was))
+abbrev pub IsSameOrWoken : {C : Type 0} → ℕ → Phase C → Phase C → Type 0
+IsSameOrWoken k was now = (now ≡ was) ⊎ ((is_waiting k was ≡ true) × (now ≡ woken_phase k was))
 
 module _ {C : Type 0} (k : ℕ) where
   by_steady : (variables : Variables) (mode : Mode) (by : Option ℕ) → woken_phase {C = C} k (phase_by_wake variables mode by) ≡ phase_by_wake variables mode by
@@ -195,7 +195,7 @@ module _ {C : Type 0} (k : ℕ) where
 
 module _ {C : Type 0} {N : ℕ} (truths : Truths C) (seats : ℕ) where
   section_woken : (k : ℕ) (now next : Standing C) (row : List ℕ) (who : ℕ) (walk : Option (Walk C)) (held : Option (Held C N)) →
-      IsWokenBy k (now.phases who) (next.phases who) → next.row ≡ now.row →
+      IsSameOrWoken k (now.phases who) (next.phases who) → next.row ≡ now.row →
       SectionFits now row who walk held → SectionFits next row who walk held
   section_woken k now next row who walk None (inl e) same p = subst (λ ph. IsExpected (phase_by walk) ph) (sym e) p
   section_woken k now next row who walk None (inr e) same p = subst (λ ph. IsExpected (phase_by walk) ph) (sym e.1) (expected_woken k walk (now.phases who) e.0 p)
@@ -209,7 +209,7 @@ module _ {C : Type 0} {N : ℕ} (truths : Truths C) (seats : ℕ) where
 
   -- what a wake leaves of the seats: each is as it was, or woken
   pub each_woken : (k : ℕ) (now next : Standing C) (row : List ℕ) (views : List (SeatView C N)) →
-      ((seat : ℕ) → IsWokenBy k (now.phases seat) (next.phases seat)) → next.row ≡ now.row →
+      ((seat : ℕ) → IsSameOrWoken k (now.phases seat) (next.phases seat)) → next.row ≡ now.row →
       EachFits truths seats now row views → EachFits truths seats next row views
   each_woken k now next row [] phases same p = tt
   each_woken k now next row (u ∷ views) phases same p = (

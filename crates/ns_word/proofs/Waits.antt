@@ -1,5 +1,5 @@
 -- What the steps leave of the waiters: each stands where it did, or where it ought to.
-use Rattle.std.proofs.Common.{Bool, Option, Some, [], ap, arith, cond, eq-eqb, false, inl, inr, length, nat_eq as eqb, ne_eqb, refl, subst, sym, true, ℕ, ◌&&◌, ◌+◌, ◌<◌, ◌∷◌, ◌≡◌, ◌≢◌, ◌≤◌}
+use Rattle.std.proofs.Common.{Bool, Option, Some, [], ap, arith, cond, eq-eqb, eqb, false, inl, inr, length, ne_eqb, refl, subst, sym, true, ℕ, ◌&&◌, ◌+◌, ◌<◌, ◌∷◌, ◌≡◌, ◌≢◌, ◌≤◌}
 use Rattle.ns_word.proofs.Prelude.{InAcquire, InQueuing, InWait, Lists, LoadToScan, Owed, Queue, QueueToWait, WaitersPlaced, Walk, awaits, cases_eq, counts_in, flags_with, has_armed, is_armed, is_unwoken, one_if, one_most, owed_to, times_among, walk_at, ◌∙◌}
 use Rattle.ns_word.proofs.Bases.{Move, OnceInEach, news, olds, owed_at, view_of, walk_is, walk_stays, walk_was}
 

@@ -1,5 +1,5 @@
 -- Where the woken go, when a try is busy, and what a shown cause does.
-use Rattle.std.proofs.Common.{Bool, Some, ap, arith, cond, false, inl, inr, lt-ltb, nat_eq as eqb, nat_lt as ltb, ne_eqb, not, refl, true, ℕ, ◌&&◌, ◌<◌, ◌||◌, ◌≡◌, ◌≢◌, ◌⊎◌}
+use Rattle.std.proofs.Common.{Bool, Some, ap, arith, cond, eqb, false, inl, inr, lt-ltb, ltb, ne_eqb, not, refl, true, ℕ, ◌&&◌, ◌<◌, ◌||◌, ◌≡◌, ◌≢◌, ◌⊎◌}
 use Rattle.ns_word.proofs.Prelude.{AcquireLoad, Aim, Answered, Arrival, AsFresh, AsWoken, AwaitWake, AwaitWakeInWait, AwaitWakeToLeave, Busy, Cause, Done, Flag, ForWait, Found, Idle, InAcquire, InLeaving, InQueuing, InTry, InWait, LeaveLoad, Limits, LoadFlag, Look, LookIn, LookOut, Looked, Made}
 use Rattle.ns_word.proofs.Prelude.{Mode, Next, On, Read, Saw, TryAcquire, TryLoad, TryPlace, Walk, Word, answer_of, arrival_of, cases_eq, cause_kept, got_of, is_from_lock, is_woken, may_acquire, outcome_taken, rest_or_look, walk_after, want_of, woken_by, ◌∙◌}
 use Rattle.ns_word.proofs.Looks.{flag_here, flag_in, look_here, look_in}

@@ -1,9 +1,9 @@
 -- What a place in a call needs of its seat, and what an act needs.
 use Rattle.std.specs.Prelude.{Bool, IsSome, List, None, Option, Some, [], false, true, ℕ, ◌+◌, ◌<◌, ◌∷◌, ◌≡◌, ◌≤◌}
-use Rattle.ns_word.specs.Names.{Acquire, AcquireExchange, AcquirePlace, Act, Aim, Any, ArmFlag, AsFresh, AwaitWake, CameBack, CellPlace, Change, ForLock, ForWait, GetLoad, Held, InAcquire, InCells, InLeaving, InQueuing, InRelease, InShow, InSignal, InTry, InWait, JudgeMet, JudgeQuiet, LeavePlace}
-use Rattle.ns_word.specs.Names.{LoadCell, LoadFlag, LoadToScan, LoadWord, Look, LookIn, Mode, OnCondition, OnEntry, OnReturn, OnVariables, Only, Opening, Outcome, Owed, Pay, PayWake, QueuePlace, QueueSelf, QuietCells, QuietLast, QuietWriter, Release, ReleaseExchange, ReleasePlace, ReleaseReturning}
-use Rattle.ns_word.specs.Names.{Releasing, ReturnQueues, ScanCells, SetLoad, SetStore, ShowPlace, SignalPlace, StoreCell, Subject, Take, TakeQueues, TakeToLeave, TakeToQueue, TakeToScan, TakeToShow, TakeToWake, TestCells, TestLast, Truths, TryAcquire, TryPlace, Variables, Visit, Wait, WaitPlace}
-use Rattle.ns_word.specs.Names.{WaitReturning, WakeWaiters, Walk, Woken, Write, times}
+use Rattle.ns_word.specs.Names.{Acquire, AcquireExchange, AcquirePlace, Act, Aim, Any, ArmFlag, AsFresh, AwaitWake, CameBack, CellPlace, Change, Ended, ForLock, ForWait, GetLoad, Held, InAcquire, InCells, InLeaving, InQueuing, InRelease, InShow, InSignal, InTry, InWait, JudgeMet, JudgeQuiet}
+use Rattle.ns_word.specs.Names.{LeavePlace, LeaveSelf, LoadCell, LoadFlag, LoadToScan, LoadWord, Locked, Look, LookIn, Mode, Nothing, OnCondition, OnEntry, OnReturn, OnVariables, Only, Opening, Outcome, Owed, Pay, PayWake, QueuePlace, QueueSelf, QuietCells, QuietLast, QuietWriter, Reader, Release}
+use Rattle.ns_word.specs.Names.{ReleaseExchange, ReleaseLoad, ReleasePlace, ReleaseReturning, Releasing, ReturnQueues, ScanAndRelease, ScanCells, SetLoad, SetStore, ShowPlace, SignalPlace, StoreCell, Subject, Take, TakeQueues, TakeToLeave, TakeToQueue, TakeToScan, TakeToShow, TakeToWake, TestCells}
+use Rattle.ns_word.specs.Names.{TestLast, Truths, TryAcquire, TryPlace, Variables, Visit, Wait, WaitPlace, WaitReturning, WakeWaiters, Walk, Woken, Write, Writer, times}
 use Rattle.ns_word.specs.Words.{mode_released, may_acquire, needs_scan}
 use Rattle.ns_word.specs.Waits.{OutcomeFits, cause_in, mode_for}
 use Rattle.ns_word.specs.Answers.{place_cause_kept}
@@ -18,7 +18,8 @@ HasMode mode (Some held) = held.mode ≡ mode
 abbrev pub IsSettledBy : {C : Type 0} → (C → List ℕ → Bool) → List ℕ → Opening C → Type 0
 IsSettledBy holds before (CameBack (OnCondition c) (Woken by)) = holds c before ≡ true
 IsSettledBy {C} holds before (CameBack (OnVariables variables) outcome) = OutcomeFits {C = C} (OnVariables variables) outcome
-IsSettledBy holds before entry = Unit {0}
+IsSettledBy holds before Locked = Unit {0}
+IsSettledBy holds before (CameBack (OnCondition c) (Ended cause)) = Unit {0}
 
 -- so it is of the section in hand, if there is one; an open one isn't committed
 abbrev pub IsSettled : {C : Type 0} {N : ℕ} → Truths C → Option (Held C N) → Type 0
@@ -28,7 +29,8 @@ IsSettled truths (Some held) = IsSettledBy truths.holds held.before held.entry
 -- what is declared of the section that is left
 abbrev pub IsLeft : {C : Type 0} {N : ℕ} → Truths C → Releasing → Held C N → Type 0
 IsLeft truths QuietWriter held = truths.quiet held.before held.row ≡ true
-IsLeft truths releasing held = Unit {0}
+IsLeft truths Writer held = Unit {0}
+IsLeft truths Reader held = Unit {0}
 
 -- a section that may be left so is in hand: in its mode, settled, and quiet where that is declared
 abbrev pub CanLeave : {C : Type 0} {N : ℕ} → Truths C → Releasing → Option (Held C N) → Type 0
@@ -97,7 +99,8 @@ ReleaseFits truths releasing (ReleaseExchange last) held = CanLeave truths relea
 ReleaseFits truths releasing (TakeToScan last) held = CanLeave truths releasing held × (last.spin ≡ false) × (needs_scan releasing last ≡ true)
 ReleaseFits {C} {N} truths releasing (ScanCells last i) held = CanLeave truths releasing held × (i < N)
 ReleaseFits truths releasing Pay held = held ≡ None
-ReleaseFits truths releasing place held = CanLeave truths releasing held
+ReleaseFits truths releasing ReleaseLoad held = CanLeave truths releasing held
+ReleaseFits truths releasing (ScanAndRelease last) held = CanLeave truths releasing held
 
 -- A call on the row has a section in hand, in write mode but for a read, and names a cell of it.
 abbrev pub CellFits : {C : Type 0} {N : ℕ} → CellPlace → Option (Held C N) → Type 0
@@ -168,7 +171,8 @@ OwesOne seats (wake ∷ rest) = wake.seat < seats
 abbrev pub ChangeFits : {C : Type 0} {N : ℕ} → ℕ → Change → Part C N → Type 0
 ChangeFits seat (QueueSelf mode arrival) part = times seat part.lists ≡ 0
 ChangeFits seat (WakeWaiters waking k) part = k < 4
-ChangeFits seat change part = Unit {0}
+ChangeFits seat (LeaveSelf home) part = Unit {0}
+ChangeFits seat Nothing part = Unit {0}
 
 -- What an act needs, that it may be made by one of so many seats on its part of the state.
 abbrev pub ActFits : {C : Type 0} {N : ℕ} → Truths C → ℕ → ℕ → Act C → Part C N → Type 0

@@ -1,4 +1,4 @@
--- The names of specs/ that proofs cite, and the specs of ns_world, passed on from one place. Declares nothing.
+-- The names that contracts, proofs and the crates above cite, passed on from one place. Declares nothing.
 pub use Rattle.ns_word.specs.Answers.{cause_by, cause_kept, comes_back, has_come_back, is_back, place_cause_kept, place_has_come_back}
 pub use Rattle.ns_word.specs.Asked.{asked_in_cells, asked_of, asked_to_judge}
 pub use Rattle.ns_word.specs.Begins.{Begins, BeginsIf, IsFirst, IsForVariables, SeatStep, free_word, fresh_state, fresh_views, view_in}

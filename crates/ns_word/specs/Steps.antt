@@ -123,7 +123,8 @@ owed_after change last lists owed = owed
 abbrev pub change_found : {C : Type 0} → ℕ → Change → Word → Lists C → Found
 change_found seat (LeaveSelf home) last lists = Left (stands_at seat home lists)
 change_found seat (WakeWaiters waking k) last lists = Woke (not (is_held last) && has_some (taken_by waking (waiters_of lists (Cv k))))
-change_found seat change last lists = Made
+change_found seat (QueueSelf mode arrival) last lists = Made
+change_found seat Nothing last lists = Made
 
 -- the event that a call is which wakes these
 abbrev pub wake_of : {C : Type 0} {N : ℕ} → ℕ → Waking → ℕ → List (Waiter C) → Event C N
@@ -140,7 +141,8 @@ leave_of seat home stood = []
 abbrev pub change_commits : {C : Type 0} {N : ℕ} → ℕ → Change → Lists C → List (Event C N)
 change_commits seat (LeaveSelf home) lists = leave_of seat home (stands_at seat home lists)
 change_commits seat (WakeWaiters waking k) lists = wake_of seat waking k (taken_by waking (waiters_of lists (Cv k))) ∷ []
-change_commits seat change lists = []
+change_commits seat (QueueSelf mode arrival) lists = []
+change_commits seat Nothing lists = []
 
 -- a waiter of its own list, with its condition if it waits for one; of the list of each variable, if it waits for any of a set
 abbrev pub waits_at : {C : Type 0} → Subject C → ℕ → Mode → Bool → Lists C → Lists C

@@ -5,7 +5,8 @@ use Rattle.ns_word.specs.Names.{Arrival, AsFresh, AsWoken, Bits, Mode, QuietWrit
 -- the mode of the section that is left
 abbrev pub mode_released : Releasing → Mode
 mode_released Reader = Read
-mode_released releasing = Write
+mode_released Writer = Write
+mode_released QuietWriter = Write
 
 -- the seat was woken from the lock list
 abbrev pub is_woken : Arrival → Bool

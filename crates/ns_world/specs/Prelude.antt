@@ -1,4 +1,4 @@
--- The names of specs/ that proofs cite, passed on from one place. Declares nothing.
+-- The names that contracts, proofs and the crates above cite, passed on from one place. Declares nothing.
 pub use Rattle.ns_counters.specs.Asks.{IsLoad}
 pub use Rattle.ns_counters.specs.Prelude.{WantFits, word_left}
 pub use Rattle.ns_counters.specs.declared.object.Place.{Place}
