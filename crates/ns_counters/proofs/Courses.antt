@@ -1,11 +1,11 @@
 -- How far a call on counters and once cells has come: whatever others do leaves that as it is, and each step of its own takes it on to an answer that means what it says.
 use Rattle.std.proofs.Common.{Bool, Err, List, None, Ok, Option, Result, Some, [], ap, append-nil, arith, cond, drop, eq-eqb, eqb, eqb-true, false, inl, inr, ltb-false, nat_lt, refl, slice_get, slice_index, subst, suc, sym, take, take-append-drop, true, ℕ, ℤ, ◌++◌, ◌<◌, ◌∙◌, ◌∷◌, ◌≡◌, ◌≤◌}
-use Rattle.ns_counters.proofs.Prelude.{AddExchange, AddLoad, AnyAnswers, AtCounter, AtNote, AtSomeMoment, AtSomePoint, BeginsWith, ChainFits, Clock, CounterFault, CounterState, DoneLoad, Env, EnvEvent, EnvFound, EnvNext, EnvState, FirstClock, ForIsNotified, Free, HadValue, HasLookedUpTo}
-use Rattle.ns_counters.proofs.Prelude.{HasShownNone, HaveShownNothing, InRound, InTurn, IsBetween, IsLater, IsLawful, IsLawfulEnv, IsLegalEnv, IsReady, IsSo, Item, Items, LookOnce, Note, NoteLoad, Number, ObjectEffect, ObjectEvent, ObjectFound, ObjectGoes, ObjectSoFar, ObjectStanding, ObjectWalk}
-use Rattle.ns_counters.proofs.Prelude.{OnCounterItem, OnNote, OnOnce, OnVariable, OnceBegin, OnceEnd, OnceLoad, OnceState, Outcome, Over, Past, Round, RoundGo, RoundNext, RoundOver, RoundPlace, RoundSoFar, Running, Setup, Stage, ValueLoad, WaitClock, WaitLoad, WaitMark, WalkFits, WereThere, Word}
-use Rattle.ns_counters.proofs.Prelude.{begins_itself, begins_through, both, by_answer, by_begun, by_chain, by_deadline, by_round, by_stage, by_test, chain_answers, chain_from, clock_of, counter_of, counter_word, either, env_after, env_got_of, first_objects, fold-append, from_items, from_place}
-use Rattle.ns_counters.proofs.Prelude.{get_or_from_slice_get, has_run, is_done, is_due, is_ready, item_at, items_of, judged, legal_begins, line_starts, made_begins, object_asked, object_got, object_next, object_place, object_want, objects_after, objects_own, outcome, past_and, round_got, round_want}
-use Rattle.ns_counters.proofs.Prelude.{slice_get_within, stage, stage_of, take-suc, tried, waited_next, word_of_once}
+use Rattle.ns_counters.proofs.Prelude.{AddExchange, AddLoad, AnyAnswers, AtCounter, AtNote, AtSomeMoment, AtSomePoint, BeginsWith, ChainFits, Clock, CounterFault, CounterState, Done, DoneLoad, Env, EnvEnd, EnvEvent, EnvFound, EnvState, EnvWalk, FirstClock, ForIsNotified, Free, HadValue}
+use Rattle.ns_counters.proofs.Prelude.{HasLookedUpTo, HasShownNone, HaveShownNothing, InRound, InTurn, IsBetween, IsLater, IsLawful, IsLawfulEnv, IsLegalEnv, IsReady, IsSo, Item, Items, LookOnce, Next, Note, NoteLoad, Number, ObjectEffect, ObjectEvent, ObjectFound, ObjectGoes, ObjectSoFar}
+use Rattle.ns_counters.proofs.Prelude.{ObjectStanding, ObjectWalk, On, OnCounterItem, OnNote, OnOnce, OnVariable, OnceBegin, OnceEnd, OnceLoad, OnceState, Outcome, Over, Past, Round, RoundGo, RoundNext, RoundOver, RoundPlace, RoundSoFar, Setup, Stage, ValueLoad, WaitClock, WaitLoad, WaitMark}
+use Rattle.ns_counters.proofs.Prelude.{WalkFits, WereThere, Word, begins_itself, begins_through, both, by_answer, by_begun, by_chain, by_deadline, by_round, by_stage, by_test, chain_answers, chain_from, clock_of, counter_of, counter_word, either, env_after, env_got_of, first_objects, fold-append}
+use Rattle.ns_counters.proofs.Prelude.{from_items, from_place, get_or_from_slice_get, has_run, is_done, is_due, is_ready, item_at, items_of, judged, legal_begins, line_starts, made_begins, object_asked, object_got, object_next, object_place, object_want, objects_after, objects_own, outcome}
+use Rattle.ns_counters.proofs.Prelude.{past_and, round_got, round_want, slice_get_within, stage, stage_of, take-suc, tried, waited_next, word_of_once}
 use Rattle.ns_counters.specs.Prelude.{OnCounter}
 use Rattle.ns_counters.proofs.Listed.{listed, stands_at}
 use Rattle.ns_counters.proofs.Objects.{own-append}
@@ -16,7 +16,6 @@ use Rattle.ns_model.specs.declared.counter.CounterEvent.TheVariants as TheCounte
 use Rattle.ns_model.specs.declared.once.OnceEvent.TheVariants as TheOnce
 use Rattle.ns_model.specs.declared.once.OnceState.TheVariants as TheState
 use Rattle.ns_counters.specs.declared.word.Stage.TheVariants as TheStage
-use Rattle.ns_env.specs.declared.walk.EnvNext.TheVariants as TheEnv
 
 -- ---- more that has happened
 
@@ -179,10 +178,10 @@ module _ (setup : Setup) (earlier now : Past) (round : Round) (start : Past) (cl
     past_goes at item is looked unready = from_goes (suc at) (looked_more at item is looked unready)
 
     -- by the chain of a note
-    chain_goes : (at asked : ℕ) (next : EnvNext) → HasLooked at → item_at round.items at ≡ Some (OnNote asked) → ChainFits start.notes now.notes (ForIsNotified asked) next → RoundGoes setup earlier now round (by_chain round at clock asked next)
-    chain_goes at asked (TheEnv.Go (NoteLoad chain moment above)) looked is fits = (start, looked, fits.2)
-    chain_goes at asked (TheEnv.Over (IsSo true)) looked is fits = shows_one at (OnNote asked) is looked fits
-    chain_goes at asked (TheEnv.Over (IsSo false)) looked is fits = past_goes at (OnNote asked) is looked fits
+    chain_goes : (at asked : ℕ) (next : Next EnvWalk EnvEnd) → HasLooked at → item_at round.items at ≡ Some (OnNote asked) → ChainFits start.notes now.notes (ForIsNotified asked) next → RoundGoes setup earlier now round (by_chain round at clock asked next)
+    chain_goes at asked (On (NoteLoad chain moment above)) looked is fits = (start, looked, fits.2)
+    chain_goes at asked (Done (Over (IsSo true))) looked is fits = shows_one at (OnNote asked) is looked fits
+    chain_goes at asked (Done (Over (IsSo false))) looked is fits = past_goes at (OnNote asked) is looked fits
     chain_goes at asked next looked is fits = absurd fits
 
 -- ---- a step of the call's own
@@ -282,7 +281,7 @@ module _ (setup : Setup) (earlier : Past) (seat : ℕ) (now : Past) (words : Lis
     waited_goes : (counter : ℕ) (deadline : Option ℕ) (value : ℕ) (done : List ObjectEvent) → done ≡ OnCounter counter (TheCounter.Begun seat) ∷ [] → HadValue setup earlier so_far seat counter value →
         ObjectGoes setup earlier so_far seat (WaitMark counter deadline) done (waited_next counter deadline value)
     waited_goes counter deadline value done begun had = by (eqb value 0) refl deadline where
-      by : (b : Bool) → eqb value 0 ≡ b → (deadline : Option ℕ) → ObjectGoes setup earlier so_far seat (WaitMark counter deadline) done (cond b (Over (Number 0)) (by_deadline counter deadline value))
+      by : (b : Bool) → eqb value 0 ≡ b → (deadline : Option ℕ) → ObjectGoes setup earlier so_far seat (WaitMark counter deadline) done (cond b (Done (Number 0)) (by_deadline counter deadline value))
       by true is deadline = (begun, subst (HadValue setup earlier so_far seat counter) (eqb-true value 0 is) had, λ ne. absurd (ne refl))
       by false is None = (refl, begun)
       by false is (Some moment) = (refl, (begun, had))

@@ -1,11 +1,10 @@
 -- Where seats stand in calls on counters and once cells: after one of them is put elsewhere, and while more notes are made; what a step leaves of what was asked, and what it needs.
-use Rattle.std.proofs.Common.{Bool, List, None, Option, Some, [], ap, eqb, length, nat_lt, refl, slice_get, slice_set, unwrap_or, IfSome, ◌≢◌, sym, true, ℕ, ℤ, ◌<◌, ◌∷◌, ◌≡◌}
-use Rattle.ns_counters.proofs.Prelude.{AddExchange, AddLoad, AreThere, AtCounter, AtNote, Clock, DoneLoad, Env, FirstClock, IfSome_then, InRound, IsLawfulObjects, Item, Items, NoteStanding, ObjectEvent, ObjectFound, ObjectNext, ObjectStanding, ObjectState, ObjectWalk, OnCounter, OnNote, OnVariable}
-use Rattle.ns_counters.proofs.Prelude.{OnceBegin, OnceEnd, OnceLoad, Round, RoundFits, RoundPlace, Setup, ValueLoad, WaitClock, WaitLoad, WaitMark, WalkFits, Word, by_judging, counter_of, counter_word, either, is_there, items_of, judged, list_all, object_after, object_asked, object_got}
-use Rattle.ns_counters.proofs.Prelude.{objects_after, round_got, set_each, slice_get_within, stage_of, waited_next, walk_in}
+use Rattle.std.proofs.Common.{Bool, IfSome, List, None, Option, Some, [], ap, eqb, length, nat_lt, refl, slice_get, slice_set, sym, true, unwrap_or, ℕ, ℤ, ◌<◌, ◌∷◌, ◌≡◌, ◌≢◌}
+use Rattle.ns_counters.proofs.Prelude.{AddExchange, AddLoad, AreThere, AtCounter, AtNote, Clock, DoneLoad, Env, FirstClock, IfSome_then, InRound, IsLawfulObjects, Item, Items, Next, NoteStanding, ObjectEvent, ObjectFound, ObjectReply, ObjectStanding, ObjectState, ObjectWalk, OnCounter, OnNote}
+use Rattle.ns_counters.proofs.Prelude.{OnVariable, OnceBegin, OnceEnd, OnceLoad, Round, RoundFits, RoundPlace, Setup, ValueLoad, WaitClock, WaitLoad, WaitMark, WalkFits, Word, by_judging, counter_of, counter_word, either, is_there, items_of, judged, list_all, object_asked, object_got, objects_after}
+use Rattle.ns_counters.proofs.Prelude.{place_after, round_got, set_each, slice_get_within, stage_of, waited_next, walk_in}
 use Rattle.ns_counters.proofs.Ways.{at_answer, at_begun, at_round, at_stage, at_waited}
 use Rattle.ns_counters.proofs.Listed.{first_of_all, rest_of_all}
-use Rattle.ns_counters.specs.declared.word.Stage.TheVariants as TheStage
 
 -- ---- a seat is put elsewhere
 
@@ -69,8 +68,8 @@ put_keeps history state notes seat walk inside low fits led = record {
 
 -- ---- a step of a call on counters and once cells leaves what the call was asked
 
-abbrev pub StaysAsked : ObjectWalk → ObjectNext → Type 0
-StaysAsked asked next = IfSome (object_after next) (λ walk. object_asked walk ≡ asked)
+abbrev pub StaysAsked : ObjectWalk → Next ObjectWalk ObjectReply → Type 0
+StaysAsked asked next = IfSome (place_after next) (λ walk. object_asked walk ≡ asked)
 
 judged_stays : (counter : ℕ) (delta : ℤ) (word : ℕ) → StaysAsked (AddLoad counter delta) (by_judging counter delta word)
 judged_stays counter delta word = at_answer (StaysAsked (AddLoad counter delta)) (λ _. tt) counter delta (counter_of word) (judged (counter_of word) delta) (λ _ _. refl)

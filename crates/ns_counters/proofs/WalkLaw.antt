@@ -1,18 +1,15 @@
 -- A step of a call on counters and once cells keeps their law, and leaves each seat where it may stand.
 use Rattle.std.proofs.Common.{Bool, Err, IfSome, List, None, Ok, Option, Result, Some, [], ap, append-nil, arith, drop, eqb, length, length-take, ltb-true, nat_lt, refl, slice_get, slice_index, slice_set, subst, suc, sym, true, zero, ℕ, ℤ, ◌%◌, ◌++◌, ◌<◌, ◌^◌, ◌∙◌, ◌∷◌, ◌≡◌, ◌≢◌, ◌≤◌}
-use Rattle.ns_counters.proofs.Prelude.{AddExchange, AddLoad, AreThere, AtCounter, AtNote, BeginOnce, CanAct, Clock, CounterFault, CounterState, Env, EnvEvent, EnvFound, EnvNext, EnvPlain, Every, ExchangeToAdd, FirstClock, ForIsNotified, Free, Go, IfSome_then, InRound, Is, IsLawfulObjects, Item}
-use Rattle.ns_counters.proofs.Prelude.{Items, LoadToAdd, Meets, Note, NoteLoad, NoteStanding, NoteWord, ObjectAct, ObjectEffect, ObjectEvent, ObjectFound, ObjectNext, ObjectStanding, ObjectState, ObjectView, ObjectWalk, ObjectWant, OnCounter, OnEnv, OnNote, OnVariable, OnWord, OnceBegin, OnceEnd}
-use Rattle.ns_counters.proofs.Prelude.{OnceLoad, Outcome, Over, Place, PlaceFits, Round, RoundFits, RoundGo, RoundNext, RoundOver, Setup, ViewFits, WaitClock, WaitLoad, WaitMark, WalkFits, Word, begins_itself, both, by_answer, by_begun, by_chain, by_judging, by_round, chain_from, chain_up}
-use Rattle.ns_counters.proofs.Prelude.{counter_of, counter_word, either, env_got_of, from_items, from_place, is_due, is_there, item_at, items_of, judged, list_all, most, object_after, object_got, object_place, object_want, object_who, objects_after, objects_own, outcome, round_got, slice_get_within}
-use Rattle.ns_counters.proofs.Prelude.{stage_of, standing_of, state_of, tried, waited_next, walk_in, word_at, word_left}
+use Rattle.ns_counters.proofs.Prelude.{AddExchange, AddLoad, AreThere, AtCounter, AtNote, BeginOnce, CanAct, Clock, CounterFault, CounterState, Done, Env, EnvEnd, EnvEvent, EnvFound, EnvPlain, EnvWalk, Every, ExchangeToAdd, FirstClock, ForIsNotified, Free, IfSome_then, InRound, Is, IsLawfulObjects}
+use Rattle.ns_counters.proofs.Prelude.{Item, Items, LoadToAdd, Meets, Next, Note, NoteLoad, NoteStanding, NoteWord, ObjectAct, ObjectEffect, ObjectEvent, ObjectFound, ObjectReply, ObjectStanding, ObjectState, ObjectView, ObjectWalk, ObjectWant, On, OnCounter, OnEnv, OnNote, OnVariable, OnWord}
+use Rattle.ns_counters.proofs.Prelude.{OnceBegin, OnceEnd, OnceLoad, Outcome, Over, Place, PlaceFits, Round, RoundFits, RoundGo, RoundNext, RoundOver, Setup, ViewFits, WaitClock, WaitLoad, WaitMark, WalkFits, Word, begins_itself, both, by_answer, by_begun, by_chain, by_judging, by_round, chain_from}
+use Rattle.ns_counters.proofs.Prelude.{chain_up, counter_of, counter_word, either, env_got_of, from_items, from_place, is_due, is_there, item_at, items_of, judged, list_all, most, object_got, object_place, object_want, object_who, objects_after, objects_own, outcome, place_after, round_got}
+use Rattle.ns_counters.proofs.Prelude.{slice_get_within, stage_of, standing_of, state_of, tried, waited_next, walk_in, word_at, word_left}
 use Rattle.ns_counters.proofs.Acts.{acted_fits, acted_lawful, others_fit}
 use Rattle.ns_counters.proofs.Keeps.{step_keeps}
 use Rattle.ns_counters.proofs.Listed.{first_of_all, listed, rest_of_all, stands_at}
 use Rattle.ns_counters.proofs.Placed.{put_each, put_keeps, stands_within}
 use Rattle.ns_counters.proofs.Ways.{at_answer, at_begun, at_round, at_stage, at_waited}
-use Rattle.ns_counters.specs.declared.object.ObjectEvent.TheVariants as TheEvent
-use Rattle.ns_counters.specs.declared.word.Stage.TheVariants as TheStage
-use Rattle.ns_env.specs.declared.walk.EnvNext.TheVariants as TheEnv
 
 -- ---- objects of a list
 
@@ -50,15 +47,15 @@ module _ (setup : Setup) (notes : ℕ → NoteStanding) where
 -- ---- where a step leads
 
 -- where a seat may stand after a step, if it goes on
-abbrev pub NextFits : Setup → ObjectStanding → (ℕ → NoteStanding) → ℕ → ObjectNext → Type 0
-NextFits setup now notes seat next = IfSome (object_after next) (WalkFits setup now notes seat)
+abbrev pub NextFits : Setup → ObjectStanding → (ℕ → NoteStanding) → ℕ → Next ObjectWalk ObjectReply → Type 0
+NextFits setup now notes seat next = IfSome (place_after next) (WalkFits setup now notes seat)
 
 -- a word is read as one of a counter that has room
 value_few : (word : ℕ) → (counter_of word).value ≤ most
 value_few word = let low : word % 2 ^ 32 < 2 ^ 32 = omega arith in omega (arith, low)
 
 module _ (setup : Setup) (now : ObjectStanding) (notes : ℕ → NoteStanding) (seat : ℕ) where
-  abbrev Fits : ObjectNext → Type 0
+  abbrev Fits : Next ObjectWalk ObjectReply → Type 0
   Fits next = NextFits setup now notes seat next
 
   -- a change that was judged by a word
@@ -71,7 +68,7 @@ module _ (setup : Setup) (now : ObjectStanding) (notes : ℕ → NoteStanding) (
   round_stands round (RoundOver (Some at)) there fits = tt
 
   -- where a step on a word leads, in what it leaves
-  pub word_leads : (word : ℕ) (walk : ObjectWalk) (was : ObjectStanding) → WalkFits setup was notes seat walk → PlaceFits setup now seat (object_place (object_after (object_got walk (Word word)))) → Fits (object_got walk (Word word))
+  pub word_leads : (word : ℕ) (walk : ObjectWalk) (was : ObjectStanding) → WalkFits setup was notes seat walk → PlaceFits setup now seat (object_place (place_after (object_got walk (Word word)))) → Fits (object_got walk (Word word))
   word_leads word (AddLoad counter delta) was fits placed = judged_stands counter delta word fits
   word_leads word (AddExchange counter delta seen value) was fits placed = either Fits (eqb word (counter_word seen)) tt (judged_stands counter delta word fits.0)
   word_leads word (WaitMark counter deadline) was fits placed = at_waited Fits (λ _. tt) counter deadline (counter_of word).value (λ _. fits) (λ _ _. fits)
@@ -79,7 +76,7 @@ module _ (setup : Setup) (now : ObjectStanding) (notes : ℕ → NoteStanding) (
   word_leads word (WaitClock counter moment value) was fits placed = fits
   word_leads word (OnceLoad once) was fits placed = at_stage Fits (λ _. tt) once (stage_of word) fits fits
   word_leads word (OnceBegin once) was fits placed =
-      at_begun (λ next. PlaceFits setup now seat (object_place (object_after next)) → Fits next) (λ _ _. tt) once (stage_of word) (λ p. p) (λ _. fits) placed
+      at_begun (λ next. PlaceFits setup now seat (object_place (place_after next)) → Fits next) (λ _ _. tt) once (stage_of word) (λ p. p) (λ _. fits) placed
   word_leads word (InRound round FirstClock) was fits placed = (fits.0, tt)
   word_leads word (InRound round (AtNote at clock asked note)) was fits placed = (fits.0, fits.1)
   word_leads word (InRound round (AtCounter at clock counter)) was fits placed =
@@ -95,12 +92,12 @@ clock_found clock now is = cc
 
 -- where a load of the clock or of a note leads
 module _ (setup : Setup) (now : ObjectStanding) (env : EnvPlain) (happened : List EnvEvent) (meets : Meets happened env) (seat : ℕ) where
-  note_leads : (round : Round) (at clock asked note : ℕ) (next : EnvNext) (state : NoteWord) → AreThere setup env.notes round.items → standing_of state ≡ env.notes note →
+  note_leads : (round : Round) (at clock asked note : ℕ) (next : Next EnvWalk EnvEnd) (state : NoteWord) → AreThere setup env.notes round.items → standing_of state ≡ env.notes note →
       env_got_of (chain_from asked clock note) (Note state) ≡ next → (item_at round.items at ≡ Some (OnNote asked)) → RoundStands setup env.notes round (by_chain round at clock asked next)
-  note_leads round at clock asked note (TheEnv.Go (NoteLoad chain moment above)) state there same is here =
+  note_leads round at clock asked note (On (NoteLoad chain moment above)) state there same is here =
       let up = chain_up happened env (ForIsNotified asked) chain clock moment note above state meets same is in
       (here, ap (λ (notes : ℕ → NoteStanding). (notes above).made) meets.notes ∙ up.1)
-  note_leads round at clock asked note (TheEnv.Over (Is true)) state there same is here = tt
+  note_leads round at clock asked note (Done (Over (Is true))) state there same is here = tt
   note_leads round at clock asked note next state there same is here = from_stands setup env.notes round clock (suc at) there
 
   pub env_leads : (walk : ObjectWalk) (found : EnvFound) (words' : List ℕ) (events : List ObjectEvent) (words : List ℕ) → WalkFits setup now env.notes seat walk →
@@ -166,10 +163,10 @@ want_below setup now notes seat walk act counters cells fits is = subst Below is
 
 -- where the step leads binds its seat just to what is left of its call
 abbrev Leads : ℕ → ObjectWalk → ℕ → ObjectWant → Type 0
-Leads seat walk word (OnWord act) = object_place (object_after (object_got walk (Word word))) ≡ (outcome seat act (object_place (Some walk)) word).place
+Leads seat walk word (OnWord act) = object_place (place_after (object_got walk (Word word))) ≡ (outcome seat act (object_place (Some walk)) word).place
 Leads seat walk word (OnEnv act) = Unit {0}
 
-judged_leads : (seat counter : ℕ) (delta : ℤ) (word : ℕ) (seen : CounterState) (r : Result ℕ CounterFault) → object_place (object_after (by_answer counter delta seen r)) ≡ (tried seat counter delta word r).place
+judged_leads : (seat counter : ℕ) (delta : ℤ) (word : ℕ) (seen : CounterState) (r : Result ℕ CounterFault) → object_place (place_after (by_answer counter delta seen r)) ≡ (tried seat counter delta word r).place
 judged_leads seat counter delta word seen (Ok value) = refl
 judged_leads seat counter delta word seen (Err fault) = refl
 
@@ -178,14 +175,14 @@ tried_left seat counter delta word (Ok value) = refl
 tried_left seat counter delta word (Err fault) = refl
 
 -- a call that is over, or goes on to most places, goes where it may make no step of its own
-abbrev IsFree : ObjectNext → Type 0
-IsFree next = object_place (object_after next) ≡ Free
+abbrev IsFree : Next ObjectWalk ObjectReply → Type 0
+IsFree next = object_place (place_after next) ≡ Free
 
 waited_leads : (counter : ℕ) (deadline : Option ℕ) (value : ℕ) → IsFree (waited_next counter deadline value)
 waited_leads counter deadline value = at_waited IsFree (λ _. refl) counter deadline value (λ _. refl) (λ _ _. refl)
 
-abbrev IsBound : ObjectNext → Outcome → Type 0
-IsBound next left = object_place (object_after next) ≡ left.place
+abbrev IsBound : Next ObjectWalk ObjectReply → Outcome → Type 0
+IsBound next left = object_place (place_after next) ≡ left.place
 
 leads : (seat : ℕ) (walk : ObjectWalk) (word : ℕ) → Leads seat walk word (object_want walk)
 leads seat (AddLoad counter delta) word = judged_leads seat counter delta word (counter_of word) (judged (counter_of word) delta)
@@ -224,8 +221,8 @@ module _ (objects : ObjectState) (env : EnvPlain) (happened : List EnvEvent) (me
   knows other w at = record { made = refl; below = led.within other w at; seen = begins_itself history; mine = refl; mine_seen = refl; place = placed_by setup standing env.notes other w (led.each other w at) }
 
   -- the objects after the step
-  abbrev after : List ℕ → ObjectNext → ObjectState
-  after words next = record objects { words = words; walks = slice_set objects.walks seat (object_after next) }
+  abbrev after : List ℕ → Next ObjectWalk ObjectReply → ObjectState
+  after words next = record objects { words = words; walks = slice_set objects.walks seat (place_after next) }
 
   inside : seat < length objects.walks
   inside = stands_within objects.walks seat walk walks
@@ -241,13 +238,13 @@ module _ (objects : ObjectState) (env : EnvPlain) (happened : List EnvEvent) (me
     abbrev made_by : List ObjectEvent
     made_by = (outcome seat act view.place word).events
 
-    abbrev next : ObjectNext
+    abbrev next : Next ObjectWalk ObjectReply
     next = object_got walk (Word word)
 
     abbrev later : ObjectStanding
     later = objects_after setup (history ++ made_by)
 
-    placed : PlaceFits setup later seat (object_place (object_after next))
+    placed : PlaceFits setup later seat (object_place (place_after next))
     placed = subst (PlaceFits setup later seat) (sym (subst (Leads seat walk word) wants (leads seat walk word))) (acted_fits setup objects.words history led.lawful view (knows seat walk walks) act can).place
 
     goes : NextFits setup later env.notes seat next
@@ -260,8 +257,8 @@ module _ (objects : ObjectState) (env : EnvPlain) (happened : List EnvEvent) (me
     word_keeps : IsLawfulObjects (history ++ made_by) (after (slice_set objects.words (word_at act) (outcome seat act view.place word).word) next) env.notes
     word_keeps = record {
       lawful = acted_lawful setup objects.words history led.lawful view (knows seat walk walks) act can;
-      within = put_each (λ other w. other < setup.seats) objects.walks seat (object_after next) inside (IfSome_then (object_after next) goes (λ _ _. led.within seat walk walks)) (λ other w _ at. led.within other w at);
-      each = put_each (WalkFits setup later env.notes) objects.walks seat (object_after next) inside goes others;
+      within = put_each (λ other w. other < setup.seats) objects.walks seat (place_after next) inside (IfSome_then (place_after next) goes (λ _ _. led.within seat walk walks)) (λ other w _ at. led.within other w at);
+      each = put_each (WalkFits setup later env.notes) objects.walks seat (place_after next) inside goes others;
     }
 
     by_seat : Every (λ event. object_who event ≡ seat) made_by
@@ -270,7 +267,7 @@ module _ (objects : ObjectState) (env : EnvPlain) (happened : List EnvEvent) (me
   -- a load of the clock or of a note
   env_keeps : (found : EnvFound) → NextFits setup standing env.notes seat (object_got walk (Env found)) → IsLawfulObjects (history ++ []) (after objects.words (object_got walk (Env found))) env.notes
   env_keeps found here = subst (λ h. IsLawfulObjects h (after objects.words (object_got walk (Env found))) env.notes) (sym (append-nil history))
-      (put_keeps history objects env.notes seat (object_after (object_got walk (Env found))) inside (led.within seat walk walks) here led)
+      (put_keeps history objects env.notes seat (place_after (object_got walk (Env found))) inside (led.within seat walk walks) here led)
 
   abbrev Kept : ObjectFound → List ℕ → List ObjectEvent → Type 0
   Kept found words events = IsLawfulObjects (history ++ events) (after words (object_got walk found)) env.notes × Every (λ event. object_who event ≡ seat) events

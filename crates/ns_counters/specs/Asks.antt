@@ -2,12 +2,12 @@
 use Rattle.std.specs.List.{list_all}
 use Rattle.std.specs.Prelude.{Bool, List, None, Ok, Option, Some, [], bit_or, if◌then◌else◌, length, nat_lt, slice_get, slice_index, slice_set, true, unwrap_or, ℕ, ◌<◌, ◌==◌, ◌^◌, ◌≡◌, ◌≤◌}
 use Rattle.ns_counters.specs.Names.{AddExchange, AddLoad, AtCounter, AtNote, BeginOnce, DoneLoad, EndOnce, Env, EnvAct, EnvActFits, EnvEffect, EnvPlain, ExchangeToAdd, FirstClock, InRound, Item, Items, LoadClock, LoadNote, MarkWait, NoteStanding, ObjectAct, ObjectEvent, ObjectFound, ObjectWalk}
-use Rattle.ns_counters.specs.Names.{ObjectWant, OnCounterItem as OnCounter, OnEnv, OnNote, OnVariable, OnWord, OnceBegin, OnceEnd, OnceLoad, Place, Round, RoundPlace, Setup, ValueLoad, WaitClock, WaitLoad, WaitMark, Word, judged, most}
+use Rattle.ns_counters.specs.Names.{ObjectWant, OnCounterItem as OnCounter, OnEnv, OnNote, OnVariable, OnWord, OnceBegin, OnceEnd, OnceLoad, Place, Round, RoundPlace, Setup, ValueLoad, WaitClock, WaitLoad, WaitMark, Word, judged, most, place_after}
 use Rattle.ns_counters.specs.Items.{item_at, items_of}
 use Rattle.ns_counters.specs.Lawful.{IsLawful}
 use Rattle.ns_counters.specs.Objects.{ObjectStanding, objects_after}
 use Rattle.ns_counters.specs.Steps.{outcome, word_at}
-use Rattle.ns_counters.specs.Walks.{IsInBounds, object_after, object_got, object_place, object_want}
+use Rattle.ns_counters.specs.Walks.{IsInBounds, object_got, object_place, object_want}
 use Rattle.ns_counters.specs.Words.{counter_word}
 use Rattle.ns_model.specs.declared.once.OnceState.TheVariants as TheOnce
 
@@ -57,7 +57,7 @@ StepFits number walk = WantFits number (object_want walk) × IsInBounds walk
 pub record ObjectStep (env : EnvPlain) (seat : ℕ) (walk : ObjectWalk) (old : ObjectState) (found : ObjectFound) (new : ObjectState) (events : List ObjectEvent) : Type 0 where
   pub words : List ℕ
   pub effect : ObjectEffect seat (object_place (Some walk)) (object_want walk) old.words env found words events
-  pub becomes : new ≡ record old { words = words; walks = slice_set old.walks seat (object_after (object_got walk found)) }
+  pub becomes : new ≡ record old { words = words; walks = slice_set old.walks seat (place_after (object_got walk found)) }
 
 -- ---- what holds between any two steps
 

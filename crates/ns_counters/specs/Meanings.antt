@@ -1,13 +1,12 @@
 -- What the answer of a call on counters and once cells means, whatever others do while it is in progress, and how far such a call has come at each of its places.
 use Rattle.std.specs.Prelude.{Bool, Err, IsSomeAnd, List, Ok, Option, Some, [], false, take, true, ℕ, ◌++◌, ◌∷◌, ◌≡◌, ◌≢◌, ◌≤◌}
-use Rattle.ns_counters.specs.Names.{AddExchange, AddLoad, Already, AtCounter, AtNote, AtSomePoint, DoneLoad, FirstClock, InRound, IsBetween, IsLeftAt, Item, Items, Number, ObjectEvent, ObjectNext, ObjectReply, ObjectWalk, OnCounter, OnOnce, OnceBegin, OnceEnd, OnceLoad, Refused, Repeat, Round}
-use Rattle.ns_counters.specs.Names.{RoundPlace, Setup, ValueLoad, WaitClock, WaitLoad, WaitMark, clock_of, env_after, is_done, is_notified, is_ready}
+use Rattle.ns_counters.specs.Names.{AddExchange, AddLoad, Already, AtCounter, AtNote, AtSomePoint, DoneLoad, FirstClock, InRound, IsBetween, IsLeftAt, Item, Items, NextIs, Next, Number, ObjectEvent, ObjectReply, ObjectWalk, OnCounter, OnOnce, OnceBegin, OnceEnd, OnceLoad, Refused, Round, RoundPlace}
+use Rattle.ns_counters.specs.Names.{Setup, ValueLoad, WaitClock, WaitLoad, WaitMark, clock_of, env_after, is_done, is_notified, is_ready}
 use Rattle.ns_counters.specs.Asks.{AreThere}
 use Rattle.ns_counters.specs.Items.{items_of}
 use Rattle.ns_counters.specs.Objects.{ObjectStanding, objects_after, objects_own}
 use Rattle.ns_counters.specs.Rounds.{AnswersByRounds, HaveShownNothing, InTurn, IsLater, Past}
 use Rattle.ns_counters.specs.declared.reply.ObjectReply.TheVariants.{Is, Ran}
-use Rattle.ns_counters.specs.declared.walk.ObjectNext.TheVariants.{Go, Over}
 use Rattle.ns_model.specs.declared.counter.CounterEvent.TheVariants as TheCounter
 use Rattle.ns_model.specs.declared.once.OnceEvent.TheVariants as TheOnce
 use Rattle.ns_counters.specs.declared.items.Item.TheVariants as TheItem
@@ -103,7 +102,6 @@ ObjectSoFar setup earlier now seat events (InRound round place) = (events ≡ []
 ObjectSoFar setup earlier now seat events walk = events ≡ []
 
 -- where a step leads a call that was asked to do this: it goes on, and is still the one that was asked; or its answer means what it says
-abbrev pub ObjectGoes : Setup → Past → Past → ℕ → ObjectWalk → List ObjectEvent → ObjectNext → Type 0
-ObjectGoes setup earlier now seat asked events (Go walk) = (object_asked walk ≡ asked) × ObjectSoFar setup earlier now seat events walk
-ObjectGoes setup earlier now seat asked events (Repeat walk) = (object_asked walk ≡ asked) × ObjectSoFar setup earlier now seat events walk
-ObjectGoes setup earlier now seat asked events (Over reply) = ObjectMeans setup earlier now seat asked events reply
+abbrev pub ObjectGoes : Setup → Past → Past → ℕ → ObjectWalk → List ObjectEvent → Next ObjectWalk ObjectReply → Type 0
+ObjectGoes setup earlier now seat asked events =
+    NextIs (λ walk. (object_asked walk ≡ asked) × ObjectSoFar setup earlier now seat events walk) (ObjectMeans setup earlier now seat asked events)

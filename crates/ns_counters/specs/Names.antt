@@ -21,22 +21,22 @@ pub use Rattle.ns_counters.specs.declared.round.RoundNext.{RoundNext}
 pub use Rattle.ns_counters.specs.declared.round.RoundNext.TheVariants.{RoundGo, RoundOver}
 pub use Rattle.ns_counters.specs.declared.round.RoundPlace.{RoundPlace}
 pub use Rattle.ns_counters.specs.declared.round.RoundPlace.TheVariants.{AtCounter, AtNote, FirstClock}
-pub use Rattle.ns_counters.specs.declared.walk.ObjectNext.{ObjectNext}
-pub use Rattle.ns_counters.specs.declared.walk.ObjectNext.TheVariants.{Repeat}
 pub use Rattle.ns_counters.specs.declared.walk.ObjectWalk.{ObjectWalk}
 pub use Rattle.ns_counters.specs.declared.walk.ObjectWalk.TheVariants.{AddExchange, AddLoad, DoneLoad, InRound, OnceBegin, OnceEnd, OnceLoad, ValueLoad, WaitClock, WaitLoad, WaitMark}
 pub use Rattle.ns_counters.specs.declared.word.Stage.{Stage}
-pub use Rattle.ns_counters.specs.declared.word.Stage.TheVariants.{Done, Unused}
-pub use Rattle.ns_env.specs.Prelude.{AtSomePoint, BeginsWith, EnvActFits, EnvEffect, EnvEvent, EnvPlain, EnvState, Every, IsBetween, IsLawfulEnv, IsLeftAt, Meets, NoteStanding, but_at, clock_of, env_after, env_got_of, is_due, standing_of, state_of}
+pub use Rattle.ns_counters.specs.declared.word.Stage.TheVariants.{Unused}
+pub use Rattle.ns_env.specs.Prelude.{AtSomePoint, BeginsWith, EnvActFits, EnvEffect, EnvEvent, EnvPlain, EnvState, Every, IsBetween, IsLawfulEnv, IsLeftAt, Meets, NextIs, NoteStanding, but_at, clock_of, env_after, env_got_of, is_due, place_after, standing_of, state_of}
 pub use Rattle.ns_env.specs.declared.act.EnvAct.{EnvAct}
 pub use Rattle.ns_env.specs.declared.act.EnvAct.TheVariants.{LoadClock, LoadNote}
 pub use Rattle.ns_env.specs.declared.act.EnvFound.{EnvFound}
 pub use Rattle.ns_env.specs.declared.act.EnvFound.TheVariants.{Clock, Note}
+pub use Rattle.ns_env.specs.declared.next.Next.{Next}
+pub use Rattle.ns_env.specs.declared.next.Next.TheVariants.{Done, Idle, On}
 pub use Rattle.ns_env.specs.declared.note.NoteWord.{NoteWord}
 pub use Rattle.ns_env.specs.declared.reply.EnvReply.TheVariants.{Is, Is as IsSo}
 pub use Rattle.ns_env.specs.declared.walk.Chain.TheVariants.{ForIsNotified}
-pub use Rattle.ns_env.specs.declared.walk.EnvNext.{EnvNext}
-pub use Rattle.ns_env.specs.declared.walk.EnvNext.TheVariants.{Go, Over}
+pub use Rattle.ns_env.specs.declared.walk.EnvEnd.{EnvEnd}
+pub use Rattle.ns_env.specs.declared.walk.EnvEnd.TheVariants.{Over}
 pub use Rattle.ns_env.specs.declared.walk.EnvWalk.{EnvWalk}
 pub use Rattle.ns_env.specs.declared.walk.EnvWalk.TheVariants.{NoteLoad}
 pub use Rattle.ns_model.specs.Counters.{IsLegalCounterEvent, counter_next, first_counter, is_ready, judged, most}

@@ -1,7 +1,7 @@
 -- One round of a wait for any of several objects.
 use Rattle.std.specs.Prelude.{List, None, Some, [], drop, if◌then◌else◌, suc, true, ℕ, ◌<◌, ◌==◌, ◌∷◌}
-use Rattle.ns_counters.specs.Names.{AtCounter, AtNote, Clock, Env, EnvNext, EnvWalk, FirstClock, ForIsNotified, Go, Is, Item, LoadClock, LoadNote, LookCounter, NoteLoad, ObjectFound, ObjectWant, OnCounterItem as OnCounter, OnEnv, OnNote, OnVariable, OnWord, Over, Round, RoundGo, RoundNext}
-use Rattle.ns_counters.specs.Names.{RoundOver, RoundPlace, Word, env_got_of, is_due}
+use Rattle.ns_counters.specs.Names.{AtCounter, AtNote, Clock, Done, Env, EnvEnd, EnvWalk, FirstClock, ForIsNotified, Is, Item, LoadClock, LoadNote, LookCounter, Next, NoteLoad, ObjectFound, ObjectWant, On, OnCounterItem as OnCounter, OnEnv, OnNote, OnVariable, OnWord, Over, Round, RoundGo}
+use Rattle.ns_counters.specs.Names.{RoundNext, RoundOver, RoundPlace, Word, env_got_of, is_due}
 use Rattle.ns_counters.specs.Items.{items_of}
 use Rattle.ns_counters.specs.Words.{counter_of}
 
@@ -27,9 +27,9 @@ abbrev pub chain_from : ℕ → ℕ → ℕ → EnvWalk
 chain_from asked clock note = NoteLoad (ForIsNotified asked) clock note
 
 -- where it goes by where that chain goes
-abbrev pub by_chain : Round → ℕ → ℕ → ℕ → EnvNext → RoundNext
-by_chain round at clock asked (Go (NoteLoad chain moment above)) = RoundGo (AtNote at clock asked above)
-by_chain round at clock asked (Over (Is true)) = RoundOver (Some at)
+abbrev pub by_chain : Round → ℕ → ℕ → ℕ → Next EnvWalk EnvEnd → RoundNext
+by_chain round at clock asked (On (NoteLoad chain moment above)) = RoundGo (AtNote at clock asked above)
+by_chain round at clock asked (Done (Over (Is true))) = RoundOver (Some at)
 by_chain round at clock asked next = from_place round clock (suc at)
 
 -- where it goes with what its step found; what no step of the place finds leaves it there

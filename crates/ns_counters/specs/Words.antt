@@ -1,7 +1,7 @@
 -- The words that a table keeps of counters and of once cells.
 use Rattle.std.specs.Prelude.{if◌then◌else◌, ℕ, ◌%◌, ◌+◌, ◌/◌, ◌==◌, ◌^◌}
-use Rattle.ns_counters.specs.Names.{CounterState, Done, OnceState, Stage, Unused}
-use Rattle.ns_counters.specs.declared.word.Stage.TheVariants.{Running}
+use Rattle.ns_counters.specs.Names.{CounterState, OnceState, Stage, Unused}
+use Rattle.ns_counters.specs.declared.word.Stage.TheVariants.{Done, Running}
 use Rattle.ns_model.specs.declared.once.OnceState.TheVariants as TheOnce
 
 -- A counter's word: the value in its low 32 bits, and above them a bit for the beginning of a wait for 0.

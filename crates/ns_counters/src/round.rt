@@ -17,9 +17,10 @@ use crate::act::ObjectAct;
 use crate::items::{Item, Items};
 use crate::word::decode_counter;
 use ns_env::act::{EnvAct, EnvFound};
+use ns_env::next::Next;
 use ns_env::note::is_due;
 use ns_env::reply::EnvReply;
-use ns_env::walk::{Chain, EnvNext, EnvWalk};
+use ns_env::walk::{Chain, EnvEnd, EnvNext, EnvWalk};
 
 /// What a round is of: the objects, and the deadline, in ticks, if there is one.
 #[derive(Clone, Copy)]
@@ -60,7 +61,7 @@ pub enum ObjectFound {
     Env(EnvFound),
 }
 
-/// Where a round goes.
+/// Where a round goes. It never waits, so this is no [`Next`].
 #[derive(Clone, Copy)]
 pub enum RoundNext {
     /// It goes on at this place.
@@ -114,10 +115,10 @@ impl Round {
         ensures { result ≡ by_chain self.now at clock asked next }
     {
         match next {
-            EnvNext::Go(EnvWalk::NoteLoad(_, _, above)) => {
+            Next::On(EnvWalk::NoteLoad(_, _, above)) => {
                 RoundNext::RoundGo(RoundPlace::AtNote(at, clock, asked, above))
             }
-            EnvNext::Over(EnvReply::Is(true)) => RoundNext::RoundOver(Some(at)),
+            Next::Done(EnvEnd::Over(EnvReply::Is(true))) => RoundNext::RoundOver(Some(at)),
             _ => self.from_place(clock, at + 1),
         }
     }

@@ -22,6 +22,7 @@ use crate::reply::ObjectReply;
 use crate::round::{ObjectFound, ObjectWant, Round, RoundNext, RoundPlace};
 use crate::word::{Stage, decode_counter, decode_once, encode_counter};
 use ns_env::act::{EnvAct, EnvFound};
+use ns_env::next::Next;
 use ns_model::counter::CounterState;
 
 /// A place in a call on counters and once cells. Each names the number of its object; a moment is in
@@ -54,15 +55,7 @@ pub enum ObjectWalk {
 }
 
 /// Where a walk on counters and once cells goes.
-#[derive(Clone, Copy)]
-pub enum ObjectNext {
-    /// It goes on at this place.
-    Go(ObjectWalk),
-    /// It has to wait for another seat, and repeats from this place.
-    Repeat(ObjectWalk),
-    /// The call is over.
-    Over(ObjectReply),
-}
+pub type ObjectNext = Next<ObjectWalk, ObjectReply>;
 
 /// Where a change goes by what the counter was seen to be.
 fn by_judging(counter: u8, delta: i64, word: u64) -> ObjectNext
@@ -70,8 +63,8 @@ fn by_judging(counter: u8, delta: i64, word: u64) -> ObjectNext
 {
     let seen = decode_counter(word);
     match seen.judge(delta) {
-        Ok(value) => ObjectNext::Go(ObjectWalk::AddExchange(counter, delta, seen, value)),
-        Err(fault) => ObjectNext::Over(ObjectReply::Refused(fault)),
+        Ok(value) => Next::On(ObjectWalk::AddExchange(counter, delta, seen, value)),
+        Err(fault) => Next::Done(ObjectReply::Refused(fault)),
     }
 }
 
@@ -80,11 +73,11 @@ fn waited_next(counter: u8, deadline: Option<u64>, value: u32) -> ObjectNext
     ensures { result ≡ waited_next counter deadline value }
 {
     if value == 0 {
-        return ObjectNext::Over(ObjectReply::Number(0));
+        return Next::Done(ObjectReply::Number(0));
     }
     match deadline {
-        None => ObjectNext::Repeat(ObjectWalk::WaitLoad(counter, None)),
-        Some(moment) => ObjectNext::Go(ObjectWalk::WaitClock(counter, moment, value)),
+        None => Next::Idle(ObjectWalk::WaitLoad(counter, None)),
+        Some(moment) => Next::On(ObjectWalk::WaitClock(counter, moment, value)),
     }
 }
 
@@ -93,9 +86,9 @@ fn by_stage(once: u8, stage: Stage) -> ObjectNext
     ensures { result ≡ by_stage once stage }
 {
     match stage {
-        Stage::Unused => ObjectNext::Go(ObjectWalk::OnceBegin(once)),
-        Stage::Running => ObjectNext::Repeat(ObjectWalk::OnceLoad(once)),
-        Stage::Done => ObjectNext::Over(ObjectReply::Already),
+        Stage::Unused => Next::On(ObjectWalk::OnceBegin(once)),
+        Stage::Running => Next::Idle(ObjectWalk::OnceLoad(once)),
+        Stage::Done => Next::Done(ObjectReply::Already),
     }
 }
 
@@ -104,7 +97,7 @@ fn by_begun(once: u8, stage: Stage) -> ObjectNext
     ensures { result ≡ by_begun once stage }
 {
     match stage {
-        Stage::Unused => ObjectNext::Go(ObjectWalk::OnceEnd(once)),
+        Stage::Unused => Next::On(ObjectWalk::OnceEnd(once)),
         other => by_stage(once, other),
     }
 }
@@ -114,11 +107,11 @@ fn by_round(round: Round, next: RoundNext) -> ObjectNext
     ensures { result ≡ by_round round next }
 {
     match next {
-        RoundNext::RoundGo(place) => ObjectNext::Go(ObjectWalk::InRound(round, place)),
+        RoundNext::RoundGo(place) => Next::On(ObjectWalk::InRound(round, place)),
         RoundNext::RoundOver(None) => {
-            ObjectNext::Repeat(ObjectWalk::InRound(round, RoundPlace::FirstClock))
+            Next::Idle(ObjectWalk::InRound(round, RoundPlace::FirstClock))
         }
-        RoundNext::RoundOver(Some(at)) => ObjectNext::Over(ObjectReply::Number(u64::from(at))),
+        RoundNext::RoundOver(Some(at)) => Next::Done(ObjectReply::Number(u64::from(at))),
     }
 }
 
@@ -158,11 +151,11 @@ impl ObjectWalk {
         match self {
             ObjectWalk::AddLoad(counter, delta) => by_judging(counter, delta, word),
             ObjectWalk::AddExchange(_, _, seen, value) if word == encode_counter(seen) => {
-                ObjectNext::Over(ObjectReply::Number(u64::from(value)))
+                Next::Done(ObjectReply::Number(u64::from(value)))
             }
             ObjectWalk::AddExchange(counter, delta, _, _) => by_judging(counter, delta, word),
             ObjectWalk::ValueLoad(_) => {
-                ObjectNext::Over(ObjectReply::Number(u64::from(decode_counter(word).value)))
+                Next::Done(ObjectReply::Number(u64::from(decode_counter(word).value)))
             }
             ObjectWalk::WaitMark(counter, deadline) => {
                 waited_next(counter, deadline, decode_counter(word).value)
@@ -172,14 +165,14 @@ impl ObjectWalk {
             }
             ObjectWalk::OnceLoad(once) => by_stage(once, decode_once(word)),
             ObjectWalk::OnceBegin(once) => by_begun(once, decode_once(word)),
-            ObjectWalk::OnceEnd(_) => ObjectNext::Over(ObjectReply::Ran),
-            ObjectWalk::DoneLoad(_) => ObjectNext::Over(ObjectReply::Is(
+            ObjectWalk::OnceEnd(_) => Next::Done(ObjectReply::Ran),
+            ObjectWalk::DoneLoad(_) => Next::Done(ObjectReply::Is(
                 decode_once(word) == Stage::Done,
             )),
             ObjectWalk::InRound(round, place) => {
                 by_round(round, round.got(place, ObjectFound::Word(word)))
             }
-            walk => ObjectNext::Go(walk),
+            walk => Next::On(walk),
         }
     }
 
@@ -190,14 +183,14 @@ impl ObjectWalk {
     {
         match (self, found) {
             (ObjectWalk::WaitClock(_, moment, value), EnvFound::Clock(clock)) if moment <= clock =>
-                { ObjectNext::Over(ObjectReply::Number(u64::from(value))) }
+                { Next::Done(ObjectReply::Number(u64::from(value))) }
             (ObjectWalk::WaitClock(counter, moment, _), EnvFound::Clock(_)) => {
-                ObjectNext::Repeat(ObjectWalk::WaitLoad(counter, Some(moment)))
+                Next::Idle(ObjectWalk::WaitLoad(counter, Some(moment)))
             }
             (ObjectWalk::InRound(round, place), found) => {
                 by_round(round, round.got(place, ObjectFound::Env(found)))
             }
-            (walk, _) => ObjectNext::Go(walk),
+            (walk, _) => Next::On(walk),
         }
     }
 

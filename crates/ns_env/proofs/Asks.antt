@@ -1,15 +1,15 @@
 -- A step of one seat keeps the law of a clock and notes that stand as plain data, with the places of seats in their calls.
-use Rattle.std.proofs.Common.{◌≡◌, ◌≢◌, ℕ, zero, suc, ◌+◌, ◌<◌, ◌≤◌, nat_lt, List, [], ◌∷◌, ◌++◌, length, Option, None, Some, IfSome, slice_get, slice_set, refl, inl, inr, sym, ap, ◌∙◌, subst, arith}
+use Rattle.std.proofs.Common.{IfSome, List, None, Option, Some, [], ap, arith, inl, inr, length, nat_lt, refl, slice_get, slice_set, subst, suc, sym, zero, ℕ, ◌++◌, ◌+◌, ◌<◌, ◌∙◌, ◌∷◌, ◌≡◌, ◌≢◌, ◌≤◌}
 use Rattle.std.proofs.lemmas.Bool.{cases_eq}
 use Rattle.std.proofs.lemmas.List.{length-set}
 use Rattle.std.proofs.lemmas.Option.{slice_get_within}
-use Rattle.ns_env.specs.Prelude.{Advancing, AskFits, BeginsWith, CanAct, Chain, ClockLoad, EnvEvent, EnvFound, EnvNext, EnvPlain, EnvState, EnvStep, EnvWalk, ExpiryLoad, IfMade, IsLawful, IsLawfulEnv, IsLegalEnv, IsMade, MakeNote, Making, MakingFits, Meets, NextLoad, NoteLoad, NoteStanding, Nothing}
-use Rattle.ns_env.specs.Prelude.{Notifying, ParentFits, TakeNumber, adders, adds, chain_note, earlier, env_after, env_got_of, env_walk_after, env_want_of, expiry_of, is_over, lowered_to, making_after, making_at, making_of, outcome, up_to}
+use Rattle.ns_env.specs.Prelude.{Advancing, AskFits, BeginsWith, CanAct, Chain, ClockLoad, EnvEnd, EnvEvent, EnvFound, EnvPlain, EnvState, EnvStep, EnvWalk, ExpiryLoad, IfMade, IsLawful, IsLawfulEnv, IsLegalEnv, IsMade, MakeNote, Making, MakingFits, Meets, Next, NextLoad, NoteLoad, NoteStanding}
+use Rattle.ns_env.specs.Prelude.{Nothing, Notifying, ParentFits, TakeNumber, adders, adds, chain_note, earlier, env_after, env_got_of, env_want_of, expiry_of, is_over, lowered_to, making_after, making_at, making_of, outcome, place_after, up_to}
 use Rattle.ns_model.proofs.Beginnings.{begins_itself}
-use Rattle.ns_model.proofs.Environments.{sound_after, grown_begins, made_begins, expiry_begins}
+use Rattle.ns_model.proofs.Environments.{expiry_begins, grown_begins, made_begins, sound_after}
 use Rattle.ns_model.proofs.Lines.{IsExpiryAt, expiry_goes_on}
 use Rattle.ns_env.proofs.Ways.{at_next, at_stop, both, either}
-use Rattle.ns_env.proofs.Keeps.{StepKeeps, outcome_by, step_keeps, others_make, adds_most}
+use Rattle.ns_env.proofs.Keeps.{StepKeeps, adds_most, others_make, outcome_by, step_keeps}
 
 -- ---- a list of places, one of them set
 
@@ -75,10 +75,10 @@ can_ask h (ExpiryLoad asked note least) fits = tt
 can_ask h other fits = refl
 
 -- how far it has come where a walk goes
-abbrev making_next : EnvNext → Making
-making_next next = making_at (env_walk_after next)
+abbrev making_next : Next EnvWalk EnvEnd → Making
+making_next next = making_at (place_after next)
 
-abbrev MakesNone : EnvNext → Type 0
+abbrev MakesNone : Next EnvWalk EnvEnd → Type 0
 MakesNone next = making_next next ≡ Nothing
 
 up_makes : (chain : Chain) (clock : ℕ) (note : Option ℕ) → MakesNone (up_to chain clock note)
@@ -123,8 +123,8 @@ module _ (h k : List EnvEvent) (legal : IsLegalEnv k) (begins : BeginsWith k h) 
   asks_later (ExpiryLoad asked note least) p = (made_begins k h asked legal begins p.0, made_begins k h note legal begins p.1, expiry_later asked note least p.0 p.1 p.2)
 
   -- what the place tells where a walk goes
-  abbrev NextFits : EnvNext → Type 0
-  NextFits next = IfSome (env_walk_after next) (AskFits k)
+  abbrev NextFits : Next EnvWalk EnvEnd → Type 0
+  NextFits next = IfSome (place_after next) (AskFits k)
 
   up_fits : (chain : Chain) (clock : ℕ) (note : Option ℕ) → clock ≤ (env_after k).clock → IfMade (env_after k).notes (chain_note chain) → IfMade (env_after k).notes note → NextFits (up_to chain clock note)
   up_fits chain clock note past p q = at_next NextFits (λ _. tt) (λ _. tt) chain clock note p (λ above is. (past, subst (IfMade (env_after k).notes) is q, p))
@@ -166,11 +166,11 @@ module _ (h : List EnvEvent) (plain : EnvPlain) (askings : List (Option EnvWalk)
   abbrev left_by : List EnvEvent
   left_by = (outcome seat (env_want_of walk) plain).events
 
-  abbrev goes_to : EnvNext
+  abbrev goes_to : Next EnvWalk EnvEnd
   goes_to = env_got_of walk (outcome seat (env_want_of walk) plain).found
 
   abbrev state_after : EnvState
-  state_after = record { plain = (outcome seat (env_want_of walk) plain).plain; askings = slice_set askings seat (env_walk_after goes_to) }
+  state_after = record { plain = (outcome seat (env_want_of walk) plain).plain; askings = slice_set askings seat (place_after goes_to) }
 
   within : seat < length askings
   within = slice_get_within askings seat (Some walk) walks
@@ -186,11 +186,11 @@ module _ (h : List EnvEvent) (plain : EnvPlain) (askings : List (Option EnvWalk)
   keeps_here : IsLawfulEnv (h ++ left_by) state_after
   keeps_here = record {
     lawful = subst (λ (z : ℕ × ℕ). IsLawful z.0 state_after.plain z.1 (h ++ left_by))
-        (λ i. (sym (length-set askings seat (env_walk_after goes_to)) i, (ap (λ (m : Making). others_of askings seat + adds m) (sym (goes_making seat plain walk)) ∙ sym (adders_after askings seat (Some walk) walks (env_walk_after goes_to))) i)) keeps.lawful;
-    making = set_each (λ other next. MakingFits (env_after (h ++ left_by)) other (making_of next)) askings seat (env_walk_after goes_to) within
-        (making_here (env_walk_after goes_to) (subst (MakingFits (env_after (h ++ left_by)) seat) (sym (goes_making seat plain walk)) keeps.fits))
+        (λ i. (sym (length-set askings seat (place_after goes_to)) i, (ap (λ (m : Making). others_of askings seat + adds m) (sym (goes_making seat plain walk)) ∙ sym (adders_after askings seat (Some walk) walks (place_after goes_to))) i)) keeps.lawful;
+    making = set_each (λ other next. MakingFits (env_after (h ++ left_by)) other (making_of next)) askings seat (place_after goes_to) within
+        (making_here (place_after goes_to) (subst (MakingFits (env_after (h ++ left_by)) seat) (sym (goes_making seat plain walk)) keeps.fits))
         (λ other next ne at. others_make h left_by seat other (making_of next) lawful.lawful.meets.legal keeps.more (λ is. ne (sym is)) (outcome_by seat (env_want_of walk) plain) (lawful.making other next at));
-    each = set_each (λ other next. AskFits (h ++ left_by) next) askings seat (env_walk_after goes_to) within
+    each = set_each (λ other next. AskFits (h ++ left_by) next) askings seat (place_after goes_to) within
         (own_fits h (h ++ left_by) keeps.lawful.meets.legal (left_by, refl) plain lawful.lawful.meets seat walk (lawful.each seat walk walks))
         (λ other next ne at. asks_later h (h ++ left_by) keeps.lawful.meets.legal (left_by, refl) next (lawful.each other next at));
   }
@@ -198,5 +198,5 @@ module _ (h : List EnvEvent) (plain : EnvPlain) (askings : List (Option EnvWalk)
 pub keeps_env : (h events : List EnvEvent) (old new : EnvState) (seat : ℕ) (found : EnvFound) → EnvStep old seat found new events → IsLawfulEnv h old → IsLawfulEnv (h ++ events) new
 keeps_env h events old new seat found step lawful =
     let e = step.effect in
-    let becomes = step.becomes ∙ ap (λ (f : EnvFound). slice_set old.askings seat (env_walk_after (env_got_of step.walk f))) e.found_is in
+    let becomes = step.becomes ∙ ap (λ (f : EnvFound). slice_set old.askings seat (place_after (env_got_of step.walk f))) e.found_is in
     subst (λ (z : List EnvEvent × EnvState). IsLawfulEnv z.0 z.1) (λ i. (h ++ sym e.events_are i, record { plain = sym e.leaves i; askings = sym becomes i })) (keeps_here h old.plain old.askings seat step.walk step.walks lawful)

@@ -1,9 +1,9 @@
 -- A chain answers rightly, whatever others do between its loads.
-use Rattle.std.proofs.Common.{◌≡◌, ℕ, ◌<◌, ◌≤◌, true, false, cond, List, Option, None, Some, IfSome, IsSomeAnd, slice_get, refl, sym, ◌∙◌, subst, leb-true, leb-false}
-use Rattle.ns_env.specs.Prelude.{AtSomePoint, BeginsWith, Cause, Chain, ChainFits, Clock, ClockLoad, EnvEvent, EnvState, Expired, ForIsNotified, ForLook, ForNoteWait, Go, HasLooked, IfMade, IsLawfulEnv, IsLeftAt, IsLegalEnv, IsNotified, IsUnnotified, Limits, Note, NoteLoad, NoteStanding, NoteWord}
-use Rattle.ns_env.specs.Prelude.{Notified, Shows, chain_note, clock_of, env_after, env_got_of, is_due, is_over, passed, standing_of, stopped, up_to}
+use Rattle.std.proofs.Common.{IfSome, IsSomeAnd, List, None, Option, Some, cond, false, leb-false, leb-true, refl, slice_get, subst, sym, true, ℕ, ◌<◌, ◌∙◌, ◌≡◌, ◌≤◌}
+use Rattle.ns_env.specs.Prelude.{AtSomePoint, BeginsWith, Cause, Chain, ChainFits, Clock, ClockLoad, EnvEvent, EnvState, Expired, ForIsNotified, ForLook, ForNoteWait, HasLooked, IfMade, IsLawfulEnv, IsLeftAt, IsLegalEnv, IsNotified, IsUnnotified, Limits, Note, NoteLoad, NoteStanding, NoteWord}
+use Rattle.ns_env.specs.Prelude.{Notified, On, Shows, chain_note, clock_of, env_after, env_got_of, is_due, is_over, passed, standing_of, stopped, up_to}
 use Rattle.ns_model.proofs.Beginnings.{begins_itself, begins_through}
-use Rattle.ns_model.proofs.Lines.{line_starts, line_stops, line_goes_on}
+use Rattle.ns_model.proofs.Lines.{line_goes_on, line_starts, line_stops}
 use Rattle.ns_env.proofs.Looks.{note_is}
 use Rattle.ns_env.proofs.Ways.{by_test}
 
@@ -37,11 +37,11 @@ module _ (point now : List EnvEvent) where
       by_test (ChainFits point now (ForNoteWait note deadline)) (is_due (clock_of point) deadline) (λ due. (waited, due_is (clock_of point) deadline due)) (λ early. (refl, waited, not_due_is (clock_of point) deadline early))
 
   -- it stands at a note, and what that tells
-  on_fits : (chain : Chain) (at : ℕ) → IsSomeAnd (chain_note chain) (λ asked. IsLeftAt point asked (Some at)) → ChainFits point now chain (Go (NoteLoad chain (clock_of point) at))
+  on_fits : (chain : Chain) (at : ℕ) → IsSomeAnd (chain_note chain) (λ asked. IsLeftAt point asked (Some at)) → ChainFits point now chain (On (NoteLoad chain (clock_of point) at))
   on_fits (ForLook limits) at left = (refl, refl, left)
   on_fits other at left = (refl, refl, left)
 
-  fits_on : (chain : Chain) (clock at : ℕ) → ChainFits point now chain (Go (NoteLoad chain clock at)) → (clock ≡ clock_of point) × IsSomeAnd (chain_note chain) (λ asked. IsLeftAt point asked (Some at))
+  fits_on : (chain : Chain) (clock at : ℕ) → ChainFits point now chain (On (NoteLoad chain clock at)) → (clock ≡ clock_of point) × IsSomeAnd (chain_note chain) (λ asked. IsLeftAt point asked (Some at))
   fits_on (ForLook limits) clock at fits = (fits.1, fits.2)
   fits_on other clock at fits = (fits.1, fits.2)
 
@@ -69,7 +69,7 @@ chain_begins now state seat chain lawful walks =
 
 -- And it answers of the events before that, or of all until now.
 pub chain_answers : (point now : List EnvEvent) (state : EnvState) (chain : Chain) (clock at : ℕ) (note : NoteWord) → IsLawfulEnv now state → BeginsWith now point →
-    ChainFits point now chain (Go (NoteLoad chain clock at)) → standing_of note ≡ state.plain.notes at → ChainFits point now chain (env_got_of (NoteLoad chain clock at) (Note note))
+    ChainFits point now chain (On (NoteLoad chain clock at)) → standing_of note ≡ state.plain.notes at → ChainFits point now chain (env_got_of (NoteLoad chain clock at) (Note note))
 chain_answers point now state chain clock at note lawful begins fits is =
     let on = fits_on point now chain clock at fits in
     let asked = given_is (chain_note chain) (λ asked. IsLeftAt point asked (Some at)) on.1 in

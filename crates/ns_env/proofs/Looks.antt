@@ -1,20 +1,20 @@
 -- What a chain of notes finds, and where it goes.
-use Rattle.std.proofs.Common.{◌≡◌, ℕ, zero, suc, ◌<◌, Bool, true, false, ◌||◌, cond, List, Option, None, Some, slice_get, refl, sym, ap, ◌∙◌, subst, arith}
-use Rattle.ns_env.specs.Prelude.{Chain, EnvEvent, EnvNext, EnvPlain, EnvState, Expiry, ExpiryLoad, Go, IsLawfulEnv, IsMade, Meets, Note, NoteLoad, NoteStanding, NoteWord, Over, earlier, env_after, env_got_of, expiry_of, is_notified, is_over, looked, lowered_to, notified_in, passed, standing_of}
-use Rattle.ns_env.specs.Prelude.{stopped, up_by, up_to}
+use Rattle.std.proofs.Common.{Bool, List, None, Option, Some, ap, arith, cond, false, refl, slice_get, subst, suc, sym, true, zero, ℕ, ◌<◌, ◌||◌, ◌∙◌, ◌≡◌}
+use Rattle.ns_env.specs.Prelude.{Chain, Done, EnvEnd, EnvEvent, EnvPlain, EnvState, EnvWalk, Expiry, ExpiryLoad, IsLawfulEnv, IsMade, Meets, Next, Note, NoteLoad, NoteStanding, NoteWord, On, Over, earlier, env_after, env_got_of, expiry_of, is_notified, is_over, looked, lowered_to, notified_in}
+use Rattle.ns_env.specs.Prelude.{passed, standing_of, stopped, up_by, up_to}
 use Rattle.ns_env.proofs.Ways.{at_end, at_stop}
 use Rattle.ns_model.proofs.Beginnings.{begins_itself}
 use Rattle.ns_model.proofs.Lines.{IsExpiryAt, expiry_goes_on}
-use Rattle.ns_model.proofs.Environments.{sound_after, notified_in-next}
+use Rattle.ns_model.proofs.Environments.{notified_in-next, sound_after}
 
 -- ---- in one go
 
 -- a chain that is over isn't followed
-abbrev IsLeft : (ℕ → EnvNext) → EnvNext → Type 0
+abbrev IsLeft : (ℕ → Next EnvWalk EnvEnd) → Next EnvWalk EnvEnd → Type 0
 IsLeft follow next = up_by follow next ≡ next
 
 -- one note of a chain: it stops here, or it is as the rest of it finds
-one_note : (follow : ℕ → EnvNext) (chain : Chain) (clock : ℕ) (b up all : Bool) (parent : Option ℕ) → all ≡ (b || up) →
+one_note : (follow : ℕ → Next EnvWalk EnvEnd) (chain : Chain) (clock : ℕ) (b up all : Bool) (parent : Option ℕ) → all ≡ (b || up) →
     up_by follow (up_to chain clock parent) ≡ cond up (stopped chain) (passed chain clock) → up_by follow (cond b (stopped chain) (up_to chain clock parent)) ≡ cond all (stopped chain) (passed chain clock)
 one_note follow chain clock true up all parent is rest = rw is (at_stop (IsLeft follow) (λ _. refl) (λ _. refl) chain)
 one_note follow chain clock false up all parent is rest = rw is rest
@@ -51,27 +51,27 @@ module _ (h : List EnvEvent) (plain : EnvPlain) (m : Meets h plain) where
 -- ---- the next note of a chain
 
 -- a way to go that isn't to this place
-abbrev IsNot : EnvNext → EnvNext → Type 0
+abbrev IsNot : Next EnvWalk EnvEnd → Next EnvWalk EnvEnd → Type 0
 IsNot place next = next ≡ place → ⊥
 
-goes_up : (chain chain' : Chain) (clock clock' next : ℕ) (b : Bool) (parent : Option ℕ) → cond b (stopped chain) (up_to chain clock parent) ≡ Go (NoteLoad chain' clock' next) → parent ≡ Some next
-goes_up chain chain' clock clock' next true parent e = absurd (at_stop (IsNot (Go (NoteLoad chain' clock' next))) (λ _ e. absurd (cc)) (λ _ e. absurd (cc)) chain e)
-goes_up chain chain' clock clock' next false None e = absurd (at_end (IsNot (Go (NoteLoad chain' clock' next))) (λ _ e. absurd (cc)) (λ _ e. absurd (cc)) chain clock (λ e. absurd (cc)) e)
+goes_up : (chain chain' : Chain) (clock clock' next : ℕ) (b : Bool) (parent : Option ℕ) → cond b (stopped chain) (up_to chain clock parent) ≡ On (NoteLoad chain' clock' next) → parent ≡ Some next
+goes_up chain chain' clock clock' next true parent e = absurd (at_stop (IsNot (On (NoteLoad chain' clock' next))) (λ _ e. absurd (cc)) (λ _ e. absurd (cc)) chain e)
+goes_up chain chain' clock clock' next false None e = absurd (at_end (IsNot (On (NoteLoad chain' clock' next))) (λ _ e. absurd (cc)) (λ _ e. absurd (cc)) chain clock (λ e. absurd (cc)) e)
 goes_up chain chain' clock clock' next false (Some p) e = cc
 
 pub chain_up : (h : List EnvEvent) (plain : EnvPlain) (chain chain' : Chain) (clock clock' at next : ℕ) (note : NoteWord) → Meets h plain → standing_of note ≡ plain.notes at →
-    env_got_of (NoteLoad chain clock at) (Note note) ≡ Go (NoteLoad chain' clock' next) → (next < at) × IsMade h next
+    env_got_of (NoteLoad chain clock at) (Note note) ≡ On (NoteLoad chain' clock' next) → (next < at) × IsMade h next
 chain_up h plain chain chain' clock clock' at next note m is e =
     (sound_after h m.legal).above at next (ap (λ (s : NoteStanding). s.parent) (sym (is ∙ note_is h plain m at)) ∙ goes_up chain chain' clock clock' next (is_over clock (standing_of note)) note.parent e)
 
 -- ---- an expiry
 
-lowered_is : (asked : ℕ) (parent least answer : Option ℕ) → lowered_to asked parent least ≡ Over (Expiry answer) → (parent ≡ None) × (least ≡ answer)
+lowered_is : (asked : ℕ) (parent least answer : Option ℕ) → lowered_to asked parent least ≡ Done (Over (Expiry answer)) → (parent ≡ None) × (least ≡ answer)
 lowered_is asked None least answer e = (refl, cc)
 lowered_is asked (Some p) least answer e = absurd (cc)
 
 pub expiry_is : (h : List EnvEvent) (state : EnvState) (seat asked at : ℕ) (least answer : Option ℕ) (note : NoteWord) → IsLawfulEnv h state → slice_get state.askings seat ≡ Some (Some (ExpiryLoad asked at least)) →
-    standing_of note ≡ state.plain.notes at → env_got_of (ExpiryLoad asked at least) (Note note) ≡ Over (Expiry answer) → answer ≡ expiry_of h asked
+    standing_of note ≡ state.plain.notes at → env_got_of (ExpiryLoad asked at least) (Note note) ≡ Done (Over (Expiry answer)) → answer ≡ expiry_of h asked
 expiry_is h state seat asked at least answer note lawful walks is e =
     let p = lowered_is asked note.parent (earlier least note.deadline) answer e in
     let meets = lawful.lawful.meets in

@@ -1,12 +1,13 @@
 -- A clock and notes as plain data, with a list of the places where seats stand in calls on them: a step of one seat, and what holds between any two.
-use Rattle.std.specs.Prelude.{◌≡◌, ℕ, zero, suc, ◌<◌, ◌≤◌, true, List, length, replicate, Option, None, Some, IfSome, slice_get, slice_set}
-use Rattle.ns_env.specs.Names.{Adding, Advancing, Chain, ClockLoad, EnvAct, EnvEvent, EnvFound, EnvNext, EnvWalk, ExpiryLoad, Go, IsMade, LoadClock, LoadNext, LoadNote, MakeNote, Making, MoveClock, NextLoad, Note, NoteLoad, NoteStanding, Nothing, NotifyNote, Notifying, ParentFits, StoreNote}
+use Rattle.std.specs.Prelude.{IfSome, List, None, Option, Some, length, replicate, slice_get, slice_set, suc, true, zero, ℕ, ◌<◌, ◌≡◌, ◌≤◌}
+use Rattle.ns_env.specs.Names.{Adding, Advancing, Chain, ClockLoad, EnvAct, EnvEnd, EnvEvent, EnvFound, EnvWalk, ExpiryLoad, IsMade, LoadClock, LoadNext, LoadNote, MakeNote, Making, MoveClock, Next, NextLoad, Note, NoteLoad, NoteStanding, Nothing, NotifyNote, Notifying, On, ParentFits, StoreNote}
 use Rattle.ns_env.specs.Names.{TakeNext, TakeNumber, clock_of, earlier, env_after, expiry_of, total}
 use Rattle.ns_env.specs.declared.view.Making.TheVariants.{Taken}
-use Rattle.ns_env.specs.Lawful.{adds, MakingFits, IsLawful}
+use Rattle.ns_env.specs.Lawful.{IsLawful, MakingFits, adds}
 use Rattle.ns_env.specs.Notes.{state_of}
 use Rattle.ns_env.specs.Steps.{EnvPlain, fresh_plain, outcome}
-use Rattle.ns_env.specs.Walks.{env_want_of, env_got_of, env_walk_after, chain_note}
+use Rattle.ns_env.specs.Walks.{chain_note, env_got_of, env_want_of}
+use Rattle.ns_env.specs.Nexts.{place_after}
 
 -- the clock and the notes, with each seat's place in a call on them
 pub record EnvState : Type 0 where
@@ -34,7 +35,7 @@ pub record EnvStep (old : EnvState) (seat : ℕ) (found : EnvFound) (new : EnvSt
   pub walk : EnvWalk
   pub walks : slice_get old.askings seat ≡ Some (Some walk)
   pub effect : EnvEffect seat (env_want_of walk) old.plain found new.plain events
-  pub becomes : new.askings ≡ slice_set old.askings seat (env_walk_after (env_got_of walk found))
+  pub becomes : new.askings ≡ slice_set old.askings seat (place_after (env_got_of walk found))
 
 -- ---- what holds between any two steps
 
@@ -98,11 +99,11 @@ pub record EnvBegins (old : EnvState) (seat : ℕ) (walk : EnvWalk) (new : EnvSt
 -- ---- a chain in one go
 
 -- a chain's place is followed to the next note; else the walk is where it is
-abbrev pub up_by : (ℕ → EnvNext) → EnvNext → EnvNext
-up_by follow (Go (NoteLoad chain clock note)) = follow note
+abbrev pub up_by : (ℕ → Next EnvWalk EnvEnd) → Next EnvWalk EnvEnd → Next EnvWalk EnvEnd
+up_by follow (On (NoteLoad chain clock note)) = follow note
 up_by follow next = next
 
 -- where a chain leads from a note on, at the clock, over at most so many notes, where nothing happens meanwhile
-abbrev pub looked : ℕ → EnvPlain → Chain → ℕ → EnvNext
-looked zero plain chain note = Go (NoteLoad chain plain.clock note)
+abbrev pub looked : ℕ → EnvPlain → Chain → ℕ → Next EnvWalk EnvEnd
+looked zero plain chain note = On (NoteLoad chain plain.clock note)
 looked (suc most) plain chain note = up_by (looked most plain chain) (env_got_of (NoteLoad chain plain.clock note) (Note (state_of (plain.notes note))))

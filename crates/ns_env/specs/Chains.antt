@@ -1,6 +1,6 @@
 -- What a chain of notes has come to, whatever others do between its loads.
-use Rattle.std.specs.Prelude.{◌≡◌, ℕ, ◌<◌, ◌≤◌, Bool, true, false, List, Option, None, Some, IfSome, IsSomeAnd}
-use Rattle.ns_env.specs.Names.{Cause, Chain, ClockLoad, EnvEvent, EnvNext, Expired, ForIsNotified, ForLook, ForNoteWait, Go, Is, IsBetween, IsLeftAt, IsNotified, Limits, LookOver, NoteLoad, Notified, Over, Repeat, clock_of, is_notified}
+use Rattle.std.specs.Prelude.{Bool, IfSome, IsSomeAnd, List, None, Option, Some, false, true, ℕ, ◌<◌, ◌≡◌, ◌≤◌}
+use Rattle.ns_env.specs.Names.{Cause, Chain, ClockLoad, Done, EnvEnd, EnvEvent, EnvWalk, Expired, ForIsNotified, ForLook, ForNoteWait, Idle, Is, IsBetween, IsLeftAt, IsNotified, Limits, LookOver, Next, NoteLoad, Notified, On, Over, clock_of, is_notified}
 use Rattle.ns_env.specs.Walks.{chain_note}
 
 -- the note, if one is given, wasn't notified
@@ -23,13 +23,13 @@ HasWaited note deadline true point = IsNotified point note
 HasWaited note deadline false point = (is_notified point note ≡ false) × IsSomeAnd deadline (λ moment. moment ≤ clock_of point)
 
 -- What a chain has come to by now, whose clock was loaded at the point: its note is notified by now, or it wasn't at that point.
-abbrev pub ChainFits : List EnvEvent → List EnvEvent → Chain → EnvNext → Type 0
-ChainFits point now (ForLook limits) (LookOver cause) = HasFound limits cause point now
-ChainFits point now (ForIsNotified note) (Over (Is true)) = IsNotified now note
-ChainFits point now (ForIsNotified note) (Over (Is false)) = is_notified point note ≡ false
-ChainFits point now (ForNoteWait note deadline) (Over (Is true)) = HasWaited note deadline true now
-ChainFits point now (ForNoteWait note deadline) (Over (Is false)) = HasWaited note deadline false point
-ChainFits point now (ForNoteWait note deadline) (Repeat (ClockLoad chain)) =
+abbrev pub ChainFits : List EnvEvent → List EnvEvent → Chain → Next EnvWalk EnvEnd → Type 0
+ChainFits point now (ForLook limits) (Done (LookOver cause)) = HasFound limits cause point now
+ChainFits point now (ForIsNotified note) (Done (Over (Is true))) = IsNotified now note
+ChainFits point now (ForIsNotified note) (Done (Over (Is false))) = is_notified point note ≡ false
+ChainFits point now (ForNoteWait note deadline) (Done (Over (Is true))) = HasWaited note deadline true now
+ChainFits point now (ForNoteWait note deadline) (Done (Over (Is false))) = HasWaited note deadline false point
+ChainFits point now (ForNoteWait note deadline) (Idle (ClockLoad chain)) =
     (chain ≡ ForNoteWait note deadline) × (is_notified point note ≡ false) × IfSome deadline (λ moment. clock_of point < moment)
-ChainFits point now chain (Go (NoteLoad chain' clock at)) = (chain' ≡ chain) × (clock ≡ clock_of point) × IsSomeAnd (chain_note chain) (λ asked. IsLeftAt point asked (Some at))
+ChainFits point now chain (On (NoteLoad chain' clock at)) = (chain' ≡ chain) × (clock ≡ clock_of point) × IsSomeAnd (chain_note chain) (λ asked. IsLeftAt point asked (Some at))
 ChainFits point now chain next = ⊥

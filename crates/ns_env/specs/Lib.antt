@@ -4,6 +4,7 @@ pub mod Chains
 pub mod Lawful
 pub mod Meanings
 pub mod Names
+pub mod Nexts
 pub mod Notes
 pub mod Prelude
 pub mod Steps

@@ -1,8 +1,9 @@
 -- What the answer of a call on the clock and the notes means, and how far such a call has come at each of its places.
-use Rattle.std.specs.Prelude.{◌≡◌, ℕ, List, [], ◌∷◌, ◌++◌, Option}
-use Rattle.ns_env.specs.Names.{Advance, Advancing, BeginsWith, Cause, Chain, ClockLoad, EnvEvent, EnvNext, EnvReply, EnvRequest, EnvWalk, Expiry, ExpiryLoad, ForIsNotified, ForLook, ForNoteWait, Go, Is, IsBetween, Limits, LookOver, MakeNote, New, NextLoad, NoteLoad, NotesFull, Notify, Notifying}
-use Rattle.ns_env.specs.Names.{Number, Over, Repeat, Succeeded, Take, TakeNumber, expiry_of, is_notified, takes_in}
-use Rattle.ns_env.specs.Chains.{HasFound, HasLooked, HasWaited, ChainFits}
+use Rattle.std.specs.Prelude.{List, Option, [], ℕ, ◌++◌, ◌∷◌, ◌≡◌}
+use Rattle.ns_env.specs.Names.{Advance, Advancing, BeginsWith, Cause, Chain, ClockLoad, EnvEnd, EnvEvent, EnvReply, EnvRequest, EnvWalk, Expiry, ExpiryLoad, ForIsNotified, ForLook, ForNoteWait, Is, IsBetween, Limits, LookOver, MakeNote, New, Next, NextLoad, NoteLoad, NotesFull, Notify, Notifying}
+use Rattle.ns_env.specs.Names.{Number, On, Over, Succeeded, Take, TakeNumber, expiry_of, is_notified, takes_in}
+use Rattle.ns_env.specs.Chains.{ChainFits, HasFound, HasLooked, HasWaited}
+use Rattle.ns_env.specs.Nexts.{NextIs}
 use Rattle.ns_env.specs.declared.request.EnvRequest.TheVariants as TheRequest
 
 -- ---- what was asked
@@ -64,12 +65,17 @@ abbrev pub LookMeans : List EnvEvent → EnvRequest → EnvCourse → Option Cau
 LookMeans now (TheRequest.Look limits) course cause = (course.events ≡ []) × HasLooked limits cause course.before now
 LookMeans now request course cause = ⊥
 
+-- What a call or a look ends with means what it says.
+abbrev pub EndMeans : List EnvEvent → ℕ → EnvRequest → EnvCourse → EnvEnd → Type 0
+EndMeans now seat request course (Over reply) = EnvMeans now seat request course reply
+EndMeans now seat request course (LookOver cause) = LookMeans now request course cause
+
 -- ---- how far a call has come
 
 -- what a call has done at this place: one that is to store its note has taken the number; no other has done anything yet. A chain that is under way stands where what it has loaded leads, of what had happened as it loaded the clock.
 abbrev pub EnvHasDone : List EnvEvent → ℕ → EnvCourse → EnvWalk → Type 0
 EnvHasDone now seat course (MakeNote note parent deadline) = course.events ≡ Take seat note ∷ []
-EnvHasDone now seat course (NoteLoad chain clock note) = (course.events ≡ []) × AtSomePoint course.before now (λ point. ChainFits point now chain (Go (NoteLoad chain clock note)))
+EnvHasDone now seat course (NoteLoad chain clock note) = (course.events ≡ []) × AtSomePoint course.before now (λ point. ChainFits point now chain (On (NoteLoad chain clock note)))
 EnvHasDone now seat course walk = course.events ≡ []
 
 -- A call has come so far: it began with what had happened then, and has done what its place tells.
@@ -83,8 +89,5 @@ pub record EnvGoesOn (now : List EnvEvent) (seat : ℕ) (request : EnvRequest) (
   pub so_far : EnvSoFar now seat course walk
 
 -- where a step leads a call that was asked to do this: it goes on, or its answer means what it says
-abbrev pub EnvGoes : List EnvEvent → ℕ → EnvRequest → EnvCourse → EnvNext → Type 0
-EnvGoes now seat request course (Go walk) = EnvGoesOn now seat request course walk
-EnvGoes now seat request course (Repeat walk) = EnvGoesOn now seat request course walk
-EnvGoes now seat request course (Over reply) = EnvMeans now seat request course reply
-EnvGoes now seat request course (LookOver cause) = LookMeans now request course cause
+abbrev pub EnvGoes : List EnvEvent → ℕ → EnvRequest → EnvCourse → Next EnvWalk EnvEnd → Type 0
+EnvGoes now seat request course = NextIs (EnvGoesOn now seat request course) (EndMeans now seat request course)

@@ -6,6 +6,8 @@ pub use Rattle.ns_env.specs.declared.act.EnvFound.TheVariants.{Clock, NextNumber
 pub use Rattle.ns_env.specs.declared.limits.Cause.{Cause}
 pub use Rattle.ns_env.specs.declared.limits.Cause.TheVariants.{Expired, Notified}
 pub use Rattle.ns_env.specs.declared.limits.Limits.{Limits}
+pub use Rattle.ns_env.specs.declared.next.Next.{Next}
+pub use Rattle.ns_env.specs.declared.next.Next.TheVariants.{Done, Idle, On}
 pub use Rattle.ns_env.specs.declared.note.NoteWord.{NoteWord}
 pub use Rattle.ns_env.specs.declared.reply.EnvReply.{EnvReply}
 pub use Rattle.ns_env.specs.declared.reply.EnvReply.TheVariants.{Expiry, Is, NotesFull, Number, Succeeded}
@@ -15,8 +17,8 @@ pub use Rattle.ns_env.specs.declared.view.Making.{Making}
 pub use Rattle.ns_env.specs.declared.view.Making.TheVariants.{Adding, Nothing}
 pub use Rattle.ns_env.specs.declared.walk.Chain.{Chain}
 pub use Rattle.ns_env.specs.declared.walk.Chain.TheVariants.{ForIsNotified, ForLook, ForNoteWait}
-pub use Rattle.ns_env.specs.declared.walk.EnvNext.{EnvNext}
-pub use Rattle.ns_env.specs.declared.walk.EnvNext.TheVariants.{Go, LookOver, Over, Repeat}
+pub use Rattle.ns_env.specs.declared.walk.EnvEnd.{EnvEnd}
+pub use Rattle.ns_env.specs.declared.walk.EnvEnd.TheVariants.{LookOver, Over}
 pub use Rattle.ns_env.specs.declared.walk.EnvWalk.{EnvWalk}
 pub use Rattle.ns_env.specs.declared.walk.EnvWalk.TheVariants.{Advancing, ClockLoad, ExpiryLoad, MakeNote, NextLoad, NoteLoad, Notifying, TakeNumber}
 pub use Rattle.ns_model.specs.Beginnings.{BeginsWith, IsBetween}

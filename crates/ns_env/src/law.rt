@@ -1,9 +1,9 @@
 //! The law of the steps on a clock and notes, and what calls on them answer. Each function is a
 //! theorem: its clause holds, and it does nothing.
 
-ghost use Rattle.std.specs.Prelude.{◌≡◌, ◌≢◌, ℕ, ◌+◌, ◌<◌, ◌++◌, [], List, Option, Some, slice_get, if◌then◌else◌};
-ghost use Rattle.ns_env.specs.Prelude.{BeginsWith, CanAct, Chain, ChainFits, Clock, ClockLoad, EnvAct, EnvBegins, EnvCourse, EnvEvent, EnvFound, EnvGoes, EnvPlain, EnvSoFar, EnvState, EnvStep, EnvView, EnvWalk, Expiry, ExpiryLoad, Go, HasActed, IsFirstAsk, IsLawful, IsLawfulEnv, IsMade, Meets};
-ghost use Rattle.ns_env.specs.Prelude.{Note, NoteLoad, NoteStanding, NoteWord, Over, ViewFits, acted, adds, env_after, env_asked_of, env_course_after, env_course_at, env_got_of, env_walk_after, events_of, expiry_of, fresh_asks, fresh_plain, is_notified, looked, making_after, outcome, passed};
+ghost use Rattle.std.specs.Prelude.{List, Option, Some, [], if◌then◌else◌, slice_get, ℕ, ◌++◌, ◌+◌, ◌<◌, ◌≡◌, ◌≢◌};
+ghost use Rattle.ns_env.specs.Prelude.{BeginsWith, CanAct, Chain, ChainFits, Clock, ClockLoad, Done, EnvAct, EnvBegins, EnvCourse, EnvEvent, EnvFound, EnvGoes, EnvPlain, EnvSoFar, EnvState, EnvStep, EnvView, EnvWalk, Expiry, ExpiryLoad, HasActed, IsFirstAsk, IsLawful, IsLawfulEnv, IsMade, Meets};
+ghost use Rattle.ns_env.specs.Prelude.{Note, NoteLoad, NoteStanding, NoteWord, On, Over, ViewFits, acted, adds, env_after, env_asked_of, env_course_after, env_course_at, env_got_of, events_of, expiry_of, fresh_asks, fresh_plain, is_notified, looked, making_after, outcome, passed, place_after};
 ghost use Rattle.ns_env.specs.Prelude.{standing_of, stopped};
 
 /// A step that its caller may make keeps the law, and what has happened by it comes to the history.
@@ -67,7 +67,7 @@ pub fn a_chain_finds_the_notified()
 pub fn a_chain_goes_up()
     ensures { (events : List EnvEvent) (plain : EnvPlain) (chain chain' : Chain) (clock clock' at next : ℕ) (note : NoteWord) →
         Meets events plain → standing_of note ≡ plain.notes at →
-        env_got_of (NoteLoad chain clock at) (Note note) ≡ Go (NoteLoad chain' clock' next) →
+        env_got_of (NoteLoad chain clock at) (Note note) ≡ On (NoteLoad chain' clock' next) →
         (next < at) × IsMade events next }
 {}
 
@@ -85,7 +85,7 @@ pub fn a_chain_begins_at_its_clock()
 #[tactic(auto, using(crate::proofs::Chains::chain_answers))]
 pub fn a_chain_answers_rightly()
     ensures { (point now : List EnvEvent) (state : EnvState) (chain : Chain) (clock at : ℕ) (note : NoteWord) →
-        IsLawfulEnv now state → BeginsWith now point → ChainFits point now chain (Go (NoteLoad chain clock at)) → standing_of note ≡ state.plain.notes at →
+        IsLawfulEnv now state → BeginsWith now point → ChainFits point now chain (On (NoteLoad chain clock at)) → standing_of note ≡ state.plain.notes at →
         ChainFits point now chain (env_got_of (NoteLoad chain clock at) (Note note)) }
 {}
 
@@ -94,13 +94,13 @@ pub fn a_chain_answers_rightly()
 pub fn an_expiry_is_the_earliest()
     ensures { (events : List EnvEvent) (state : EnvState) (seat asked at : ℕ) (least answer : Option ℕ) (note : NoteWord) →
         IsLawfulEnv events state → slice_get state.askings seat ≡ Some (Some (ExpiryLoad asked at least)) → standing_of note ≡ state.plain.notes at →
-        env_got_of (ExpiryLoad asked at least) (Note note) ≡ Over (Expiry answer) → answer ≡ expiry_of events asked }
+        env_got_of (ExpiryLoad asked at least) (Note note) ≡ Done (Over (Expiry answer)) → answer ≡ expiry_of events asked }
 {}
 
 /// No step of a call changes what it was asked to do.
 pub fn calls_on_notes_stay_what_they_were_asked()
     ensures { (walk next : EnvWalk) (found : EnvFound) →
-        env_walk_after (env_got_of walk found) ≡ Some next → env_asked_of next ≡ env_asked_of walk }
+        place_after (env_got_of walk found) ≡ Some next → env_asked_of next ≡ env_asked_of walk }
 {}
 
 /// A call on the clock and the notes, or a look, has done nothing as it begins.

@@ -22,6 +22,7 @@ ghost use Rattle.ns_env.specs.Walks.{env_want_of, env_got_of, chain_note, stoppe
 
 use crate::act::{EnvAct, EnvFound};
 use crate::limits::{Cause, Limits};
+use crate::next::Next;
 use crate::note::{NoteWord, earlier, is_due};
 use crate::reply::EnvReply;
 
@@ -59,18 +60,17 @@ pub enum EnvWalk {
     ExpiryLoad(u8, u8, Option<u64>),
 }
 
-/// Where a walk on the clock and the notes goes.
+/// What a walk on the clock and the notes ends with.
 #[derive(Clone, Copy)]
-pub enum EnvNext {
-    /// It goes on at this place.
-    Go(EnvWalk),
-    /// It has to wait for another seat, and repeats from this place.
-    Repeat(EnvWalk),
+pub enum EnvEnd {
     /// The call is over.
     Over(EnvReply),
     /// The look is over, and shows what ends the wait, if anything does.
     LookOver(Option<Cause>),
 }
+
+/// Where a walk on the clock and the notes goes.
+pub type EnvNext = Next<EnvWalk, EnvEnd>;
 
 impl Chain {
     /// The note at which the chain begins, if it has one.
@@ -89,9 +89,9 @@ impl Chain {
         ensures { result ≡ stopped self }
     {
         match self {
-            Chain::ForLook(_) => EnvNext::LookOver(Some(Cause::Notified)),
-            Chain::ForIsNotified(_) => EnvNext::Over(EnvReply::Is(true)),
-            Chain::ForNoteWait(_, _) => EnvNext::Over(EnvReply::Is(true)),
+            Chain::ForLook(_) => Next::Done(EnvEnd::LookOver(Some(Cause::Notified))),
+            Chain::ForIsNotified(_) => Next::Done(EnvEnd::Over(EnvReply::Is(true))),
+            Chain::ForNoteWait(_, _) => Next::Done(EnvEnd::Over(EnvReply::Is(true))),
         }
     }
 
@@ -102,17 +102,17 @@ impl Chain {
         match self {
             Chain::ForLook(limits) => {
                 if is_due(limits.deadline, clock) {
-                    EnvNext::LookOver(Some(Cause::Expired))
+                    Next::Done(EnvEnd::LookOver(Some(Cause::Expired)))
                 } else {
-                    EnvNext::LookOver(None)
+                    Next::Done(EnvEnd::LookOver(None))
                 }
             }
-            Chain::ForIsNotified(_) => EnvNext::Over(EnvReply::Is(false)),
+            Chain::ForIsNotified(_) => Next::Done(EnvEnd::Over(EnvReply::Is(false))),
             Chain::ForNoteWait(note, deadline) => {
                 if is_due(deadline, clock) {
-                    EnvNext::Over(EnvReply::Is(false))
+                    Next::Done(EnvEnd::Over(EnvReply::Is(false)))
                 } else {
-                    EnvNext::Repeat(EnvWalk::ClockLoad(Chain::ForNoteWait(note, deadline)))
+                    Next::Idle(EnvWalk::ClockLoad(Chain::ForNoteWait(note, deadline)))
                 }
             }
         }
@@ -124,7 +124,7 @@ impl Chain {
     {
         match note {
             None => self.passed(clock),
-            Some(next) => EnvNext::Go(EnvWalk::NoteLoad(self, clock, next)),
+            Some(next) => Next::On(EnvWalk::NoteLoad(self, clock, next)),
         }
     }
 }
@@ -134,8 +134,8 @@ fn lowered_to(asked: u8, note: Option<u8>, least: Option<u64>) -> EnvNext
     ensures { result ≡ lowered_to asked note least }
 {
     match note {
-        None => EnvNext::Over(EnvReply::Expiry(least)),
-        Some(next) => EnvNext::Go(EnvWalk::ExpiryLoad(asked, next, least)),
+        None => Next::Done(EnvEnd::Over(EnvReply::Expiry(least))),
+        Some(next) => Next::On(EnvWalk::ExpiryLoad(asked, next, least)),
     }
 }
 
@@ -177,12 +177,12 @@ impl EnvWalk {
         match self {
             EnvWalk::NextLoad(parent, deadline) => {
                 if next < 64 {
-                    EnvNext::Go(EnvWalk::TakeNumber(parent, deadline))
+                    Next::On(EnvWalk::TakeNumber(parent, deadline))
                 } else {
-                    EnvNext::Over(EnvReply::NotesFull)
+                    Next::Done(EnvEnd::Over(EnvReply::NotesFull))
                 }
             }
-            walk => EnvNext::Go(walk),
+            walk => Next::On(walk),
         }
     }
 
@@ -193,12 +193,12 @@ impl EnvWalk {
         match self {
             EnvWalk::TakeNumber(parent, deadline) => {
                 if number < 64 {
-                    EnvNext::Go(EnvWalk::MakeNote(number, parent, deadline))
+                    Next::On(EnvWalk::MakeNote(number, parent, deadline))
                 } else {
-                    EnvNext::Over(EnvReply::NotesFull)
+                    Next::Done(EnvEnd::Over(EnvReply::NotesFull))
                 }
             }
-            walk => EnvNext::Go(walk),
+            walk => Next::On(walk),
         }
     }
 
@@ -207,10 +207,12 @@ impl EnvWalk {
         ensures { result ≡ env_got_of self EnvFound.Stored }
     {
         match self {
-            EnvWalk::MakeNote(note, _, _) => EnvNext::Over(EnvReply::Number(note as u64)),
-            EnvWalk::Notifying(_) => EnvNext::Over(EnvReply::Succeeded),
-            EnvWalk::Advancing(_) => EnvNext::Over(EnvReply::Succeeded),
-            walk => EnvNext::Go(walk),
+            EnvWalk::MakeNote(note, _, _) => Next::Done(EnvEnd::Over(EnvReply::Number(
+                note as u64,
+            ))),
+            EnvWalk::Notifying(_) => Next::Done(EnvEnd::Over(EnvReply::Succeeded)),
+            EnvWalk::Advancing(_) => Next::Done(EnvEnd::Over(EnvReply::Succeeded)),
+            walk => Next::On(walk),
         }
     }
 
@@ -220,7 +222,7 @@ impl EnvWalk {
     {
         match self {
             EnvWalk::ClockLoad(chain) => chain.up_to(clock, chain.note()),
-            walk => EnvNext::Go(walk),
+            walk => Next::On(walk),
         }
     }
 
@@ -239,7 +241,7 @@ impl EnvWalk {
             EnvWalk::ExpiryLoad(asked, _, least) => {
                 lowered_to(asked, note.parent, earlier(least, note.deadline))
             }
-            walk => EnvNext::Go(walk),
+            walk => Next::On(walk),
         }
     }
 }

@@ -1,8 +1,8 @@
 -- A step takes its call on, as its caller follows it.
 use Rattle.std.proofs.Common.{List, None, Option, Some, [], ap, append-nil, append_assoc, arith, false, length, refl, subst, sym, true, ℕ, ◌++◌, ◌∙◌, ◌∷◌, ◌≡◌, ◌≤◌}
 use Rattle.ns_gate.proofs.Prelude.{Act, ActFits, CallGoes, CanStep, Course, Done, Event, Found, GateView, HasReached, HasSince, HasStepped, Held, Idle, InAcquire, InCells, InRelease, InShow, InSignal, InTry, InWait, IsAtPlace, IsAtRest, IsOne, IsTold, IsTrueToHistory, IsWide, Next, On, Owed}
-use Rattle.ns_gate.proofs.Prelude.{OwesBelow, OwesOne, Pay, PayInWait, PayTheWoken, PayWake, Performed, PlaceFits, SeatOf, SeatView, SectionFits, Standing, Told, Truths, Walk, asked_of, begins_itself, begins_through, carried_by, course_by, got_of, has_queues, has_some, part_of, pays, row_after}
-use Rattle.ns_gate.proofs.Prelude.{standing_after, the, walk_after, walk_by, want_of}
+use Rattle.ns_gate.proofs.Prelude.{OwesBelow, OwesOne, Pay, PayInWait, PayTheWoken, PayWake, Performed, PlaceFits, Reply, SeatOf, SeatView, SectionFits, Standing, Told, Truths, Walk, asked_of, begins_itself, begins_through, carried_by, course_by, got_of, has_queues, has_some, part_of, pays}
+use Rattle.ns_gate.proofs.Prelude.{place_after, row_after, standing_after, the, walk_by, want_of}
 use Rattle.ns_gate.proofs.Findings.{fits_now, walk_is}
 
 none_of : {A : Type 0} (xs : List A) → has_some xs ≡ false → xs ≡ []
@@ -59,7 +59,7 @@ module _ {C : Type 0} {N : ℕ} (truths : Truths C) where
   }
 
   -- where the step leads
-  leads : (b : Option (Walk C)) (walk : Walk C) (found : Found) (next : Next C) (u : GateView C N) (now : SeatOf C N) → IsOne now.0 → (has_queues (walk_after next) ≡ false → now.1 ≡ []) → walk_by b u.at.walk ≡ Some walk → got_of N walk found ≡ next
+  leads : (b : Option (Walk C)) (walk : Walk C) (found : Found) (next : Next (Walk C) Reply) (u : GateView C N) (now : SeatOf C N) → IsOne now.0 → (has_queues (place_after next) ≡ false → now.1 ≡ []) → walk_by b u.at.walk ≡ Some walk → got_of N walk found ≡ next
       → (d : HasStepped truths b found u (the now.0)) → HasReached truths (asked_of walk) next now
   leads b walk found next u now one empty walks is d = goes next is empty (subst (λ w. CallGoes truths u.at.seat (row_after (d.history ++ d.commits)) (asked_of w) (the now.0).course (got_of N w found) (the now.0).at.held) same d.goes) where
     same : d.made.step.walk ≡ walk
@@ -68,11 +68,11 @@ module _ {C : Type 0} {N : ℕ} (truths : Truths C) where
     w : GateView C N
     w = the now.0
 
-    walks_now : w.at.walk ≡ walk_after (got_of N walk found)
-    walks_now = ap (λ (x : SeatView C N). x.walk) d.becomes ∙ ap (λ x. walk_after (got_of N x found)) same
+    walks_now : w.at.walk ≡ place_after (got_of N walk found)
+    walks_now = ap (λ (x : SeatView C N). x.walk) d.becomes ∙ ap (λ x. place_after (got_of N x found)) same
 
     -- the seat that the course speaks of, and the row
-    as_now : (next : Next C) → CallGoes truths u.at.seat (row_after (d.history ++ d.commits)) (asked_of walk) w.course next w.at.held → CallGoes truths w.at.seat (row_after w.told.seen) (asked_of walk) w.course next w.at.held
+    as_now : (next : Next (Walk C) Reply) → CallGoes truths u.at.seat (row_after (d.history ++ d.commits)) (asked_of walk) w.course next w.at.held → CallGoes truths w.at.seat (row_after w.told.seen) (asked_of walk) w.course next w.at.held
     as_now next g = subst (λ (z : ℕ × List (Event C N)). CallGoes truths z.0 (row_after z.1) (asked_of walk) w.course next w.at.held) (λ i. (sym (ap (λ (x : SeatView C N). x.seat) d.becomes) i, sym (ap (λ (t : Told C N). t.seen) d.tells) i)) g
 
     is_wide : IsWide w.at.held
@@ -89,9 +89,9 @@ module _ {C : Type 0} {N : ℕ} (truths : Truths C) where
       true_to = true_after found b u w d;
     }
 
-    goes : (next : Next C) → got_of N walk found ≡ next → (has_queues (walk_after next) ≡ false → now.1 ≡ []) → CallGoes truths u.at.seat (row_after (d.history ++ d.commits)) (asked_of walk) w.course (got_of N walk found) w.at.held → HasReached truths (asked_of walk) next now
-    goes next is empty g = by_next next empty (walks_now ∙ ap walk_after is) (as_now next (subst (λ x. CallGoes truths u.at.seat (row_after (d.history ++ d.commits)) (asked_of walk) w.course x w.at.held) is g)) where
-      by_next : (next : Next C) → (has_queues (walk_after next) ≡ false → now.1 ≡ []) → w.at.walk ≡ walk_after next → CallGoes truths w.at.seat (row_after w.told.seen) (asked_of walk) w.course next w.at.held → HasReached truths (asked_of walk) next now
+    goes : (next : Next (Walk C) Reply) → got_of N walk found ≡ next → (has_queues (place_after next) ≡ false → now.1 ≡ []) → CallGoes truths u.at.seat (row_after (d.history ++ d.commits)) (asked_of walk) w.course (got_of N walk found) w.at.held → HasReached truths (asked_of walk) next now
+    goes next is empty g = by_next next empty (walks_now ∙ ap place_after is) (as_now next (subst (λ x. CallGoes truths u.at.seat (row_after (d.history ++ d.commits)) (asked_of walk) w.course x w.at.held) is g)) where
+      by_next : (next : Next (Walk C) Reply) → (has_queues (place_after next) ≡ false → now.1 ≡ []) → w.at.walk ≡ place_after next → CallGoes truths w.at.seat (row_after w.told.seen) (asked_of walk) w.course next w.at.held → HasReached truths (asked_of walk) next now
       by_next (On at) empty e g = record { one = one; empty = empty; walks = e; so_far = g.so_far; owes = owes_below b found u w d; fits = subst (λ x. PlaceFits truths x w.at.held) e d.fits.place; wide = is_wide }
       by_next (Idle at) empty e g = record { one = one; empty = empty; walks = e; so_far = g.so_far; owes = owes_below b found u w d; fits = subst (λ x. PlaceFits truths x w.at.held) e d.fits.place; wide = is_wide }
       by_next (Done reply) empty e g = record { rest = at_rest (empty refl) e; means = g }
@@ -101,15 +101,15 @@ module _ {C : Type 0} {N : ℕ} (truths : Truths C) where
   can_go walk act me wants at = record { one = at.one; may = tt; walk = walk; walks = at.walks; wants = wants }
 
   -- The first step of a call leads it on.
-  pub begins : (first : Walk C) (act : Act C) (found : Found) (next : Next C) (me now : SeatOf C N) → got_of N first found ≡ next → (has_queues (walk_after next) ≡ false → now.1 ≡ []) → Performed truths (Some first) act found me now → HasReached truths (asked_of first) next now
+  pub begins : (first : Walk C) (act : Act C) (found : Found) (next : Next (Walk C) Reply) (me now : SeatOf C N) → got_of N first found ≡ next → (has_queues (place_after next) ≡ false → now.1 ≡ []) → Performed truths (Some first) act found me now → HasReached truths (asked_of first) next now
   begins first act found next me now is empty p = leads (Some first) first found next (the me.0) now p.one empty refl is p.did
 
   -- Each further step does.
-  pub goes_on : (walk : Walk C) (act : Act C) (found : Found) (next : Next C) (me now : SeatOf C N) → IsAtPlace truths walk me → got_of N walk found ≡ next → (has_queues (walk_after next) ≡ false → now.1 ≡ []) → Performed truths None act found me now → HasReached truths (asked_of walk) next now
+  pub goes_on : (walk : Walk C) (act : Act C) (found : Found) (next : Next (Walk C) Reply) (me now : SeatOf C N) → IsAtPlace truths walk me → got_of N walk found ≡ next → (has_queues (place_after next) ≡ false → now.1 ≡ []) → Performed truths None act found me now → HasReached truths (asked_of walk) next now
   goes_on walk act found next me now at is empty p = leads None walk found next (the me.0) now p.one empty at.walks is p.did
 
   -- one that takes and puts back nothing does without the queues
-  pub goes : (walk : Walk C) (act : Act C) (found : Found) (next : Next C) (me now : SeatOf C N) → IsAtPlace truths walk me → has_queues (Some walk) ≡ false → got_of N walk found ≡ next →
+  pub goes : (walk : Walk C) (act : Act C) (found : Found) (next : Next (Walk C) Reply) (me now : SeatOf C N) → IsAtPlace truths walk me → has_queues (Some walk) ≡ false → got_of N walk found ≡ next →
       carried_by act found (the now.0).stood me.1 ≡ me.1 → Performed truths None act found me now → HasReached truths (asked_of walk) next now
   goes walk act found next me now at free is keeps p = goes_on walk act found next me now at is (λ _. p.carried ∙ (keeps ∙ at.empty free)) p
 

@@ -2,7 +2,7 @@
 use Rattle.std.proofs.Common.{Bool, List, None, Option, Result, Some, [], ap, cond, inl, inr, ne_eqb, refl, slice_index, subst, sym, ℕ, ◌++◌, ◌<◌, ◌∙◌, ◌∷◌, ◌≡◌}
 use Rattle.ns_gate.proofs.Prelude.{Acquire, Act, ActFits, BeginsIf, CanStep, Cell, Changed, Effect, Flag, Found, GateView, HasStepped, Held, IsExchange, IsOwedNext, IsPackable, JudgeMet, JudgeQuiet, Lists, LoadCell, LoadFlag, LoadWord, LockState, Made, MayExchange, Me, Owed, Part, Performed}
 use Rattle.ns_gate.proofs.Prelude.{PerformedWith, Release, ReleaseReturning, ReturnQueues, Returning, Saw, SeatView, SectionFits, TakeQueues, Truths, WaitReturning, Walk, Word, act_by, act_fits, act_of, act_returning, cases_eq, change_found, decoded, exchanged, found_fits, found_of, found_returned}
-use Rattle.ns_gate.proofs.Prelude.{got_of, made_by, next_owed, number_of, packable, part_of, row_in, scanned, standing_after, the, tried_for, view_fits, view_in, walk_after, walk_by, want_of, word_of}
+use Rattle.ns_gate.proofs.Prelude.{got_of, made_by, next_owed, number_of, packable, part_of, place_after, row_in, scanned, standing_after, the, tried_for, view_fits, view_in, walk_by, want_of, word_of}
 
 -- the wake that is owed next
 pub owed_next : (wake : Owed) (owed : List Owed) → IsOwedNext wake owed → wake ≡ next_owed owed
@@ -75,7 +75,7 @@ module _ {C : Type 0} {N : ℕ} (truths : Truths C) where
   pub fits_now : (b : Option (Walk C)) (found : Found) (v w : GateView C N) (walk : Walk C) → (d : HasStepped truths b found v w) → w.at.walk ≡ Some walk → ActFits truths v.seat_count w.at.seat (want_of walk) (part_of d.new w.at.held w.at.owed)
   fits_now b found v w walk d walks =
       let s = d.made.step in
-      let is : w.at ≡ record { seat = (view_in v.at b).seat; walk = walk_after (got_of N s.walk found); held = s.held; owed = s.owed } = d.becomes ∙ ap (λ n. record { seat = n; walk = walk_after (got_of N s.walk found); held = s.held; owed = s.owed }) (same_seat b v.at) in
+      let is : w.at ≡ record { seat = (view_in v.at b).seat; walk = place_after (got_of N s.walk found); held = s.held; owed = s.owed } = d.becomes ∙ ap (λ n. record { seat = n; walk = place_after (got_of N s.walk found); held = s.held; owed = s.owed }) (same_seat b v.at) in
       let stands : d.new.views ≡ s.front ++ w.at ∷ s.back = s.becomes ∙ ap (λ (x : SeatView C N). s.front ++ x ∷ s.back) (sym is) in
       act_fits truths v.seat_count d.few (d.history ++ d.commits) d.new s.front w.at s.back stands d.lawful_now walk walks
     where

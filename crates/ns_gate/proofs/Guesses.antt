@@ -1,7 +1,7 @@
 -- One exchange of the lock word that is a load and the exchange behind it, where the word was guessed.
 use Rattle.std.proofs.Common.{Bool, Err, None, Ok, Result, Some, ap, cond, eq-eqb, eqb, inl, inr, ne_eqb, refl, subst, sym, ℕ, ◌<◌, ◌∙◌, ◌≡◌}
-use Rattle.ns_gate.proofs.Prelude.{Acquire, Act, Allows, CameByGuess, CanStep, Found, GateView, GoesOn, HasGuessed, HasMadeBoth, Holds, IsExchange, IsPackable, IsPlainExchange, LoadWord, Made, MayExchange, MayGuess, Performed, PerformedBoth, PerformedWith, QuietKeeps, Release, Saw, SeatOf}
-use Rattle.ns_gate.proofs.Prelude.{SeatView, Truths, Walk, WantsNext, Word, act_by, at_once, carried_after, cases_eq, decoded, either, exchanged, got_of, made_by, number_of, the, tried_for, walk_after, want_of, word_of}
+use Rattle.ns_gate.proofs.Prelude.{Acquire, Act, Allows, CameByGuess, CanStep, Found, GateView, GoesOn, HasGuessed, HasMadeBoth, Holds, IsExchange, IsPackable, IsPlainExchange, LoadWord, Made, MayExchange, MayGuess, Performed, PerformedBoth, PerformedWith, QuietKeeps, Release, Saw, SeatOf, SeatView}
+use Rattle.ns_gate.proofs.Prelude.{Truths, Walk, WantsNext, Word, act_by, at_once, carried_after, cases_eq, decoded, either, exchanged, got_of, made_by, number_of, place_after, the, tried_for, want_of, word_of}
 use Rattle.ns_gate.proofs.Allowed.{may_load, may_exchange}
 use Rattle.ns_gate.proofs.Findings.{exchanged_by, stepped, walk_is, word_packs}
 
@@ -19,7 +19,7 @@ module _ {C : Type 0} {N : ℕ} (truths : Truths C) where
         one = p.made.one;
         may = tt;
         walk = w.next;
-        walks = ap (λ (x : SeatView C N). x.walk) d.becomes ∙ (ap (λ (x : Walk C). walk_after (got_of N x (Saw (word_of k)))) same ∙ (ap (λ (u : Word). walk_after (got_of N first (Saw u))) (ap word_of is ∙ decoded word) ∙ w.goes));
+        walks = ap (λ (x : SeatView C N). x.walk) d.becomes ∙ (ap (λ (x : Walk C). place_after (got_of N x (Saw (word_of k)))) same ∙ (ap (λ (u : Word). place_after (got_of N first (Saw u))) (ap word_of is ∙ decoded word) ∙ w.goes));
         wants = w.wants;
       }
 

@@ -1,9 +1,9 @@
 -- A step of the machine keeps the rule.
 use Rattle.std.proofs.Common.{IfSome, List, None, Option, Some, [], ap, arith, cond, drop, eq-eqb, eqb, false, inl, inr, nat_lt, refl, set, slice_get, slice_set, subst, suc, sym, take, true, zero, ℕ, ◌++◌, ◌<◌, ◌∙◌, ◌∷◌, ◌≡◌, ◌≢◌, ◌≤◌, ◌⊎◌}
-use Rattle.ns_gate.proofs.Prelude.{AtHome, BeginsIf, BeginsWith, CallGoes, Course, Done, Effect, Event, Every, Fits, Found, GateView, HasCome, HasStepped, Held, Homes, Idle, IsLawful, IsRuled, IsTold, LockState, MayBegin, Next, On, Others, Owed, Part, QuietKeeps, Request, SeatStep, SeatView, Shows}
-use Rattle.ns_gate.proofs.Prelude.{SoFar, Step, Truths, Underlying, ViewFits, Views, Walk, asked_of, begin_at, begins_if, begins_unchanged, calls_of, course_after, course_by, course_from, every_at, every_both, every_put, get_elem?, got_of, has_queues, is_seat, one_if, one_most, others_both}
-use Rattle.ns_gate.proofs.Prelude.{others_map, others_none, others_of, part_of, row_after, seat_in, seat_step_by, seat_step_tells, seat_steps_keep, set_here, set_same, set_there, slice_get_within, some, split_at, standing_after, step_at, takers, takes_on, told_after, told_there, total, total_none}
-use Rattle.ns_gate.proofs.Prelude.{total_set, view_fits, view_in, walk_after, walk_by, want_of}
+use Rattle.ns_gate.proofs.Prelude.{AtHome, BeginsIf, BeginsWith, CallGoes, Course, Done, Effect, Event, Every, Fits, Found, GateView, HasCome, HasStepped, Held, Homes, Idle, IsLawful, IsRuled, IsTold, LockState, MayBegin, Next, On, Others, Owed, Part, QuietKeeps, Reply, Request, SeatStep, SeatView}
+use Rattle.ns_gate.proofs.Prelude.{Shows, SoFar, Step, Truths, Underlying, ViewFits, Views, Walk, asked_of, begin_at, begins_if, begins_unchanged, calls_of, course_after, course_by, course_from, every_at, every_both, every_put, get_elem?, got_of, has_queues, is_seat, one_if, one_most, others_both}
+use Rattle.ns_gate.proofs.Prelude.{others_map, others_none, others_of, part_of, place_after, row_after, seat_in, seat_step_by, seat_step_tells, seat_steps_keep, set_here, set_same, set_there, slice_get_within, some, split_at, standing_after, step_at, takers, takes_on, told_after, told_there, total}
+use Rattle.ns_gate.proofs.Prelude.{total_none, total_set, view_fits, view_in, walk_by, want_of}
 
 -- nobody has the queues where none is counted
 pub none_takes : {C : Type 0} {N : ℕ} (views : List (SeatView C N)) (n : ℕ) (view : SeatView C N) → takers views ≡ 0 → slice_get views n ≡ Some view → has_queues view.walk ≡ true → ⊥
@@ -30,11 +30,11 @@ module _ {C : Type 0} {N : ℕ} where
 
   -- a seat's view after it found this, with this part of the state
   abbrev pub next_view : SeatView C N → Walk C → Found → Part C N → SeatView C N
-  next_view view walk found part = record { seat = view.seat; walk = walk_after (got_of N walk found); held = part.held; owed = part.owed }
+  next_view view walk found part = record { seat = view.seat; walk = place_after (got_of N walk found); held = part.held; owed = part.owed }
 
   -- how far its call has come then
-  has_come : (truths : Truths C) (seat : ℕ) (row : List ℕ) (request : Request C) (course : Course C N) (next : Next C) (held : Option (Held C N)) (owed : List Owed) → CallGoes truths seat row request course next held →
-      HasCome truths course (record { seat = seat; walk = walk_after next; held = held; owed = owed })
+  has_come : (truths : Truths C) (seat : ℕ) (row : List ℕ) (request : Request C) (course : Course C N) (next : Next (Walk C) Reply) (held : Option (Held C N)) (owed : List Owed) → CallGoes truths seat row request course next held →
+      HasCome truths course (record { seat = seat; walk = place_after next; held = held; owed = owed })
   has_come truths seat row request course (On walk) held owed goes = goes.so_far
   has_come truths seat row request course (Idle walk) held owed goes = goes.so_far
   has_come truths seat row request course (Done reply) held owed goes = tt
@@ -119,9 +119,9 @@ module _ {C : Type 0} {N : ℕ} (truths : Truths C) (cells : 0 < N) (quiet : Qui
     fits_after = view_fits truths seat_count r.few (shown.history ++ commits) after (take v.at.seat after.views) next (drop (suc v.at.seat) after.views) (split_at after.views v.at.seat next stands_after) lawful_after
 
     -- what the seat is told
-    told_all : IsTold truths.holds seat_count (shown.history ++ commits) v.at.seat (walk_after (got_of N walk found)) (told_after shown.history commits (calls_of begun) v.told) × BeginsWith (shown.history ++ commits) v.told.seen
+    told_all : IsTold truths.holds seat_count (shown.history ++ commits) v.at.seat (place_after (got_of N walk found)) (told_after shown.history commits (calls_of begun) v.told) × BeginsWith (shown.history ++ commits) v.told.seen
     unfolding made_all made
-    told_all = subst (λ w. IsTold truths.holds seat_count (shown.history ++ commits) v.at.seat (walk_after (got_of N w found)) (told_after shown.history commits (calls_of begun) v.told) × BeginsWith (shown.history ++ commits) v.told.seen) made_all.1
+    told_all = subst (λ w. IsTold truths.holds seat_count (shown.history ++ commits) v.at.seat (place_after (got_of N w found)) (told_after shown.history commits (calls_of begun) v.told) × BeginsWith (shown.history ++ commits) v.told.seen) made_all.1
         (seat_step_tells truths cells quiet seat_count shown.history r.few shown.state v.at begun found after commits made r.lawful v.told its_fit.told)
 
     -- how far the call has come before the step
@@ -153,10 +153,10 @@ module _ {C : Type 0} {N : ℕ} (truths : Truths C) (cells : 0 < N) (quiet : Qui
           lawful_now = subst (λ n. IsLawful truths n (shown.history ++ commits) after) limited lawful_after;
           made = made;
           seat_count = refl;
-          becomes = λ i. record { seat = v.at.seat; walk = walk_after (got_of N (sym made_all.1 i) found); held = sym made_all.2 i; owed = sym made_all.3 i };
+          becomes = λ i. record { seat = v.at.seat; walk = place_after (got_of N (sym made_all.1 i) found); held = sym made_all.2 i; owed = sym made_all.3 i };
           tells = refl;
           told_was = subst (λ n. IsTold truths.holds n shown.history v.at.seat v.at.walk v.told) limited its_fit.told;
-          told_now = subst (λ n. IsTold truths.holds n (shown.history ++ commits) v.at.seat (walk_after (got_of N walk found)) (told_after shown.history commits (calls_of begun) v.told)) limited told_all.0;
+          told_now = subst (λ n. IsTold truths.holds n (shown.history ++ commits) v.at.seat (place_after (got_of N walk found)) (told_after shown.history commits (calls_of begun) v.told)) limited told_all.0;
           grows = told_all.1;
           course = refl;
           goes = subst (λ w. CallGoes truths v.at.seat (row_after (shown.history ++ commits)) (asked_of w) course (got_of N w found) part.held) (sym made_all.1) goes_on;

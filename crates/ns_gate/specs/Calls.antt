@@ -62,7 +62,7 @@ pub record HasAnswered {C : Type 0} {N : ℕ} (truths : Truths C) (request : Req
   pub means : Means truths (the me.0).at.seat (row_after (the me.0).told.seen) request (the me.0).course reply (the me.0).at.held
 
 -- where a step leads a call that was asked to do this: to a place, at once or after it has waited, or to its answer
-abbrev pub HasReached : {C : Type 0} {N : ℕ} → Truths C → Request C → Next C → SeatOf C N → Type 0
+abbrev pub HasReached : {C : Type 0} {N : ℕ} → Truths C → Request C → Next (Walk C) Reply → SeatOf C N → Type 0
 HasReached truths request (On walk) me = IsAtPlace truths walk me
 HasReached truths request (Idle walk) me = IsAtPlace truths walk me
 HasReached truths request (Done reply) me = HasAnswered truths request reply me

@@ -1,5 +1,7 @@
 -- The names of crates below and of this crate's own types, passed on from one place. Declares nothing.
 pub use Rattle.atomic_table.specs.Table.{Act as TableAct, Allows, Final, Me, Seen, State as TableState, Valid, carried_after, gives, homes_after, keeps as keeps_slots, opening, rest, takes}
+pub use Rattle.ns_env.specs.declared.next.Next.{Next}
+pub use Rattle.ns_env.specs.declared.next.Next.TheVariants.{Done, Idle, On}
 pub use Rattle.ns_gate.specs.declared.fault.Fault.{Fault}
 pub use Rattle.ns_gate.specs.declared.fault.Fault.TheVariants.{OutOfMemory, TooManySeats}
 pub use Rattle.ns_gate.specs.declared.perform.Beside.{Beside}
@@ -20,8 +22,8 @@ pub use Rattle.ns_seats.specs.Views.{ArePair, IsOne, Views as ViewsOf, first_of,
 pub use Rattle.ns_word.specs.Prelude.{ActFits, BeginsIf, BeginsWith, CallGoes, CanLeave, CanWait, Cause, Course, Cv, Effect, Event, Every, HasMode, HaveSeats, IsBySeats, IsFirst, IsLawful, IsLegal, IsLook, IsOrderly, IsPackable, IsSettled, IsTold, Limits, Lists, Lock, LockState, MayShow, Means}
 pub use Rattle.ns_word.specs.Prelude.{Mode, OneWriter, OwesOne, Part, PlaceFits, QuietKeeps, Read, SeatStep, SectionFits, SoFar, Standing, Step, Told, Truths, ViewFits, Waiter, Write, asked_of, awaits, before_in, bits_of, called_by, called_of, calls_of, change_commits, change_found, changed}
 pub use Rattle.ns_word.specs.Prelude.{content_at, course_after, course_from, cvs_without, encoded, exchanged, exit_for, flags_with, found_of, fresh_state, fresh_views, got_of, has_queues, has_some, held_after, is_held, is_of, is_reading, is_write, is_writing, judge_of, kept_by, left_of, meets_at}
-pub use Rattle.ns_word.specs.Prelude.{mode_for, moved_to, moves, newly_held, nothing_told, number_of, one_if, outside, owed_after, owes_more, own as own_of, part_of, pays, readers, releasing_of, row_after, row_in, scanned, seats_of, section_of, standing_after, stands_at, taken_by, taken_set, takers}
-pub use Rattle.ns_word.specs.Prelude.{tests_of, times, times_in, told_after, value_of, view_in, waited_in, waiters_of, wakes_of, walk_after, want_of, with_lock, with_waiters, without, woken_of, word_acquired, word_released, word_released_returning, word_returned, word_taken, writers, writes}
+pub use Rattle.ns_word.specs.Prelude.{mode_for, moved_to, moves, newly_held, nothing_told, number_of, one_if, outside, owed_after, owes_more, own as own_of, part_of, pays, place_after, readers, releasing_of, row_after, row_in, scanned, seats_of, section_of, standing_after, stands_at, taken_by}
+pub use Rattle.ns_word.specs.Prelude.{taken_set, takers, tests_of, times, times_in, told_after, value_of, view_in, waited_in, waiters_of, wakes_of, want_of, with_lock, with_waiters, without, woken_of, word_acquired, word_released, word_released_returning, word_returned, word_taken, writers, writes}
 pub use Rattle.ns_word.specs.declared.acquire_walk.AcquirePlace.TheVariants.{Queue}
 pub use Rattle.ns_word.specs.declared.act.Act.{Act}
 pub use Rattle.ns_word.specs.declared.act.Act.TheVariants.{Acquire, ArmFlag, JudgeMet, JudgeQuiet, LoadCell, LoadFlag, LoadWord, Look, PayWake, Release, ReleaseReturning, ReturnQueues, StoreCell, TakeQueues, WaitReturning}
@@ -45,8 +47,6 @@ pub use Rattle.ns_word.specs.declared.wait.QueuePlace.TheVariants.{QueueToWait}
 pub use Rattle.ns_word.specs.declared.wait.Subject.{Subject}
 pub use Rattle.ns_word.specs.declared.wait.Subject.TheVariants.{OnCondition, OnVariables}
 pub use Rattle.ns_word.specs.declared.wait.WaitPlace.TheVariants.{InLeaving, InQueuing, PayInWait, TestLast}
-pub use Rattle.ns_word.specs.declared.walk.Next.{Next}
-pub use Rattle.ns_word.specs.declared.walk.Next.TheVariants.{Done, Idle, On}
 pub use Rattle.ns_word.specs.declared.walk.Reply.{Reply}
 pub use Rattle.ns_word.specs.declared.walk.Walk.{Walk}
 pub use Rattle.ns_word.specs.declared.walk.Walk.TheVariants.{InAcquire, InCells, InRelease, InShow, InSignal, InTry, InWait}

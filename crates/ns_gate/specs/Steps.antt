@@ -2,7 +2,7 @@
 use Rattle.std.specs.Prelude.{Bool, Err, List, None, Ok, Option, Result, Some, [], slice_index, true, ℕ, ◌++◌, ◌+◌, ◌∷◌, ◌≡◌, ◌≤◌, ◌⊎◌}
 use Rattle.ns_gate.specs.Names.{Acquire, Act, ArmFlag, BeginsWith, Bits, CallGoes, Cause, Changed, Course, Event, Found, IsFirst, IsLawful, IsLook, IsOne, IsTold, JudgeMet, JudgeQuiet, Left, Lists, LoadCell, LoadFlag, LoadWord, LockState, Looked, Made, Me, Owed, PayWake, PlaceFits, Release}
 use Rattle.ns_gate.specs.Names.{ReleaseReturning, Released, ReturnQueues, Returning, Saw, Scanned, SeatStep, SeatView, StoreCell, TakeQueues, Truths, ViewFits, WaitReturning, Waited, Walk, Woke, Word, asked_of, bits_of, calls_of, change_found, changed, content_at, course_after, course_from}
-use Rattle.ns_gate.specs.Names.{found_of, got_of, has_queues, has_some, left_of, meets_at, mode_for, moves, releasing_of, rest, row_after, row_in, scanned, standing_after, the_or, times, told_after, waited_in, walk_after, want_of, with_lock, woken_of, word_acquired, word_released}
+use Rattle.ns_gate.specs.Names.{found_of, got_of, has_queues, has_some, left_of, meets_at, mode_for, moves, place_after, releasing_of, rest, row_after, row_in, scanned, standing_after, the_or, times, told_after, waited_in, want_of, with_lock, woken_of, word_acquired, word_released}
 use Rattle.ns_gate.specs.Names.{word_released_returning, word_returned, word_taken}
 use Rattle.ns_gate.specs.Law.{GateView, fresh_seat}
 
@@ -44,7 +44,7 @@ pub record HasStepped {C : Type 0} {N : ℕ} (truths : Truths C) (begun : Option
   pub lawful_now : IsLawful truths v.seat_count (history ++ commits) new
   pub made : SeatStep truths old v.at begun found new commits
   pub seat_count : w.seat_count ≡ v.seat_count
-  pub becomes : w.at ≡ record { seat = v.at.seat; walk = walk_after (got_of N made.step.walk found); held = made.step.held; owed = made.step.owed }
+  pub becomes : w.at ≡ record { seat = v.at.seat; walk = place_after (got_of N made.step.walk found); held = made.step.held; owed = made.step.owed }
   pub tells : w.told ≡ told_after history commits (calls_of begun) v.told
   pub told_was : IsTold truths.holds v.seat_count history v.at.seat v.at.walk v.told
   pub told_now : IsTold truths.holds v.seat_count (history ++ commits) w.at.seat w.at.walk w.told
@@ -239,7 +239,7 @@ pub record HasGuessed {C : Type 0} {N : ℕ} (truths : Truths C) (begun : Option
 -- a call that begins so, with a load of the lock word, wants this act next where it finds this word
 pub record WantsNext {C : Type 0} (N : ℕ) (first : Walk C) (word : Word) (act : Act C) : Type 0 where
   pub next : Walk C
-  pub goes : walk_after (got_of N first (Saw word)) ≡ Some next
+  pub goes : place_after (got_of N first (Saw word)) ≡ Some next
   pub wants : want_of next ≡ act
 
 -- the act exchanges the one word for the other, whatever its seat has in hand

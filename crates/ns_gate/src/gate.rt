@@ -1,7 +1,8 @@
 //! The gate: a lock word, a row and flags, shared by threads.
 
 ghost use Rattle.std.specs.Prelude.{◌≡◌, ◌+◌, ◌<◌, ◌≤◌, [], ◌∷◌, replicate, None, IfErr, IfOk, MatchResult, slice_index};
-ghost use Rattle.ns_gate.specs.Prelude.{word_of, IsPackable, before_in, exchanged, row_in, CameByGuess, MayGuess, MayShow, WantsNext, IsAtRest, EndsAs, first_of, fresh, no_lists, rest_of, RefusesGate, HaveMet, CanStep, IsOne, MayExchange, MayLoad, MayStore, Performed, PerformedWith, made_by, the, tried, tried_for};
+ghost use Rattle.ns_gate.specs.Prelude.{CameByGuess, CanStep, EndsAs, HaveMet, IsAtRest, IsOne, IsPackable, MayExchange, MayGuess, MayLoad, MayShow, MayStore, Performed, PerformedWith, RefusesGate, WantsNext, before_in, exchanged, first_of, fresh, made_by, no_lists, rest_of, row_in, the, tried};
+ghost use Rattle.ns_gate.specs.Prelude.{tried_for, word_of};
 
 use crate::boxed::BoxedQueues;
 use crate::closed::{Closed, cells};

@@ -6,7 +6,8 @@
 //! home (`Carries`), so the rule needs nothing more.
 
 ghost use Rattle.std.specs.Prelude.{◌≡◌, ◌<◌, ⊤, map, IfErr, IfOk, None};
-ghost use Rattle.ns_gate.specs.Prelude.{stands_at, times, woken_of, tests_of, seats_of, IsPackable, row_in, bits_of, IsInRange, changed, meets_at, waits_at, CanStep, Carries, HasUnchangedQueues, StandsNowhere, Performed, act_returning, found_returned, lists_returned, lists_scanned, scanned_writer, some_returned, sought_at, the, tried, tried_for, word_returning};
+ghost use Rattle.ns_gate.specs.Prelude.{CanStep, Carries, HasUnchangedQueues, IsInRange, IsPackable, Performed, StandsNowhere, act_returning, bits_of, changed, found_returned, lists_returned, lists_scanned, meets_at, row_in, scanned_writer, seats_of, some_returned, sought_at, stands_at, tests_of};
+ghost use Rattle.ns_gate.specs.Prelude.{the, times, tried, tried_for, waits_at, woken_of, word_returning};
 
 use crate::gate::{Gate, GateSeat};
 use ns_model::condition::Condition;

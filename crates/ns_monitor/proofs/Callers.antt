@@ -1,8 +1,8 @@
 -- What a call of the gate's seat tells its caller.
 use Rattle.std.proofs.Common.{Bool, Err, None, Ok, Option, Result, Some, [], ap, append-nil, cond, false, refl, subst, sym, true, ℕ, ◌++◌, ◌∙◌, ◌∷◌, ◌≡◌}
 use Rattle.ns_monitor.proofs.Prelude.{Acquire, Acquiring, AsFresh, Busy, CanStep, Cell, Done, ForLock, Get, Grows, HasAnswered, HasBegun, HasGoneBehind, HasLocked, HasReached, HasSeenMore, HasSince, HasUnlocked, InCells, InHand, InTry, IsAtPlace, IsAtRest, IsFreshIn, IsNumberOf, Known, LoadCell}
-use Rattle.ns_monitor.proofs.Prelude.{LoadWord, Made, Mode, Number, On, Performed, Releasing, Saw, SeatOf, Set, SetStore, StoreCell, Succeeded, TableId, Truths, TryAcquire, TryLock, Unchanged, Walk, WantsNext, WentAtOnce, Word, asked_of, begins, getting, goes, going_act, gone_to, got_of, known_of}
-use Rattle.ns_monitor.proofs.Prelude.{locking, may_acquire, may_go, releasing_by, row_after, section_of, setting, since, since_then, the, tried, trying, walk_after}
+use Rattle.ns_monitor.proofs.Prelude.{LoadWord, Made, Mode, Number, On, Performed, Releasing, Reply, Saw, SeatOf, Set, SetStore, StoreCell, Succeeded, TableId, Truths, TryAcquire, TryLock, Unchanged, Walk, WantsNext, WentAtOnce, Word, asked_of, begins, getting, goes, going_act, gone_to, got_of}
+use Rattle.ns_monitor.proofs.Prelude.{known_of, locking, may_acquire, may_go, place_after, releasing_by, row_after, section_of, setting, since, since_then, the, tried, trying}
 use Rattle.ns_monitor.proofs.Begins.{locked_fresh}
 use Rattle.ns_monitor.proofs.Standing.{loads_first}
 use Rattle.ns_model.specs.declared.event.Exit.TheVariants as TheExit
@@ -89,7 +89,7 @@ module _ {C : Type 0} {N : ℕ} (truths : Truths C) where
   pub wants_to_try : (mode : Mode) (walk : Walk C) (word : Word) → walk ≡ trying mode → may_go {C = C} (Acquiring (ForLock mode) AsFresh) word ≡ true → WantsNext N walk word (going_act (Acquiring (ForLock mode) AsFresh) word)
   wants_to_try mode walk word is may = subst (λ (w : Walk C). WantsNext N w word (going_act (Acquiring (ForLock mode) AsFresh) word)) (sym is) (record {
     next = InTry mode (TryAcquire word);
-    goes = ap (λ (b : Bool). walk_after {C = C} (cond b (On (InTry mode (TryAcquire word))) (Done Busy))) may;
+    goes = ap (λ (b : Bool). place_after {R = Reply} (cond b (On (InTry mode (TryAcquire word))) (Done Busy))) may;
     wants = refl;
   })
 

@@ -14,16 +14,16 @@ pub use Rattle.ns_monitor.specs.Prelude.{HasMode, HasReached, HasReturnedWoken, 
 pub use Rattle.ns_monitor.specs.Prelude.{HasWoken, HasWokenInHand, Held, Home, Idle, IfAnswered, IfEnded, InAcquire, InCells, InHand, InLeaving, InQueuing, InRelease, InShow, InSignal, InTry, InWait, Is, IsAtPlace, IsAtRest, IsByOneOf, IsFirst, IsForVariables, IsFresh, IsFreshIn, IsInRange}
 pub use Rattle.ns_monitor.specs.Prelude.{IsLawful, IsNumberOf, IsOrderly, IsOwedNext, IsPackable, IsQuiet, IsQuietFor, IsReady, IsSettled, IsTold, IsWaitingForAny, IsWide, JudgeMet, JudgeQuiet, Known, Leave, LeaveLoad, LeaveSelf, Leaving, Limits, Lists, Load, LoadCell, LoadFlag, LoadToScan}
 pub use Rattle.ns_monitor.specs.Prelude.{LoadWord, LockState, Look, LookIn, LookOut, LookShows, Looked, Made, MayEnd, MayEnter, MayGoAlone, MayScan, Met, Mode, Next, Note, Notified, Number, On, OnCondition, OnEntry, OnReturn, OnVariables, Outcome, Owed, OwesBelow, OwesTheWoken, Paid, Part, PayWake}
-pub use Rattle.ns_monitor.specs.Prelude.{Pays, Performed, PlaceFits, PutsBack, Queue, QueueSelf, QueueToWait, QueuesOrEnds, Quiet, QuietCells, QuietLast, QuietWriter, Read, Reader, ReleaseLoad, ReleaseReturning, Released, Releasing, Request, ReturnQueues, ReturnShown, Returning, Saw, SaysWoken}
-pub use Rattle.ns_monitor.specs.Prelude.{ScanAndRelease, ScanCells, Scanning, ScansAs, SeatHasLearned, SeatOf, SeatView, SectionFits, Set, SetStore, ShowLoad, SignalLoad, Signaling, Sleeps, Sought, StandsAt, StoreCell, Subject, Succeeded, TableId, TakeQueues, TakeToShow, Taking, TestCells, TestLast}
-pub use Rattle.ns_monitor.specs.Prelude.{Tested, Tests, TimedOut, ToChange, ToQueue, ToRelease, ToTell, ToWait, Told, Truths, TryAcquire, TryLock, Turned, Unchanged, VariableWaitMeans, Visit, Wait, WaitKnown, WaitMeans, WaitReturning, WaitTells, Waited, Waiter, WaitsOn, WaitsStill, WakeAndReturn}
-pub use Rattle.ns_monitor.specs.Prelude.{WakeWaiters, Waking, Walk, WantsNext, WentAtOnce, Woke, Woken, WokenBy, Word, Write, Writer, act_returning, answer_of, answer_of_wait, any_waiting, armed_place, arrival_of, asked_of, at_will, awaits, back_with, before_in, begins_with_reader, bits_of}
-pub use Rattle.ns_monitor.specs.Prelude.{called_by, called_of, carried_by, change_found, changed, entered, first_of, found_back, found_returned, fresh, fresh_seat, getting, going_act, going_at, going_of, gone_to, got_of, got_queuing, has_condition, has_queues, has_some, held_after, held_by, home_of}
-pub use Rattle.ns_monitor.specs.Prelude.{is_eligible, is_held, is_held_by_one, is_limited, is_met, is_satisfied, judge_of, judging, known_of, lacks_row, leave_any_told, leave_told, left_of, limits_of, lists_returned, lists_scanned, lists_woken, load_place, loading, loading_at, locking}
-pub use Rattle.ns_monitor.specs.Prelude.{look_or_queue, may_acquire, may_go, meets_at, mode_released, moves, new_seat, new_section, outcome_taken, owed_woken, owes_more, own_of, part_of, pay_releasing, pay_waiting, pay_woken, paying_at, pays, queuing_first, quiet_place, reads, ready_at}
-pub use Rattle.ns_monitor.specs.Prelude.{release_has_queues, releasing_by, request_for, rest, rest_of, rest_or_look, returning_at, returning_for, returning_of, row_after, row_in, saved_after, scan_place, scanned_writer, scanning_at, seats_of, section_of, setting, show_by, showing, some_returned}
-pub use Rattle.ns_monitor.specs.Prelude.{sought_at, standing_after, stands_at, taken_at, taken_by, taken_from, taken_set, taking_at, taking_for, test_place, tested_by, the, times, tried, trying, unmet_by, value_before, variable_in, view_in, wait_first, wait_has_queues, waits_at, waits_by}
-pub use Rattle.ns_monitor.specs.Prelude.{waits_for_any, waits_for_variable, wake_by, wake_event, wake_of, wake_told, wakes_of, waking_by, walk_after, want_of, with_lock, woken_by, woken_nobody, woken_of, word_taken, writes}
+pub use Rattle.ns_monitor.specs.Prelude.{Pays, Performed, PlaceFits, PutsBack, Queue, QueueSelf, QueueToWait, QueuesOrEnds, Quiet, QuietCells, QuietLast, QuietWriter, Read, Reader, ReleaseLoad, ReleaseReturning, Released, Releasing, Reply, Request, ReturnQueues, ReturnShown, Returning, Saw}
+pub use Rattle.ns_monitor.specs.Prelude.{SaysWoken, ScanAndRelease, ScanCells, Scanning, ScansAs, SeatHasLearned, SeatOf, SeatView, SectionFits, Set, SetStore, ShowLoad, SignalLoad, Signaling, Sleeps, Sought, StandsAt, StoreCell, Subject, Succeeded, TableId, TakeQueues, TakeToShow, Taking}
+pub use Rattle.ns_monitor.specs.Prelude.{TestCells, TestLast, Tested, Tests, TimedOut, ToChange, ToQueue, ToRelease, ToTell, ToWait, Told, Truths, TryAcquire, TryLock, Turned, Unchanged, VariableWaitMeans, Visit, Wait, WaitKnown, WaitMeans, WaitReturning, WaitTells, Waited, Waiter, WaitsOn}
+pub use Rattle.ns_monitor.specs.Prelude.{WaitsStill, WakeAndReturn, WakeWaiters, Waking, Walk, WantsNext, WentAtOnce, Woke, Woken, WokenBy, Word, Write, Writer, act_returning, answer_of, answer_of_wait, any_waiting, armed_place, arrival_of, asked_of, at_will, awaits, back_with, before_in}
+pub use Rattle.ns_monitor.specs.Prelude.{begins_with_reader, bits_of, called_by, called_of, carried_by, change_found, changed, entered, first_of, found_back, found_returned, fresh, fresh_seat, getting, going_act, going_at, going_of, gone_to, got_of, got_queuing, has_condition, has_queues, has_some}
+pub use Rattle.ns_monitor.specs.Prelude.{held_after, held_by, home_of, is_eligible, is_held, is_held_by_one, is_limited, is_met, is_satisfied, judge_of, judging, known_of, lacks_row, leave_any_told, leave_told, left_of, limits_of, lists_returned, lists_scanned, lists_woken, load_place, loading}
+pub use Rattle.ns_monitor.specs.Prelude.{loading_at, locking, look_or_queue, may_acquire, may_go, meets_at, mode_released, moves, new_seat, new_section, outcome_taken, owed_woken, owes_more, own_of, part_of, pay_releasing, pay_waiting, pay_woken, paying_at, pays, place_after, queuing_first}
+pub use Rattle.ns_monitor.specs.Prelude.{quiet_place, reads, ready_at, release_has_queues, releasing_by, request_for, rest, rest_of, rest_or_look, returning_at, returning_for, returning_of, row_after, row_in, saved_after, scan_place, scanned_writer, scanning_at, seats_of, section_of, setting}
+pub use Rattle.ns_monitor.specs.Prelude.{show_by, showing, some_returned, sought_at, standing_after, stands_at, taken_at, taken_by, taken_from, taken_set, taking_at, taking_for, test_place, tested_by, the, times, tried, trying, unmet_by, value_before, variable_in, view_in, wait_first}
+pub use Rattle.ns_monitor.specs.Prelude.{wait_has_queues, waits_at, waits_by, waits_for_any, waits_for_variable, wake_by, wake_event, wake_of, wake_told, wakes_of, waking_by, want_of, with_lock, woken_by, woken_nobody, woken_of, word_taken, writes}
 pub use Rattle.ns_note.proofs.Prelude.{HasLooked, all_new, begins_itself, begins_through, new_more, numbered_first, numbered_rest}
 pub use Rattle.ns_note.proofs.Rests.{made_grows}
 pub use Rattle.ns_word.proofs.Hands.{free_scanned}

@@ -4,8 +4,8 @@ use Rattle.ns_monitor.proofs.Prelude.{Acquire, AcquireLoad, Acquiring, Act, Bits
 use Rattle.ns_monitor.proofs.Prelude.{HasStepped, HasTakenAt, Held, Idle, InAcquire, InLeaving, InQueuing, InRelease, InShow, InSignal, InWait, IsAtPlace, IsAtRest, IsFirst, IsNumberOf, IsOwedNext, IsPackable, Leave, LeaveLoad, Leaving, Lists, Load, LoadFlag, LoadWord, LockState, Made, MayGoAlone}
 use Rattle.ns_monitor.proofs.Prelude.{On, Owed, OwesBelow, OwesTheWoken, Paid, Part, PayWake, Pays, Performed, PlaceFits, PutsBack, Queue, QueueToWait, ReleaseLoad, ReleaseReturning, Released, Request, ReturnQueues, ReturnShown, Returning, Saw, ScanAndRelease, ScanCells, SeatOf, SeatView}
 use Rattle.ns_monitor.proofs.Prelude.{SectionFits, SignalLoad, Sleeps, TakeQueues, Taking, ToChange, ToQueue, Told, Truths, Turned, WaitReturning, Waited, Walk, WantsNext, Word, act_returning, asked_of, begins, bits_of, called_of, can_go, carried_by, changed, does, found_back, found_returned, goes}
-use Rattle.ns_monitor.proofs.Prelude.{goes_on, going_act, going_at, going_of, gone_to, got_of, has_queues, has_some, lists_returned, may_go, meets_at, moves, orderly_now, owes_more, part_of, release_has_queues, rest, rest_of, returning_at, returning_of, row_in, scan_place, scanning_at, since}
-use Rattle.ns_monitor.proofs.Prelude.{since_then, some_returned, standing_after, stays_by, taken_at, taking_at, taking_for, the, view_fits, view_in, walk_after, want_of, woken_of, word_taken}
+use Rattle.ns_monitor.proofs.Prelude.{goes_on, going_act, going_at, going_of, gone_to, got_of, has_queues, has_some, lists_returned, may_go, meets_at, moves, orderly_now, owes_more, part_of, place_after, release_has_queues, rest, rest_of, returning_at, returning_of, row_in, scan_place, scanning_at}
+use Rattle.ns_monitor.proofs.Prelude.{since, since_then, some_returned, standing_after, stays_by, taken_at, taking_at, taking_for, the, view_fits, view_in, want_of, woken_of, word_taken}
 use Rattle.ns_monitor.specs.Prelude.{Release}
 
 -- a word that was taken has a number, if the word before has
@@ -199,7 +199,7 @@ module _ {C : Type 0} {N : ℕ} (truths : Truths C) where
       let lets : may_go (going_of walk) word ≡ true = ap (λ (x : Going C). may_go x word) (sym is) ∙ may in
       record {
         next = going_at walk word;
-        goes = ap walk_after ((decides_at N walk d).by_word word ∙ ap (λ (b : Bool). cond b (On (going_at walk word)) (cond word.spin (Idle walk) (On (taking_at walk word)))) lets);
+        goes = ap place_after ((decides_at N walk d).by_word word ∙ ap (λ (b : Bool). cond b (On (going_at walk word)) (cond word.spin (Idle walk) (On (taking_at walk word)))) lets);
         wants = ((decides_at N walk d).goes word lets).wants ∙ ap (λ (x : Going C). going_act x word) (sym is);
       }
 

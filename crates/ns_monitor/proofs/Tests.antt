@@ -1,8 +1,8 @@
 -- The cells of the row are loaded one after another, step by step, and the test of a wait tells.
 use Rattle.std.proofs.Common.{Bool, List, None, Option, Some, [], ap, arith, cond, false, get_or, get_or-set_other, get_or-set_same, inl, inr, le-ltb, length, length-set, lt-ltb, nat_lt, refl, set, slice_index, subst, sym, true, ℕ, ◌+◌, ◌-◌, ◌<◌, ◌∙◌, ◌∷◌, ◌≡◌, ◌≤◌}
 use Rattle.ns_monitor.proofs.Prelude.{Act, AreRead, Await, CanStep, Cell, Found, GateView, HasAnswered, HasGone, HasLoaded, HasReached, HasSince, HasTested, HasUnchangedQueues, Held, InCells, InQueuing, InRelease, InWait, Is, IsAtPlace, IsQuiet, IsWide, JudgeMet, JudgeQuiet, Lists, LoadCell}
-use Rattle.ns_monitor.proofs.Prelude.{LoadToScan, LockState, Next, On, Part, Performed, PlaceFits, QueueToWait, Quiet, QuietCells, QuietLast, ScanAndRelease, ScanCells, SeatOf, StandsAt, TestCells, Tested, ToTell, Truths, Visit, Wait, Walk, asked_of, before_in, begins, carried_by, cases_Bool}
-use Rattle.ns_monitor.proofs.Prelude.{cases_eq, cell_in_hand, cond-false, cond-true, cond_both, does, goes_on, got_of, has_queues, judging, loading, loading_at, release_has_queues, row_in, same_number_lists, since, since_itself, since_then, tested_by, the, view_in, wait_has_queues, walk_after}
+use Rattle.ns_monitor.proofs.Prelude.{LoadToScan, LockState, Next, On, Part, Performed, PlaceFits, QueueToWait, Quiet, QuietCells, QuietLast, Reply, ScanAndRelease, ScanCells, SeatOf, StandsAt, TestCells, Tested, ToTell, Truths, Visit, Wait, Walk, asked_of, before_in, begins, carried_by, cases_Bool}
+use Rattle.ns_monitor.proofs.Prelude.{cases_eq, cell_in_hand, cond-false, cond-true, cond_both, does, goes_on, got_of, has_queues, judging, loading, loading_at, place_after, release_has_queues, row_in, same_number_lists, since, since_itself, since_then, tested_by, the, view_in, wait_has_queues}
 use Rattle.ns_monitor.proofs.Prelude.{want_of}
 use Rattle.ns_monitor.proofs.Standing.{commits_none, held_in, same_held}
 
@@ -80,7 +80,7 @@ module _ {C : Type 0} {N : ℕ} (truths : Truths C) where
   can_step None walk act me wants at = record { one = at.one; may = tt; walk = walk; walks = at.walks; wants = wants }
   can_step (Some first) walk act me wants at = record { one = at.1.one; may = (at.1.over, at.2, at.3); walk = first; walks = refl; wants = ap want_of at.0 ∙ wants }
 
-  steps : (b : Option (Walk C)) (walk : Walk C) (act : Act C) (found : Found) (next : Next C) (me now : SeatOf C N) → StandsAt truths b walk me → got_of N walk found ≡ next → (has_queues (walk_after next) ≡ false → has_queues (Some walk) ≡ false)
+  steps : (b : Option (Walk C)) (walk : Walk C) (act : Act C) (found : Found) (next : Next (Walk C) Reply) (me now : SeatOf C N) → StandsAt truths b walk me → got_of N walk found ≡ next → (has_queues (place_after next) ≡ false → has_queues (Some walk) ≡ false)
       → carried_by act found (the now.0).stood me.1 ≡ me.1 → Performed truths b act found me now → HasReached truths (asked_of walk) next now
   steps None walk act found next me now at is free keeps p = goes_on truths walk act found next me now at is (λ e. p.carried ∙ (keeps ∙ at.empty (free e))) p
   steps (Some first) walk act found next me now at is free keeps p =

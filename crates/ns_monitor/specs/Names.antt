@@ -5,8 +5,8 @@ pub use Rattle.ns_gate.specs.Prelude.{IsInRange, IsLawful, IsMade, IsOrderly, Is
 pub use Rattle.ns_gate.specs.Prelude.{Mode, Next, On, OnCondition, OnVariables, Owed, OwesBelow, Paid, Part, Pay, PayInWait, PayWake, Performed, PlaceFits, Queue, QueueSelf, QueueToWait, Quiet, QuietWriter, Read, Reader, Release, ReleaseReturning, Releasing, Request, ReturnQueues, ReturnShown, Saw}
 pub use Rattle.ns_gate.specs.Prelude.{ScanAndRelease, SeatOf, SeatView, SectionFits, ShowsLists, SignalLoad, Signaling, Sought, StandsNowhere, StoreCell, Subject, Succeeded, TableId, TakeQueues, Taking, TestLast, Tested, ToChange, ToQueue, Told, Truths, TryLoad, TryLock, Wait, WaitReturning, Waiter}
 pub use Rattle.ns_gate.specs.Prelude.{WakeAndReturn, WakeWaiters, Waking, Walk, WantsNext, Woke, Word, Write, Writer, act_returning, asked_of, awaits, before_in, begins_with_reader, bits_of, called_by, called_of, carried_by, change_found, changed, first_of, found_returned, fresh, fresh_seat, got_of}
-pub use Rattle.ns_gate.specs.Prelude.{has_queues, has_some, held_after, is_held, is_limited, judge_of, left_of, lists_returned, lists_scanned, lists_woken, look_or_queue, meets_at, mode_for, mode_released, moves, owed_woken, owes_more, own_of, part_of, pays, rest, rest_of, row_after, row_in}
-pub use Rattle.ns_gate.specs.Prelude.{scanned_writer, seats_of, section_of, some_returned, sought_at, standing_after, stands_at, taken_by, taken_from, taken_set, the, times, tried, view_in, wait_first, waits_at, wake_told, wakes_of, walk_after, want_of, woken_nobody, woken_of, word_taken, writes}
+pub use Rattle.ns_gate.specs.Prelude.{has_queues, has_some, held_after, is_held, is_limited, judge_of, left_of, lists_returned, lists_scanned, lists_woken, look_or_queue, meets_at, mode_for, mode_released, moves, owed_woken, owes_more, own_of, part_of, pays, place_after, rest, rest_of, row_after}
+pub use Rattle.ns_gate.specs.Prelude.{row_in, scanned_writer, seats_of, section_of, some_returned, sought_at, standing_after, stands_at, taken_by, taken_from, taken_set, the, times, tried, view_in, wait_first, waits_at, wake_told, wakes_of, want_of, woken_nobody, woken_of, word_taken, writes}
 pub use Rattle.ns_gate.specs.declared.queues.Returning.{Returning}
 pub use Rattle.ns_gate.specs.declared.queues.Returning.TheVariants.{Changed, Released, Waited}
 pub use Rattle.ns_gate.specs.declared.queues.Turned.{Turned}
@@ -51,6 +51,7 @@ pub use Rattle.ns_word.specs.declared.wait.QueuePlace.TheVariants.{ArmToWait, Lo
 pub use Rattle.ns_word.specs.declared.wait.Visit.{Visit}
 pub use Rattle.ns_word.specs.declared.wait.Visit.TheVariants.{OnEntry, OnReturn}
 pub use Rattle.ns_word.specs.declared.wait.WaitPlace.TheVariants.{LookOut, TestCells}
+pub use Rattle.ns_word.specs.declared.walk.Reply.{Reply}
 pub use Rattle.ns_word.specs.declared.walk.Reply.TheVariants.{Number, WokenBy}
 pub use Rattle.ns_word.specs.declared.word.Arrival.TheVariants.{AsFresh}
 pub use denote.Builtin.{u64}

@@ -8,13 +8,13 @@ pub use Rattle.ns_monitor.specs.Names.{Carries, Cause, Cell, CellFits, Change, C
 pub use Rattle.ns_monitor.specs.Names.{HasReached, HasSince, HasStepped, HasUnchangedQueues, HasWaited, Held, Home, Idle, InAcquire, InCells, InHand, InLeaving, InQueuing, InRelease, InShow, InSignal, InTry, InWait, Is, IsAtPlace, IsAtRest, IsFirst, IsForVariables, IsInRange, IsLawful, IsMade}
 pub use Rattle.ns_monitor.specs.Names.{IsOrderly, IsOwedNext, IsPackable, IsQuiet, IsSettled, IsTold, IsWide, JudgeMet, JudgeQuiet, Leave, LeaveLoad, LeaveSelf, Leaving, Limits, Lists, Load, LoadCell, LoadFlag, LoadToScan, LoadWord, LockState, Look, LookIn, LookOut, Looked, Made, MayEnd, Met, Mode}
 pub use Rattle.ns_monitor.specs.Names.{Next, Note, Notified, Number, On, OnCondition, OnEntry, OnReturn, OnVariables, Outcome, Owed, OwesBelow, Paid, Part, PayWake, Performed, PlaceFits, Queue, QueueSelf, QueueToWait, Quiet, QuietCells, QuietLast, QuietWriter, Read, Reader, Release, ReleaseLoad}
-pub use Rattle.ns_monitor.specs.Names.{ReleaseReturning, Released, Releasing, Request, ReturnQueues, ReturnShown, Returning, Saw, ScanAndRelease, ScanCells, Scanning, SeatHasLearned, SeatOf, SeatView, SectionFits, Set, SetStore, ShowLoad, SignalLoad, Signaling, Sought, StoreCell, Subject, Succeeded}
-pub use Rattle.ns_monitor.specs.Names.{TableId, TakeQueues, TakeToShow, Taking, TestCells, TestLast, Tested, Tests, TimedOut, ToChange, ToQueue, ToRelease, ToTell, ToWait, Told, Truths, TryAcquire, TryLock, Turned, Unchanged, VariableWaitMeans, Visit, Wait, WaitMeans, WaitReturning, Waited, Waiter}
-pub use Rattle.ns_monitor.specs.Names.{WakeAndReturn, WakeWaiters, Waking, Walk, WantsNext, Woke, Woken, WokenBy, Word, Write, Writer, act_returning, answer_of, answer_of_wait, armed_place, arrival_of, asked_of, awaits, back_with, before_in, begins_with_reader, bits_of, called_by, called_of}
-pub use Rattle.ns_monitor.specs.Names.{carried_by, change_found, changed, first_of, found_returned, fresh, fresh_seat, got_of, got_queuing, has_condition, has_queues, has_some, held_after, held_by, home_of, is_eligible, is_held, is_limited, is_met, is_satisfied, judge_of, leave_any_told, leave_told}
-pub use Rattle.ns_monitor.specs.Names.{left_of, lists_returned, lists_scanned, lists_woken, load_place, look_or_queue, may_acquire, meets_at, mode_released, moves, new_section, outcome_taken, owed_woken, owes_more, own_of, part_of, pay_releasing, pay_waiting, pay_woken, pays, quiet_place, reads}
-pub use Rattle.ns_monitor.specs.Names.{release_has_queues, request_for, rest, rest_of, rest_or_look, row_after, row_in, scan_place, scanned_writer, seats_of, section_of, show_by, some_returned, sought_at, standing_after, stands_at, taken_by, taken_from, taken_set, test_place, the, times, tried}
-pub use Rattle.ns_monitor.specs.Names.{unmet_by, variable_in, view_in, wait_first, wait_has_queues, waits_at, wake_by, wake_of, wake_told, wakes_of, walk_after, want_of, with_lock, woken_by, woken_nobody, woken_of, word_taken, writes}
+pub use Rattle.ns_monitor.specs.Names.{ReleaseReturning, Released, Releasing, Reply, Request, ReturnQueues, ReturnShown, Returning, Saw, ScanAndRelease, ScanCells, Scanning, SeatHasLearned, SeatOf, SeatView, SectionFits, Set, SetStore, ShowLoad, SignalLoad, Signaling, Sought, StoreCell, Subject}
+pub use Rattle.ns_monitor.specs.Names.{Succeeded, TableId, TakeQueues, TakeToShow, Taking, TestCells, TestLast, Tested, Tests, TimedOut, ToChange, ToQueue, ToRelease, ToTell, ToWait, Told, Truths, TryAcquire, TryLock, Turned, Unchanged, VariableWaitMeans, Visit, Wait, WaitMeans, WaitReturning}
+pub use Rattle.ns_monitor.specs.Names.{Waited, Waiter, WakeAndReturn, WakeWaiters, Waking, Walk, WantsNext, Woke, Woken, WokenBy, Word, Write, Writer, act_returning, answer_of, answer_of_wait, armed_place, arrival_of, asked_of, awaits, back_with, before_in, begins_with_reader, bits_of, called_by}
+pub use Rattle.ns_monitor.specs.Names.{called_of, carried_by, change_found, changed, first_of, found_returned, fresh, fresh_seat, got_of, got_queuing, has_condition, has_queues, has_some, held_after, held_by, home_of, is_eligible, is_held, is_limited, is_met, is_satisfied, judge_of, leave_any_told}
+pub use Rattle.ns_monitor.specs.Names.{leave_told, left_of, lists_returned, lists_scanned, lists_woken, load_place, look_or_queue, may_acquire, meets_at, mode_released, moves, new_section, outcome_taken, owed_woken, owes_more, own_of, part_of, pay_releasing, pay_waiting, pay_woken, pays}
+pub use Rattle.ns_monitor.specs.Names.{place_after, quiet_place, reads, release_has_queues, request_for, rest, rest_of, rest_or_look, row_after, row_in, scan_place, scanned_writer, seats_of, section_of, show_by, some_returned, sought_at, standing_after, stands_at, taken_by, taken_from, taken_set}
+pub use Rattle.ns_monitor.specs.Names.{test_place, the, times, tried, unmet_by, variable_in, view_in, wait_first, wait_has_queues, waits_at, wake_by, wake_of, wake_told, wakes_of, want_of, with_lock, woken_by, woken_nobody, woken_of, word_taken, writes}
 pub use Rattle.ns_monitor.specs.Polls.{IfStill, IfWoken}
 pub use Rattle.ns_monitor.specs.Saved.{AreSaved, HasSaved, IsFresh, IsFreshIn, IsQuietFor, saved_after, value_before}
 pub use Rattle.ns_monitor.specs.Scans.{HasScanned, MayEnter, MayScan, entered, paying_at, ready_at, returning_for}

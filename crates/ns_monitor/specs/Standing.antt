@@ -2,7 +2,7 @@
 use Rattle.std.specs.Prelude.{Bool, Err, List, None, Ok, Option, Result, Some, false, if◌then◌else◌, not, true, ℕ, ◌<◌, ◌≡◌}
 use Rattle.ns_monitor.specs.Names.{Acquire, AcquireExchange, AcquireLoad, Acquiring, Act, Aim, Arm, ArmToWait, Arrival, AtLock, Carries, Changed, Changing, Done, Flag, Found, Going, HasMadeBoth, HasReached, HasUnchangedQueues, Idle, InAcquire, InLeaving, InQueuing, InRelease, InShow, InSignal}
 use Rattle.ns_monitor.specs.Names.{InWait, IsAtPlace, IsOrderly, IsPackable, Leave, LeaveLoad, LeaveSelf, Leaving, Load, LoadFlag, LoadWord, Next, Nothing, On, Owed, Paid, PayWake, Performed, Queue, QueueSelf, QueueToWait, Release, ReleaseExchange, ReleaseLoad, ReleasePlace, Released, Releasing}
-use Rattle.ns_monitor.specs.Names.{ReturnShown, Returning, Saw, ScanAndRelease, SeatOf, SignalLoad, Succeeded, Take, TakeToLeave, TakeToQueue, TakeToScan, TakeToWake, Taking, ToChange, ToQueue, Truths, Turned, Waited, WakeAndReturn, Walk, Word, acquire_by, acquired_for, asked_of, bits_of}
+use Rattle.ns_monitor.specs.Names.{Reply, ReturnShown, Returning, Saw, ScanAndRelease, SeatOf, SignalLoad, Succeeded, Take, TakeToLeave, TakeToQueue, TakeToScan, TakeToWake, Taking, ToChange, ToQueue, Truths, Turned, Waited, WakeAndReturn, Walk, Word, acquire_by, acquired_for, asked_of, bits_of}
 use Rattle.ns_monitor.specs.Names.{called_of, found_returned, got_of, has_queues, home_of, lists_returned, may_acquire, meets_at, mode_for, needs_scan, release_by, request_for, row_in, scan_place, some_returned, the, want_of, woken_of}
 use Rattle.ns_word.specs.declared.request.Request.TheVariants as TheRequest
 
@@ -79,7 +79,7 @@ abbrev pub scanning_at : ℕ → Word → ReleasePlace
 scanning_at N word = if word.cond then scan_place N word 0 else ScanAndRelease word
 
 -- where a call goes that has gone without the queues
-abbrev pub gone_to : {C : Type 0} → ℕ → Walk C → Next C
+abbrev pub gone_to : {C : Type 0} → ℕ → Walk C → Next (Walk C) Reply
 gone_to N (InAcquire aim place) = acquired_for N aim
 gone_to N (InRelease releasing place) = Done Succeeded
 gone_to N walk = Idle walk

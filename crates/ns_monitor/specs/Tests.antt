@@ -1,6 +1,6 @@
 -- How a call loads the cells of the row one after another, and what the test of a wait tells.
 use Rattle.std.specs.Prelude.{Bool, List, None, Option, Some, false, if◌then◌else◌, length, slice_index, ℕ, ◌-◌, ◌<◌, ◌≡◌}
-use Rattle.ns_monitor.specs.Names.{Answered, Await, Done, GateView, HasMode, HasReached, HasSince, HasUnchangedQueues, InCells, InQueuing, InRelease, InWait, IsAtPlace, IsAtRest, IsFirst, LoadToScan, Met, Next, OnCondition, OnEntry, OnVariables, PlaceFits, QueueToWait, QuietCells, QuietLast}
+use Rattle.ns_monitor.specs.Names.{Answered, Await, Done, GateView, HasMode, HasReached, HasSince, HasUnchangedQueues, InCells, InQueuing, InRelease, InWait, IsAtPlace, IsAtRest, IsFirst, LoadToScan, Met, Next, OnCondition, OnEntry, OnVariables, PlaceFits, QueueToWait, QuietCells, QuietLast, Reply}
 use Rattle.ns_monitor.specs.Names.{ScanAndRelease, ScanCells, SeatOf, Subject, TestCells, TestLast, Truths, Visit, Wait, Waiter, Walk, Word, left_of, load_place, meets_at, quiet_place, row_in, scan_place, test_place, the, unmet_by, wait_first, woken_of}
 
 -- ---- cells one after another
@@ -55,7 +55,7 @@ pub record HasLoaded {C : Type 0} {N : ℕ} (truths : Truths C) (begins left : O
 -- ---- the test of a wait
 
 -- where a wait goes that has tested its condition
-abbrev pub tested_by : {C : Type 0} → Wait C → Visit → Bool → Next C
+abbrev pub tested_by : {C : Type 0} → Wait C → Visit → Bool → Next (Walk C) Reply
 tested_by wait visit met = if met then Done (Answered Met) else unmet_by wait visit
 
 -- a wait may test its condition, as it has come back, or as a seat at rest with a section in the wait's mode begins it

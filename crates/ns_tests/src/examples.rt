@@ -4,15 +4,16 @@
 use crate::model::AtLeast;
 use crate::queue;
 use ns_env::act::{EnvAct, EnvFound};
+use ns_env::next::Next;
 use ns_env::reply::EnvReply;
-use ns_env::walk::{EnvNext, EnvWalk};
+use ns_env::walk::{EnvEnd, EnvWalk};
 use ns_model::event::{Entry, Event, Exit, Mode};
 use ns_model::history::{legal, row_after};
 use ns_queue::queues::Queues;
 use ns_queue::waiter::{Waiter, Which};
 use ns_word::act::{Act, Found};
 use ns_word::codec::encode;
-use ns_word::walk::{Next, Reply, Walk};
+use ns_word::walk::{Reply, Walk};
 use ns_word::word::{Arrival, Word};
 use ns_world::call::Call;
 use ns_world::reply;
@@ -94,15 +95,15 @@ fn a_walk_on_notes(rt: HostRuntime) -> Result<(), Fail> {
     // a call is a walk: a place that wants an act next, and goes on by what the act found
     let place = EnvWalk::NextLoad(None, Some(7));
     assert!(rt; matches!(place.want(), EnvAct::LoadNext));
-    let EnvNext::Go(place) = place.got(EnvFound::NextNumber(3)) else {
+    let Next::On(place) = place.got(EnvFound::NextNumber(3)) else {
         return Ok(());
     };
     assert!(rt; matches!(place.want(), EnvAct::TakeNext)); // a number was still left
-    let EnvNext::Go(place) = place.got(EnvFound::Taken(4)) else {
+    let Next::On(place) = place.got(EnvFound::Taken(4)) else {
         return Ok(());
     };
     let over = place.got(EnvFound::Stored);
-    assert!(rt; matches!(over, EnvNext::Over(EnvReply::Number(4))));
+    assert!(rt; matches!(over, Next::Done(EnvEnd::Over(EnvReply::Number(4)))));
     Ok(())
 }
 

@@ -1,10 +1,11 @@
 //! The lock word's numbers, from outside, and two calls that no script makes.
 
+use ns_env::next::Next;
 use ns_word::act::{Act, Change, Found};
 use ns_word::codec::{BadWord, decode, encode};
 use ns_word::request::Request;
 use ns_word::show_walk::ShowPlace;
-use ns_word::walk::{Next, Reply, Walk};
+use ns_word::walk::{Reply, Walk, WalkNext};
 use ns_word::word::{Taking, Word};
 
 /// A waiting list of waiters whose conditions are all false.
@@ -139,7 +140,7 @@ const CONDITIONAL_TAKEN: Word = Word {
 };
 
 /// Whether a call that shows goes round: it is idle, and about to load the word again.
-fn shows_later(next: Next<bool>) -> bool {
+fn shows_later(next: WalkNext<bool>) -> bool {
     matches!(next, Next::Idle(Walk::InShow(ShowPlace::ShowLoad)))
 }
 

@@ -11,6 +11,7 @@ ghost use Rattle.ns_word.specs.Begins.{IsFirst};
 ghost use Rattle.ns_word.specs.Places.{PlaceFits};
 ghost use Rattle.ns_word.specs.Walks.{got_of, want_of};
 
+use ns_env::next::Next;
 use ns_fixtures::{AtLeast, Never};
 use ns_gate::fault::Fault;
 use ns_gate::gate::{Gate, GateSeat};
@@ -20,7 +21,7 @@ use ns_model::condition::Condition;
 use ns_model::event::Mode;
 use ns_word::act::{Act, Found};
 use ns_word::owed::Owed;
-use ns_word::walk::{Next, Reply, Walk};
+use ns_word::walk::{Reply, Walk, WalkNext};
 use ns_word::word::{Bits, Releasing};
 use std::alloc::Global;
 use std::process::Abort;
@@ -93,7 +94,7 @@ fn step<A: Abort, C: Condition<1>>(
     seat: &mut GateSeat<C, 1>,
     begins: Option<Walk<C>>,
     walk: Walk<C>,
-) -> Next<C>
+) -> WalkNext<C>
     requires of { seat.old.table_id ≡ gate.now }
     requires can { CanStep C.means begins (want_of walk) seat.old.me }
     requires empty { seat.old.me.1 ≡ [] }

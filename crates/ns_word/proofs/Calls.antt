@@ -1,8 +1,8 @@
 -- What a call owes once it is over, whom it wakes, and when it looks and acquires as woken.
 use Rattle.std.proofs.Common.{Bool, List, None, Some, [], ap, cond, drop, false, inl, inr, length, refl, slice_get, subst, suc, sym, take, true, ℕ, ◌<◌, ◌∷◌, ◌≡◌, ◌≤◌, ◌⊎◌}
 use Rattle.ns_word.proofs.Prelude.{Await, AwaitWakeInWait, Broadcasting, Cv, EachFits, Effect, Event, Every, Flag, ForLock, Found, Idle, InAcquire, InCells, InQueuing, InSignal, InWait, IsLawful, Left, Limits, Lists, LockState, Look, LookIn, LookOut, Made, On, Paid, Part, PayTheWoken, PlaceFits}
-use Rattle.ns_word.proofs.Prelude.{QuietCells, QuietLast, Saw, SeatView, SignalLoad, SignalPlace, Signaling, Step, TakeToWake, Tells, ToTell, Truths, ViewFits, Wait, Waiter, Wake, WakeAndReturn, WakeWaiters, Waking, Walk, Woke, Word, asked_of, broadcast_outside, calls_from_lock, changed}
-use Rattle.ns_word.proofs.Prelude.{cvs_without, every_parts, got_of, has_come_back, is_held, is_limited, kept_by, outside, part_of, pays, signal_outside, standing_after, taken_by, taken_set, times_in, waiters_of, wake_of, walk_after, want_of, want_signaling, was_woken, ◌∙◌}
+use Rattle.ns_word.proofs.Prelude.{QuietCells, QuietLast, Reply, Saw, SeatView, SignalLoad, SignalPlace, Signaling, Step, TakeToWake, Tells, ToTell, Truths, ViewFits, Wait, Waiter, Wake, WakeAndReturn, WakeWaiters, Waking, Walk, Woke, Word, asked_of, broadcast_outside, calls_from_lock, changed}
+use Rattle.ns_word.proofs.Prelude.{cvs_without, every_parts, got_of, has_come_back, is_held, is_limited, kept_by, outside, part_of, pays, place_after, signal_outside, standing_after, taken_by, taken_set, times_in, waiters_of, wake_of, want_of, want_signaling, was_woken, ◌∙◌}
 use Rattle.ns_word.proofs.Bases.{OnceInEach, moved_at, none_of, place_at, taken_at}
 use Rattle.ns_word.proofs.Looks.{look_here, look_in}
 use Rattle.ns_word.proofs.Follows.{FoundCalled, follows}
@@ -85,11 +85,11 @@ module _ {C : Type 0} (limits : Limits) (again : Bool) where
     found walk is = absurd (cc)
 
 -- A wait that something may end early looks where it finds its flag set.
-pub set_flag_looks : {C : Type 0} (N : ℕ) (wait : Wait C) → is_limited wait.limits ≡ true → (next : Walk C) × (walk_after (got_of N (InWait wait AwaitWakeInWait) (Flag 1)) ≡ Some next) × (want_of next ≡ Look wait.limits false)
-set_flag_looks N wait e = (InWait wait LookOut, ap (λ b. walk_after (cond b (On (InWait wait LookOut)) (Idle (InWait wait AwaitWakeInWait)))) e, refl)
+pub set_flag_looks : {C : Type 0} (N : ℕ) (wait : Wait C) → is_limited wait.limits ≡ true → (next : Walk C) × (place_after (got_of N (InWait wait AwaitWakeInWait) (Flag 1)) ≡ Some next) × (want_of next ≡ Look wait.limits false)
+set_flag_looks N wait e = (InWait wait LookOut, ap (λ b. place_after {R = Reply} (cond b (On (InWait wait LookOut)) (Idle (InWait wait AwaitWakeInWait)))) e, refl)
 
 -- ---- who acquires as woken
 
 -- Who acquires as woken was woken before, or found its flag cleared by a wake from the lock list.
-pub woken_was_called : (C : Type 0) (N : ℕ) (walk : Walk C) (found : Found) → was_woken (walk_after (got_of N walk found)) ≡ true → (was_woken (Some walk) ≡ true) ⊎ FoundCalled walk found
+pub woken_was_called : (C : Type 0) (N : ℕ) (walk : Walk C) (found : Found) → was_woken (place_after (got_of N walk found)) ≡ true → (was_woken (Some walk) ≡ true) ⊎ FoundCalled walk found
 woken_was_called C N walk found = (follows N walk found).woken

@@ -1,11 +1,11 @@
 -- What ends a wait for a condition early is kept until the wait is over, and then answered, but where the condition is met.
 use Rattle.std.proofs.Common.{None, Some, ap, inl, inr, refl, subst, sym, ℕ, ◌≡◌, ◌⊎◌}
-use Rattle.ns_word.proofs.Prelude.{Answer, Answered, Await, Canceled, Cause, Done, Expired, Found, Idle, IsForVariables, Met, Next, Notified, On, OnCondition, Reply, TimedOut, Wait, Walk, answer_of, asked_of, cause_kept, got_of, walk_after, ◌∙◌}
+use Rattle.ns_word.proofs.Prelude.{Answer, Answered, Await, Canceled, Cause, Done, Expired, Found, Idle, IsForVariables, Met, Next, Notified, On, OnCondition, Reply, TimedOut, Wait, Walk, answer_of, asked_of, cause_kept, got_of, place_after, ◌∙◌}
 use Rattle.ns_word.proofs.Follows.{CauseFollows, answer_cause, follows, next_cause, reply_cause}
 
 -- over with this or with 'met', or on with this kept
-abbrev IsKept : {C : Type 0} → Cause → Next C → Type 0
-IsKept {C} cause next = (next ≡ Done (Answered Met)) ⊎ ((next ≡ Done (Answered (answer_of cause))) ⊎ ((walk : Walk C) × (walk_after next ≡ Some walk) × (cause_kept walk ≡ Some cause)))
+abbrev IsKept : {C : Type 0} → Cause → Next (Walk C) Reply → Type 0
+IsKept {C} cause next = (next ≡ Done (Answered Met)) ⊎ ((next ≡ Done (Answered (answer_of cause))) ⊎ ((walk : Walk C) × (place_after next ≡ Some walk) × (cause_kept walk ≡ Some cause)))
 
 answer_for : (cause : Cause) (answer : Answer) → answer_cause answer ≡ Some cause → answer ≡ answer_of cause
 answer_for cause Met e = absurd (cc)
@@ -17,12 +17,12 @@ reply_for cause (Answered answer) e = ap Answered (answer_for cause answer e)
 reply_for cause _ e = absurd (cc)
 
 module _ {C : Type 0} (cause : Cause) where
-  keeps : (next : Next C) → next_cause next ≡ Some cause → IsKept cause next
+  keeps : (next : Next (Walk C) Reply) → next_cause next ≡ Some cause → IsKept cause next
   keeps (On walk) e = inr (inr (walk, refl, e))
   keeps (Idle walk) e = inr (inr (walk, refl, e))
   keeps (Done reply) e = inr (inl (ap Done (reply_for cause reply e)))
 
-  kept : (walk : Walk C) (found : Found) (next : Next C) (wait : Wait C) (c : C) → asked_of walk ≡ Await wait → wait.on ≡ OnCondition c → cause_kept walk ≡ Some cause → CauseFollows walk found next → IsKept cause next
+  kept : (walk : Walk C) (found : Found) (next : Next (Walk C) Reply) (wait : Wait C) (c : C) → asked_of walk ≡ Await wait → wait.on ≡ OnCondition c → cause_kept walk ≡ Some cause → CauseFollows walk found next → IsKept cause next
   kept walk found next wait c asked on was (inl same) = keeps next (same ∙ was)
   kept walk found next wait c asked on was (inr (inl now)) = let clash : None ≡ Some cause = sym now.0 ∙ was in absurd (cc)
   kept walk found next wait c asked on was (inr (inr (none, inl met))) = inl met

@@ -4,7 +4,7 @@ use Rattle.ns_word.proofs.Prelude.{Acquire, AcquireExchange, AcquireLoad, Acquir
 use Rattle.ns_word.proofs.Prelude.{Cause, Cell, CellFits, CellPlace, ConditionWaitMeans, Course, Cv, CvWait, Cvs, Done, Effect, Ended, Event, Expired, Flag, ForLock, ForWait, Found, Get, GetLoad, HasLeft, HasLocked, HasLookedFor, HasReleased, HasWaited, HasWoken, Held, HeldFits, Idle, InAcquire}
 use Rattle.ns_word.proofs.Prelude.{InCells, InHand, InLeaving, InQueuing, InRelease, InShow, InSignal, InTry, InWait, Is, IsBack, IsComing, IsFirst, IsForCondition, IsForVariables, IsLawful, IsLeft, IsQuiet, IsQuietSection, KeptFits, Leave, LeaveLoad, LeavePlace, LeaveSelf, Left, Limits, Load}
 use Rattle.ns_word.proofs.Prelude.{LoadToScan, LockState, Look, LookIn, LookOut, Looked, Made, MayAnswer, MayEnd, MayShow, MayWait, Means, Met, Mode, Next, Noisy, Notified, Number, On, OnCondition, OnEntry, OnReturn, OnVariables, Only, Outcome, OutcomeFits, Paid, Part, Pay, PayInWait, PayTheWoken}
-use Rattle.ns_word.proofs.Prelude.{PlaceFits, Queue, QueueFits, QueuePlace, QueueToWait, QueuesAfter, QueuesSoFar, Quiet, QuietCells, QuietLast, QuietWriter, Release, ReleaseExchange, ReleaseFits, ReleaseLoad, ReleasePlace, ReleaseSoFar, Releasing, Request, ReturnQueues, ReturnShown, Saw}
+use Rattle.ns_word.proofs.Prelude.{PlaceFits, Queue, QueueFits, QueuePlace, QueueToWait, QueuesAfter, QueuesSoFar, Quiet, QuietCells, QuietLast, QuietWriter, Release, ReleaseExchange, ReleaseFits, ReleaseLoad, ReleasePlace, ReleaseSoFar, Releasing, Reply, Request, ReturnQueues, ReturnShown, Saw}
 use Rattle.ns_word.proofs.Prelude.{ScanAndRelease, ScanCells, Scanned, SeatView, SectionFits, Set, SetLoad, SetStore, Show, ShowLoad, ShowPlace, SignalLoad, SignalPlace, SignalSoFar, SoFar, Step, Subject, Succeeded, Take, TakeToLeave, TakeToQueue, TakeToScan, TakeToShow, TakeToWake, TestCells}
 use Rattle.ns_word.proofs.Prelude.{TestLast, Tested, Tests, TestsSoFar, ToChange, ToQueue, ToRelease, ToTell, Truths, TryAcquire, TryLoad, TryLock, TryPlace, Unchanged, VariableWaitMeans, Variables, ViewFits, Visit, Wait, WaitFits, WaitPlace, WaitReturning, WaitSoFar, Waited, Wake, WakeAndReturn}
 use Rattle.ns_word.proofs.Prelude.{Waking, Walk, Woke, Woken, WokenBy, Word, acquire_by, acquired_for, answer_of, answer_of_wait, armed_place, arrival_of, asked_in_cells, asked_of, asked_to_judge, back_with, cause_by, cause_in, comes_back, course_after, course_from, entry_of, exit_for}
@@ -25,19 +25,20 @@ wait_for mode on limits = record { mode = mode; on = on; limits = limits }
 
 module _ (C : Type 0) (N : ℕ) (truths : Truths C) (seat : ℕ) (row : List ℕ) where
   -- where a step leads, but for what was asked
-  abbrev Comes : Request C → Course C N → Next C → Option (Held C N) → Type 0
+  abbrev Comes : Request C → Course C N → Next (Walk C) Reply → Option (Held C N) → Type 0
   Comes request course (On walk) held = SoFar truths seat course walk held
   Comes request course (Idle walk) held = SoFar truths seat course walk held
   Comes request course (Done reply) held = Means truths seat row request course reply held
 
   -- with it, where the step leads
-  goes_as_asked : (request : Request C) (course : Course C N) (next : Next C) (held : Option (Held C N)) → next_asked request next ≡ request → Comes request course next held → CallGoes truths seat row request course next held
+  goes_as_asked : (request : Request C) (course : Course C N) (next : Next (Walk C) Reply) (held : Option (Held C N)) → next_asked request next ≡ request → Comes request course next held → CallGoes truths seat row request course next held
   goes_as_asked request course (On walk) held asked so_far = record { asked = asked; so_far = so_far }
   goes_as_asked request course (Idle walk) held asked so_far = record { asked = asked; so_far = so_far }
   goes_as_asked request course (Done reply) held asked means = means
 
   -- of two ways
-  either : {A : Type 0} (request : Request C) (course : Course C N) (held : Option (Held C N)) (go : A → Next C) (b : Bool) (one other : A) → (b ≡ true → Comes request course (go one) held) → (b ≡ false → Comes request course (go other) held) → Comes request course (go (cond b one other)) held
+  either : {A : Type 0} (request : Request C) (course : Course C N) (held : Option (Held C N)) (go : A → Next (Walk C) Reply) (b : Bool) (one other : A) →
+      (b ≡ true → Comes request course (go one) held) → (b ≡ false → Comes request course (go other) held) → Comes request course (go (cond b one other)) held
   either request course held go true one other p q = p refl
   either request course held go false one other p q = q refl
 
@@ -257,7 +258,7 @@ module _ (C : Type 0) (N : ℕ) (truths : Truths C) (seat : ℕ) (row : List ℕ
     held_in other e = ap (λ p. p.held) e
 
     -- a step that finds something and changes neither section nor history leads where its place does
-    finds : (request : Request C) (found : Found) (to : Next C) → looked_after found course.looked ≡ course.looked → next.held ≡ part.held → commits ≡ [] → Comes request course to part.held → Comes request (course_after found commits course) to next.held
+    finds : (request : Request C) (found : Found) (to : Next (Walk C) Reply) → looked_after found course.looked ≡ course.looked → next.held ≡ part.held → commits ≡ [] → Comes request course to part.held → Comes request (course_after found commits course) to next.held
     finds request found to looks same silent so_far =
         subst (λ now. Comes request now to next.held) (sym (same_course found commits course looks silent)) (subst (λ held. Comes request course to held) (sym same) so_far)
 

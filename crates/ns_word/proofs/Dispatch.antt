@@ -3,12 +3,12 @@ use Rattle.std.proofs.Common.{Bool, List, None, Option, Some, [], ap, append-nil
 use Rattle.ns_word.proofs.Prelude.{Acquire, AcquireExchange, AcquireLoad, Aim, AimFits, AreWaiting, Arm, ArmToWait, Arrival, AsFresh, AsWoken, AtVariables, AwaitWake, AwaitWakeInWait, AwaitWakeToLeave, Broadcasting, CanLeave, CanWait, Cause, Cell, Cond, Cv, Effect, Ended, Event, Every, Flag}
 use Rattle.ns_word.proofs.Prelude.{ForLock, ForWait, Found, GetLoad, HasMode, HasNumber, Held, Idle, InAcquire, InCells, InLeaving, InQueuing, InRelease, InShow, InSignal, InTry, InWait, IsExpected, IsInRange, IsLawful, IsLegalEvent, IsSettled, IsToldSo, Leave, LeaveLoad, Left, Limits, Load}
 use Rattle.ns_word.proofs.Prelude.{LoadFlag, LoadToScan, LockState, LookIn, LookOut, Looked, Made, MayShow, MayWait, Mode, Next, On, OnCondition, OnVariables, Outcome, OutcomeFits, Owed, Paid, Part, Pay, PayInWait, PayTheWoken, PayWake, Phase, PlaceFits, Queue, QueueToWait, Quiet, QuietCells}
-use Rattle.ns_word.proofs.Prelude.{QuietKeeps, QuietLast, QuietWriter, Read, ReleaseExchange, ReleaseLoad, Releasing, ReturnQueues, ReturnShown, Saw, ScanAndRelease, ScanCells, Scanned, SeatView, SetLoad, SetStore, ShowLoad, ShowPlace, SignalLoad, SignalPlace, Signaling, Step, Subject, Take}
+use Rattle.ns_word.proofs.Prelude.{QuietKeeps, QuietLast, QuietWriter, Read, ReleaseExchange, ReleaseLoad, Releasing, Reply, ReturnQueues, ReturnShown, Saw, ScanAndRelease, ScanCells, Scanned, SeatView, SetLoad, SetStore, ShowLoad, ShowPlace, SignalLoad, SignalPlace, Signaling, Step, Subject, Take}
 use Rattle.ns_word.proofs.Prelude.{TakeQueues, TakeToLeave, TakeToQueue, TakeToScan, TakeToShow, TakeToWake, TestCells, TestLast, Tested, ToChange, ToQueue, ToldOn, Truths, TryAcquire, TryLoad, VariableWaiterFits, ViewFits, Visit, Wait, WaitPlace, WaitReturning, Waiter, Waiting, WakeAndReturn}
 use Rattle.ns_word.proofs.Prelude.{WakeWaiters, Waking, Walk, Woke, Word, Write, acquired_for, and_parts, armed_place, arrival_of, awaits, bits_of, both_ways, broadcast_legal, called_of, calls_from_lock, cause_in, change_found, changed, counts_in, cvs_without, every_join, every_parts}
 use Rattle.ns_word.proofs.Prelude.{every_signaled, expected_for, got_leaving, got_of, got_showing, got_signaling, got_waiting, has, has_armed, has_queues, has_some, held_after, home_of, is_from_lock, is_held, is_met, is_on_way, is_queuing, is_woken, judge_of, kept_by, leave_of, left_of, may_acquire}
-use Rattle.ns_word.proofs.Prelude.{meets_at, mode_for, mode_released, moved_to, moves, needs_scan, newly_held, opening_for, outcome_taken, owed_after, part_of, pay_releasing, pay_waiting, pay_woken, pays, phase_before, phase_by, phase_for, phase_kept, queued, releasing_of, rest_or_look, row_in}
-use Rattle.ns_word.proofs.Prelude.{signal_legal, standing_after, standing_next, stands_at, sum_by, taken_by, taken_set, times_in, times_signaled, tries_of, variable_told, waited_in, waiters_of, waits_in, wake_of, wakes_of, walk_after, want_of, want_showing, want_signaling, want_waiting, was_woken}
+use Rattle.ns_word.proofs.Prelude.{meets_at, mode_for, mode_released, moved_to, moves, needs_scan, newly_held, opening_for, outcome_taken, owed_after, part_of, pay_releasing, pay_waiting, pay_woken, pays, phase_before, phase_by, phase_for, phase_kept, place_after, queued, releasing_of, rest_or_look}
+use Rattle.ns_word.proofs.Prelude.{row_in, signal_legal, standing_after, standing_next, stands_at, sum_by, taken_by, taken_set, times_in, times_signaled, tries_of, variable_told, waited_in, waiters_of, waits_in, wake_of, wakes_of, want_of, want_showing, want_signaling, want_waiting, was_woken}
 use Rattle.ns_word.proofs.Prelude.{who_of, with_lock, without, without_in, woken_by, woken_of, woken_phases, word_acquired, word_released, word_released_returning, word_returned, word_seen, word_taken, ◌∙◌}
 use Rattle.ns_model.specs.declared.phase.Phase.TheVariants.{Woken}
 use Rattle.ns_word.proofs.Bases.{Groups, apart_parts, counts_somewhere, cvs_left, groups_of, lawful_by, left_told, none_of, not_left, out_of_cvs, out_of_lock, some_wakes, view_of, walk_here}
@@ -53,11 +53,11 @@ parts_of Signaling ws seat = times_signaled ws seat
 parts_of Broadcasting ws seat = omega arith
 
 -- those whom a call that wakes owes wakes were not taken from the lock list
-from_by : (C : Type 0) (waking : Waking) (k : ℕ) (owes : Bool) (owed : List Owed) → owes ≡ has_some owed → (calls_from_lock {C = C} (walk_after (pay_woken waking k owes)) ≡ false) ⊎ (owed ≡ [])
+from_by : (C : Type 0) (waking : Waking) (k : ℕ) (owes : Bool) (owed : List Owed) → owes ≡ has_some owed → (calls_from_lock {C = C} (place_after (pay_woken waking k owes)) ≡ false) ⊎ (owed ≡ [])
 from_by C waking k true owed e = inl refl
 from_by C waking k false owed e = inr (none_of owed (sym e))
 
-paid_phase : {C : Type 0} (releasing : Releasing) (b : Bool) → phase_by (walk_after (pay_releasing {C = C} releasing b)) ≡ phase_by {C = C} None
+paid_phase : {C : Type 0} (releasing : Releasing) (b : Bool) → phase_by (place_after (pay_releasing {C = C} releasing b)) ≡ phase_by {C = C} None
 paid_phase releasing true = refl
 paid_phase releasing false = refl
 
@@ -104,7 +104,7 @@ module _ {C : Type 0} {N : ℕ} (truths : Truths C) (seats : ℕ) (h : List (Eve
   place : (walk : Walk C) (part : Part C N) → Groups truths seats h (at part (Some walk)) → PlaceFits truths (Some walk) part.held
   place walk part p = (every_parts (ViewFits truths seats (standing_after h) part.row) front (view_of who (Some walk) part.held part.owed) back p.safe.one_history.each).1.place
 
-  puts_back : (wait : Wait C) (again : Bool) (last : Word) (owes : Bool) (took : List Owed) → owes ≡ has_some took → PutsBack (Some (InWait wait (InQueuing again (QueueToWait last)))) (walk_after (pay_waiting wait owes)) took
+  puts_back : (wait : Wait C) (again : Bool) (last : Word) (owes : Bool) (took : List Owed) → owes ≡ has_some took → PutsBack (Some (InWait wait (InQueuing again (QueueToWait last)))) (place_after (pay_waiting wait owes)) took
   puts_back wait again last true took e = record { idle = refl; owes = e; from = refl; had = refl; gave = refl; still = refl; unarmed = refl; unqueued = refl; off_way = λ flag n. refl }
   puts_back wait again last false took e = record { idle = refl; owes = e; from = refl; had = refl; gave = refl; still = refl; unarmed = refl; unqueued = refl; off_way = λ flag n. refl }
 
@@ -158,10 +158,10 @@ module _ {C : Type 0} {N : ℕ} (truths : Truths C) (seats : ℕ) (h : List (Eve
     paid walk to owes e from fits pay s a w set q stays p = silent to e.3 e.5 (wakes truths seats h front who (Some walk) to back part e.0 e.1 from fits (pay ∙ e.4) s a w set q stays (subst (λ x. Groups truths seats h (at (record part { owed = x }) (Some walk))) e.2 p))
 
     -- a seat looks at its flag: cleared, it goes on to acquire, as woken where it was taken from the lock list; else where it waits on
-    checks : (walk : Walk C) (aim : Aim C) (tries : ℕ) (other : Next C) (v : ℕ) (b : Bool) → eqb v 1 ≡ b → Effect truths who LoadFlag part (Flag v) next commits → part.held ≡ None →
+    checks : (walk : Walk C) (aim : Aim C) (tries : ℕ) (other : Next (Walk C) Reply) (v : ℕ) (b : Bool) → eqb v 1 ≡ b → Effect truths who LoadFlag part (Flag v) next commits → part.held ≡ None →
         pays (Some walk) ≡ false → has_queues (Some walk) ≡ false → was_woken (Some walk) ≡ false → is_queuing (Some walk) ≡ false →
-        ((ph : Phase C) → IsToldSo (waits_in (Some walk)) ph v → (IsExpected (phase_by (Some walk)) ph → ph ≡ phase_for aim) × AimFits aim) → Leads truths (Some walk) (walk_after other) part.held →
-        Old (Some walk) → New (walk_after (cond b other (On (InAcquire aim (AcquireLoad (arrival_of tries v))))))
+        ((ph : Phase C) → IsToldSo (waits_in (Some walk)) ph v → (IsExpected (phase_by (Some walk)) ph → ph ≡ phase_for aim) × AimFits aim) → Leads truths (Some walk) (place_after other) part.held →
+        Old (Some walk) → New (place_after (cond b other (On (InAcquire aim (AcquireLoad (arrival_of tries v))))))
     checks walk aim tries other v true z e none pay s w q so leads p = finds walk e.1 e.2 pay leads p
     checks walk aim tries other v false z e none pay s w q so leads p =
         let to : Option (Walk C) = Some (InAcquire aim (AcquireLoad (arrival_of tries v))) in
@@ -176,7 +176,7 @@ module _ {C : Type 0} {N : ℕ} (truths : Truths C) (seats : ℕ) (h : List (Eve
     withdrawn : (mode : Mode) (on : Subject C) (limits : Limits) (cause : Cause) (last : Word) (stood : Bool) → stands_at who (home_of on) part.lists ≡ stood → last ≡ part.word →
         let wait : Wait C = record { mode = mode; on = on; limits = limits } in let lists = cond stood (without who part.lists) part.lists in
         next ≡ record part { word = word_returned false (bits_of lists.lock) last; lists = lists } → commits ≡ leave_of who (home_of on) (stands_at who (home_of on) part.lists) → part.held ≡ None → MayShow limits (Some cause) → IsInRange on → counts_in who part.lists ≤ 1 →
-        Old (Some (InWait wait (InLeaving cause (Leave last)))) → New (walk_after (got_leaving wait cause (Leave last) (Left stood)))
+        Old (Some (InWait wait (InLeaving cause (Leave last)))) → New (place_after (got_leaving wait cause (Leave last) (Left stood)))
     withdrawn mode (OnCondition c) limits cause last true stands same e f none given range most p =
         let wait : Wait C = record { mode = mode; on = OnCondition c; limits = limits } in
         let walk = InWait wait (InLeaving cause (Leave last)) in
@@ -203,7 +203,7 @@ module _ {C : Type 0} {N : ℕ} (truths : Truths C) (seats : ℕ) (h : List (Eve
 
     -- a wait for a condition tests it
     tested : (mode : Mode) (on : Subject C) (limits : Limits) (visit : Visit) (i : ℕ) (found : Found) → let wait : Wait C = record { mode = mode; on = on; limits = limits } in
-        Effect truths who (judge_of on i) part found next commits → Old (Some (InWait wait (TestLast visit i))) → New (walk_after (got_waiting N wait (TestLast visit i) found))
+        Effect truths who (judge_of on i) part found next commits → Old (Some (InWait wait (TestLast visit i))) → New (place_after (got_waiting N wait (TestLast visit i) found))
     tested mode (OnCondition c) limits visit i (Tested is_met) e p =
         let wait : Wait C = record { mode = mode; on = OnCondition c; limits = limits } in
         finds (InWait wait (TestLast visit i)) e.3 e.4 refl (met_leads truths wait c visit part.held is_met refl (place (InWait wait (TestLast visit i)) part p).0.0 (ap (λ x. truths.holds c (row_in x)) e.1 ∙ sym e.2)) p
@@ -218,14 +218,14 @@ module _ {C : Type 0} {N : ℕ} (truths : Truths C) (seats : ℕ) (h : List (Eve
 
     -- a wait queues, and leaves its section; one that queues again says nothing of it
     queued_up : (mode : Mode) (on : Subject C) (limits : Limits) (again : Bool) (last : Word) (owes : Bool) (tests : ℕ) → let wait : Wait C = record { mode = mode; on = on; limits = limits } in
-        Effect truths who (WaitReturning wait again last) part (Scanned owes tests) next commits → Old (Some (InWait wait (InQueuing again (QueueToWait last)))) → New (walk_after (pay_waiting wait owes))
+        Effect truths who (WaitReturning wait again last) part (Scanned owes tests) next commits → Old (Some (InWait wait (InQueuing again (QueueToWait last)))) → New (place_after (pay_waiting wait owes))
     queued_up mode (OnCondition c) limits false last owes tests e p =
         let wait : Wait C = record { mode = mode; on = OnCondition c; limits = limits } in
         let walk = InWait wait (InQueuing false (QueueToWait last)) in
         let to = pay_waiting_leads {C = C} {N = N} truths wait None owes in
         let may : MayWait truths wait false e.0 = subst (λ x. CanWait truths wait false x) e.1 (place walk part p).0.0 in
-        moved (walk_after (pay_waiting wait owes)) (e.4 ∙ ap (put_back wait false) e.3) e.7
-        (waits truths seats h front who (Some walk) (walk_after (pay_waiting wait owes)) back (releasing_of mode) mode c false part e.0 (e.2 ∙ sym (left_mode mode)) few (may.settled refl) may.unmet
+        moved (place_after (pay_waiting wait owes)) (e.4 ∙ ap (put_back wait false) e.3) e.7
+        (waits truths seats h front who (Some walk) (place_after (pay_waiting wait owes)) back (releasing_of mode) mode c false part e.0 (e.2 ∙ sym (left_mode mode)) few (may.settled refl) may.unmet
         (subst (λ x. IsExpected x (Cond c e.0.mode)) (sym to.7) (ap (Cond c) e.2)) (to.0 refl tt) (puts_back wait false last owes _ e.5) refl to.3 (with_held walk (Some e.0) e.1 p))
     queued_up mode (OnCondition c) limits true last owes tests e p =
         let wait : Wait C = record { mode = mode; on = OnCondition c; limits = limits } in
@@ -233,16 +233,16 @@ module _ {C : Type 0} {N : ℕ} (truths : Truths C) (seats : ℕ) (h : List (Eve
         let to = pay_waiting_leads {C = C} {N = N} truths wait None owes in
         let may : MayWait truths wait true e.0 = subst (λ x. CanWait truths wait true x) e.1 (place walk part p).0.0 in
         let back_from = (may.back refl).1 in
-        silent (walk_after (pay_waiting wait owes)) (e.4 ∙ ap (put_back wait true) e.3) e.7
-        (waits_on truths seats h front who (Some walk) (walk_after (pay_waiting wait owes)) back (releasing_of mode) mode c true part e.0 (e.2 ∙ sym (left_mode mode)) back_from.cells (ap (λ entry. phase_before e.0.mode entry) back_from.entry)
+        silent (place_after (pay_waiting wait owes)) (e.4 ∙ ap (put_back wait true) e.3) e.7
+        (waits_on truths seats h front who (Some walk) (place_after (pay_waiting wait owes)) back (releasing_of mode) mode c true part e.0 (e.2 ∙ sym (left_mode mode)) back_from.cells (ap (λ entry. phase_before e.0.mode entry) back_from.entry)
         may.unmet (subst (λ x. IsExpected x (Cond c e.0.mode)) (sym to.7) (ap (Cond c) e.2)) (to.0 refl tt) (puts_back wait true last owes _ e.5) refl to.3 (with_held walk (Some e.0) e.1 p))
     queued_up mode (OnVariables variables) limits false last owes tests e p =
         let wait : Wait C = record { mode = mode; on = OnVariables variables; limits = limits } in
         let walk = InWait wait (InQueuing false (QueueToWait last)) in
         let to = pay_waiting_leads {C = C} {N = N} truths wait None owes in
         let may : MayWait truths wait false e.0 = subst (λ x. CanWait truths wait false x) e.1 (place walk part p).0.0 in
-        moved (walk_after (pay_waiting wait owes)) (e.4 ∙ ap (put_back wait false) e.3) e.7
-        (waits_for truths seats h front who (Some walk) (walk_after (pay_waiting wait owes)) back (releasing_of mode) mode variables part e.0 (e.2 ∙ sym (left_mode mode)) e.2 few may.unmet (may.settled refl)
+        moved (place_after (pay_waiting wait owes)) (e.4 ∙ ap (put_back wait false) e.3) e.7
+        (waits_for truths seats h front who (Some walk) (place_after (pay_waiting wait owes)) back (releasing_of mode) mode variables part e.0 (e.2 ∙ sym (left_mode mode)) e.2 few may.unmet (may.settled refl)
         (subst (λ x. IsExpected x (Waiting variables e.0.mode)) (sym to.7) (inl (ap (Waiting variables) e.2))) (to.0 refl may.unmet) (puts_back wait false last owes _ e.5) refl to.3 (with_held walk (Some e.0) e.1 p))
     queued_up mode (OnVariables variables) limits true last owes tests e p =
         let wait : Wait C = record { mode = mode; on = OnVariables variables; limits = limits } in
@@ -262,7 +262,7 @@ module _ {C : Type 0} {N : ℕ} (truths : Truths C) (seats : ℕ) (h : List (Eve
         let took = taken_by waking (waiters_of part.lists (Cv k)) in let put = cvs_without (taken_set took) part.lists in
         ((moved ≡ true) × (is_held part.word ≡ true) × (has_some took ≡ true) × (lock' ≡ part.lists.lock ++ took) × (owed' ≡ [])) ⊎ ((moved ≡ false) × (lock' ≡ part.lists.lock) × (owed' ≡ wakes_of k took)) → owes ≡ has_some owed' →
         Old (Some (InSignal waking k (WakeAndReturn last))) →
-        Groups truths seats (h ++ wake_of who waking k took ∷ []) (at (record part { word = word_returned moved (bits_of lock') part.word; lists = with_lock put lock'; owed = owed' }) (walk_after (pay_woken waking k owes)))
+        Groups truths seats (h ++ wake_of who waking k took ∷ []) (at (record part { word = word_returned moved (bits_of lock') part.word; lists = with_lock put lock'; owed = owed' }) (place_after (pay_woken waking k owes)))
     woken_to waking k last owes moved lock' owed' ways is p =
         let walk = InSignal waking k (WakeAndReturn last) in
         let ws = waiters_of part.lists (Cv k) in
@@ -271,13 +271,13 @@ module _ {C : Type 0} {N : ℕ} (truths : Truths C) (seats : ℕ) (h : List (Eve
         let to = pay_woken_leads truths waking k part.held owes in
         let orderly = lists_orderly truths seats h (at part (Some walk)) p.placed p.safe.one_history.each few in
         let so = wake_so waking k ws (omega (arith, few, fit.in_range)) (are_waiting (standing_after h).phases part.lists _ k orderly here.1 p.told) in
-        wakes_waiters truths seats h front who (Some walk) (walk_after (pay_woken waking k owes)) back (wake_of who waking k (taken_by waking ws)) k (taken_by waking ws) part owed' lock' moved few here.1
+        wakes_waiters truths seats h front who (Some walk) (place_after (pay_woken waking k owes)) back (wake_of who waking k (taken_by waking ws)) k (taken_by waking ws) part owed' lock' moved few here.1
         so.0 so.1 so.2
         (λ seat. omega (arith, parts_of waking ws seat)) (taken_fit waking (Some walk) k ws (p.told.own k here.1)) refl ways (to.0 here.1 here.2) (to.1 ∙ is) (from_by C waking k owes owed' is) refl to.2 refl to.3 to.4 refl to.5 to.6 (λ none. to.7) p
 
     woken_at : (waking : Waking) (k : ℕ) (last : Word) (owes : Bool) (held some : Bool) →
         let took = taken_by waking (waiters_of part.lists (Cv k)) in let put = cvs_without (taken_set took) part.lists in is_held part.word ≡ held → has_some took ≡ some → (not held && some) ≡ owes → Old (Some (InSignal waking k (WakeAndReturn last))) →
-        Groups truths seats (h ++ wake_of who waking k took ∷ []) (at (record part { word = word_returned (held && some) (bits_of (moved_to held took put).lock) part.word; lists = moved_to held took put; owed = cond held [] (wakes_of k took) }) (walk_after (pay_woken waking k owes)))
+        Groups truths seats (h ++ wake_of who waking k took ∷ []) (at (record part { word = word_returned (held && some) (bits_of (moved_to held took put).lock) part.word; lists = moved_to held took put; owed = cond held [] (wakes_of k took) }) (place_after (pay_woken waking k owes)))
     woken_at waking k last owes true true is some owing p = woken_to waking k last owes true (part.lists.lock ++ taken_by waking (waiters_of part.lists (Cv k))) [] (inl (refl, is, some, refl, refl)) (sym owing) p
     woken_at waking k last owes true false is some owing p =
         let took = taken_by waking (waiters_of part.lists (Cv k)) in
@@ -286,16 +286,16 @@ module _ {C : Type 0} {N : ℕ} (truths : Truths C) (seats : ℕ) (h : List (Eve
     woken_at waking k last owes false some is held owing p =
         let took = taken_by waking (waiters_of part.lists (Cv k)) in woken_to waking k last owes false part.lists.lock (wakes_of k took) (inr (refl, refl, refl)) (sym owing ∙ sym held ∙ sym (some_wakes k took)) p
 
-    woken_up : (waking : Waking) (k : ℕ) (last : Word) (owes : Bool) → Effect truths who (ReturnQueues (WakeWaiters waking k) last) part (Woke owes) next commits → Old (Some (InSignal waking k (WakeAndReturn last))) → New (walk_after (pay_woken waking k owes))
+    woken_up : (waking : Waking) (k : ℕ) (last : Word) (owes : Bool) → Effect truths who (ReturnQueues (WakeWaiters waking k) last) part (Woke owes) next commits → Old (Some (InSignal waking k (WakeAndReturn last))) → New (place_after (pay_woken waking k owes))
     woken_up waking k last owes e p =
         let took = taken_by waking (waiters_of part.lists (Cv k)) in
         let change = WakeWaiters waking k in
         let same = subst (λ word. (change_found who change word part.lists ≡ Woke owes)
         × (next ≡ record part { word = word_returned (moves change word part.lists) (bits_of (changed who change word part.lists).lock) word; lists = changed who change word part.lists; owed = owed_after change word part.lists part.owed })) e.1
         (e.0, e.2) in
-        moved (walk_after (pay_woken waking k owes)) same.1 e.3 (woken_at waking k last owes (is_held part.word) (has_some took) refl refl (ap owes_in same.0) p)
+        moved (place_after (pay_woken waking k owes)) same.1 e.3 (woken_at waking k last owes (is_held part.word) (has_some took) refl refl (ap owes_in same.0) p)
 
-    by_wait : (wait : Wait C) (at_place : WaitPlace) (found : Found) → 0 < N → Effect truths who (want_waiting wait at_place) part found next commits → PlaceFits truths (Some (InWait wait at_place)) part.held → Old (Some (InWait wait at_place)) → New (walk_after (got_waiting N wait at_place found))
+    by_wait : (wait : Wait C) (at_place : WaitPlace) (found : Found) → 0 < N → Effect truths who (want_waiting wait at_place) part found next commits → PlaceFits truths (Some (InWait wait at_place)) part.held → Old (Some (InWait wait at_place)) → New (place_after (got_waiting N wait at_place found))
     -- it tests its condition
     by_wait wait (TestCells visit i) (Cell v) some e here p = finds (InWait wait (TestCells visit i)) e.1 e.2 refl (test_leads truths wait visit part.held (i + 1) some here.0.0 here.1 here.0.2) p
     by_wait wait (TestLast visit i) found some e here p = tested wait.mode wait.on wait.limits visit i found e p
@@ -328,7 +328,7 @@ module _ {C : Type 0} {N : ℕ} (truths : Truths C) (seats : ℕ) (h : List (Eve
     -- it pays a wake
     by_wait wait PayInWait (Paid owes) some e here p =
         let to = pay_waiting_leads truths wait part.held owes in
-        paid (InWait wait PayInWait) (walk_after (pay_waiting wait owes)) owes e (inl to.6) (to.0 here.0.0 here.0.1) to.1 to.2 to.3 to.8 to.4 to.5 (λ n. to.7) p
+        paid (InWait wait PayInWait) (place_after (pay_waiting wait owes)) owes e (inl to.6) (to.0 here.0.0 here.0.1) to.1 to.2 to.3 to.8 to.4 to.5 (λ n. to.7) p
     -- it looks at its flag
     by_wait wait AwaitWakeInWait (Flag v) some e here p =
         checks (InWait wait AwaitWakeInWait) (ForWait wait (woken_by wait.on v)) 0 (rest_or_look wait) v (eqb v 1) refl e here.0.0 refl refl refl refl
@@ -348,7 +348,7 @@ module _ {C : Type 0} {N : ℕ} (truths : Truths C) (seats : ℕ) (h : List (Eve
     -- ---- calls that wake
 
     by_signal : (waking : Waking) (k : ℕ) (at_place : SignalPlace) (found : Found) →
-        Effect truths who (want_signaling waking k at_place) part found next commits → PlaceFits truths (Some (InSignal waking k at_place)) part.held → Old (Some (InSignal waking k at_place)) → New (walk_after (got_signaling waking k at_place found))
+        Effect truths who (want_signaling waking k at_place) part found next commits → PlaceFits truths (Some (InSignal waking k at_place)) part.held → Old (Some (InSignal waking k at_place)) → New (place_after (got_signaling waking k at_place found))
     by_signal waking k SignalLoad (Saw word) e here p = finds (InSignal waking k SignalLoad) e.1 e.2 refl (signal_leads truths waking k word part.held here.1 here.2) p
     by_signal waking k (TakeToWake last) (Saw word) e here p = finds (InSignal waking k (TakeToWake last)) e.2 e.3 refl (signal_leads truths waking k word part.held here.1 here.2) p
     by_signal waking k (WakeAndReturn last) (Saw word) e here p = finds (InSignal waking k (WakeAndReturn last)) e.2 e.3 refl (leads_to truths refl here) p
@@ -359,12 +359,12 @@ module _ {C : Type 0} {N : ℕ} (truths : Truths C) (seats : ℕ) (h : List (Eve
     by_signal waking k (WakeAndReturn last) (Left stood) e here p = let never : Woke (not (is_held last) && has_some (taken_by waking (waiters_of part.lists (Cv k)))) ≡ Left stood = e.0 in absurd (cc)
     by_signal waking k PayTheWoken (Paid owes) e here p =
         let to = pay_woken_leads truths waking k part.held owes in
-        paid (InSignal waking k PayTheWoken) (walk_after (pay_woken waking k owes)) owes e (from_by C waking k owes e.1 e.4) (to.0 here.1 here.2) to.1 to.2 to.3 to.8 to.4 to.5 (λ n. to.7) p
+        paid (InSignal waking k PayTheWoken) (place_after (pay_woken waking k owes)) owes e (from_by C waking k owes e.1 e.4) (to.0 here.1 here.2) to.1 to.2 to.3 to.8 to.4 to.5 (λ n. to.7) p
     by_signal waking k _ _ e here p = absurd e
 
     -- ---- calls that show
 
-    by_show : (at_place : ShowPlace) (found : Found) → Effect truths who (want_showing at_place) part found next commits → PlaceFits truths (Some (InShow at_place)) part.held → Old (Some (InShow at_place)) → New (walk_after (got_showing at_place found))
+    by_show : (at_place : ShowPlace) (found : Found) → Effect truths who (want_showing at_place) part found next commits → PlaceFits truths (Some (InShow at_place)) part.held → Old (Some (InShow at_place)) → New (place_after (got_showing at_place found))
     by_show ShowLoad (Saw word) e here p = finds (InShow ShowLoad) e.1 e.2 refl (show_leads truths word part.held here.1) p
     by_show (TakeToShow last) (Saw word) e here p = finds (InShow (TakeToShow last)) e.2 e.3 refl (show_leads truths word part.held here.1) p
     by_show (ReturnShown last) (Saw word) e here p = finds (InShow (ReturnShown last)) e.2 e.3 refl (leads_to truths refl here) p
@@ -376,7 +376,7 @@ module _ {C : Type 0} {N : ℕ} (truths : Truths C) (seats : ℕ) (h : List (Eve
     by_show (ReturnShown last) (Woke owes) e here p = let never : Made ≡ Woke owes = e.0 in absurd (cc)
     by_show _ _ e here p = absurd e
 
-    by_walk : (walk : Walk C) (found : Found) → 0 < N → QuietKeeps N truths → Effect truths who (want_of walk) part found next commits → PlaceFits truths (Some walk) part.held → Old (Some walk) → New (walk_after (got_of N walk found))
+    by_walk : (walk : Walk C) (found : Found) → 0 < N → QuietKeeps N truths → Effect truths who (want_of walk) part found next commits → PlaceFits truths (Some walk) part.held → Old (Some walk) → New (place_after (got_of N walk found))
     -- found and no more
     by_walk (InTry mode TryLoad) (Saw word) some quiet e here p = finds (InTry mode TryLoad) e.1 e.2 refl (try_leads truths mode word part.held here.0) p
     by_walk (InTry mode (TryAcquire last)) (Saw word) some quiet e here p = finds (InTry mode (TryAcquire last)) e.2 e.3 refl (leads_to truths refl (none_settled truths part.held here.0)) p
@@ -400,7 +400,7 @@ module _ {C : Type 0} {N : ℕ} (truths : Truths C) (seats : ℕ) (h : List (Eve
     by_walk (InTry mode (TryAcquire last)) Made some quiet e here p = acquired (InTry mode (TryAcquire last)) None (ForLock mode) AsFresh last e refl (λ ph is. is) tt (refl, refl, refl, refl) refl (λ flag n w f. f) p
     by_walk (InAcquire aim (AcquireExchange arrival last)) Made some quiet e here p =
         let to = acquired_leads truths aim part.row some here.2 in
-        acquired (InAcquire aim (AcquireExchange arrival last)) (walk_after (acquired_for N aim)) aim arrival last e refl (λ ph is. is) to.0 to.1 to.2 (λ flag n w f. absurd (not_way (is_woken arrival) false false w refl f)) p
+        acquired (InAcquire aim (AcquireExchange arrival last)) (place_after (acquired_for N aim)) aim arrival last e refl (λ ph is. is) to.0 to.1 to.2 (λ flag n w f. absurd (not_way (is_woken arrival) false false w refl f)) p
     -- a store
     by_walk (InCells (SetStore i v)) Made some quiet e here p =
         silent None e.3 e.4 (stores truths seats h front who (Some (InCells (SetStore i v))) None back part e.0 i v e.2 refl (subst (λ x. IsSettled truths x) e.1 here.1) (refl, refl, refl, refl) refl (λ flag n f. f) (with_held (InCells (SetStore i v)) (Some e.0) e.1 p))
@@ -440,13 +440,13 @@ module _ {C : Type 0} {N : ℕ} (truths : Truths C) (seats : ℕ) (h : List (Eve
         let stay = left_of meets part.lists.lock in
         let to = pay_leads {C = C} {N = N} truths releasing None owes in
         let can = subst (λ x. CanLeave truths releasing x) e.1 here in
-        moved (walk_after (pay_releasing releasing owes)) (e.4 ∙ ap (λ word. record part { word = word_released_returning releasing (has_some woken) (bits_of stay) word; lists = with_lock part.lists stay; held = None; owed = called_of woken }) e.3) e.7
-        (scans truths seats h front who (Some walk) (walk_after (pay_releasing releasing owes)) back releasing part e.0 e.2 few can.2 to.8 (to.0 refl)
+        moved (place_after (pay_releasing releasing owes)) (e.4 ∙ ap (λ word. record part { word = word_released_returning releasing (has_some woken) (bits_of stay) word; lists = with_lock part.lists stay; held = None; owed = called_of woken }) e.3) e.7
+        (scans truths seats h front who (Some walk) (place_after (pay_releasing releasing owes)) back releasing part e.0 e.2 few can.2 to.8 (to.0 refl)
         (record { idle = refl; owes = to.1 ∙ e.5; from = to.7; had = refl; gave = to.2; still = refl; unarmed = to.4; unqueued = to.5; off_way = λ flag n. refl }) (ap is_some to.3) (with_held walk (Some e.0) e.1 p))
     -- a wake
     by_walk (InRelease releasing Pay) (Paid owes) some quiet e here p =
         let to = pay_leads truths releasing part.held owes in
-        paid (InRelease releasing Pay) (walk_after (pay_releasing releasing owes)) owes e (inl to.7) (to.0 here) to.1 to.2 to.3 to.9 to.4 to.5 (λ n. paid_phase releasing owes) p
+        paid (InRelease releasing Pay) (place_after (pay_releasing releasing owes)) owes e (inl to.7) (to.0 here) to.1 to.2 to.3 to.9 to.4 to.5 (λ n. paid_phase releasing owes) p
     by_walk (InWait wait at_place) found some quiet e here p = by_wait wait at_place found some e here p
     by_walk (InSignal waking k at_place) found some quiet e here p = by_signal waking k at_place found e here p
     by_walk (InShow at_place) found some quiet e here p = by_show at_place found e here p
@@ -461,5 +461,5 @@ keeps {C} {N} truths some quiet seats h old view found new commits few step p =
     let after_all = by_walk truths seats h step.front view.seat step.back (part_of old view.held view.owed) (part_of new step.held step.owed) commits few step.walk found some quiet step.effect (place truths seats h step.front view.seat step.back step.walk _ groups) groups in
     let seen = every_parts (λ (v : SeatView C N). HasNumber (word_seen v.walk)) step.front (view_of view.seat (Some step.walk) view.held view.owed) step.back here.words_seen in
     let found_has = found_fits truths view.seat (want_of step.walk) _ found _ commits (packable truths seats h old few p) step.effect in
-    let seen_after = every_join (λ (v : SeatView C N). HasNumber (word_seen v.walk)) step.front (view_of view.seat (walk_after (got_of N step.walk found)) step.held step.owed) step.back seen.0 ((follows N step.walk found).word found_has seen.1) seen.2 in
+    let seen_after = every_join (λ (v : SeatView C N). HasNumber (word_seen v.walk)) step.front (view_of view.seat (place_after (got_of N step.walk found)) step.held step.owed) step.back seen.0 ((follows N step.walk found).word found_has seen.1) seen.2 in
     subst (λ views. IsLawful truths seats (h ++ commits) (record { word = new.word; row = new.row; lists = new.lists; flags = new.flags; views = views })) (sym step.becomes) (lawful_by truths seats (h ++ commits) _ after_all seen_after)

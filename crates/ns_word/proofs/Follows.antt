@@ -5,12 +5,12 @@ use Rattle.ns_word.proofs.Prelude.{GetLoad, HasNumber, Idle, InAcquire, InCells,
 use Rattle.ns_word.proofs.Prelude.{OnCondition, OnEntry, OnReturn, OnVariables, Only, Outcome, Paid, Pay, PayInWait, PayTheWoken, Queue, QueuePlace, QueueToWait, Quiet, QuietCells, QuietLast, ReleaseExchange, ReleaseLoad, ReleasePlace, Releasing, Reply, Request, ReturnShown, Saw, ScanAndRelease}
 use Rattle.ns_word.proofs.Prelude.{ScanCells, Scanned, SetLoad, SetStore, ShowLoad, ShowPlace, SignalLoad, SignalPlace, Subject, Take, TakeToLeave, TakeToQueue, TakeToScan, TakeToShow, TakeToWake, TestCells, TestLast, Tested, TimedOut, ToChange, ToQueue, ToRelease, ToTell, TryAcquire, TryLoad}
 use Rattle.ns_word.proofs.Prelude.{TryPlace, Visit, Wait, WaitPlace, WakeAndReturn, Waking, Walk, Woke, Woken, Word, acquire_by, acquired_for, answer_of, armed_place, arrival_of, asked_of, back_with, cases_eq, cause_by, cause_kept, comes_back, got_acquiring, got_in_cells, got_leaving, got_of}
-use Rattle.ns_word.proofs.Prelude.{got_queuing, got_releasing, got_showing, got_signaling, got_trying, got_waiting, has_come_back, is_arrival_woken, is_back, is_from_lock, is_limited, is_woken, may_acquire, mode_for, needs_scan, outcome_taken, release_by, test_place, unmet_by, walk_after, want_of}
+use Rattle.ns_word.proofs.Prelude.{got_queuing, got_releasing, got_showing, got_signaling, got_trying, got_waiting, has_come_back, is_arrival_woken, is_back, is_from_lock, is_limited, is_woken, may_acquire, mode_for, needs_scan, outcome_taken, place_after, release_by, test_place, unmet_by, want_of}
 use Rattle.ns_word.proofs.Prelude.{was_woken, word_seen, ◌∙◌}
 use Rattle.ns_word.proofs.Seen.{FoundFits, taken_packable}
 
 -- what the place after was asked; a call that is over was asked what it was
-abbrev pub next_asked : {C : Type 0} → Request C → Next C → Request C
+abbrev pub next_asked : {C : Type 0} → Request C → Next (Walk C) Reply → Request C
 next_asked request (On walk) = asked_of walk
 next_asked request (Idle walk) = asked_of walk
 next_asked request (Done reply) = request
@@ -30,12 +30,12 @@ reply_cause (Answered answer) = answer_cause answer
 reply_cause reply = None
 
 -- the cause that is kept, or answered
-abbrev pub next_cause : {C : Type 0} → Next C → Option Cause
+abbrev pub next_cause : {C : Type 0} → Next (Walk C) Reply → Option Cause
 next_cause (On walk) = cause_kept walk
 next_cause (Idle walk) = cause_kept walk
 next_cause (Done reply) = reply_cause reply
 
-abbrev pub is_over : {C : Type 0} → Next C → Bool
+abbrev pub is_over : {C : Type 0} → Next (Walk C) Reply → Bool
 is_over (Done reply) = true
 is_over next = false
 
@@ -65,27 +65,27 @@ abbrev pub FoundCalled : {C : Type 0} → Walk C → Found → Type 0
 FoundCalled walk found = (value : ℕ) × (want_of walk ≡ LoadFlag) × (found ≡ Flag value) × ((value ≡ 0) ⊎ (5 < value))
 
 -- What ends a wait early is kept, or answered, or shown by the step. It counts no more where the condition is met, or where a wake took a wait for variables before.
-abbrev pub CauseFollows : {C : Type 0} → Walk C → Found → Next C → Type 0
+abbrev pub CauseFollows : {C : Type 0} → Walk C → Found → Next (Walk C) Reply → Type 0
 CauseFollows {C} walk found next =
     (next_cause next ≡ cause_kept walk)
     ⊎ (((cause_kept walk ≡ None) × (found ≡ Looked (next_cause next)))
     ⊎ ((next_cause next ≡ None) × ((next ≡ Done (Answered Met)) ⊎ ((wait : Wait C) × (asked_of walk ≡ Await wait) × IsForVariables wait.on))))
 
 -- One goes on as it was asked. A word that it keeps has a number. Only an acquire makes it a wait that has come back, and only its flag one that was woken.
-pub record Follows {C : Type 0} (walk : Walk C) (found : Found) (next : Next C) : Type 0 where
+pub record Follows {C : Type 0} (walk : Walk C) (found : Found) (next : Next (Walk C) Reply) : Type 0 where
   pub asked : next_asked (asked_of walk) next ≡ asked_of walk
-  pub word : FoundFits found → HasNumber (word_seen (Some walk)) → HasNumber (word_seen (walk_after next))
+  pub word : FoundFits found → HasNumber (word_seen (Some walk)) → HasNumber (word_seen (place_after next))
   pub cause : CauseFollows walk found next
-  pub back : has_come_back walk ≡ false → acquires walk found ≡ false → is_back (walk_after next) ≡ false
-  pub woken : was_woken (walk_after next) ≡ true → (was_woken (Some walk) ≡ true) ⊎ FoundCalled walk found
+  pub back : has_come_back walk ≡ false → acquires walk found ≡ false → is_back (place_after next) ≡ false
+  pub woken : was_woken (place_after next) ≡ true → (was_woken (Some walk) ≡ true) ⊎ FoundCalled walk found
   pub ends : (is_over next && not (may_end walk found)) ≡ false
 
 -- What was asked, and what ends the wait early; whether the place is of a wait that has come back, and whether of one that was woken; and whether the call is over where it goes on. Most ways are told by these alone.
 abbrev Facts : Type 0 → Type 0
 Facts C = Request C × Option Cause × Bool × Bool × Bool
 
-abbrev tells : {C : Type 0} → Walk C → Found → Next C → Facts C
-tells walk found next = (next_asked (asked_of walk) next, next_cause next, is_back (walk_after next), was_woken (walk_after next), is_over next && not (may_end walk found))
+abbrev tells : {C : Type 0} → Walk C → Found → Next (Walk C) Reply → Facts C
+tells walk found next = (next_asked (asked_of walk) next, next_cause next, is_back (place_after next), was_woken (place_after next), is_over next && not (may_end walk found))
 
 -- what a flag tells so is 0, or more than 5
 called_values : (v : ℕ) → is_from_lock v ≡ true → (v ≡ 0) ⊎ (5 < v)
@@ -96,8 +96,8 @@ called_values v said = elim (cases_eq v 0) [
 
 module _ {C : Type 0} where
   -- a way of which that is so, and what else has to be known of it
-  tells_so : {walk : Walk C} {found : Found} {next : Next C} (back woken : Bool) → tells walk found next ≡ (asked_of walk, cause_kept walk, back, woken, false) → (has_come_back walk ≡ false → acquires walk found ≡ false → back ≡ false) →
-      (woken ≡ true → (was_woken (Some walk) ≡ true) ⊎ FoundCalled walk found) → (FoundFits found → HasNumber (word_seen (Some walk)) → HasNumber (word_seen (walk_after next))) → Follows walk found next
+  tells_so : {walk : Walk C} {found : Found} {next : Next (Walk C) Reply} (back woken : Bool) → tells walk found next ≡ (asked_of walk, cause_kept walk, back, woken, false) → (has_come_back walk ≡ false → acquires walk found ≡ false → back ≡ false) →
+      (woken ≡ true → (was_woken (Some walk) ≡ true) ⊎ FoundCalled walk found) → (FoundFits found → HasNumber (word_seen (Some walk)) → HasNumber (word_seen (place_after next))) → Follows walk found next
   tells_so back woken e stays called word = record {
     asked = ap (λ (t : Facts C). t.0) e;
     word = word;
@@ -108,7 +108,7 @@ module _ {C : Type 0} where
   }
 
   -- a place of no wait that has come back, and of none that was woken
-  plain : {walk : Walk C} {found : Found} {next : Next C} → tells walk found next ≡ (asked_of walk, cause_kept walk, false, false, false) → (FoundFits found → HasNumber (word_seen (Some walk)) → HasNumber (word_seen (walk_after next))) → Follows walk found next
+  plain : {walk : Walk C} {found : Found} {next : Next (Walk C) Reply} → tells walk found next ≡ (asked_of walk, cause_kept walk, false, false, false) → (FoundFits found → HasNumber (word_seen (Some walk)) → HasNumber (word_seen (place_after next))) → Follows walk found next
   plain e word = tells_so false false e (λ out none. refl) (λ was. absurd (cc)) word
 
   -- what no step of the place finds leaves it there
@@ -116,7 +116,7 @@ module _ {C : Type 0} where
   stays walk found = record { asked = refl; word = λ f p. p; cause = inl refl; back = λ out none. out; woken = λ was. inl was; ends = refl }
 
   -- either of two ways
-  either : {A : Type 0} {walk : Walk C} {found : Found} (go : A → Next C) (b : Bool) (one other : A) → Follows walk found (go one) → Follows walk found (go other) → Follows walk found (go (cond b one other))
+  either : {A : Type 0} {walk : Walk C} {found : Found} (go : A → Next (Walk C) Reply) (b : Bool) (one other : A) → Follows walk found (go one) → Follows walk found (go other) → Follows walk found (go (cond b one other))
   either go true one other p q = p
   either go false one other p q = q
 

@@ -5,7 +5,7 @@ use Rattle.ns_word.proofs.Prelude.{InSignal, InTry, InWait, IsExpected, IsForCon
 use Rattle.ns_word.proofs.Prelude.{OutcomeFits, PlaceFits, QueueToWait, QuietCells, QuietKeeps, QuietLast, QuietWriter, Read, Reader, ReleaseExchange, ReleaseLoad, Releasing, Saw, ScanAndRelease, ScanCells, ShowLoad, SignalLoad, Stance, Subject, Take, TakeToLeave, TakeToQueue, TakeToScan}
 use Rattle.ns_word.proofs.Prelude.{TakeToShow, TakeToWake, TestCells, TestLast, Tests, ToRelease, ToTell, Truths, TryAcquire, TryLoad, Visit, Wait, Waiter, Waking, Walk, Woken, Word, Write, Writer, acquire_by, acquired_for, after_judging, armed_place, back_with, calls_from_lock, cause_by}
 use Rattle.ns_word.proofs.Prelude.{expected_for, got_trying, has_armed, has_eligible, has_queues, held_after, is_from_lock, is_limited, is_on_way, is_queuing, leave_by, load_place, look_or_queue, may_acquire, meets_at, mode_for, mode_released, needs_scan, newly_held, not-false, not-true, opening_by}
-use Rattle.ns_word.proofs.Prelude.{pay_releasing, pay_waiting, pay_woken, pays, phase_before, phase_by, phase_kept, queue_by, quiet_place, release_by, rest_or_look, row_in, scan_place, show_by, signal_by, test_place, unmet_by, waits_in, walk_after, was_woken, ◌∙◌}
+use Rattle.ns_word.proofs.Prelude.{pay_releasing, pay_waiting, pay_woken, pays, phase_before, phase_by, phase_kept, place_after, queue_by, quiet_place, release_by, rest_or_look, row_in, scan_place, show_by, signal_by, test_place, unmet_by, waits_in, was_woken, ◌∙◌}
 use Rattle.ns_word.proofs.Scans.{quiet_eligible}
 use Rattle.ns_word.proofs.Knows.{is_loud}
 use Rattle.ns_word.proofs.Keeps.{Same, Way}
@@ -78,18 +78,18 @@ module _ {C : Type 0} {N : ℕ} (truths : Truths C) where
   pub none_settled : (held : Option (Held C N)) → held ≡ None → IsSettled truths held
   none_settled held e = subst (λ x. IsSettled truths x) (sym e) tt
 
-  pub try_leads : (mode : Mode) (word : Word) (held : Option (Held C N)) → held ≡ None → Leads None (walk_after (got_trying mode TryLoad (Saw word))) held
-  try_leads mode word held p = either walk_after (may_acquire mode AsFresh word) (On (InTry mode (TryAcquire word))) (Done Busy) (λ e. leads_to refl (p, e)) (λ e. leads_to refl (none_settled held p))
+  pub try_leads : (mode : Mode) (word : Word) (held : Option (Held C N)) → held ≡ None → Leads None (place_after (got_trying mode TryLoad (Saw word))) held
+  try_leads mode word held p = either place_after (may_acquire mode AsFresh word) (On (InTry mode (TryAcquire word))) (Done Busy) (λ e. leads_to refl (p, e)) (λ e. leads_to refl (none_settled held p))
 
-  pub acquire_leads : (aim : Aim C) (arrival : Arrival) (word : Word) (held : Option (Held C N)) → held ≡ None → AimFits aim → Leads (Some (InAcquire aim (AcquireLoad arrival))) (walk_after (acquire_by aim arrival word)) held
+  pub acquire_leads : (aim : Aim C) (arrival : Arrival) (word : Word) (held : Option (Held C N)) → held ≡ None → AimFits aim → Leads (Some (InAcquire aim (AcquireLoad arrival))) (place_after (acquire_by aim arrival word)) held
   acquire_leads aim arrival word held p kept =
-      either walk_after (may_acquire (mode_for aim) arrival word) (On (InAcquire aim (AcquireExchange arrival word))) _ (λ e. leads_to refl (p, e, kept))
-      (λ e. either walk_after word.spin (Idle (InAcquire aim (AcquireLoad arrival))) (On (InAcquire aim (TakeToQueue arrival word))) (λ f. leads_to refl (p, tt, kept)) (λ f. leads_to refl (p, (f, e), kept)))
+      either place_after (may_acquire (mode_for aim) arrival word) (On (InAcquire aim (AcquireExchange arrival word))) _ (λ e. leads_to refl (p, e, kept))
+      (λ e. either place_after word.spin (Idle (InAcquire aim (AcquireLoad arrival))) (On (InAcquire aim (TakeToQueue arrival word))) (λ f. leads_to refl (p, tt, kept)) (λ f. leads_to refl (p, (f, e), kept)))
 
-  pub release_leads : (releasing : Releasing) (word : Word) (held : Option (Held C N)) → CanLeave truths releasing held → Leads None (walk_after (release_by releasing word)) held
+  pub release_leads : (releasing : Releasing) (word : Word) (held : Option (Held C N)) → CanLeave truths releasing held → Leads None (place_after (release_by releasing word)) held
   release_leads releasing word held p =
-      either walk_after (not (needs_scan releasing word)) (On (InRelease releasing (ReleaseExchange word))) _ (λ e. leads_to refl (p, not-true (needs_scan releasing word) e))
-      (λ e. either walk_after word.spin (Idle (InRelease releasing ReleaseLoad)) (On (InRelease releasing (TakeToScan word))) (λ f. leads_to refl p) (λ f. leads_to refl (p, f, not-false (needs_scan releasing word) e)))
+      either place_after (not (needs_scan releasing word)) (On (InRelease releasing (ReleaseExchange word))) _ (λ e. leads_to refl (p, not-true (needs_scan releasing word) e))
+      (λ e. either place_after word.spin (Idle (InRelease releasing ReleaseLoad)) (On (InRelease releasing (TakeToScan word))) (λ f. leads_to refl p) (λ f. leads_to refl (p, f, not-false (needs_scan releasing word) e)))
 
   pub scan_leads : (releasing : Releasing) (last : Word) (held : Option (Held C N)) (loaded : ℕ) → CanLeave truths releasing held →
       Leads (Some (InRelease releasing (ScanAndRelease last))) (Some (InRelease releasing (scan_place N last loaded))) held
@@ -105,12 +105,12 @@ module _ {C : Type 0} {N : ℕ} (truths : Truths C) where
       either (λ x. Some (InCells x)) (ltb loaded (N - 1)) (QuietCells judging loaded) (QuietLast judging (N - 1)) (λ e. let less = ltb-true loaded (N - 1) e in leads_to refl ((p, omega (arith, less)), settled))
       (λ e. leads_to refl ((p, omega (arith, some)), settled))
 
-  pub judged_leads : (judging : Judging) (held : Option (Held C N)) (b : Bool) → (b ≡ true → CanLeave truths QuietWriter held) → IsSettled truths held → Leads None (walk_after (after_judging judging b)) held
+  pub judged_leads : (judging : Judging) (held : Option (Held C N)) (b : Bool) → (b ≡ true → CanLeave truths QuietWriter held) → IsSettled truths held → Leads None (place_after (after_judging judging b)) held
   judged_leads ToTell held b p settled = leads_to refl settled
   judged_leads ToRelease held true p settled = leads_to refl (p refl)
   judged_leads ToRelease held false p settled = leads_to refl settled
 
-  pub pay_leads : (releasing : Releasing) (held : Option (Held C N)) (b : Bool) → let next = walk_after (pay_releasing releasing b) in
+  pub pay_leads : (releasing : Releasing) (held : Option (Held C N)) (b : Bool) → let next = place_after (pay_releasing releasing b) in
       (held ≡ None → PlaceFits truths next held) × (pays next ≡ b) × (has_queues next ≡ false) × (waits_in next ≡ None) × (has_armed next ≡ false) × (is_queuing next ≡ false) × Way None next × (calls_from_lock next ≡ true) × IsExpected (phase_by next) ThePhase.Idle × (was_woken next ≡ false)
   pay_leads releasing held true = (λ e. e, refl, refl, refl, refl, refl, λ flag n f. f, refl, refl, refl)
   pay_leads releasing held false = (λ e. none_settled held e, refl, refl, refl, refl, refl, λ flag n f. f, refl, refl, refl)
@@ -123,21 +123,21 @@ module _ {C : Type 0} {N : ℕ} (truths : Truths C) where
       (λ e. leads_to refl ((p, omega (arith, some), on), kept))
 
   -- after an acquire
-  back_leads : (on : Subject C) (wait : Wait C) (outcome : Outcome) (row : List ℕ) → wait.on ≡ on → 0 < N → AimFits (ForWait wait outcome) → let next = walk_after (back_with N on wait outcome) in
+  back_leads : (on : Subject C) (wait : Wait C) (outcome : Outcome) (row : List ℕ) → wait.on ≡ on → 0 < N → AimFits (ForWait wait outcome) → let next = place_after (back_with N on wait outcome) in
       PlaceFits truths next (Some (newly_held {C = C} {N = N} (ForWait wait outcome) row)) × Same None next × (is_queuing next ≡ false)
   back_leads (OnCondition c) wait outcome row is some fits =
       let to = test_leads wait (OnReturn outcome) (Some (newly_held {C = C} {N = N} (ForWait wait outcome) row)) 0 some (refl, record { entry = refl; cells = refl; fits = fits.0 }) fits.1 (subst IsForCondition (sym is) tt) in (to.place, to.same, to.queuing)
   back_leads (OnVariables variables) wait outcome row is some fits = (subst (λ on. IsSettledBy truths.holds row (CameBack on outcome)) (sym is) (subst (λ on. OutcomeFits on outcome) is fits.0), (refl, refl, refl, refl), refl)
 
-  pub acquired_leads : (aim : Aim C) (row : List ℕ) → 0 < N → AimFits aim → let next = walk_after (acquired_for N aim) in
+  pub acquired_leads : (aim : Aim C) (row : List ℕ) → 0 < N → AimFits aim → let next = place_after (acquired_for N aim) in
       PlaceFits truths next (Some (newly_held {C = C} {N = N} aim row)) × Same None next × (is_queuing next ≡ false)
   acquired_leads (ForLock mode) row some fits = (tt, (refl, refl, refl, refl), refl)
   acquired_leads (ForWait wait outcome) row some fits = back_leads wait.on wait outcome row refl some fits
 
-  look_leads : (wait : Wait C) (again : Bool) (held : Held C N) → IsForCondition wait.on → MayWait truths wait again held → Leads (inside wait) (walk_after (look_or_queue wait again)) (Some held)
-  look_leads wait again held on p = either walk_after (is_limited wait.limits) (On (InWait wait (InQueuing again LookIn))) (On (InWait wait (InQueuing again Load))) (λ e. leads_to refl ((p, on), tt)) (λ e. leads_to refl ((p, tt), tt))
+  look_leads : (wait : Wait C) (again : Bool) (held : Held C N) → IsForCondition wait.on → MayWait truths wait again held → Leads (inside wait) (place_after (look_or_queue wait again)) (Some held)
+  look_leads wait again held on p = either place_after (is_limited wait.limits) (On (InWait wait (InQueuing again LookIn))) (On (InWait wait (InQueuing again Load))) (λ e. leads_to refl ((p, on), tt)) (λ e. leads_to refl ((p, tt), tt))
 
-  unmet_leads : (wait : Wait C) (visit : Visit) (held : Option (Held C N)) → Tests truths wait visit held → IsForCondition wait.on → IsUnmet truths wait.on (row_in held) → Leads (inside wait) (walk_after (unmet_by wait visit)) held
+  unmet_leads : (wait : Wait C) (visit : Visit) (held : Option (Held C N)) → Tests truths wait visit held → IsForCondition wait.on → IsUnmet truths wait.on (row_in held) → Leads (inside wait) (place_after (unmet_by wait visit)) held
   unmet_leads wait visit None p on e = absurd p
   unmet_leads wait OnEntry (Some held) p on e = look_leads wait false held on (record { mode = p.0; unmet = e; settled = λ first. p.1; back = λ again. absurd (cc) })
   unmet_leads wait (OnReturn (Woken by)) (Some held) p on e =
@@ -154,21 +154,21 @@ module _ {C : Type 0} {N : ℕ} (truths : Truths C) where
 
   -- the condition was tested
   pub met_leads : (wait : Wait C) (c : C) (visit : Visit) (held : Option (Held C N)) (b : Bool) → wait.on ≡ OnCondition c → Tests truths wait visit held → truths.holds c (row_in held) ≡ b →
-      Leads (inside wait) (walk_after (cond b (Done (Answered Met)) (unmet_by wait visit))) held
+      Leads (inside wait) (place_after (cond b (Done (Answered Met)) (unmet_by wait visit))) held
   met_leads wait c visit held true is p e = leads_as _ refl (λ none. absurd (subst (λ x. Tests truths wait visit x) none p)) (met_settled wait c visit held is p e)
   met_leads wait c visit held false is p e = unmet_leads wait visit held p (subst IsForCondition (sym is) tt) (subst (λ on. IsUnmet truths on (row_in held)) (sym is) e)
 
-  pub queue_leads : (wait : Wait C) (again : Bool) (word : Word) (held : Option (Held C N)) → CanWait truths wait again held → Leads (inside wait) (walk_after (queue_by wait again word)) held
-  queue_leads wait again word held p = either walk_after word.spin (Idle (InWait wait (InQueuing again Load))) (On (InWait wait (InQueuing again (Take word)))) (λ e. leads_to refl ((p, tt), tt)) (λ e. leads_to refl ((p, e), tt))
+  pub queue_leads : (wait : Wait C) (again : Bool) (word : Word) (held : Option (Held C N)) → CanWait truths wait again held → Leads (inside wait) (place_after (queue_by wait again word)) held
+  queue_leads wait again word held p = either place_after word.spin (Idle (InWait wait (InQueuing again Load))) (On (InWait wait (InQueuing again (Take word)))) (λ e. leads_to refl ((p, tt), tt)) (λ e. leads_to refl ((p, e), tt))
 
-  pub leave_leads : (wait : Wait C) (cause : Cause) (word : Word) (held : Option (Held C N)) → held ≡ None → IsInRange wait.on → MayShow wait.limits (Some cause) → Leads (outside wait) (walk_after (leave_by wait cause word)) held
+  pub leave_leads : (wait : Wait C) (cause : Cause) (word : Word) (held : Option (Held C N)) → held ≡ None → IsInRange wait.on → MayShow wait.limits (Some cause) → Leads (outside wait) (place_after (leave_by wait cause word)) held
   leave_leads wait cause word held p range given =
-      either walk_after word.spin (Idle (InWait wait (InLeaving cause LeaveLoad))) (On (InWait wait (InLeaving cause (TakeToLeave word)))) (λ e. leads_to refl ((p, tt, range), given)) (λ e. leads_to refl ((p, e, range), given))
+      either place_after word.spin (Idle (InWait wait (InLeaving cause LeaveLoad))) (On (InWait wait (InLeaving cause (TakeToLeave word)))) (λ e. leads_to refl ((p, tt, range), given)) (λ e. leads_to refl ((p, e, range), given))
 
-  pub rest_leads : (wait : Wait C) (held : Option (Held C N)) → held ≡ None → IsInRange wait.on → Leads (outside wait) (walk_after (rest_or_look wait)) held
-  rest_leads wait held p range = either walk_after (is_limited wait.limits) (On (InWait wait LookOut)) (Idle (InWait wait AwaitWakeInWait)) (λ e. leads_to refl ((p, range), tt)) (λ e. leads_to refl ((p, range), tt))
+  pub rest_leads : (wait : Wait C) (held : Option (Held C N)) → held ≡ None → IsInRange wait.on → Leads (outside wait) (place_after (rest_or_look wait)) held
+  rest_leads wait held p range = either place_after (is_limited wait.limits) (On (InWait wait LookOut)) (Idle (InWait wait AwaitWakeInWait)) (λ e. leads_to refl ((p, range), tt)) (λ e. leads_to refl ((p, range), tt))
 
-  pub pay_waiting_leads : (wait : Wait C) (held : Option (Held C N)) (b : Bool) → let next = walk_after (pay_waiting wait b) in
+  pub pay_waiting_leads : (wait : Wait C) (held : Option (Held C N)) (b : Bool) → let next = place_after (pay_waiting wait b) in
       (held ≡ None → IsInRange wait.on → PlaceFits truths next held) × (pays next ≡ b) × (has_queues next ≡ false) × (waits_in next ≡ waits_in (outside wait))
       × (has_armed next ≡ false) × (is_queuing next ≡ false) × (calls_from_lock next ≡ true) × (phase_by next ≡ expected_for wait.on wait.mode) × (was_woken next ≡ false)
   pay_waiting_leads wait held true = (λ e range. ((e, range), tt), refl, refl, refl, refl, refl, refl, refl, refl)
@@ -189,18 +189,18 @@ module _ {C : Type 0} {N : ℕ} (truths : Truths C) where
 
   -- ---- calls that wake
 
-  pub signal_leads : (waking : Waking) (k : ℕ) (word : Word) (held : Option (Held C N)) → k < 4 → IsSettled truths held → Leads None (walk_after (signal_by waking k word)) held
-  signal_leads waking k word held low p = either walk_after word.spin (Idle (InSignal waking k SignalLoad)) (On (InSignal waking k (TakeToWake word))) (λ e. leads_to refl (tt, low, p)) (λ e. leads_to refl (e, low, p))
+  pub signal_leads : (waking : Waking) (k : ℕ) (word : Word) (held : Option (Held C N)) → k < 4 → IsSettled truths held → Leads None (place_after (signal_by waking k word)) held
+  signal_leads waking k word held low p = either place_after word.spin (Idle (InSignal waking k SignalLoad)) (On (InSignal waking k (TakeToWake word))) (λ e. leads_to refl (tt, low, p)) (λ e. leads_to refl (e, low, p))
 
-  pub pay_woken_leads : (waking : Waking) (k : ℕ) (held : Option (Held C N)) (b : Bool) → let next = walk_after (pay_woken waking k b) in
+  pub pay_woken_leads : (waking : Waking) (k : ℕ) (held : Option (Held C N)) (b : Bool) → let next = place_after (pay_woken waking k b) in
       (k < 4 → IsSettled truths held → PlaceFits truths next held) × (pays next ≡ b) × (has_queues next ≡ false) × (waits_in next ≡ None) × (has_armed next ≡ false) × (is_queuing next ≡ false) × Way None next × (phase_by next ≡ phase_by {C = C} None) × (was_woken next ≡ false)
   pay_woken_leads waking k held true = (λ low p. (tt, low, p), refl, refl, refl, refl, refl, λ flag n f. f, refl, refl)
   pay_woken_leads waking k held false = (λ low p. p, refl, refl, refl, refl, refl, λ flag n f. f, refl, refl)
 
   -- ---- calls that show
 
-  pub show_leads : (word : Word) (held : Option (Held C N)) → IsSettled truths held → Leads None (walk_after (show_by word)) held
-  show_leads word held p = either walk_after word.spin (Idle (InShow ShowLoad)) (On (InShow (TakeToShow word))) (λ e. leads_to refl (tt, p)) (λ e. leads_to refl (e, p))
+  pub show_leads : (word : Word) (held : Option (Held C N)) → IsSettled truths held → Leads None (place_after (show_by word)) held
+  show_leads word held p = either place_after word.spin (Idle (InShow ShowLoad)) (On (InShow (TakeToShow word))) (λ e. leads_to refl (tt, p)) (λ e. leads_to refl (e, p))
 
   -- a section whose wait a look has ended is settled
   pub shown_settled : (wait : Wait C) (again : Bool) (cause : Cause) (held : Option (Held C N)) → CanWait truths wait again held → IsSettled truths (held_after again (Some cause) held)

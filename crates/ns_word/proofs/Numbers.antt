@@ -1,6 +1,6 @@
 -- Views that stand at their seats' numbers, and a step or a beginning by the number of its seat.
 use Rattle.std.proofs.Common.{List, None, Some, [], ap, arith, drop, refl, slice_get, slice_set, suc, sym, take, zero, zero-add, ℕ, ◌++◌, ◌+◌, ◌∷◌, ◌≡◌}
-use Rattle.ns_word.proofs.Prelude.{AreNumbered, Begins, Effect, Event, Found, IsFirst, LockState, Owed, PlaceFits, SeatView, Step, Truths, Walk, got_of, part_of, walk_after, want_of, ◌∙◌}
+use Rattle.ns_word.proofs.Prelude.{AreNumbered, Begins, Effect, Event, Found, IsFirst, LockState, Owed, PlaceFits, SeatView, Step, Truths, Walk, got_of, part_of, place_after, want_of, ◌∙◌}
 
 module _ {C : Type 0} {N : ℕ} where
   pub number_from : (first : ℕ) (views : List (SeatView C N)) (i : ℕ) (view : SeatView C N) → slice_get views i ≡ Some view → AreNumbered first views → view.seat ≡ first + i
@@ -41,7 +41,7 @@ set_again (z ∷ xs) (suc i) x y = ap (λ zs. z ∷ zs) (set_again xs i x y)
 module _ {C : Type 0} {N : ℕ} (truths : Truths C) (old : LockState C N) (i : ℕ) (view : SeatView C N) (at : slice_get old.views i ≡ Some view) (walk : Walk C) where
   -- the step whose effect is this, where the view at that number is set and no other
   abbrev pub step_at : (found : Found) (new : LockState C N) (held : _) (owed : List Owed) (commits : List (Event C N)) → view.walk ≡ Some walk →
-      new.views ≡ slice_set old.views i (record { seat = view.seat; walk = walk_after (got_of N walk found); held = held; owed = owed }) → Effect truths view.seat (want_of walk) (part_of old view.held view.owed) found (part_of new held owed) commits → Step truths old view found new commits
+      new.views ≡ slice_set old.views i (record { seat = view.seat; walk = place_after (got_of N walk found); held = held; owed = owed }) → Effect truths view.seat (want_of walk) (part_of old view.held view.owed) found (part_of new held owed) commits → Step truths old view found new commits
   step_at found new held owed commits walks becomes effect = record {
     walk = walk;
     walks = walks;

@@ -31,9 +31,9 @@ pub use Rattle.ns_word.specs.Prelude.{found_of, fresh_state, fresh_views, got_ac
 pub use Rattle.ns_word.specs.Prelude.{home_of, is_armed, is_arrival_woken, is_back, is_eligible, is_from_lock, is_held, is_in, is_limited, is_long, is_met, is_of, is_on_way, is_queuing, is_reading, is_satisfied, is_set, is_unwoken, is_waiting, is_woken, is_write, is_writing, judge_of, kept_by}
 pub use Rattle.ns_word.specs.Prelude.{leave_any_told, leave_by, leave_of, leave_told, left_by, left_of, left_phase, load_place, lock_stance, look_or_queue, looked_after, may_acquire, meets_at, mode_for, mode_released, moved_to, moves, named_for, needs_scan, new_section, newly_held, nothing_told}
 pub use Rattle.ns_word.specs.Prelude.{number_of, one_if, opening_by, opening_for, outcome_taken, outside, owed_after, owed_in, owed_to, owes_more, own, part_of, pay_releasing, pay_waiting, pay_woken, pays, phase_after, phase_before, phase_by, phase_by_wake, phase_for, phase_kept, phase_of}
-pub use Rattle.ns_word.specs.Prelude.{place_awaits, place_cause_kept, place_has_come_back, queue_by, queued, queuers, quiet_first, quiet_place, readers, reads, release_by, releasing_of, reply_for, rest_or_look, row_after, row_in, scan_place, scanned, seats_of, section_of, show_by, signal_by}
-pub use Rattle.ns_word.specs.Prelude.{standing_after, standing_next, stands_at, taken_by, taken_set, takers, test_place, times, times_among, times_in, told_after, tries_of, unmet_by, value_of, value_of_bit, variable_in, variable_told, view_in, wait_first, wait_hand, waited_in, waiter, waiters_of}
-pub use Rattle.ns_word.specs.Prelude.{waits_at, waits_in, wake_by, wake_of, wakes_of, walk_after, walk_at, walk_over, want_acquiring, want_in_cells, want_leaving, want_of, want_queuing, want_releasing, want_showing, want_signaling, want_trying, want_waiting, was_woken, who_of, with_each, with_lock}
+pub use Rattle.ns_word.specs.Prelude.{place_after, place_awaits, place_cause_kept, place_has_come_back, queue_by, queued, queuers, quiet_first, quiet_place, readers, reads, release_by, releasing_of, reply_for, rest_or_look, row_after, row_in, scan_place, scanned, seats_of, section_of, show_by}
+pub use Rattle.ns_word.specs.Prelude.{signal_by, standing_after, standing_next, stands_at, taken_by, taken_set, takers, test_place, times, times_among, times_in, told_after, tries_of, unmet_by, value_of, value_of_bit, variable_in, variable_told, view_in, wait_first, wait_hand, waited_in, waiter}
+pub use Rattle.ns_word.specs.Prelude.{waiters_of, waits_at, waits_in, wake_by, wake_of, wakes_of, walk_at, walk_over, want_acquiring, want_in_cells, want_leaving, want_of, want_queuing, want_releasing, want_showing, want_signaling, want_trying, want_waiting, was_woken, who_of, with_each, with_lock}
 pub use Rattle.ns_word.specs.Prelude.{with_waiters, without, without_in, woken_by, woken_of, woken_phase, woken_phases, word_acquired, word_released, word_released_returning, word_returned, word_seen, word_taken, word_with, writers, writes}
 pub use Rattle.ns_word.specs.Steps.{signal_hand}
 pub use Rattle.ns_word.specs.Walks.{Expected}

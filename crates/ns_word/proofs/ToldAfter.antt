@@ -1,23 +1,23 @@
 -- What a step leaves of what the seats were told.
 use Rattle.std.proofs.Common.{All, Bool, List, None, Option, Some, [], ap, append-nil, append_assoc, eq-eqb, eqb, ne_eqb, refl, subst, sym, ℕ, ◌++◌, ◌<◌, ◌∷◌, ◌≡◌, ◌≢◌, ◌≤◌}
 use Rattle.ns_word.proofs.Prelude.{All-append, All-nil, All-push, AreBy, BeginsIf, BeginsWith, Event, Found, IsBySeats, IsFirst, IsLawful, IsLed, IsLegal, IsTold, LedBy, LockState, QuietKeeps, SeatStep, SeatView, Step, Told, Truths, Walk, calls_of, filter-append, got_of, nothing_told, own}
-use Rattle.ns_word.proofs.Prelude.{told_after, view_in, walk_after, walk_over, want_of, who_of, ◌∙◌}
+use Rattle.ns_word.proofs.Prelude.{place_after, told_after, view_in, walk_over, want_of, who_of, ◌∙◌}
 use Rattle.ns_word.proofs.Starts.{begins}
 use Rattle.ns_word.proofs.Dispatch.{keeps}
 use Rattle.ns_word.proofs.Effects.{makes}
 
 -- what was found leads on from where what was found before it led
-over_more : {C : Type 0} (N : ℕ) (founds : List Found) (found : Found) (from : Option (Walk C)) (walk : Walk C) → walk_over N founds from ≡ Some walk → walk_over N (founds ++ found ∷ []) from ≡ walk_after (got_of N walk found)
+over_more : {C : Type 0} (N : ℕ) (founds : List Found) (found : Found) (from : Option (Walk C)) (walk : Walk C) → walk_over N founds from ≡ Some walk → walk_over N (founds ++ found ∷ []) from ≡ place_after (got_of N walk found)
 over_more N [] found from walk e = ap (walk_over N (found ∷ [])) e
 over_more N (before ∷ founds) found None walk e = absurd (cc)
-over_more N (before ∷ founds) found (Some first) walk e = over_more N founds found (walk_after (got_of N first before)) walk e
+over_more N (before ∷ founds) found (Some first) walk e = over_more N founds found (place_after (got_of N first before)) walk e
 
 led_at : {C : Type 0} (N : ℕ) (begun : List (Walk C)) (next : Option (Walk C)) (earlier : List (Walk C)) (first : Walk C) (founds : List Found) → begun ≡ earlier ++ first ∷ [] → walk_over N founds (Some first) ≡ next → IsLed N begun next
 led_at N begun None earlier first founds last leads = tt
 led_at N begun (Some walk) earlier first founds last leads = record { earlier = earlier; first = first; founds = founds; last = last; leads = leads }
 
-led_on : {C : Type 0} (N : ℕ) (begun : List (Walk C)) (walk : Walk C) (found : Found) → LedBy N begun walk → IsLed N begun (walk_after (got_of N walk found))
-led_on N begun walk found led = led_at N begun (walk_after (got_of N walk found)) led.earlier led.first (led.founds ++ found ∷ []) led.last (over_more N led.founds found (Some led.first) walk led.leads)
+led_on : {C : Type 0} (N : ℕ) (begun : List (Walk C)) (walk : Walk C) (found : Found) → LedBy N begun walk → IsLed N begun (place_after (got_of N walk found))
+led_on N begun walk found led = led_at N begun (place_after (got_of N walk found)) led.earlier led.first (led.founds ++ found ∷ []) led.last (over_more N led.founds found (Some led.first) walk led.leads)
 
 module _ {C : Type 0} {N : ℕ} where
   -- what a step commits is its seat's
@@ -75,13 +75,13 @@ module _ {C : Type 0} {N : ℕ} where
 module _ {C : Type 0} {N : ℕ} (truths : Truths C) where
   -- where a call begins with the step, or goes on
   led_if : (view : SeatView C N) (begun : Option (Walk C)) (between : LockState C N) (found : Found) (new : LockState C N) (commits : List (Event C N)) (old : LockState C N) → BeginsIf truths old view begun between → (step : Step truths between (view_in view begun) found new commits) →
-      (told : List (Walk C)) → IsLed N told view.walk → All (IsFirst N) (calls_of begun) × IsLed N (told ++ calls_of begun) (walk_after (got_of N step.walk found))
+      (told : List (Walk C)) → IsLed N told view.walk → All (IsFirst N) (calls_of begun) × IsLed N (told ++ calls_of begun) (place_after (got_of N step.walk found))
   led_if view None between found new commits old start step told was =
       let led : LedBy N told step.walk = subst (λ walk. IsLed N told walk) step.walks was in
-      (All-nil (IsFirst N), subst (λ begun. IsLed N begun (walk_after (got_of N step.walk found))) (sym (append-nil told)) (led_on N told step.walk found led))
+      (All-nil (IsFirst N), subst (λ begun. IsLed N begun (place_after (got_of N step.walk found))) (sym (append-nil told)) (led_on N told step.walk found led))
   led_if view (Some walk) between found new commits old start step told was =
       let same : walk ≡ step.walk = cc (step.walks) in
-      (All-push (IsFirst N) [] walk (All-nil (IsFirst N)) start.first, led_at N (told ++ walk ∷ []) (walk_after (got_of N step.walk found)) told walk (found ∷ []) refl (ap (λ w. walk_after (got_of N w found)) same))
+      (All-push (IsFirst N) [] walk (All-nil (IsFirst N)) start.first, led_at N (told ++ walk ∷ []) (place_after (got_of N step.walk found)) told walk (found ∷ []) refl (ap (λ w. place_after (got_of N w found)) same))
 
   -- a view's number stays where its call begins
   pub seat_in : (view : SeatView C N) (begun : Option (Walk C)) → (view_in view begun).seat ≡ view.seat
@@ -104,11 +104,11 @@ module _ {C : Type 0} {N : ℕ} (truths : Truths C) (cells : 0 < N) (quiet : Qui
 
   pub seat_step_tells : (old : LockState C N) (view : SeatView C N) (begun : Option (Walk C)) (found : Found) (new : LockState C N) (commits : List (Event C N)) → (made : SeatStep truths old view begun found new commits) → IsLawful truths seats h old →
       (told : Told C N) → IsTold truths.holds seats h view.seat view.walk told →
-      IsTold truths.holds seats (h ++ commits) view.seat (walk_after (got_of N made.step.walk found)) (told_after h commits (calls_of begun) told) × BeginsWith (h ++ commits) told.seen
+      IsTold truths.holds seats (h ++ commits) view.seat (place_after (got_of N made.step.walk found)) (told_after h commits (calls_of begun) told) × BeginsWith (h ++ commits) told.seen
   seat_step_tells old view begun found new commits made p told was =
       let after_all = seat_steps_keep old view begun found new commits made p in
       let led = led_if truths view begun made.between found new commits old made.begins made.step told.begun was.led in (
-        told_here truths.holds seats h view.seat view.walk (walk_after (got_of N made.step.walk found)) commits (calls_of begun) told
+        told_here truths.holds seats h view.seat view.walk (place_after (got_of N made.step.walk found)) commits (calls_of begun) told
             (seat_step_by truths old view begun found new commits made) after_all.one_history.legal after_all.one_history.by_seats led.0 led.1 was,
         seen_grows h told.seen commits was.seen_of,
       )

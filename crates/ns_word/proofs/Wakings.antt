@@ -1,14 +1,14 @@
 -- Where the woken go, when a try is busy, and what a shown cause does.
 use Rattle.std.proofs.Common.{Bool, Some, ap, arith, cond, eqb, false, inl, inr, lt-ltb, ltb, ne_eqb, not, refl, true, ℕ, ◌&&◌, ◌<◌, ◌||◌, ◌≡◌, ◌≢◌, ◌⊎◌}
 use Rattle.ns_word.proofs.Prelude.{AcquireLoad, Aim, Answered, Arrival, AsFresh, AsWoken, AwaitWake, AwaitWakeInWait, AwaitWakeToLeave, Busy, Cause, Done, Flag, ForWait, Found, Idle, InAcquire, InLeaving, InQueuing, InTry, InWait, LeaveLoad, Limits, LoadFlag, Look, LookIn, LookOut, Looked, Made}
-use Rattle.ns_word.proofs.Prelude.{Mode, Next, On, Read, Saw, TryAcquire, TryLoad, TryPlace, Walk, Word, answer_of, arrival_of, cases_eq, cause_kept, got_of, is_from_lock, is_woken, may_acquire, outcome_taken, rest_or_look, walk_after, want_of, woken_by, ◌∙◌}
+use Rattle.ns_word.proofs.Prelude.{Mode, Next, On, Read, Reply, Saw, TryAcquire, TryLoad, TryPlace, Walk, Word, answer_of, arrival_of, cases_eq, cause_kept, got_of, is_from_lock, is_woken, may_acquire, outcome_taken, place_after, rest_or_look, want_of, woken_by, ◌∙◌}
 use Rattle.ns_word.proofs.Looks.{flag_here, flag_in, look_here, look_in}
 
 -- ---- tries, and readers
 
 pub busy_why : (C : Type 0) (N : ℕ) (mode : Mode) (place : TryPlace) (found : Found) → got_of {C = C} N (InTry mode place) found ≡ Done Busy → (word : Word) × (found ≡ Saw word) × ((may_acquire mode AsFresh word ≡ false) ⊎ ((last : Word) × (place ≡ TryAcquire last)))
 busy_why C N mode TryLoad (Saw word) e = (word, refl, inl (go (may_acquire mode AsFresh word) e)) where
-  go : (b : Bool) → cond {A = Next C} b (On (InTry mode (TryAcquire word))) (Done Busy) ≡ Done Busy → b ≡ false
+  go : (b : Bool) → cond {A = Next (Walk C) Reply} b (On (InTry mode (TryAcquire word))) (Done Busy) ≡ Done Busy → b ≡ false
   go true e = absurd (cc)
   go false e = refl
 busy_why C N mode (TryAcquire last) (Saw word) e = (word, refl, inr (last, refl))
@@ -28,14 +28,14 @@ readers_stand_back word e = ap (λ b. not word.write && (not b && not word.long)
 -- ---- flags, and looks
 
 module _ (C : Type 0) (N : ℕ) where
-  abbrev Acquires : ℕ → Next C → Type 0
+  abbrev Acquires : ℕ → Next (Walk C) Reply → Type 0
   Acquires v next = (aim : Aim C) × (arrival : Arrival) × (next ≡ On (InAcquire aim (AcquireLoad arrival))) × (is_woken arrival ≡ (eqb v 0 || ltb 5 v))
 
   as_told : (tries : ℕ) (b : Bool) → is_woken (cond b (AsWoken tries) AsFresh) ≡ b
   as_told tries true = refl
   as_told tries false = refl
 
-  cleared : (v : ℕ) (other : Next C) (aim : Aim C) (tries : ℕ) → v ≢ 1 → Acquires v (cond (eqb v 1) other (On (InAcquire aim (AcquireLoad (arrival_of tries v)))))
+  cleared : (v : ℕ) (other : Next (Walk C) Reply) (aim : Aim C) (tries : ℕ) → v ≢ 1 → Acquires v (cond (eqb v 1) other (On (InAcquire aim (AcquireLoad (arrival_of tries v)))))
   cleared v other aim tries ne = (aim, arrival_of tries v, ap (λ b. cond b other (On (InAcquire aim (AcquireLoad (arrival_of tries v))))) (ne_eqb v 1 ne), as_told tries (is_from_lock v))
 
   tells_so : (v : ℕ) → (v ≡ 0) ⊎ (5 < v) → is_from_lock v ≡ true
@@ -65,8 +65,8 @@ module _ (C : Type 0) (N : ℕ) where
     found walk is = absurd (cc)
 
   -- a look that shows something ends its wait
-  abbrev Ends : Cause → Next C → Type 0
-  Ends cause next = (next ≡ Done (Answered (answer_of cause))) ⊎ ((after : Walk C) × (walk_after next ≡ Some after) × (cause_kept after ≡ Some cause))
+  abbrev Ends : Cause → Next (Walk C) Reply → Type 0
+  Ends cause next = (next ≡ Done (Answered (answer_of cause))) ⊎ ((after : Walk C) × (place_after next ≡ Some after) × (cause_kept after ≡ Some cause))
 
   pub shown_ends : (walk : Walk C) (limits : Limits) (again : Bool) (cause : Cause) → want_of walk ≡ Look limits again → Ends cause (got_of N walk (Looked (Some cause)))
   shown_ends walk limits again cause e = found walk (look_here walk limits again e) where

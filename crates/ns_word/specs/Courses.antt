@@ -1,12 +1,12 @@
 -- How far a call on the lock has come, at each of its places.
 use Rattle.std.specs.Prelude.{Bool, List, None, Option, Some, [], false, true, ℕ, ◌++◌, ◌∷◌, ◌≡◌}
-use Rattle.ns_word.specs.Names.{Aim, Any, Cause, Done, Event, ForLock, ForWait, Found, Held, Idle, InAcquire, InLeaving, InQueuing, InRelease, InSignal, InWait, Limits, LookIn, Looked, Next, On, OnCondition, OnEntry, OnReturn, OnVariables, Only, Outcome, Pay, PayTheWoken, QueuePlace, ReleasePlace}
-use Rattle.ns_word.specs.Names.{Releasing, Request, SignalPlace, Subject, TestCells, TestLast, Truths, Visit, Wait, WaitPlace, Waking, Walk, is_limited}
+use Rattle.ns_word.specs.Names.{Aim, Any, Cause, Event, ForLock, ForWait, Found, Held, InAcquire, InLeaving, InQueuing, InRelease, InSignal, InWait, Limits, LookIn, Looked, Next, NextIs, OnCondition, OnEntry, OnReturn, OnVariables, Only, Outcome, Pay, PayTheWoken, QueuePlace, ReleasePlace}
+use Rattle.ns_word.specs.Names.{Releasing, Reply, Request, SignalPlace, Subject, TestCells, TestLast, Truths, Visit, Wait, WaitPlace, Waking, Walk, is_limited}
 use Rattle.ns_word.specs.Asked.{asked_of}
 use Rattle.ns_word.specs.Waits.{cause_in}
 use Rattle.ns_word.specs.Places.{IsUnmet}
-use Rattle.ns_word.specs.Steps.{section_of, exit_for}
-use Rattle.ns_word.specs.Meanings.{Course, Unchanged, HasReleased, HasWoken, Means}
+use Rattle.ns_word.specs.Steps.{exit_for, section_of}
+use Rattle.ns_word.specs.Meanings.{Course, HasReleased, HasWoken, Means, Unchanged}
 use Rattle.ns_model.specs.declared.event.Event.TheVariants as TheEvent
 
 -- ---- how a step takes a course on
@@ -105,7 +105,5 @@ pub record GoesOn {C : Type 0} {N : ℕ} (truths : Truths C) (seat : ℕ) (reque
   pub so_far : SoFar truths seat course walk held
 
 -- where a step leads a call that was asked to do this: it goes on, at once or after it has waited, or its answer means what it says, where the history has left this row
-abbrev pub CallGoes : {C : Type 0} {N : ℕ} → Truths C → ℕ → List ℕ → Request C → Course C N → Next C → Option (Held C N) → Type 0
-CallGoes truths seat row request course (On walk) held = GoesOn truths seat request course walk held
-CallGoes truths seat row request course (Idle walk) held = GoesOn truths seat request course walk held
-CallGoes truths seat row request course (Done reply) held = Means truths seat row request course reply held
+abbrev pub CallGoes : {C : Type 0} {N : ℕ} → Truths C → ℕ → List ℕ → Request C → Course C N → Next (Walk C) Reply → Option (Held C N) → Type 0
+CallGoes truths seat row request course next held = NextIs (λ walk. GoesOn truths seat request course walk held) (λ reply. Means truths seat row request course reply held) next

@@ -1,9 +1,11 @@
 -- The names of crates below and of this crate's own types, passed on from one place. Declares nothing.
-pub use Rattle.ns_env.specs.Prelude.{BeginsWith}
+pub use Rattle.ns_env.specs.Prelude.{BeginsWith, NextIs, place_after}
 pub use Rattle.ns_env.specs.Walks.{is_limited}
 pub use Rattle.ns_env.specs.declared.limits.Cause.{Cause}
 pub use Rattle.ns_env.specs.declared.limits.Cause.TheVariants.{Expired, Notified}
 pub use Rattle.ns_env.specs.declared.limits.Limits.{Limits}
+pub use Rattle.ns_env.specs.declared.next.Next.{Next}
+pub use Rattle.ns_env.specs.declared.next.Next.TheVariants.{Done, Idle, On}
 pub use Rattle.ns_model.specs.Histories.{IsBySeats, IsLegal, IsLegalEvent, Standing, first_row, first_standing, own, phase_of, row_after, standing_after, standing_next, who_of}
 pub use Rattle.ns_model.specs.Phases.{left_phase}
 pub use Rattle.ns_model.specs.Sections.{EntryFits, ExitFits, ModeFits, is_met, phase_after}
@@ -72,8 +74,6 @@ pub use Rattle.ns_word.specs.declared.wait.Visit.TheVariants.{OnEntry, OnReturn}
 pub use Rattle.ns_word.specs.declared.wait.Wait.{Wait}
 pub use Rattle.ns_word.specs.declared.wait.WaitPlace.{WaitPlace}
 pub use Rattle.ns_word.specs.declared.wait.WaitPlace.TheVariants.{AwaitWakeInWait, InLeaving, InQueuing, LookOut, PayInWait, TestCells, TestLast}
-pub use Rattle.ns_word.specs.declared.walk.Next.{Next}
-pub use Rattle.ns_word.specs.declared.walk.Next.TheVariants.{Done, Idle, On}
 pub use Rattle.ns_word.specs.declared.walk.Reply.{Reply}
 pub use Rattle.ns_word.specs.declared.walk.Reply.TheVariants.{Answered, Busy, Is, Noisy, Number, Succeeded, WokenBy}
 pub use Rattle.ns_word.specs.declared.walk.Walk.{Walk}

@@ -19,7 +19,7 @@ pub use Rattle.ns_word.specs.Names.{Queue, QueuePlace, QueueSelf, QueueToWait, Q
 pub use Rattle.ns_word.specs.Names.{ScanCells, Scanned, SeatView, Seats, Set, SetLoad, SetStore, Show, ShowLoad, ShowPlace, SignalLoad, SignalPlace, Signaling, Standing, StoreCell, Subject, Succeeded, Take, TakeQueues, TakeToLeave, TakeToQueue, TakeToScan, TakeToShow, TakeToWake, Taking, TestCells}
 pub use Rattle.ns_word.specs.Names.{TestLast, Tested, TimedOut, ToChange, ToQueue, ToRelease, ToTell, Truths, TryAcquire, TryLoad, TryLock, TryPlace, Variables, Visit, Wait, WaitFor, WaitPlace, WaitReturning, Waited, Waiter, Waiting, WaitsAmong, Wake, WakeAndReturn, WakeWaiters, Waking, Walk, Woke}
 pub use Rattle.ns_word.specs.Names.{Woken, WokenBy, Word, Write, Writer, beside, cvs_without, first_row, first_standing, has, has_condition, is_eligible, is_in, is_limited, is_long, is_met, is_of, is_satisfied, is_waiting, is_write, left_of, left_phase, named_for, one_if, outside, own, phase_after}
-pub use Rattle.ns_word.specs.Names.{phase_of, reads, row_after, seats_of, standing_after, standing_next, taken_set, tests_of, times, times_in, waiters_of, who_of, with_each, with_waiters, without, without_in, woken_of, woken_phase, woken_phases, writes}
+pub use Rattle.ns_word.specs.Names.{phase_of, place_after, reads, row_after, seats_of, standing_after, standing_next, taken_set, tests_of, times, times_in, waiters_of, who_of, with_each, with_waiters, without, without_in, woken_of, woken_phase, woken_phases, writes}
 pub use Rattle.ns_word.specs.Owed.{Tells, called_by, called_of, is_from_lock, times_among, value_of, variable_told, wake_by, wakes_of}
 pub use Rattle.ns_word.specs.Places.{ActFits, AimFits, AreVariables, CanLeave, CanWait, CellFits, ComesBack, HasList, HasMode, IsForCondition, IsInRange, IsLeft, IsSettled, IsSettledBy, IsUnmet, MayWait, OwesOne, PlaceFits, QueueFits, ReleaseFits, Tests, WaitFits}
 pub use Rattle.ns_word.specs.Seen.{HasNumber, word_seen}
@@ -31,7 +31,7 @@ pub use Rattle.ns_word.specs.Views.{AreApart, AreNumbered, NoneIs, called_to, is
 pub use Rattle.ns_word.specs.Waits.{IsWokenBy, OutcomeFits, answer_of, answer_of_wait, arrival_of, cause_in, home_of, mode_for, outcome_taken, phase_by_wake, phase_for, phase_kept, variable_in, woken_by}
 pub use Rattle.ns_word.specs.Walks.{Stance, acquire_by, acquire_has_queues, acquired_for, after_judging, armed_place, awaits, back_with, calls_from_lock, expected_for, first_for, got_acquiring, got_in_cells, got_leaving, got_of, got_queuing, got_releasing, got_showing, got_signaling, got_trying}
 pub use Rattle.ns_word.specs.Walks.{got_waiting, has_armed, has_queues, is_arrival_woken, is_on_way, is_queuing, judge_of, leave_by, load_place, look_or_queue, pay_releasing, pay_waiting, pay_woken, pays, phase_by, place_awaits, queue_by, quiet_first, quiet_place, release_by, release_has_queues}
-pub use Rattle.ns_word.specs.Walks.{reply_for, rest_or_look, scan_place, show_by, signal_by, test_place, unmet_by, wait_first, wait_has_queues, waits_in, walk_after, want_acquiring, want_in_cells, want_leaving, want_of, want_queuing, want_releasing, want_showing, want_signaling, want_trying}
+pub use Rattle.ns_word.specs.Walks.{reply_for, rest_or_look, scan_place, show_by, signal_by, test_place, unmet_by, wait_first, wait_has_queues, waits_in, want_acquiring, want_in_cells, want_leaving, want_of, want_queuing, want_releasing, want_showing, want_signaling, want_trying}
 pub use Rattle.ns_word.specs.Walks.{want_waiting, was_woken}
 pub use Rattle.ns_word.specs.Words.{is_held, is_woken, may_acquire, mode_released, needs_scan, releasing_of, tries_of, word_acquired, word_released, word_released_returning, word_returned, word_taken}
 pub use Rattle.ns_word.specs.declared.number.Bit.{Bit}

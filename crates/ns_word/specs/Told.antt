@@ -1,8 +1,8 @@
 -- What a seat was told: the history that it has seen, its own events, and the calls that it has begun.
 use Rattle.std.specs.Prelude.{All, Bool, List, None, Option, Some, [], ℕ, ◌++◌, ◌∷◌, ◌≡◌}
-use Rattle.ns_word.specs.Names.{BeginsWith, Event, Found, IsBySeats, IsLegal, Walk, own, who_of}
+use Rattle.ns_word.specs.Names.{BeginsWith, Event, Found, IsBySeats, IsLegal, Walk, own, place_after, who_of}
 use Rattle.ns_word.specs.Begins.{IsFirst}
-use Rattle.ns_word.specs.Walks.{got_of, walk_after}
+use Rattle.ns_word.specs.Walks.{got_of}
 
 -- `begun` has the first place of each call
 pub record Told (C : Type 0) (N : ℕ) : Type 0 where
@@ -18,7 +18,7 @@ nothing_told = record { seen = []; mine = []; begun = [] }
 abbrev pub walk_over : {C : Type 0} → ℕ → List Found → Option (Walk C) → Option (Walk C)
 walk_over N [] walk = walk
 walk_over N (found ∷ founds) None = None
-walk_over N (found ∷ founds) (Some walk) = walk_over N founds (walk_after (got_of N walk found))
+walk_over N (found ∷ founds) (Some walk) = walk_over N founds (place_after (got_of N walk found))
 
 -- The call in progress is the last that was begun: what its steps found has led from its first place to where it is.
 pub record LedBy {C : Type 0} (N : ℕ) (begun : List (Walk C)) (walk : Walk C) : Type 0 where

@@ -101,14 +101,14 @@ want_of (InShow place) = want_showing place
 -- ---- the decisions
 
 -- An acquire's decision by the word last seen: acquire if it may, else idle while another has the queues, else queue.
-abbrev pub acquire_by : {C : Type 0} → Aim C → Arrival → Word → Next C
+abbrev pub acquire_by : {C : Type 0} → Aim C → Arrival → Word → Next (Walk C) Reply
 acquire_by aim arrival word =
     if may_acquire (mode_for aim) arrival word then On (InAcquire aim (AcquireExchange arrival word))
     else if word.spin then Idle (InAcquire aim (AcquireLoad arrival))
     else On (InAcquire aim (TakeToQueue arrival word))
 
 -- A release's decision by the word last seen: release if no scan is needed, else idle while another has the queues, else scan.
-abbrev pub release_by : {C : Type 0} → Releasing → Word → Next C
+abbrev pub release_by : {C : Type 0} → Releasing → Word → Next (Walk C) Reply
 release_by releasing word =
     if not (needs_scan releasing word) then On (InRelease releasing (ReleaseExchange word))
     else if word.spin then Idle (InRelease releasing ReleaseLoad)
@@ -119,7 +119,7 @@ abbrev pub quiet_place : ℕ → Judging → ℕ → CellPlace
 quiet_place N judging loaded = if nat_lt loaded (N - 1) then QuietCells judging loaded else QuietLast judging (N - 1)
 
 -- where it goes once it has judged the section
-abbrev pub after_judging : {C : Type 0} → Judging → Bool → Next C
+abbrev pub after_judging : {C : Type 0} → Judging → Bool → Next (Walk C) Reply
 after_judging ToTell quiet = Done (Is quiet)
 after_judging ToRelease quiet = if quiet then On (InRelease QuietWriter ReleaseLoad) else Done Noisy
 
@@ -128,7 +128,7 @@ abbrev pub scan_place : ℕ → Word → ℕ → ReleasePlace
 scan_place N last loaded = if nat_lt loaded N then ScanCells last loaded else ScanAndRelease last
 
 -- where a release goes that owes wakes, or none
-abbrev pub pay_releasing : {C : Type 0} → Releasing → Bool → Next C
+abbrev pub pay_releasing : {C : Type 0} → Releasing → Bool → Next (Walk C) Reply
 pay_releasing releasing owes = if owes then On (InRelease releasing Pay) else Done Succeeded
 
 -- where a wait goes that tests its condition and has loaded so many of N cells
@@ -141,27 +141,27 @@ reply_for (Only k) outcome = Answered (answer_of_wait outcome)
 reply_for (Any cvs) outcome = WokenBy (variable_in outcome)
 
 -- where a wait goes that has come back: one for a condition tests it, and one for variables is over
-abbrev pub back_with : {C : Type 0} → ℕ → Subject C → Wait C → Outcome → Next C
+abbrev pub back_with : {C : Type 0} → ℕ → Subject C → Wait C → Outcome → Next (Walk C) Reply
 back_with N (OnCondition c) wait outcome = On (test_place N wait (OnReturn outcome) 0)
 back_with N (OnVariables variables) wait outcome = Done (reply_for variables outcome)
 
 -- where an acquire goes that was made
-abbrev pub acquired_for : {C : Type 0} → ℕ → Aim C → Next C
+abbrev pub acquired_for : {C : Type 0} → ℕ → Aim C → Next (Walk C) Reply
 acquired_for N (ForLock mode) = Done Succeeded
 acquired_for N (ForWait wait outcome) = back_with N wait.on wait outcome
 
 -- a wait has to go on waiting, unless a look shows something
-abbrev pub look_or_queue : {C : Type 0} → Wait C → Bool → Next C
+abbrev pub look_or_queue : {C : Type 0} → Wait C → Bool → Next (Walk C) Reply
 look_or_queue wait again = if is_limited wait.limits then On (InWait wait (InQueuing again LookIn)) else On (InWait wait (InQueuing again Load))
 
 -- where a wait goes whose condition is false: one that came back because it was ended early answers that
-abbrev pub unmet_by : {C : Type 0} → Wait C → Visit → Next C
+abbrev pub unmet_by : {C : Type 0} → Wait C → Visit → Next (Walk C) Reply
 unmet_by wait OnEntry = look_or_queue wait false
 unmet_by wait (OnReturn (Woken by)) = look_or_queue wait true
 unmet_by wait (OnReturn (Ended cause)) = Done (Answered (answer_of cause))
 
 -- where a wait that is about to queue goes by the word last seen
-abbrev pub queue_by : {C : Type 0} → Wait C → Bool → Word → Next C
+abbrev pub queue_by : {C : Type 0} → Wait C → Bool → Word → Next (Walk C) Reply
 queue_by wait again word = if word.spin then Idle (InWait wait (InQueuing again Load)) else On (InWait wait (InQueuing again (Take word)))
 
 -- where a wait with the queues goes that loads cells for its scan and has loaded so many of N
@@ -174,15 +174,15 @@ armed_place N (OnCondition c) last = QueueToWait last
 armed_place N (OnVariables variables) last = if last.cond then load_place N last 0 else QueueToWait last
 
 -- where a wait goes that has queued, and owes wakes or none
-abbrev pub pay_waiting : {C : Type 0} → Wait C → Bool → Next C
+abbrev pub pay_waiting : {C : Type 0} → Wait C → Bool → Next (Walk C) Reply
 pay_waiting wait owes = if owes then On (InWait wait PayInWait) else On (InWait wait AwaitWakeInWait)
 
 -- where a wait goes that waits to be woken, and wasn't yet
-abbrev pub rest_or_look : {C : Type 0} → Wait C → Next C
+abbrev pub rest_or_look : {C : Type 0} → Wait C → Next (Walk C) Reply
 rest_or_look wait = if is_limited wait.limits then On (InWait wait LookOut) else Idle (InWait wait AwaitWakeInWait)
 
 -- where a wait that leaves goes by the word last seen
-abbrev pub leave_by : {C : Type 0} → Wait C → Cause → Word → Next C
+abbrev pub leave_by : {C : Type 0} → Wait C → Cause → Word → Next (Walk C) Reply
 leave_by wait cause word = if word.spin then Idle (InWait wait (InLeaving cause LeaveLoad)) else On (InWait wait (InLeaving cause (TakeToLeave word)))
 
 -- the first place of a call that judges the section, over a row of N cells
@@ -190,15 +190,15 @@ abbrev pub quiet_first : {C : Type 0} → ℕ → Judging → Walk C
 quiet_first N judging = InCells (quiet_place N judging 0)
 
 -- where a call that wakes goes by the word last seen
-abbrev pub signal_by : {C : Type 0} → Waking → ℕ → Word → Next C
+abbrev pub signal_by : {C : Type 0} → Waking → ℕ → Word → Next (Walk C) Reply
 signal_by waking k word = if word.spin then Idle (InSignal waking k SignalLoad) else On (InSignal waking k (TakeToWake word))
 
 -- where a call that wakes goes that owes wakes, or none
-abbrev pub pay_woken : {C : Type 0} → Waking → ℕ → Bool → Next C
+abbrev pub pay_woken : {C : Type 0} → Waking → ℕ → Bool → Next (Walk C) Reply
 pay_woken waking k owes = if owes then On (InSignal waking k PayTheWoken) else Done Succeeded
 
 -- where a call that shows goes by the word last seen
-abbrev pub show_by : {C : Type 0} → Word → Next C
+abbrev pub show_by : {C : Type 0} → Word → Next (Walk C) Reply
 show_by word = if word.spin then Idle (InShow ShowLoad) else On (InShow (TakeToShow word))
 
 -- the first place of a wait for this: one for a condition tests it
@@ -213,14 +213,14 @@ wait_first N wait = first_for N wait.on wait
 -- ---- where what was found leads
 
 -- where a try goes; here and in each group, what no step of the place finds leaves it there
-abbrev pub got_trying : {C : Type 0} → Mode → TryPlace → Found → Next C
+abbrev pub got_trying : {C : Type 0} → Mode → TryPlace → Found → Next (Walk C) Reply
 got_trying mode TryLoad (Saw word) = if may_acquire mode AsFresh word then On (InTry mode (TryAcquire word)) else Done Busy
 got_trying mode (TryAcquire last) (Saw word) = Done Busy
 got_trying mode (TryAcquire last) Made = Done Succeeded
 got_trying mode place found = On (InTry mode place)
 
 -- where an acquire goes
-abbrev pub got_acquiring : {C : Type 0} → ℕ → Aim C → AcquirePlace → Found → Next C
+abbrev pub got_acquiring : {C : Type 0} → ℕ → Aim C → AcquirePlace → Found → Next (Walk C) Reply
 got_acquiring N aim (AcquireLoad arrival) (Saw word) = acquire_by aim arrival word
 got_acquiring N aim (AcquireExchange arrival last) (Saw word) = acquire_by aim arrival word
 got_acquiring N aim (AcquireExchange arrival last) Made = acquired_for N aim
@@ -233,7 +233,7 @@ got_acquiring N aim (AwaitWake tries) (Flag v) = if v == 1 then Idle (InAcquire 
 got_acquiring N aim place found = On (InAcquire aim place)
 
 -- where a release goes
-abbrev pub got_releasing : {C : Type 0} → ℕ → Releasing → ReleasePlace → Found → Next C
+abbrev pub got_releasing : {C : Type 0} → ℕ → Releasing → ReleasePlace → Found → Next (Walk C) Reply
 got_releasing N releasing ReleaseLoad (Saw word) = release_by releasing word
 got_releasing N releasing (ReleaseExchange last) (Saw word) = release_by releasing word
 got_releasing N releasing (ReleaseExchange last) Made = Done Succeeded
@@ -247,7 +247,7 @@ got_releasing N releasing Pay (Paid owes) = pay_releasing releasing owes
 got_releasing N releasing place found = On (InRelease releasing place)
 
 -- where a call on the row goes
-abbrev pub got_in_cells : {C : Type 0} → ℕ → CellPlace → Found → Next C
+abbrev pub got_in_cells : {C : Type 0} → ℕ → CellPlace → Found → Next (Walk C) Reply
 got_in_cells N (GetLoad i) (Cell v) = Done (Number v)
 got_in_cells N (SetLoad i v) (Cell w) = On (InCells (SetStore i v))
 got_in_cells N (SetStore i v) Made = Done Succeeded
@@ -256,7 +256,7 @@ got_in_cells N (QuietLast judging i) (Quiet is_quiet) = after_judging judging is
 got_in_cells N place found = On (InCells place)
 
 -- where a wait goes that is about to queue
-abbrev pub got_queuing : {C : Type 0} → ℕ → Wait C → Bool → QueuePlace → Found → Next C
+abbrev pub got_queuing : {C : Type 0} → ℕ → Wait C → Bool → QueuePlace → Found → Next (Walk C) Reply
 got_queuing N wait again LookIn (Looked None) = On (InWait wait (InQueuing again Load))
 got_queuing N wait again LookIn (Looked (Some cause)) = Done (Answered (answer_of cause))
 got_queuing N wait again Load (Saw word) = queue_by wait again word
@@ -269,7 +269,7 @@ got_queuing N wait again (QueueToWait last) (Scanned owes tests) = pay_waiting w
 got_queuing N wait again place found = On (InWait wait (InQueuing again place))
 
 -- where a wait goes that leaves
-abbrev pub got_leaving : {C : Type 0} → Wait C → Cause → LeavePlace → Found → Next C
+abbrev pub got_leaving : {C : Type 0} → Wait C → Cause → LeavePlace → Found → Next (Walk C) Reply
 got_leaving wait cause LeaveLoad (Saw word) = leave_by wait cause word
 got_leaving wait cause (TakeToLeave last) (Saw word) = leave_by wait cause word
 got_leaving wait cause (TakeToLeave last) Made = On (InWait wait (InLeaving cause (Leave (word_taken ToChange last))))
@@ -281,7 +281,7 @@ got_leaving wait cause AwaitWakeToLeave (Flag v) =
 got_leaving wait cause place found = On (InWait wait (InLeaving cause place))
 
 -- where a wait goes
-abbrev pub got_waiting : {C : Type 0} → ℕ → Wait C → WaitPlace → Found → Next C
+abbrev pub got_waiting : {C : Type 0} → ℕ → Wait C → WaitPlace → Found → Next (Walk C) Reply
 got_waiting N wait (TestCells visit i) (Cell v) = On (test_place N wait visit (i + 1))
 got_waiting N wait (TestLast visit i) (Tested is_met) = if is_met then Done (Answered Met) else unmet_by wait visit
 got_waiting N wait (InQueuing again place) found = got_queuing N wait again place found
@@ -293,7 +293,7 @@ got_waiting N wait (InLeaving cause place) found = got_leaving wait cause place 
 got_waiting N wait place found = On (InWait wait place)
 
 -- where a call that wakes goes
-abbrev pub got_signaling : {C : Type 0} → Waking → ℕ → SignalPlace → Found → Next C
+abbrev pub got_signaling : {C : Type 0} → Waking → ℕ → SignalPlace → Found → Next (Walk C) Reply
 got_signaling waking k SignalLoad (Saw word) = signal_by waking k word
 got_signaling waking k (TakeToWake last) (Saw word) = signal_by waking k word
 got_signaling waking k (TakeToWake last) Made = On (InSignal waking k (WakeAndReturn (word_taken ToChange last)))
@@ -303,7 +303,7 @@ got_signaling waking k PayTheWoken (Paid owes) = pay_woken waking k owes
 got_signaling waking k place found = On (InSignal waking k place)
 
 -- where a call that shows goes
-abbrev pub got_showing : {C : Type 0} → ShowPlace → Found → Next C
+abbrev pub got_showing : {C : Type 0} → ShowPlace → Found → Next (Walk C) Reply
 got_showing ShowLoad (Saw word) = show_by word
 got_showing (TakeToShow last) (Saw word) = show_by word
 got_showing (TakeToShow last) Made = On (InShow (ReturnShown (word_taken ToChange last)))
@@ -312,7 +312,7 @@ got_showing (ReturnShown last) Made = Done Succeeded
 got_showing place found = On (InShow place)
 
 -- where a place goes with what its step found, over a row of N cells
-abbrev pub got_of : {C : Type 0} → ℕ → Walk C → Found → Next C
+abbrev pub got_of : {C : Type 0} → ℕ → Walk C → Found → Next (Walk C) Reply
 got_of N (InTry mode place) found = got_trying mode place found
 got_of N (InAcquire aim place) found = got_acquiring N aim place found
 got_of N (InRelease releasing place) found = got_releasing N releasing place found
@@ -320,12 +320,6 @@ got_of N (InCells place) found = got_in_cells N place found
 got_of N (InWait wait place) found = got_waiting N wait place found
 got_of N (InSignal waking k place) found = got_signaling waking k place found
 got_of N (InShow place) found = got_showing place found
-
--- the place after, if the call goes on
-abbrev pub walk_after : {C : Type 0} → Next C → Option (Walk C)
-walk_after (On walk) = Some walk
-walk_after (Idle walk) = Some walk
-walk_after (Done reply) = None
 
 -- ---- what a place in a call tells of its seat
 

@@ -6,8 +6,9 @@ ghost use Rattle.ns_word.specs.Walks.{want_acquiring, got_acquiring, acquire_by,
 use crate::act::{Act, Change, Found};
 use crate::wait::{Aim, Outcome, Subject, Visit, arrival_of};
 use crate::wait_walk::test_place;
-use crate::walk::{Next, Reply, Walk};
+use crate::walk::{Reply, Walk, WalkNext};
 use crate::word::{Arrival, Taking, Word};
+use ns_env::next::Next;
 use ns_model::cvs::Variables;
 
 /// A place in an acquire, with nothing in hand. A word is the one last seen.
@@ -34,7 +35,7 @@ pub enum AcquirePlace {
 }
 
 /// Where an acquire goes by the word last seen.
-fn acquire_by<C: Copy>(aim: &Aim<C>, arrival: Arrival, word: Word) -> Next<C>
+fn acquire_by<C: Copy>(aim: &Aim<C>, arrival: Arrival, word: Word) -> WalkNext<C>
     ensures { result ≡ acquire_by aim.now arrival word }
 {
     if word.may_acquire(aim.mode(), arrival) {
@@ -58,7 +59,7 @@ fn reply_for(variables: Variables, outcome: Outcome) -> Reply
 }
 
 /// Where an acquire goes that was made.
-fn acquired_for<C: Copy, const N: usize>(aim: &Aim<C>) -> Next<C>
+fn acquired_for<C: Copy, const N: usize>(aim: &Aim<C>) -> WalkNext<C>
     requires { N ≤ 16 }
     ensures { result ≡ acquired_for N aim.now }
 {
@@ -93,7 +94,7 @@ impl AcquirePlace {
     }
 
     /// Where the acquire goes with what its step found.
-    pub(crate) fn got<C: Copy, const N: usize>(self, aim: &Aim<C>, found: Found) -> Next<C>
+    pub(crate) fn got<C: Copy, const N: usize>(self, aim: &Aim<C>, found: Found) -> WalkNext<C>
         requires { N ≤ 16 }
         ensures { result ≡ got_acquiring N aim.now self found }
     {

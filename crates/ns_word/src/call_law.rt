@@ -1,16 +1,16 @@
 //! The laws by call: what a call has done at each of its places, and what its answer means.
 
 ghost use Rattle.std.specs.Prelude.{◌≡◌, ◌≢◌, ◌<◌, ◌⊎◌, ◌||◌, ◌==◌, nat_lt, Bool, ℕ, true, false, if◌then◌else◌, List, [], ◌∷◌, ◌++◌, Option, None, Some, slice_get};
-ghost use Rattle.ns_word.specs.Prelude.{AcquireLoad, Aim, Answered, Arrival, AsFresh, AsWoken, Await, AwaitWake, AwaitWakeInWait, Busy, CallGoes, Cause, Course, Cv, Done, Event, Every, Flag, Found, Held, InAcquire, InTry, InWait, IsFirst, IsLawful, IsToldSo, Limits, LoadFlag, LockState, Look, Looked};
-ghost use Rattle.ns_word.specs.Prelude.{Made, Met, Mode, On, OnCondition, Owed, PayWake, Queue, Read, Saw, SeatView, SoFar, Step, Tells, TryAcquire, TryPlace, Wait, Wake, Waking, Walk, Word, answer_of, asked_of, calls_from_lock, cause_kept, course_after, course_from, got_of, has_come_back, is_limited};
-ghost use Rattle.ns_word.specs.Prelude.{is_woken, kept_by, may_acquire, row_after, standing_after, taken_by, tries_of, waiters_of, waits_in, wake_of, walk_after, walk_at, want_of, was_woken};
+ghost use Rattle.ns_word.specs.Prelude.{AcquireLoad, Aim, Answered, Arrival, AsFresh, AsWoken, Await, AwaitWake, AwaitWakeInWait, Busy, CallGoes, Cause, Course, Cv, Done, Event, Every, Flag, Found, Held, InAcquire, InTry, InWait, IsFirst, IsLawful, IsToldSo, Limits, LoadFlag, LockState, Look};
+ghost use Rattle.ns_word.specs.Prelude.{Looked, Made, Met, Mode, On, OnCondition, Owed, PayWake, Queue, Read, Saw, SeatView, SoFar, Step, Tells, TryAcquire, TryPlace, Wait, Wake, Waking, Walk, Word, answer_of, asked_of, calls_from_lock, cause_kept, course_after, course_from, got_of, has_come_back};
+ghost use Rattle.ns_word.specs.Prelude.{is_limited, is_woken, kept_by, may_acquire, place_after, row_after, standing_after, taken_by, tries_of, waiters_of, waits_in, wake_of, walk_at, want_of, was_woken};
 
 use ns_model::condition::Condition;
 
 /// No step of a call changes what it was asked to do: its mode, cell, value, wait or variable.
 #[tactic(auto, using(crate::proofs::Asked::asked_stays))]
 pub fn calls_stay_what_they_were_asked<C: Condition<N>, const N: usize>()
-    ensures { (walk next : Walk C) (found : Found) → walk_after (got_of N walk found) ≡ Some next → asked_of next ≡ asked_of walk }
+    ensures { (walk next : Walk C) (found : Found) → place_after (got_of N walk found) ≡ Some next → asked_of next ≡ asked_of walk }
 {}
 
 /// A call has changed nothing and committed nothing as it begins.
@@ -58,7 +58,7 @@ pub fn looks_are_by_the_limits_asked<C: Condition<N>, const N: usize>()
 /// woken or begins to leave.
 pub fn limited_waits_look_while_they_wait<C: Condition<N>, const N: usize>()
     ensures { (wait : Wait C) → is_limited wait.limits ≡ true →
-        (next : Walk C) × (walk_after (got_of N (InWait wait AwaitWakeInWait) (Flag 1)) ≡ Some next) × (want_of next ≡ Look wait.limits false) }
+        (next : Walk C) × (place_after (got_of N (InWait wait AwaitWakeInWait) (Flag 1)) ≡ Some next) × (want_of next ≡ Look wait.limits false) }
 {}
 
 /// Only who has found in its flag that it was taken from the lock list acquires as woken, by a value of 0
@@ -66,7 +66,7 @@ pub fn limited_waits_look_while_they_wait<C: Condition<N>, const N: usize>()
 /// (`wakes_tell_where_they_come_from`).
 #[tactic(auto, using(crate::proofs::Calls::woken_was_called))]
 pub fn only_the_called_acquire_as_woken<C: Condition<N>, const N: usize>()
-    ensures { (walk : Walk C) (found : Found) → was_woken (walk_after (got_of N walk found)) ≡ true →
+    ensures { (walk : Walk C) (found : Found) → was_woken (place_after (got_of N walk found)) ≡ true →
         (was_woken (Some walk) ≡ true) ⊎ ((value : ℕ) × (want_of walk ≡ LoadFlag) × (found ≡ Flag value) × ((value ≡ 0) ⊎ (5 < value))) }
 {}
 
@@ -123,7 +123,7 @@ pub fn tries_are_busy_for_a_reason<C: Condition<N>, const N: usize>()
 pub fn a_shown_cause_ends_the_wait<C: Condition<N>, const N: usize>()
     ensures { (walk : Walk C) (limits : Limits) (again : Bool) (cause : Cause) → want_of walk ≡ Look limits again →
         (got_of N walk (Looked (Some cause)) ≡ Done (Answered (answer_of cause)))
-        ⊎ ((next : Walk C) × (walk_after (got_of N walk (Looked (Some cause))) ≡ Some next) × (cause_kept next ≡ Some cause)) }
+        ⊎ ((next : Walk C) × (place_after (got_of N walk (Looked (Some cause))) ≡ Some next) × (cause_kept next ≡ Some cause)) }
 {}
 
 /// What a look has shown isn't forgotten: a wait for a condition that keeps a cause is over with its next
@@ -134,7 +134,7 @@ pub fn a_kept_cause_is_answered<C: Condition<N>, const N: usize>()
         asked_of walk ≡ Await wait → wait.on ≡ OnCondition c → cause_kept walk ≡ Some cause →
         (got_of N walk found ≡ Done (Answered Met))
         ⊎ ((got_of N walk found ≡ Done (Answered (answer_of cause)))
-        ⊎ ((next : Walk C) × (walk_after (got_of N walk found) ≡ Some next) × (cause_kept next ≡ Some cause))) }
+        ⊎ ((next : Walk C) × (place_after (got_of N walk found) ≡ Some next) × (cause_kept next ≡ Some cause))) }
 {}
 
 /// Readers join readers where nobody waits who keeps them out; and while a writer waits, a fresh

@@ -5,8 +5,9 @@ ghost use Rattle.ns_word.specs.Walks.{want_in_cells, got_in_cells, after_judging
 
 use crate::act::{Act, Found};
 use crate::release_walk::ReleasePlace;
-use crate::walk::{Next, Reply, Walk};
+use crate::walk::{Reply, Walk, WalkNext};
 use crate::word::Releasing;
+use ns_env::next::Next;
 
 /// What a call judges the section in hand for.
 #[derive(Clone, Copy)]
@@ -47,7 +48,7 @@ pub(crate) fn quiet_place<const N: usize>(judging: Judging, loaded: usize) -> Ce
 }
 
 /// Where a call goes that has judged the section.
-fn after_judging<C: Copy>(judging: Judging, is_quiet: bool) -> Next<C>
+fn after_judging<C: Copy>(judging: Judging, is_quiet: bool) -> WalkNext<C>
     ensures { result ≡ after_judging judging is_quiet }
 {
     match judging {
@@ -77,7 +78,7 @@ impl CellPlace {
     }
 
     /// Where the call goes with what its step found.
-    pub(crate) fn got<C: Copy, const N: usize>(self, found: Found) -> Next<C>
+    pub(crate) fn got<C: Copy, const N: usize>(self, found: Found) -> WalkNext<C>
         requires { N ≤ 16 }
         ensures { result ≡ got_in_cells N self found }
     {

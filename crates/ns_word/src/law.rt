@@ -2,9 +2,9 @@
 
 ghost use Rattle.std.specs.Prelude.{◌≡◌, ◌≢◌, ◌⊎◌, ◌↔◌, ℕ, ◌<◌, ◌≤◌, true, false, List, [], ◌∷◌, ◌++◌, Option, None, Some, IsSome, IsSomeAnd, slice_get};
 ghost use Rattle.std.specs.List.{list_any};
-ghost use Rattle.ns_word.specs.Prelude.{AcquirePlace, Answer, Answered, Begins, BeginsWith, Cause, Cond, Done, Event, Every, ForWait, Found, HasOne, Held, InAcquire, InWait, IsFirst, IsLawful, IsLook, IsPlainWriter, IsSaidBy, IsTold, LockState, Looked, OnCondition, OnVariables, Outcome, Read, Reply};
-ghost use Rattle.ns_word.specs.Prelude.{SeatStep, SeatView, Step, Told, Variables, Wait, WaitPlace, Waited, Waiter, Walk, answer_of, beside, calls_of, cause_kept, content_at, entry_of, found_of, fresh_state, got_of, has_come_back, is_back, is_long, is_met, nothing_told, phase_of, row_after, told_after};
-ghost use Rattle.ns_word.specs.Prelude.{walk_after, want_of, was_woken};
+ghost use Rattle.ns_word.specs.Prelude.{AcquirePlace, Answer, Answered, Begins, BeginsWith, Cause, Cond, Done, Event, Every, ForWait, Found, HasOne, Held, InAcquire, InWait, IsFirst, IsLawful, IsLook, IsPlainWriter, IsSaidBy, IsTold, LockState, Looked, OnCondition, OnVariables, Outcome, Read};
+ghost use Rattle.ns_word.specs.Prelude.{Reply, SeatStep, SeatView, Step, Told, Variables, Wait, WaitPlace, Waited, Waiter, Walk, answer_of, beside, calls_of, cause_kept, content_at, entry_of, found_of, fresh_state, got_of, has_come_back, is_back, is_long, is_met, nothing_told, phase_of};
+ghost use Rattle.ns_word.specs.Prelude.{place_after, row_after, told_after, want_of, was_woken};
 
 use ns_model::condition::Condition;
 
@@ -110,7 +110,7 @@ pub fn steps_tell_their_seat<C: Condition<N>, const N: usize>()
     ensures { (seats : ℕ) (history : List (Event C N)) (old new : LockState C N) (view : SeatView C N) (begun : Option (Walk C)) (found : Found) (commits : List (Event C N)) (told : Told C N) →
         seats ≤ 64 → (made : SeatStep C.means old view begun found new commits) →
         IsLawful C.means seats history old → IsTold C.means.holds seats history view.seat view.walk told →
-        IsTold C.means.holds seats (history ++ commits) view.seat (walk_after (got_of N made.step.walk found)) (told_after history commits (calls_of begun) told) × BeginsWith (history ++ commits) told.seen }
+        IsTold C.means.holds seats (history ++ commits) view.seat (place_after (got_of N made.step.walk found)) (told_after history commits (calls_of begun) told) × BeginsWith (history ++ commits) told.seen }
 {}
 
 /// What a seat was told stays true after the steps of others.
@@ -156,7 +156,7 @@ pub fn variable_waits_answer_as_they_come_back<C: Condition<N>, const N: usize>(
 /// step was such a look.
 pub fn early_answers_were_shown<C: Condition<N>, const N: usize>()
     ensures { (walk : Walk C) (found : Found) (cause : Cause) →
-        ((next : Walk C) → walk_after (got_of N walk found) ≡ Some next → cause_kept next ≡ Some cause → (cause_kept walk ≡ Some cause) ⊎ (found ≡ Looked (Some cause)))
+        ((next : Walk C) → place_after (got_of N walk found) ≡ Some next → cause_kept next ≡ Some cause → (cause_kept walk ≡ Some cause) ⊎ (found ≡ Looked (Some cause)))
         × (got_of N walk found ≡ Done (Answered (answer_of cause)) → (cause_kept walk ≡ Some cause) ⊎ (found ≡ Looked (Some cause))) }
 {}
 
@@ -173,7 +173,7 @@ pub fn sections_keep_their_beginning<C: Condition<N>, const N: usize>()
     ensures { (old new : LockState C N) (view : SeatView C N) (found : Found) (commits : List (Event C N)) (was held : Held C N) →
         (step : Step C.means old view found new commits) →
         has_come_back step.walk ≡ false → view.held ≡ Some was → step.held ≡ Some held →
-        (held.mode ≡ was.mode) × (held.before ≡ was.before) × (held.entry ≡ was.entry) × (is_back (walk_after (got_of N step.walk found)) ≡ false) }
+        (held.mode ≡ was.mode) × (held.before ≡ was.before) × (held.entry ≡ was.entry) × (is_back (place_after (got_of N step.walk found)) ≡ false) }
 {}
 
 /// No call begins at a place where a wait has come back, so neither do the calls that a seat makes

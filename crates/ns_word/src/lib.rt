@@ -9,7 +9,7 @@
 //!
 //! Nothing here runs. ns_world steps the machine on plain data. Between threads ns_gate makes the same
 //! steps on shared words, and the walk is there for the proof alone. The lists are ns_queue's, the events
-//! and their histories ns_model's, and a wait's limits ns_env's.
+//! and their histories ns_model's; a wait's limits, and where a walk goes ([`ns_env::next`]), ns_env's.
 //!
 //! The law is in `specs/Lawful.antt`, its proof in `proofs/`, and the contract that carries it
 //! is [`law::steps_keep_the_law`]'s.

@@ -4,8 +4,9 @@ ghost use Rattle.std.specs.Prelude.{◌≡◌, ◌≤◌};
 ghost use Rattle.ns_word.specs.Walks.{want_releasing, got_releasing, release_by, scan_place, pay_releasing};
 
 use crate::act::{Act, Found};
-use crate::walk::{Next, Reply, Walk};
+use crate::walk::{Reply, Walk, WalkNext};
 use crate::word::{Releasing, Taking, Word};
+use ns_env::next::Next;
 
 /// A place in a release. A word is the one last seen. Until `Pay` the section is in hand.
 #[derive(Clone, Copy)]
@@ -25,7 +26,7 @@ pub enum ReleasePlace {
 }
 
 /// Where a release goes by the word last seen.
-fn release_by<C: Copy>(releasing: Releasing, word: Word) -> Next<C>
+fn release_by<C: Copy>(releasing: Releasing, word: Word) -> WalkNext<C>
     ensures { result ≡ release_by releasing word }
 {
     if !word.needs_scan(releasing) {
@@ -50,7 +51,7 @@ fn scan_place<const N: usize>(last: Word, loaded: usize) -> ReleasePlace
 }
 
 /// Where a release goes that owes wakes, or none.
-fn pay_releasing<C: Copy>(releasing: Releasing, owes: bool) -> Next<C>
+fn pay_releasing<C: Copy>(releasing: Releasing, owes: bool) -> WalkNext<C>
     ensures { result ≡ pay_releasing releasing owes }
 {
     if owes {
@@ -76,7 +77,11 @@ impl ReleasePlace {
     }
 
     /// Where the release goes with what its step found.
-    pub(crate) fn got<C: Copy, const N: usize>(self, releasing: Releasing, found: Found) -> Next<C>
+    pub(crate) fn got<C: Copy, const N: usize>(
+        self,
+        releasing: Releasing,
+        found: Found,
+    ) -> WalkNext<C>
         requires { N ≤ 16 }
         ensures { result ≡ got_releasing N releasing self found }
     {

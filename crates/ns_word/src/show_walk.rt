@@ -8,8 +8,9 @@ ghost use Rattle.std.specs.Prelude.{◌≡◌};
 ghost use Rattle.ns_word.specs.Walks.{want_showing, got_showing, show_by};
 
 use crate::act::{Act, Change, Found};
-use crate::walk::{Next, Reply, Walk};
+use crate::walk::{Reply, Walk, WalkNext};
 use crate::word::{Taking, Word};
+use ns_env::next::Next;
 
 /// A place in a call that shows. A word is the one last seen.
 #[derive(Clone, Copy)]
@@ -23,7 +24,7 @@ pub enum ShowPlace {
 }
 
 /// Where a call that shows goes by the word last seen.
-fn show_by<C: Copy>(word: Word) -> Next<C>
+fn show_by<C: Copy>(word: Word) -> WalkNext<C>
     ensures { result ≡ show_by word }
 {
     if word.spin {
@@ -46,7 +47,7 @@ impl ShowPlace {
     }
 
     /// Where the call goes with what its step found.
-    pub(crate) fn got<C: Copy>(self, found: Found) -> Next<C>
+    pub(crate) fn got<C: Copy>(self, found: Found) -> WalkNext<C>
         ensures { result ≡ got_showing self found }
     {
         match (self, found) {

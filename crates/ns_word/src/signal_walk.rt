@@ -5,8 +5,9 @@ ghost use Rattle.std.specs.Prelude.{◌≡◌};
 ghost use Rattle.ns_word.specs.Walks.{want_signaling, got_signaling, signal_by, pay_woken};
 
 use crate::act::{Act, Change, Found, Waking};
-use crate::walk::{Next, Reply, Walk};
+use crate::walk::{Reply, Walk, WalkNext};
 use crate::word::{Taking, Word};
+use ns_env::next::Next;
 
 /// A place in a call that wakes. A word is the one last seen.
 #[derive(Clone, Copy)]
@@ -23,7 +24,7 @@ pub enum SignalPlace {
 }
 
 /// Where a call that wakes goes by the word last seen.
-fn signal_by<C: Copy>(waking: Waking, k: u8, word: Word) -> Next<C>
+fn signal_by<C: Copy>(waking: Waking, k: u8, word: Word) -> WalkNext<C>
     ensures { result ≡ signal_by waking k word }
 {
     if word.spin {
@@ -34,7 +35,7 @@ fn signal_by<C: Copy>(waking: Waking, k: u8, word: Word) -> Next<C>
 }
 
 /// Where a call that wakes goes that owes wakes, or none.
-fn pay_woken<C: Copy>(waking: Waking, k: u8, owes: bool) -> Next<C>
+fn pay_woken<C: Copy>(waking: Waking, k: u8, owes: bool) -> WalkNext<C>
     ensures { result ≡ pay_woken waking k owes }
 {
     if owes {
@@ -60,7 +61,7 @@ impl SignalPlace {
     }
 
     /// Where the call goes with what its step found.
-    pub(crate) fn got<C: Copy>(self, waking: Waking, k: u8, found: Found) -> Next<C>
+    pub(crate) fn got<C: Copy>(self, waking: Waking, k: u8, found: Found) -> WalkNext<C>
         ensures { result ≡ got_signaling waking k self found }
     {
         match (self, found) {

@@ -9,8 +9,9 @@ ghost use Rattle.ns_word.specs.Walks.{want_trying, got_trying};
 
 use crate::act::{Act, Found};
 use crate::wait::Aim;
-use crate::walk::{Next, Reply, Walk};
+use crate::walk::{Reply, Walk, WalkNext};
 use crate::word::{Arrival, Word};
+use ns_env::next::Next;
 use ns_model::event::Mode;
 
 /// A place in a try, with nothing in hand. A word is the one last seen.
@@ -34,7 +35,7 @@ impl TryPlace {
     }
 
     /// Where the try goes with what its step found.
-    pub(crate) fn got<C: Copy>(self, mode: Mode, found: Found) -> Next<C>
+    pub(crate) fn got<C: Copy>(self, mode: Mode, found: Found) -> WalkNext<C>
         ensures { result ≡ got_trying mode self found }
     {
         match (self, found) {

@@ -36,9 +36,10 @@ use crate::act::{Act, Change, Found};
 use crate::wait::{
     Aim, LeavePlace, Outcome, QueuePlace, Subject, Visit, Wait, WaitPlace, answer_of, arrival_of,
 };
-use crate::walk::{Next, Reply, Walk};
+use crate::walk::{Reply, Walk, WalkNext};
 use crate::word::{Arrival, Taking, Word};
 use ns_env::limits::Cause;
+use ns_env::next::Next;
 use ns_model::event::Answer;
 
 /// Where a wait goes that tests its condition and has loaded so many cells.
@@ -59,7 +60,7 @@ pub(crate) fn test_place<C: Copy, const N: usize>(
 }
 
 /// Where a wait goes that has to go on waiting, unless a look shows something.
-fn look_or_queue<C: Copy>(wait: &Wait<C>, again: bool) -> Next<C>
+fn look_or_queue<C: Copy>(wait: &Wait<C>, again: bool) -> WalkNext<C>
     ensures { result ≡ look_or_queue wait.now again }
 {
     if wait.limits.is_some() {
@@ -71,7 +72,7 @@ fn look_or_queue<C: Copy>(wait: &Wait<C>, again: bool) -> Next<C>
 
 /// Where a wait goes that has found this value in its flag and comes back, with what came of it: it
 /// acquires, and has not failed in that yet.
-fn acquire_woken<C: Copy>(wait: &Wait<C>, outcome: Outcome, value: u8) -> Next<C>
+fn acquire_woken<C: Copy>(wait: &Wait<C>, outcome: Outcome, value: u8) -> WalkNext<C>
     ensures { result ≡ Next.On (Walk.InAcquire (Aim.ForWait wait.now outcome) (AcquirePlace.AcquireLoad (arrival_of 0 value))) }
 {
     let place = AcquirePlace::AcquireLoad(arrival_of(0, value));
@@ -79,7 +80,7 @@ fn acquire_woken<C: Copy>(wait: &Wait<C>, outcome: Outcome, value: u8) -> Next<C
 }
 
 /// Where a wait goes whose condition is false.
-fn unmet_by<C: Copy>(wait: &Wait<C>, visit: Visit) -> Next<C>
+fn unmet_by<C: Copy>(wait: &Wait<C>, visit: Visit) -> WalkNext<C>
     ensures { result ≡ unmet_by wait.now visit }
 {
     match visit {
@@ -90,7 +91,7 @@ fn unmet_by<C: Copy>(wait: &Wait<C>, visit: Visit) -> Next<C>
 }
 
 /// Where a wait that is about to queue goes by the word last seen.
-fn queue_by<C: Copy>(wait: &Wait<C>, again: bool, word: Word) -> Next<C>
+fn queue_by<C: Copy>(wait: &Wait<C>, again: bool, word: Word) -> WalkNext<C>
     ensures { result ≡ queue_by wait.now again word }
 {
     if word.spin {
@@ -101,7 +102,7 @@ fn queue_by<C: Copy>(wait: &Wait<C>, again: bool, word: Word) -> Next<C>
 }
 
 /// Where a wait goes that has queued, and owes wakes or none.
-fn pay_waiting<C: Copy>(wait: &Wait<C>, owes: bool) -> Next<C>
+fn pay_waiting<C: Copy>(wait: &Wait<C>, owes: bool) -> WalkNext<C>
     ensures { result ≡ pay_waiting wait.now owes }
 {
     if owes {
@@ -112,7 +113,7 @@ fn pay_waiting<C: Copy>(wait: &Wait<C>, owes: bool) -> Next<C>
 }
 
 /// Where a wait goes that waits to be woken, and wasn't yet.
-fn rest_or_look<C: Copy>(wait: &Wait<C>) -> Next<C>
+fn rest_or_look<C: Copy>(wait: &Wait<C>) -> WalkNext<C>
     ensures { result ≡ rest_or_look wait.now }
 {
     if wait.limits.is_some() {
@@ -123,7 +124,7 @@ fn rest_or_look<C: Copy>(wait: &Wait<C>) -> Next<C>
 }
 
 /// Where a wait that leaves goes by the word last seen.
-fn leave_by<C: Copy>(wait: &Wait<C>, cause: Cause, word: Word) -> Next<C>
+fn leave_by<C: Copy>(wait: &Wait<C>, cause: Cause, word: Word) -> WalkNext<C>
     ensures { result ≡ leave_by wait.now cause word }
 {
     if word.spin {
@@ -186,7 +187,7 @@ impl QueuePlace {
     }
 
     /// Where the wait goes with what its step found.
-    fn got<C: Copy, const N: usize>(self, wait: &Wait<C>, again: bool, found: Found) -> Next<C>
+    fn got<C: Copy, const N: usize>(self, wait: &Wait<C>, again: bool, found: Found) -> WalkNext<C>
         requires { N ≤ 16 }
         ensures { result ≡ got_queuing N wait.now again self found }
     {
@@ -235,7 +236,7 @@ impl LeavePlace {
     }
 
     /// Where the wait goes with what its step found.
-    fn got<C: Copy>(self, wait: &Wait<C>, cause: Cause, found: Found) -> Next<C>
+    fn got<C: Copy>(self, wait: &Wait<C>, cause: Cause, found: Found) -> WalkNext<C>
         ensures { result ≡ got_leaving wait.now cause self found }
     {
         match (self, found) {
@@ -287,7 +288,7 @@ impl WaitPlace {
     }
 
     /// Where the wait goes with what its step found.
-    pub(crate) fn got<C: Copy, const N: usize>(self, wait: &Wait<C>, found: Found) -> Next<C>
+    pub(crate) fn got<C: Copy, const N: usize>(self, wait: &Wait<C>, found: Found) -> WalkNext<C>
         requires { N ≤ 16 }
         ensures { result ≡ got_waiting N wait.now self found }
     {

@@ -54,12 +54,13 @@ use crate::try_walk::TryPlace;
 use crate::wait::{Aim, QueuePlace, Subject, Visit, Wait, WaitPlace};
 use crate::wait_walk::test_place;
 use crate::word::{Arrival, Releasing};
+use ns_env::next::Next;
 use ns_model::event::{Answer, Mode};
 use std::alloc::AllocError;
 
 /// A place in a call.
 ///
-/// It, [`Act`], [`Found`], [`Next`] and the places have no `Debug` and no comparisons, and those
+/// It, [`Act`], [`Found`] and the places have no `Debug` and no comparisons, and those
 /// with a condition are cloned by hand, as a copy: what a derive writes for a type with many
 /// variants is proved anew in each check.
 #[derive(Copy)]
@@ -109,26 +110,8 @@ pub enum Reply {
     WokenBy(Option<u8>),
 }
 
-/// Where a walk goes.
-#[derive(Copy)]
-pub enum Next<C> {
-    /// It goes on at this place.
-    On(Walk<C>),
-    /// It has to wait for another seat, and repeats from this place.
-    Idle(Walk<C>),
-    /// It is over, and answers this.
-    Done(Reply),
-}
-
-impl<C: Copy> Clone for Next<C> {
-    ghost is_clone = { λ one other. other ≡ one };
-
-    ghost is_infallible = { λ _. ⊤ };
-
-    fn clone(&self) -> Result<Self, AllocError> {
-        Ok(*self)
-    }
-}
+/// Where a walk on the lock goes.
+pub type WalkNext<C> = Next<Walk<C>, Reply>;
 
 impl<C: Copy> Walk<C> {
     /// The first place of a call that locks in this mode.
@@ -247,7 +230,7 @@ impl<C: Copy> Walk<C> {
     /// place finds leaves it where it is.
     ///
     /// Needs a row of at most 16 cells, which every condition's law says.
-    pub fn got<const N: usize>(&self, found: Found) -> Next<C>
+    pub fn got<const N: usize>(&self, found: Found) -> WalkNext<C>
         requires { N ≤ 16 }
         ensures { result ≡ got_of N self.now found }
     {

@@ -1,14 +1,13 @@
 -- No seat is past its last call.
 use Rattle.std.proofs.Common.{All, Bool, Global, IfSome, List, None, Option, Some, Vec, [], ap, arith, cond, false, inl, inr, length, map, refl, replicate, slice_get, slice_index, slice_set, subst, suc, sym, true, zero, ℕ, ◌++◌, ◌+◌, ◌<◌, ◌∙◌, ◌∷◌, ◌≡◌, ◌≢◌, ◌≤◌}
-use Rattle.ns_world.proofs.Prelude.{All-head, All-nil, All-tail, AnyWait, Call, CallInRange, Counts, EnvNext, Finished, Go, GoesOnOrBegins, IsCounted, Line, ListFits, LookOver, Looked, Next, ObjectLeads, ObjectNext, OnNotes, OnObjects, Over, Progress, Reply, Round, RoundLeads, Seat}
-use Rattle.ns_world.proofs.Prelude.{SeatLooks, SeatMakes, Sees, Step, TurnOf, Walk, Whole, WholeMoves, calls_of, cases_eq, doing_after, env_got_of, env_step_of, env_walk_after, few, get_or-set_other, get_or-set_same, got_of, in_call, is_call, length-set, most, object_after}
-use Rattle.ns_world.proofs.Prelude.{object_step_of, option_map_or, progress, progressed, set_there, slice_get_within, step_of, tests_at, tests_told, there, waits_then, whole_busy}
-use Rattle.ns_word.specs.declared.walk.Next.TheVariants.{Done}
+use Rattle.ns_world.proofs.Prelude.{All-head, All-nil, All-tail, AnyWait, Call, CallInRange, Counts, EnvEnd, EnvWalk, Finished, GoesOnOrBegins, IsCounted, Line, ListFits, LookOver, Next, ObjectLeads, ObjectReply, ObjectWalk, On, OnNotes, OnObjects, Over, Progress, Reply, Round, RoundLeads, Seat}
+use Rattle.ns_world.proofs.Prelude.{SeatLooks, SeatMakes, Sees, Step, TurnOf, Walk, WalkReply, Whole, WholeMoves, calls_of, cases_eq, doing_after, env_got_of, env_step_of, few, get_or-set_other, get_or-set_same, got_of, in_call, is_call, length-set, most, object_step_of, option_map_or, place_after}
+use Rattle.ns_world.proofs.Prelude.{progress, progressed, set_there, slice_get_within, step_of, tests_at, tests_told, there, waits_then, whole_busy}
+use Rattle.ns_env.specs.declared.next.Next.TheVariants.{Done}
 use Rattle.ns_world.proofs.Fresh.{each_same}
 use Rattle.ns_world.proofs.SeatSet.{here_then, others_stay}
 use Rattle.ns_world.proofs.Turns.{busy_at}
 use Rattle.ns_word.specs.declared.act.Found.TheVariants as TheFound
-use Rattle.ns_counters.specs.declared.walk.ObjectNext.TheVariants as TheObject
 
 -- ---- the lists
 
@@ -31,17 +30,17 @@ bit_most true = omega arith
 bit_most false = omega arith
 
 -- a call that is over leaves its seat idle
-lock_over : {C : Type 0} (wait : Option AnyWait) (next : Next C) (reply : Reply) → Finished reply ≡ step_of wait next → is_call (doing_after wait next) ≡ false
+lock_over : {C : Type 0} (wait : Option AnyWait) (next : Next (Walk C) WalkReply) (reply : Reply) → Finished reply ≡ step_of wait next → is_call (doing_after wait next) ≡ false
 lock_over wait (Done answer) reply e = refl
 lock_over wait next reply e = absurd (cc)
 
-notes_over : (C : Type 0) (next : EnvNext) (reply : Reply) → Finished reply ≡ env_step_of next → is_call {C = C} (there OnNotes (env_walk_after next)) ≡ false
-notes_over C (Over answer) reply e = refl
-notes_over C (LookOver cause) reply e = refl
+notes_over : (C : Type 0) (next : Next EnvWalk EnvEnd) (reply : Reply) → Finished reply ≡ env_step_of next → is_call {C = C} (there OnNotes (place_after next)) ≡ false
+notes_over C (Done (Over answer)) reply e = refl
+notes_over C (Done (LookOver cause)) reply e = refl
 notes_over C next reply e = absurd (cc)
 
-objects_over : (C : Type 0) (next : ObjectNext) (reply : Reply) → Finished reply ≡ object_step_of next → is_call {C = C} (there OnObjects (object_after next)) ≡ false
-objects_over C (TheObject.Over answer) reply e = refl
+objects_over : (C : Type 0) (next : Next ObjectWalk ObjectReply) (reply : Reply) → Finished reply ≡ object_step_of next → is_call {C = C} (there OnObjects (place_after next)) ≡ false
+objects_over C (Done answer) reply e = refl
 objects_over C next reply e = absurd (cc)
 
 module _ {C : Type 0} {N : ℕ} where
@@ -74,13 +73,13 @@ module _ {C : Type 0} {N : ℕ} where
   makes_over : (old new : Whole C N) (here next : Seat C N) (reply : Reply) → SeatMakes old new here next (Finished reply) → in_call next ≡ false
   makes_over old new here next reply (inl p) = ap in_call p.performs.goes ∙ lock_over p.wait (got_of N p.walk p.found) reply p.performs.answers
   makes_over old new here next reply (inr (inl p)) = by (env_got_of p.place p.looks.found) p.looks.goes where
-    by : (n : EnvNext) → SeatLooks n here p.walk next (Finished reply) → in_call next ≡ false
-    by (Go place) g = let e = g.1 in absurd (cc)
-    by (LookOver cause) g = sees_over here next p.walk None cause reply g
+    by : (n : Next EnvWalk EnvEnd) → SeatLooks n here p.walk next (Finished reply) → in_call next ≡ false
+    by (On place) g = let e = g.1 in absurd (cc)
+    by (Done (LookOver cause)) g = sees_over here next p.walk None cause reply g
     by n g = absurd g
   makes_over old new here next reply (inr (inr (inl p))) = by p.leads p.goes where
-    by : (n : ObjectNext) → RoundLeads n here p.walk p.wait next (Finished reply) → in_call next ≡ false
-    by (TheObject.Go round) g = let e = g.1 in absurd (cc)
+    by : (n : Next ObjectWalk ObjectReply) → RoundLeads n here p.walk p.wait next (Finished reply) → in_call next ≡ false
+    by (On round) g = let e = g.1 in absurd (cc)
     by n g = sees_over here next p.walk _ _ reply g
   makes_over old new here next reply (inr (inr (inr (inl p)))) = ap in_call p.asks.goes ∙ notes_over C (env_got_of p.walk p.asks.found) reply p.asks.answers
   makes_over old new here next reply (inr (inr (inr (inr p)))) = by (waits_then p.walk p.leads) p.goes where

@@ -1,16 +1,15 @@
 -- Each kind of step, and a call that begins, keep the law: the machines' laws, and that the seat stands as it may.
 use Rattle.std.proofs.Common.{None, Option, Some, ap, append-nil, false, inl, inr, length, map, refl, slice_get, slice_set, subst, sym, true, unwrap_or, ℕ, ◌<◌, ◌∙◌, ◌≡◌}
-use Rattle.ns_world.proofs.Prelude.{AnyWait, AreEnvBy, AreObjectsBy, AtRest, Call, CallInRange, Doing, DoingFits, EnvPlain, EnvWalk, Found, HasLedTo, HaveLedTo, InRound, IsFirst, IsLawful, IsLawfulWhole, LedTo, Looked, LooksByLimits, LooksByRound, NeedsSection, ObjectLeads, ObjectNext, ObjectWalk}
-use Rattle.ns_world.proofs.Prelude.{OnLock, OnNotes, OnObjects, Past, PlaceFits, QuietKeeps, Repeat, Round, Seat, SeatMakes, StaysAsked, Step, Truths, WaitsFor, Walk, Whole, WholeMoves, WholeStarts, WholeStep, asked_of, begin_at, begins, cause_of, done_in, env_got_of, env_walk_after, keeps, lock_of}
-use Rattle.ns_world.proofs.Prelude.{mode_of, mode_waited, notes_by, nothing_done, object_after, object_asked, objects_after, objects_by, operating_of, past_and, placed, shown_by, start_of, stays_asked, there, view_of, waits_then, walk_of}
-use Rattle.ns_world.specs.Prelude.{Over}
+use Rattle.ns_world.proofs.Prelude.{AnyWait, AreEnvBy, AreObjectsBy, AtRest, Call, CallInRange, Doing, DoingFits, EnvPlain, EnvWalk, Found, HasLedTo, HaveLedTo, InRound, IsFirst, IsLawful, IsLawfulWhole, LedTo, Looked, LooksByLimits, LooksByRound, NeedsSection, Next, ObjectLeads, ObjectReply}
+use Rattle.ns_world.proofs.Prelude.{ObjectWalk, On, OnLock, OnNotes, OnObjects, Past, PlaceFits, QuietKeeps, Round, Seat, SeatMakes, StaysAsked, Step, Truths, WaitsFor, Walk, Whole, WholeMoves, WholeStarts, WholeStep, asked_of, begin_at, begins, cause_of, done_in, env_got_of, keeps, lock_of}
+use Rattle.ns_world.proofs.Prelude.{mode_of, mode_waited, notes_by, nothing_done, object_asked, objects_after, objects_by, operating_of, past_and, place_after, placed, shown_by, start_of, stays_asked, there, view_of, waits_then, walk_of}
 use Rattle.ns_world.proofs.Led.{begun_led, first_if_at, fits_here, led_makes, makes_led}
 use Rattle.ns_world.proofs.Looking.{Acts, LockStays, lock_stays, look_goes, makes_means, round_goes, waits_is}
 use Rattle.ns_world.proofs.Mapped.{got-map}
 use Rattle.ns_world.proofs.Places.{StartFits, begins_among, first_at, first_fits, section_fits, start_alone, start_fits}
 use Rattle.ns_world.proofs.SeatSet.{lawful_set, reads, settled_here, stands_more, stays, view_at}
-use Rattle.ns_world.proofs.Placing.{act_steps, at_rest, place_after}
-use Rattle.ns_counters.specs.declared.walk.ObjectNext.TheVariants as TheObject
+use Rattle.ns_world.proofs.Placing.{act_steps, at_rest, placed_after}
+use Rattle.ns_env.specs.declared.next.Next.TheVariants as TheNext
 
 module _ {C : Type 0} {N : ℕ} (old new : Whole C N) (lawful : IsLawfulWhole old) (i : ℕ) (here next : Seat C N) (at : slice_get old.seats i ≡ Some here) (seats : new.seats ≡ slice_set old.seats i next) where
   -- ---- the lock
@@ -48,10 +47,10 @@ module _ {C : Type 0} {N : ℕ} (old new : Whole C N) (lawful : IsLawfulWhole ol
     lock = stays_lawful same (ap view_of goes ∙ (λ k. record (view_of here) { walk = walks k }));
   }
 
-  may_next : (walk : ObjectWalk) → NeedsSection (object_asked walk) here.held → (n : ObjectNext) → StaysAsked (object_asked walk) n → DoingFits old.objects.setup old.env.notes here.held (there OnObjects (object_after n))
-  may_next walk may (TheObject.Go w) same = subst (λ asked. NeedsSection asked here.held) (sym same) may
-  may_next walk may (Repeat w) same = subst (λ asked. NeedsSection asked here.held) (sym same) may
-  may_next walk may (Over reply) same = tt
+  may_next : (walk : ObjectWalk) → NeedsSection (object_asked walk) here.held → (n : Next ObjectWalk ObjectReply) → StaysAsked (object_asked walk) n → DoingFits old.objects.setup old.env.notes here.held (there OnObjects (place_after n))
+  may_next walk may (On w) same = subst (λ asked. NeedsSection asked here.held) (sym same) may
+  may_next walk may (TheNext.Idle w) same = subst (λ asked. NeedsSection asked here.held) (sym same) may
+  may_next walk may (TheNext.Done reply) same = tt
 
   notes_next : (asking : Option EnvWalk) → DoingFits old.objects.setup old.env.notes here.held (there OnNotes asking) × (walk_of {C = C} (there OnNotes asking) ≡ None)
   notes_next None = (tt, refl)
@@ -65,7 +64,7 @@ module _ {C : Type 0} {N : ℕ} (old new : Whole C N) (lawful : IsLawfulWhole ol
     acts_so : (walk : Walk C) (wait : Option AnyWait) (found : Found) → new.truths ≡ old.truths → walk_of here.doing ≡ Some walk → WaitsFor old.objects.setup old.env.notes (asked_of walk) wait → Acts old new here next step walk wait found → Leaves
     acts_so walk wait found means walks for p = record {
       number = ap (λ (s : Seat C N). s.number) p.goes;
-      seat = subst (DoingFits old.objects.setup old.env.notes next.held) (sym (ap (λ (s : Seat C N). s.doing) p.goes)) (place_after old.objects.setup (objects_after old.objects.setup lawful.past.objects) old.env.notes i next.held wait walk found for).fits;
+      seat = subst (DoingFits old.objects.setup old.env.notes next.held) (sym (ap (λ (s : Seat C N). s.doing) p.goes)) (placed_after old.objects.setup (objects_after old.objects.setup lawful.past.objects) old.env.notes i next.held wait walk found for).fits;
       lock = acts_lawful some quiet step walk wait found means walks p;
     }
 
@@ -85,14 +84,14 @@ module _ {C : Type 0} {N : ℕ} (old new : Whole C N) (lawful : IsLawfulWhole ol
           | inr g ↦ acts_so p.walk _ (Looked (cause_of (shown_by p.leads))) (ap (λ (w : Whole C N). w.truths) p.same) (ap walk_of p.stands) fits.0 g
         ]
     leaves_of (inr (inr (inr (inl p)))) =
-        let on = notes_next (env_walk_after (env_got_of p.walk p.asks.found)) in
+        let on = notes_next (place_after (env_got_of p.walk p.asks.found)) in
         stays_so (lock_stays old new new.env old.objects p.same) _ p.asks.goes (on.1 ∙ ap walk_of (sym p.stands)) on.0
     leaves_of (inr (inr (inr (inr p)))) = by (waits_then p.walk p.leads) refl p.goes where
       may : NeedsSection (object_asked p.walk) here.held
       may = fits_here old new lawful i here next at seats (OnObjects p.walk) p.stands
 
       by : (round : Option Round) → waits_then p.walk p.leads ≡ round → ObjectLeads round p.leads here next step → Leaves
-      by None waits g = stays_so (lock_stays old new old.env new.objects p.same) _ g.0 (objects_next (object_after p.leads) ∙ ap walk_of (sym p.stands)) (may_next p.walk may p.leads (subst (StaysAsked (object_asked p.walk)) (sym p.operates.leads) (stays_asked p.walk p.operates.found)))
+      by None waits g = stays_so (lock_stays old new old.env new.objects p.same) _ g.0 (objects_next (place_after p.leads) ∙ ap walk_of (sym p.stands)) (may_next p.walk may p.leads (subst (StaysAsked (object_asked p.walk)) (sym p.operates.leads) (stays_asked p.walk p.operates.found)))
       by (Some round) waits g =
           let is = waits_is p.walk p.leads round waits in
           let over = ap walk_of p.stands in

@@ -1,15 +1,16 @@
 -- What has led to a world, and a step or a call that begins, lead to the world after it: each extends what has happened to the clock and the notes, and to counters and once cells.
 use Rattle.std.proofs.Common.{List, None, Option, Some, [], ap, append-nil, arith, inl, inr, length, length-set, map, refl, slice_get, slice_set, subst, sym, true, unwrap_or, ℕ, ◌++◌, ◌<◌, ◌∙◌, ◌≡◌, ◌⊎◌}
-use Rattle.ns_world.proofs.Prelude.{AnyWait, AreEnvBy, AreObjectsBy, AtRest, Doing, DoingFits, EnvAct, EnvEffect, EnvEvent, EnvFound, EnvNext, EnvPlain, EnvWalk, Fit, Found, Go, HasLedTo, IsLawfulEnv, IsLawfulObjects, IsLawfulWhole, LedTo, LookOver, Looked, LooksByLimits, LooksByRound, NoteStanding}
-use Rattle.ns_world.proofs.Prelude.{ObjectEffect, ObjectEvent, ObjectLeads, ObjectNext, ObjectStanding, ObjectWalk, OnLock, OnNotes, OnObjects, Operates, Past, Round, Seat, SeatMakes, Step, WaitsFor, Walk, Went, Whole, asked_of, asking_of, begins_env, cause_of, doing_after, env_got_of, env_state}
-use Rattle.ns_world.proofs.Prelude.{env_walk_after, env_want_of, got_of, keeps_env, led_more, length-map, made_begins, notes_by, notes_of, object_after, object_got, object_place, object_want, objects_after, objects_by, objects_of, operates_keeps, operating_of, outcome, outcome_by, past_and, placed}
-use Rattle.ns_world.proofs.Prelude.{put_keeps, set_again, set_here, set_same, shown_by, there, waits_then, walk_in}
+use Rattle.ns_world.proofs.Prelude.{AnyWait, AreEnvBy, AreObjectsBy, AtRest, Doing, DoingFits, EnvAct, EnvEffect, EnvEnd, EnvEvent, EnvFound, EnvPlain, EnvWalk, Fit, Found, HasLedTo, IsLawfulEnv, IsLawfulObjects, IsLawfulWhole, LedTo, LookOver, Looked, LooksByLimits, LooksByRound, Next}
+use Rattle.ns_world.proofs.Prelude.{NoteStanding, ObjectEffect, ObjectEvent, ObjectLeads, ObjectReply, ObjectStanding, ObjectWalk, On, OnLock, OnNotes, OnObjects, Operates, Past, Round, Seat, SeatMakes, Step, WaitsFor, Walk, Went, Whole, asked_of, asking_of, begins_env, cause_of, doing_after}
+use Rattle.ns_world.proofs.Prelude.{env_got_of, env_state, env_want_of, got_of, keeps_env, led_more, length-map, made_begins, notes_by, notes_of, object_got, object_place, object_want, objects_after, objects_by, objects_of, operates_keeps, operating_of, outcome, outcome_by, past_and, place_after}
+use Rattle.ns_world.proofs.Prelude.{placed, put_keeps, set_again, set_here, set_same, shown_by, there, waits_then, walk_in}
 use Rattle.ns_world.proofs.Looking.{Acts, FirstIf, look_goes, round_goes}
 use Rattle.ns_world.proofs.Mapped.{got-map}
 use Rattle.ns_world.proofs.Places.{IsFirstAt}
 use Rattle.ns_world.proofs.SeatSet.{number_here, reads, within}
-use Rattle.ns_world.proofs.Placing.{IsPlace, place_after}
+use Rattle.ns_world.proofs.Placing.{IsPlace, placed_after}
 use Rattle.ns_world.proofs.Exchanged.{made}
+use Rattle.ns_env.specs.declared.next.Next.TheVariants as TheNext
 
 -- ---- what is done to the clock and the notes
 
@@ -85,7 +86,7 @@ module _ {C : Type 0} {N : ℕ} (old new : Whole C N) (lawful : IsLawfulWhole ol
     now = objects_after old.objects.setup past.objects
 
     act_place : (walk : Walk C) (wait : Option AnyWait) (found : Found) → WaitsFor old.objects.setup old.env.notes (asked_of walk) wait → IsPlace old.objects.setup now old.env.notes i next.held (doing_after wait (got_of N walk found))
-    act_place walk wait found for = place_after old.objects.setup now old.env.notes i next.held wait walk found for
+    act_place walk wait found for = placed_after old.objects.setup now old.env.notes i next.held wait walk found for
 
     doing_of : (walk : Walk C) (wait : Option AnyWait) (found : Found) → Acts old new here next step walk wait found → next.doing ≡ doing_after wait (got_of N walk found)
     doing_of walk wait found p = ap (λ (s : Seat C N). s.doing) p.goes
@@ -94,11 +95,11 @@ module _ {C : Type 0} {N : ℕ} (old new : Whole C N) (lawful : IsLawfulWhole ol
     notes_led (inl p) =
         none_done (notes_put past.notes (ap (λ (w : Whole C N). w.env) p.same) (ask_at (OnLock p.walk p.wait) p.stands) _ (doing_of p.walk p.wait p.found p.performs) (act_place p.walk p.wait p.found (fits_here (OnLock p.walk p.wait) p.stands).0).asks led.0)
     notes_led (inr (inl p)) = none_done (elim (look_goes old new here next step p fits.1) [
-      | inl g ↦ notes_then past.notes old.env (Some g.0) env (ap (λ (s : Seat C N). asking_of s.doing) g.3) (kept (Go g.0) g.1)
+      | inl g ↦ notes_then past.notes old.env (Some g.0) env (ap (λ (s : Seat C N). asking_of s.doing) g.3) (kept (On g.0) g.1)
       | inr g ↦
           let place = act_place p.walk None (Looked g.0) fits.0 in
           let after = doing_after None (got_of N p.walk (Looked g.0)) in
-          let begun = env_begins past.notes old.env (slice_set askings i None) i (asking_of after) (set_here askings i None inside) place.asks (kept (LookOver g.0) g.1) in
+          let begun = env_begins past.notes old.env (slice_set askings i None) i (asking_of after) (set_here askings i None inside) place.asks (kept (TheNext.Done (LookOver g.0)) g.1) in
           notes_then past.notes old.env (asking_of after) env (ap asking_of (doing_of p.walk None (Looked g.0) g.2)) (subst (λ xs. IsLawfulEnv past.notes (env_state old.env xs)) (set_again askings i None (asking_of after)) begun)
     ]) where
       fits : DoingFits old.objects.setup old.env.notes here.held (LooksByLimits p.walk p.place)
@@ -110,9 +111,9 @@ module _ {C : Type 0} {N : ℕ} (old new : Whole C N) (lawful : IsLawfulWhole ol
       inside : i < length askings
       inside = let long = length-map old.seats (λ s. asking_of s.doing) in let low = within old new i here next at seats in omega (arith, long, low)
 
-      kept : (n : EnvNext) → env_got_of p.place p.looks.found ≡ n → IsLawfulEnv past.notes (env_state old.env (slice_set askings i (env_walk_after n)))
-      kept n is = subst (λ es. IsLawfulEnv es (env_state old.env (slice_set askings i (env_walk_after n)))) (append-nil past.notes) (subst (λ m. IsLawfulEnv (past.notes ++ []) (env_state old.env (slice_set askings i (env_walk_after m)))) is
-          (keeps_env past.notes [] (notes_of old) (env_state old.env (slice_set askings i (env_walk_after (env_got_of p.place p.looks.found)))) i p.looks.found
+      kept : (n : Next EnvWalk EnvEnd) → env_got_of p.place p.looks.found ≡ n → IsLawfulEnv past.notes (env_state old.env (slice_set askings i (place_after n)))
+      kept n is = subst (λ es. IsLawfulEnv es (env_state old.env (slice_set askings i (place_after n)))) (append-nil past.notes) (subst (λ m. IsLawfulEnv (past.notes ++ []) (env_state old.env (slice_set askings i (place_after m)))) is
+          (keeps_env past.notes [] (notes_of old) (env_state old.env (slice_set askings i (place_after (env_got_of p.place p.looks.found)))) i p.looks.found
           (record { walk = p.place; walks = ask_at (LooksByLimits p.walk p.place) p.stands; effect = subst (λ n. EnvEffect n (env_want_of p.place) old.env p.looks.found old.env []) number p.looks.effect; becomes = refl }) led.0))
     notes_led (inr (inr (inl p))) = none_done (elim (round_goes old new here next step p fits.0 fits.2) [
       | inl g ↦ notes_put past.notes env none (LooksByRound p.walk p.wait g.0) (ap (λ (s : Seat C N). s.doing) g.2) tt led.0
@@ -127,7 +128,7 @@ module _ {C : Type 0} {N : ℕ} (old new : Whole C N) (lawful : IsLawfulWhole ol
       none : slice_get askings i ≡ Some None
       none = ask_at (LooksByRound p.walk p.wait p.round) p.stands
     notes_led (inr (inr (inr (inl p)))) =
-        let after = env_walk_after (env_got_of p.walk p.asks.found) in
+        let after = place_after (env_got_of p.walk p.asks.found) in
         let effect = subst (λ n. EnvEffect n (env_want_of p.walk) old.env p.asks.found new.env (outcome n (env_want_of p.walk) old.env).events) number p.asks.effect in
         let events = (outcome i (env_want_of p.walk) old.env).events in
         let kept = keeps_env past.notes events (notes_of old) (env_state new.env (slice_set askings i after)) i p.asks.found (record { walk = p.walk; walks = ask_at (OnNotes p.walk) p.stands; effect = effect; becomes = refl }) led.0 in
@@ -135,7 +136,7 @@ module _ {C : Type 0} {N : ℕ} (old new : Whole C N) (lawful : IsLawfulWhole ol
     notes_led (inr (inr (inr (inr p)))) = none_done (by (waits_then p.walk p.leads) p.goes) where
       by : (round : Option Round) → ObjectLeads round p.leads here next step → LedTo past.notes new
       by (Some round) g = notes_put past.notes (ap (λ (w : Whole C N). w.env) p.same) (ask_at (OnObjects p.walk) p.stands) _ (ap (λ (s : Seat C N). s.doing) g.goes) tt led.0
-      by None g = notes_put past.notes (ap (λ (w : Whole C N). w.env) p.same) (ask_at (OnObjects p.walk) p.stands) _ (ap (λ (s : Seat C N). s.doing) g.0) (subst (FirstIf old.env.notes) (sym (operating_there C (object_after p.leads)).1) tt) led.0
+      by None g = notes_put past.notes (ap (λ (w : Whole C N). w.env) p.same) (ask_at (OnObjects p.walk) p.stands) _ (ap (λ (s : Seat C N). s.doing) g.0) (subst (FirstIf old.env.notes) (sym (operating_there C (place_after p.leads)).1) tt) led.0
 
     -- ---- the counters and once cells, by the notes as they were
 
@@ -158,44 +159,44 @@ module _ {C : Type 0} {N : ℕ} (old new : Whole C N) (lawful : IsLawfulWhole ol
     put_led doing same is fits = (tt, subst (λ es. IsLawfulObjects es (objects_of new) old.env.notes) (sym (append-nil past.objects)) (put_there doing same is fits))
 
     -- a step was made on them, and the seat stands where that leads, or at another place that fits
-    operated_led : (doing : Doing C) (walk : ObjectWalk) (leads : ObjectNext) → here.doing ≡ doing → operating_of doing ≡ Some walk → (p : Operates old.env old.objects here.number walk new.objects leads) → (after : Option ObjectWalk) → operating_of next.doing ≡ after →
-        (after ≡ object_after leads) ⊎ ((now : ObjectStanding) → Fit old.objects.setup now old.env.notes i after) → ObjectsLed p.events
+    operated_led : (doing : Doing C) (walk : ObjectWalk) (leads : Next ObjectWalk ObjectReply) → here.doing ≡ doing → operating_of doing ≡ Some walk → (p : Operates old.env old.objects here.number walk new.objects leads) → (after : Option ObjectWalk) → operating_of next.doing ≡ after →
+        (after ≡ place_after leads) ⊎ ((now : ObjectStanding) → Fit old.objects.setup now old.env.notes i after) → ObjectsLed p.events
     operated_led doing walk leads stands is p after becomes so =
         let effect = subst (λ n. ObjectEffect n (object_place (Some walk)) (object_want walk) old.objects.words old.env p.found new.objects.words p.events) number p.effect in
         let kept = operates_keeps (objects_of old) old.env past.notes led.0.lawful.meets past.objects led.1 i walk (walk_at doing stands ∙ is) p.found new.objects.words p.events effect in
         (kept.1, subst (λ x. IsLawfulObjects (past.objects ++ p.events) x old.env.notes) (sym (λ j. record { setup = (p.becomes j).setup; words = new.objects.words; walks = reads old new i here next at seats (λ s. operating_of s.doing) becomes j })) (by so kept.0)) where
-          by : (after ≡ object_after leads) ⊎ ((now : ObjectStanding) → Fit old.objects.setup now old.env.notes i after) →
-              IsLawfulObjects (past.objects ++ p.events) (record (objects_of old) { words = new.objects.words; walks = slice_set walks i (object_after (object_got walk p.found)) }) old.env.notes →
+          by : (after ≡ place_after leads) ⊎ ((now : ObjectStanding) → Fit old.objects.setup now old.env.notes i after) →
+              IsLawfulObjects (past.objects ++ p.events) (record (objects_of old) { words = new.objects.words; walks = slice_set walks i (place_after (object_got walk p.found)) }) old.env.notes →
               IsLawfulObjects (past.objects ++ p.events) (record (objects_of old) { words = new.objects.words; walks = slice_set walks i after }) old.env.notes
-          by (inl same) q = subst (λ o. IsLawfulObjects (past.objects ++ p.events) (record (objects_of old) { words = new.objects.words; walks = slice_set walks i o }) old.env.notes) (ap object_after (sym p.leads) ∙ sym same) q
-          by (inr fits) q = subst (λ ws. IsLawfulObjects (past.objects ++ p.events) (record (objects_of old) { words = new.objects.words; walks = ws }) old.env.notes) (set_again walks i (object_after (object_got walk p.found)) after)
-              (put_keeps (past.objects ++ p.events) (record (objects_of old) { words = new.objects.words; walks = slice_set walks i (object_after (object_got walk p.found)) }) old.env.notes i after
-              (subst (λ n. i < n) (sym (length-set walks i (object_after (object_got walk p.found)))) inside_walks) low (fits (objects_after old.objects.setup (past.objects ++ p.events))) q)
+          by (inl same) q = subst (λ o. IsLawfulObjects (past.objects ++ p.events) (record (objects_of old) { words = new.objects.words; walks = slice_set walks i o }) old.env.notes) (ap place_after (sym p.leads) ∙ sym same) q
+          by (inr fits) q = subst (λ ws. IsLawfulObjects (past.objects ++ p.events) (record (objects_of old) { words = new.objects.words; walks = ws }) old.env.notes) (set_again walks i (place_after (object_got walk p.found)) after)
+              (put_keeps (past.objects ++ p.events) (record (objects_of old) { words = new.objects.words; walks = slice_set walks i (place_after (object_got walk p.found)) }) old.env.notes i after
+              (subst (λ n. i < n) (sym (length-set walks i (place_after (object_got walk p.found)))) inside_walks) low (fits (objects_after old.objects.setup (past.objects ++ p.events))) q)
 
     objects_led : (makes : SeatMakes old new here next step) → ObjectsLed (objects_by makes)
     objects_led (inl p) = put_led _ (ap (λ (w : Whole C N). w.objects) p.same) (doing_of p.walk p.wait p.found p.performs)
-        (place_after old.objects.setup (objects_after old.objects.setup past.objects) old.env.notes i next.held p.wait p.walk p.found (fits_here (OnLock p.walk p.wait) p.stands).0).operates
+        (placed_after old.objects.setup (objects_after old.objects.setup past.objects) old.env.notes i next.held p.wait p.walk p.found (fits_here (OnLock p.walk p.wait) p.stands).0).operates
     objects_led (inr (inl p)) =
         let fits = fits_here (LooksByLimits p.walk p.place) p.stands in
         let same = ap (λ (w : Whole C N). w.objects) p.same in
         elim (look_goes old new here next step p fits.1) [
           | inl g ↦ put_led (LooksByLimits p.walk g.0) same (ap (λ (s : Seat C N). s.doing) g.3) tt
-          | inr g ↦ put_led _ same (doing_of p.walk None (Looked g.0) g.2) (place_after old.objects.setup (objects_after old.objects.setup past.objects) old.env.notes i next.held None p.walk (Looked g.0) fits.0).operates
+          | inr g ↦ put_led _ same (doing_of p.walk None (Looked g.0) g.2) (placed_after old.objects.setup (objects_after old.objects.setup past.objects) old.env.notes i next.held None p.walk (Looked g.0) fits.0).operates
         ]
     objects_led (inr (inr (inl p))) =
         let fits = fits_here (LooksByRound p.walk p.wait p.round) p.stands in
         elim (round_goes old new here next step p fits.0 fits.2) [
-          | inl g ↦ operated_led (LooksByRound p.walk p.wait p.round) p.round p.leads p.stands refl p.operates (Some g.0) (ap (λ (s : Seat C N). operating_of s.doing) g.2) (inl (ap object_after (sym g.1)))
+          | inl g ↦ operated_led (LooksByRound p.walk p.wait p.round) p.round p.leads p.stands refl p.operates (Some g.0) (ap (λ (s : Seat C N). operating_of s.doing) g.2) (inl (ap place_after (sym g.1)))
           | inr g ↦ operated_led (LooksByRound p.walk p.wait p.round) p.round p.leads p.stands refl p.operates
               (operating_of (doing_after (Some (record { round = p.wait.round; shown = shown_by p.leads })) (got_of N p.walk (Looked (cause_of (shown_by p.leads)))))) (ap operating_of (doing_of p.walk _ _ g))
-              (inr (λ now. (place_after old.objects.setup now old.env.notes i next.held (Some (record { round = p.wait.round; shown = shown_by p.leads })) p.walk (Looked (cause_of (shown_by p.leads))) fits.0).operates))
+              (inr (λ now. (placed_after old.objects.setup now old.env.notes i next.held (Some (record { round = p.wait.round; shown = shown_by p.leads })) p.walk (Looked (cause_of (shown_by p.leads))) fits.0).operates))
         ]
     objects_led (inr (inr (inr (inl p)))) =
-        put_led _ (ap (λ (w : Whole C N). w.objects) p.same) (ap (λ (s : Seat C N). s.doing) p.asks.goes) (subst (Fit old.objects.setup (objects_after old.objects.setup past.objects) old.env.notes i) (sym (operating_on_notes C (env_walk_after (env_got_of p.walk p.asks.found)))) tt)
+        put_led _ (ap (λ (w : Whole C N). w.objects) p.same) (ap (λ (s : Seat C N). s.doing) p.asks.goes) (subst (Fit old.objects.setup (objects_after old.objects.setup past.objects) old.env.notes i) (sym (operating_on_notes C (place_after (env_got_of p.walk p.asks.found)))) tt)
     objects_led (inr (inr (inr (inr p)))) = by (waits_then p.walk p.leads) p.goes where
       by : (round : Option Round) → ObjectLeads round p.leads here next step → ObjectsLed p.operates.events
       by (Some round) g = operated_led (OnObjects p.walk) p.walk p.leads p.stands refl p.operates None (ap (λ (s : Seat C N). operating_of s.doing) g.goes) (inr (λ now. tt))
-      by None g = operated_led (OnObjects p.walk) p.walk p.leads p.stands refl p.operates (object_after p.leads) (ap (λ (s : Seat C N). operating_of s.doing) g.0 ∙ (operating_there C (object_after p.leads)).0) (inl refl)
+      by None g = operated_led (OnObjects p.walk) p.walk p.leads p.stands refl p.operates (place_after p.leads) (ap (λ (s : Seat C N). operating_of s.doing) g.0 ∙ (operating_there C (place_after p.leads)).0) (inl refl)
 
     pub makes_led : (makes : SeatMakes old new here next step) → AreEnvBy i (notes_by i makes) × AreObjectsBy i (objects_by makes) × HasLedTo (past_and past (record { notes = notes_by i makes; objects = objects_by makes })) new
     makes_led makes =

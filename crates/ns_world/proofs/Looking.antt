@@ -1,9 +1,9 @@
 -- The looks of a wait, over plain data: where a wait goes that looks, and what it needs of the notes. A wait for any of a set of variables looks as it rests, and nowhere else; and while it does, its seat stands nowhere on the clock and the notes.
-use Rattle.ns_counters.specs.declared.walk.ObjectNext.TheVariants as TheObject
 use Rattle.std.proofs.Common.{Bool, IsSome, List, None, Option, Some, [], ap, append-nil, cond, false, inl, inr, refl, subst, sym, true, ℕ, ◌∙◌, ◌≡◌, ◌⊎◌}
-use Rattle.ns_world.proofs.Prelude.{Act, AnyWait, Await, Cause, ClockLoad, Cvs, Effect, EnvEffect, EnvEvent, EnvFound, EnvNext, EnvPlain, EnvWalk, Expired, ForLook, Found, Go, GoesRound, InRound, IsFirstAsk, IsLoad, Limits, Look, LookFits, LookOver, Looked, Looks, LooksAt, LooksByLimits}
-use Rattle.ns_world.proofs.Prelude.{LooksByRound, MayShow, Mode, NoteLoad, NoteStanding, ObjectNext, ObjectWalk, ObjectWords, Part, Performs, Repeat, Round, RoundLeads, RoundPlace, Seat, SeatLooks, SeatMakes, Sees, Step, Truths, Wait, WaitsFor, Walk, Went, Whole, asked_of, at_will, came_back}
-use Rattle.ns_world.proofs.Prelude.{cause_of, doing_after, env_got_of, env_want_of, got_of, have_variable, held_after, is_due, is_over, looks_at, looks_by_asked, outcome, part_in, passed, same_Some, shown_by, stopped, up_to, waits_for_any, waits_then, want_of}
+use Rattle.ns_world.proofs.Prelude.{Act, AnyWait, Await, Cause, ClockLoad, Cvs, Effect, EnvEffect, EnvEnd, EnvEvent, EnvFound, EnvPlain, EnvWalk, Expired, ForLook, Found, GoesRound, InRound, IsFirstAsk, IsLoad, Limits, Look, LookFits, LookOver, Looked, Looks, LooksAt, LooksByLimits, LooksByRound}
+use Rattle.ns_world.proofs.Prelude.{MayShow, Mode, Next, NoteLoad, NoteStanding, ObjectReply, ObjectWalk, ObjectWords, On, Part, Performs, Round, RoundLeads, RoundPlace, Seat, SeatLooks, SeatMakes, Sees, Step, Truths, Wait, WaitsFor, Walk, Went, Whole, asked_of, at_will, came_back, cause_of}
+use Rattle.ns_world.proofs.Prelude.{doing_after, env_got_of, env_want_of, got_of, have_variable, held_after, is_due, is_over, looks_at, looks_by_asked, outcome, part_in, passed, same_Some, shown_by, stopped, up_to, waits_for_any, waits_then, want_of}
+use Rattle.ns_env.specs.declared.next.Next.TheVariants as TheNext
 
 -- ---- where a look begins
 
@@ -26,17 +26,17 @@ look_loads limits (NoteLoad (ForLook by) clock note) fits = tt
 look_loads limits place fits = absurd fits
 
 -- it goes on, or shows what its limits may show
-abbrev pub LookLeads : Limits → EnvNext → Type 0
-LookLeads limits (Go next) = LookFits limits next
-LookLeads limits (LookOver cause) = MayShow limits cause
+abbrev pub LookLeads : Limits → Next EnvWalk EnvEnd → Type 0
+LookLeads limits (On next) = LookFits limits next
+LookLeads limits (TheNext.Done (LookOver cause)) = MayShow limits cause
 LookLeads limits next = ⊥
 
 given : {A : Type 0} (o : Option A) (x : A) → o ≡ Some x → IsSome o
 given o x e = subst (λ y. IsSome y) (sym e) refl
 
-passed_at : (limits : Limits) (clock : ℕ) (deadline : Option ℕ) → limits.deadline ≡ deadline → LookLeads limits (cond (is_due clock deadline) (LookOver (Some Expired)) (LookOver None))
+passed_at : (limits : Limits) (clock : ℕ) (deadline : Option ℕ) → limits.deadline ≡ deadline → LookLeads limits (cond (is_due clock deadline) (TheNext.Done (LookOver (Some Expired))) (TheNext.Done (LookOver None)))
 passed_at limits clock None e = tt
-passed_at limits clock (Some d) e = elim (is_due clock (Some d)) as (λ b. LookLeads limits (cond b (LookOver (Some Expired)) (LookOver None))) [ true ↦ given limits.deadline d e | false ↦ tt ]
+passed_at limits clock (Some d) e = elim (is_due clock (Some d)) as (λ b. LookLeads limits (cond b (TheNext.Done (LookOver (Some Expired))) (TheNext.Done (LookOver None)))) [ true ↦ given limits.deadline d e | false ↦ tt ]
 
 passed_leads : (by limits : Limits) (clock : ℕ) → by ≡ limits → LookLeads limits (passed (ForLook by) clock)
 passed_leads by limits clock e = passed_at limits clock by.deadline (ap (λ (x : Limits). x.deadline) (sym e))
@@ -118,19 +118,19 @@ sees_acts {C} {N} old new here next step walk wait limits cause looks may same q
 module _ {C : Type 0} {N : ℕ} (old new : Whole C N) (here next : Seat C N) (step : Step) where
   -- a step of a look at the clock and the notes goes on to a place there, or is one of the wait
   pub look_goes : (p : Looks old new here next step) → (for : LooksAt (want_of p.walk) p.place) →
-      ((place : EnvWalk) × (env_got_of p.place p.looks.found ≡ Go place) × LookFits for.0 place × (next ≡ record here { doing = LooksByLimits p.walk place }) × (step ≡ Went))
-      ⊎ ((cause : Option Cause) × (env_got_of p.place p.looks.found ≡ LookOver cause) × Acts old new here next step p.walk None (Looked cause))
+      ((place : EnvWalk) × (env_got_of p.place p.looks.found ≡ On place) × LookFits for.0 place × (next ≡ record here { doing = LooksByLimits p.walk place }) × (step ≡ Went))
+      ⊎ ((cause : Option Cause) × (env_got_of p.place p.looks.found ≡ TheNext.Done (LookOver cause)) × Acts old new here next step p.walk None (Looked cause))
   look_goes p for = by (env_got_of p.place p.looks.found) refl (look_leads for.0 p.place for.2 here.number old.env old.env p.looks.found [] p.looks.effect) p.looks.goes where
-    by : (n : EnvNext) → env_got_of p.place p.looks.found ≡ n → LookLeads for.0 n → SeatLooks n here p.walk next step →
-        ((place : EnvWalk) × (env_got_of p.place p.looks.found ≡ Go place) × LookFits for.0 place × (next ≡ record here { doing = LooksByLimits p.walk place }) × (step ≡ Went))
-        ⊎ ((cause : Option Cause) × (env_got_of p.place p.looks.found ≡ LookOver cause) × Acts old new here next step p.walk None (Looked cause))
-    by (Go place) is fits g = inl (place, is, fits, g.0, g.1)
-    by (LookOver cause) is may g = inr (cause, is, sees_acts old new here next step p.walk None for.0 cause for.1 may (lock_stays old new old.env old.objects p.same) g)
+    by : (n : Next EnvWalk EnvEnd) → env_got_of p.place p.looks.found ≡ n → LookLeads for.0 n → SeatLooks n here p.walk next step →
+        ((place : EnvWalk) × (env_got_of p.place p.looks.found ≡ On place) × LookFits for.0 place × (next ≡ record here { doing = LooksByLimits p.walk place }) × (step ≡ Went))
+        ⊎ ((cause : Option Cause) × (env_got_of p.place p.looks.found ≡ TheNext.Done (LookOver cause)) × Acts old new here next step p.walk None (Looked cause))
+    by (On place) is fits g = inl (place, is, fits, g.0, g.1)
+    by (TheNext.Done (LookOver cause)) is may g = inr (cause, is, sees_acts old new here next step p.walk None for.0 cause for.1 may (lock_stays old new old.env old.objects p.same) g)
     by n is may g = absurd may
 
   -- so does a step of a round by which a wait looks
   pub round_goes : (p : GoesRound old new here next step) → WaitsFor old.objects.setup old.env.notes (asked_of p.walk) (Some p.wait) → IsSome (looks_at (want_of p.walk)) →
-      ((round : ObjectWalk) × (p.leads ≡ TheObject.Go round) × (next ≡ record here { doing = LooksByRound p.walk p.wait round }) × (step ≡ Went))
+      ((round : ObjectWalk) × (p.leads ≡ On round) × (next ≡ record here { doing = LooksByRound p.walk p.wait round }) × (step ≡ Went))
       ⊎ Acts old new here next step p.walk (Some (record { round = p.wait.round; shown = shown_by p.leads })) (Looked (cause_of (shown_by p.leads)))
   round_goes p for looks = by p.leads refl p.goes where
     over : Sees here p.walk (Some (record { round = p.wait.round; shown = shown_by p.leads })) (cause_of (shown_by p.leads)) next step → Acts old new here next step p.walk (Some (record { round = p.wait.round; shown = shown_by p.leads })) (Looked (cause_of (shown_by p.leads)))
@@ -138,16 +138,16 @@ module _ {C : Type 0} {N : ℕ} (old new : Whole C N) (here next : Seat C N) (st
         let limits = which (looks_at (want_of p.walk)) looks in
         sees_acts old new here next step p.walk _ limits.0 _ limits.1 (round_shows for.mode for.cvs p.walk limits.0 (shown_by p.leads) limits.1 for.asked) (lock_stays old new old.env new.objects p.same) q
 
-    by : (n : ObjectNext) → p.leads ≡ n → RoundLeads n here p.walk p.wait next step →
-        ((round : ObjectWalk) × (p.leads ≡ TheObject.Go round) × (next ≡ record here { doing = LooksByRound p.walk p.wait round }) × (step ≡ Went))
+    by : (n : Next ObjectWalk ObjectReply) → p.leads ≡ n → RoundLeads n here p.walk p.wait next step →
+        ((round : ObjectWalk) × (p.leads ≡ On round) × (next ≡ record here { doing = LooksByRound p.walk p.wait round }) × (step ≡ Went))
         ⊎ Acts old new here next step p.walk (Some (record { round = p.wait.round; shown = shown_by p.leads })) (Looked (cause_of (shown_by p.leads)))
-    by (TheObject.Go round) is g = inl (round, is, g.0, g.1)
+    by (On round) is g = inl (round, is, g.0, g.1)
     by n is g = inr (over (subst (λ m. Sees here p.walk (Some (record { round = p.wait.round; shown = shown_by m })) (cause_of (shown_by m)) next step) (sym is) g))
 
 -- a call goes on to wait on the lock after a round over objects with variables among them, which it would repeat
-pub waits_is : (walk : ObjectWalk) (leads : ObjectNext) (round : Round) → waits_then walk leads ≡ Some round → (place : RoundPlace) × (later : ObjectWalk) × (walk ≡ InRound round place) × (leads ≡ Repeat later) × (have_variable round.items ≡ true)
-waits_is (InRound by place) (Repeat later) round e = at (have_variable by.items) refl e where
-  at : (b : Bool) → have_variable by.items ≡ b → cond b (Some by) None ≡ Some round → (x : RoundPlace) × (y : ObjectWalk) × (InRound by place ≡ InRound round x) × (Repeat later ≡ Repeat y) × (have_variable round.items ≡ true)
+pub waits_is : (walk : ObjectWalk) (leads : Next ObjectWalk ObjectReply) (round : Round) → waits_then walk leads ≡ Some round → (place : RoundPlace) × (later : ObjectWalk) × (walk ≡ InRound round place) × (leads ≡ TheNext.Idle later) × (have_variable round.items ≡ true)
+waits_is (InRound by place) (TheNext.Idle later) round e = at (have_variable by.items) refl e where
+  at : (b : Bool) → have_variable by.items ≡ b → cond b (Some by) None ≡ Some round → (x : RoundPlace) × (y : ObjectWalk) × (InRound by place ≡ InRound round x) × (◌≡◌ {A = Next ObjectWalk ObjectReply} (TheNext.Idle later) (TheNext.Idle y)) × (have_variable round.items ≡ true)
   at true is e = let same : by ≡ round = same_Some _ _ e in (place, later, ap (λ r. InRound r place) same, refl, ap (λ (r : Round). have_variable r.items) (sym same) ∙ is)
   at false is e = absurd (cc)
 waits_is walk leads round e = absurd (cc)

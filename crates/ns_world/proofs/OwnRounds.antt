@@ -1,23 +1,22 @@
 -- Where a step of its own leads a call on counters and once cells, which may have gone on to wait on the lock.
 use Rattle.std.proofs.Common.{List, None, Option, Some, [], ap, append-nil, append_assoc, inl, inr, refl, slice_get, slice_set, subst, suc, sym, unwrap_or, ℕ, ◌++◌, ◌∙◌, ◌≡◌}
-use Rattle.ns_world.proofs.Prelude.{Answer, AnswersOfLock, AnswersTo, Any, AnyAnswers, AnyMeans, AnyWait, AreObjectsBy, Await, BeginsToWait, BeginsWith, Cause, Doing, DoingFits, FirstClock, Found, Free, GoesRound, HasLedTo, Held, InHand, InRound, IsLater, IsLawfulWhole, IsReady, LookBy, Looked}
-use Rattle.ns_world.proofs.Prelude.{LooksByLimits, LooksByRound, MayEnd, Means, Next, Number, ObjectEffect, ObjectEvent, ObjectGoes, ObjectLeads, ObjectNext, ObjectSoFar, ObjectWalk, ObjectsSteps, OfObjects, On, OnLock, OnNotes, OnObjects, OnVariables, Operates, Past, PlaceBy, Repeat, Reply}
-use Rattle.ns_world.proofs.Prelude.{Request, Round, RoundGo, RoundGoes, RoundNext, RoundOver, RoundPlace, RoundSoFar, Seat, SeatMakes, Step, WaitMeans, Walk, WalkFits, WalkReply, WereThere, Whole, at_will, begins_unchanged, by_round, cause_of, course_from, doing_after, doing_by, env_after, env_own}
-use Rattle.ns_world.proofs.Prelude.{first_place, got_of, held_at, items_of, last_nothing, later_itself, look_in, looks_at, made_begins, mode_of, mode_waited, notes_by, notes_of, nothing_done, object_after, object_asked, object_got, object_place, object_step_of, object_want, objects_after}
-use Rattle.ns_world.proofs.Prelude.{objects_by, objects_own, objects_own_all, operates_on, operating_of, option_map_or, own, own-append, past_and, place_told, reply_of_lock, reply_told, round_by, round_got, round_makes_none, round_want, row_after, shown_by, some_among, step_of, there, there_more}
-use Rattle.ns_world.proofs.Prelude.{wait_first, wait_is_first, waits_for_any, waits_then, walk_of, want_of, woken_by}
-use Rattle.ns_world.specs.Prelude.{IsLawful, Over}
+use Rattle.ns_world.proofs.Prelude.{Answer, AnswersOfLock, AnswersTo, Any, AnyAnswers, AnyMeans, AnyWait, AreObjectsBy, BeginsToWait, BeginsWith, Cause, Doing, DoingFits, FirstClock, Found, Free, GoesRound, HasLedTo, Held, InHand, InRound, IsLater, IsLawfulWhole, IsReady, LookBy, Looked}
+use Rattle.ns_world.proofs.Prelude.{LooksByLimits, LooksByRound, MayEnd, Means, Next, Number, ObjectEffect, ObjectEvent, ObjectGoes, ObjectLeads, ObjectReply, ObjectSoFar, ObjectWalk, ObjectsSteps, OfObjects, On, OnLock, OnNotes, OnObjects, OnVariables, Operates, Past, PlaceBy, Reply, Request}
+use Rattle.ns_world.proofs.Prelude.{Round, RoundGo, RoundGoes, RoundNext, RoundOver, RoundPlace, RoundSoFar, Seat, SeatMakes, Step, WaitMeans, Walk, WalkFits, WalkReply, WereThere, Whole, at_will, begins_unchanged, by_round, cause_of, course_from, doing_after, doing_by, env_after, env_own}
+use Rattle.ns_world.proofs.Prelude.{first_place, got_of, held_at, items_of, last_nothing, later_itself, look_in, looks_at, made_begins, mode_of, mode_waited, notes_by, notes_of, nothing_done, object_asked, object_got, object_place, object_step_of, object_want, objects_after, objects_by, objects_own}
+use Rattle.ns_world.proofs.Prelude.{objects_own_all, operates_on, operating_of, option_map_or, own, own-append, past_and, place_after, place_told, reply_of_lock, reply_told, round_by, round_got, round_makes_none, round_want, row_after, shown_by, some_among, step_of, there, there_more, wait_first}
+use Rattle.ns_world.proofs.Prelude.{wait_is_first, waits_for_any, waits_then, walk_of, want_of, woken_by}
+use Rattle.ns_world.specs.Prelude.{IsLawful}
 use Rattle.ns_world.proofs.HowFar.{AsShown, Awaiting, HasCome, LockLeads, LockUnderway, ObjectsUnderway, Outcome, RoundOn, ShownOn, Untouched, lock_rests, no_own, no_own_notes, shown_rests, until_rests, wait_for}
 use Rattle.ns_world.proofs.Looking.{Acts, round_goes, waits_is}
 use Rattle.ns_world.proofs.Mapped.{got-map}
 use Rattle.ns_world.proofs.OwnSteps.{lock_looked, lock_quietly}
 use Rattle.ns_world.proofs.SeatSet.{here_then, number_here}
 use Rattle.ns_world.proofs.Shown.{begins_on}
-use Rattle.ns_counters.specs.declared.walk.ObjectNext.TheVariants.{Go}
 use Rattle.ns_world.proofs.Led.{fits_here}
 use Rattle.ns_word.specs.declared.request.Request.TheVariants as TheRequest
 use Rattle.ns_word.specs.declared.walk.Reply.TheVariants as TheWalk
-use Rattle.ns_word.specs.declared.walk.Next.TheVariants as TheNext
+use Rattle.ns_env.specs.declared.next.Next.TheVariants as TheNext
 
 -- a wait on the lock for any of several tells which variable has woken it
 woken_is : (by : Option ℕ) → woken_by (reply_of_lock (TheWalk.WokenBy by)) ≡ by
@@ -36,11 +35,11 @@ module _ {C : Type 0} {N : ℕ} (before : Whole C N) (earlier : Past) (seat : �
   fits_at : (doing : Doing C) → here.doing ≡ doing → (walk : ObjectWalk) → operating_of doing ≡ Some walk → WalkFits before.objects.setup (objects_after before.objects.setup past.objects) old.env.notes seat walk
   fits_at doing is walk stands = subst (λ s. WalkFits s (objects_after s past.objects) old.env.notes seat walk) setup (led.1.each seat walk (ap (λ o. unwrap_or o None) (got-map (λ s. operating_of s.doing) old.seats seat here at) ∙ ap operating_of is ∙ stands))
 
-  effect_here : (walk : ObjectWalk) (leads : ObjectNext) (p : Operates old.env old.objects here.number walk new.objects leads) → ObjectEffect seat (object_place (Some walk)) (object_want walk) old.objects.words old.env p.found new.objects.words p.events
+  effect_here : (walk : ObjectWalk) (leads : Next ObjectWalk ObjectReply) (p : Operates old.env old.objects here.number walk new.objects leads) → ObjectEffect seat (object_place (Some walk)) (object_want walk) old.objects.words old.env p.found new.objects.words p.events
   effect_here walk leads p = subst (λ n. ObjectEffect n (object_place (Some walk)) (object_want walk) old.objects.words old.env p.found new.objects.words p.events) (number_here old lawful seat here at) p.effect
 
   -- what a round's step shows is so, of rounds since this point
-  round_shown : (from : Past) (round : Round) (place : RoundPlace) (walk : ObjectWalk) (leads : ObjectNext) (p : Operates old.env old.objects here.number walk new.objects leads) → walk ≡ InRound round place → (doing : Doing C) → here.doing ≡ doing → operating_of doing ≡ Some walk →
+  round_shown : (from : Past) (round : Round) (place : RoundPlace) (walk : ObjectWalk) (leads : Next ObjectWalk ObjectReply) (p : Operates old.env old.objects here.number walk new.objects leads) → walk ≡ InRound round place → (doing : Doing C) → here.doing ≡ doing → operating_of doing ≡ Some walk →
       WereThere before.objects.setup from round.items → RoundSoFar before.objects.setup from past round place →
       (n : RoundNext) × (leads ≡ by_round round n) × RoundGoes before.objects.setup from (with_events p.events) round n × (p.events ≡ [])
   round_shown from round place walk leads p is doing does stands there so_far =
@@ -84,10 +83,10 @@ module _ {C : Type 0} {N : ℕ} (before : Whole C N) (earlier : Past) (seat : �
             goes_on : (walk : ObjectWalk) → next.doing ≡ OnObjects walk → (object_asked walk ≡ asked) × ObjectSoFar before.objects.setup earlier on seat (o.events ++ p.operates.events) walk → HasCome before earlier seat (OfObjects asked) on new.history next.held next.doing
             goes_on walk is goes = subst (HasCome before earlier seat (OfObjects asked) on new.history next.held) (sym is) (record { same = held; silent = silent; still = still; is_asked = goes.0; events = o.events ++ p.operates.events; added = added; so_far = goes.1 })
 
-            by : (n : ObjectNext) → next.doing ≡ there OnObjects (object_after n) → ObjectGoes before.objects.setup earlier on seat asked (o.events ++ p.operates.events) n → LeadsTo (object_step_of n) on
-            by (Go walk) is goes = goes_on walk is goes
-            by (Repeat walk) is goes = goes_on walk is goes
-            by (Over reply) is goes = inl (record {
+            by : (n : Next ObjectWalk ObjectReply) → next.doing ≡ there OnObjects (place_after n) → ObjectGoes before.objects.setup earlier on seat asked (o.events ++ p.operates.events) n → LeadsTo (object_step_of n) on
+            by (On walk) is goes = goes_on walk is goes
+            by (TheNext.Idle walk) is goes = goes_on walk is goes
+            by (TheNext.Done reply) is goes = inl (record {
               events = o.events ++ p.operates.events;
               added = added;
               answer = reply;
@@ -128,7 +127,7 @@ module _ {C : Type 0} {N : ℕ} (before : Whole C N) (earlier : Past) (seat : �
             there_now : WereThere before.objects.setup earlier round.items → WereThere before.objects.setup on round.items
             there_now were = there_more before.objects.setup (env_after earlier.notes).notes (env_after on.notes).notes (λ note made. made_begins on.notes earlier.notes note on_led.0.lawful.meets.legal (begins_on earlier.notes past.notes [] since_notes) made) round.items were
 
-            by : (n : RoundNext) → Repeat (waits_is p.walk p.leads round waits).1 ≡ by_round round n → RoundGoes before.objects.setup earlier on round n → WereThere before.objects.setup earlier round.items → Untouched before earlier seat on → InRound round FirstClock ≡ asked →
+            by : (n : RoundNext) → TheNext.Idle (waits_is p.walk p.leads round waits).1 ≡ by_round round n → RoundGoes before.objects.setup earlier on round n → WereThere before.objects.setup earlier round.items → Untouched before earlier seat on → InRound round FirstClock ≡ asked →
                 Awaiting before earlier seat asked on new.history here.held (wait_first N (waits_for_any (mode_waited (mode_of here.held)) g.cvs)) (record { round = round; shown = None }) None
             by (RoundOver None) answers goes were untouched is = record {
               cvs = g.cvs;
@@ -230,7 +229,7 @@ module _ {C : Type 0} {N : ℕ} (before : Whole C N) (earlier : Past) (seat : �
 
         waits_lead : (found : Found) → Acts old new here next step walk (Some (record { round = wait.round; shown = shown })) found → LockLeads before earlier seat request (past.notes ++ more.notes) new next.held looked (got_of N walk found) → LeadsTo step now
         waits_lead found p leads = subst (λ s. LeadsTo s now) (sym p.answers) (by (got_of N walk found) (ap (λ (s : Seat C N). s.doing) p.goes) leads) where
-          by : (n : Next C) → next.doing ≡ doing_after (Some waiting) n → LockLeads before earlier seat request (past.notes ++ more.notes) new next.held looked n → LeadsTo (step_of (Some waiting) n) now
+          by : (n : Next (Walk C) WalkReply) → next.doing ≡ doing_after (Some waiting) n → LockLeads before earlier seat request (past.notes ++ more.notes) new next.held looked n → LeadsTo (step_of (Some waiting) n) now
           by (On walk) is v = subst (HasCome before earlier seat (OfObjects asked) now new.history next.held) (sym is) (waits_at (look_in (want_of walk)) walk v)
           by (TheNext.Idle walk) is v = subst (HasCome before earlier seat (OfObjects asked) now new.history next.held) (sym is) (waits_at (look_in (want_of walk)) walk v)
           by (TheNext.Done reply) is a = answered (reply_of_lock reply) a.0 (subst (AsShown shown) (sym a.1) as_shown) a.0.answer a.0.tells a.0.means
@@ -281,7 +280,7 @@ module _ {C : Type 0} {N : ℕ} (before : Whole C N) (earlier : Past) (seat : �
           untouched : Untouched before earlier seat (with_events p.operates.events)
           untouched = no_own before earlier seat past.objects p.operates.events shows.3 ∙ o.untouched
 
-          round_on : (walk : ObjectWalk) (n : RoundNext) → Go walk ≡ by_round p.wait.round n → RoundGoes before.objects.setup o.left.mid on p.wait.round n → RoundOn before earlier seat p.wait.round o.left.mid on (Some walk)
+          round_on : (walk : ObjectWalk) (n : RoundNext) → On walk ≡ by_round p.wait.round n → RoundGoes before.objects.setup o.left.mid on p.wait.round n → RoundOn before earlier seat p.wait.round o.left.mid on (Some walk)
           round_on walk (RoundGo place) is goes = let same : walk ≡ InRound p.wait.round place = cc in subst (λ w. RoundOn before earlier seat p.wait.round o.left.mid on (Some w)) (sym same) (refl, goes)
           round_on walk (RoundOver None) is goes = absurd (cc)
           round_on walk (RoundOver (Some place)) is goes = absurd (cc)

@@ -1,19 +1,17 @@
 -- Where a step of its own leads a call on the lock, or on the clock and the notes.
 use Rattle.std.proofs.Common.{List, None, Option, Some, [], ap, append_assoc, inl, inr, length, map, refl, slice_get, slice_set, subst, sym, ℕ, ◌++◌, ◌∙◌, ◌≡◌}
-use Rattle.ns_world.proofs.Prelude.{Act, AnyWait, AreBy, BeginsWith, CallGoes, Cause, Course, Doing, DoingFits, Effect, EnvCourse, EnvEffect, EnvEvent, EnvGoes, EnvGoesOn, EnvNext, EnvRequest, EnvWalk, Event, Found, Go, GoesOn, IsLawfulWhole, LedTo, Look, LookBy, LookOver, Looked, Looks}
-use Rattle.ns_world.proofs.Prelude.{LooksByLimits, LooksByRound, Means, Next, NotesSteps, OfLock, OfNotes, On, OnLock, OnNotes, OnObjects, Over, Part, Past, Request, Seat, SeatMakes, SoFar, Step, Truths, WaitsFor, Walk, WasShown, Whole, asked_of, asking_of, course_after, doing_after, doing_by}
-use Rattle.ns_world.proofs.Prelude.{env_asked_of, env_course_after, env_got_of, env_own, env_own-append, env_own_all, env_state, env_step_of, env_walk_after, env_want_of, got_of, held_at, limits_of, lock_of, look_in, looked_after, looks_at, notes_by, notes_of, nothing_done, objects_after}
-use Rattle.ns_world.proofs.Prelude.{objects_by, option_map_or, outcome, own, own_all, own_append, part_in, past_and, row_after, step_by, step_of, step_takes_on, takes_on, there, view_of, walk_of, want_of}
+use Rattle.ns_world.proofs.Prelude.{Act, AnyWait, AreBy, BeginsWith, CallGoes, Cause, Course, Doing, DoingFits, Effect, EnvCourse, EnvEffect, EnvEnd, EnvEvent, EnvGoes, EnvGoesOn, EnvRequest, EnvWalk, Event, Found, GoesOn, IsLawfulWhole, LedTo, Look, LookBy, LookOver, Looked, Looks, LooksByLimits}
+use Rattle.ns_world.proofs.Prelude.{LooksByRound, Means, Next, NotesSteps, OfLock, OfNotes, On, OnLock, OnNotes, OnObjects, Over, Part, Past, Request, Seat, SeatMakes, SoFar, Step, Truths, WaitsFor, Walk, WalkReply, WasShown, Whole, asked_of, asking_of, course_after, doing_after, doing_by}
+use Rattle.ns_world.proofs.Prelude.{env_asked_of, env_course_after, env_got_of, env_own, env_own-append, env_own_all, env_state, env_step_of, env_want_of, got_of, held_at, limits_of, lock_of, look_in, looked_after, looks_at, notes_by, notes_of, nothing_done, objects_after, objects_by, option_map_or}
+use Rattle.ns_world.proofs.Prelude.{outcome, own, own_all, own_append, part_in, past_and, place_after, row_after, step_by, step_of, step_takes_on, takes_on, there, view_of, walk_of, want_of}
 use Rattle.ns_world.proofs.HowFar.{HasCome, LockLeads, LockUnderway, Outcome, Untouched, lock_rests, no_own, no_own_notes}
 use Rattle.ns_world.proofs.Led.{events_by, fits_here}
 use Rattle.ns_world.proofs.Looking.{Acts, FirstIf, look_goes}
 use Rattle.ns_world.proofs.Mapped.{got-map}
 use Rattle.ns_world.proofs.SeatSet.{here_then, number_here}
 use Rattle.ns_world.proofs.Shown.{LookSoFar, begins_on, limits_are, look_begins, look_means, means_no_look, place_asks, shown_so}
-use Rattle.ns_env.specs.declared.walk.EnvNext.TheVariants.{Repeat}
-use Rattle.ns_word.specs.declared.walk.Next.TheVariants.{Done}
-use Rattle.ns_world.proofs.Placing.{act_steps, place_after}
-use Rattle.ns_word.specs.declared.walk.Next.TheVariants as TheNext
+use Rattle.ns_world.proofs.Placing.{act_steps, placed_after}
+use Rattle.ns_env.specs.declared.next.Next.TheVariants as TheNext
 
 -- a step that is no look shows nothing
 shows_not : {C : Type 0} {N : ℕ} (truths : Truths C) (seat : ℕ) (act : Act C) (old : Part C N) (shown : Option Cause) (new : Part C N) (commits : List (Event C N)) → looks_at act ≡ None → Effect truths seat act old (Looked shown) new commits → ⊥
@@ -34,16 +32,16 @@ module _ {C : Type 0} {N : ℕ} (before : Whole C N) (earlier : Past) (seat : �
   module _ (walk : Walk C) (wait : Option AnyWait) (found : Found) (walks : walk_of here.doing ≡ Some walk) (p : Acts old new here next step walk wait found) where
     module _ (request : Request C) (events : List EnvEvent) (u : LockUnderway before earlier seat request events old.history walk here.held) where
       -- where it leads the call, by the next place
-      settles : (n : Next C) (course : Course C N) → course.began ≡ held_at before seat → own new.history seat ≡ own before.history seat ++ course.committed → new.truths ≡ before.truths → CallGoes before.truths seat (row_after new.history) request course n next.held →
+      settles : (n : Next (Walk C) WalkReply) (course : Course C N) → course.began ≡ held_at before seat → own new.history seat ≡ own before.history seat ++ course.committed → new.truths ≡ before.truths → CallGoes before.truths seat (row_after new.history) request course n next.held →
           WasShown earlier.notes events (limits_of request) course.looked → LockLeads before earlier seat request events new next.held course.looked n
       settles n course began added truths goes shown = by n goes where
         on : (walk : Walk C) → GoesOn before.truths seat request course walk next.held → (v : LockUnderway before earlier seat request events new.history walk next.held) × (v.course.looked ≡ course.looked)
         on walk goes = (record { asked = goes.asked; course = course; began = began; added = added; so_far = goes.so_far; shown = shown; still = u.still }, refl)
 
-        by : (n : Next C) → CallGoes before.truths seat (row_after new.history) request course n next.held → LockLeads before earlier seat request events new next.held course.looked n
+        by : (n : Next (Walk C) WalkReply) → CallGoes before.truths seat (row_after new.history) request course n next.held → LockLeads before earlier seat request events new next.held course.looked n
         by (On walk) goes = on walk goes
         by (TheNext.Idle walk) goes = on walk goes
-        by (Done reply) goes = (
+        by (TheNext.Done reply) goes = (
           record {
             course = course;
             began = began;
@@ -100,7 +98,7 @@ module _ {C : Type 0} {N : ℕ} (before : Whole C N) (earlier : Past) (seat : �
         LockLeads before earlier seat request (past.notes ++ []) new next.held looked (got_of N walk found) → Outcome before earlier seat (OfLock request) step (past_and past nothing_done) new next
     lock_so walk found p for looked untouched leads =
         subst (λ s. Outcome before earlier seat (OfLock request) s (past_and past nothing_done) new next) (sym p.answers)
-        (by (got_of N walk found) (ap (λ (s : Seat C N). s.doing) p.goes) (place_after old.objects.setup (objects_after old.objects.setup past.objects) old.env.notes seat next.held None walk found for).asks leads) where
+        (by (got_of N walk found) (ap (λ (s : Seat C N). s.doing) p.goes) (placed_after old.objects.setup (objects_after old.objects.setup past.objects) old.env.notes seat next.held None walk found for).asks leads) where
           none : Untouched before earlier seat (past_and past nothing_done)
           none = no_own before earlier seat past.objects [] refl ∙ untouched
 
@@ -109,11 +107,11 @@ module _ {C : Type 0} {N : ℕ} (before : Whole C N) (earlier : Past) (seat : �
           on None walk first v = (v, none)
           on (Some look) walk first v = (v, none, look_begins earlier.notes seat (past.notes ++ []) old.env.notes _ (begins_on earlier.notes past.notes [] since) first)
 
-          by : (n : Next C) → next.doing ≡ doing_after None n → FirstIf old.env.notes (asking_of (doing_after None n)) → LockLeads before earlier seat request (past.notes ++ []) new next.held looked n →
+          by : (n : Next (Walk C) WalkReply) → next.doing ≡ doing_after None n → FirstIf old.env.notes (asking_of (doing_after None n)) → LockLeads before earlier seat request (past.notes ++ []) new next.held looked n →
               Outcome before earlier seat (OfLock request) (step_of None n) (past_and past nothing_done) new next
           by (On walk) is first v = subst (HasCome before earlier seat (OfLock request) (past_and past nothing_done) new.history next.held) (sym is) (on (look_in (want_of walk)) walk first v.0)
           by (TheNext.Idle walk) is first v = subst (HasCome before earlier seat (OfLock request) (past_and past nothing_done) new.history next.held) (sym is) (on (look_in (want_of walk)) walk first v.0)
-          by (Done reply) is first a = (a.0, none)
+          by (TheNext.Done reply) is first a = (a.0, none)
 
     -- a step of its look
     look_takes_on : (p : Looks old new here next step) → HasCome before earlier seat (OfLock request) past old.history here.held (LooksByLimits p.walk p.place) → Outcome before earlier seat (OfLock request) step (past_and past nothing_done) new next
@@ -136,7 +134,7 @@ module _ {C : Type 0} {N : ℕ} (before : Whole C N) (earlier : Past) (seat : �
       look = has.2
 
       leads : EnvGoes (past.notes ++ []) seat (env_asked_of p.place) (env_course_after [] look.0) (env_got_of p.place p.looks.found)
-      leads = step_takes_on past.notes [] (notes_of old) (env_state old.env (slice_set (map (λ s. asking_of s.doing) old.seats) seat (env_walk_after (env_got_of p.place p.looks.found)))) seat p.looks.found look.0
+      leads = step_takes_on past.notes [] (notes_of old) (env_state old.env (slice_set (map (λ s. asking_of s.doing) old.seats) seat (place_after (env_got_of p.place p.looks.found)))) seat p.looks.found look.0
           (record {
             walk = p.place;
             walks = got-map (λ s. asking_of s.doing) old.seats seat here at ∙ ap (λ d. Some (asking_of d)) p.stands;
@@ -173,7 +171,7 @@ module _ {C : Type 0} {N : ℕ} (before : Whole C N) (earlier : Past) (seat : �
     asks_goes p u =
         let n = env_got_of p.walk p.asks.found in
         let goes = subst (λ r. EnvGoes (past.notes ++ notes) seat r course n) u.0.asked
-        (step_takes_on past.notes notes (notes_of old) (env_state new.env (slice_set (map (λ s. asking_of s.doing) old.seats) seat (env_walk_after n))) seat p.asks.found u.0.course
+        (step_takes_on past.notes notes (notes_of old) (env_state new.env (slice_set (map (λ s. asking_of s.doing) old.seats) seat (place_after n))) seat p.asks.found u.0.course
         (record { walk = p.walk; walks = got-map (λ s. asking_of s.doing) old.seats seat here at ∙ ap (λ d. Some (asking_of d)) p.stands; effect = effect; becomes = refl }) led u.0.so_far) in
         subst (λ s. Outcome before earlier seat (OfNotes request) s then new next) (sym p.asks.answers) (settle n (ap (λ (s : Seat C N). s.doing) p.asks.goes) goes) where
           notes : List EnvEvent
@@ -205,11 +203,11 @@ module _ {C : Type 0} {N : ℕ} (before : Whole C N) (earlier : Past) (seat : �
           on walk is goes = subst (HasCome before earlier seat (OfNotes request) then new.history next.held) (sym is)
               (record { asked = goes.asked; course = course; began = u.0.began; added = added; so_far = goes.so_far; same = held; silent = silent; no_look = u.0.no_look }, untouched)
 
-          settle : (n : EnvNext) → next.doing ≡ there OnNotes (env_walk_after n) → EnvGoes (past.notes ++ notes) seat request course n → Outcome before earlier seat (OfNotes request) (env_step_of n) then new next
-          settle (Go walk) is goes = on walk is goes
-          settle (Repeat walk) is goes = on walk is goes
-          settle (Over reply) is goes = (record { course = course; began = u.0.began; added = added; answer = reply; tells = refl; means = goes; same = held_then ∙ held; silent = silent }, untouched)
-          settle (LookOver cause) is goes = absurd (means_no_look (past.notes ++ notes) request course cause u.0.no_look goes)
+          settle : (n : Next EnvWalk EnvEnd) → next.doing ≡ there OnNotes (place_after n) → EnvGoes (past.notes ++ notes) seat request course n → Outcome before earlier seat (OfNotes request) (env_step_of n) then new next
+          settle (On walk) is goes = on walk is goes
+          settle (TheNext.Idle walk) is goes = on walk is goes
+          settle (TheNext.Done (Over reply)) is goes = (record { course = course; began = u.0.began; added = added; answer = reply; tells = refl; means = goes; same = held_then ∙ held; silent = silent }, untouched)
+          settle (TheNext.Done (LookOver cause)) is goes = absurd (means_no_look (past.notes ++ notes) request course cause u.0.no_look goes)
 
     pub notes_take_on : (makes : SeatMakes old new here next step) → HasCome before earlier seat (OfNotes request) past old.history here.held here.doing → Outcome before earlier seat (OfNotes request) step (after makes) new next
     notes_take_on makes has = by makes where

@@ -1,11 +1,11 @@
 -- Where a call on the lock goes on: its seat may stand there, at the beginning of a look or of a round where it is to look.
 use Rattle.std.proofs.Common.{IsSome, None, Option, Some, ap, false, refl, slice_get, slice_set, subst, sym, ℕ, ◌∙◌, ◌≡◌}
-use Rattle.ns_world.proofs.Prelude.{Act, AnyWait, AtRest, Doing, DoingFits, Fit, Found, Held, IfMade, Limits, Look, LookBy, Next, NoteStanding, ObjectStanding, On, Seat, Setup, Step, Steps, WaitsFor, Walk, Whole, asked_of, asked_stays, asking_of, doing_after, doing_at, doing_by, got_of, is_call}
-use Rattle.ns_world.proofs.Prelude.{lock_of, look_in, looks_at, looks_by_asked, note_asked, operating_of, step_at, view_of, walk_after, walk_of, want_of}
+use Rattle.ns_world.proofs.Prelude.{Act, AnyWait, AtRest, Doing, DoingFits, Fit, Found, Held, IfMade, Limits, Look, LookBy, Next, NoteStanding, ObjectStanding, Seat, Setup, Step, Steps, WaitsFor, Walk, WalkReply, Whole, asked_of, asked_stays, asking_of, doing_after, doing_at, doing_by, got_of}
+use Rattle.ns_world.proofs.Prelude.{is_call, lock_of, look_in, looks_at, looks_by_asked, note_asked, operating_of, place_after, step_at, view_of, walk_of, want_of}
 use Rattle.ns_world.proofs.SeatSet.{reads}
 use Rattle.ns_world.proofs.Looking.{Acts, FirstIf}
 use Rattle.ns_world.proofs.Mapped.{got-map}
-use Rattle.ns_word.specs.declared.walk.Next.TheVariants as TheNext
+use Rattle.ns_env.specs.declared.next.Next.TheVariants as TheNext
 
 -- a seat may be doing this, and stands at a beginning on the clock and the notes and at a place that fits on the objects
 pub record IsPlace {C : Type 0} {N : ℕ} (setup : Setup) (now : ObjectStanding) (notes : ℕ → NoteStanding) (seat : ℕ) (held : Option (Held C N)) (doing : Doing C) : Type 0 where
@@ -24,7 +24,7 @@ module _ {C : Type 0} where
   walk_by (Some look) None walk = refl
   walk_by (Some look) (Some wait) walk = refl
 
-  pub walk_then : (wait : Option AnyWait) (n : Next C) → walk_of (doing_after wait n) ≡ walk_after n
+  pub walk_then : (wait : Option AnyWait) (n : Next (Walk C) WalkReply) → walk_of (doing_after wait n) ≡ place_after n
   walk_then wait (TheNext.On walk) = walk_by (look_in (want_of walk)) wait walk
   walk_then wait (TheNext.Idle walk) = walk_by (look_in (want_of walk)) wait walk
   walk_then wait (TheNext.Done reply) = refl
@@ -39,14 +39,14 @@ module _ {C : Type 0} {N : ℕ} (setup : Setup) (now : ObjectStanding) (notes : 
     by (Look limits again) e (Some wait) p = record { fits = (p, refl, subst IsSome (sym (ap looks_at e)) refl); asks = tt; operates = (p.there, tt) }
     by act e wait p = record { fits = (p, ap looks_at e); asks = tt; operates = tt }
 
-  pub place_after : (wait : Option AnyWait) (walk : Walk C) (found : Found) → WaitsFor setup notes (asked_of walk) wait → IsPlace setup now notes seat held (doing_after wait (got_of N walk found))
-  place_after wait walk found p = by (got_of N walk found) refl where
-    on : (next : Walk C) → walk_after (got_of N walk found) ≡ Some next → IsPlace setup now notes seat held (doing_at wait next)
+  pub placed_after : (wait : Option AnyWait) (walk : Walk C) (found : Found) → WaitsFor setup notes (asked_of walk) wait → IsPlace setup now notes seat held (doing_after wait (got_of N walk found))
+  placed_after wait walk found p = by (got_of N walk found) refl where
+    on : (next : Walk C) → place_after (got_of N walk found) ≡ Some next → IsPlace setup now notes seat held (doing_at wait next)
     on next is = place_at wait next (subst (λ asked. WaitsFor setup notes asked wait) (sym (asked_stays C N walk found next is)) p)
 
-    by : (n : Next C) → got_of N walk found ≡ n → IsPlace setup now notes seat held (doing_after wait n)
-    by (TheNext.On next) is = on next (ap walk_after is)
-    by (TheNext.Idle next) is = on next (ap walk_after is)
+    by : (n : Next (Walk C) WalkReply) → got_of N walk found ≡ n → IsPlace setup now notes seat held (doing_after wait n)
+    by (TheNext.On next) is = on next (ap place_after is)
+    by (TheNext.Idle next) is = on next (ap place_after is)
     by (TheNext.Done reply) is = record { fits = tt; asks = tt; operates = tt }
 
 -- a step of the seat on the lock, as the machine has it

@@ -1,12 +1,12 @@
 -- A turn of a run, by what beginning a call and a step promise.
 use Rattle.std.proofs.Common.{Bool, Err, IfErr, IfOk, List, None, Ok, Option, Result, Some, [], ap, arith, cond, false, inl, inr, length, length-set, nat_lt, not, refl, slice_get, subst, sym, true, ℕ, ◌-◌, ◌∙◌, ◌∷◌, ◌≡◌, ◌≢◌}
-use Rattle.ns_world.proofs.Prelude.{AnyWait, Call, Commits, EnvNext, Fault, Go, GoesOnOrBegins, InCells, Lists, LookOver, Looked, Mode, Next, NoSuchSeat, ObjectLeads, ObjectNext, On, OutOfMemory, Progress, Round, RoundLeads, Seat, SeatLooks, SeatMakes, Sees, Step, TurnOf, Turned, TurnsOf, TurnsWith}
-use Rattle.ns_world.proofs.Prelude.{UnlockQuiet, Walk, Went, Whole, WholeFault, WholeIsBusy, WholeIsIdle, WholeMoves, WholeStarts, WholeStep, Word, env_got_of, env_step_of, got_of, in_call, is_call, mode_of, object_step_of, option_map_or, placed, progress, progressed, same_Some, set_here}
-use Rattle.ns_world.proofs.Prelude.{slice_get_within, start_of, step_of, waits_then, walk_of, want_of, whole_busy}
+use Rattle.ns_world.proofs.Prelude.{AnyWait, Call, Commits, EnvEnd, EnvWalk, Fault, GoesOnOrBegins, InCells, Lists, LookOver, Mode, Next, NoSuchSeat, ObjectLeads, ObjectReply, ObjectWalk, On, OutOfMemory, Over, Progress, Round, RoundLeads, Seat, SeatLooks, SeatMakes, Sees, Step, TurnOf, Turned}
+use Rattle.ns_world.proofs.Prelude.{TurnsOf, TurnsWith, UnlockQuiet, Walk, Went, Whole, WholeFault, WholeIsBusy, WholeIsIdle, WholeMoves, WholeStarts, WholeStep, Word, env_ends, env_got_of, got_of, in_call, is_call, mode_of, option_map_or, placed, progress, progressed, same_Some, set_here}
+use Rattle.ns_world.proofs.Prelude.{slice_get_within, start_of, step_after, waits_then, walk_of, want_of, whole_busy}
 use Rattle.ns_world.specs.Prelude.{Nothing, Wait}
 use Rattle.ns_world.proofs.SeatSet.{as_many}
-use Rattle.ns_counters.specs.declared.walk.ObjectNext.TheVariants as TheObject
 use Rattle.ns_word.specs.declared.act.Found.TheVariants as TheFound
+use Rattle.ns_env.specs.declared.next.Next.TheVariants as TheNext
 
 -- a step at this place may commit an event
 abbrev CommitsAt : {C : Type 0} → ℕ → Option (Walk C) → Word → Lists C → Type 0
@@ -38,17 +38,14 @@ abbrev IsMade : Step → Type 0
 IsMade Nothing = ⊥
 IsMade step = Unit {0}
 
-step_made : {C : Type 0} (wait : Option AnyWait) (next : Next C) → IsMade (step_of wait next)
-step_made wait (On walk) = tt
-step_made wait next = tt
+step_made : {W R : Type 0} (ends : R → Step) (next : Next W R) → ((reply : R) → IsMade (ends reply)) → IsMade (step_after ends next)
+step_made ends (On walk) made = tt
+step_made ends (TheNext.Idle walk) made = tt
+step_made ends (TheNext.Done reply) made = made reply
 
-ask_made : (next : EnvNext) → IsMade (env_step_of next)
-ask_made (Go walk) = tt
-ask_made next = tt
-
-object_made : (next : ObjectNext) → IsMade (object_step_of next)
-object_made (TheObject.Go walk) = tt
-object_made next = tt
+env_made : (end : EnvEnd) → IsMade (env_ends end)
+env_made (Over reply) = tt
+env_made (LookOver cause) = tt
 
 -- every call's first place is one
 starts_call : {C : Type 0} (N : ℕ) (mode : Option Mode) (call : Call C) → is_call (start_of N mode call) ≡ true
@@ -57,24 +54,24 @@ starts_call N mode other = refl
 
 module _ {C : Type 0} {N : ℕ} where
   sees_made : (seat next : Seat C N) (walk : Walk C) (wait : Option AnyWait) (cause : _) (step : Step) → Sees seat walk wait cause next step → IsMade step
-  sees_made seat next walk wait cause step q = subst IsMade (sym q.answers) (step_made wait (got_of N walk (TheFound.Looked cause)))
+  sees_made seat next walk wait cause step q = subst IsMade (sym q.answers) (step_made _ (got_of N walk (TheFound.Looked cause)) (λ _. tt))
 
   makes_made : (old new : Whole C N) (here next : Seat C N) (step : Step) → SeatMakes old new here next step → IsMade step
-  makes_made old new here next step (inl p) = subst IsMade (sym p.performs.answers) (step_made p.wait (got_of N p.walk p.found))
+  makes_made old new here next step (inl p) = subst IsMade (sym p.performs.answers) (step_made _ (got_of N p.walk p.found) (λ _. tt))
   makes_made old new here next step (inr (inl p)) = by (env_got_of p.place p.looks.found) p.looks.goes where
-    by : (n : EnvNext) → SeatLooks n here p.walk next step → IsMade step
-    by (Go place) g = subst IsMade (sym g.1) tt
-    by (LookOver cause) g = sees_made here next p.walk None cause step g
+    by : (n : Next EnvWalk EnvEnd) → SeatLooks n here p.walk next step → IsMade step
+    by (On place) g = subst IsMade (sym g.1) tt
+    by (TheNext.Done (LookOver cause)) g = sees_made here next p.walk None cause step g
     by n g = absurd g
   makes_made old new here next step (inr (inr (inl p))) = by p.leads p.goes where
-    by : (n : ObjectNext) → RoundLeads n here p.walk p.wait next step → IsMade step
-    by (TheObject.Go round) g = subst IsMade (sym g.1) tt
+    by : (n : Next ObjectWalk ObjectReply) → RoundLeads n here p.walk p.wait next step → IsMade step
+    by (On round) g = subst IsMade (sym g.1) tt
     by n g = sees_made here next p.walk _ _ step g
-  makes_made old new here next step (inr (inr (inr (inl p)))) = subst IsMade (sym p.asks.answers) (ask_made (env_got_of p.walk p.asks.found))
+  makes_made old new here next step (inr (inr (inr (inl p)))) = subst IsMade (sym p.asks.answers) (step_made env_ends (env_got_of p.walk p.asks.found) env_made)
   makes_made old new here next step (inr (inr (inr (inr p)))) = by (waits_then p.walk p.leads) p.goes where
     by : (round : Option Round) → ObjectLeads round p.leads here next step → IsMade step
     by (Some round) g = subst IsMade (sym g.answers) tt
-    by None g = subst IsMade (sym g.1) (object_made p.leads)
+    by None g = subst IsMade (sym g.1) (step_made _ p.leads (λ _. tt))
 
   pub whole_some : (old new : Whole C N) (seat : ℕ) (step : Step) → WholeMoves old new seat step → step ≢ Nothing
   whole_some old new seat step p = λ e. subst IsMade e (makes_made old new p.here p.next step p.makes)

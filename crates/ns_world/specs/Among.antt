@@ -1,11 +1,12 @@
 -- Waits for condition variables among notes and counters. As such a call begins, a round looks at the notes and counters; where that shows nothing, the call leaves its section and waits on the lock for the variables; and whenever that wait looks, another round does so.
 use Rattle.std.specs.Prelude.{Bool, IsSome, None, Option, Some, false, if◌then◌else◌, true, unwrap_or, ℕ, ◌≡◌, ◌≤◌}
-use Rattle.ns_world.specs.Names.{Any, AnyWait, AreAmong, AreVariables, Await, Cause, Cvs, Every, Expired, Held, InRound, IsLow, Limits, Mode, Number, ObjectNext, ObjectWalk, OnLock, OnVariables, Over, Repeat, Reply, Request, Round, Seat, Step, Subject, WaitFor as Wait, Went, have_variable, items_of}
-use Rattle.ns_world.specs.Names.{place_in, wait_first}
+use Rattle.ns_world.specs.Names.{Any, AnyWait, AreAmong, AreVariables, Cause, Cvs, Every, Expired, Held, InRound, IsLow, Limits, Mode, Next, Number, ObjectReply, ObjectWalk, OnLock, OnVariables, Reply, Request, Round, Seat, Step, Subject, WaitFor as Wait, Went, have_variable, items_of, place_in}
+use Rattle.ns_world.specs.Names.{wait_first}
 use Rattle.ns_world.specs.Calls.{mode_of, mode_waited}
 use Rattle.ns_world.specs.Doings.{placed}
 use Rattle.ns_counters.specs.declared.reply.ObjectReply.TheVariants as TheObject
 use Rattle.ns_word.specs.declared.request.Request.TheVariants as TheRequest
+use Rattle.ns_env.specs.declared.next.Next.TheVariants as TheNext
 
 -- ---- the wait on the lock
 
@@ -55,8 +56,8 @@ IsFew wait = wait.round.items.count ≤ 16
 -- ---- what a round shows
 
 -- what a round has shown, by where its last step leads
-abbrev pub shown_by : ObjectNext → Option ℕ
-shown_by (Over (TheObject.Number place)) = Some place
+abbrev pub shown_by : Next ObjectWalk ObjectReply → Option ℕ
+shown_by (TheNext.Done (TheObject.Number place)) = Some place
 shown_by next = None
 
 -- what it tells the lock that a round has shown this
@@ -65,8 +66,8 @@ cause_of None = None
 cause_of (Some place) = Some Expired
 
 -- the round after which the call waits on the lock: it has found nothing, and condition variables are among its objects
-abbrev pub waits_then : ObjectWalk → ObjectNext → Option Round
-waits_then (InRound round place) (Repeat walk) = if have_variable round.items then Some round else None
+abbrev pub waits_then : ObjectWalk → Next ObjectWalk ObjectReply → Option Round
+waits_then (InRound round place) (TheNext.Idle walk) = if have_variable round.items then Some round else None
 waits_then walk next = None
 
 -- of several objects there are at most 16

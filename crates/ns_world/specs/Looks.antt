@@ -1,7 +1,7 @@
 -- The looks of a wait: what it looks at, and where its seat stands then.
 use Rattle.std.specs.Prelude.{Bool, IsSome, None, Option, Some, false, ℕ, ◌≡◌}
-use Rattle.ns_world.specs.Names.{Act, AnyWait, AtRest, Await, ClockLoad, Doing, EnvWalk, FirstClock, ForLook, InRound, Limits, Look, LookBy, LooksByLimits, LooksByRound, Next, NoteLoad, On, OnLock, Request, Walk, want_of}
-use Rattle.ns_word.specs.declared.walk.Next.TheVariants.{Done, Idle}
+use Rattle.ns_world.specs.Names.{Act, AnyWait, AtRest, ClockLoad, Doing, EnvWalk, FirstClock, ForLook, InRound, Limits, Look, LookBy, LooksByLimits, LooksByRound, Next, NoteLoad, On, OnLock, Request, Walk, WalkReply, want_of}
+use Rattle.ns_env.specs.declared.next.Next.TheVariants.{Done, Idle}
 use Rattle.ns_word.specs.declared.request.Request.TheVariants as TheRequest
 
 -- what a look goes by, where the act is one
@@ -30,7 +30,7 @@ abbrev pub doing_at : {C : Type 0} → Option AnyWait → Walk C → Doing C
 doing_at wait walk = doing_by (look_in (want_of walk)) wait walk
 
 -- where a step on the lock leads
-abbrev pub doing_after : {C : Type 0} → Option AnyWait → Next C → Doing C
+abbrev pub doing_after : {C : Type 0} → Option AnyWait → Next (Walk C) WalkReply → Doing C
 doing_after wait (On walk) = doing_at wait walk
 doing_after wait (Idle walk) = doing_at wait walk
 doing_after wait (Done reply) = AtRest

@@ -1,7 +1,7 @@
 -- How a call begins in a world, and what one step of a seat is.
 use Rattle.std.proofs.Common.{inl, inr}
 use Rattle.std.specs.Prelude.{List, None, Option, Some, [], false, length, slice_get, slice_set, ℕ, ◌≡◌, ◌≤◌, ◌⊎◌}
-use Rattle.ns_world.specs.Names.{AnyWait, Begun, Busy, Call, EnvEvent, EnvWalk, Every, Fault, Found, LooksByLimits, LooksByRound, Misuse, NoSuchSeat, Nothing, ObjectEvent, ObjectNext, ObjectWalk, OnLock, OnNotes, OnObjects, OutOfMemory, Seat, Started, Step, Walk, env_want_of, env_who}
+use Rattle.ns_world.specs.Names.{AnyWait, Begun, Busy, Call, EnvEvent, EnvWalk, Every, Fault, Found, LooksByLimits, LooksByRound, Misuse, Next, NoSuchSeat, Nothing, ObjectEvent, ObjectReply, ObjectWalk, OnLock, OnNotes, OnObjects, OutOfMemory, Seat, Started, Step, Walk, env_want_of, env_who}
 use Rattle.ns_world.specs.Names.{object_who, outcome, want_of}
 use Rattle.ns_world.specs.Among.{waits_then}
 use Rattle.ns_world.specs.Asks.{Asked}
@@ -68,7 +68,7 @@ pub record GoesRound {C : Type 0} {N : ℕ} (old new : Whole C N) (here next : S
   pub wait : AnyWait
   pub round : ObjectWalk
   pub stands : here.doing ≡ LooksByRound walk wait round
-  pub leads : ObjectNext
+  pub leads : Next ObjectWalk ObjectReply
   pub operates : Operates old.env old.objects here.number round new.objects leads
   pub goes : RoundLeads leads here walk wait next step
   pub same : new ≡ record old { seats = new.seats; objects = new.objects }
@@ -84,7 +84,7 @@ pub record NotesSteps {C : Type 0} {N : ℕ} (old new : Whole C N) (here next : 
 pub record ObjectsSteps {C : Type 0} {N : ℕ} (old new : Whole C N) (here next : Seat C N) (step : Step) : Type 0 where
   pub walk : ObjectWalk
   pub stands : here.doing ≡ OnObjects walk
-  pub leads : ObjectNext
+  pub leads : Next ObjectWalk ObjectReply
   pub operates : Operates old.env old.objects here.number walk new.objects leads
   pub goes : ObjectLeads (waits_then walk leads) leads here next step
   pub same : new ≡ record old { seats = new.seats; objects = new.objects }

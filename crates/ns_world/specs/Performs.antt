@@ -1,12 +1,10 @@
 -- One step on the parts of a world.
 use Rattle.std.specs.Prelude.{List, Option, get_or, ℕ, ◌++◌, ◌≡◌}
-use Rattle.ns_world.specs.Names.{Act, AnyWait, Effect, Event, Finished, Found, Held, Idle, Lists, Next, On, Owed, Part, Scanned, Seat, SeatView, Step, Truths, Walk, Went, Word, got_of, want_of}
-use Rattle.ns_word.specs.declared.walk.Next.TheVariants.{Done}
+use Rattle.ns_world.specs.Names.{Act, AnyWait, Effect, Event, Finished, Found, Held, Lists, Next, Owed, Part, Scanned, Seat, SeatView, Step, Truths, Walk, WalkReply, Word, got_of, want_of}
 use Rattle.ns_world.specs.Among.{reply_for}
 use Rattle.ns_world.specs.Doings.{walk_of}
 use Rattle.ns_world.specs.Looks.{doing_after}
-use Rattle.ns_world.specs.Replies.{told}
-use Rattle.ns_word.specs.declared.walk.Next.TheVariants as TheNext
+use Rattle.ns_world.specs.Replies.{step_after, told}
 
 -- the machine's view of a seat
 abbrev pub view_of : {C : Type 0} {N : ℕ} → Seat C N → SeatView C N
@@ -36,10 +34,8 @@ tests_after (Scanned owes tests) before = tests
 tests_after found before = before
 
 -- what a step was for the call, by where it leads
-abbrev pub step_of : {C : Type 0} → Option AnyWait → Next C → Step
-step_of wait (On walk) = Went
-step_of wait (TheNext.Idle walk) = Idle
-step_of wait (Done reply) = Finished (reply_for wait (told reply))
+abbrev pub step_of : {C : Type 0} → Option AnyWait → Next (Walk C) WalkReply → Step
+step_of wait = step_after (λ reply. Finished (reply_for wait (told reply)))
 
 -- a seat's part of a world
 abbrev pub seat_part : {C : Type 0} {N : ℕ} → Word → List ℕ → Lists C → List ℕ → Seat C N → Part C N

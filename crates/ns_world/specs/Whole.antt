@@ -1,8 +1,8 @@
 -- A world as a contract sees it, and what holds of it between any two steps.
 use Rattle.std.specs.Option.{option_map_or}
 use Rattle.std.specs.Prelude.{Bool, IsSome, List, None, Option, Some, [], false, length, map, slice_get, suc, true, zero, ℕ, ◌+◌, ◌∷◌, ◌≡◌, ◌≤◌}
-use Rattle.ns_world.specs.Names.{AnyWait, AreAmong, AreNumbered, AreThere, AtRest, Await, Cvs, Doing, EnvEvent, EnvPlain, EnvState, Event, FirstClock, Held, IfMade, InRound, IsLawfulEnv, IsLawfulObjects, Lists, LockState, LooksByLimits, LooksByRound, Mode, NoteStanding, ObjectEvent}
-use Rattle.ns_world.specs.Names.{ObjectState, ObjectWalk, ObjectWords, OnLock, OnObjects, Part, Past, Request, Round, Seat, Setup, Truths, Word, asked_of, fresh_plain, fresh_state, have_variable, items_of, object_asked, want_of}
+use Rattle.ns_world.specs.Names.{AnyWait, AreAmong, AreNumbered, AreThere, AtRest, Cvs, Doing, EnvEvent, EnvPlain, EnvState, Event, FirstClock, Held, IfMade, InRound, IsLawfulEnv, IsLawfulObjects, Lists, LockState, LooksByLimits, LooksByRound, Mode, NoteStanding, ObjectEvent, ObjectState}
+use Rattle.ns_world.specs.Names.{ObjectWalk, ObjectWords, OnLock, OnObjects, Part, Past, Request, Round, Seat, Setup, Truths, Word, asked_of, fresh_plain, fresh_state, have_variable, items_of, object_asked, want_of}
 use Rattle.ns_world.specs.Among.{asks_for_any, waits_for_any}
 use Rattle.ns_world.specs.Asks.{env_state, plain_of}
 use Rattle.ns_world.specs.Doings.{asking_of, is_call, operating_of}

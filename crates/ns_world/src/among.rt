@@ -13,7 +13,7 @@
 //! | is on the lock | ends the wait | the answer is the place of the variable which woke it, else what the last round has shown |
 
 ghost use Rattle.std.specs.Prelude.{◌≡◌, ◌≤◌, IfSome, IsSome, true};
-ghost use Rattle.ns_world.specs.Prelude.{BeginsToWait, Every, IsFew, IsLow, MayGoOn, NamesFew, ObjectLeads, ObjectNext as ObjectNextOf, Operates, RoundLeads, StepFits, cause_of, have_variable, items_of, plain_of, reply_for, reply_told, shown_by, waits_then};
+ghost use Rattle.ns_world.specs.Prelude.{BeginsToWait, Every, IsFew, IsLow, MayGoOn, NamesFew, Next as NextOf, ObjectLeads, ObjectReply as ReplyOf, ObjectWalk as WalkOf, Operates, RoundLeads, StepFits, cause_of, have_variable, items_of, plain_of, reply_for, reply_told, shown_by, waits_then};
 
 use crate::environment::Environment;
 use crate::looks::see;
@@ -27,6 +27,7 @@ use ns_counters::reply::ObjectReply;
 use ns_counters::round::Round;
 use ns_counters::walk::{ObjectNext, ObjectWalk};
 use ns_env::limits::{Cause, Limits};
+use ns_env::next::Next;
 use ns_model::cvs::Variables;
 use ns_word::wait::{Subject, Wait};
 use ns_word::walk::Walk;
@@ -45,8 +46,9 @@ fn waits_then(walk: &ObjectWalk, next: &ObjectNext) -> Option<Round>
     ensures { result ≡ waits_then walk.now next.now }
 {
     match (walk, next) {
-        (ObjectWalk::InRound(round, _), ObjectNext::Repeat(_)) if round.items.has_variable() =>
-            Some(*round),
+        (ObjectWalk::InRound(round, _), Next::Idle(_)) if round.items.has_variable() => Some(
+            *round,
+        ),
         _ => None,
     }
 }
@@ -56,7 +58,7 @@ fn shown_by(next: &ObjectNext) -> Option<u64>
     ensures { result ≡ shown_by next.now }
 {
     match next {
-        ObjectNext::Over(ObjectReply::Number(place)) => Some(*place),
+        Next::Done(ObjectReply::Number(place)) => Some(*place),
         _ => None,
     }
 }
@@ -104,7 +106,7 @@ pub(crate) fn step_objects<C: Seated<N>, const N: usize>(
     requires row { N ≤ 16 }
     requires fits { StepFits env.now.next walk }
     requires may { MayGoOn seat.old.held walk }
-    ensures { (next : ObjectNextOf) × Operates (plain_of env.now) objects.old seat.old.number walk objects.new next × ObjectLeads (waits_then walk next) next seat.old seat.new result }
+    ensures { (next : NextOf WalkOf ReplyOf) × Operates (plain_of env.now) objects.old seat.old.number walk objects.new next × ObjectLeads (waits_then walk next) next seat.old seat.new result }
 {
     let next = operate(env, objects, walk);
     match waits_then(&walk, &next) {
@@ -125,10 +127,10 @@ pub(crate) fn go_round<C: Seated<N>, const N: usize>(
 ) -> Step
     requires fits { StepFits env.now.next round }
     requires few { IsFew wait }
-    ensures { (next : ObjectNextOf) × Operates (plain_of env.now) objects.old seat.old.number round objects.new next × RoundLeads next seat.old walk wait seat.new result }
+    ensures { (next : NextOf WalkOf ReplyOf) × Operates (plain_of env.now) objects.old seat.old.number round objects.new next × RoundLeads next seat.old walk wait seat.new result }
 {
     let next = operate(env, objects, round);
-    if let ObjectNext::Go(place) = next {
+    if let Next::On(place) = next {
         seat.doing = Doing::LooksByRound(walk, wait, place);
         return Step::Went;
     }

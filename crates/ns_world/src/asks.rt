@@ -1,7 +1,7 @@
 //! One atomic step on the clock and the notes, as the seat's place in its call wants it.
 
 ghost use Rattle.std.specs.Prelude.{◌≡◌};
-ghost use Rattle.ns_world.specs.Prelude.{EnvActFits, env_walk_after, env_want_of, there};
+ghost use Rattle.ns_world.specs.Prelude.{EnvActFits, place_after, env_want_of, there};
 ghost use Rattle.ns_world.specs.Asks.{Asked, plain_of, env_step_of};
 
 use crate::environment::Environment;
@@ -9,27 +9,28 @@ use crate::reply::env_told;
 use crate::room::Seated;
 use crate::seat::{Doing, Seat};
 use crate::step::Step;
-use ns_env::walk::{EnvNext, EnvWalk};
+use ns_env::next::Next;
+use ns_env::walk::{EnvEnd, EnvNext, EnvWalk};
 
 /// Puts the seat where its walk goes, and tells what the step was. After a look the call goes on.
 fn settle<C: Seated<N>, const N: usize>(seat: &mut Seat<C, N>, next: EnvNext) -> Step
     ensures step { result ≡ env_step_of next }
-    ensures seat { seat.new ≡ record seat.old { doing = there Doing.OnNotes (env_walk_after next) } }
+    ensures seat { seat.new ≡ record seat.old { doing = there Doing.OnNotes (place_after next) } }
 {
     match next {
-        EnvNext::Go(walk) => {
+        Next::On(walk) => {
             seat.doing = Doing::OnNotes(walk);
             Step::Went
         }
-        EnvNext::Repeat(walk) => {
+        Next::Idle(walk) => {
             seat.doing = Doing::OnNotes(walk);
             Step::Idle
         }
-        EnvNext::Over(reply) => {
+        Next::Done(EnvEnd::Over(reply)) => {
             seat.doing = Doing::AtRest;
             Step::Finished(env_told(reply))
         }
-        EnvNext::LookOver(_) => {
+        Next::Done(EnvEnd::LookOver(_)) => {
             seat.doing = Doing::AtRest;
             Step::Went
         }

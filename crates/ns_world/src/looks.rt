@@ -10,7 +10,8 @@ use crate::seat::{Doing, Seat};
 use crate::step::{Step, settle};
 use crate::wanted::came_back;
 use ns_env::limits::Cause;
-use ns_env::walk::{EnvNext, EnvWalk};
+use ns_env::next::Next;
+use ns_env::walk::{EnvEnd, EnvWalk};
 use ns_word::act::Found;
 use ns_word::view::{Held, Opening};
 use ns_word::wait::Outcome;
@@ -71,12 +72,12 @@ pub(crate) fn look<C: Seated<N>, const N: usize>(
 {
     let found = env.load(place.want());
     match place.got(found) {
-        EnvNext::Go(next) => {
+        Next::On(next) => {
             seat.doing = Doing::LooksByLimits(walk, next);
             Step::Went
         }
-        EnvNext::LookOver(cause) => see(seat, walk, None, cause),
-        EnvNext::Repeat(_) => unreachable!(),
-        EnvNext::Over(_) => unreachable!(),
+        Next::Done(EnvEnd::LookOver(cause)) => see(seat, walk, None, cause),
+        Next::Idle(_) => unreachable!(),
+        Next::Done(EnvEnd::Over(_)) => unreachable!(),
     }
 }

@@ -1,7 +1,7 @@
 //! A step of a call on counters and once cells, or of the round by which a wait looks, over the parts of a world.
 
 ghost use Rattle.std.specs.Prelude.{◌≡◌, ℕ, List};
-ghost use Rattle.ns_world.specs.Prelude.{ObjectEffect, ObjectEvent, Operates, Place, StepFits, WantFits, object_after, object_step_of, plain_of, there};
+ghost use Rattle.ns_world.specs.Prelude.{ObjectEffect, ObjectEvent, Operates, Place, StepFits, WantFits, place_after, object_step_of, plain_of, there};
 
 use crate::environment::Environment;
 use crate::objects::Objects;
@@ -11,6 +11,7 @@ use crate::seat::{Doing, Seat};
 use crate::step::Step;
 use ns_counters::round::{ObjectFound, ObjectWant};
 use ns_counters::walk::{ObjectNext, ObjectWalk};
+use ns_env::next::Next;
 
 /// Makes the step that a place wants, and tells what it found.
 fn perform(env: &Environment, objects: &mut Objects, want: ObjectWant) -> ObjectFound
@@ -36,18 +37,18 @@ pub(crate) fn operate(env: &Environment, objects: &mut Objects, walk: ObjectWalk
 /// Puts the seat where its walk goes, and tells what the step was.
 pub(crate) fn settle<C: Seated<N>, const N: usize>(seat: &mut Seat<C, N>, next: ObjectNext) -> Step
     ensures step { result ≡ object_step_of next }
-    ensures seat { seat.new ≡ record seat.old { doing = there Doing.OnObjects (object_after next) } }
+    ensures seat { seat.new ≡ record seat.old { doing = there Doing.OnObjects (place_after next) } }
 {
     match next {
-        ObjectNext::Go(walk) => {
+        Next::On(walk) => {
             seat.doing = Doing::OnObjects(walk);
             Step::Went
         }
-        ObjectNext::Repeat(walk) => {
+        Next::Idle(walk) => {
             seat.doing = Doing::OnObjects(walk);
             Step::Idle
         }
-        ObjectNext::Over(reply) => {
+        Next::Done(reply) => {
             seat.doing = Doing::AtRest;
             Step::Finished(object_told(reply))
         }

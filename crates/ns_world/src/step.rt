@@ -11,11 +11,12 @@ use crate::seat::{Doing, Seat};
 use crate::wanted::wanted_look;
 use ns_counters::round::RoundPlace;
 use ns_counters::walk::ObjectWalk;
+use ns_env::next::Next;
 use ns_env::walk::{Chain, EnvWalk};
 use ns_model::event::Mode;
 use ns_word::act::Found;
 use ns_word::view::Held;
-use ns_word::walk::{Next, Walk};
+use ns_word::walk::{Walk, WalkNext};
 
 /// What a seat's step was.
 #[derive(Clone, Copy, Debug, PartialEq, Eq)]
@@ -91,7 +92,7 @@ fn doing_at<C: Seated<N>, const N: usize>(wait: Option<AnyWait>, walk: &Walk<C>)
 pub(crate) fn settle<C: Seated<N>, const N: usize>(
     seat: &mut Seat<C, N>,
     wait: Option<AnyWait>,
-    next: &Next<C>,
+    next: &WalkNext<C>,
 ) -> Step
     requires { IfSome wait IsFew }
     ensures step { result ≡ step_of wait next.now }

@@ -1,4 +1,4 @@
-use Rattle.ns_word.proofs.Prelude.{number, queues_fit, refl, row_fits}
+use Rattle.ns_word.proofs.Prelude.{number, queues_fit, row_fits}
 use Rattle.ns_word.proofs.hand.change_in_hand.Goals as goal
 
 pub change_acquiring-requires : goal.change_acquiring-requires

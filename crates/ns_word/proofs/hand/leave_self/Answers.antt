@@ -1,4 +1,4 @@
-use Rattle.std.proofs.Common.{Bool, IsTrue, arith, cond, false, ltb-true, refl, sym, true, ℕ, ◌<◌, ◌↔◌, ◌≡◌, ◌≤◌}
+use Rattle.std.proofs.Common.{Bool, IsTrue, arith, cond, false, ltb-true, sym, true, ℕ, ◌<◌, ◌↔◌, ◌≡◌, ◌≤◌}
 use Rattle.ns_word.proofs.Prelude.{AtLock, AtVariables, Home, Lists, OnTrue, number, queues_fit, stands_at, times, without, ◌∙◌}
 use Rattle.ns_word.proofs.hand.leave_self.Goals as goal
 

@@ -1,4 +1,4 @@
-use Rattle.ns_word.proofs.Prelude.{ap, number, queues_fit, row_fits, waits_at, ◌∙◌}
+use Rattle.ns_word.proofs.Prelude.{number, queues_fit, row_fits}
 use Rattle.ns_word.proofs.Hands.{free_scanned}
 use Rattle.ns_word.proofs.hand.scan_and_queue.Goals as goal
 

@@ -1,0 +1,15 @@
+-- Where a walk goes, whatever its places and its answers are.
+use Rattle.std.specs.Prelude.{None, Option, Some}
+use Rattle.ns_env.specs.Names.{Done, Idle, Next, On}
+
+-- the place after, if the walk goes on
+abbrev pub place_after : {W R : Type 0} → Next W R → Option W
+place_after (On walk) = Some walk
+place_after (Idle walk) = Some walk
+place_after (Done reply) = None
+
+-- It goes on, or waits, at a place of which this is so; or it is over, and so is that of what it answers.
+abbrev pub NextIs : {W R : Type 0} → (W → Type 0) → (R → Type 0) → Next W R → Type 0
+NextIs IsSo Means (On walk) = IsSo walk
+NextIs IsSo Means (Idle walk) = IsSo walk
+NextIs IsSo Means (Done reply) = Means reply
