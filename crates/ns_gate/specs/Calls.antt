@@ -1,6 +1,6 @@
 -- How far a call has come, as its caller follows it from step to step.
 use Rattle.std.specs.Prelude.{List, None, Option, Some, [], false, length, ℕ, ◌++◌, ◌<◌, ◌∷◌, ◌≡◌}
-use Rattle.ns_gate.specs.Names.{BeginsWith, Done, Event, Held, Idle, IsBySeats, IsLegal, IsOne, IsSettled, Lists, Me, Means, Next, On, Owed, PlaceFits, Reply, Request, SoFar, Truths, Walk, calls_of, has_queues, own_of, row_after}
+use Rattle.ns_gate.specs.Names.{BeginsWith, Event, Held, IsBySeats, IsLegal, IsOne, IsSettled, Lists, Me, Means, Next, NextIs, Owed, PlaceFits, Reply, Request, SoFar, Truths, Walk, calls_of, has_queues, own_of, row_after}
 use Rattle.ns_gate.specs.Law.{GateView}
 use Rattle.ns_gate.specs.Steps.{the, course_by}
 
@@ -63,6 +63,4 @@ pub record HasAnswered {C : Type 0} {N : ℕ} (truths : Truths C) (request : Req
 
 -- where a step leads a call that was asked to do this: to a place, at once or after it has waited, or to its answer
 abbrev pub HasReached : {C : Type 0} {N : ℕ} → Truths C → Request C → Next (Walk C) Reply → SeatOf C N → Type 0
-HasReached truths request (On walk) me = IsAtPlace truths walk me
-HasReached truths request (Idle walk) me = IsAtPlace truths walk me
-HasReached truths request (Done reply) me = HasAnswered truths request reply me
+HasReached truths request next me = NextIs (λ walk. IsAtPlace truths walk me) (λ reply. HasAnswered truths request reply me) next

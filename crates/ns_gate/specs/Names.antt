@@ -1,5 +1,6 @@
 -- The names of crates below and of this crate's own types, passed on from one place. Declares nothing.
 pub use Rattle.atomic_table.specs.Table.{Act as TableAct, Allows, Final, Me, Seen, State as TableState, Valid, carried_after, gives, homes_after, keeps as keeps_slots, opening, rest, takes}
+pub use Rattle.ns_env.specs.Prelude.{NextIs}
 pub use Rattle.ns_env.specs.declared.next.Next.{Next}
 pub use Rattle.ns_env.specs.declared.next.Next.TheVariants.{Done, Idle, On}
 pub use Rattle.ns_gate.specs.declared.fault.Fault.{Fault}

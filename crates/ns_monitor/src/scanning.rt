@@ -182,7 +182,6 @@ impl<C: Condition<N>, const N: usize> Monitor<C, N> {
     )
         requires of { seat.old.table_id ≡ self.now }
         requires word { IsPackable word }
-        requires may { MayScan (ToRelease releasing) seat.old.me }
         requires ready { IsReady C.means (ready_at (ToRelease releasing) word) row.now seat.old.me }
         requires found { sought ≡ sought_at C.means row.now (the seat.old.me.0).stood }
         ensures seat { seat.new.table_id ≡ self.now }

@@ -11,12 +11,12 @@ scan_and_wake-requires g c = let t = g.C.Condition.means in let look = c.scan_wr
     let found = found_first _ _ (sought_at t c.args.row.now (the me.0).stood) c.in-Err.sought (sym look.ensures.told ∙ c.in-Err.is) ∙ ap (λ (vs : List (GateView _ g.row.N)). sought_at t c.args.row.now (the vs).stood) (sym look.ensures.seat.1) in
     in_room (omega (arith, g.met.C.Condition.has_cells), (◌∙◌ {A = TableId} look.ensures.seat.0 c.requires.of, (c.requires.word, (may_still t c.args.scanning me look.new.seat.me c.requires.may look.ensures.seat.1, (ready, found)))))
 
--- the same of a release, which may scan whatever it knows
+-- the same of a release
 pub wake_released-requires : goal.wake_released-requires
 wake_released-requires g c = let t = g.C.Condition.means in let look = c.scan_writer_in_hand in let me = c.args.seat.now.me in let walk = ready_at c.args.scanning c.args.word in
     let ready = ready_still t walk c.args.row.now me look.new.seat.me (scans_in_hand c.args.scanning c.args.word) c.requires.ready look.ensures.seat.1 c.in-Err.ensures.still in
     let found = found_first _ _ (sought_at t c.args.row.now (the me.0).stood) c.in-Err.sought (sym look.ensures.told ∙ c.in-Err.is) ∙ ap (λ (vs : List (GateView _ g.row.N)). sought_at t c.args.row.now (the vs).stood) (sym look.ensures.seat.1) in
-    in_room (omega (arith, g.met.C.Condition.has_cells), (◌∙◌ {A = TableId} look.ensures.seat.0 c.requires.of, (c.requires.word, (tt, (subst (λ scanning. IsReady t (ready_at scanning c.args.word) c.args.row.now look.new.seat.me) c.in-ToRelease.is ready, found)))))
+    in_room (omega (arith, g.met.C.Condition.has_cells), (◌∙◌ {A = TableId} look.ensures.seat.0 c.requires.of, (c.requires.word, (subst (λ scanning. IsReady t (ready_at scanning c.args.word) c.args.row.now look.new.seat.me) c.in-ToRelease.is ready, found))))
 
 pub returns-in-ToRelease-clause-scanned : goal.returns-in-ToRelease-clause-scanned
 returns-in-ToRelease-clause-scanned g c = scanned_still g.C.Condition.means c.args.scanning c.args.seat.now.me c.scan_writer_in_hand.new.seat.me c.wake_released.new.seat.me c.scan_writer_in_hand.ensures.seat.1 (rw (← c.in-ToRelease.is) at c.wake_released.ensures.scanned)
