@@ -1,8 +1,8 @@
 -- No seat is past its last call.
 use Rattle.std.proofs.Common.{All, Bool, Global, IfSome, List, None, Option, Some, Vec, [], ap, arith, cond, false, inl, inr, length, map, refl, replicate, slice_get, slice_index, slice_set, subst, suc, sym, true, zero, ℕ, ◌++◌, ◌+◌, ◌<◌, ◌∙◌, ◌∷◌, ◌≡◌, ◌≢◌, ◌≤◌}
-use Rattle.ns_world.proofs.Prelude.{All-head, All-nil, All-tail, AnyWait, Call, CallInRange, Counts, EnvEnd, EnvWalk, Finished, GoesOnOrBegins, IsCounted, Line, ListFits, LookOver, Next, ObjectLeads, ObjectReply, ObjectWalk, On, OnNotes, OnObjects, Over, Progress, Reply, Round, RoundLeads, Seat}
-use Rattle.ns_world.proofs.Prelude.{SeatLooks, SeatMakes, Sees, Step, TurnOf, Walk, WalkReply, Whole, WholeMoves, calls_of, cases_eq, doing_after, env_got_of, env_step_of, few, get_or-set_other, get_or-set_same, got_of, in_call, is_call, length-set, most, object_step_of, option_map_or, place_after}
-use Rattle.ns_world.proofs.Prelude.{progress, progressed, set_there, slice_get_within, step_of, tests_at, tests_told, there, waits_then, whole_busy}
+use Rattle.ns_world.proofs.Prelude.{All-head, All-nil, All-tail, AnyWait, Call, CallInRange, Counts, Doing, EnvEnd, EnvWalk, Finished, GoesOnOrBegins, IsCounted, Line, ListFits, LookOver, Next, ObjectLeads, ObjectReply, ObjectWalk, On, OnNotes, OnObjects, Over, Progress, Reply, Round, RoundLeads, Seat}
+use Rattle.ns_world.proofs.Prelude.{SeatLooks, SeatMakes, Sees, Step, TurnOf, Walk, WalkReply, Whole, WholeMoves, calls_of, cases_eq, doing_at, env_got_of, few, get_or-set_other, get_or-set_same, got_of, in_call, is_call, length-set, most, option_map_or, place_after, step_after}
+use Rattle.ns_world.proofs.Prelude.{progress, progressed, set_there, slice_get_within, tests_at, tests_told, there, waits_then, whole_busy}
 use Rattle.ns_env.specs.declared.next.Next.TheVariants.{Done}
 use Rattle.ns_world.proofs.Fresh.{each_same}
 use Rattle.ns_world.proofs.SeatSet.{here_then, others_stay}
@@ -30,18 +30,9 @@ bit_most true = omega arith
 bit_most false = omega arith
 
 -- a call that is over leaves its seat idle
-lock_over : {C : Type 0} (wait : Option AnyWait) (next : Next (Walk C) WalkReply) (reply : Reply) → Finished reply ≡ step_of wait next → is_call (doing_after wait next) ≡ false
-lock_over wait (Done answer) reply e = refl
-lock_over wait next reply e = absurd (cc)
-
-notes_over : (C : Type 0) (next : Next EnvWalk EnvEnd) (reply : Reply) → Finished reply ≡ env_step_of next → is_call {C = C} (there OnNotes (place_after next)) ≡ false
-notes_over C (Done (Over answer)) reply e = refl
-notes_over C (Done (LookOver cause)) reply e = refl
-notes_over C next reply e = absurd (cc)
-
-objects_over : (C : Type 0) (next : Next ObjectWalk ObjectReply) (reply : Reply) → Finished reply ≡ object_step_of next → is_call {C = C} (there OnObjects (place_after next)) ≡ false
-objects_over C (Done answer) reply e = refl
-objects_over C next reply e = absurd (cc)
+idle_over : {C W R : Type 0} (at : W → Doing C) (ends : R → Step) (next : Next W R) (reply : Reply) → Finished reply ≡ step_after ends next → is_call (there at (place_after next)) ≡ false
+idle_over at ends (Done answer) reply e = refl
+idle_over at ends next reply e = absurd (cc)
 
 module _ {C : Type 0} {N : ℕ} where
   -- a seat and its count change, and no other's
@@ -68,10 +59,10 @@ module _ {C : Type 0} {N : ℕ} where
   -- ---- what the last step of a call leaves of its seat
 
   sees_over : (seat next : Seat C N) (walk : Walk C) (wait : Option AnyWait) (cause : _) (reply : Reply) → Sees seat walk wait cause next (Finished reply) → in_call next ≡ false
-  sees_over seat next walk wait cause reply q = ap in_call q.goes ∙ lock_over wait (got_of N walk (TheFound.Looked cause)) reply q.answers
+  sees_over seat next walk wait cause reply q = ap in_call q.goes ∙ idle_over (doing_at wait) _ (got_of N walk (TheFound.Looked cause)) reply q.answers
 
   makes_over : (old new : Whole C N) (here next : Seat C N) (reply : Reply) → SeatMakes old new here next (Finished reply) → in_call next ≡ false
-  makes_over old new here next reply (inl p) = ap in_call p.performs.goes ∙ lock_over p.wait (got_of N p.walk p.found) reply p.performs.answers
+  makes_over old new here next reply (inl p) = ap in_call p.performs.goes ∙ idle_over (doing_at p.wait) _ (got_of N p.walk p.found) reply p.performs.answers
   makes_over old new here next reply (inr (inl p)) = by (env_got_of p.place p.looks.found) p.looks.goes where
     by : (n : Next EnvWalk EnvEnd) → SeatLooks n here p.walk next (Finished reply) → in_call next ≡ false
     by (On place) g = let e = g.1 in absurd (cc)
@@ -81,11 +72,11 @@ module _ {C : Type 0} {N : ℕ} where
     by : (n : Next ObjectWalk ObjectReply) → RoundLeads n here p.walk p.wait next (Finished reply) → in_call next ≡ false
     by (On round) g = let e = g.1 in absurd (cc)
     by n g = sees_over here next p.walk _ _ reply g
-  makes_over old new here next reply (inr (inr (inr (inl p)))) = ap in_call p.asks.goes ∙ notes_over C (env_got_of p.walk p.asks.found) reply p.asks.answers
+  makes_over old new here next reply (inr (inr (inr (inl p)))) = ap in_call p.asks.goes ∙ idle_over OnNotes _ (env_got_of p.walk p.asks.found) reply p.asks.answers
   makes_over old new here next reply (inr (inr (inr (inr p)))) = by (waits_then p.walk p.leads) p.goes where
     by : (round : Option Round) → ObjectLeads round p.leads here next (Finished reply) → in_call next ≡ false
     by (Some round) g = let e = g.answers in absurd (cc)
-    by None g = ap in_call g.0 ∙ objects_over C p.leads reply g.1
+    by None g = ap in_call g.0 ∙ idle_over OnObjects _ p.leads reply g.1
 
   whole_over : (old new : Whole C N) (seat : ℕ) (reply : Reply) → WholeMoves old new seat (Finished reply) → whole_busy new seat ≡ false
   whole_over old new seat reply p = busy_at new seat p.next false (here_then old new seat p.here p.next p.at p.seats) (makes_over old new p.here p.next reply p.makes)

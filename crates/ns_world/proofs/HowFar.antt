@@ -1,11 +1,11 @@
 -- How far a call has come that is under way: what its seat's place says, with what has happened since it began.
 use Rattle.std.proofs.Common.{List, None, Option, Some, [], ap, append-nil, slice_get, true, ℕ, ◌++◌, ◌<◌, ◌∙◌, ◌≡◌}
 use Rattle.ns_world.proofs.Prelude.{AnswersOfLock, AnswersTo, AnyAnswers, AnyWait, AreAmong, Asked, BeginsWith, Cause, Course, Cvs, Doing, EnvCourse, EnvEvent, EnvRequest, EnvSoFar, EnvWalk, Event, Finished, FirstClock, HasLedTo, HaveShownNothing, Held, InRound, IsLater, IsReady, IsUnfinished}
-use Rattle.ns_world.proofs.Prelude.{LooksByLimits, LooksByRound, Next, ObjectEvent, ObjectSoFar, ObjectWalk, OfLock, OfNotes, OfObjects, On, OnLock, OnNotes, OnObjects, Past, Reply, Request, Round, RoundShows, RoundSoFar, Seat, SoFar, Step, Walk, WalkReply, WasShown, WereThere, Whole, any_on}
+use Rattle.ns_world.proofs.Prelude.{LooksByLimits, LooksByRound, Next, ObjectEvent, ObjectSoFar, ObjectWalk, OfLock, OfNotes, OfObjects, OnLock, OnNotes, OnObjects, Past, Reply, Request, Round, RoundShows, RoundSoFar, Seat, SoFar, Step, Walk, WalkReply, WasShown, WereThere, Whole, any_on}
 use Rattle.ns_world.proofs.Prelude.{asked_of, cause_of, env_asked_of, env_own, held_at, is_among, items_of, later_and, later_through, limits_of, mode_of, mode_waited, nothing_on, object_asked, objects_own, others_leave_course, own, past_and, reply_of_lock as told, round_on, so_far_on, waits_for_any}
 use Rattle.ns_world.proofs.Places.{IsNoLook}
 use Rattle.ns_world.proofs.Shown.{LookSoFar, look_on, shown_on}
-use Rattle.ns_env.specs.declared.next.Next.TheVariants.{Done, Idle}
+use Rattle.ns_env.specs.Prelude.{NextIs}
 use Rattle.ns_word.specs.declared.request.Request.TheVariants as TheRequest
 
 -- what the last look has shown to the lock of a call that waits there, its last round has shown
@@ -126,9 +126,8 @@ module _ {C : Type 0} {N : ℕ} (before : Whole C N) (earlier : Past) (seat : �
 
   -- the same of the walk of one on the lock, whose last look has shown this
   abbrev pub LockLeads : Request C → List EnvEvent → Whole C N → Option (Held C N) → Option (Option Cause) → Next (Walk C) WalkReply → Type 0
-  LockLeads request events world held looked (Done reply) = (answers : AnswersOfLock before earlier.notes seat request (told reply) world events) × (answers.course.looked ≡ looked)
-  LockLeads request events world held looked (On walk) = (u : LockUnderway request events world.history walk held) × (u.course.looked ≡ looked)
-  LockLeads request events world held looked (Idle walk) = (u : LockUnderway request events world.history walk held) × (u.course.looked ≡ looked)
+  LockLeads request events world held looked next = NextIs (λ walk. (u : LockUnderway request events world.history walk held) × (u.course.looked ≡ looked))
+      (λ reply. (answers : AnswersOfLock before earlier.notes seat request (told reply) world events) × (answers.course.looked ≡ looked)) next
 
   -- ---- what others do
 

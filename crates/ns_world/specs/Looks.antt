@@ -1,7 +1,7 @@
 -- The looks of a wait: what it looks at, and where its seat stands then.
 use Rattle.std.specs.Prelude.{Bool, IsSome, None, Option, Some, false, ℕ, ◌≡◌}
-use Rattle.ns_world.specs.Names.{Act, AnyWait, AtRest, ClockLoad, Doing, EnvWalk, FirstClock, ForLook, InRound, Limits, Look, LookBy, LooksByLimits, LooksByRound, Next, NoteLoad, On, OnLock, Request, Walk, WalkReply, want_of}
-use Rattle.ns_env.specs.declared.next.Next.TheVariants.{Done, Idle}
+use Rattle.ns_world.specs.Names.{Act, AnyWait, AtRest, ClockLoad, Doing, EnvWalk, FirstClock, ForLook, InRound, Limits, Look, LookBy, LooksByLimits, LooksByRound, Next, NoteLoad, OnLock, Request, Walk, WalkReply, place_after, want_of}
+use Rattle.ns_world.specs.Doings.{there}
 use Rattle.ns_word.specs.declared.request.Request.TheVariants as TheRequest
 
 -- what a look goes by, where the act is one
@@ -31,9 +31,7 @@ doing_at wait walk = doing_by (look_in (want_of walk)) wait walk
 
 -- where a step on the lock leads
 abbrev pub doing_after : {C : Type 0} → Option AnyWait → Next (Walk C) WalkReply → Doing C
-doing_after wait (On walk) = doing_at wait walk
-doing_after wait (Idle walk) = doing_at wait walk
-doing_after wait (Done reply) = AtRest
+doing_after wait next = there (doing_at wait) (place_after next)
 
 -- a place in a look by these limits
 abbrev pub LookFits : Limits → EnvWalk → Type 0
