@@ -1,7 +1,7 @@
 -- No seat is past its last call.
 use Rattle.std.proofs.Common.{All, Bool, Global, IfSome, List, None, Option, Some, Vec, [], ap, arith, cond, false, inl, inr, length, map, refl, replicate, slice_get, slice_index, slice_set, subst, suc, sym, true, zero, ℕ, ◌++◌, ◌+◌, ◌<◌, ◌∙◌, ◌∷◌, ◌≡◌, ◌≢◌, ◌≤◌}
-use Rattle.ns_world.proofs.Prelude.{All-head, All-nil, All-tail, AnyWait, Call, CallInRange, Counts, Doing, EnvEnd, EnvWalk, Finished, GoesOnOrBegins, IsCounted, Line, ListFits, LookOver, Next, ObjectLeads, ObjectReply, ObjectWalk, On, OnNotes, OnObjects, Over, Progress, Reply, Round, RoundLeads, Seat}
-use Rattle.ns_world.proofs.Prelude.{SeatLooks, SeatMakes, Sees, Step, TurnOf, Walk, WalkReply, Whole, WholeMoves, calls_of, cases_eq, doing_at, env_got_of, few, get_or-set_other, get_or-set_same, got_of, in_call, is_call, length-set, most, option_map_or, place_after, step_after}
+use Rattle.ns_world.proofs.Prelude.{All-head, All-nil, All-tail, AnyWait, Call, CallInRange, Counts, Doing, EnvEnd, EnvWalk, Finished, GoesOnOrBegins, IsCounted, Line, ListFits, LookOver, Next, ObjectLeads, ObjectReply, ObjectWalk, On, OnNotes, OnObjects, Progress, Reply, Round, RoundLeads, Seat}
+use Rattle.ns_world.proofs.Prelude.{SeatLooks, SeatMakes, Sees, Step, TurnOf, Walk, Whole, WholeMoves, calls_of, cases_eq, doing_at, env_got_of, few, get_or-set_other, get_or-set_same, got_of, in_call, is_call, length-set, most, option_map_or, place_after, step_after}
 use Rattle.ns_world.proofs.Prelude.{progress, progressed, set_there, slice_get_within, tests_at, tests_told, there, waits_then, whole_busy}
 use Rattle.ns_env.specs.declared.next.Next.TheVariants.{Done}
 use Rattle.ns_world.proofs.Fresh.{each_same}

@@ -1,6 +1,6 @@
 -- The looks of a wait: what it looks at, and where its seat stands then.
 use Rattle.std.specs.Prelude.{Bool, IsSome, None, Option, Some, false, ℕ, ◌≡◌}
-use Rattle.ns_world.specs.Names.{Act, AnyWait, AtRest, ClockLoad, Doing, EnvWalk, FirstClock, ForLook, InRound, Limits, Look, LookBy, LooksByLimits, LooksByRound, Next, NoteLoad, OnLock, Request, Walk, WalkReply, place_after, want_of}
+use Rattle.ns_world.specs.Names.{Act, AnyWait, ClockLoad, Doing, EnvWalk, FirstClock, ForLook, InRound, Limits, Look, LookBy, LooksByLimits, LooksByRound, Next, NoteLoad, OnLock, Request, Walk, WalkReply, place_after, want_of}
 use Rattle.ns_world.specs.Doings.{there}
 use Rattle.ns_word.specs.declared.request.Request.TheVariants as TheRequest
 

@@ -3,14 +3,14 @@
 ghost use Rattle.std.specs.Prelude.{◌<◌, IsSome, ℕ, List, []};
 ghost use Rattle.ns_world.specs.Prelude.{Effect, HasMode, Owed, OwesOne, Write, part};
 
-use crate::room::Seated;
 use arrayvec::ArrayVec;
+use ns_model::condition::Condition;
 use ns_word::act::{Act, Found};
 use ns_word::owed::Owed;
 use ns_word::view::Held;
 
 /// Stores a value into a cell, and into the section's row.
-pub(crate) fn store<C: Seated<N>, const N: usize>(
+pub(crate) fn store<C: Condition<N>, const N: usize>(
     row: &mut [u64; N],
     held: &mut Option<Held<C, N>>,
     i: u8,
@@ -30,7 +30,7 @@ pub(crate) fn store<C: Seated<N>, const N: usize>(
 }
 
 /// Whether the section in hand is quiet.
-pub(crate) fn judge<C: Seated<N>, const N: usize>(held: &Option<Held<C, N>>, i: u8) -> Found
+pub(crate) fn judge<C: Condition<N>, const N: usize>(held: &Option<Held<C, N>>, i: u8) -> Found
     requires { HasMode Write held.now }
     ensures { (seat : ℕ) (word row queues : _) (flags : List ℕ) (owed : List Owed) → Effect C.means seat (Act.JudgeQuiet i) (part word row queues flags held.now owed) result (part word row queues flags held.now owed) [] }
 {
@@ -39,7 +39,7 @@ pub(crate) fn judge<C: Seated<N>, const N: usize>(held: &Option<Held<C, N>>, i: 
 }
 
 /// Whether the condition is true of the row in hand.
-pub(crate) fn judge_met<C: Seated<N>, const N: usize>(
+pub(crate) fn judge_met<C: Condition<N>, const N: usize>(
     held: &Option<Held<C, N>>,
     i: u8,
     cond: C,
@@ -52,7 +52,7 @@ pub(crate) fn judge_met<C: Seated<N>, const N: usize>(
 }
 
 /// Pays the first of the wakes that are owed.
-pub(crate) fn pay_wake<C: Seated<N>, const N: usize>(
+pub(crate) fn pay_wake<C: Condition<N>, const N: usize>(
     flags: &mut [u8; 64],
     owed: &mut ArrayVec<Owed, 64>,
 ) -> Found
@@ -67,7 +67,7 @@ pub(crate) fn pay_wake<C: Seated<N>, const N: usize>(
 }
 
 /// Sets the seat's own flag.
-pub(crate) fn arm_flag<C: Seated<N>, const N: usize>(flags: &mut [u8; 64], seat: u8) -> Found
+pub(crate) fn arm_flag<C: Condition<N>, const N: usize>(flags: &mut [u8; 64], seat: u8) -> Found
     requires { seat < 64 }
     ensures { (word row queues held : _) (owed : List Owed) → Effect {N = N} C.means seat Act.ArmFlag (part word row queues flags.old held owed) result (part word row queues flags.new held owed) [] }
 {

@@ -7,6 +7,7 @@ ghost use Rattle.ns_world.specs.Prelude.{ActFits, CanLeave, CanWait, ChangeFits,
 use crate::cells::{arm_flag, judge, judge_met, pay_wake, store};
 use crate::room::Seated;
 use crate::seat::Seat;
+use ns_model::condition::Condition;
 use ns_model::cvs::Variables;
 use ns_model::event::{Answer, Entry, Event, Exit, Mode};
 use ns_queue::queues::Queues;
@@ -20,7 +21,7 @@ use ns_word::word::{Arrival, Releasing, Taking, Word};
 use std::alloc::AllocError;
 
 /// How a section begins that is acquired for this.
-fn opening_for<C: Seated<N>, const N: usize>(aim: Aim<C>) -> Opening<C>
+fn opening_for<C: Condition<N>, const N: usize>(aim: Aim<C>) -> Opening<C>
     ensures { result ≡ opening_for aim }
 {
     match aim {
@@ -30,7 +31,7 @@ fn opening_for<C: Seated<N>, const N: usize>(aim: Aim<C>) -> Opening<C>
 }
 
 /// Acquires for this.
-fn acquire<C: Seated<N>, const N: usize>(
+fn acquire<C: Condition<N>, const N: usize>(
     word: &mut Word,
     row: &[u64; N],
     held: &mut Option<Held<C, N>>,
@@ -59,7 +60,11 @@ fn acquire<C: Seated<N>, const N: usize>(
 }
 
 /// Sets the spinlock bit, with which the queues are the seat's.
-fn take_queues<C: Seated<N>, const N: usize>(word: &mut Word, taking: Taking, last: Word) -> Found
+fn take_queues<C: Condition<N>, const N: usize>(
+    word: &mut Word,
+    taking: Taking,
+    last: Word,
+) -> Found
     requires { last.spin ≡ false }
     ensures { (seat : ℕ) (queues : _) (row flags : List ℕ) (owed : List Owed) (held : _) → Effect {N = N} C.means seat (Act.TakeQueues taking last) (part word.old row queues flags held owed) result (part word.new row queues flags held owed) [] }
 {
@@ -90,7 +95,7 @@ fn return_queued<C: Seated<N>, const N: usize>(
 }
 
 /// What a wait for these variables commits as it leaves their lists.
-fn leaving<C: Seated<N>, const N: usize>(seat: u8, variables: Variables) -> Event<C, N>
+fn leaving<C: Condition<N>, const N: usize>(seat: u8, variables: Variables) -> Event<C, N>
     ensures { result ∷ [] ≡ leave_of seat (Home.AtVariables variables) true }
 {
     match variables {
@@ -242,7 +247,7 @@ fn return_queues<C: Seated<N>, const N: usize>(
 /// have met it where it is true of the row that the section began at, or where nothing has ended the
 /// wait. A wait for a variable says what it was ended by, or that it was woken; one for any of a set, which
 /// of them has woken it, or that none has.
-fn entry<C: Seated<N>, const N: usize>(section: &Held<C, N>) -> Entry<C>
+fn entry<C: Condition<N>, const N: usize>(section: &Held<C, N>) -> Entry<C>
     ensures { result ≡ entry_of C.means.holds section.now.before section.now.entry }
 {
     match section.entry {

@@ -1,9 +1,10 @@
-use Rattle.ns_world.proofs.Prelude.{number, refl, row_fits}
+use Rattle.ns_world.proofs.Prelude.{refl}
+use Rattle.ns_world.proofs.Sizes.{row_small}
 use Rattle.ns_world.proofs.Exchanged.{can_in_range, fits_there, made, on_both}
 use Rattle.ns_world.proofs.exchanges.make.Goals as goal
 
 pub acquire-requires : goal.acquire-requires
-acquire-requires g c = let fits = rw c.in-Acquire.is at c.requires.fits in (row_fits g.row.C (number g.row.N) g.met.C.Condition.has_room, (g.met.C.Seated.held_fits, (fits.0, (fits.1, fits.2))))
+acquire-requires g c = let fits = rw c.in-Acquire.is at c.requires.fits in (row_small g.met.C.Condition.has_cells.1, (g.met.C.Seated.held_fits, (fits.0, (fits.1, fits.2))))
 
 pub return_queues-requires : goal.return_queues-requires
 return_queues-requires g c = let fits = rw c.in-ReturnQueues.is at c.requires.fits in (
@@ -15,13 +16,13 @@ pub release-requires : goal.release-requires
 release-requires g c = (g.met.C.Seated.held_fits, (g.met.C.Seated.event_fits, rw c.in-Release.is at c.requires.fits))
 
 pub release_returning-requires : goal.release_returning-requires
-release_returning-requires g c = (row_fits g.row.C (number g.row.N) g.met.C.Condition.has_room, (g.met.C.Queueable.parts_fit.queues, (g.met.C.Seated.seat_fits, (g.met.C.Seated.event_fits, (rw c.in-ReleaseReturning.is at c.requires.fits).0))))
+release_returning-requires g c = (row_small g.met.C.Condition.has_cells.1, (g.met.C.Queueable.parts_fit.queues, (g.met.C.Seated.seat_fits, (g.met.C.Seated.event_fits, (rw c.in-ReleaseReturning.is at c.requires.fits).0))))
 
 pub wait_returning-requires : goal.wait_returning-requires
 wait_returning-requires g c =
     let fits = rw c.in-WaitReturning.is at c.requires.fits in
     let in_range = can_in_range g.C.Condition.means c.in-WaitReturning.wait c.in-WaitReturning.again c.args.seat.now.held fits.0 in
-    (row_fits g.row.C (number g.row.N) g.met.C.Condition.has_room, (g.met.C.Queueable.parts_fit.queues, (g.met.C.Seated.seat_fits, (g.met.C.Seated.event_fits, (fits.0, (in_range, (fits.2, fits.3)))))))
+    (row_small g.met.C.Condition.has_cells.1, (g.met.C.Queueable.parts_fit.queues, (g.met.C.Seated.seat_fits, (g.met.C.Seated.event_fits, (fits.0, (in_range, (fits.2, fits.3)))))))
 
 pub judge-requires : goal.judge-requires
 judge-requires g c = (g.met.C.Seated.held_fits, (rw c.in-JudgeQuiet.is at c.requires.fits).0)
@@ -30,7 +31,7 @@ pub judge_met-requires : goal.judge_met-requires
 judge_met-requires g c = (g.met.C.Seated.held_fits, (rw c.in-JudgeMet.is at c.requires.fits).0)
 
 pub store-requires : goal.store-requires
-store-requires g c = let fits = rw c.in-StoreCell.is at c.requires.fits in (row_fits g.row.C (number g.row.N) g.met.C.Condition.has_room, (g.met.C.Seated.held_fits, (fits.0, fits.1)))
+store-requires g c = let fits = rw c.in-StoreCell.is at c.requires.fits in (row_small g.met.C.Condition.has_cells.1, (g.met.C.Seated.held_fits, (fits.0, fits.1)))
 
 pub pay_wake-requires : goal.pay_wake-requires
 pay_wake-requires g c = rw c.in-PayWake.is at c.requires.fits

@@ -1,5 +1,6 @@
 use Rattle.std.proofs.Common.{ap, inl, inr, refl, subst, ◌∙◌, ◌≤◌}
-use Rattle.ns_world.proofs.Prelude.{LooksByLimits, LooksByRound, Seat, asking_of, doing_after, err_from_is_err_and, is_call, number, operating_of, row_fits, set_same, step_of, tests_after, walk_of, whole_of}
+use Rattle.ns_world.proofs.Prelude.{LooksByLimits, LooksByRound, Seat, asking_of, doing_after, err_from_is_err_and, is_call, operating_of, set_same, step_of, tests_after, walk_of, whole_of}
+use Rattle.ns_world.proofs.Sizes.{row_small}
 use Rattle.ns_world.proofs.Laws.{step_keeps}
 use Rattle.ns_world.proofs.Mapped.{found_at}
 use Rattle.ns_world.proofs.Tells.{act_here, ask_here, few_there, may_go_on, no_look_here, operates_fit, refused_here, stands_here}
@@ -138,7 +139,7 @@ make-requires g c =
     let at = found_at c.self.inside.seats.items c.args.seat c.index_mut-here.result.now c.if-at-len.false (c.len.ensures ∙ c.self.inside.seats.ok.0) c.index_mut-here.ensures.value in
     let act = act_here _ c.self.invariant c.args.seat c.index_mut-here.result.now at c.in-OnLock.walk (ap walk_of c.in-OnLock.is) in
     let no_look = no_look_here _ c.self.invariant c.args.seat c.index_mut-here.result.now at c.in-OnLock.walk c.in-OnLock.wait c.in-OnLock.is in
-    (row_fits g.row.C (number g.row.N) g.met.C.Condition.has_room, (g.met.C.Queueable.parts_fit.queues, (g.met.C.Seated.seat_fits, (g.met.C.Seated.event_fits, (rw c.want.ensures act, rw c.want.ensures no_look)))))
+    (row_small g.met.C.Condition.has_cells.1, (g.met.C.Queueable.parts_fit.queues, (g.met.C.Seated.seat_fits, (g.met.C.Seated.event_fits, (rw c.want.ensures act, rw c.want.ensures no_look)))))
 
 pub settle-requires : goal.settle-requires
 settle-requires g c =
