@@ -29,7 +29,7 @@ pub use Rattle.ns_word.proofs.Courses.{begins_unchanged, takes_on}
 pub use Rattle.ns_word.proofs.Dispatch.{keeps}
 pub use Rattle.ns_word.proofs.Enters.{are_some}
 pub use Rattle.ns_word.proofs.Numbers.{begin_at, number_at, numbers_stay, set_again, set_same, split_at, step_at}
-pub use Rattle.ns_word.proofs.Prelude.{IsLawful, Lock, Step as Steps, Variables, few, list_small, one_most, row_fits, times_in-cons}
+pub use Rattle.ns_word.proofs.Prelude.{IsLawful, Lock, Step as Steps, Variables, few, list_small, one_most, times_in-cons}
 pub use Rattle.ns_word.proofs.Ranges.{placed_below}
 pub use Rattle.ns_word.proofs.Scans.{are_called, as_many, some_called, some_seats}
 pub use Rattle.ns_word.proofs.Starts.{begins, lawful_fresh, quiet_is_first, wait_is_first}

@@ -13,6 +13,3 @@ returns-else-stands g c = leaves_none {C = g.row.C.Denot} {N = g.row.N} c.args.s
 
 pub leaving-requires : goal.leaving-requires
 leaving-requires g c = g.met.C.Seated.event_fits
-
-pub stands_at_variables-stands-requires : goal.stands_at_variables-stands-requires
-stands_at_variables-stands-requires g c = g.met.C.Queueable.parts_fit.queues
