@@ -132,7 +132,7 @@ fn outcomes_command<'a>(alloc: Global) -> Result<Command<'a>, AllocError>
 {
     Command::new(alloc, "outcomes")
         .about(
-            "Draw schedules of a script at random, and print what it comes to: ns_cli outcomes < examples/lost_wakeup.json",
+            "Draw schedules of a script at random, and print what it comes to: ns_cli outcomes < examples/look_then_wait.json",
         )
         .arg(seeds(alloc))?
         .arg(from(alloc))?
@@ -146,7 +146,7 @@ fn schedule_command<'a>(alloc: Global) -> Result<Command<'a>, AllocError>
 {
     Command::new(alloc, "schedule")
         .about(
-            "Print a script with the schedule that a seed draws: ns_cli schedule --seed 57 < examples/lost_wakeup.json",
+            "Print a script with the schedule that a seed draws: ns_cli schedule --seed 1 < examples/look_then_wait.json",
         )
         .arg(seed(alloc))?
         .arg(limit(alloc))

@@ -2,7 +2,7 @@
 pub use Rattle.ns_counters.specs.Names.{AddExchange, AddLoad, Adding, AtCounter, AtNote, Began, BeginOnce, Begun, Clock, CounterFault, CounterState, Done, DoneLoad, EndOnce, Env, EnvEnd, EnvFound, EnvWalk, ExchangeToAdd, FirstClock, ForIsNotified, Free, Idle, InRound, Is, IsSo, Item, Items}
 pub use Rattle.ns_counters.specs.Names.{LoadToAdd, LookCounter, LookOnce, MarkWait, Next, Note, NoteLoad, NoteWord, Number, ObjectAct, ObjectEvent, ObjectFound, ObjectView, ObjectWalk, ObjectWant, On, OnCounterItem, OnEnv, OnNote, OnOnce, OnVariable, OnWord, OnceBegin, OnceEnd, OnceEvent, OnceLoad}
 pub use Rattle.ns_counters.specs.Names.{OnceState, Over, Place, Ran, Round, RoundGo, RoundNext, RoundOver, RoundPlace, Running, Setup, Stage, Unused, ValueLoad, WaitClock, WaitLoad, WaitMark, Word, is_in, is_ready}
-pub use Rattle.ns_counters.specs.Prelude.{AnswersByRounds, AnyAnswers, AreObjectsBySeats, AreThere, AreWordsOf, AtSomeMoment, AtSomePoint, CanAct, EnvPlain, EnvState, HadValue, HasActed, HasLookedUpTo, HasShownNone, HasShownOne, HasWords, HaveShownNothing, InTurn, IsFoundAt, IsInBounds, IsLater}
+pub use Rattle.ns_counters.specs.Prelude.{AnswersByRounds, AnyAnswers, AreAsAsked, AreObjectsBySeats, AreThere, AreWordsOf, AtSomeMoment, AtSomePoint, CanAct, EnvPlain, EnvState, HadValue, HasActed, HasLookedUpTo, HasShownNone, HasShownOne, HasWords, HaveShownNothing, InTurn, IsFoundAt, IsInBounds, IsLater}
 pub use Rattle.ns_counters.specs.Prelude.{IsLawful, IsLawfulEnv, IsLawfulObjects, IsLegalObjectEvent, IsLegalObjects, IsLow, IsReady, IsWordOf, NoteStanding, ObjectEffect, ObjectGoes, ObjectSoFar, ObjectStanding, ObjectState, Outcome, Past, PlaceFits, RoundFits, RoundShows, RoundSoFar, StepFits}
 pub use Rattle.ns_counters.specs.Prelude.{ViewFits, WalkFits, WantFits, WereThere, acted, by_answer, by_begun, by_chain, by_deadline, by_judging, by_round, by_stage, chain_from, counter_of, counter_word, env_after, env_got_of, first_objects, first_words, from_items, from_place, has_run, is_among}
 pub use Rattle.ns_counters.specs.Prelude.{is_due, is_there, is_this, is_variable, item_at, items_of, looked, most, object_asked, object_got, object_next, object_place, object_want, object_who, objects_after, objects_from, objects_own, of_counter, of_once, outcome, padded, past_and, place_after}

@@ -3,7 +3,7 @@ pub use Rattle.ns_counters.specs.Acted.{HasActed, IsFoundAt, acted, events_of}
 pub use Rattle.ns_counters.specs.Asks.{AreThere, IsLawfulObjects, ObjectEffect, ObjectState, ObjectStep, RoundFits, StepFits, WalkFits, WantFits, is_there, walk_in, word_left}
 pub use Rattle.ns_counters.specs.Items.{IsLow, is_among, is_this, is_variable, item_at, items_of, place_in}
 pub use Rattle.ns_counters.specs.Lawful.{AreWordsOf, HasWords, IsLawful, IsWordOf, PlaceFits, ViewFits}
-pub use Rattle.ns_counters.specs.Made.{first_words, padded, setup_of}
+pub use Rattle.ns_counters.specs.Made.{AreAsAsked, first_words, padded, setup_of}
 pub use Rattle.ns_counters.specs.Meanings.{AnyAnswers, AtSomeMoment, HadValue, HasLookedUpTo, IsReady, ObjectGoes, ObjectSoFar, RoundSoFar, WereThere, object_asked, past_and}
 pub use Rattle.ns_counters.specs.Names.{AtSomePoint, EnvEvent, EnvPlain, EnvState, Every, IsLawfulEnv, Meets, NoteStanding, ObjectAct, ObjectEvent, ObjectFound, ObjectView, ObjectWalk, OnCounter, Setup, env_after, env_got_of, is_due, most, place_after, standing_of, state_of}
 pub use Rattle.ns_counters.specs.Objects.{AreObjectsBySeats, IsLegalObjectEvent, IsLegalObjects, ObjectStanding, first_objects, object_next, object_who, objects_after, objects_from, objects_own, of_counter, of_once}

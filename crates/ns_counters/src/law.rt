@@ -2,7 +2,7 @@
 //! theorem: its clause holds, and it does nothing.
 
 ghost use Rattle.std.specs.Prelude.{◌≡◌, ℕ, ◌<◌, ◌≤◌, ◌≢◌, ◌++◌, List, [], Some, length, slice_get, slice_index, slice_set};
-ghost use Rattle.ns_counters.specs.Prelude.{CanAct, EnvEvent, EnvPlain, EnvState, Every, HasActed, IsLater, IsLawful, IsLawfulEnv, IsLawfulObjects, IsLegalCounter, IsLegalObjects, IsLegalOnce, Meets, ObjectAct, ObjectEvent, ObjectFound, ObjectGoes, ObjectSoFar, ObjectState, ObjectStep, ObjectView};
+ghost use Rattle.ns_counters.specs.Prelude.{AreAsAsked, CanAct, EnvEvent, EnvPlain, EnvState, Every, HasActed, IsLater, IsLawful, IsLawfulEnv, IsLawfulObjects, IsLegalCounter, IsLegalObjects, IsLegalOnce, Meets, ObjectAct, ObjectEvent, ObjectFound, ObjectGoes, ObjectSoFar, ObjectState, ObjectStep, ObjectView};
 ghost use Rattle.ns_counters.specs.Prelude.{ObjectWalk, Past, Setup, ViewFits, WalkFits, acted, counter_after, events_of, first_words, most, object_asked, object_got, object_who, objects_after, objects_own, of_counter, of_once, once_after, outcome, padded, past_and, setup_of, walk_in, word_at};
 
 /// In a legal history of all objects each counter has a legal history of its own, which leaves it as
@@ -19,11 +19,12 @@ pub fn each_cell_has_a_legal_history()
         IsLegalOnce (of_once number history) × ((objects_after setup history).onces number ≡ once_after (of_once number history)) }
 {}
 
-/// New objects are lawful, before any event.
-#[tactic(auto, using(crate::proofs::NewObjects::new_lawful))]
+/// New objects are lawful, before any event, and as they were asked for.
+#[tactic(auto, using(crate::proofs::NewObjects::new_lawful, crate::proofs::NewObjects::new_asked))]
 pub fn new_objects_are_lawful()
-    ensures { (seats : ℕ) (values : List ℕ) (cells : ℕ) → seats ≤ 64 → length values ≤ 16 → cells ≤ 16 → ((number : ℕ) → slice_index values number ≤ most) →
+    ensures lawful { (seats : ℕ) (values : List ℕ) (cells : ℕ) → seats ≤ 64 → length values ≤ 16 → cells ≤ 16 → ((number : ℕ) → slice_index values number ≤ most) →
         IsLawful (setup_of seats values cells) (first_words (padded values)) [] }
+    ensures asked { (seats : ℕ) (values : List ℕ) (cells : ℕ) → AreAsAsked seats values cells (setup_of seats values cells) }
 {}
 
 /// A step that its caller may make keeps the law, and what has happened by it comes to the history.

@@ -14,12 +14,12 @@ pub begun_own : (limit : ℕ) (script : Script) (old : Whole ScriptCondition 8) 
 begun_own limit script old over lines turns mid q e₁ e₂ e₃ e₄ a = rw (e₁, e₂, e₃, e₄) at a
 
 -- a stop in the script's own schedule
-pub own_stops : (limit : ℕ) (script : Script) (old now : Whole ScriptCondition 8) (over : List ℕ) (lines : List Line) (turns : ℕ) (fault : WorldFault) → old ≡ world_for (plan_of script) → over ≡ replicate 64 0 → lines ≡ [] → turns ≡ 0 →
-    Stops (map (λ calls. calls.items) script.threads.items) limit (progress old over lines) turns (items_of script.schedule.items) now fault → IsRunFault limit (plan_of script) (drawing_fault fault)
-own_stops limit script old now over lines turns world.StepLimit e₁ e₂ e₃ e₄ s = (now, rw (e₁, e₂, e₃, e₄) at s)
-own_stops limit script old now over lines turns world.OutOfMemory e₁ e₂ e₃ e₄ s = tt
-own_stops limit script old now over lines turns world.NoSuchSeat e₁ e₂ e₃ e₄ s = tt
-own_stops limit script old now over lines turns world.TooManySeats e₁ e₂ e₃ e₄ s = tt
+pub own_stops : (limit : ℕ) (script : Script) (old : Whole ScriptCondition 8) (over : List ℕ) (lines : List Line) (turns : ℕ) (now : Progress ScriptCondition 8) (after : ℕ) (fault : WorldFault) → old ≡ world_for (plan_of script) → over ≡ replicate 64 0 → lines ≡ [] → turns ≡ 0 →
+    Stops (map (λ calls. calls.items) script.threads.items) limit (progress old over lines) turns (items_of script.schedule.items) now after fault → IsRunFault limit (plan_of script) (drawing_fault fault)
+own_stops limit script old over lines turns now after world.StepLimit e₁ e₂ e₃ e₄ s = (now.world, (now, after, refl, rw (e₁, e₂, e₃, e₄) at s))
+own_stops limit script old over lines turns now after world.OutOfMemory e₁ e₂ e₃ e₄ s = tt
+own_stops limit script old over lines turns now after world.NoSuchSeat e₁ e₂ e₃ e₄ s = tt
+own_stops limit script old over lines turns now after world.TooManySeats e₁ e₂ e₃ e₄ s = tt
 
 -- so a seed has no run
 pub own_fault : (limit : ℕ) (plan : Plan) (seed : ℕ) (fault : Fault) → IsRunFault limit plan fault → IsDrawFault limit plan seed fault

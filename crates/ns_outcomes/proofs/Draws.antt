@@ -1,6 +1,6 @@
 -- Turns that were drawn are turns of a run, and follow the words that spell them.
 use Rattle.std.proofs.Common.{Bool, List, None, Some, [], ap, arith, cond, eq-eqb, eqb, false, length, length-append, map, not, refl, subst, sym, true, ℕ, ◌++◌, ◌+◌, ◌<◌, ◌∙◌, ◌∷◌, ◌≡◌, ◌≢◌, ◌≤◌, ◌⊎◌}
-use Rattle.ns_outcomes.proofs.Prelude.{Advances, AreFewest, Draws, Drew, Finished, GoesBefore, Idle, IsCutShort, IsDrawingFault, IsDrawnWord, IsPick, Item, Lcg, Lists, Nothing, ScriptCondition, Stage, Step, Stops, StopsFor, Turn, TurnStands, Turned, TurnsOf, Went, Whole, WorldFault, drawing_fault}
+use Rattle.ns_outcomes.proofs.Prelude.{Advances, AreFewest, Draws, Drew, Finished, GoesBefore, Idle, IsCutShort, IsDrawingFault, IsDrawnWord, IsPick, Item, Lcg, Lists, Nothing, Progress, ScriptCondition, Stage, Step, Stops, StopsFor, Turn, TurnStands, Turned, TurnsOf, Went, WorldFault, drawing_fault}
 use Rattle.ns_outcomes.proofs.Prelude.{is_end, items_of, map-append, pcg32, rest_of, turn_item}
 use Rattle.ns_world.specs.declared.fault.Fault.TheVariants as world
 
@@ -72,12 +72,12 @@ none_yet seat (turned ∷ turns) item left e =
     ] ended)
 
 -- one that the limit refuses comes after as many turns as the limit
-at_limit : (limit : ℕ) (now : Whole ScriptCondition 8) (seat mid after : ℕ) (turns : List Turned) (left : List Item) → rest_of (record { seat = seat; whole = false } ∷ []) turns ≡ Some left → after ≡ mid + length turns →
-    StopsFor limit now after turns left world.StepLimit → mid ≡ limit
-at_limit limit now seat mid after turns [] rest count why = absurd why
-at_limit limit now seat mid after turns (item ∷ left) rest count why =
+at_limit : (limit : ℕ) (end now : Progress ScriptCondition 8) (seat mid after : ℕ) (turns : List Turned) (left : List Item) → rest_of (record { seat = seat; whole = false } ∷ []) turns ≡ Some left → after ≡ mid + length turns →
+    StopsFor limit end after turns left now world.StepLimit → mid ≡ limit
+at_limit limit end now seat mid after turns [] rest count why = absurd why
+at_limit limit end now seat mid after turns (item ∷ left) rest count why =
     let none = none_yet seat turns item left rest in
-    let full = why.0 in
+    let full = why.1 in
     omega (arith, count, none, full)
 
 -- ---- drawn turns
@@ -125,16 +125,16 @@ module _ (lists : Lists) where
     }
 
     -- where the next turn would be one more than the limit, drawing is cut short
-    pub cut_short : (g h : Lcg) (number : ℕ) (p q : Stage) (before mid seat : ℕ) (words : List Turn) (now : Whole ScriptCondition 8) → Drew lists limit g p before words h q mid → IsPick q.standings number (Some seat) →
-        Stops lists limit q.progress mid (record { seat = seat; whole = false } ∷ []) now world.StepLimit → IsCutShort lists limit g p before
-    cut_short g h number p q before mid seat words now d pick stops =
-        let full = at_limit limit now seat mid stops.after stops.advances.turns stops.left stops.advances.rest stops.advances.count stops.why in
+    pub cut_short : (g h : Lcg) (number : ℕ) (p q : Stage) (before mid behind seat : ℕ) (words : List Turn) (now : Progress ScriptCondition 8) → Drew lists limit g p before words h q mid → IsPick q.standings number (Some seat) →
+        Stops lists limit q.progress mid (record { seat = seat; whole = false } ∷ []) now behind world.StepLimit → IsCutShort lists limit g p before
+    cut_short g h number p q before mid behind seat words now d pick stops =
+        let full = at_limit limit stops.end now seat mid behind stops.advances.turns stops.left stops.advances.rest stops.advances.count stops.why in
         record { words = words; ends = h; end = q; drew = subst (λ (n : ℕ). Drew lists limit g p before words h q n) full d; left = pick.0 }
 
     -- why drawing stops, by why the next turn isn't made
-    pub drawing_stops : (g h : Lcg) (number : ℕ) (p q : Stage) (before mid seat : ℕ) (words : List Turn) (now : Whole ScriptCondition 8) (fault : WorldFault) → Drew lists limit g p before words h q mid → IsPick q.standings number (Some seat) →
-        Stops lists limit q.progress mid (record { seat = seat; whole = false } ∷ []) now fault → IsDrawingFault lists limit g p before (drawing_fault fault)
-    drawing_stops g h number p q before mid seat words now world.StepLimit d pick stops = cut_short g h number p q before mid seat words now d pick stops
-    drawing_stops g h number p q before mid seat words now world.OutOfMemory d pick stops = tt
-    drawing_stops g h number p q before mid seat words now world.NoSuchSeat d pick stops = tt
-    drawing_stops g h number p q before mid seat words now world.TooManySeats d pick stops = tt
+    pub drawing_stops : (g h : Lcg) (number : ℕ) (p q : Stage) (before mid behind seat : ℕ) (words : List Turn) (now : Progress ScriptCondition 8) (fault : WorldFault) → Drew lists limit g p before words h q mid → IsPick q.standings number (Some seat) →
+        Stops lists limit q.progress mid (record { seat = seat; whole = false } ∷ []) now behind fault → IsDrawingFault lists limit g p before (drawing_fault fault)
+    drawing_stops g h number p q before mid behind seat words now world.StepLimit d pick stops = cut_short g h number p q before mid behind seat words now d pick stops
+    drawing_stops g h number p q before mid behind seat words now world.OutOfMemory d pick stops = tt
+    drawing_stops g h number p q before mid behind seat words now world.NoSuchSeat d pick stops = tt
+    drawing_stops g h number p q before mid behind seat words now world.TooManySeats d pick stops = tt

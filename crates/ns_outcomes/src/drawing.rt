@@ -132,7 +132,7 @@ fn make_turn(
     ensures turns { OnOk result ((drawing.new.tally.turns ≡ drawing.old.tally.turns + 1) × (drawing.new.tally.turns ≤ limit)) }
     ensures unspelled { drawing.new.words ≡ drawing.old.words }
     ensures many { OnOk result (length drawing.new.standings.items ≡ length drawing.old.standings.items) }
-    ensures err { IfErr result (λ fault. Stops (map (λ calls. calls.items) threads.now) limit (stage_of drawing.old).progress drawing.old.tally.turns (record { seat = thread; whole = false } ∷ []) (whole_of script_truths drawing.new.world) fault) }
+    ensures err { IfErr result (λ fault. Stops (map (λ calls. calls.items) threads.now) limit (stage_of drawing.old).progress drawing.old.tally.turns (record { seat = thread; whole = false } ∷ []) (stage_of drawing.new).progress drawing.new.tally.turns fault) }
 {
     let word = drawing.world.word();
     let step = counted_turn(

@@ -1,7 +1,7 @@
 -- The five lists and their parts fit in memory, over any condition.
 use Rattle.std.proofs.Common.{arith}
 use Rattle.std.specs.Mem.{FitsInMemory}
-use Rattle.std.specs.Prelude.{ℕ, ◌*◌, ◌+◌, ◌<◌, ◌^◌}
+use Rattle.std.specs.Prelude.{ℕ, ◌*◌, ◌+◌, ◌<◌, ◌^◌, ◌≤◌}
 use Rattle.std.specs.contracts.option.Option.{the_row as option_row}
 use Rattle.ns_queue.specs.Names.{Ghosts, HasRoom, RattleType, Ty, array_at, copied, layout, list_row, number, param, room, room_enough, size, small_by, ty_array, u64, unit, value_of}
 use Rattle.ns_queue.specs.contracts.waiter.Waiter.{the_row as waiter_row}
@@ -57,6 +57,10 @@ ring_fits C N small =
 -- a row of cells fits too
 pub row_fits : (C N : RattleType) → HasRoom (copied 0 C) (param 1 N) → size (array_at (layout u64) (layout (param 1 N))) < 2 ^ 63
 row_fits C N small = let most = room_enough (array_at (layout u64) (layout (param 1 N))) in omega (arith, most, small.1)
+
+-- the same over a plain number, at no cost: a row has at most 16 cells
+pub row_small : {n : ℕ} → n ≤ 16 → n * 8 < 9223372036854775808
+row_small few = omega (arith, few)
 
 -- What code over any condition knows of the room that the lists and their parts take, each as a call asks for it, so that a search finds it. Of a seat's entry 64 are to fit, of a variable's list four.
 pub record PartsFit (C N : RattleType) (means : Ghosts C.Denot (value_of N)) : Type 0 where

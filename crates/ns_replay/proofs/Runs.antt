@@ -2,7 +2,7 @@
 use Rattle.std.proofs.Common.{All, Bool, List, None, Option, Some, [], ap, arith, cond, false, inl, inr, length, map, replicate, subst, sym, true, ℕ, ◌<◌, ◌==◌, ◌∙◌, ◌∷◌, ◌≡◌, ◌≤◌, ◌⊎◌}
 use Rattle.ns_replay.proofs.Prelude.{All-append, All-from_recursion, All-nil, All-replicate, AllByRecursion, Call, IsRunFault, IsRunnable, IsShort, Line, ListFits, Plan, RunFault, Runs, RunsTo, Script, ScriptCondition, StopsFor, Turn, Turned, Vec, Whole, WorldFault, fault_of_world, fresh_whole}
 use Rattle.ns_replay.proofs.Prelude.{is_end, length-map, length_seats, none_busy, plan_of, recursion_from_All, rest_of, script_truths, start, turns_stay, whole_busy, world_for}
-use Rattle.ns_world.specs.Runs.{Item, items_of}
+use Rattle.ns_world.specs.Runs.{Item, Progress, items_of}
 use Rattle.ns_world.specs.declared.fault.Fault.TheVariants as world
 
 -- ---- the items that are left are the schedule's
@@ -28,28 +28,28 @@ items_in seats (turn ∷ turns) h =
 
 -- ---- why a run fails
 
-no_seat : {C : Type 0} {N : ℕ} (limit : ℕ) (now : Whole C N) (made seats : ℕ) (turns : List Turned) (left : List Item) → length now.seats ≡ seats → AllByRecursion (λ item. item.seat < seats) left → StopsFor limit now made turns left world.NoSuchSeat → ⊥
-no_seat limit now made seats turns [] same each h = h
-no_seat limit now made seats turns (item ∷ left) same each h = absurd (omega (arith, same, each.0, h))
+no_seat : {C : Type 0} {N : ℕ} (limit : ℕ) (end q : Progress C N) (made seats : ℕ) (turns : List Turned) (left : List Item) → length end.world.seats ≡ seats → AllByRecursion (λ item. item.seat < seats) left → StopsFor limit end made turns left q world.NoSuchSeat → ⊥
+no_seat limit end q made seats turns [] same each h = h
+no_seat limit end q made seats turns (item ∷ left) same each h = absurd (omega (arith, same, each.0, h.1))
 
-no_room : {C : Type 0} {N : ℕ} (limit : ℕ) (now : Whole C N) (made : ℕ) (turns : List Turned) (left : List Item) → StopsFor limit now made turns left world.TooManySeats → ⊥
-no_room limit now made turns [] h = h
-no_room limit now made turns (item ∷ left) h = h
+no_room : {C : Type 0} {N : ℕ} (limit : ℕ) (end q : Progress C N) (made : ℕ) (turns : List Turned) (left : List Item) → StopsFor limit end made turns left q world.TooManySeats → ⊥
+no_room limit end q made turns [] h = h
+no_room limit end q made turns (item ∷ left) h = h
 
 seat_there : (limit : ℕ) (plan : Plan) (now : Whole ScriptCondition 8) → IsRunnable plan → RunFault plan.threads plan.schedule limit (world_for plan) now world.NoSuchSeat → ⊥
-seat_there limit plan now runnable stops =
+seat_there limit plan now runnable fault =
+    let stops = fault.3 in
     let first : length (world_for plan).seats ≡ length plan.threads = length_seats ScriptCondition 8 0 (length plan.threads) in
     let kept = turns_stay plan.threads (start (world_for plan)) stops.advances.turns stops.end stops.advances.made in
-    let same : length now.seats ≡ length plan.threads = ap (λ (w : Whole ScriptCondition 8). length w.seats) (sym stops.here) ∙ kept ∙ first in
     let items = items_in (length plan.threads) plan.schedule (recursion_from_All _ _ runnable.in_range) in
-    no_seat limit now stops.after (length plan.threads) stops.advances.turns stops.left same (rest_each _ (items_of plan.schedule) stops.advances.turns stops.left stops.advances.rest (recursion_from_All _ _ items)) stops.why
+    no_seat limit stops.end fault.0 fault.1 (length plan.threads) stops.advances.turns stops.left (kept ∙ first) (rest_each _ (items_of plan.schedule) stops.advances.turns stops.left stops.advances.rest (recursion_from_All _ _ items)) stops.why
 
 -- A run of a script that was read fails by want of memory, or by the limit.
 pub run_fails : (limit : ℕ) (plan : Plan) (now : Whole ScriptCondition 8) (fault : WorldFault) → IsRunnable plan → RunFault plan.threads plan.schedule limit (world_for plan) now fault → IsRunFault limit plan (fault_of_world fault)
 run_fails limit plan now world.OutOfMemory runnable stops = tt
 run_fails limit plan now world.StepLimit runnable stops = (now, stops)
 run_fails limit plan now world.NoSuchSeat runnable stops = absurd (seat_there limit plan now runnable stops)
-run_fails limit plan now world.TooManySeats runnable stops = absurd (no_room limit now stops.after stops.advances.turns stops.left stops.why)
+run_fails limit plan now world.TooManySeats runnable stops = absurd (no_room limit stops.3.end stops.0 stops.1 stops.3.advances.turns stops.3.left stops.3.why)
 
 -- the same, as a run over the lists of a script gives it
 pub script_fails : (limit : ℕ) (script : Script) (old now : Whole ScriptCondition 8) (fault : WorldFault) → IsRunnable (plan_of script) → old ≡ world_for (plan_of script) →

@@ -10,7 +10,7 @@ pub use Rattle.ns_queue.proofs.Seeking.{goes_along}
 pub use Rattle.ns_queue.proofs.Taken.{every_signaled, in_list, in_stands, not_in_list, times_signaled}
 pub use Rattle.ns_queue.proofs.Vias.{every_filter, every_woken}
 pub use Rattle.ns_queue.proofs.Wakes.{broadcast_legal, signal_legal, stands_waiting, stands_waits}
-pub use Rattle.ns_queue.specs.Sizes.{queues_fit, row_fits}
+pub use Rattle.ns_queue.specs.Sizes.{queues_fit, row_small}
 pub use Rattle.ns_word.specs.Asked.{request_for}
 pub use Rattle.ns_word.specs.Meanings.{HasWaited, IsBack}
 pub use Rattle.ns_word.specs.Prelude.{Acquire, AcquireExchange, AcquireLoad, AcquirePlace, AcquireSoFar, Act, ActFits, Aim, AimFits, AllFalseTrue, Answer, Answered, Any, AnyWait, AnyWaitMeans, AreApart, AreBy, AreCalled, AreNumbered, AreVariables, AreWaiting, Arm, ArmFlag, ArmToWait, Arrival}

@@ -39,7 +39,7 @@ pub use Rattle.ns_word.specs.declared.act.Change.TheVariants.{Nothing}
 pub use Rattle.ns_world.specs.Among.{BeginsToWait, NamesFew}
 pub use Rattle.ns_world.specs.Prelude.{Act, ActFits, Add, Advance, Advances, Advancing, Answer, AnswersCall, AnswersOfLock, AnswersTo, Any, AnyAnswers, AnyMeans, AnyWait, AreAmong, AreBy, AreEnvBy, AreNumbered, AreObjectsBy, AreThere, AreVariables, ArmFlag, Arrival, Asked, AtLock, AtRest}
 pub use Rattle.ns_world.specs.Prelude.{AtSomePoint, AtVariables, Await, BeginsWith, Bits, Broadcast, Broadcasting, Call, CallFits, CallGoes, CallInRange, CanLeave, CanWait, Cause, Change, ChangeFits, ClockLoad, Commits, CounterWait, Counts, Course, Cv, CvWait, Cvs, Doing, DoingFits, Done, Effect}
-pub use Rattle.ns_world.specs.Prelude.{EndFinished, EnvAct, EnvActFits, EnvCourse, EnvEffect, EnvEnd, EnvEvent, EnvFound, EnvGoes, EnvGoesOn, EnvPlain, EnvRequest, EnvSoFar, EnvWalk, Event, Every, Expired, Expiry, ExpiryLoad, Fault, Finished, FirstClock, ForIsNotified, ForLook, ForNoteWait, Found}
+pub use Rattle.ns_world.specs.Prelude.{EndUntold, EnvAct, EnvActFits, EnvCourse, EnvEffect, EnvEnd, EnvEvent, EnvFound, EnvGoes, EnvGoesOn, EnvPlain, EnvRequest, EnvSoFar, EnvWalk, Event, Every, Expired, Expiry, ExpiryLoad, Fault, Finished, FirstClock, ForIsNotified, ForLook, ForNoteWait, Found}
 pub use Rattle.ns_world.specs.Prelude.{Get, GoesOn, GoesOnOrBegins, GoesRound, Happens, HasLedTo, HasList, HasMode, HaveLedTo, HaveShownNothing, Held, Home, IfMade, InCells, InHand, InQueuing, InRound, InWait, IsCounted, IsFew, IsFinished, IsFirst, IsFirstAsk, IsInRange, IsLater, IsLawfulEnv}
 pub use Rattle.ns_world.specs.Prelude.{IsLawfulObjects, IsLawfulWhole, IsLow, IsNotified, IsReady, IsSettled, IsUnfinished, IsUnmet, Items, LeaveSelf, LedTo, Left, Limits, Line, ListFits, Lists, Load, LoadFlag, LockState, Look, LookBy, LookFits, LookMeans, LookOver, Looked, Looks, LooksAt}
 pub use Rattle.ns_world.specs.Prelude.{LooksByLimits, LooksByRound, Made, Makes, MayEnd, MayGoOn, MayShow, MayWait, Means, Meanwhile, Mode, NamesAll, NeedsSection, NewNote, Next, NextLoad, NoSuchSeat, NoteLoad, NoteStanding, NoteWait, NotesSteps, Notify, Notifying, Number, ObjectEvent, ObjectGoes}

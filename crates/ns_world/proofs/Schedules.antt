@@ -1,6 +1,6 @@
 -- Turns that follow a schedule, piece by piece.
 use Rattle.std.proofs.Common.{Bool, List, None, Option, Some, [], add-zero, ap, arith, cond, drop, drop-cons, eq-eqb, eqb, false, get_or, inl, inr, length, refl, replicate, subst, suc, sym, take, true, ℕ, ◌++◌, ◌+◌, ◌-◌, ◌<◌, ◌∙◌, ◌∷◌, ◌≡◌, ◌≤◌}
-use Rattle.ns_world.proofs.Prelude.{Advances, Call, EndFinished, Fault, Finished, IsFinished, Item, NoSuchSeat, OutOfMemory, Progress, Step, Stops, StopsFor, Turn, TurnFault, TurnOf, Turned, TurnsOf, Whole, append-nil, append_assoc, flat_map-append, is_end, length-append}
+use Rattle.ns_world.proofs.Prelude.{Advances, Call, EndUntold, Fault, Finished, IsFinished, Item, Line, NoSuchSeat, OutOfMemory, Progress, Step, Stops, StopsFor, Turn, TurnFault, TurnOf, Turned, TurnsOf, Whole, append-nil, append_assoc, flat_map-append, is_end, length-append, progress, progressed}
 use Rattle.ns_world.proofs.Prelude.{replicate-append-replicate, replicate_more, rest_of, take-append-drop, take_more, word_items}
 use Rattle.ns_world.specs.Runs.{items_of}
 
@@ -34,26 +34,27 @@ rest_one : (item : Item) (step : Step) → rest_of (item ∷ []) (record { seat 
 rest_one item step = rw (eq-eqb item.seat item.seat refl) (one_by (is_end item.whole step) item)
 
 -- a finished call at the end stays there, with turns before
-ends_after : (front turns : List Turned) → EndFinished turns → EndFinished (front ++ turns)
-ends_after front turns e = record { earlier = front ++ e.earlier; seat = e.seat; reply = e.reply; last = ap (λ ts. front ++ ts) e.last ∙ sym (append_assoc front e.earlier (record { seat = e.seat; step = Finished e.reply } ∷ [])) }
+ends_after : {C : Type 0} {N : ℕ} (front turns : List Turned) (end q : Progress C N) → EndUntold turns end q → EndUntold (front ++ turns) end q
+ends_after front turns end q e =
+    record { earlier = front ++ e.earlier; seat = e.seat; reply = e.reply; last = ap (λ ts. front ++ ts) e.last ∙ sym (append_assoc front e.earlier (record { seat = e.seat; step = Finished e.reply } ∷ [])); untold = e.untold }
 
 turns_join : {C : Type 0} {N : ℕ} (lists : List (List (Call C))) (p q r : Progress C N) (a b : List Turned) → TurnsOf lists p a q → TurnsOf lists q b r → TurnsOf lists p (a ++ b) r
 turns_join lists p q r [] b s t = subst (λ x. TurnsOf lists x b r) s t
 turns_join lists p q r (turned ∷ a) b s t = (s.0, s.1, turns_join lists s.0 q r a b s.2 t)
 
 -- a run stops for the same where more items are left
-stops_for_more : {C : Type 0} {N : ℕ} (limit : ℕ) (world : Whole C N) (made : ℕ) (turns : List Turned) (left more : List Item) (fault : Fault) → StopsFor limit world made turns left fault → StopsFor limit world made turns (left ++ more) fault
-stops_for_more limit world made turns [] more OutOfMemory (inl p) = absurd p
-stops_for_more limit world made turns [] more OutOfMemory (inr p) = inr p
-stops_for_more limit world made turns [] more other p = absurd p
-stops_for_more limit world made turns (item ∷ left) more other p = p
+stops_for_more : {C : Type 0} {N : ℕ} (limit : ℕ) (end q : Progress C N) (made : ℕ) (turns : List Turned) (left more : List Item) (fault : Fault) → StopsFor limit end made turns left q fault → StopsFor limit end made turns (left ++ more) q fault
+stops_for_more limit end q made turns [] more OutOfMemory (inl p) = absurd p.1
+stops_for_more limit end q made turns [] more OutOfMemory (inr p) = inr p
+stops_for_more limit end q made turns [] more other p = absurd p
+stops_for_more limit end q made turns (item ∷ left) more other p = p
 
 -- and turns before
-stops_for_after : {C : Type 0} {N : ℕ} (limit : ℕ) (world : Whole C N) (made : ℕ) (front turns : List Turned) (left : List Item) (fault : Fault) → StopsFor limit world made turns left fault → StopsFor limit world made (front ++ turns) left fault
-stops_for_after limit world made front turns left OutOfMemory (inl p) = inl p
-stops_for_after limit world made front turns left OutOfMemory (inr p) = inr (ends_after front turns p)
-stops_for_after limit world made front turns (item ∷ left) other p = p
-stops_for_after limit world made front turns [] other p = absurd p
+stops_for_after : {C : Type 0} {N : ℕ} (limit : ℕ) (end q : Progress C N) (made : ℕ) (front turns : List Turned) (left : List Item) (fault : Fault) → StopsFor limit end made turns left q fault → StopsFor limit end made (front ++ turns) left q fault
+stops_for_after limit end q made front turns left OutOfMemory (inl p) = inl p
+stops_for_after limit end q made front turns left OutOfMemory (inr p) = inr (ends_after front turns end q p)
+stops_for_after limit end q made front turns (item ∷ left) other p = p
+stops_for_after limit end q made front turns [] other p = absurd p
 
 module _ {C : Type 0} {N : ℕ} {lists : List (List (Call C))} {limit : ℕ} where
   -- ---- from a progress to another
@@ -96,38 +97,43 @@ module _ {C : Type 0} {N : ℕ} {lists : List (List (Call C))} {limit : ℕ} whe
   -- ---- where a run stops
 
   -- at once
-  pub stops_now : {p : Progress C N} {before : ℕ} {items : List Item} (fault : Fault) → before ≤ limit → StopsFor limit p.world before [] items fault → Stops lists limit p before items p.world fault
+  pub stops_now : {p : Progress C N} {before : ℕ} {items : List Item} (fault : Fault) → before ≤ limit → StopsFor limit p before [] items p fault → Stops lists limit p before items p before fault
   unfolding advance_none
-  stops_now {p} {before} {items} fault within why = record { left = items; end = p; after = before; advances = advance_none within; here = refl; why = why }
+  stops_now {p} {items = items} fault within why = record { left = items; end = p; advances = advance_none within; why = why }
 
   -- where a turn was refused
-  pub turn_stops : {p : Progress C N} {before seat : ℕ} {whole : Bool} {world : Whole C N} (fault : Fault) → before ≤ limit → (world ≡ p.world) × TurnFault p.world seat fault → Stops lists limit p before (record { seat = seat; whole = whole } ∷ []) world fault
-  turn_stops {p} {before} {seat} {whole} OutOfMemory within e = subst (λ w. Stops lists limit p before (record { seat = seat; whole = whole } ∷ []) w OutOfMemory) (sym e.0) (stops_now OutOfMemory within (inl e.1))
-  turn_stops {p} {before} {seat} {whole} NoSuchSeat within e = subst (λ w. Stops lists limit p before (record { seat = seat; whole = whole } ∷ []) w NoSuchSeat) (sym e.0) (stops_now NoSuchSeat within e.1)
+  pub turn_stops : {old world : Whole C N} {over : List ℕ} {lines : List Line} {before seat : ℕ} {whole : Bool} (fault : Fault) → before ≤ limit → (world ≡ old) × TurnFault old seat fault →
+      Stops lists limit (progress old over lines) before (record { seat = seat; whole = whole } ∷ []) (progress world over lines) before fault
+  turn_stops OutOfMemory within e = rw e.0 (stops_now OutOfMemory within (inl (refl, e.1)))
+  turn_stops NoSuchSeat within e = rw e.0 (stops_now NoSuchSeat within (refl, e.1))
   turn_stops other within e = absurd e.1
 
   -- where a turn was made, and there was no memory to tell it
-  pub untold_stops : {p q : Progress C N} {before seat : ℕ} {whole : Bool} (step : Step) {world : Whole C N} → TurnOf lists p seat step q → IsFinished step → before + 1 ≤ limit → q.world ≡ world →
-      Stops lists limit p before (record { seat = seat; whole = whole } ∷ []) world OutOfMemory
+  pub untold_stops : {p : Progress C N} {before after seat : ℕ} {whole : Bool} {world : Whole C N} {over : List ℕ} {lines : List Line} (step : Step) → TurnOf lists p seat step (progressed p seat step world) → before + 1 ≤ limit →
+      IsFinished step × (over ≡ p.over) × (lines ≡ p.lines) → after ≡ before + 1 → Stops lists limit p before (record { seat = seat; whole = whole } ∷ []) (progress world over lines) after OutOfMemory
   unfolding advance_one
-  untold_stops {q = q} {before = before} {seat = seat} (Finished reply) turn finished within e =
-      record { left = []; end = q; after = before + 1; advances = advance_one (Finished reply) turn within; here = e; why = inr (record { earlier = []; seat = seat; reply = reply; last = refl }) }
-  untold_stops step turn finished within e = absurd finished
+  untold_stops {p} {seat = seat} {world = world} (Finished reply) turn within e count = rw (e.1, e.2, count) (record {
+    left = [];
+    end = progressed p seat (Finished reply) world;
+    advances = advance_one (Finished reply) turn within;
+    why = inr (record { earlier = []; seat = seat; reply = reply; last = refl; untold = refl });
+  })
+  untold_stops step turn within e count = absurd e.0
 
   -- items more at the end
-  pub stops_more : {p : Progress C N} {before : ℕ} {items : List Item} (more : List Item) {world : Whole C N} {fault : Fault} → Stops lists limit p before items world fault → Stops lists limit p before (items ++ more) world fault
+  pub stops_more : {p q : Progress C N} {before after : ℕ} {items : List Item} (more : List Item) {fault : Fault} → Stops lists limit p before items q after fault → Stops lists limit p before (items ++ more) q after fault
   unfolding advance_more
-  stops_more more {world} {fault} s =
-      record { left = s.left ++ more; end = s.end; after = s.after; advances = advance_more more s.advances; here = s.here; why = stops_for_more limit world s.after s.advances.turns s.left more fault s.why }
+  stops_more {q = q} {after = after} more {fault} s =
+      record { left = s.left ++ more; end = s.end; advances = advance_more more s.advances; why = stops_for_more limit s.end q after s.advances.turns s.left more fault s.why }
 
   -- turns before
-  pub stops_behind : {p q : Progress C N} {before mid : ℕ} {items left : List Item} {world : Whole C N} {fault : Fault} → Advances lists limit p before items left q mid → Stops lists limit q mid left world fault → Stops lists limit p before items world fault
+  pub stops_behind : {p q r : Progress C N} {before mid behind : ℕ} {items left : List Item} {fault : Fault} → Advances lists limit p before items left q mid → Stops lists limit q mid left r behind fault → Stops lists limit p before items r behind fault
   unfolding advance_join
-  stops_behind {world = world} {fault = fault} a s =
-      record { left = s.left; end = s.end; after = s.after; advances = advance_join a s.advances; here = s.here; why = stops_for_after limit world s.after a.turns s.advances.turns s.left fault s.why }
+  stops_behind {r = r} {behind = behind} {fault = fault} a s =
+      record { left = s.left; end = s.end; advances = advance_join a s.advances; why = stops_for_after limit s.end r behind a.turns s.advances.turns s.left fault s.why }
 
   -- all of the items, and then a stop in more
-  pub stops_both : {p q : Progress C N} {before mid : ℕ} {items more : List Item} {world : Whole C N} {fault : Fault} → Advances lists limit p before items [] q mid → Stops lists limit q mid more world fault → Stops lists limit p before (items ++ more) world fault
+  pub stops_both : {p q r : Progress C N} {before mid behind : ℕ} {items more : List Item} {fault : Fault} → Advances lists limit p before items [] q mid → Stops lists limit q mid more r behind fault → Stops lists limit p before (items ++ more) r behind fault
   stops_both {more = more} a s = stops_behind (advance_more more a) s
 
   -- ---- the items of a word
@@ -138,15 +144,15 @@ module _ {C : Type 0} {N : ℕ} {lists : List (List (Call C))} {limit : ℕ} whe
   advance_again {p} {r = r} {before = before} {behind = behind} k {item} a b = subst (λ items. Advances lists limit p before items [] r behind) (replicate_more k item) (advance_both a b)
 
   -- a stop in one of them
-  pub stops_again : {p q : Progress C N} {before mid : ℕ} (k n : ℕ) {item : Item} {world : Whole C N} {fault : Fault} → k < n →
-      Advances lists limit p before (replicate k item) [] q mid → Stops lists limit q mid (item ∷ []) world fault → Stops lists limit p before (replicate n item ++ []) world fault
-  stops_again {p} {before = before} k n {item} {world} {fault} within a s =
+  pub stops_again : {p q r : Progress C N} {before mid behind : ℕ} (k n : ℕ) {item : Item} {fault : Fault} → k < n →
+      Advances lists limit p before (replicate k item) [] q mid → Stops lists limit q mid (item ∷ []) r behind fault → Stops lists limit p before (replicate n item ++ []) r behind fault
+  stops_again {p} {r = r} {before = before} {behind = behind} k n {item} {fault} within a s =
       let rest = n - (k + 1) in
       let one : item ∷ replicate rest item ≡ replicate (1 + rest) item = replicate-append-replicate 1 rest item in
       let count : k + (1 + rest) ≡ n = omega arith in
       let whole : replicate k item ++ (item ∷ [] ++ replicate rest item) ≡ replicate n item ++ [] =
       ap (λ xs. replicate k item ++ xs) one ∙ replicate-append-replicate k (1 + rest) item ∙ ap (λ m. replicate m item) count ∙ sym (append-nil (replicate n item)) in
-      subst (λ items. Stops lists limit p before items world fault) whole (stops_both a (stops_more (replicate rest item) s))
+      subst (λ items. Stops lists limit p before items r behind fault) whole (stops_both a (stops_more (replicate rest item) s))
 
   -- ---- the words of a schedule
 
@@ -161,13 +167,13 @@ module _ {C : Type 0} {N : ℕ} {lists : List (List (Call C))} {limit : ℕ} whe
       subst (λ items. Advances lists limit p before items [] r behind) (sym whole) (advance_both a b)
 
   -- a stop in one of them
-  pub stops_word : {p q : Progress C N} {before mid : ℕ} (i : ℕ) (schedule : List Turn) (d : Turn) {world : Whole C N} {fault : Fault} → i < length schedule →
-      Advances lists limit p before (items_of (take i schedule)) [] q mid → Stops lists limit q mid (items_of (get_or schedule i d ∷ [])) world fault →
-      Stops lists limit p before (items_of schedule) world fault
-  stops_word {p} {before = before} i schedule d {world} {fault} within a s =
+  pub stops_word : {p q r : Progress C N} {before mid behind : ℕ} (i : ℕ) (schedule : List Turn) (d : Turn) {fault : Fault} → i < length schedule →
+      Advances lists limit p before (items_of (take i schedule)) [] q mid → Stops lists limit q mid (items_of (get_or schedule i d ∷ [])) r behind fault →
+      Stops lists limit p before (items_of schedule) r behind fault
+  stops_word {p} {r = r} {before = before} {behind = behind} i schedule d {fault} within a s =
       let turn = get_or schedule i d in
       let rest = drop (suc i) schedule in
       let parts : take i schedule ++ (turn ∷ [] ++ rest) ≡ schedule = sym (ap (λ xs. take i schedule ++ xs) (drop-cons schedule i d within)) ∙ take-append-drop i schedule in
       let whole : items_of (take i schedule) ++ (items_of (turn ∷ []) ++ items_of rest) ≡ items_of schedule =
       ap (λ xs. items_of (take i schedule) ++ xs) (sym (flat_map-append word_items (turn ∷ []) rest)) ∙ sym (flat_map-append word_items (take i schedule) (turn ∷ [] ++ rest)) ∙ ap items_of parts in
-      subst (λ items. Stops lists limit p before items world fault) whole (stops_both a (stops_more (items_of rest) s))
+      subst (λ items. Stops lists limit p before items r behind fault) whole (stops_both a (stops_more (items_of rest) s))

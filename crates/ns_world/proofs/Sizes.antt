@@ -1,5 +1,5 @@
 -- A world fits in memory, over any condition.
-use Rattle.std.proofs.Common.{arith, ℕ, ◌*◌, ◌+◌, ◌-◌, ◌<◌, ◌^◌, ◌≡◌, ◌≤◌}
+use Rattle.std.proofs.Common.{arith, ℕ, ◌*◌, ◌+◌, ◌-◌, ◌<◌, ◌^◌, ◌≡◌}
 use Rattle.ns_world.proofs.Prelude.{FitsInMemory, Ghosts, HasRoom, RattleType, copied, layout, param, queues_room, queues_row, room, small_by, value_of, world_row}
 
 -- what stands beside the lists in a world takes little; of any sizes, so that none is worked out
@@ -19,7 +19,3 @@ among_as_many below is same = omega (arith, below, is, same)
 -- a step of a loop leaves less to go
 pub less_left : {i n : ℕ} → i < n → n - (i + 1) < n - i
 less_left below = omega (arith, below)
-
--- a row of so few cells fits in memory
-pub row_small : {n : ℕ} → n ≤ 16 → n * 8 < 9223372036854775808
-row_small few = omega (arith, few)

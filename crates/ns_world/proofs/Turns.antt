@@ -144,7 +144,7 @@ module _ {C : Type 0} {N : ℕ} where
   leads_stays lists p seat begun (inr called) = ap (λ (world : Whole C N). length world.seats) called.2.begins ∙ length-set p.world.seats seat _
 
   -- the world that a turn leaves
-  pub progressed_world : (p : Progress C N) (seat : ℕ) (step : Step) (new : Whole C N) → (progressed p seat step new).world ≡ new
+  progressed_world : (p : Progress C N) (seat : ℕ) (step : Step) (new : Whole C N) → (progressed p seat step new).world ≡ new
   progressed_world p seat Went new = refl
   progressed_world p seat other new = refl
 

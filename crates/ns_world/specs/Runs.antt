@@ -163,33 +163,33 @@ pub record Advances {C : Type 0} {N : ℕ} (lists : List (List (Call C))) (limit
   pub count : after ≡ before + length turns
   pub within : after ≤ limit
 
--- the last of these turns finished a call
-pub record EndFinished (turns : List Turned) : Type 0 where
+-- The call that the last of these turns finished isn't told: the progress q is the end but for that call's line and count.
+pub record EndUntold {C : Type 0} {N : ℕ} (turns : List Turned) (end q : Progress C N) : Type 0 where
   pub earlier : List Turned
   pub seat : ℕ
   pub reply : Reply
   pub last : turns ≡ earlier ++ record { seat = seat; step = Finished reply } ∷ []
+  pub untold : end ≡ finished q seat reply q.world
 
 -- the next item's turn commits an event
 abbrev pub CommitsFirst : {C : Type 0} {N : ℕ} → Whole C N → List Item → Type 0
 CommitsFirst world [] = ⊥
 CommitsFirst world (item ∷ left) = WholeCommits world item.seat
 
--- Why a run stops in this world after these turns, so many, with these items left: the next item needs one turn more than the limit, or its thread is no seat, or memory was refused: for the event of the next turn, or for the line of the call that the last turn finished.
-abbrev pub StopsFor : {C : Type 0} {N : ℕ} → ℕ → Whole C N → ℕ → List Turned → List Item → Fault → Type 0
-StopsFor limit world made turns left OutOfMemory = CommitsFirst world left ⊎ EndFinished turns
-StopsFor limit world made turns (item ∷ left) StepLimit = (made ≡ limit) × (item.seat < length world.seats)
-StopsFor limit world made turns (item ∷ left) NoSuchSeat = length world.seats ≤ item.seat
-StopsFor limit world made turns left fault = ⊥
+-- Why a run stops after these turns, so many, which led to this end, with these items left, and that the progress q is this end: the next item needs one turn more than the limit, or its thread is no seat, or memory was refused for the event of the next turn; or, for
+-- the line of the call that the last turn finished, which is then untold.
+abbrev pub StopsFor : {C : Type 0} {N : ℕ} → ℕ → Progress C N → ℕ → List Turned → List Item → Progress C N → Fault → Type 0
+StopsFor limit end made turns left q OutOfMemory = ((q ≡ end) × CommitsFirst end.world left) ⊎ EndUntold turns end q
+StopsFor limit end made turns (item ∷ left) q StepLimit = (q ≡ end) × (made ≡ limit) × (item.seat < length end.world.seats)
+StopsFor limit end made turns (item ∷ left) q NoSuchSeat = (q ≡ end) × (length end.world.seats ≤ item.seat)
+StopsFor limit end made turns left q fault = ⊥
 
--- Turns that follow a front of the items lead from the progress p, and then the run stops in this world.
-pub record Stops {C : Type 0} {N : ℕ} (lists : List (List (Call C))) (limit : ℕ) (p : Progress C N) (before : ℕ) (items : List Item) (world : Whole C N) (fault : Fault) : Type 0 where
+-- Turns that follow a front of the items lead from the progress p to an end, and take their number from `before` to `after`; and there the run stops, and leaves the progress q.
+pub record Stops {C : Type 0} {N : ℕ} (lists : List (List (Call C))) (limit : ℕ) (p : Progress C N) (before : ℕ) (items : List Item) (q : Progress C N) (after : ℕ) (fault : Fault) : Type 0 where
   pub left : List Item
   pub end : Progress C N
-  pub after : ℕ
   pub advances : Advances lists limit p before items left end after
-  pub here : end.world ≡ world
-  pub why : StopsFor limit world after advances.turns left fault
+  pub why : StopsFor limit end after advances.turns left q fault
 
 -- A whole run takes the world old to the world new, and gives these lines: turns from the start that follow the schedule to its end, no more than the limit.
 pub record Runs {C : Type 0} {N : ℕ} (lists : List (List (Call C))) (schedule : List Turn) (limit : ℕ) (old new : Whole C N) (lines : List Line) : Type 0 where
@@ -201,7 +201,7 @@ pub record Runs {C : Type 0} {N : ℕ} (lists : List (List (Call C))) (schedule 
 
 -- A run that is refused leaves the world as its last turn left it.
 abbrev pub RunFault : {C : Type 0} {N : ℕ} → List (List (Call C)) → List Turn → ℕ → Whole C N → Whole C N → Fault → Type 0
-RunFault lists schedule limit old new fault = Stops lists limit (start old) 0 (items_of schedule) new fault
+RunFault {C} {N} lists schedule limit old new fault = (q : Progress C N) × (after : ℕ) × (q.world ≡ new) × Stops lists limit (start old) 0 (items_of schedule) q after fault
 
 -- ---- what a run needs
 

@@ -97,14 +97,15 @@ fn tests_told(reply: Reply, tests: u32) -> u32
     }
 }
 
-/// Counts a turn that was made, and the call that it finished.
+/// Counts a turn that was made, and the call that it finished. Without memory for its line that call isn't counted,
+/// and the turn is.
 fn count(tally: &mut Tally, seat: u8, step: Step, tests: u32) -> Result<(), AllocError>
     requires seat { seat < 64 }
     requires over { slice_index tally.old.over seat ≤ 256 }
     requires turns { tally.old.turns + 1 < 2 ^ 32 }
     ensures ok { OnOk result (Counts tally.old.over tally.old.lines.items seat step tests tally.new.over tally.new.lines.items) }
     ensures turns { tally.new.turns ≡ tally.old.turns + 1 }
-    ensures err { OnErr result (IsFinished step) }
+    ensures err { OnErr result (IsFinished step × (tally.new.over ≡ tally.old.over) × (tally.new.lines.items ≡ tally.old.lines.items)) }
 {
     tally.turns += 1;
     if let Step::Finished(reply) = step {
@@ -144,7 +145,8 @@ fn next_turn<C: Seated<N>, const N: usize>(
 /// One turn of the seat, counted: its step, where the run goes on.
 ///
 /// Needs a tally that counts the calls of this world, and lists as [`World::run`]. Refuses what that refuses of a
-/// schedule's next item.
+/// schedule's next item. World and tally are then as before, but where the line of the call that this turn finished
+/// finds no memory (`OutOfMemory`): the turn is made and counted, and the call is neither told nor counted.
 pub fn counted_turn<C: Seated<N>, const N: usize>(
     world: &mut World<C, N>,
     lists: &[Vec<Call<C>>],
@@ -158,7 +160,7 @@ pub fn counted_turn<C: Seated<N>, const N: usize>(
     ensures ok { IfOk result (λ step. let calls = map (λ calls. calls.items) lists.now in
         CountsTurn calls limit (progress (whole_of C.means world.old) tally.old.over tally.old.lines.items) tally.old.turns seat step (progress (whole_of C.means world.new) tally.new.over tally.new.lines.items) tally.new.turns) }
     ensures err { IfErr result (λ fault. let calls = map (λ calls. calls.items) lists.now in
-        (whole : _) → Stops calls limit (progress (whole_of C.means world.old) tally.old.over tally.old.lines.items) tally.old.turns (record { seat = seat; whole = whole } ∷ []) (whole_of C.means world.new) fault) }
+        (whole : _) → Stops calls limit (progress (whole_of C.means world.old) tally.old.over tally.old.lines.items) tally.old.turns (record { seat = seat; whole = whole } ∷ []) (progress (whole_of C.means world.new) tally.new.over tally.new.lines.items) tally.new.turns fault) }
 {
     if seat as usize >= world.seats() {
         return Err(Fault::NoSuchSeat);
@@ -187,7 +189,7 @@ fn item<C: Seated<N>, const N: usize>(
         Advances calls limit (progress (whole_of C.means world.old) tally.old.over tally.old.lines.items) tally.old.turns (record { seat = seat; whole = whole } ∷ []) [] (progress (whole_of C.means world.new) tally.new.over tally.new.lines.items) tally.new.turns) }
     ensures counted { OnOk result (IsCounted (whole_of C.means world.new) tally.new.over) }
     ensures err { IfErr result (λ fault. let calls = map (λ calls. calls.items) lists.now in
-        Stops calls limit (progress (whole_of C.means world.old) tally.old.over tally.old.lines.items) tally.old.turns (record { seat = seat; whole = whole } ∷ []) (whole_of C.means world.new) fault) }
+        Stops calls limit (progress (whole_of C.means world.old) tally.old.over tally.old.lines.items) tally.old.turns (record { seat = seat; whole = whole } ∷ []) (progress (whole_of C.means world.new) tally.new.over tally.new.lines.items) tally.new.turns fault) }
 {
     loop {
         let step = counted_turn(world, lists, tally, seat, limit)?;
@@ -212,7 +214,7 @@ fn schedule_word<C: Seated<N>, const N: usize>(
         Advances calls limit (progress (whole_of C.means world.old) tally.old.over tally.old.lines.items) tally.old.turns (items_of (word.now ∷ [])) [] (progress (whole_of C.means world.new) tally.new.over tally.new.lines.items) tally.new.turns) }
     ensures counted { OnOk result (IsCounted (whole_of C.means world.new) tally.new.over) }
     ensures err { IfErr result (λ fault. let calls = map (λ calls. calls.items) lists.now in
-        Stops calls limit (progress (whole_of C.means world.old) tally.old.over tally.old.lines.items) tally.old.turns (items_of (word.now ∷ [])) (whole_of C.means world.new) fault) }
+        Stops calls limit (progress (whole_of C.means world.old) tally.old.over tally.old.lines.items) tally.old.turns (items_of (word.now ∷ [])) (progress (whole_of C.means world.new) tally.new.over tally.new.lines.items) tally.new.turns fault) }
 {
     for _ in 0..word.times {
         item(world, lists, tally, word.thread, word.whole, limit)?;
@@ -222,7 +224,8 @@ fn schedule_word<C: Seated<N>, const N: usize>(
 
 /// The items of the words of a schedule, in the world as it stands.
 ///
-/// Needs what [`counted_turn`] needs, and refuses what [`World::run`] refuses.
+/// Needs what [`counted_turn`] needs, and refuses what [`World::run`] refuses. World and tally are then as the last
+/// turn left them, but for a line without memory, as there.
 pub fn follow<C: Seated<N>, const N: usize>(
     world: &mut World<C, N>,
     lists: &[Vec<Call<C>>],
@@ -237,7 +240,7 @@ pub fn follow<C: Seated<N>, const N: usize>(
         Advances calls limit (progress (whole_of C.means world.old) tally.old.over tally.old.lines.items) tally.old.turns (items_of schedule.now) [] (progress (whole_of C.means world.new) tally.new.over tally.new.lines.items) tally.new.turns) }
     ensures counted { OnOk result (IsCounted (whole_of C.means world.new) tally.new.over) }
     ensures err { IfErr result (λ fault. let calls = map (λ calls. calls.items) lists.now in
-        Stops calls limit (progress (whole_of C.means world.old) tally.old.over tally.old.lines.items) tally.old.turns (items_of schedule.now) (whole_of C.means world.new) fault) }
+        Stops calls limit (progress (whole_of C.means world.old) tally.old.over tally.old.lines.items) tally.old.turns (items_of schedule.now) (progress (whole_of C.means world.new) tally.new.over tally.new.lines.items) tally.new.turns fault) }
 {
     for word in schedule {
         schedule_word(world, lists, tally, word, limit)?;

@@ -1,4 +1,4 @@
-use Rattle.ns_outcomes.proofs.Prelude.{Turned, map, script_truths, stage_of, whole_of}
+use Rattle.ns_outcomes.proofs.Prelude.{Turned, map, stage_of}
 use Rattle.ns_outcomes.proofs.Draws.{drawing_stops, drew_more}
 use Rattle.ns_outcomes.proofs.drawing.draw_turns.Goals as goal
 
@@ -7,9 +7,8 @@ returns-in-Err-clause-err c =
     let lists = map (λ calls. calls.items) c.args.threads.now in
     let first = stage_of c.args.drawing.now in
     let now = stage_of c.loop-thread.drawing in
-    let world = whole_of script_truths c.make_turn.new.drawing.world in
     rw c.fault_of.ensures
-    (drawing_stops lists c.args.limit c.args.draws.now c.loop-thread.draws c.next_word.result first now c.args.drawing.now.tally.turns c.loop-thread.drawing.tally.turns c.in-Some.thread c.loop-thread.drawing.words.items world c.in-Err.refused
+    (drawing_stops lists c.args.limit c.args.draws.now c.loop-thread.draws c.next_word.result first now c.args.drawing.now.tally.turns c.loop-thread.drawing.tally.turns c.make_turn.new.drawing.tally.turns c.in-Some.thread c.loop-thread.drawing.words.items (stage_of c.make_turn.new.drawing).progress c.in-Err.refused
     c.loop-thread.invariant.drew (rw c.deref.ensures.value at c.in-Some.ensures) c.in-Err.ensures.err)
 
 pub loop-thread-preserved : goal.loop-thread-preserved

@@ -1,9 +1,9 @@
 use Rattle.std.proofs.Common.{Bool, List, [], refl, ℕ, ◌≡◌}
-use Rattle.ns_word.proofs.Prelude.{Cause, InLeaving, InQueuing, Leave, LeavePlace, Lists, QueuePlace, Truths, Wait, WaitPlace, number, queues_fit, row_fits, wait_hand}
+use Rattle.ns_word.proofs.Prelude.{Cause, InLeaving, InQueuing, Leave, LeavePlace, Lists, QueuePlace, Truths, Wait, WaitPlace, number, queues_fit, row_small, wait_hand}
 use Rattle.ns_word.proofs.hand.change_waiting.Goals as goal
 
 pub change_queuing-requires : goal.change_queuing-requires
-change_queuing-requires g c = (queues_fit g.row.C (number g.row.N) g.met.C.Condition.has_room g.C.Condition, (row_fits g.row.C (number g.row.N) g.met.C.Condition.has_room, (c.requires.list, (c.requires.below, rw c.in-InQueuing.is at c.requires.free))))
+change_queuing-requires g c = (queues_fit g.row.C (number g.row.N) g.met.C.Condition.has_room g.C.Condition, (row_small g.met.C.Condition.has_cells.1, (c.requires.list, (c.requires.below, rw c.in-InQueuing.is at c.requires.free))))
 
 -- who leaves needs no row
 at_any_row : {C : Type 0} (truths : Truths C) (seat : ℕ) (wait : Wait C) (cause : Cause) (place : LeavePlace) (row : List ℕ) (lists left : Lists C) →

@@ -1,5 +1,5 @@
 use Rattle.ns_world.proofs.Prelude.{refl}
-use Rattle.ns_world.proofs.Sizes.{row_small}
+use Rattle.ns_queue.specs.Sizes.{row_small}
 use Rattle.ns_world.proofs.Exchanged.{can_in_range, fits_there, made, on_both}
 use Rattle.ns_world.proofs.exchanges.make.Goals as goal
 

@@ -3,20 +3,20 @@ use Rattle.ns_world.proofs.Prelude.{Call, IsCounted, Progress, err_from_is_err_a
 use Rattle.ns_world.proofs.Sizes.{among_as_many, world_fits}
 use Rattle.ns_world.proofs.Schedules.{stops_now, turn_stops, untold_stops}
 use Rattle.ns_world.proofs.Counted.{turn_counted, calls_fit, counts_progress}
-use Rattle.ns_world.proofs.Turns.{seats_stay, progressed_world}
+use Rattle.ns_world.proofs.Turns.{seats_stay}
 use Rattle.ns_world.proofs.run.counted_turn.Goals as goal
 
 pub returns-then-seat-seats : goal.returns-then-seat-seats
 returns-then-seat-seats g c = record {
   err = λ whole.
-      stops_now _ c.requires.turns (subst (λ n. n ≤ c.args.seat) c.seats.ensures.count c.if-seat-seats.true);
+      stops_now _ c.requires.turns (refl, subst (λ n. n ≤ c.args.seat) c.seats.ensures.count c.if-seat-seats.true);
   ok = tt;
 }
 
 pub returns-then-tally-limit : goal.returns-then-tally-limit
 returns-then-tally-limit g c = record {
   err = λ whole.
-      stops_now _ c.requires.turns (c.if-tally-limit.true, subst (λ n. c.args.seat < n) c.seats.ensures.count c.if-seat-seats.false);
+      stops_now _ c.requires.turns (refl, c.if-tally-limit.true, subst (λ n. c.args.seat < n) c.seats.ensures.count c.if-seat-seats.false);
   ok = tt;
 }
 
@@ -39,7 +39,7 @@ returns-in_err-count g c = record {
   err = let p = err_from_is_err_and c.from_residual-in_err-count.result c.from_residual-in_err-count.ensures.1 in
       let before = progress (whole_of g.C.Condition.means c.args.world.now) c.args.tally.now.over c.args.tally.now.lines.items in
       let turn = c.in_ok-step.ensures.ok _ c.args.tally.now.over c.args.tally.now.lines.items refl in
-      rw (p.1, p.2) (λ whole. untold_stops c.in_ok-step.step turn c.in_err-count.ensures.err (omega arith) (progressed_world before c.args.seat c.in_ok-step.step (whole_of g.C.Condition.means c.next_turn.new.world)));
+      rw (p.1, p.2) (λ whole. untold_stops c.in_ok-step.step turn (omega arith) c.in_err-count.ensures.err c.count.ensures.turns);
   ok = let p = err_from_is_err_and c.from_residual-in_err-count.result c.from_residual-in_err-count.ensures.1 in rw p.1 tt;
 }
 

@@ -1,6 +1,6 @@
 use Rattle.std.proofs.Common.{ap, inl, inr, refl, subst, ◌∙◌, ◌≤◌}
 use Rattle.ns_world.proofs.Prelude.{LooksByLimits, LooksByRound, Seat, asking_of, doing_after, err_from_is_err_and, is_call, operating_of, set_same, step_of, tests_after, walk_of, whole_of}
-use Rattle.ns_world.proofs.Sizes.{row_small}
+use Rattle.ns_queue.specs.Sizes.{row_small}
 use Rattle.ns_world.proofs.Laws.{step_keeps}
 use Rattle.ns_world.proofs.Mapped.{found_at}
 use Rattle.ns_world.proofs.Tells.{act_here, ask_here, few_there, may_go_on, no_look_here, operates_fit, refused_here, stands_here}
