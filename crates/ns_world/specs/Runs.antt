@@ -176,8 +176,8 @@ abbrev pub CommitsFirst : {C : Type 0} {N : ℕ} → Whole C N → List Item →
 CommitsFirst world [] = ⊥
 CommitsFirst world (item ∷ left) = WholeCommits world item.seat
 
--- Why a run stops after these turns, so many, which led to this end, with these items left, and that the progress q is this end: the next item needs one turn more than the limit, or its thread is no seat, or memory was refused for the event of the next turn; or, for
--- the line of the call that the last turn finished, which is then untold.
+-- Why a run stops. These turns, so many, led to this end, and these items are left. The next item needs one turn more than the limit, or its thread is no seat, or memory was refused for the event of its turn: then the run leaves the end, as the progress q. Or memory was
+-- refused for the line of the call that the last turn finished: then q doesn't tell that call.
 abbrev pub StopsFor : {C : Type 0} {N : ℕ} → ℕ → Progress C N → ℕ → List Turned → List Item → Progress C N → Fault → Type 0
 StopsFor limit end made turns left q OutOfMemory = ((q ≡ end) × CommitsFirst end.world left) ⊎ EndUntold turns end q
 StopsFor limit end made turns (item ∷ left) q StepLimit = (q ≡ end) × (made ≡ limit) × (item.seat < length end.world.seats)
