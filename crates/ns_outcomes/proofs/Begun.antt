@@ -16,7 +16,7 @@ begun_own limit script old over lines turns mid q e₁ e₂ e₃ e₄ a = rw (e�
 -- a stop in the script's own schedule
 pub own_stops : (limit : ℕ) (script : Script) (old : Whole ScriptCondition 8) (over : List ℕ) (lines : List Line) (turns : ℕ) (now : Progress ScriptCondition 8) (after : ℕ) (fault : WorldFault) → old ≡ world_for (plan_of script) → over ≡ replicate 64 0 → lines ≡ [] → turns ≡ 0 →
     Stops (map (λ calls. calls.items) script.threads.items) limit (progress old over lines) turns (items_of script.schedule.items) now after fault → IsRunFault limit (plan_of script) (drawing_fault fault)
-own_stops limit script old over lines turns now after world.StepLimit e₁ e₂ e₃ e₄ s = (now.world, (now, after, refl, rw (e₁, e₂, e₃, e₄) at s))
+own_stops limit script old over lines turns now after world.StepLimit e₁ e₂ e₃ e₄ s = (now.world, record { leaves = now; after = after; stops = rw (e₁, e₂, e₃, e₄) at s; here = refl })
 own_stops limit script old over lines turns now after world.OutOfMemory e₁ e₂ e₃ e₄ s = tt
 own_stops limit script old over lines turns now after world.NoSuchSeat e₁ e₂ e₃ e₄ s = tt
 own_stops limit script old over lines turns now after world.TooManySeats e₁ e₂ e₃ e₄ s = tt

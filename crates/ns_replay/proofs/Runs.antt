@@ -38,18 +38,20 @@ no_room limit end q made turns (item ∷ left) h = h
 
 seat_there : (limit : ℕ) (plan : Plan) (now : Whole ScriptCondition 8) → IsRunnable plan → RunFault plan.threads plan.schedule limit (world_for plan) now world.NoSuchSeat → ⊥
 seat_there limit plan now runnable fault =
-    let stops = fault.3 in
+    let stops = fault.stops in
     let first : length (world_for plan).seats ≡ length plan.threads = length_seats ScriptCondition 8 0 (length plan.threads) in
     let kept = turns_stay plan.threads (start (world_for plan)) stops.advances.turns stops.end stops.advances.made in
     let items = items_in (length plan.threads) plan.schedule (recursion_from_All _ _ runnable.in_range) in
-    no_seat limit stops.end fault.0 fault.1 (length plan.threads) stops.advances.turns stops.left (kept ∙ first) (rest_each _ (items_of plan.schedule) stops.advances.turns stops.left stops.advances.rest (recursion_from_All _ _ items)) stops.why
+    no_seat limit stops.end fault.leaves fault.after (length plan.threads) stops.advances.turns stops.left (kept ∙ first) (rest_each _ (items_of plan.schedule) stops.advances.turns stops.left stops.advances.rest (recursion_from_All _ _ items)) stops.why
 
 -- A run of a script that was read fails by want of memory, or by the limit.
 pub run_fails : (limit : ℕ) (plan : Plan) (now : Whole ScriptCondition 8) (fault : WorldFault) → IsRunnable plan → RunFault plan.threads plan.schedule limit (world_for plan) now fault → IsRunFault limit plan (fault_of_world fault)
-run_fails limit plan now world.OutOfMemory runnable stops = tt
-run_fails limit plan now world.StepLimit runnable stops = (now, stops)
-run_fails limit plan now world.NoSuchSeat runnable stops = absurd (seat_there limit plan now runnable stops)
-run_fails limit plan now world.TooManySeats runnable stops = absurd (no_room limit stops.3.end stops.0 stops.1 stops.3.advances.turns stops.3.left stops.3.why)
+run_fails limit plan now world.OutOfMemory runnable why = tt
+run_fails limit plan now world.StepLimit runnable why = (now, why)
+run_fails limit plan now world.NoSuchSeat runnable why = absurd (seat_there limit plan now runnable why)
+run_fails limit plan now world.TooManySeats runnable why =
+    let stops = why.stops in
+    absurd (no_room limit stops.end why.leaves why.after stops.advances.turns stops.left stops.why)
 
 -- the same, as a run over the lists of a script gives it
 pub script_fails : (limit : ℕ) (script : Script) (old now : Whole ScriptCondition 8) (fault : WorldFault) → IsRunnable (plan_of script) → old ≡ world_for (plan_of script) →

@@ -199,9 +199,12 @@ pub record Runs {C : Type 0} {N : ℕ} (lists : List (List (Call C))) (schedule 
   pub here : end.world ≡ new
   pub tells : end.lines ≡ lines
 
--- A run that is refused leaves the world as its last turn left it.
-abbrev pub RunFault : {C : Type 0} {N : ℕ} → List (List (Call C)) → List Turn → ℕ → Whole C N → Whole C N → Fault → Type 0
-RunFault {C} {N} lists schedule limit old new fault = (q : Progress C N) × (after : ℕ) × (q.world ≡ new) × Stops lists limit (start old) 0 (items_of schedule) q after fault
+-- A refused run takes the world old to the world new: from the start it stops on its way, and the progress that it leaves has the new world.
+pub record RunFault {C : Type 0} {N : ℕ} (lists : List (List (Call C))) (schedule : List Turn) (limit : ℕ) (old new : Whole C N) (fault : Fault) : Type 0 where
+  pub leaves : Progress C N
+  pub after : ℕ
+  pub stops : Stops lists limit (start old) 0 (items_of schedule) leaves after fault
+  pub here : leaves.world ≡ new
 
 -- ---- what a run needs
 

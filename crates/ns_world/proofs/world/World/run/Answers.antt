@@ -9,12 +9,12 @@ follow-requires g c = (world_fits g.row.C (number g.row.N) g.met.C.Condition.has
 pub returns-in_err-follow : goal.returns-in_err-follow
 returns-in_err-follow g c =
     let p = err_from_is_err_and c.from_residual.result c.from_residual.ensures.1 in
-    rw (p.1, p.2) (
-      progress (whole_of g.C.Condition.means c.follow.new.world) c.follow.new.tally.over c.follow.new.tally.lines.items,
-      c.follow.new.tally.turns,
-      refl,
-      rw (c.new-tally.ensures.over, c.new-tally.ensures.lines, c.new-tally.ensures.turns) at c.in_err-follow.ensures.err,
-    )
+    rw (p.1, p.2) (record {
+      leaves = progress (whole_of g.C.Condition.means c.follow.new.world) c.follow.new.tally.over c.follow.new.tally.lines.items;
+      after = c.follow.new.tally.turns;
+      stops = rw (c.new-tally.ensures.over, c.new-tally.ensures.lines, c.new-tally.ensures.turns) at c.in_err-follow.ensures.err;
+      here = refl;
+    })
 
 pub returns : goal.returns
 returns g c = record {
