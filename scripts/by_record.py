@@ -125,7 +125,7 @@ def main(given):
     if given == ["--are-of"]:
         return 0
     if not given:
-        print(f"ns_cli: first run: building {len(crates_of_program()[0])} crates, in about a minute and a half. "
+        print(f"ns_cli: first run: building {len(crates_of_program()[0])} crates, in two to three minutes. "
               "The proofs are taken from records/; ./prove makes them here", file=sys.stderr, flush=True)
     failed = build_program(os.path.abspath(given[0])) if given else build_here()
     if failed is None:
