@@ -68,12 +68,13 @@ def words(name, uses, the_kit, room):
 
 
 def build(name, uses, the_kit, room, record):
-    """Builds a crate by this record, in the room: a library, or the program."""
+    """Builds a crate by this record, in the room: a library, or the program. For that Rattle's own compiler takes 45
+    seconds less than LLVM, whose code takes half the time in `outcomes`. The gate builds by both."""
     folder, tools = f"{TOP}/crates/{name}", ["--toolchain", f"{the_kit}/toolchain"]
     told = [*words(name, uses, the_kit, room), "--crate-checked", record]
     if root_of(name) == "src/lib.rt":
         return said_by(folder, "rattle", "build", *told, "-o", f"{room}/{name}.rlib")
-    is_well, said = said_by(folder, "rattle", "build", *told, *tools, "-o", f"{room}/{name}.o")
+    is_well, said = said_by(folder, "rattle", "build", *told, *tools, "--backend", "rattle", "-o", f"{room}/{name}.o")
     if not is_well:
         return is_well, said
     parts = [f"{room}/{name}.o", f"{the_kit}/c/libos_c.a", f"{the_kit}/c/liblibc_c.a"]
@@ -125,7 +126,7 @@ def main(given):
     if given == ["--are-of"]:
         return 0
     if not given:
-        print(f"ns_cli: first run: building {len(crates_of_program()[0])} crates, in two to three minutes. "
+        print(f"ns_cli: first run: building {len(crates_of_program()[0])} crates, in some two minutes. "
               "The proofs are taken from records/; ./prove makes them here", file=sys.stderr, flush=True)
     failed = build_program(os.path.abspath(given[0])) if given else build_here()
     if failed is None:
