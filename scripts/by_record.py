@@ -68,8 +68,8 @@ def words(name, uses, the_kit, room):
 
 
 def build(name, uses, the_kit, room, record):
-    """Builds a crate by this record, in the room: a library, or the program. For that Rattle's own compiler takes 45
-    seconds less than LLVM, whose code takes half the time in `outcomes`. The gate builds by both."""
+    """Builds a crate by this record, in the room: a library, or the program, by Rattle's own compiler, which takes less
+    time than LLVM."""
     folder, tools = f"{TOP}/crates/{name}", ["--toolchain", f"{the_kit}/toolchain"]
     told = [*words(name, uses, the_kit, room), "--crate-checked", record]
     if root_of(name) == "src/lib.rt":
@@ -126,7 +126,7 @@ def main(given):
     if given == ["--are-of"]:
         return 0
     if not given:
-        print(f"ns_cli: first run: building {len(crates_of_program()[0])} crates, in some two minutes. "
+        print(f"ns_cli: first run: building {len(crates_of_program()[0])} crates, in two to five minutes. "
               "The proofs are taken from records/; ./prove makes them here", file=sys.stderr, flush=True)
     failed = build_program(os.path.abspath(given[0])) if given else build_here()
     if failed is None:
