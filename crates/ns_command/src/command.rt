@@ -48,7 +48,7 @@ fn replay_command<'a>(alloc: Global) -> Result<Command<'a>, AllocError>
     let history = flag(
         alloc,
         "history",
-        "Print each section that was committed, as: section 0 w plain plain 0,0,0,0,0,0,0,0 5,0,0,0,0,0,0,0",
+        "Print each event that was committed, as: section 0 w plain plain 0,0,0,0,0,0,0,0 5,0,0,0,0,0,0,0",
     );
     let tests = flag(
         alloc,
@@ -58,7 +58,7 @@ fn replay_command<'a>(alloc: Global) -> Result<Command<'a>, AllocError>
     let state = flag(
         alloc,
         "state",
-        "Print the lock word, its queue and the wakes that are owed, as: word write readers=0",
+        "Print the lock word, the queues and the wakes that are owed, as: word write readers=0",
     );
     Command::new(alloc, "replay")
         .about("Replay a script from standard input: ns_cli replay < examples/first_path.json")

@@ -486,8 +486,8 @@ impl Env {
     /// It comes back at once where one of these came since the seat's last wait or rest, and may come
     /// back early for no reason. So a caller that looks each time after it, and rests again only where
     /// that look showed nothing, sleeps through nothing of this environment. What else it waits for
-    /// may come between its look and this call, and be slept through: `longest` bounds how late
-    /// that is seen. Nothing is claimed of progress.
+    /// may come between its look and this call, and be slept through: for `longest`, or for more
+    /// where the system sleeps longer than it is asked to.
     pub fn rest<R: Wait>(&self, rt: &R, seat: &mut EnvSeat, longest: Duration)
         requires { seat.old.env ≡ self.now }
         ensures { seat.new ≡ seat.old }

@@ -9,19 +9,18 @@ ghost use Rattle.std.specs.Duration.{as_nanos};
 use crossbeam_utils::Backoff;
 use std::time::Duration;
 
-/// How long the first sleep may last, in microseconds.
+/// How long the first sleep asks to last, in microseconds.
 const FIRST: u64 = 64;
 
-/// How long any sleep may last, in microseconds: so late, at most, is seen what wakes nobody at that word. A sleep is
-/// an eighth longer than the one before. So who has slept for some time sees it at most an eighth of that time late,
-/// and the first sleep's length.
+/// How long any sleep asks to last at most, in microseconds. A sleep asks for an eighth more than the one before. So
+/// what wakes nobody at that word is seen late by about an eighth of the time slept so far, and by what the system adds.
 const LONGEST: u64 = 64_000;
 
 /// The rounds of such a caller.
 #[derive(Drop)]
 pub struct Pause {
     backoff: Backoff,
-    /// How long the next sleep may last, in microseconds.
+    /// How long the next sleep asks to last, in microseconds.
     microseconds: u64,
 }
 

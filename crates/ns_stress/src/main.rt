@@ -6,7 +6,7 @@
 //! take goods, by waits with and without limits, or sleep at condition variables until one of them calls;
 //! and between that they make sections of all kinds, and wait for one of two variables, or for either, by
 //! which one thread more rouses them until their work is done. What they do is drawn from the seed; in
-//! which order it happens is left to the machine. Whatever that is, each wait comes to an end, and the
+//! which order it happens is left to the machine. Whatever that is, each wait has to come to an end, and the
 //! counts of a round are known beforehand, or, of wakes, have to agree: who is called is woken, and nobody
 //! else.
 //!

@@ -82,7 +82,7 @@ SpinHeldOnce word views = takers views ≡ (if word.spin then 1 else 0)
 abbrev pub bits_in : Word → Bits
 bits_in word = record { waiting = word.waiting; conditional = word.cond; writer_waits = word.writer_waits; long = word.long }
 
--- While the spinlock bit is clear, the word tells what the lock list holds: that somebody waits long exactly where one who stands there has failed 30 times after being woken. While the waiting bit is clear, nobody stands there or is about to.
+-- While the spinlock bit is clear, the word tells what the lock list holds: that somebody waits long exactly where one who stands there has failed 30 times after being woken. While the waiting bit is clear, nobody stands there, and no acquire has the queues.
 pub record BitsTell {C : Type 0} {N : ℕ} (word : Word) (lock : List (Waiter C)) (views : List (SeatView C N)) : Type 0 where
   pub at_home : word.spin ≡ false → bits_in word ≡ bits_of lock
   pub nobody : word.waiting ≡ false → (has_some lock ≡ false) × (queuers views ≡ 0)
@@ -178,7 +178,7 @@ pub record TakenTold {C : Type 0} {N : ℕ} (phases : ℕ → Phase C) (flags : 
 abbrev pub DesigOnItsWay : {C : Type 0} {N : ℕ} → Word → (ℕ → ℕ) → List (SeatView C N) → Type 0
 DesigOnItsWay word flags views = word.desig ≡ true → (seat : ℕ) × (is_on_way (walk_at seat views) (flags seat) (called_to seat views) ≡ true)
 
--- nobody who stands in the lock list could go on at this row, and nobody is about to stand there without a condition
+-- nobody who stands in the lock list could go on at this row, and no acquire has the queues, to stand there without a condition
 abbrev pub NobodyCouldGoOn : {C : Type 0} {N : ℕ} → (C → List ℕ → Bool) → List ℕ → List (Waiter C) → List (SeatView C N) → Type 0
 NobodyCouldGoOn holds row lock views = (has_eligible (λ c. holds c row) lock ≡ false) × (queuers views ≡ 0)
 

@@ -13,7 +13,7 @@ abbrev pub QueuesFor : {C : Type 0} → ℕ → Mode → Arrival → List (Waite
 QueuesFor seat mode AsFresh old new = new ≡ old ++ waiter seat mode None 0 None ∷ []
 QueuesFor seat mode (AsWoken tries) old new = new ≡ waiter seat mode None (min (tries + 1) 30) None ∷ old
 
--- A wait for a condition stands with it behind all whom the scan has left, and before them where it queues again. One for variables stands behind all that wait for any of them, and names that in its list; the other lists stay.
+-- A wait for a condition stands with it behind all whom the scan has left, and before them where it queues again. One for variables stands behind all that wait for any of them, and names that in its list; the other variables' lists stay, and the lock list is what the scan has left.
 abbrev pub WaitsFor : {C : Type 0} → Truths C → ℕ → Mode → Subject C → Bool → List ℕ → Lists C → Lists C → Type 0
 WaitsFor truths seat mode (OnCondition c) false row old new = (new.lock ≡ left_of (meets_at truths row) old.lock ++ waiter seat mode (Some c) 0 None ∷ []) × (new.cvs ≡ old.cvs)
 WaitsFor truths seat mode (OnCondition c) true row old new = (new.lock ≡ waiter seat mode (Some c) 0 None ∷ left_of (meets_at truths row) old.lock) × (new.cvs ≡ old.cvs)

@@ -20,7 +20,8 @@ pub fn who_queues_stands_in_its_place<C: Condition<N>, const N: usize>()
 
 /// A wait for a condition stands with it behind all whom the scan has left, and before them where it
 /// queues again, after it was woken and found its condition false; it names no variable. A wait for variables
-/// stands behind all that wait for any of them, and names that in its list; the other lists stay.
+/// stands behind all that wait for any of them, and names that in its list; the other variables' lists stay, and
+/// the lock list is what the scan has left.
 pub fn who_waits_stands_in_its_place<C: Condition<N>, const N: usize>()
     ensures { (seats : ℕ) (history : List (Event C N)) (old new : LockState C N) (view : SeatView C N) (commits : List (Event C N)) (wait : Wait C) (again : Bool) (last : Word) (owes : Bool) (tests : ℕ) →
         (step : Step C.means old view (Scanned owes tests) new commits) → IsLawful C.means seats history old → step.walk ≡ InWait wait (InQueuing again (QueueToWait last)) →

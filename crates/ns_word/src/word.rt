@@ -14,8 +14,8 @@
 //!   straight from a variable acquires as fresh, and doesn't count.
 //! - **When `all_false` may be believed.** A release that has the queues, tests the waiters' conditions
 //!   and takes nobody sets the bit: all wait for conditions that are false of the row which it leaves.
-//!   Whoever may change that clears it: an ordinary writer as it releases, and a waiter
-//!   without condition as it queues.
+//!   Whoever may change that clears it: an ordinary writer as it releases, a waiter without condition as
+//!   it queues, and a signal or a broadcast that moves one there.
 //!   A reader, and a writer whose change is quiet, leave it, and need no scan while it is set.
 //! - **A long wait lets nobody fresh in.** A woken one that can't acquire, since others were faster,
 //!   queues again at the front, and counts one more try. Where one stands in the lock list with 30,

@@ -124,7 +124,7 @@ AreEnvBy seat events = Every (λ event. env_who event ≡ seat) events
 abbrev pub AreObjectsBy : ℕ → List ObjectEvent → Type 0
 AreObjectsBy seat events = Every (λ event. object_who event ≡ seat) events
 
--- The seat's next step finds the word that it has seen, and so commits an event: a release, a call that wakes, or that a wait for variables is left in whose lists it still stands.
+-- The seat's next step finds the word that it has seen, and so commits an event: a release, a wait that leaves its section, a call that wakes, or that a wait for variables is left in whose lists it still stands.
 pub record WholeCommits {C : Type 0} {N : ℕ} (world : Whole C N) (i : ℕ) : Type 0 where
   pub seat : Seat C N
   pub at : slice_get world.seats i ≡ Some seat
