@@ -126,7 +126,7 @@ def main(given):
     if given == ["--are-of"]:
         return 0
     if not given:
-        print(f"ns_cli: first run: building {len(crates_of_program()[0])} crates, in two to five minutes. "
+        print(f"ns_cli: first run: building {len(crates_of_program()[0])} crates, in one to five minutes. "
               "The proofs are taken from records/; ./prove makes them here", file=sys.stderr, flush=True)
     failed = build_program(os.path.abspath(given[0])) if given else build_here()
     if failed is None:
