@@ -8,7 +8,7 @@ place_after (On walk) = Some walk
 place_after (Idle walk) = Some walk
 place_after (Done reply) = None
 
--- It goes on, or waits, at a place of which this is so; or it is over, with an answer of which that is so.
+-- The walk goes on at a place of which this is so, whether the step led on or found nothing to go on with; or it is over, with an answer of which that is so.
 abbrev pub NextIs : {W R : Type 0} → (W → Type 0) → (R → Type 0) → Next W R → Type 0
 NextIs IsSo Means (On walk) = IsSo walk
 NextIs IsSo Means (Idle walk) = IsSo walk

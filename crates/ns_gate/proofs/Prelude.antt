@@ -4,7 +4,7 @@ pub use Rattle.ns_gate.proofs.Hands.{beside_fits, has_slot, now_in_hand, queues_
 pub use Rattle.ns_gate.specs.Prelude.{Acquire, Act, ActFits, Allows, ArePair, ArmFlag, Arrival, AtHome, BeginsIf, BeginsWith, Bits, Broadcasting, CallGoes, CameByGuess, CanLeave, CanStep, CanWait, Carries, Cause, Cell, Change, Changed, Course, Cv, Done, Effect, EndsAs, Event, Every, Final, Fits}
 pub use Rattle.ns_gate.specs.Prelude.{Flag, Foremost, Found, GateView, GetLoad, HasCome, HasGuessed, HasLearned, HasLooked, HasMadeBoth, HasMode, HasReached, HasSight, HasSince, HasStepped, HaveLearned, HaveMet, HaveSeats, Held, Holds, Homes, Idle, InAcquire, InCells, InLeaving, InQueuing}
 pub use Rattle.ns_gate.specs.Prelude.{InRelease, InShow, InSignal, InTry, InWait, IsAtPlace, IsAtRest, IsBySeats, IsBySums, IsExchange, IsLawful, IsLoad, IsOnWord, IsOne, IsOrderly, IsOwedNext, IsPackable, IsPlainExchange, IsRuled, IsSettled, IsStoreOf, IsTold, IsTrueToHistory, IsWide, JudgeMet}
-pub use Rattle.ns_gate.specs.Prelude.{JudgeQuiet, Leave, LeaveSelf, Limits, Lists, LoadCell, LoadFlag, LoadWord, Lock, LockState, Look, Looked, Made, MayBegin, MayExchange, MayGuess, MayLoad, MayShow, MayStore, Me, Mode, Next, Nobody, On, OnCondition, OnVariables, OneWriter, Owed, OwesBelow}
+pub use Rattle.ns_gate.specs.Prelude.{JudgeQuiet, Leave, LeaveSelf, Limits, Lists, LoadCell, LoadFlag, LoadWord, Lock, LockState, Look, Looked, Made, MayBegin, MayExchange, MayGuess, MayLoad, MayShow, MayStore, Me, Mode, Needs, Next, Nobody, On, OnCondition, OnVariables, OneWriter, Owed, OwesBelow}
 pub use Rattle.ns_gate.specs.Prelude.{OwesOne, Paid, Part, Pay, PayInWait, PayTheWoken, PayWake, Performed, PerformedBoth, PerformedWith, PlaceFits, Queue, QueueSelf, QueueToWait, Quiet, QuietKeeps, Read, Release, ReleaseReturning, Released, Releasing, Reply, Request, ReturnQueues, ReturnShown}
 pub use Rattle.ns_gate.specs.Prelude.{Returning, Saw, ScanAndRelease, SeatOf, SeatStep, SeatView, SectionFits, Seen, ShareTheLock, Shows, ShowsLists, Signaling, SoFar, Sought, Standing, Step, StoreCell, Subject, TableAct, TableId, TakeQueues, Taking, TestLast, Tested, ToChange, ToQueue, Told}
 pub use Rattle.ns_gate.specs.Prelude.{Truths, TryLoad, Turned, Underlying, Valid, ViewFits, Views, Wait, WaitReturning, Waited, Waiter, WakeAndReturn, WakeWaiters, Waking, Walk, WantsNext, Woke, Word, Write, Writer, act_by, act_of, act_returning, asked_of, awaits, before_in, begins_with_reader}

@@ -1,8 +1,8 @@
 -- Those whom a signal or a broadcast takes: where they may go, how they come back, and to whom a wake is owed.
-use Rattle.std.proofs.Common.{Bool, IsTrue, List, None, Option, Some, [], ap, append-nil, arith, drop, eq-eqb, eqb, false, get_or, if◌then◌else◌, inl, inr, length, map, ne_eqb, not, refl, subst, sym, true, ℕ, ◌&&◌, ◌++◌, ◌+◌, ◌<◌, ◌↔◌, ◌∙◌, ◌∷◌, ◌≡◌, ◌≤◌}
-use Rattle.ns_gate.proofs.Prelude.{Act, Broadcasting, Carries, Cv, Found, HaveSeats, IsOrderly, Lists, Lock, OnFalse, OnTrue, Part, Performed, ReturnQueues, SeatOf, SeatView, Signaling, Truths, Turned, Waiter, WakeWaiters, Waking, Walk, Woke, Word, and-true, below_in, bit_at, bits_of, cases_Bool}
-use Rattle.ns_gate.proofs.Prelude.{cases_eq, change_found, cvs_without, drop_step, filter-append, gone_those, has_queues, has_some, in_more, is_held, is_of, kept_by, lists_left, lists_orderly, lists_woken, moved_to, none_in, none_without, once_in, option_map, outside, owed_woken, own_times}
-use Rattle.ns_gate.proofs.Prelude.{same_each, seats_of, sole_is, sole_of, taken_by, taken_from, taken_set, the, times, times_in, times_in-cons, times_signaled, told_no, turned_to, waiters_of, wakes_of, with_waiters, without, without_each, woken_nobody, woken_sole}
+use Rattle.std.proofs.Common.{Bool, IsTrue, List, None, Option, Some, [], ap, append-nil, arith, drop, eq-eqb, false, get_or, if◌then◌else◌, inl, inr, length, map, not, refl, subst, sym, true, ℕ, ◌&&◌, ◌++◌, ◌+◌, ◌<◌, ◌↔◌, ◌∙◌, ◌∷◌, ◌≡◌, ◌≤◌}
+use Rattle.ns_gate.proofs.Prelude.{Act, Broadcasting, Carries, Cv, Found, HaveSeats, IsOrderly, Lists, Lock, OnFalse, OnTrue, Part, Performed, ReturnQueues, SeatOf, SeatView, Signaling, Truths, Turned, Waiter, WakeWaiters, Waking, Walk, Woke, Word, and-true, below_in, bits_of, cases_Bool}
+use Rattle.ns_gate.proofs.Prelude.{change_found, cvs_without, drop_step, filter-append, gone_those, has_queues, has_some, is_held, is_of, kept_by, lists_left, lists_orderly, lists_woken, moved_to, none_in, none_without, once_in, option_map, outside, owed_woken, own_times}
+use Rattle.ns_gate.proofs.Prelude.{same_each, sole_is, sole_of, taken_by, taken_from, taken_set, the, times, times_in, times_in-cons, times_signaled, told_no, turned_to, waiters_of, wakes_of, with_waiters, without, without_each, woken_nobody, woken_sole}
 use Rattle.ns_gate.proofs.Prelude.{lists_without, writes}
 use Rattle.ns_gate.proofs.Stays.{HasKeptItsQueues, effect_of, still_carries}
 
@@ -75,17 +75,6 @@ module _ {C : Type 0} where
       (λ i. without_each (is i) (was i)) ∙ back_again (lists_left waking k lists) (taken_from waking k lists) (there_once waking k lists orderly low) (apart waking k lists orderly low)
 
   -- ---- where nobody waits for the variable
-
-  -- the set of some waiters has a bit exactly where there is one
-  pub has_bits : (ws : List (Waiter C)) → not (eqb (taken_set ws).0 0) ≡ has_some ws
-  has_bits [] = refl
-  has_bits (w ∷ ws) = elim (cases_eq (taken_set (w ∷ ws)).0 0) [
-    | inl e ↦
-        let none : eqb (bit_at (taken_set (w ∷ ws)).0 w.seat) 1 ≡ false = ap (λ n. eqb (bit_at n w.seat) 1) e ∙ none_in w.seat in
-        let some : eqb (bit_at (taken_set (w ∷ ws)).0 w.seat) 1 ≡ true = in_more w.seat (seats_of ws) w.seat ∙ rw (eq-eqb w.seat w.seat refl) refl in
-        absurd (cc)
-    | inr ne ↦ rw (ne_eqb (taken_set (w ∷ ws)).0 0 ne) refl
-  ]
 
   -- it takes nobody, and the lists stay as they stood, whether the lock is held or not
   pub takes_nobody : (waking : Waking) (k : ℕ) (lists : Lists C) → waiters_of lists (Cv k) ≡ [] → (taken_from waking k lists ≡ []) × (lists_left waking k lists ≡ lists)

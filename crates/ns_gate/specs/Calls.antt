@@ -61,6 +61,6 @@ pub record HasAnswered {C : Type 0} {N : ℕ} (truths : Truths C) (request : Req
   pub rest : IsAtRest truths me
   pub means : Means truths (the me.0).at.seat (row_after (the me.0).told.seen) request (the me.0).course reply (the me.0).at.held
 
--- where a step leads a call that was asked to do this: to a place, where it goes on or waits, or to its answer
+-- where a step leads a call that was asked to do this: to a place of its walk, whether or not the step found what to go on with, or to its answer
 abbrev pub HasReached : {C : Type 0} {N : ℕ} → Truths C → Request C → Next (Walk C) Reply → SeatOf C N → Type 0
 HasReached truths request next me = NextIs (λ walk. IsAtPlace truths walk me) (λ reply. HasAnswered truths request reply me) next

@@ -3,8 +3,8 @@ pub use Rattle.atomic_table.specs.Table.{Act as TableAct, Allows, Final, Me, See
 pub use Rattle.ns_env.specs.Prelude.{NextIs}
 pub use Rattle.ns_env.specs.declared.next.Next.{Next}
 pub use Rattle.ns_env.specs.declared.next.Next.TheVariants.{Done, Idle, On}
-pub use Rattle.ns_gate.specs.declared.fault.Fault.{Fault}
-pub use Rattle.ns_gate.specs.declared.fault.Fault.TheVariants.{OutOfMemory, TooManySeats}
+pub use Rattle.ns_seats.specs.declared.fault.Fault.{Fault}
+pub use Rattle.ns_seats.specs.declared.fault.Fault.TheVariants.{OutOfMemory, TooManySeats}
 pub use Rattle.ns_gate.specs.declared.perform.Beside.{Beside}
 pub use Rattle.ns_gate.specs.declared.queues.Returning.{Returning}
 pub use Rattle.ns_gate.specs.declared.queues.Returning.TheVariants.{Changed, Released, Waited}

@@ -6,12 +6,12 @@ ghost use Rattle.ns_gate.specs.Prelude.{tried_for, word_of};
 
 use crate::boxed::BoxedQueues;
 use crate::closed::{Closed, cells};
-use crate::fault::Fault;
 use crate::plays::{Both, FirstOut, Go, Law, Learn, Load, Look, Together};
 use crate::view::View;
 use atomic_table::{Refused, Table};
 use ns_env::limits::{Cause, Limits};
 use ns_model::condition::Condition;
+use ns_seats::fault::Fault;
 use ns_seats::saying::{exchange_saying, load_saying};
 use ns_word::act::{Act, Found};
 use ns_word::codec::unpacked;
@@ -239,7 +239,7 @@ impl<C: Condition<N>, const N: usize> Gate<C, N> {
         LockWord::of(self.load_at(seat, begins, 0))
     }
 
-    /// Acquires the lock for this, where its word is still the one last seen; else tells the word.
+    /// Acquires the lock for this, where the lock word is still the one last seen; else tells the word.
     ///
     /// Needs a seat of this gate, whose call wants that next, and a word that has a number, as each
     /// has that a load or an exchange has told.

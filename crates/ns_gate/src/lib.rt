@@ -13,7 +13,6 @@
 
 pub mod boxed;
 pub mod closed;
-pub mod fault;
 pub mod flags;
 pub mod gate;
 pub mod perform;

@@ -96,42 +96,31 @@ impl<C: Condition<N>, const N: usize> Gate<C, N> {
                 self.pay_wake(seat, beside.wake);
                 beside.finds
             }
-            _ => self.perform_exchange(seat, begins, act, beside),
+            _ => self.perform_exchange(seat, act, beside),
         }
     }
 
-    /// The same for an exchange.
-    fn perform_exchange(
-        &self,
-        seat: &mut GateSeat<C, N>,
-        _begins: Option<Walk<C>>,
-        act: Act<C>,
-        beside: &Beside<N>,
-    ) -> Found
+    /// The same for an exchange, which begins no call.
+    fn perform_exchange(&self, seat: &mut GateSeat<C, N>, act: Act<C>, beside: &Beside<N>) -> Found
         requires of { seat.old.table_id ≡ self.now }
         requires kind { IsOnWord act }
-        requires can { CanStep C.means _begins act seat.old.me }
-        requires needs { Needs C.means _begins act beside.now seat.old.me }
+        requires can { CanStep C.means None act seat.old.me }
+        requires needs { Needs C.means None act beside.now seat.old.me }
         ensures seat { seat.new.table_id ≡ seat.old.table_id }
-        ensures did { Performed C.means _begins act result seat.old.me seat.new.me }
+        ensures did { Performed C.means None act result seat.old.me seat.new.me }
     {
         match act {
             Act::Acquire(aim, arrival, last) => {
-                let last = LockWord::new(last);
-                let tries = self.exchange_to_acquire(seat, aim, arrival, last);
+                let tries = self.exchange_to_acquire(seat, aim, arrival, LockWord::new(last));
                 found_by(tries, Found::Made)
             }
             Act::TakeQueues(taking, last) => {
-                found_by(
-                    self.exchange_to_take(seat, taking, LockWord::new(last)),
-                    Found::Made,
-                )
+                let tries = self.exchange_to_take(seat, taking, LockWord::new(last));
+                found_by(tries, Found::Made)
             }
             Act::Release(releasing, last) => {
-                found_by(
-                    self.exchange_to_release(seat, releasing, LockWord::new(last)),
-                    Found::Made,
-                )
+                let tries = self.exchange_to_release(seat, releasing, LockWord::new(last));
+                found_by(tries, Found::Made)
             }
             Act::ReturnQueues(change, last) => {
                 self.put_back(seat, Returning::Changed(change), last, beside)
@@ -160,8 +149,7 @@ impl<C: Condition<N>, const N: usize> Gate<C, N> {
         ensures seat { seat.new.table_id ≡ seat.old.table_id }
         ensures did { Performed C.means None (act_returning returning last) result seat.old.me seat.new.me }
     {
-        let last = LockWord::new(last);
-        let tries = self.exchange_to_return(seat, returning, last, beside.turned);
+        let tries = self.exchange_to_return(seat, returning, LockWord::new(last), beside.turned);
         found_by(tries, beside.finds)
     }
 }

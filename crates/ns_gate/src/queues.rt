@@ -86,7 +86,8 @@ impl<C: Condition<N>, const N: usize> Gate<C, N> {
     /// Sets the spinlock bit and takes the queues, where the lock word is still the one last seen; else
     /// tells the word.
     ///
-    /// Needs a seat of this gate, whose call wants that next, and a word that has a number.
+    /// Needs a seat of this gate, whose call wants that next, and a word that has a number, as each
+    /// has that a load or an exchange has told.
     pub fn exchange_to_take(
         &self,
         seat: &mut GateSeat<C, N>,

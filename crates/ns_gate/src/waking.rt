@@ -18,16 +18,6 @@ use ns_queue::waiter::Waiter;
 use ns_word::act::Waking;
 use ns_word::hand::bits;
 
-/// Whether somebody waits for the variable.
-///
-/// Needs a number below 4.
-fn has_waiters<C: Queueable<N>, const N: usize>(queues: &Queues<C, N>, k: u8) -> bool
-    requires { k < 4 }
-    ensures { result ≡ has_some (waiters_of queues.now (Cv k)) }
-{
-    queues.waiting_set(k).0 != 0
-}
-
 /// Takes those out of the lists of the variables whom the call wakes, and answers them in order.
 ///
 /// Needs a number below 4.
@@ -122,7 +112,7 @@ impl<C: Condition<N>, const N: usize> Gate<C, N> {
         ensures nobody { result ≡ woken_nobody k (the seat.old.me.0).stood }
     {
         let queues = seat.slot_mut(&self.table.shared, 0).lists();
-        if has_waiters(queues, k) {
+        if queues.has_waiters(k) {
             return None;
         }
         Some(Turned {

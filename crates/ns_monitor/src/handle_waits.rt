@@ -8,7 +8,7 @@ use crate::caller::Renewed;
 use crate::handle::Acting;
 use crate::monitor::Monitor;
 use crate::several::{AnyPoll, AnyWaiting};
-use crate::watching::Looker;
+use crate::watching::{Looker, watched};
 use ns_env::limits::Limits;
 use ns_model::condition::Condition;
 use ns_model::cvs::Cvs;
@@ -78,15 +78,13 @@ impl<'m, H: Renewed<C, N>, C: Condition<N>, const N: usize> Acting<'m, H, C, N> 
             deadline,
             note: index_of(note),
         };
-        let waited = {
-            let mut looker = Looker {
-                env: watcher.env,
-                seat: &mut watcher.seat,
-            };
+        let seat = &mut watcher.seat;
+        let (caller, answer) = watched!(
+            watcher.env,
+            seat,
+            looker,
             monitor.wait_by(rt, caller, condition, limits, &mut looker)
-        };
-        watcher.seat.attest();
-        let (caller, answer) = waited;
+        );
         (Acting { monitor, caller }, answer)
     }
 

@@ -20,8 +20,8 @@
 //! };
 //! ```
 //!
-//! A [`Handle`] is a seat of a [`Monitor`] together with the monitor, and its calls are the monitor's. They stand
-//! beside each other, and promise the same: the monitor's take its caller's seat or section, which has to be of
+//! A [`Handle`] is a seat of a [`Monitor`] together with the monitor. Each call of the one has a call of the same
+//! name at the other, which promises the same: the monitor's take its caller's seat or section, which has to be of
 //! that monitor, and by a handle it is.
 //!
 //! So a second acquire by one seat, a section used after its release or its wait, a write through a
@@ -76,11 +76,11 @@ pub use handle_waits::WaitingForAny;
 pub use handles::Handles;
 pub use monitor::Monitor;
 pub use ns_gate::closed::Closed;
-pub use ns_gate::fault::Fault;
 pub use ns_model::condition::Condition;
 pub use ns_model::cvs::Cvs;
 pub use ns_model::event::{Answer, Mode};
 pub use ns_queue::waiter::Shown;
+pub use ns_seats::fault::Fault;
 pub use ns_word::word::Word;
 pub use several::{AnyPoll, AnyWaiting};
 pub use showing::DebugState;

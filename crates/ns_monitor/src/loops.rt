@@ -62,6 +62,30 @@ impl<C: Condition<N>, const N: usize> Monitor<C, N> {
         unreachable!()
     }
 
+    /// Takes the queues, for a call that has to change the lists and has seen this word. Answers the word then.
+    #[inline(always)]
+    fn take_from<R: Wait>(
+        &self,
+        rt: &R,
+        seat: &mut GateSeat<C, N>,
+        _walk: Walk<C>,
+        first: LockWord,
+    ) -> LockWord
+        requires of { seat.old.table_id ≡ self.now }
+        requires decides { Decides _walk }
+        requires going { going_of _walk ≡ Changing }
+        requires word { IsPackable first }
+        requires at { HasReached C.means (asked_of _walk) (got_of N _walk (Found.Saw first)) seat.old.me }
+        ensures seat { seat.new.table_id ≡ self.now }
+        ensures since { HasSince None (the seat.old.me.0) (the seat.new.me.0) }
+        ensures taken { HasTakenAt C.means _walk result seat.old.me seat.new.me }
+    {
+        match self.go_or_take(rt, seat, Going::Changing, _walk, first) {
+            Some(word) => word,
+            None => unreachable!(),
+        }
+    }
+
     /// Takes the queues, for a call that has to change the lists. Answers the word then.
     pub(crate) fn take<R: Wait>(
         &self,
@@ -78,10 +102,7 @@ impl<C: Condition<N>, const N: usize> Monitor<C, N> {
         ensures taken { HasTakenAt C.means _walk result seat.old.me seat.new.me }
     {
         let first = self.gate.load(seat, None);
-        match self.go_or_take(rt, seat, Going::Changing, _walk, first) {
-            Some(word) => word,
-            None => unreachable!(),
-        }
+        self.take_from(rt, seat, _walk, first)
     }
 
     /// Begins a call that has to change the lists, and takes the queues. Answers the word then.
@@ -102,10 +123,7 @@ impl<C: Condition<N>, const N: usize> Monitor<C, N> {
         ensures taken { HasTakenAt C.means walk result seat.old.me seat.new.me }
     {
         let first = self.gate.load(seat, Some(walk));
-        match self.go_or_take(rt, seat, Going::Changing, walk, first) {
-            Some(word) => word,
-            None => unreachable!(),
-        }
+        self.take_from(rt, seat, walk, first)
     }
 
     /// Puts the queues back as they are in hand, for this; tries again with the word found where another

@@ -140,13 +140,7 @@ impl<C: Condition<N>, const N: usize> Monitor<C, N> {
             mut alone,
         } = seat;
         if self.try_acquire(&mut seat, H::mode(), &mut alone) {
-            let hand = H::begun();
-            Ok(Caller {
-                seat,
-                number,
-                hand,
-                alone,
-            })
+            Ok(holding(seat, number, alone))
         } else {
             Err(Caller {
                 seat,

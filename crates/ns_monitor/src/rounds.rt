@@ -7,9 +7,9 @@ ghost use Rattle.ns_monitor.specs.Prelude.{wait_first, waiting, waits_by};
 ghost use Rattle.ns_note.specs.Known.{Grows as EnvGrows};
 
 use crate::caller::{Caller, Renewed};
-use crate::monitor::Monitor;
+use crate::monitor::{Monitor, holding};
 use crate::scanning::Queuing;
-use crate::watching::{Looker, Nothing, Watch};
+use crate::watching::{Looker, NoWatch, Watch, watched};
 use ns_env::limits::{Cause, Limits};
 use ns_gate::gate::GateSeat;
 use ns_model::condition::Condition;
@@ -154,14 +154,7 @@ impl<C: Condition<N>, const N: usize> Monitor<C, N> {
             return (back, answer_of(cause));
         }
         let answer = self.wait_on(rt, &mut seat, number, wait, &mut row, watch);
-        let hand = H::begun();
-        let back = Caller {
-            seat,
-            number,
-            hand,
-            alone: false,
-        };
-        (back, answer)
+        (holding(seat, number, false), answer)
     }
 
     /// Waits until the condition is true of the row, in a section in the same mode. Where it is true of
@@ -184,7 +177,7 @@ impl<C: Condition<N>, const N: usize> Monitor<C, N> {
             deadline: None,
             note: None,
         };
-        let (back, _) = self.wait_by(rt, held, condition, limits, &mut Nothing);
+        let (back, _) = self.wait_by(rt, held, condition, limits, &mut NoWatch);
         back
     }
 
@@ -224,14 +217,11 @@ impl<C: Condition<N>, const N: usize> Monitor<C, N> {
             deadline,
             note: index_of(note),
         };
-        let waited = {
-            let mut looker = Looker {
-                env,
-                seat: env_seat,
-            };
+        watched!(
+            env,
+            env_seat,
+            looker,
             self.wait_by(rt, held, condition, limits, &mut looker)
-        };
-        env_seat.attest();
-        waited
+        )
     }
 }

@@ -8,8 +8,8 @@ ghost use Rattle.std.specs.Prelude.{◌≡◌, Some, None, [], ℕ};
 ghost use Rattle.ns_monitor.specs.Prelude.{AreSome, AwaitWakeInWait, ForWait, HasAcquired, HasBegunToWait, HasComeBackFromAny, HasSince, IfStill, IfWoken, InWait, IsAtPlace, IsNumberOf, IsWaitingForAny, WaitsStill, the, waits_for_any};
 
 use crate::caller::{Caller, Renewed};
-use crate::monitor::Monitor;
-use crate::watching::AtOnce;
+use crate::monitor::{Monitor, holding};
+use crate::watching::EndedWatch;
 use ns_env::limits::Limits;
 use ns_gate::gate::GateSeat;
 use ns_model::condition::Condition;
@@ -18,7 +18,7 @@ use ns_model::event::Mode;
 use ns_word::owed::variable_told;
 use ns_word::wait::{Aim, Outcome, Subject, Wait as Waiting, WaitPlace, arrival_of};
 use ns_word::walk::Walk;
-use std::marker::Model;
+use std::marker::{Model, PhantomData};
 use std::sync::Wait;
 
 /// A wait for any of several condition variables that was begun and isn't over.
@@ -35,23 +35,20 @@ pub struct AnyWaiting<H: Renewed<C, N>, C: Condition<N>, const N: usize> {
     number: u8,
     /// The variables.
     cvs: Cvs,
-    /// What will be in hand once it comes back.
-    hand: H,
+    /// What it comes back with.
+    back: PhantomData<H>,
 }
 
 impl<H: Renewed<C, N>, C: Condition<N>, const N: usize> Model for AnyWaiting<H, C, N> {
-    ghost use Rattle.std.specs.Prelude.{Some};
     ghost use Rattle.ns_monitor.specs.Known.{known_of};
-    ghost use Rattle.ns_monitor.specs.Saved.{IsFresh};
     ghost use Rattle.ns_monitor.specs.Several.{IsWaitingForAny, WaitKnown};
     ghost use Rattle.ns_monitor.specs.Standing.{IsNumberOf};
-    ghost use Rattle.ns_gate.specs.Prelude.{Held};
 
     ghost Value = { WaitKnown C N };
 
     ghost view = { λ w. record { known = known_of w.seat.table_id w.seat.me; cvs = w.cvs } };
 
-    ghost invariant = { λ w. IsWaitingForAny C.means H.Section.mode w.cvs w.seat.me × IsNumberOf w.number w.seat.me × ((held : Held C N) → IsFresh N H.Section.mode held → H.Hand.fits w.hand (Some held)) };
+    ghost invariant = { λ w. IsWaitingForAny C.means H.Section.mode w.cvs w.seat.me × IsNumberOf w.number w.seat.me };
 }
 
 /// What came of asking whether a wait for any of several condition variables was woken: a section, or the
@@ -105,12 +102,11 @@ impl<C: Condition<N>, const N: usize> Monitor<C, N> {
         let mode = H::mode();
         let wait = for_any(mode, cvs);
         self.queue_at_variables(rt, &mut seat, number, wait);
-        let hand = H::begun();
         AnyWaiting {
             seat,
             number,
             cvs,
-            hand,
+            back: PhantomData,
         }
     }
 
@@ -135,7 +131,7 @@ impl<C: Condition<N>, const N: usize> Monitor<C, N> {
             mut seat,
             number,
             cvs,
-            hand,
+            back,
         } = waiting;
         let mode = H::mode();
         let wait = for_any(mode, cvs);
@@ -146,19 +142,13 @@ impl<C: Condition<N>, const N: usize> Monitor<C, N> {
                 seat,
                 number,
                 cvs,
-                hand,
+                back,
             });
         }
         let k = variable_told(flag);
         let aim = Aim::ForWait(wait, Outcome::Woken(Some(k)));
         self.acquire(rt, &mut seat, number, aim, arrival_of(0, flag));
-        let back = Caller {
-            seat,
-            number,
-            hand,
-            alone: false,
-        };
-        AnyPoll::Woken(back, k)
+        AnyPoll::Woken(holding(seat, number, false), k)
     }
 
     /// Ends a wait for any of several variables, acquires the lock again, in the mode of the section that
@@ -181,18 +171,12 @@ impl<C: Condition<N>, const N: usize> Monitor<C, N> {
             mut seat,
             number,
             cvs,
-            hand,
+            back: _,
         } = waiting;
         let mode = H::mode();
         let wait = for_any(mode, cvs);
-        let outcome = self.come_back(rt, &mut seat, number, wait, &mut AtOnce);
+        let outcome = self.come_back(rt, &mut seat, number, wait, &mut EndedWatch);
         let by = outcome.variable();
-        let back = Caller {
-            seat,
-            number,
-            hand,
-            alone: false,
-        };
-        (back, by)
+        (holding(seat, number, false), by)
     }
 }

@@ -58,9 +58,7 @@ impl<C: Condition<N>, const N: usize> Monitor<C, N> {
         }
         unreachable!()
     }
-}
 
-impl<C: Condition<N>, const N: usize> Monitor<C, N> {
     /// How the monitor stands at one moment of the call: its lock word, and who waits in the lock list
     /// and for each condition variable.
     ///

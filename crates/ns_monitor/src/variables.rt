@@ -6,9 +6,9 @@ ghost use Rattle.ns_note.specs.Known.{Grows as EnvGrows};
 ghost use Rattle.ns_monitor.specs.Prelude.{EndedBy, Grows, HasAcquired, HasSeenTrue, HasWaitedForVariable, IfAnswered, IfEnded, IsForVariables, IsNumberOf, queuing_first, variable_waiting, waits_for_variable};
 
 use crate::caller::{Caller, Renewed};
-use crate::monitor::Monitor;
+use crate::monitor::{Monitor, holding};
 use crate::scanning::Queuing;
-use crate::watching::{Looker, Watch};
+use crate::watching::{Looker, Watch, watched};
 use ns_env::limits::Limits;
 use ns_gate::gate::GateSeat;
 use ns_model::condition::Condition;
@@ -106,14 +106,7 @@ impl<C: Condition<N>, const N: usize> Monitor<C, N> {
         let on = Subject::OnVariables(Variables::Only(k));
         let wait = Waiting { mode, on, limits };
         let outcome = self.wait_at_variables(rt, &mut seat, number, wait, watch);
-        let hand = H::begun();
-        let back = Caller {
-            seat,
-            number,
-            hand,
-            alone: false,
-        };
-        (back, outcome.answer())
+        (holding(seat, number, false), outcome.answer())
     }
 
     /// Leaves its section and waits for a condition variable, until a signal or a broadcast of it wakes
@@ -155,14 +148,11 @@ impl<C: Condition<N>, const N: usize> Monitor<C, N> {
             deadline,
             note: index_of(note),
         };
-        let waited = {
-            let mut looker = Looker {
-                env,
-                seat: env_seat,
-            };
+        watched!(
+            env,
+            env_seat,
+            looker,
             self.wait_for_variable(rt, held, k, limits, &mut looker)
-        };
-        env_seat.attest();
-        waited
+        )
     }
 }

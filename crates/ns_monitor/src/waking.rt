@@ -183,9 +183,7 @@ impl<C: Condition<N>, const N: usize> Monitor<C, N> {
         }
         self.wake_some(rt, seat, call, word);
     }
-}
 
-impl<C: Condition<N>, const N: usize> Monitor<C, N> {
     /// Wakes at least one of those who wait for a condition variable, if any do: the first of them, and
     /// if that one reads, every other reader and the first writer.
     ///

@@ -52,9 +52,9 @@ pub trait Watch {
 
 /// Nothing ends the wait early: a look would show nothing, and none is made.
 #[derive(Drop)]
-pub struct Nothing;
+pub struct NoWatch;
 
-impl Watch for Nothing {
+impl Watch for NoWatch {
     ghost watches = { λ me limits. is_limited limits ≡ false };
 
     ghost since = { λ one two. Unit {0} };
@@ -80,9 +80,9 @@ impl Watch for Nothing {
 
 /// The wait's caller ends it: the first look shows that a deadline has come which is always over.
 #[derive(Drop)]
-pub struct AtOnce;
+pub struct EndedWatch;
 
-impl Watch for AtOnce {
+impl Watch for EndedWatch {
     ghost watches = { λ me limits. limits ≡ at_will };
 
     ghost since = { λ one two. Unit {0} };
@@ -138,3 +138,22 @@ impl<'a> Watch for Looker<'a> {
         self.env.look_for(self.seat, limits)
     }
 }
+
+/// Makes a wait by a looker, of this name, that borrows the environment's seat for the time of the wait, behind which
+/// the seat attests what it has seen. It is no function, since a call of one that may wait costs a look at whether it
+/// was cut short.
+macro_rules! watched {
+    ($env:expr, $seat:expr, $looker:ident, $wait:expr) => {{
+        let waited = {
+            let mut $looker = Looker {
+                env: $env,
+                seat: $seat,
+            };
+            $wait
+        };
+        $seat.attest();
+        waited
+    }};
+}
+
+pub(crate) use watched;

@@ -4,7 +4,7 @@ ghost use Rattle.std.specs.Prelude.{◌≡◌, ◌<◌, ◌^◌, ◌++◌, ◌�
 ghost use Rattle.ns_note.specs.Prelude.{AreNew, AreOfOneHistory, FoundFull, Grows, HasLooked, HasTakenNumber, IsAtRest, IsBetween, IsMade, IsNotified, IsNumberOf, IsOne, IsTrueToHistory, LookAnswers, Nothing, WaitAnswers, WordFits, clock_of, env_after, expiry_of, is_made, is_notified, known_of};
 ghost use Rattle.ns_note.specs.Prelude.{state_of, takes_in, the};
 
-use crate::fault::{Fault, NotesFull};
+use crate::fault::NotesFull;
 use crate::note::{Note, decode_note, encode_note, index_of};
 use crate::plays::{
     FirstOut, Law, Learn, LoadClock, LoadNext, LoadNote, Make, Mark, MoveClock, Ring, SetBack,
@@ -18,6 +18,7 @@ use ns_env::limits::{Cause, Limits};
 use ns_env::note::{NoteWord, earlier, is_due};
 use ns_model::environment::EnvEvent;
 use ns_model::event::Answer;
+use ns_seats::fault::Fault;
 use std::alloc::{AllocError, Global};
 use std::marker::Model;
 use std::sync::Wait;
@@ -486,7 +487,7 @@ impl Env {
     /// It comes back at once where one of these came since the seat's last wait or rest, and may come
     /// back early for no reason. So a caller that looks each time after it, and rests again only where
     /// that look showed nothing, sleeps through nothing of this environment. What else it waits for
-    /// may come between its look and this call, and be slept through: for `longest`, or for more
+    /// may come behind that look or during the sleep, and be slept through: for `longest`, or for more
     /// where the system sleeps longer than it is asked to.
     pub fn rest<R: Wait>(&self, rt: &R, seat: &mut EnvSeat, longest: Duration)
         requires { seat.old.env ≡ self.now }

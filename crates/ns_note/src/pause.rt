@@ -13,7 +13,8 @@ use std::time::Duration;
 const FIRST: u64 = 64;
 
 /// How long any sleep asks to last at most, in microseconds. A sleep asks for an eighth more than the one before. So
-/// what wakes nobody at that word is seen late by about an eighth of the time slept so far, and by what the system adds.
+/// what wakes nobody at that word is seen late by at most 64 microseconds and an eighth of the time slept so far, and
+/// by what the system adds.
 const LONGEST: u64 = 64_000;
 
 /// The rounds of such a caller.

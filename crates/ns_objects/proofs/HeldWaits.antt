@@ -98,12 +98,12 @@ beside_small : (a s n k : ℕ) → n ≤ 2 → k ≤ a + 1 → a + s < 2 ^ 40 �
 beside_small a s n k few most small = omega (arith, up_most a n, up_most k (up a n + s), few, most, small)
 
 -- what takes little by the bound is small; of any type, so that no size is worked out
-small_by : (τ : Ty) → room τ < 2 ^ 40 → align τ + size τ < 2 ^ 40
-small_by τ few = let most = room_enough τ in omega (arith, most, few)
+aligned_small : (τ : Ty) → room τ < 2 ^ 40 → align τ + size τ < 2 ^ 40
+aligned_small τ few = let most = room_enough τ in omega (arith, most, few)
 
--- a section in hand fits, where what stands for it takes little, and so does a wait that it was left for
+-- a section in hand fits, where what stands for it takes little
 pub hand_fits : (τ : Ty) → room τ < 2 ^ 40 → up (max 1 (max 1 (max 1 (max (align τ) 1)))) (up (align τ) 2 + size τ) < 2 ^ 63
-hand_fits τ few = beside_small (align τ) (size τ) 2 (max 1 (max 1 (max 1 (max (align τ) 1)))) (omega arith) (omega arith) (small_by τ few)
+hand_fits τ few = beside_small (align τ) (size τ) 2 (max 1 (max 1 (max 1 (max (align τ) 1)))) (omega arith) (omega arith) (aligned_small τ few)
 
 -- the wait is for variables that there are, where one is among the items
 pub some_wait : (cvs : Cvs) (items : List PlainItem) (k : ℕ) → cvs.0 < 256 → AreAmong cvs items → Every IsLow items → is_among k items ≡ true → AreSome cvs

@@ -4,26 +4,38 @@
 //! A counter counts up and down in 32 bits, and who waits for it waits for 0. A once cell has a
 //! function run once: by the first that calls, while the others wait for its end.
 //!
+//! A counter of 2 as a wait group, with a seat for the one who waits and for each of the two whom it waits for:
+//!
 //! ```rust
-//! let (objects, seats) = Objects::new(rt.alloc(), &[2], 1, 2)?; // a seat for each thread
+//! let (objects, seats) = Objects::new(alloc, &[2], 0, 3).ok()?;
 //! let mut sharers = objects.sharers(seats);
-//! let (Some(mut theirs), Some(mut mine)) = (sharers.next(), sharers.next()) else {
-//!     return Ok(());
-//! };
-//!
-//! // one thread has done its part of the work, and then the other has:
-//! let left = theirs.counter_add(&rt, 0, -1); // Ok(1)
-//! let left = mine.counter_add(&rt, 0, -1); // Ok(0)
-//!
-//! // who waits for both goes on; from here on the counter doesn't rise any more
-//! let zero = mine.counter_wait(&rt, 0, None, &mut watch);
-//!
-//! // whoever comes first makes it, and the others find it made
-//! let made = mine.run_once(&rt, 0, || 7); // Once::Ran(7)
+//! let waiter = sharers.next()?;
+//! let (one, two) = sharers.pair()?;
 //! ```
 //!
+//! In their threads each of the two counts its part off, and the waiter comes back once both have:
+//!
+//! ```rust
+//! let _ = sharer.counter_add(rt, 0, -1);
+//! ```
+//!
+//! ```rust
+//! sharer.counter_wait(rt, 0, None, &mut watcher)
+//! ```
+//!
+//! A value that is made once, whoever comes first:
+//!
+//! ```rust
+//! match sharer.run_once(rt, 0, || 7) {
+//!     Once::Ran(_) => true,
+//!     Once::Already => false, // another has made it, and is done
+//! }
+//! ```
+//!
+//! The whole of both is in ns_cookbook, `sharing.rt`.
+//!
 //! A [`sharer::Sharer`] is a seat together with the objects that it is of. Its calls are those of
-//! [`objects::Objects`], by the same names and with the same promises; `watch` is a
+//! [`objects::Objects`], by the same names and with the same promises; `watcher` is a
 //! [`Watcher`](ns_note::watcher::Watcher), the same for an environment. That the seat is of these objects is an
 //! invariant of its type, so no clause and no loop of a program says it.
 //!

@@ -10,7 +10,7 @@ use atomic_table::Table;
 use ns_counters::made::MOST;
 use ns_counters::object::Setup;
 use ns_counters::word::{Stage, decode_counter, decode_once};
-use ns_note::fault::Fault;
+use ns_seats::fault::Fault;
 use std::alloc::{AllocError, Global};
 use std::marker::Model;
 

@@ -136,8 +136,8 @@ impl Objects {
     /// Runs the function, if no call on this once cell has begun to run one; else waits until that one
     /// has ended, and sleeps meanwhile. nsync's `nsync_run_once`.
     ///
-    /// Of all calls on one cell at most one begins to run its function, and any other answers `Already` once
-    /// that has said that it has run, which is written behind its end. A function that doesn't return leaves
+    /// Of all calls on one cell at most one begins its function. Any other answers `Already`, once that one has said
+    /// that the function has run, which is written behind its end. A function that doesn't return leaves
     /// all others waiting. Needs the number of a once cell of these objects, and a function that may be
     /// called.
     ///

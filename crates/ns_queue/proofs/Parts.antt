@@ -62,7 +62,7 @@ module _ {C : Type 0} where
 
   -- ---- a waiter in the lists of several variables
 
-  -- the lists of those that are still to come, and that of the lock, are as they were
+  -- what is read of the lists, and of no list of the first n variables, is read again behind
   each_kept : (read : Lists C → ℕ) (n : ℕ) (cvs : Cvs) (w : Waiter C) (lists : Lists C) → ((k : ℕ) (now : Lists C) (ws : List (Waiter C)) → k < n → read (with_waiters now (Cv k) ws) ≡ read now) → read (with_each n cvs w lists) ≡ read lists
   each_kept read zero cvs w lists same = refl
   each_kept read (suc n) cvs w lists same = let rest = each_kept read n cvs w lists (λ k now ws low. same k now ws (omega (arith, low))) in elim (cases_Bool (is_in cvs n)) [
@@ -70,6 +70,7 @@ module _ {C : Type 0} where
     | inr less ↦ rw less rest
   ]
 
+  -- the lists of those that are still to come, and that of the lock, are as they were
   pub each_beside : (n seat : ℕ) (cvs : Cvs) (w : Waiter C) (lists now : Lists C) → now ≡ with_each n cvs w lists → beside now seat n ≡ beside lists seat n
   each_beside n seat cvs w lists now is =
       ap (λ (x : Lists C). beside x seat n) is ∙ each_kept (λ x. beside x seat n) n cvs w lists (λ k x ws low. ap (λ (vs : List (Waiter C)). times_in seat x.lock + times_in seat vs) (read_apart x k n ws (λ e. omega (arith, e, low))))

@@ -1,11 +1,16 @@
 -- How often a seat stands in lists, and how many waiters a list can have.
-use Rattle.std.proofs.Common.{Bool, IsTrue, List, [], ap, arith, eq-eqb, eqb, false, get_or, inl, inr, length, lt-ltb, nat_lt, ne_eqb, refl, sym, take, take_all, true, ℕ, ◌++◌, ◌+◌, ◌<◌, ◌||◌, ◌↔◌, ◌∙◌, ◌∷◌, ◌≡◌, ◌≢◌, ◌≤◌}
-use Rattle.ns_queue.proofs.Prelude.{HaveSeats, Waiter, cases_eq, cases_lt, count_by_more_no, is_of, length-le_from_distinct_below, length-map, list_any, one_if, seats_of, sum_by-append, sum_by-cons, sum_by_more_le, times_in, without_in}
+use Rattle.std.proofs.Common.{Bool, IsTrue, List, [], ap, arith, eq-eqb, eqb, false, get_or, inl, inr, length, lt-ltb, nat_lt, ne_eqb, not, refl, sym, take, take_all, true, ℕ, ◌++◌, ◌+◌, ◌<◌, ◌==◌, ◌||◌, ◌↔◌, ◌∙◌, ◌∷◌, ◌≡◌, ◌≢◌, ◌≤◌}
+use Rattle.ns_queue.proofs.Prelude.{HaveSeats, Waiter, cases_eq, cases_lt, count_by_more_no, has_some, is_of, length-le_from_distinct_below, length-map, list_any, one_if, seats_of, sum_by-append, sum_by-cons, sum_by_more_le, times_in, without_in}
 use Rattle.std.specs.List.{AllByRecursion, IsDistinct}
 
 -- a number that there is stays below what none is above
 pub low_of : (n seat : ℕ) → (64 ≤ seat → n ≡ 0) → 0 < n → seat < 64
 low_of n seat none some = elim (cases_lt seat 64) [ inl low ↦ low | inr high ↦ absurd (omega (arith, none high, some)) ]
+
+-- a list that isn't empty has somebody
+pub some_there : {A : Type 0} (xs : List A) → not (length xs == 0) ≡ has_some xs
+some_there [] = refl
+some_there (x ∷ xs) = rw (ne_eqb (length (x ∷ xs)) 0 (λ e. absurd (omega (arith, e)))) refl
 
 -- one more, or none, and others
 pub some_more : (b : Bool) (n : ℕ) → nat_lt 0 (one_if b + n) ≡ (b || nat_lt 0 n)

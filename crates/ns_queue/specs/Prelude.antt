@@ -9,6 +9,6 @@ pub use Rattle.ns_queue.specs.Runs.{IsRuns, MadeUpTo, RunLinks, RunsOn, StandRun
 pub use Rattle.ns_queue.specs.Scans.{Asked, asked_of, begins_with_reader, ended, foremost_of, goes_on, is_alike, is_eligible, is_satisfied, left_by_writer, left_of, runs_after, runs_of, started, tests_of, woken_of}
 pub use Rattle.ns_queue.specs.Signals.{readers_and_a_writer, signaled_of, sole_of, taken_set, unsignaled_of}
 pub use Rattle.ns_queue.specs.Tests.{asked_by, asked_for, asking, in_front, tests_on, tests_seeking}
-pub use Rattle.ns_queue.specs.Waiters.{HaveSeats, has_condition, is_long, is_of, outside, reads, seats_of, shown_of, times_in, without_in, writes}
+pub use Rattle.ns_queue.specs.Waiters.{HaveSeats, has_condition, has_some, is_long, is_of, outside, reads, seats_of, shown_of, times_in, without_in, writes}
 pub use Rattle.ns_queue.specs.Wakes.{AreWaiting, WaitFor, WaitsAmong}
 unfoldable pub use Rattle.ns_queue.specs.Rings.{gather}

@@ -1,6 +1,11 @@
 -- Waiters, one by one and in a list.
-use Rattle.std.specs.Prelude.{Bool, List, count_by, filter, is_some, map, not, ℕ, ◌==◌, ◌≡◌, ◌≤◌}
+use Rattle.std.specs.Prelude.{Bool, List, [], count_by, false, filter, is_some, map, not, true, ℕ, ◌==◌, ◌∷◌, ◌≡◌, ◌≤◌}
 use Rattle.ns_queue.specs.Names.{Seats, Shown, Waiter, is_in, is_write}
+
+-- whether the list has anything
+abbrev pub has_some : {A : Type 0} → List A → Bool
+has_some [] = false
+has_some (x ∷ xs) = true
 
 -- the form in which a waiter is shown
 abbrev pub shown_of : {C : Type 0} → Waiter C → Shown

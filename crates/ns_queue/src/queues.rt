@@ -3,7 +3,7 @@
 ghost use Rattle.std.specs.Prelude.{◌≡◌, ◌<◌, ℕ, ◌+◌, ◌≤◌, ◌↔◌, ◌&&◌, not, [], ◌∷◌, ◌++◌, length, map, nat_lt, replicate, sum_by, take, IsTrue};
 ghost use Rattle.std.specs.Bool.{OnFalse, OnTrue};
 ghost use Rattle.std.specs.List.{list_any};
-ghost use Rattle.ns_queue.specs.Prelude.{HaveSeats, IsList, IsOrderly, beside, cvs_without, has_condition, is_long, outside, shown_of, times, times_in, waiters_of, with_waiters, without, writes};
+ghost use Rattle.ns_queue.specs.Prelude.{HaveSeats, IsList, IsOrderly, beside, cvs_without, has_condition, has_some, is_long, outside, shown_of, times, times_in, waiters_of, with_waiters, without, writes};
 
 use crate::lock_list::LockList;
 use crate::room::Queueable;
@@ -75,6 +75,16 @@ impl<C: Queueable<N>, const N: usize> Queues<C, N> {
         ensures orderly { IsOrderly self.now }
     {
         self.cvs[k as usize].as_slice()
+    }
+
+    /// Whether anybody waits for the variable.
+    ///
+    /// Needs a number below 4.
+    pub fn has_waiters(&self, k: u8) -> bool
+        requires { k < 4 }
+        ensures { result ≡ has_some (waiters_of self.now (Which.Cv k)) }
+    {
+        !self.variable(k).is_empty()
     }
 
     /// The list of a variable once more.

@@ -1,7 +1,7 @@
 //! Tables of atomic words whose seats see one history, for the crates between threads: who a view
 //! stands for, how seats are joined and cut, what two that meet know of each other, and how a new
-//! table's seats stand. These are definitions and proofs, over any view and any event. What a load is
-//! told by its caller is the one piece of code here, over any table.
+//! table's seats stand. These are definitions and proofs, over any view and any event. The code here is
+//! why no table is made ([`fault`]), and what a load is told by its caller, over any table ([`saying`]).
 //!
 //! A table shows that its rule reads the views by sums over a key of each seat, and by what holds
 //! of each view (`IsBySums`); joining, cutting and learning are then proved of it. In ns_gate the
@@ -13,4 +13,5 @@
 //! events the histories are of, and on the kit's atomic_table.
 #![tactic(auto)]
 
+pub mod fault;
 pub mod saying;

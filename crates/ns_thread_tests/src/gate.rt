@@ -13,12 +13,12 @@ ghost use Rattle.ns_word.specs.Walks.{got_of, want_of};
 
 use ns_env::next::Next;
 use ns_fixtures::{AtLeast, Never};
-use ns_gate::fault::Fault;
 use ns_gate::gate::{Gate, GateSeat};
 use ns_gate::perform::Beside;
 use ns_gate::queues::Turned;
 use ns_model::condition::Condition;
 use ns_model::event::Mode;
+use ns_seats::fault::Fault;
 use ns_word::act::{Act, Found};
 use ns_word::owed::Owed;
 use ns_word::walk::{Reply, Walk, WalkNext};

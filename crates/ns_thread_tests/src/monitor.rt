@@ -55,6 +55,15 @@ fn try_each<R: Wait>(rt: &R, first: Lock<'_>, second: Lock<'_>) -> Option<u64>
     Some(value)
 }
 
+/// Ends a monitor. Tells whether the lock is free, and the cells.
+fn end(monitor: Monitor<AtLeast, 2>, seat: Seat<AtLeast, 2>) -> (bool, [u64; 2])
+    requires { seat.monitor ≡ monitor }
+{
+    let closed = monitor.close(seat);
+    let row = closed.row;
+    (closed.free, row)
+}
+
 /// Ends a monitor while the second has a section in hand. Tells whether the lock is free, and the cells.
 fn close_while_held(
     monitor: Monitor<AtLeast, 2>,
@@ -66,9 +75,7 @@ fn close_while_held(
     let mut held = monitor.try_lock(second).ok()?;
     monitor.set(&mut held, 0, 3);
     let first = Handle::new(&monitor, first).into_seat(); // so that `into_seat` is run
-    let closed = monitor.close(first);
-    let row = closed.row;
-    Some((closed.free, row))
+    Some(end(monitor, first))
 }
 
 /// Tries by handles.
@@ -90,7 +97,7 @@ fn closed_while_held(rt: HostRuntime) {
 }
 
 /// Tries to lock, and adds 1 to a cell where it succeeds; tells how often it did.
-fn add_many<'m, R: Wait>(rt: &R, mut lock: Lock<'m>) -> (Lock<'m>, u64) {
+fn add_many<R: Wait>(rt: &R, mut lock: Lock<'_>) -> u64 {
     let mut won = 0u64;
     for _ in 0..TRIES {
         lock = match lock.try_lock() {
@@ -102,35 +109,32 @@ fn add_many<'m, R: Wait>(rt: &R, mut lock: Lock<'m>) -> (Lock<'m>, u64) {
             Err(back) => back,
         };
     }
-    (lock, won)
+    won
 }
 
 /// Two threads add, each as often as its tries succeed; how often both did.
-fn add_twice<'m, R: Threads + Wait + Sync>(
-    rt: &R,
-    first: Lock<'m>,
-    second: Lock<'m>,
-) -> (Lock<'m>, u64) {
-    let ((lock, won), (_, other)) = join(
+fn add_twice<R: Threads + Wait + Sync>(rt: &R, first: Lock<'_>, second: Lock<'_>) -> u64 {
+    let (won, other) = join(
         rt,
-        move || -> (Lock<'_>, u64)
+        move || -> u64
             requires { IsSync R.row }
         { add_many(rt, first) },
-        move || -> (Lock<'_>, u64)
+        move || -> u64
             requires { IsSync R.row }
         { add_many(rt, second) },
     );
-    (lock, won.wrapping_add(other))
+    won.wrapping_add(other)
 }
 
 /// No addition is lost, and the lock ends free.
 #[test]
 fn two_adders(rt: HostRuntime) {
-    let (monitor, seats) = new_monitor(&rt, rt.alloc(), 2);
+    let (monitor, mut seats) = new_monitor(&rt, rt.alloc(), 3);
+    let last = seats.pop().expect(&rt, "a seat");
     let (first, second) = two_locks(&rt, &monitor, seats);
-    let (lock, won) = add_twice(&rt, first, second);
+    let won = add_twice(&rt, first, second);
     assert!(rt; won > 0);
-    assert_eq!(rt; row_at_end(lock), Some([won, 0]));
+    assert_eq!(rt; end(monitor, last), (true, [won, 0]));
 }
 
 /// Looks until the note is seen to be notified, and answers whether it was.

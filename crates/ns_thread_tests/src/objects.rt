@@ -6,13 +6,13 @@ ghost use Rattle.ns_counters.specs.Made.{setup_of};
 
 use ns_model::counter::CounterFault;
 use ns_note::env::Env;
-use ns_note::fault::Fault;
 use ns_note::note::Note;
 use ns_note::watcher::Watcher;
 use ns_objects::any::Item;
 use ns_objects::objects::Objects;
 use ns_objects::seat::ObjSeat;
 use ns_objects::sharer::Sharer;
+use ns_seats::fault::Fault;
 use std::alloc::Global;
 use std::process::Abort;
 use std::sync::Wait;

@@ -104,6 +104,6 @@ pub record GoesOn {C : Type 0} {N : ℕ} (truths : Truths C) (seat : ℕ) (reque
   pub asked : asked_of walk ≡ request
   pub so_far : SoFar truths seat course walk held
 
--- where a step leads a call that was asked to do this: it goes on, at once or after it has waited, or its answer means what it says, where the history has left this row
+-- where a step leads a call that was asked to do this: it goes on, whether or not the step found what to go on with, or its answer means what it says, where the history has left this row
 abbrev pub CallGoes : {C : Type 0} {N : ℕ} → Truths C → ℕ → List ℕ → Request C → Course C N → Next (Walk C) Reply → Option (Held C N) → Type 0
 CallGoes truths seat row request course next held = NextIs (λ walk. GoesOn truths seat request course walk held) (λ reply. Means truths seat row request course reply held) next

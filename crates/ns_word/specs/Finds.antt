@@ -1,10 +1,9 @@
 -- What a step finds, of the one word that it loads or compares and of what its seat has.
 use Rattle.std.specs.Prelude.{List, None, Option, Some, [], false, if◌then◌else◌, slice_index, ℕ, ◌==◌, ◌∷◌}
 use Rattle.ns_word.specs.Names.{Acquire, Act, ArmFlag, Cell, Flag, Found, Held, JudgeMet, JudgeQuiet, Lists, LoadCell, LoadFlag, LoadWord, Look, Looked, Made, Owed, Paid, PayWake, Quiet, Release, ReleaseReturning, ReturnQueues, Saw, Scanned, SeatView, StoreCell, TakeQueues, Tested, Truths}
-use Rattle.ns_word.specs.Names.{WaitReturning, Waiter, Word, tests_of, woken_of}
+use Rattle.ns_word.specs.Names.{WaitReturning, Waiter, Word, has_some, tests_of, woken_of}
 use Rattle.ns_word.specs.Owed.{called_of}
 use Rattle.ns_word.specs.Codec.{number_of, word_of}
-use Rattle.ns_word.specs.Lists.{has_some}
 use Rattle.ns_word.specs.Steps.{LockState, change_found, meets_at}
 
 -- the row of a section in hand, and the row that it began at

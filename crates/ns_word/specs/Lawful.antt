@@ -1,9 +1,9 @@
 -- The law: what holds of a lock and its seats between any two steps.
 use Rattle.std.specs.Prelude.{Bool, List, None, Option, Some, false, if◌then◌else◌, length, true, ℕ, ◌&&◌, ◌+◌, ◌<◌, ◌==◌, ◌≡◌, ◌≢◌, ◌≤◌, ◌⊎◌}
-use Rattle.ns_word.specs.Names.{Bits, CameBack, Cv, Event, Every, Held, IsBySeats, IsLegal, Lists, Locked, Mode, OnCondition, OnVariables, Opening, Owed, Phase, Read, SeatView, Standing, Subject, Truths, Variables, Waiter, Waiting, Walk, Word, has, is_waiting, standing_after, times_in, waiters_of}
+use Rattle.ns_word.specs.Names.{Bits, CameBack, Cv, Event, Every, Held, IsBySeats, IsLegal, Lists, Locked, Mode, OnCondition, OnVariables, Opening, Owed, Phase, Read, SeatView, Standing, Subject, Truths, Variables, Waiter, Waiting, Walk, Word, has, has_some, is_waiting, standing_after, times_in, waiters_of}
 use Rattle.ns_word.specs.Names.{woken_phase}
 use Rattle.ns_model.specs.declared.phase.Phase.TheVariants.{Idle, Woken}
-use Rattle.ns_word.specs.Lists.{counts_in, has_some, has_eligible, bits_of}
+use Rattle.ns_word.specs.Lists.{counts_in, has_eligible, bits_of}
 use Rattle.ns_word.specs.Owed.{Tells}
 use Rattle.ns_word.specs.Walks.{Stance, Expected, calls_from_lock, has_armed, waits_in, awaits, pays, is_on_way, phase_by}
 use Rattle.ns_word.specs.Waits.{phase_kept}

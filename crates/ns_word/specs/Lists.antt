@@ -1,12 +1,7 @@
 -- The lock list, lists of seats, and how often a seat counts in the lists.
 use Rattle.std.specs.Prelude.{Bool, List, None, Option, [], false, if◌then◌else◌, nat_lt, not, sum_by, true, ℕ, ◌&&◌, ◌++◌, ◌+◌, ◌||◌, ◌∷◌, ◌≡◌, ◌⊎◌}
-use Rattle.ns_word.specs.Names.{AtLock, AtVariables, Bits, Home, Lists, Mode, Waiter, Write, has_condition, is_eligible, is_long, times_in, writes}
+use Rattle.ns_word.specs.Names.{AtLock, AtVariables, Bits, Home, Lists, Mode, Waiter, Write, has_condition, has_some, is_eligible, is_long, times_in, writes}
 use Rattle.std.specs.List.{list_any}
-
--- whether the list has anything
-abbrev pub has_some : {A : Type 0} → List A → Bool
-has_some [] = false
-has_some (x ∷ xs) = true
 
 -- somebody stands in the list of whom this holds
 abbrev pub HasOne : {A : Type 0} → (A → Type 0) → List A → Type 0

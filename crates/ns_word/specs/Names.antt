@@ -22,7 +22,7 @@ pub use Rattle.ns_model.specs.declared.event.Exit.{Exit}
 pub use Rattle.ns_model.specs.declared.event.Exit.TheVariants.{AnyWait, CondWait, CvWait, Plain}
 pub use Rattle.ns_model.specs.declared.event.Mode.TheVariants.{Read, Write}
 pub use Rattle.ns_queue.specs.Names.{Variables, is_write, woken_phase}
-pub use Rattle.ns_queue.specs.Prelude.{AreWaiting, Cond, Cvs, Every, HaveSeats, IsOrderly, Lists, Mode, Phase, Seats, WaitFor, Waiting, WaitsAmong, beside, cvs_without, has, has_condition, is_eligible, is_in, is_long, is_of, is_satisfied, is_waiting, left_of, named_for, one_if, outside, reads}
+pub use Rattle.ns_queue.specs.Prelude.{AreWaiting, Cond, Cvs, Every, HaveSeats, IsOrderly, Lists, Mode, Phase, Seats, WaitFor, Waiting, WaitsAmong, beside, cvs_without, has, has_condition, has_some, is_eligible, is_in, is_long, is_of, is_satisfied, is_waiting, left_of, named_for, one_if, outside, reads}
 pub use Rattle.ns_queue.specs.Prelude.{seats_of, signaled_of, taken_set, tests_of, times, times_in, total, unsignaled_of, waiters_of, with_each, with_waiters, without, without_in, woken_of, writes}
 pub use Rattle.ns_queue.specs.Wakes.{woken_phases}
 pub use Rattle.ns_queue.specs.declared.waiter.Waiter.{Waiter}

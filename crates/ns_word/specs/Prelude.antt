@@ -9,7 +9,7 @@ pub use Rattle.ns_word.specs.Encoded.{encoded}
 pub use Rattle.ns_word.specs.Finds.{IsLook, before_in, content_at, exchanged, found_of, owes_more, row_in, scanned}
 pub use Rattle.ns_word.specs.Lawful.{AllFalseTrue, DesigOnItsWay, EachFits, HeldFits, IdleWaitersFalse, IsEither, IsExpected, IsLawful, IsNamed, IsToldSo, NamesOn, NobodyCouldGoOn, OneHistory, OneWriter, OwesAs, ReadersCounted, SectionFits, SpinHeldOnce, TakenTold, ToldOn, VariableWaiterFits}
 pub use Rattle.ns_word.specs.Lawful.{VariablesTell, ViewFits, WaiterFits, WaiterNames, WaitersOwn, WaitersPlaced, WakeTells, WordsSeen, bits_in, cond_on, is_armed, is_unwoken, lock_stance, phase_before}
-pub use Rattle.ns_word.specs.Lists.{HasOne, IsPlainWriter, bits_of, counts_in, has_eligible, has_some, queued, stands_at}
+pub use Rattle.ns_word.specs.Lists.{HasOne, IsPlainWriter, bits_of, counts_in, has_eligible, queued, stands_at}
 pub use Rattle.ns_word.specs.Meanings.{AnyWaitMeans, ConditionWaitMeans, Course, HasLocked, HasReleased, HasWoken, InHand, IsQuietSection, IsSaidBy, MayAnswer, MayEnd, Means, Unchanged, VariableWaitMeans, course_from, leave_any_told, leave_told, new_section}
 pub use Rattle.ns_word.specs.Names.{Acquire, AcquireExchange, AcquireLoad, AcquirePlace, Act, Aim, Answer, Answered, Any, AnyWait, AreWaiting, Arm, ArmFlag, ArmToWait, Arrival, AsFresh, AsWoken, AtLock, AtVariables, Await, AwaitWake, AwaitWakeInWait, AwaitWakeToLeave, BeginsWith, Broadcasting, Busy}
 pub use Rattle.ns_word.specs.Names.{CameBack, Canceled, Cause, Cell, CellPlace, Change, Cond, CondWait, Cv, CvWait, Cvs, Done, Ended, EntryFits, Event, Every, Exit, ExitFits, Expired, Flag, ForLock, ForWait, Found, Get, GetLoad, HaveSeats, Held, Home, Idle, InAcquire, InCells, InLeaving, InQueuing}
@@ -18,7 +18,7 @@ pub use Rattle.ns_word.specs.Names.{LoadToScan, LoadWord, Lock, Locked, Look, Lo
 pub use Rattle.ns_word.specs.Names.{Queue, QueuePlace, QueueSelf, QueueToWait, Quiet, QuietCells, QuietKeeps, QuietLast, QuietWriter, Read, Reader, Release, ReleaseExchange, ReleaseLoad, ReleasePlace, ReleaseReturning, Releasing, Reply, Request, ReturnQueues, ReturnShown, Saw, ScanAndRelease}
 pub use Rattle.ns_word.specs.Names.{ScanCells, Scanned, SeatView, Seats, Set, SetLoad, SetStore, Show, ShowLoad, ShowPlace, SignalLoad, SignalPlace, Signaling, Standing, StoreCell, Subject, Succeeded, Take, TakeQueues, TakeToLeave, TakeToQueue, TakeToScan, TakeToShow, TakeToWake, Taking, TestCells}
 pub use Rattle.ns_word.specs.Names.{TestLast, Tested, TimedOut, ToChange, ToQueue, ToRelease, ToTell, Truths, TryAcquire, TryLoad, TryLock, TryPlace, Variables, Visit, Wait, WaitFor, WaitPlace, WaitReturning, Waited, Waiter, Waiting, WaitsAmong, Wake, WakeAndReturn, WakeWaiters, Waking, Walk, Woke}
-pub use Rattle.ns_word.specs.Names.{Woken, WokenBy, Word, Write, Writer, beside, cvs_without, first_row, first_standing, has, has_condition, is_eligible, is_in, is_limited, is_long, is_met, is_of, is_satisfied, is_waiting, is_write, left_of, left_phase, named_for, one_if, outside, own, phase_after}
+pub use Rattle.ns_word.specs.Names.{Woken, WokenBy, Word, Write, Writer, beside, cvs_without, first_row, first_standing, has, has_condition, has_some, is_eligible, is_in, is_limited, is_long, is_met, is_of, is_satisfied, is_waiting, is_write, left_of, left_phase, named_for, one_if, outside, own, phase_after}
 pub use Rattle.ns_word.specs.Names.{phase_of, place_after, reads, row_after, seats_of, standing_after, standing_next, taken_set, tests_of, times, times_in, waiters_of, who_of, with_each, with_waiters, without, without_in, woken_of, woken_phase, woken_phases, writes}
 pub use Rattle.ns_word.specs.Owed.{Tells, called_by, called_of, is_from_lock, times_among, value_of, variable_told, wake_by, wakes_of}
 pub use Rattle.ns_word.specs.Places.{ActFits, AimFits, AreVariables, CanLeave, CanWait, CellFits, ComesBack, HasList, HasMode, IsForCondition, IsInRange, IsLeft, IsSettled, IsSettledBy, IsUnmet, MayWait, OwesOne, PlaceFits, QueueFits, ReleaseFits, Tests, WaitFits}

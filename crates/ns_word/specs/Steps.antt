@@ -3,12 +3,12 @@ use Rattle.std.specs.Prelude.{Bool, IsSome, List, None, Option, Some, [], false,
 use Rattle.ns_word.specs.Names.{Acquire, AcquirePlace, Act, AfterAny, AfterCv, Aim, Any, AnyWait, ArmFlag, AtVariables, Broadcast, Broadcasting, CameBack, Cause, Cell, Change, CondWait, Cv, CvWait, Ended, Entry, Event, Exit, Expired, Flag, ForLock, ForWait, Found, Held, Home, InAcquire, InLeaving}
 use Rattle.ns_word.specs.Names.{InQueuing, InRelease, InSignal, InWait, JudgeMet, JudgeQuiet, Leave, LeaveSelf, Left, Limits, Lists, LoadCell, LoadFlag, LoadWord, Locked, Look, Looked, Made, Met, Mode, Nothing, Notified, OnCondition, OnVariables, Only, Opening, Outcome, Owed, Paid, PayWake, Queue}
 use Rattle.ns_word.specs.Names.{QueueSelf, QueueToWait, Quiet, Release, ReleasePlace, ReleaseReturning, ReturnQueues, Saw, ScanAndRelease, Scanned, SeatView, Section, Signal, SignalPlace, Signaling, StoreCell, Subject, TakeQueues, Tested, Truths, Variables, Wait, WaitPlace, WaitReturning, Waited}
-use Rattle.ns_word.specs.Names.{Waiter, WakeAndReturn, WakeWaiters, Waking, Walk, Woke, Woken, Word, Write, cvs_without, left_of, place_after, signaled_of, taken_set, tests_of, unsignaled_of, waiters_of, with_each, with_waiters, without, woken_of}
+use Rattle.ns_word.specs.Names.{Waiter, WakeAndReturn, WakeWaiters, Waking, Walk, Woke, Woken, Word, Write, cvs_without, has_some, left_of, place_after, signaled_of, taken_set, tests_of, unsignaled_of, waiters_of, with_each, with_waiters, without, woken_of}
 use Rattle.ns_model.specs.declared.event.Entry.TheVariants.{Plain}
 use Rattle.ns_word.specs.Owed.{called_of, wakes_of}
 use Rattle.ns_word.specs.Words.{is_held, is_woken, may_acquire, mode_released, releasing_of, tries_of, word_acquired, word_released, word_released_returning, word_returned, word_taken}
 use Rattle.ns_word.specs.Waits.{answer_of, answer_of_wait, home_of, mode_for, variable_in}
-use Rattle.ns_word.specs.Lists.{bits_of, has_some, queued, stands_at}
+use Rattle.ns_word.specs.Lists.{bits_of, queued, stands_at}
 use Rattle.ns_word.specs.Walks.{got_of, want_of}
 use Rattle.ns_model.specs.declared.event.Exit.TheVariants as TheExit
 use Rattle.ns_model.specs.declared.event.Event.TheVariants as TheEvent

@@ -1,5 +1,5 @@
-//! The lock word as its number alone, as a table of words keeps it: what is decided by it and made of it, with no
-//! word taken apart.
+//! The lock word as its number alone, as a table of words keeps it: what is decided by it and made of it. No such
+//! function takes the word apart; [`LockWord::parts`] does, for what is shown and what a walk is told.
 //!
 //! What [`Word`] has a function for, the function of the same name does to the word that this is the number of. The
 //! others make the number of a word, read a part of it, or change one. The values of the bits stand in `codec.rt`.

@@ -1,5 +1,6 @@
-use Rattle.std.proofs.Common.{Bool, List, arith, refl, slice_index, slice_set, ℕ, ◌≡◌}
-use Rattle.ns_gate.proofs.Prelude.{Act, ArmFlag, IsOnWord, JudgeMet, JudgeQuiet, Limits, LoadCell, LoadFlag, LoadWord, Look, PayWake, StoreCell, before_in, beside_fits, row_in, the}
+use Rattle.std.proofs.Common.{Bool, List, None, Option, arith, refl, slice_index, slice_set, ℕ, ◌≡◌}
+use Rattle.ns_gate.proofs.Prelude.{Acquire, Act, ArmFlag, IsOnWord, JudgeMet, JudgeQuiet, Limits, LoadCell, LoadFlag, LoadWord, Look, Needs, PayWake, Release, ReleaseReturning, ReturnQueues, SeatOf, StoreCell, TakeQueues, Truths, WaitReturning, Walk, before_in, beside_fits, row_in, the}
+use Rattle.ns_gate.specs.Names.{Beside}
 use Rattle.ns_gate.proofs.gate.Gate.perform.Goals as goal
 
 -- what a test says of a row in which this cell was set, it says of the whole row
@@ -19,6 +20,16 @@ on_word PayWake word cell quiet met store arm pay flag look = absurd (pay refl)
 on_word LoadFlag word cell quiet met store arm pay flag look = absurd (flag refl)
 on_word (Look limits again) word cell quiet met store arm pay flag look = absurd (look limits again refl)
 on_word other word cell quiet met store arm pay flag look = tt
+
+-- an exchange begins no call
+begins_none : {C : Type 0} {N : ℕ} (truths : Truths C) (begins : Option (Walk C)) (act : Act C) (beside : Beside N) (me : SeatOf C N) → IsOnWord act → Needs truths begins act beside me → begins ≡ None
+begins_none truths begins (Acquire aim arrival last) beside me on needs = needs.0
+begins_none truths begins (TakeQueues taking last) beside me on needs = needs.0
+begins_none truths begins (Release releasing last) beside me on needs = needs.0
+begins_none truths begins (ReturnQueues change last) beside me on needs = needs.0
+begins_none truths begins (ReleaseReturning releasing last) beside me on needs = needs.0
+begins_none truths begins (WaitReturning wait again last) beside me on needs = needs.0
+begins_none truths begins act beside me on needs = absurd on
 
 pub load-requires : goal.load-requires
 load-requires g c = let is = c.in-LoadWord.is in
@@ -77,7 +88,8 @@ test-requires g c = omega (arith, g.met.C.Condition.has_cells)
 pub perform_exchange-requires : goal.perform_exchange-requires
 perform_exchange-requires g c =
     let on = on_word c.args.act c.in_default.not-LoadWord c.in_default.not-LoadCell c.in_default.not-JudgeQuiet c.in_default.not-JudgeMet c.in_default.not-StoreCell c.in_default.not-ArmFlag c.in_default.not-PayWake c.in_default.not-LoadFlag c.in_default.not-Look in
-    (omega arith, (omega arith, (omega arith, (beside_fits g.row.C g.row.N g.met.C.Condition.has_room, (c.requires.of, (on, (c.requires.can, c.requires.needs)))))))
+    let none = begins_none g.C.Condition.means c.args.begins c.args.act c.args.beside.now c.args.seat.now.me on c.requires.needs in
+    (omega arith, (omega arith, (omega arith, (beside_fits g.row.C g.row.N g.met.C.Condition.has_room, (c.requires.of, (on, (rw none at c.requires.can, rw none at c.requires.needs)))))))
 
 pub parts-requires : goal.parts-requires
 parts-requires g c = c.load.ensures.word
@@ -116,4 +128,7 @@ pub returns-in-PayWake : goal.returns-in-PayWake
 returns-in-PayWake g c = let needs = rw c.in-PayWake.is at c.requires.needs in record { seat = c.pay_wake.ensures.seat; did = rw c.in-PayWake.is (rw needs.0 (rw needs.3 c.pay_wake.ensures.did)) }
 
 pub returns-in_default : goal.returns-in_default
-returns-in_default g c = record { seat = c.perform_exchange.ensures.seat; did = c.perform_exchange.ensures.did }
+returns-in_default g c =
+    let on = on_word c.args.act c.in_default.not-LoadWord c.in_default.not-LoadCell c.in_default.not-JudgeQuiet c.in_default.not-JudgeMet c.in_default.not-StoreCell c.in_default.not-ArmFlag c.in_default.not-PayWake c.in_default.not-LoadFlag c.in_default.not-Look in
+    let none = begins_none g.C.Condition.means c.args.begins c.args.act c.args.beside.now c.args.seat.now.me on c.requires.needs in
+    record { seat = c.perform_exchange.ensures.seat; did = rw none c.perform_exchange.ensures.did }

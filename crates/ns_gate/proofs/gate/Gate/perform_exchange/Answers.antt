@@ -14,55 +14,55 @@ off_word (WaitReturning waits again last) kind acquire take release back leave w
 off_word other kind acquire take release back leave wait = kind
 
 pub exchange_to_acquire-tries-requires : goal.exchange_to_acquire-tries-requires
-exchange_to_acquire-tries-requires g c = let is = c.in-Acquire.is in let needs = rw is at c.requires.needs in let word = c.new-last.ensures in
-    (omega arith, (omega arith, (omega arith, (c.requires.of, (rw word needs.1, rw word (rw needs.0 at (rw is at c.requires.can)))))))
+exchange_to_acquire-tries-requires g c = let is = c.in-Acquire.is in let needs = rw is at c.requires.needs in let word = c.new.ensures in
+    (omega arith, (omega arith, (omega arith, (c.requires.of, (rw word needs.1, rw word (rw is at c.requires.can))))))
 
-pub exchange_to_take-requires : goal.exchange_to_take-requires
-exchange_to_take-requires g c = let is = c.in-TakeQueues.is in let needs = rw is at c.requires.needs in let word = c.new.ensures in
-    (omega arith, (omega arith, (omega arith, (c.requires.of, (rw word needs.1, rw word (rw needs.0 at (rw is at c.requires.can)))))))
+pub exchange_to_take-tries-requires : goal.exchange_to_take-tries-requires
+exchange_to_take-tries-requires g c = let is = c.in-TakeQueues.is in let needs = rw is at c.requires.needs in let word = c.new-in-TakeQueues.ensures in
+    (omega arith, (omega arith, (omega arith, (c.requires.of, (rw word needs.1, rw word (rw is at c.requires.can))))))
 
-pub exchange_to_release-requires : goal.exchange_to_release-requires
-exchange_to_release-requires g c = let is = c.in-Release.is in let needs = rw is at c.requires.needs in let word = c.new-in-Release.ensures in
-    (omega arith, (omega arith, (omega arith, (c.requires.of, (rw word needs.1, rw word (rw needs.0 at (rw is at c.requires.can)))))))
+pub exchange_to_release-tries-requires : goal.exchange_to_release-tries-requires
+exchange_to_release-tries-requires g c = let is = c.in-Release.is in let needs = rw is at c.requires.needs in let word = c.new-in-Release.ensures in
+    (omega arith, (omega arith, (omega arith, (c.requires.of, (rw word needs.1, rw word (rw is at c.requires.can))))))
 
 pub put_back-requires : goal.put_back-requires
 put_back-requires g c = let is = c.in-ReturnQueues.is in let needs = rw is at c.requires.needs in
-    (omega arith, (omega arith, (omega arith, (beside_fits g.row.C g.row.N g.met.C.Condition.has_room, (c.requires.of, (rw needs.0 at (rw is at c.requires.can), needs.1))))))
+    (omega arith, (omega arith, (omega arith, (beside_fits g.row.C g.row.N g.met.C.Condition.has_room, (c.requires.of, (rw is at c.requires.can, needs.1))))))
 
 pub put_back-requires-in-ReleaseReturning : goal.put_back-requires-in-ReleaseReturning
 put_back-requires-in-ReleaseReturning g c = let is = c.in-ReleaseReturning.is in let needs = rw is at c.requires.needs in
-    (omega arith, (omega arith, (omega arith, (beside_fits g.row.C g.row.N g.met.C.Condition.has_room, (c.requires.of, (rw needs.0 at (rw is at c.requires.can), needs.1))))))
+    (omega arith, (omega arith, (omega arith, (beside_fits g.row.C g.row.N g.met.C.Condition.has_room, (c.requires.of, (rw is at c.requires.can, needs.1))))))
 
 pub put_back-requires-in-WaitReturning : goal.put_back-requires-in-WaitReturning
 put_back-requires-in-WaitReturning g c = let is = c.in-WaitReturning.is in let needs = rw is at c.requires.needs in
-    (omega arith, (omega arith, (omega arith, (beside_fits g.row.C g.row.N g.met.C.Condition.has_room, (c.requires.of, (rw needs.0 at (rw is at c.requires.can), needs.1))))))
+    (omega arith, (omega arith, (omega arith, (beside_fits g.row.C g.row.N g.met.C.Condition.has_room, (c.requires.of, (rw is at c.requires.can, needs.1))))))
 
 pub found_by-requires : goal.found_by-requires
 found_by-requires g c = c.exchange_to_acquire-tries.ensures.word
 
 pub found_by-requires-in-TakeQueues : goal.found_by-requires-in-TakeQueues
-found_by-requires-in-TakeQueues g c = c.exchange_to_take.ensures.word
+found_by-requires-in-TakeQueues g c = c.exchange_to_take-tries.ensures.word
 
 pub found_by-requires-in-Release : goal.found_by-requires-in-Release
-found_by-requires-in-Release g c = c.exchange_to_release.ensures.word
+found_by-requires-in-Release g c = c.exchange_to_release-tries.ensures.word
 
 pub returns-in-Acquire : goal.returns-in-Acquire
-returns-in-Acquire g c = let needs = rw c.in-Acquire.is at c.requires.needs in record { seat = c.exchange_to_acquire-tries.ensures.seat; did = rw c.in-Acquire.is (rw needs.0 (rw c.found_by.ensures (rw c.new-last.ensures at c.exchange_to_acquire-tries.ensures.did))) }
+returns-in-Acquire g c = record { seat = c.exchange_to_acquire-tries.ensures.seat; did = rw c.in-Acquire.is (rw c.found_by.ensures (rw c.new.ensures at c.exchange_to_acquire-tries.ensures.did)) }
 
 pub returns-in-TakeQueues : goal.returns-in-TakeQueues
-returns-in-TakeQueues g c = let needs = rw c.in-TakeQueues.is at c.requires.needs in record { seat = c.exchange_to_take.ensures.seat; did = rw c.in-TakeQueues.is (rw needs.0 (rw c.found_by-in-TakeQueues.ensures (rw c.new.ensures at c.exchange_to_take.ensures.did))) }
+returns-in-TakeQueues g c = record { seat = c.exchange_to_take-tries.ensures.seat; did = rw c.in-TakeQueues.is (rw c.found_by-in-TakeQueues.ensures (rw c.new-in-TakeQueues.ensures at c.exchange_to_take-tries.ensures.did)) }
 
 pub returns-in-Release : goal.returns-in-Release
-returns-in-Release g c = let needs = rw c.in-Release.is at c.requires.needs in record { seat = c.exchange_to_release.ensures.seat; did = rw c.in-Release.is (rw needs.0 (rw c.found_by-in-Release.ensures (rw c.new-in-Release.ensures at c.exchange_to_release.ensures.did))) }
+returns-in-Release g c = record { seat = c.exchange_to_release-tries.ensures.seat; did = rw c.in-Release.is (rw c.found_by-in-Release.ensures (rw c.new-in-Release.ensures at c.exchange_to_release-tries.ensures.did)) }
 
 pub returns-in-ReturnQueues : goal.returns-in-ReturnQueues
-returns-in-ReturnQueues g c = let needs = rw c.in-ReturnQueues.is at c.requires.needs in record { seat = c.put_back.ensures.seat; did = rw c.in-ReturnQueues.is (rw needs.0 c.put_back.ensures.did) }
+returns-in-ReturnQueues g c = record { seat = c.put_back.ensures.seat; did = rw c.in-ReturnQueues.is c.put_back.ensures.did }
 
 pub returns-in-ReleaseReturning : goal.returns-in-ReleaseReturning
-returns-in-ReleaseReturning g c = let needs = rw c.in-ReleaseReturning.is at c.requires.needs in record { seat = c.put_back-in-ReleaseReturning.ensures.seat; did = rw c.in-ReleaseReturning.is (rw needs.0 c.put_back-in-ReleaseReturning.ensures.did) }
+returns-in-ReleaseReturning g c = record { seat = c.put_back-in-ReleaseReturning.ensures.seat; did = rw c.in-ReleaseReturning.is c.put_back-in-ReleaseReturning.ensures.did }
 
 pub returns-in-WaitReturning : goal.returns-in-WaitReturning
-returns-in-WaitReturning g c = let needs = rw c.in-WaitReturning.is at c.requires.needs in record { seat = c.put_back-in-WaitReturning.ensures.seat; did = rw c.in-WaitReturning.is (rw needs.0 c.put_back-in-WaitReturning.ensures.did) }
+returns-in-WaitReturning g c = record { seat = c.put_back-in-WaitReturning.ensures.seat; did = rw c.in-WaitReturning.is c.put_back-in-WaitReturning.ensures.did }
 
 pub unreachable-requires : goal.unreachable-requires
 unreachable-requires g c = off_word c.args.act c.requires.kind c.in_default.not-Acquire c.in_default.not-TakeQueues c.in_default.not-Release c.in_default.not-ReturnQueues c.in_default.not-ReleaseReturning c.in_default.not-WaitReturning

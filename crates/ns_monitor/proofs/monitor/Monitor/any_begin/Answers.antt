@@ -29,7 +29,7 @@ waits g c = record {
 }
 
 pub invariant_of-result : goal.invariant_of-result
-invariant_of-result g c = (waits g c, same_number g.C.Condition.means (Some (any_waiting g.row.N g.H.Section.mode c.args.cvs)) c.held.inside.number c.held.inside.seat.me c.queue_at_variables.new.seat.me c.held.invariant.1 (left g c), c.begun-hand.ensures)
+invariant_of-result g c = (waits g c, same_number g.C.Condition.means (Some (any_waiting g.row.N g.H.Section.mode c.args.cvs)) c.held.inside.number c.held.inside.seat.me c.queue_at_variables.new.seat.me c.held.invariant.1 (left g c))
 
 pub returns : goal.returns
 returns g c = let s0 = c.held.inside.seat in let now = c.queue_at_variables.new.seat in

@@ -1,8 +1,8 @@
-use Rattle.std.proofs.Common.{None, Some, ap, false, refl, subst, sym, ◌∙◌}
+use Rattle.std.proofs.Common.{None, Some, ap, arith, false, refl, subst, sym, ◌∙◌}
 use Rattle.ns_monitor.proofs.Prelude.{in_room, AcquireLoad, Await, AwaitWakeInWait, CanStep, Flag, ForWait, HasAcquired, HasAnswered, HasSince, InAcquire, InWait, IsAtPlace, IsWaitingForAny, Limits, LoadFlag, Look}
 use Rattle.ns_monitor.proofs.Prelude.{LookOut, Looked, Performed, TableId, Wait, WaitKnown, Woken, WokenBy, at_will, can_go, goes}
 use Rattle.ns_monitor.proofs.Prelude.{got_of, since, since_then, the, waits_for_any}
-use Rattle.ns_monitor.proofs.SeveralWaits.{has_come_back, still_waits, tells_still}
+use Rattle.ns_monitor.proofs.SeveralWaits.{any_back_fresh, has_come_back, still_waits, tells_still}
 use Rattle.ns_monitor.proofs.Standing.{same_number}
 use Rattle.ns_monitor.proofs.Waits.{looks_out, woken_next}
 use Rattle.ns_monitor.proofs.monitor.Monitor.any_poll.Given.{Over}
@@ -63,6 +63,10 @@ over g c = let mid = c.load_flag-flag.new.seat.me in since_then None _ _ _ (sinc
 answered : (g : Over) (c : After-acquire g) → HasAnswered g.C.Condition.means (Await (waits_for_any g.H.Section.mode c.waiting.inside.cvs)) (WokenBy (Some c.variable_told-k.result)) c.acquire.new.seat.me
 answered g c = subst (λ (v : Wait g.row.C.Denot). HasAcquired g.C.Condition.means (ForWait v (Woken (Some c.variable_told-k.result))) c.acquire.new.seat.me) (c.for_any-wait.ensures ∙ ap (λ m. waits_for_any m c.waiting.inside.cvs) c.mode-mode.ensures) c.acquire.ensures.acquired
 
+pub holding-requires : goal.holding-requires
+holding-requires g c = let t = g.C.Condition.means in let now = c.acquire.new.seat.me in let after = (goal.at.holding-requires g c).After-acquire in let a = answered g after in
+    (omega arith, (omega arith, (omega arith, ((a.rest, same_number t None c.waiting.inside.number c.waiting.inside.seat.me now c.waiting.invariant.1 (over g after)), any_back_fresh t g.H.Section.mode c.waiting.inside.cvs (Some c.variable_told-k.result) now a))))
+
 pub returns-clause-woken : goal.returns-clause-woken
 returns-clause-woken g c = let s0 = c.waiting.inside.seat in let now = c.acquire.new.seat in
-    has_come_back g.C.Condition.means g.H.Section.mode c.waiting.inside.cvs (Some c.variable_told-k.result) c.args.waiting s0.table_id now.table_id s0.me now.me c.waiting.view_is (◌∙◌ {A = TableId} c.acquire.ensures.seat (sym c.requires.of)) c.waiting.invariant.0 (over g c) (answered g c)
+    rw c.holding.ensures (has_come_back g.C.Condition.means g.H.Section.mode c.waiting.inside.cvs (Some c.variable_told-k.result) c.args.waiting s0.table_id now.table_id s0.me now.me c.waiting.view_is (◌∙◌ {A = TableId} c.acquire.ensures.seat (sym c.requires.of)) c.waiting.invariant.0 (over g (goal.at.returns-clause-woken g c).After-acquire) (answered g (goal.at.returns-clause-woken g c).After-acquire))

@@ -1,5 +1,5 @@
-use Rattle.std.proofs.Common.{Some, ap, refl, subst, sym, ◌∙◌}
-use Rattle.ns_monitor.proofs.Prelude.{in_room, HasReached, HasSince, LoadWord, MayGoAlone, Part, Saw, TableId, asked_of, does, got_of, since_then, the}
+use Rattle.std.proofs.Common.{Some, ap, refl, sym, ◌∙◌}
+use Rattle.ns_monitor.proofs.Prelude.{in_room, HasReached, HasSince, LoadWord, Part, Saw, TableId, asked_of, does, got_of, since_then, the}
 use Rattle.ns_monitor.proofs.Standing.{loads_first, same_held}
 use Rattle.ns_monitor.proofs.monitor.Monitor.begin_to_take.Given.{Over}
 use Rattle.ns_monitor.proofs.monitor.Monitor.begin_to_take.Goals.{After-load-first}
@@ -9,17 +9,14 @@ use Rattle.ns_monitor.proofs.monitor.Monitor.begin_to_take.Goals as goal
 first : (g : Over) (c : After-load-first g) → HasReached g.C.Condition.means (asked_of c.args.walk) (got_of g.row.N c.args.walk (Saw c.load-first.result)) c.load-first.new.seat.me × HasSince (Some c.args.walk) (the c.args.seat.now.me.0) (the c.load-first.new.seat.me.0)
 first g c = loads_first g.C.Condition.means c.args.walk c.args.walk c.load-first.result c.args.seat.now.me c.load-first.new.seat.me refl c.requires.rest c.load-first.ensures.did
 
-pub go_or_take-requires : goal.go_or_take-requires
-go_or_take-requires g c = in_room (◌∙◌ {A = TableId} c.load-first.ensures.seat c.requires.of, (c.requires.decides, (sym c.requires.going, (c.load-first.ensures.word, (first g (goal.at.go_or_take-requires g c).After-load-first).0))))
-
-pub unreachable-requires : goal.unreachable-requires
-unreachable-requires g c = subst MayGoAlone c.requires.going c.in-None.ensures.came.0
+pub take_from-requires : goal.take_from-requires
+take_from-requires g c = in_room (◌∙◌ {A = TableId} c.load-first.ensures.seat c.requires.of, (c.requires.decides, (c.requires.going, (c.load-first.ensures.word, (first g (goal.at.take_from-requires g c).After-load-first).0))))
 
 pub returns-clause-since : goal.returns-clause-since
-returns-clause-since g c = since_then (Some c.args.walk) _ _ _ (first g (goal.at.returns-clause-since g c).After-load-first).1 c.in-Some.ensures.since
+returns-clause-since g c = since_then (Some c.args.walk) _ _ _ (first g (goal.at.returns-clause-since g c).After-load-first).1 c.take_from.ensures.since
 
 pub returns-clause-taken : goal.returns-clause-taken
-returns-clause-taken g c = let took = c.in-Some.ensures.came in let t = g.C.Condition.means in let me = c.args.seat.now.me in let now = c.load-first.new.seat.me in let did = c.load-first.ensures.did in record {
+returns-clause-taken g c = let took = c.take_from.ensures.taken in let t = g.C.Condition.means in let me = c.args.seat.now.me in let now = c.load-first.new.seat.me in let did = c.load-first.ensures.did in record {
   at = took.at;
   taken = took.taken;
   packs = took.packs;

@@ -1,24 +1,21 @@
-use Rattle.std.proofs.Common.{None, subst, sym, ◌∙◌}
-use Rattle.ns_monitor.proofs.Prelude.{in_room, LoadWord, MayGoAlone, Saw, TableId, since, since_then}
+use Rattle.std.proofs.Common.{None, sym, ◌∙◌}
+use Rattle.ns_monitor.proofs.Prelude.{in_room, LoadWord, Saw, TableId, since, since_then}
 use Rattle.ns_monitor.proofs.Standing.{can_load, loads, saw_held}
 use Rattle.ns_monitor.proofs.monitor.Monitor.take.Goals as goal
 
 pub load-first-requires : goal.load-first-requires
 load-first-requires g c = in_room (◌∙◌ {A = TableId} c.requires.of (sym c.self.view_is), can_load g.C.Condition.means c.args._walk c.args.seat.now.me c.requires.decides c.requires.at)
 
-pub go_or_take-requires : goal.go_or_take-requires
-go_or_take-requires g c =
+pub take_from-requires : goal.take_from-requires
+take_from-requires g c =
     let loaded = loads g.C.Condition.means c.args._walk c.load-first.result c.args.seat.now.me c.load-first.new.seat.me c.requires.decides c.requires.at c.load-first.ensures.did in
-    in_room (◌∙◌ {A = TableId} c.load-first.ensures.seat c.requires.of, (c.requires.decides, (sym c.requires.going, (c.load-first.ensures.word, loaded))))
-
-pub unreachable-requires : goal.unreachable-requires
-unreachable-requires g c = subst MayGoAlone c.requires.going c.in-None.ensures.came.0
+    in_room (◌∙◌ {A = TableId} c.load-first.ensures.seat c.requires.of, (c.requires.decides, (c.requires.going, (c.load-first.ensures.word, loaded))))
 
 pub returns-clause-since : goal.returns-clause-since
-returns-clause-since g c = since_then None _ _ _ (since g.C.Condition.means None LoadWord (Saw c.load-first.result) c.args.seat.now.me c.load-first.new.seat.me c.load-first.ensures.did) c.in-Some.ensures.since
+returns-clause-since g c = since_then None _ _ _ (since g.C.Condition.means None LoadWord (Saw c.load-first.result) c.args.seat.now.me c.load-first.new.seat.me c.load-first.ensures.did) c.take_from.ensures.since
 
 pub returns-clause-taken : goal.returns-clause-taken
-returns-clause-taken g c = let took = c.in-Some.ensures.came in record {
+returns-clause-taken g c = let took = c.take_from.ensures.taken in record {
   at = took.at;
   taken = took.taken;
   packs = took.packs;

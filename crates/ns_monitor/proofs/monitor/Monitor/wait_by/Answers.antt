@@ -1,7 +1,7 @@
 use Rattle.std.proofs.Common.{IfSome, Some, ap, arith, false, inl, inr, refl, rules, subst, sym, true, ◌∙◌, ◌≡◌}
 use Rattle.ns_monitor.proofs.Prelude.{in_room, Answer, Answered, Await, Cause, Grows, HasAnswered, HasMode, HasSince, HasWaitedFor, IsAtRest, IsFreshIn, Known, Met, OnEntry, QueuesOrEnds, SeatOf, TableId, answer_of, is_limited, known_of, row_in, since_then, the, wait_first, waits_by}
 use Rattle.ns_monitor.proofs.Callers.{grew}
-use Rattle.ns_monitor.proofs.Returns.{ended_as, ended_since, fits_fresh, tested_so, wait_tells}
+use Rattle.ns_monitor.proofs.Returns.{ended_as, ended_since, tested_so, wait_tells}
 use Rattle.ns_monitor.proofs.Standing.{same_number}
 use Rattle.ns_monitor.proofs.monitor.Monitor.wait_by.Given.{Over}
 use Rattle.ns_monitor.proofs.monitor.Monitor.wait_by.Goals.{After-wait, After-test, After-look_before, After-wait_on-answer}
@@ -91,17 +91,28 @@ over g c = since_then (Some (wait_first g.row.N (waits_by c.mode-mode.result c.a
     (since_then (Some (wait_first g.row.N (waits_by c.mode-mode.result c.args.condition c.args.limits))) _ _ _
     (subst (λ w. HasSince (Some w) (the c.held.inside.seat.me.0) (the c.test.new.seat.me.0)) c.wait.ensures.first c.test.ensures.since) c.look_before.ensures.since) c.wait_on-answer.ensures.since
 
-pub invariant_of-back-2 : goal.invariant_of-back-2
-invariant_of-back-2 g c = let now = c.wait_on-answer.new.seat.me in (
-  c.wait_on-answer.ensures.answered.rest,
-  same_number g.C.Condition.means (Some (wait_first g.row.N (waits_by c.mode-mode.result c.args.condition c.args.limits))) c.held.inside.number c.held.inside.seat.me now c.held.invariant.1 (over g (goal.at.invariant_of-back-2 g c).After-wait_on-answer),
-  fits_fresh g.row.N g.H.Section.mode (the now.0).at.held (λ o. g.H.Hand.fits c.begun-hand.result o) c.begun-hand.ensures (subst (λ m. IsFreshIn g.row.N m (the now.0).at.held) c.mode-mode.ensures c.wait_on-answer.ensures.fresh),
+pub holding-requires : goal.holding-requires
+holding-requires g c = let now = c.wait_on-answer.new.seat.me in (
+  omega arith,
+  (
+    omega arith,
+    (
+      omega arith,
+      (
+        (
+          c.wait_on-answer.ensures.answered.rest,
+          same_number g.C.Condition.means (Some (wait_first g.row.N (waits_by c.mode-mode.result c.args.condition c.args.limits))) c.held.inside.number c.held.inside.seat.me now c.held.invariant.1 (over g (goal.at.holding-requires g c).After-wait_on-answer),
+        ),
+        subst (λ m. IsFreshIn g.row.N m (the now.0).at.held) c.mode-mode.ensures c.wait_on-answer.ensures.fresh,
+      ),
+    ),
+  ),
 )
 
 pub returns : goal.returns
 returns g c = record {
-  grows = grown g (goal.at.returns g c).After-test c.wait_on-answer.new.seat.table_id c.wait_on-answer.new.seat.me c.wait_on-answer.ensures.seat c.wait_on-answer.ensures.answered.rest (over g (goal.at.returns g c).After-wait_on-answer);
-  waited = waited g (goal.at.returns g c).After-test c.wait_on-answer.result c.wait_on-answer.new.seat.table_id c.wait_on-answer.new.seat.me (over g (goal.at.returns g c).After-wait_on-answer) c.wait_on-answer.ensures.answered;
+  grows = rw c.holding.ensures (grown g (goal.at.returns g c).After-test c.wait_on-answer.new.seat.table_id c.wait_on-answer.new.seat.me c.wait_on-answer.ensures.seat c.wait_on-answer.ensures.answered.rest (over g (goal.at.returns g c).After-wait_on-answer));
+  waited = rw c.holding.ensures (waited g (goal.at.returns g c).After-test c.wait_on-answer.result c.wait_on-answer.new.seat.table_id c.wait_on-answer.new.seat.me (over g (goal.at.returns g c).After-wait_on-answer) c.wait_on-answer.ensures.answered);
   looked = g.W.Watch.then c.args.watch.now c.look_before.new.watch c.wait_on-answer.new.watch c.look_before.ensures.looked c.wait_on-answer.ensures.looked;
   ended = ended_since (λ cause. (is_limited c.args.limits ≡ true) × g.W.Watch.shows c.look_before.new.watch c.wait_on-answer.new.watch c.args.limits (Some cause)) (λ cause. g.W.Watch.shows c.args.watch.now c.wait_on-answer.new.watch c.args.limits (Some cause)) c.wait_on-answer.result
       (λ cause shown. g.W.Watch.later c.args.watch.now c.look_before.new.watch c.wait_on-answer.new.watch c.args.limits (Some cause) c.look_before.ensures.looked shown.1) c.wait_on-answer.ensures.ended;

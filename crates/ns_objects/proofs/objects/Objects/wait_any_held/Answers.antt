@@ -9,13 +9,13 @@ variables_in-requires g c = all_low c.args.items.now (c.args.seat.now, c.args.wa
 
 pub any_begin-waiting-requires : goal.any_begin-waiting-requires
 any_begin-waiting-requires g c = let some = some_wait c.variables_in.result (map item_of c.args.items.now) c.requires.variable.0 c.variables_in.ensures.byte c.variables_in.ensures.among (all_low c.args.items.now (c.args.seat.now, c.args.watch.now) c.requires.named) c.requires.variable.1 in
-    (omega arith, (hand_fits (layout g.row.H) (g.met.H.Compact.has_room g.met.C.Condition.has_room.1), (hand_fits (layout g.row.H) (g.met.H.Compact.has_room g.met.C.Condition.has_room.1), (c.requires.monitor, some))))
+    (omega arith, (hand_fits (layout g.row.H) (g.met.H.Compact.has_room g.met.C.Condition.has_room.1), (omega arith, (c.requires.monitor, some))))
 
 pub await_any-requires : goal.await_any-requires
 await_any-requires g c = let look = c.look_at_any.ensures in let begun = c.any_begin-waiting.ensures in let room = g.met.H.Compact.has_room g.met.C.Condition.has_room.1 in (
   omega arith,
   (
-    hand_fits (layout g.row.H) room,
+    omega arith,
     (
       hand_fits (layout g.row.H) room,
       (

@@ -1,19 +1,19 @@
-//! What is refused.
+//! Why no table is made.
 
 use std::alloc::AllocError;
 
-/// Why no gate is made.
-#[derive(Clone, Copy, Debug, PartialEq, Eq)]
+/// Why no table, and so no gate, no environment and no objects, was made.
+#[derive(Clone, Copy, Debug, Drop, PartialEq, Eq)]
 pub enum Fault {
     /// More than 64 seats were asked for.
     TooManySeats,
-    /// Memory was refused.
+    /// An allocation was refused.
     OutOfMemory,
 }
 
 impl From<AllocError> for Fault {
     ghost use Rattle.std.specs.Prelude.{◌≡◌};
-    ghost use Rattle.ns_gate.specs.declared.fault.Fault.TheVariants.{OutOfMemory};
+    ghost use Rattle.ns_seats.specs.declared.fault.Fault.TheVariants.{OutOfMemory};
 
     ghost from_gives = { λ _ e. e ≡ OutOfMemory };
 
