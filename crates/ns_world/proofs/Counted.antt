@@ -1,6 +1,6 @@
 -- No seat is past its last call.
 use Rattle.std.proofs.Common.{All, Bool, Global, IfSome, List, None, Option, Some, Vec, [], ap, arith, cond, false, inl, inr, length, map, refl, replicate, slice_get, slice_index, slice_set, subst, suc, sym, true, zero, ℕ, ◌++◌, ◌+◌, ◌<◌, ◌∙◌, ◌∷◌, ◌≡◌, ◌≢◌, ◌≤◌}
-use Rattle.ns_world.proofs.Prelude.{All-head, All-nil, All-tail, AnyWait, Call, CallInRange, Counts, Doing, EnvEnd, EnvWalk, Finished, GoesOnOrBegins, IsCounted, Line, ListFits, LookOver, Next, ObjectLeads, ObjectReply, ObjectWalk, On, OnNotes, OnObjects, Progress, Reply, Round, RoundLeads, Seat}
+use Rattle.ns_world.proofs.Prelude.{All-head, All-nil, All-tail, AnyWait, Call, CallInRange, Counts, Doing, EnvEnd, EnvSays, EnvWalk, Finished, GoesOnOrBegins, IsCounted, Line, ListFits, LookOver, Next, ObjectLeads, ObjectReply, ObjectWalk, On, OnNotes, OnObjects, Over, Progress, Reply, Round, RoundLeads, Seat}
 use Rattle.ns_world.proofs.Prelude.{SeatLooks, SeatMakes, Sees, Step, TurnOf, Walk, Whole, WholeMoves, calls_of, cases_eq, doing_at, env_got_of, few, get_or-set_other, get_or-set_same, got_of, in_call, is_call, length-set, most, option_map_or, place_after, step_after}
 use Rattle.ns_world.proofs.Prelude.{progress, progressed, set_there, slice_get_within, tests_at, tests_told, there, waits_then, whole_busy}
 use Rattle.ns_env.specs.declared.next.Next.TheVariants.{Done}
@@ -33,6 +33,11 @@ bit_most false = omega arith
 idle_over : {C W R : Type 0} (at : W → Doing C) (ends : R → Step) (next : Next W R) (reply : Reply) → Finished reply ≡ step_after ends next → is_call (there at (place_after next)) ≡ false
 idle_over at ends (Done answer) reply e = refl
 idle_over at ends next reply e = absurd (cc)
+
+asks_over : (C : Type 0) (next : Next EnvWalk EnvEnd) (reply : Reply) → EnvSays next (Finished reply) → is_call {C = C} (there OnNotes (place_after next)) ≡ false
+asks_over C (Done (Over answer)) reply says = refl
+asks_over C (Done (LookOver cause)) reply says = absurd says
+asks_over C next reply says = absurd (cc)
 
 module _ {C : Type 0} {N : ℕ} where
   -- a seat and its count change, and no other's
@@ -72,7 +77,7 @@ module _ {C : Type 0} {N : ℕ} where
     by : (n : Next ObjectWalk ObjectReply) → RoundLeads n here p.walk p.wait next (Finished reply) → in_call next ≡ false
     by (On round) g = let e = g.1 in absurd (cc)
     by n g = sees_over here next p.walk _ _ reply g
-  makes_over old new here next reply (inr (inr (inr (inl p)))) = ap in_call p.asks.goes ∙ idle_over OnNotes _ (env_got_of p.walk p.asks.found) reply p.asks.answers
+  makes_over old new here next reply (inr (inr (inr (inl p)))) = ap in_call p.asks.goes ∙ asks_over C (env_got_of p.walk p.asks.found) reply p.asks.answers
   makes_over old new here next reply (inr (inr (inr (inr p)))) = by (waits_then p.walk p.leads) p.goes where
     by : (round : Option Round) → ObjectLeads round p.leads here next (Finished reply) → in_call next ≡ false
     by (Some round) g = let e = g.answers in absurd (cc)

@@ -1,13 +1,8 @@
 -- What the exchanges that were made do, over plain data.
-use Rattle.std.proofs.Common.{Bool, IfSome, List, MatchResult, None, Option, Some, [], ap, append-nil, arith, false, if◌then◌else◌, is_some, length, ne_eqb, not, refl, sym, true, ℕ, ◌&&◌, ◌++◌, ◌==◌, ◌∙◌, ◌∷◌, ◌≡◌}
+use Rattle.std.proofs.Common.{Bool, IfSome, List, MatchResult, None, Option, Some, [], ap, append-nil, false, if◌then◌else◌, is_some, not, refl, sym, true, ℕ, ◌&&◌, ◌++◌, ◌∙◌, ◌∷◌, ◌≡◌}
 use Rattle.ns_world.proofs.Prelude.{Act, Any, Arrival, AtLock, AtVariables, Bits, Broadcasting, CanLeave, CanWait, Change, ChangeFits, Cv, Effect, Err, Event, Found, Held, Home, IsInRange, IsUnmet, LeaveSelf, Left, Lists, Lock, Made, Makes, Mode, Nothing, Ok, OnCondition, OnVariables, Only, Owed}
 use Rattle.ns_world.proofs.Prelude.{Part, Plain, QueueSelf, Release, ReleaseReturning, Releasing, Result, ReturnQueues, Scanned, Signaling, Subject, Truths, Wait, WaitReturning, Waiter, WakeWaiters, Waking, Woke, Word, bits_of, called_of, change_commits, changed, cvs_without, exit_for, has_some}
 use Rattle.ns_world.proofs.Prelude.{is_held, leave_of, left_of, meets_at, moved_to, part, releasing_of, section_of, some_seats, stands_at, taken_by, taken_set, tests_of, waited_in, waiters_of, wakes_of, with_waiters, woken_of, word_released, word_released_returning, word_returned}
-
--- a list that isn't empty has somebody
-pub some_left : {A : Type 0} (xs : List A) → not (length xs == 0) ≡ has_some xs
-some_left [] = refl
-some_left (x ∷ xs) = rw (ne_eqb (length (x ∷ xs)) 0 (λ e. absurd (omega (arith, e)))) refl
 
 -- a section that may be left is in hand
 pub can_some : {C : Type 0} {N : ℕ} (truths : Truths C) (releasing : Releasing) (held : Option (Held C N)) → CanLeave truths releasing held → is_some held ≡ true

@@ -1,6 +1,6 @@
 -- A new world: its seats, one after another, and its law.
 use Rattle.std.proofs.Common.{List, None, Option, Some, [], ap, append_assoc, arith, false, get_or, length, map, refl, replicate, slice_get, slice_index, sub-one, suc, sym, zero, ℕ, ◌++◌, ◌+◌, ◌-◌, ◌<◌, ◌∙◌, ◌∷◌, ◌≡◌, ◌≤◌}
-use Rattle.ns_world.proofs.Prelude.{AreNumbered, IsLawfulWhole, NoteStanding, ObjectWalk, Seat, Truths, asking_of, flag_at, fresh_lawful, fresh_seat, fresh_seats, fresh_views, fresh_whole, in_call, lawful_fresh, most, new_lawful, no_note, note_at, operating_of, option_map_or, same_Some, standing_of}
+use Rattle.ns_world.proofs.Prelude.{AreNumbered, HasLedTo, IsLawfulWhole, NoteStanding, ObjectWalk, Seat, Truths, asking_of, flag_at, fresh_lawful, fresh_seat, fresh_seats, fresh_views, fresh_whole, in_call, lawful_fresh, most, new_lawful, no_note, note_at, nothing_done, operating_of, option_map_or, same_Some, standing_of}
 use Rattle.ns_world.proofs.Prelude.{state_of, view_of, walk_in}
 use Rattle.ns_world.proofs.Exchanged.{made}
 
@@ -52,6 +52,15 @@ none_stand zero i walk at = absurd (cc)
 none_stand (suc n) zero walk at = absurd (cc)
 none_stand (suc n) (suc i) walk at = none_stand n i walk at
 
+-- nothing has led to it
+pub new_led : (C : Type 0) (N : ℕ) (truths : Truths C) (seats : ℕ) (counters : List ℕ) (onces : ℕ) → seats ≤ 64 → length counters ≤ 16 → onces ≤ 16 → ((k : ℕ) → slice_index counters k ≤ most) → HasLedTo nothing_done (fresh_whole {C = C} {N = N} truths seats counters onces)
+new_led C N truths seats counters onces few short cells values = (
+  rw (places_are {C = C} {N = N} (λ s. asking_of s.doing) (λ number. refl) 0 seats) (fresh_lawful seats),
+  record { lawful = new_lawful seats counters onces few short cells values; within = λ i walk at. absurd (none i walk at); each = λ i walk at. absurd (none i walk at) },
+) where
+  none : (i : ℕ) (walk : ObjectWalk) → walk_in (map (λ s. operating_of s.doing) (fresh_seats {C = C} {N = N} 0 seats)) i ≡ Some walk → ⊥
+  none i walk at = none_stand seats i walk (ap (λ ws. walk_in ws i) (sym (places_are {C = C} {N = N} (λ s. operating_of s.doing) (λ number. refl) 0 seats)) ∙ at)
+
 pub whole_new : (C : Type 0) (N : ℕ) (truths : Truths C) (seats : ℕ) (counters : List ℕ) (onces : ℕ) → seats ≤ 64 → length counters ≤ 16 → onces ≤ 16 → ((k : ℕ) → slice_index counters k ≤ most) → IsLawfulWhole (fresh_whole {C = C} {N = N} truths seats counters onces)
 whole_new C N truths seats counters onces few short cells values = record {
   few = rw (length_seats C N 0 seats) few;
@@ -59,14 +68,9 @@ whole_new C N truths seats counters onces few short cells values = record {
   counted = sym (length_seats C N 0 seats);
   lawful = rw (length_seats C N 0 seats, views_are {C = C} {N = N} 0 seats) (lawful_fresh C N truths seats few);
   stands = λ i seat at. rw (each_fresh 0 seats i seat at) tt;
-  past = record { notes = []; objects = [] };
-  led = (
-    rw (places_are {C = C} {N = N} (λ s. asking_of s.doing) (λ number. refl) 0 seats) (fresh_lawful seats),
-    record { lawful = new_lawful seats counters onces few short cells values; within = λ i walk at. absurd (none i walk at); each = λ i walk at. absurd (none i walk at) },
-  );
-} where
-  none : (i : ℕ) (walk : ObjectWalk) → walk_in (map (λ s. operating_of s.doing) (fresh_seats {C = C} {N = N} 0 seats)) i ≡ Some walk → ⊥
-  none i walk at = none_stand seats i walk (ap (λ ws. walk_in ws i) (sym (places_are {C = C} {N = N} (λ s. operating_of s.doing) (λ number. refl) 0 seats)) ∙ at)
+  past = nothing_done;
+  led = new_led C N truths seats counters onces few short cells values;
+}
 
 -- none of its seats is in a call
 pub none_busy : (C : Type 0) (N first n seat : ℕ) → option_map_or in_call (slice_get (fresh_seats {C = C} {N = N} first n) seat) false ≡ false

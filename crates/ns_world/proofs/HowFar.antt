@@ -3,7 +3,6 @@ use Rattle.std.proofs.Common.{List, None, Option, Some, [], ap, append-nil, slic
 use Rattle.ns_world.proofs.Prelude.{AnswersOfLock, AnswersTo, AnyAnswers, AnyWait, AreAmong, Asked, BeginsWith, Cause, Course, Cvs, Doing, EnvCourse, EnvEvent, EnvRequest, EnvSoFar, EnvWalk, Event, Finished, FirstClock, HasLedTo, HaveShownNothing, Held, InRound, IsLater, IsReady, IsUnfinished}
 use Rattle.ns_world.proofs.Prelude.{LooksByLimits, LooksByRound, Next, ObjectEvent, ObjectSoFar, ObjectWalk, OfLock, OfNotes, OfObjects, OnLock, OnNotes, OnObjects, Past, Reply, Request, Round, RoundShows, RoundSoFar, Seat, SoFar, Step, Walk, WalkReply, WasShown, WereThere, Whole, any_on}
 use Rattle.ns_world.proofs.Prelude.{asked_of, cause_of, env_asked_of, env_own, held_at, is_among, items_of, later_and, later_through, limits_of, mode_of, mode_waited, nothing_on, object_asked, objects_own, others_leave_course, own, past_and, reply_of_lock as told, round_on, so_far_on, waits_for_any}
-use Rattle.ns_world.proofs.Places.{IsNoLook}
 use Rattle.ns_world.proofs.Shown.{LookSoFar, look_on, shown_on}
 use Rattle.ns_env.specs.Prelude.{NextIs}
 use Rattle.ns_word.specs.declared.request.Request.TheVariants as TheRequest
@@ -49,7 +48,6 @@ module _ {C : Type 0} {N : ℕ} (before : Whole C N) (earlier : Past) (seat : �
     pub so_far : EnvSoFar events seat course walk
     pub same : held ≡ held_at before seat
     pub silent : own history seat ≡ own before.history seat
-    pub no_look : IsNoLook request
 
   -- one on counters and once cells has come so far; its seat does nothing else
   pub record ObjectsUnderway (asked : ObjectWalk) (past : Past) (history : List (Event C N)) (held : Option (Held C N)) (walk : ObjectWalk) : Type 0 where
@@ -190,7 +188,6 @@ module _ {C : Type 0} {N : ℕ} (before : Whole C N) (earlier : Past) (seat : �
       so_far = others_leave_course past.notes more.notes seat u.0.course walk u.0.so_far;
       same = u.0.same;
       silent = r.row ∙ u.0.silent;
-      no_look = u.0.no_look;
     },
     r.objects ∙ u.1,
   )

@@ -1,6 +1,6 @@
 -- Each kind of step, and a call that begins, keep the law: the machines' laws, and that the seat stands as it may.
 use Rattle.std.proofs.Common.{None, Option, Some, ap, append-nil, false, inl, inr, length, map, refl, slice_get, slice_set, subst, sym, true, unwrap_or, ℕ, ◌<◌, ◌∙◌, ◌≡◌}
-use Rattle.ns_world.proofs.Prelude.{AnyWait, AreEnvBy, AreObjectsBy, AtRest, Call, CallInRange, Doing, DoingFits, EnvPlain, EnvWalk, Found, HasLedTo, HaveLedTo, InRound, IsFirst, IsLawful, IsLawfulWhole, LedTo, Looked, LooksByLimits, LooksByRound, NeedsSection, Next, ObjectLeads, ObjectReply}
+use Rattle.ns_world.proofs.Prelude.{AnyWait, AreEnvBy, AreObjectsBy, AtRest, Call, CallInRange, Doing, DoingFits, EnvEnd, EnvPlain, EnvWalk, Found, GoesInCall, HasLedTo, HaveLedTo, InRound, IsFirst, IsLawful, IsLawfulWhole, LedTo, Looked, LooksByLimits, LooksByRound, NeedsSection, Next, ObjectLeads, ObjectReply}
 use Rattle.ns_world.proofs.Prelude.{ObjectWalk, On, OnLock, OnNotes, OnObjects, Past, PlaceFits, QuietKeeps, Round, Seat, SeatMakes, StaysAsked, Step, Truths, WaitsFor, Walk, Whole, WholeMoves, WholeStarts, WholeStep, asked_of, begin_at, begins, cause_of, done_in, env_got_of, keeps, lock_of}
 use Rattle.ns_world.proofs.Prelude.{mode_of, mode_waited, notes_by, nothing_done, object_asked, objects_after, objects_by, operating_of, past_and, place_after, placed, shown_by, start_of, stays_asked, there, view_of, waits_then, walk_of}
 use Rattle.ns_world.proofs.Led.{begun_led, first_if_at, fits_here, led_makes, makes_led}
@@ -8,7 +8,7 @@ use Rattle.ns_world.proofs.Looking.{Acts, LockStays, lock_stays, look_goes, make
 use Rattle.ns_world.proofs.Mapped.{got-map}
 use Rattle.ns_world.proofs.Places.{StartFits, begins_among, first_at, first_fits, section_fits, start_alone, start_fits}
 use Rattle.ns_world.proofs.SeatSet.{lawful_set, reads, settled_here, stands_more, stays, view_at}
-use Rattle.ns_world.proofs.Placing.{act_steps, at_rest, placed_after}
+use Rattle.ns_world.proofs.Placing.{act_steps, at_rest, goes_in_call, placed_after}
 use Rattle.ns_env.specs.declared.next.Next.TheVariants as TheNext
 
 module _ {C : Type 0} {N : ℕ} (old new : Whole C N) (lawful : IsLawfulWhole old) (i : ℕ) (here next : Seat C N) (at : slice_get old.seats i ≡ Some here) (seats : new.seats ≡ slice_set old.seats i next) where
@@ -52,9 +52,10 @@ module _ {C : Type 0} {N : ℕ} (old new : Whole C N) (lawful : IsLawfulWhole ol
   may_next walk may (TheNext.Idle w) same = subst (λ asked. NeedsSection asked here.held) (sym same) may
   may_next walk may (TheNext.Done reply) same = tt
 
-  notes_next : (asking : Option EnvWalk) → DoingFits old.objects.setup old.env.notes here.held (there OnNotes asking) × (walk_of {C = C} (there OnNotes asking) ≡ None)
-  notes_next None = (tt, refl)
-  notes_next (Some walk) = (tt, refl)
+  notes_next : (n : Next EnvWalk EnvEnd) → GoesInCall n → DoingFits old.objects.setup old.env.notes here.held (there OnNotes (place_after n)) × (walk_of {C = C} (there OnNotes (place_after n)) ≡ None)
+  notes_next (On walk) goes = (goes, refl)
+  notes_next (TheNext.Idle walk) goes = (goes, refl)
+  notes_next (TheNext.Done end) goes = (tt, refl)
 
   objects_next : (walk : Option ObjectWalk) → walk_of {C = C} (there OnObjects walk) ≡ None
   objects_next None = refl
@@ -84,7 +85,8 @@ module _ {C : Type 0} {N : ℕ} (old new : Whole C N) (lawful : IsLawfulWhole ol
           | inr g ↦ acts_so p.walk _ (Looked (cause_of (shown_by p.leads))) (ap (λ (w : Whole C N). w.truths) p.same) (ap walk_of p.stands) fits.0 g
         ]
     leaves_of (inr (inr (inr (inl p)))) =
-        let on = notes_next (place_after (env_got_of p.walk p.asks.found)) in
+        let call = fits_here old new lawful i here next at seats (OnNotes p.walk) p.stands in
+        let on = notes_next (env_got_of p.walk p.asks.found) (goes_in_call p.walk p.asks.found call) in
         stays_so (lock_stays old new new.env old.objects p.same) _ p.asks.goes (on.1 ∙ ap walk_of (sym p.stands)) on.0
     leaves_of (inr (inr (inr (inr p)))) = by (waits_then p.walk p.leads) refl p.goes where
       may : NeedsSection (object_asked p.walk) here.held
@@ -131,7 +133,7 @@ module _ {C : Type 0} {N : ℕ} (old new : Whole C N) (lawful : IsLawfulWhole ol
 
       by : (start : Doing C) → next ≡ placed here start → StartFits old.truths old.env.notes start here.held → begins_among start ≡ false → IsLawfulWhole new
       by (OnLock walk None) is fits alone = lawful_if (OnLock walk None) is ((alone, fits.2), fits.3) (begins_lawful (lock_stays old new old.env old.objects same) walk (ap view_of is) over fits.0 fits.1)
-      by (OnNotes walk) is fits alone = lawful_if (OnNotes walk) is tt (stays_there (OnNotes walk) is refl)
+      by (OnNotes walk) is fits alone = lawful_if (OnNotes walk) is fits (stays_there (OnNotes walk) is refl)
       by (OnObjects walk) is fits alone = lawful_if (OnObjects walk) is fits (stays_there (OnObjects walk) is refl)
       by start is fits alone = absurd fits
 

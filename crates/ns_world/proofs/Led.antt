@@ -26,7 +26,7 @@ events_by seat act old found new events e = subst (AreEnvBy seat) (sym e.events_
 
 pub first_if_at : {C : Type 0} (N : ℕ) (notes : ℕ → NoteStanding) (start : Doing C) → IsFirstAt N notes start → FirstIf notes (asking_of start)
 first_if_at N notes (OnLock walk None) first = tt
-first_if_at N notes (OnNotes walk) first = first.0
+first_if_at N notes (OnNotes walk) first = first
 first_if_at N notes (OnObjects walk) first = tt
 first_if_at N notes start first = absurd first
 

@@ -1,5 +1,6 @@
 pub mod Busy
 pub mod Counted
+pub mod Direct
 pub mod Exchanged
 pub mod Fresh
 pub mod HowFar

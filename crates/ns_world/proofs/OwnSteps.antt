@@ -1,17 +1,18 @@
 -- Where a step of its own leads a call on the lock, or on the clock and the notes.
 use Rattle.std.proofs.Common.{List, None, Option, Some, [], ap, append_assoc, inl, inr, length, map, refl, slice_get, slice_set, subst, sym, ℕ, ◌++◌, ◌∙◌, ◌≡◌}
-use Rattle.ns_world.proofs.Prelude.{Act, AnyWait, AreBy, BeginsWith, CallGoes, Cause, Course, Doing, DoingFits, Effect, EnvCourse, EnvEffect, EnvEnd, EnvEvent, EnvGoes, EnvGoesOn, EnvRequest, EnvWalk, Event, Found, GoesOn, IsLawfulWhole, LedTo, Look, LookBy, LookOver, Looked, Looks, LooksByLimits}
+use Rattle.ns_world.proofs.Prelude.{Act, AnyWait, AreBy, BeginsWith, CallGoes, Cause, Course, Doing, DoingFits, Effect, EnvCourse, EnvEffect, EnvEnd, EnvEvent, EnvGoes, EnvGoesOn, EnvRequest, EnvSays, EnvWalk, Event, Finished, Found, GoesOn, IsLawfulWhole, LedTo, Look, LookBy, LookOver, Looked, Looks, LooksByLimits}
 use Rattle.ns_world.proofs.Prelude.{LooksByRound, Means, Next, NotesSteps, OfLock, OfNotes, On, OnLock, OnNotes, OnObjects, Over, Part, Past, Request, Seat, SeatMakes, SoFar, Step, Truths, WaitsFor, Walk, WalkReply, WasShown, Whole, asked_of, asking_of, course_after, doing_after, doing_by}
-use Rattle.ns_world.proofs.Prelude.{env_asked_of, env_course_after, env_got_of, env_own, env_own-append, env_own_all, env_state, env_step_of, env_want_of, got_of, held_at, limits_of, lock_of, look_in, looked_after, looks_at, notes_by, notes_of, nothing_done, objects_after, objects_by, option_map_or}
+use Rattle.ns_world.proofs.Prelude.{Went, env_asked_of, env_course_after, env_got_of, env_own, env_own-append, env_own_all, env_state, env_told, env_want_of, got_of, held_at, limits_of, lock_of, look_in, looked_after, looks_at, notes_by, notes_of, nothing_done, objects_after, objects_by, option_map_or}
 use Rattle.ns_world.proofs.Prelude.{outcome, own, own_all, own_append, part_in, past_and, place_after, row_after, step_by, step_of, step_takes_on, takes_on, there, view_of, walk_of, want_of}
 use Rattle.ns_world.proofs.HowFar.{HasCome, LockLeads, LockUnderway, Outcome, Untouched, lock_rests, no_own, no_own_notes}
 use Rattle.ns_world.proofs.Led.{events_by, fits_here}
 use Rattle.ns_world.proofs.Looking.{Acts, FirstIf, look_goes}
 use Rattle.ns_world.proofs.Mapped.{got-map}
 use Rattle.ns_world.proofs.SeatSet.{here_then, number_here}
-use Rattle.ns_world.proofs.Shown.{LookSoFar, begins_on, limits_are, look_begins, look_means, means_no_look, place_asks, shown_so}
+use Rattle.ns_world.proofs.Shown.{LookSoFar, begins_on, limits_are, look_begins, look_means, place_asks, shown_so}
 use Rattle.ns_world.proofs.Placing.{act_steps, placed_after}
 use Rattle.ns_env.specs.declared.next.Next.TheVariants as TheNext
+use Rattle.ns_world.specs.declared.step.Step.TheVariants.{Idle}
 
 -- a step that is no look shows nothing
 shows_not : {C : Type 0} {N : ℕ} (truths : Truths C) (seat : ℕ) (act : Act C) (old : Part C N) (shown : Option Cause) (new : Part C N) (commits : List (Event C N)) → looks_at act ≡ None → Effect truths seat act old (Looked shown) new commits → ⊥
@@ -173,7 +174,7 @@ module _ {C : Type 0} {N : ℕ} (before : Whole C N) (earlier : Past) (seat : �
         let goes = subst (λ r. EnvGoes (past.notes ++ notes) seat r course n) u.0.asked
         (step_takes_on past.notes notes (notes_of old) (env_state new.env (slice_set (map (λ s. asking_of s.doing) old.seats) seat (place_after n))) seat p.asks.found u.0.course
         (record { walk = p.walk; walks = got-map (λ s. asking_of s.doing) old.seats seat here at ∙ ap (λ d. Some (asking_of d)) p.stands; effect = effect; becomes = refl }) led u.0.so_far) in
-        subst (λ s. Outcome before earlier seat (OfNotes request) s then new next) (sym p.asks.answers) (settle n (ap (λ (s : Seat C N). s.doing) p.asks.goes) goes) where
+        settle n (ap (λ (s : Seat C N). s.doing) p.asks.goes) goes p.asks.answers where
           notes : List EnvEvent
           notes = (outcome seat (env_want_of p.walk) old.env).events
 
@@ -201,13 +202,16 @@ module _ {C : Type 0} {N : ℕ} (before : Whole C N) (earlier : Past) (seat : �
 
           on : (walk : EnvWalk) → next.doing ≡ OnNotes walk → EnvGoesOn (past.notes ++ notes) seat request course walk → HasCome before earlier seat (OfNotes request) then new.history next.held next.doing
           on walk is goes = subst (HasCome before earlier seat (OfNotes request) then new.history next.held) (sym is)
-              (record { asked = goes.asked; course = course; began = u.0.began; added = added; so_far = goes.so_far; same = held; silent = silent; no_look = u.0.no_look }, untouched)
+              (record { asked = goes.asked; course = course; began = u.0.began; added = added; so_far = goes.so_far; same = held; silent = silent }, untouched)
 
-          settle : (n : Next EnvWalk EnvEnd) → next.doing ≡ there OnNotes (place_after n) → EnvGoes (past.notes ++ notes) seat request course n → Outcome before earlier seat (OfNotes request) (env_step_of n) then new next
-          settle (On walk) is goes = on walk is goes
-          settle (TheNext.Idle walk) is goes = on walk is goes
-          settle (TheNext.Done (Over reply)) is goes = (record { course = course; began = u.0.began; added = added; answer = reply; tells = refl; means = goes; same = held_then ∙ held; silent = silent }, untouched)
-          settle (TheNext.Done (LookOver cause)) is goes = absurd (means_no_look (past.notes ++ notes) request course cause u.0.no_look goes)
+          made : (n : Step) → step ≡ n → Outcome before earlier seat (OfNotes request) n then new next → Outcome before earlier seat (OfNotes request) step then new next
+          made n is goes = subst (λ s. Outcome before earlier seat (OfNotes request) s then new next) (sym is) goes
+
+          settle : (n : Next EnvWalk EnvEnd) → next.doing ≡ there OnNotes (place_after n) → EnvGoes (past.notes ++ notes) seat request course n → EnvSays n step → Outcome before earlier seat (OfNotes request) step then new next
+          settle (On walk) is goes says = made Went says (on walk is goes)
+          settle (TheNext.Idle walk) is goes says = made Idle says (on walk is goes)
+          settle (TheNext.Done (Over reply)) is goes says = made (Finished (env_told reply)) says (record { course = course; began = u.0.began; added = added; answer = reply; tells = refl; means = goes; same = held_then ∙ held; silent = silent }, untouched)
+          settle (TheNext.Done (LookOver cause)) is goes says = absurd says
 
     pub notes_take_on : (makes : SeatMakes old new here next step) → HasCome before earlier seat (OfNotes request) past old.history here.held here.doing → Outcome before earlier seat (OfNotes request) step (after makes) new next
     notes_take_on makes has = by makes where

@@ -1,12 +1,11 @@
 -- Where calls begin, and what acts may be made.
 use Rattle.std.proofs.Common.{Bool, IsSome, List, MatchOption, None, Option, Some, [], ap, arith, cond, false, nat_lt, refl, subst, sym, true, ℕ, ◌-◌, ◌<◌, ◌∷◌, ◌≡◌, ◌≤◌}
-use Rattle.ns_world.proofs.Prelude.{Act, ActFits, Add, Advance, Any, AreVariables, ArmFlag, Broadcast, Call, CallFits, CallInRange, CanLeave, CounterWait, CvWait, Cvs, Doing, Done, EnvRequest, Expiry, Fit, Get, HasMode, Held, IfMade, InCells, InQueuing, InWait, IsFirst, IsFirstAsk}
+use Rattle.ns_world.proofs.Prelude.{Act, ActFits, Add, Any, AreVariables, ArmFlag, Broadcast, Call, CallFits, CallInRange, CanLeave, CounterWait, CvWait, Cvs, Doing, Done, Expiry, Fit, Get, HasMode, Held, IfMade, InCells, InQueuing, InWait, IsFirst, IsFirstAsk, IsNoLook}
 use Rattle.ns_world.proofs.Prelude.{IsNotified, IsSettled, Limits, Load, LoadFlag, MayWait, Mode, NeedsSection, NewNote, NoteStanding, NoteWait, Notify, ObjectStanding, OnCondition, OnEntry, OnLock, OnNotes, OnObjects, OnVariables, Once, Only, Owed, OwesOne, Part, PayWake}
 use Rattle.ns_world.proofs.Prelude.{PlaceFits, QuietCells, QuietLast, RLock, RUnlock, Read, Reader, ReturnQueues, Set, Setup, Signal, Subject, TestCells, TestLast, ToRelease, Truths, TryLock, TryRLock, Unlock, UnlockQuiet, Value, WaitAny, WaitFor, WaitReturning, Write, Writer, asked_of}
 use Rattle.ns_world.proofs.Prelude.{asks_for_any, env_asked_of, few, items_of, looks_at, mode_of, mode_waited, nat_tests, note_asked, object_asked, operating_of, part, quiet_asks, quiet_is_first, some_among, start_of, test_asks, there, wait_first, wait_is_first, waits_for_any, want_of}
 use Rattle.ns_world.specs.Prelude.{Lock, Wait}
 use Rattle.ns_world.proofs.Exchanged.{made}
-use Rattle.ns_env.specs.declared.request.EnvRequest.TheVariants as TheEnvRequest
 
 -- a call that begins where a test says that its need is met
 pub begins_where : {C : Type 0} (n : ℕ) (setup : Setup) (notes : ℕ → NoteStanding) (call : Call C) (mode : Option Mode) (met : Bool) (start : Doing C) (r : Option (Doing C)) → r ≡ cond met (Some start) None →
@@ -18,7 +17,7 @@ begins_where n setup notes call mode false start r e is fits needs = subst (λ o
 -- the first place of a call goes with the seat and the notes
 abbrev pub StartFits : {C : Type 0} {N : ℕ} → Truths C → (ℕ → NoteStanding) → Doing C → Option (Held C N) → Type 0
 StartFits {C} {N} truths notes (OnLock walk None) held = IsFirst N walk × PlaceFits truths (Some walk) held × IfMade notes (note_asked (asked_of walk)) × (looks_at (want_of walk) ≡ None)
-StartFits truths notes (OnNotes walk) held = IsFirstAsk notes walk
+StartFits truths notes (OnNotes walk) held = IsNoLook (env_asked_of walk)
 StartFits truths notes (OnObjects walk) held = NeedsSection (object_asked walk) held
 StartFits truths notes doing held = ⊥
 
@@ -67,7 +66,7 @@ module _ {C : Type 0} {N : ℕ} (truths : Truths C) (notes : ℕ → NoteStandin
       let may : MayWait truths (wait_for held (OnVariables (Only k)) limits) false held = record { mode = refl; unmet = few; settled = λ e. settled; back = λ e. absurd (cc) } in
       ((refl, tt), ((may, tt), tt), made, refl)
 
-  -- a call whose need is met begins at the first place of a walk: on the lock, at one that goes with the section in hand; on the clock and the notes, at one whose notes are made
+  -- a call whose need is met begins at the first place of a walk: on the lock, at one that goes with the section in hand; on the clock and the notes, at one of a call
   pub start_fits : (setup : Setup) (call : Call C) (held : Option (Held C N)) → 1 ≤ N → CallInRange N call → CallFits setup notes call (mode_of held) → IsSettled truths held → StartFits truths notes (start_of N (mode_of held) call) held
   start_fits setup Lock held some range fits settled = (refl, (nothing held fits, tt, tt), tt, refl)
   start_fits setup RLock held some range fits settled = (refl, (nothing held fits, tt, tt), tt, refl)
@@ -85,11 +84,6 @@ module _ {C : Type 0} {N : ℕ} (truths : Truths C) (notes : ℕ → NoteStandin
   start_fits setup (CvWait k limits) (Some held) some range fits settled = cv_wait_fits k limits held range.0 fits.1 settled
   start_fits setup (Signal k) held some range fits settled = (tt, (tt, range, settled), tt, refl)
   start_fits setup (Broadcast k) held some range fits settled = (tt, (tt, range, settled), tt, refl)
-  start_fits setup (NewNote parent deadline) held some range fits settled = fits
-  start_fits setup (Notify note) held some range fits settled = fits
-  start_fits setup (IsNotified note) held some range fits settled = fits
-  start_fits setup (Expiry note) held some range fits settled = (refl, refl, fits)
-  start_fits setup (NoteWait note deadline) held some range fits settled = fits
   start_fits setup (WaitAny items deadline) held some range fits settled = λ named. let one = some_among (items_of items) named in some_held held (fits.1 one.0 one.1)
   start_fits setup other held some range fits settled = tt
 
@@ -105,15 +99,10 @@ module _ {C : Type 0} {N : ℕ} (truths : Truths C) where
 
 -- ---- what the first place of a call is to its seat
 
--- only a wait looks; a call of its own on the clock and the notes doesn't
-abbrev pub IsNoLook : EnvRequest → Type 0
-IsNoLook (TheEnvRequest.Look limits) = ⊥
-IsNoLook request = Unit {0}
-
 -- it is a first place
 abbrev pub IsFirstAt : {C : Type 0} → ℕ → (ℕ → NoteStanding) → Doing C → Type 0
 IsFirstAt N notes (OnLock walk None) = IsFirst N walk
-IsFirstAt N notes (OnNotes walk) = IsFirstAsk notes walk × IsNoLook (env_asked_of walk)
+IsFirstAt N notes (OnNotes walk) = IsFirstAsk notes walk
 IsFirstAt N notes (OnObjects walk) = Unit {0}
 IsFirstAt N notes doing = ⊥
 
@@ -123,12 +112,11 @@ first_at {C} N setup notes mode RLock fits = refl
 first_at {C} N setup notes mode UnlockQuiet fits = quiet_is_first C N ToRelease
 first_at {C} N setup notes mode (Wait c limits) fits = wait_is_first N (record { mode = mode_waited mode; on = OnCondition c; limits = limits })
 first_at {C} N setup notes mode (CvWait k limits) fits = wait_is_first {C = C} N (record { mode = mode_waited mode; on = OnVariables (Only k); limits = limits })
-first_at {C} N setup notes mode (NewNote parent deadline) fits = (fits, tt)
-first_at {C} N setup notes mode (Notify note) fits = (fits, tt)
-first_at {C} N setup notes mode (Advance moment) fits = (tt, tt)
-first_at {C} N setup notes mode (IsNotified note) fits = (fits, tt)
-first_at {C} N setup notes mode (Expiry note) fits = ((refl, refl, fits), tt)
-first_at {C} N setup notes mode (NoteWait note deadline) fits = (fits, tt)
+first_at {C} N setup notes mode (NewNote parent deadline) fits = fits
+first_at {C} N setup notes mode (Notify note) fits = fits
+first_at {C} N setup notes mode (IsNotified note) fits = fits
+first_at {C} N setup notes mode (Expiry note) fits = (refl, refl, fits)
+first_at {C} N setup notes mode (NoteWait note deadline) fits = fits
 first_at {C} N setup notes mode other fits = tt
 
 -- a call begins at no wait for a set of variables

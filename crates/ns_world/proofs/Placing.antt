@@ -1,10 +1,16 @@
--- Where a call on the lock goes on: its seat may stand there, at the beginning of a look or of a round where it is to look.
-use Rattle.std.proofs.Common.{IsSome, None, Option, Some, ap, false, refl, slice_get, slice_set, subst, sym, ℕ, ◌∙◌, ◌≡◌}
+-- Where a call goes on: its seat may stand there; on the lock, at the beginning of a look or of a round where it is to look.
+use Rattle.std.proofs.Common.{IsSome, None, Option, Some, ap, false, nat_lt, refl, slice_get, slice_set, subst, sym, ℕ, ◌∙◌, ◌≡◌}
 use Rattle.ns_world.proofs.Prelude.{Act, AnyWait, AtRest, Doing, DoingFits, Fit, Found, Held, IfMade, Limits, Look, LookBy, Next, NoteStanding, ObjectStanding, Seat, Setup, Step, Steps, WaitsFor, Walk, WalkReply, Whole, asked_of, asked_stays, asking_of, doing_after, doing_at, doing_by, got_of}
+use Rattle.ns_world.proofs.Prelude.{Advancing, ClockLoad, EnvFound, EnvWalk, ExpiryLoad, ForIsNotified, ForLook, ForNoteWait, GoesInCall, IsNoLook, NextLoad, NoteLoad, Notifying, env_asked_of, env_got_of, is_due, is_over, passed, standing_of, stopped, up_to}
 use Rattle.ns_world.proofs.Prelude.{is_call, lock_of, look_in, looks_at, looks_by_asked, note_asked, operating_of, place_after, step_at, view_of, walk_of, want_of}
 use Rattle.ns_world.proofs.SeatSet.{reads}
 use Rattle.ns_world.proofs.Looking.{Acts, FirstIf}
 use Rattle.ns_world.proofs.Mapped.{got-map}
+use Rattle.ns_env.proofs.Ways.{either}
+use Rattle.ns_env.specs.Prelude.{asked_by, chain_note, earlier, lowered_to}
+use Rattle.ns_env.specs.declared.act.EnvFound.TheVariants.{Clock, NextNumber, Note, Stored, Taken}
+use Rattle.ns_env.specs.declared.walk.Chain.{Chain}
+use Rattle.ns_env.specs.declared.walk.EnvWalk.TheVariants.{MakeNote, TakeNumber}
 use Rattle.ns_env.specs.declared.next.Next.TheVariants as TheNext
 
 -- a seat may be doing this, and stands at a beginning on the clock and the notes and at a place that fits on the objects
@@ -48,6 +54,40 @@ module _ {C : Type 0} {N : ℕ} (setup : Setup) (now : ObjectStanding) (notes : 
     by (TheNext.On next) is = on next (ap place_after is)
     by (TheNext.Idle next) is = on next (ap place_after is)
     by (TheNext.Done reply) is = record { fits = tt; asks = tt; operates = tt }
+
+-- ---- a call on the clock and the notes
+
+passed_in_call : (chain : Chain) (clock : ℕ) → IsNoLook (asked_by chain) → GoesInCall (passed chain clock)
+passed_in_call (ForLook limits) clock call = absurd call
+passed_in_call (ForIsNotified note) clock call = tt
+passed_in_call (ForNoteWait note deadline) clock call = either GoesInCall (is_due clock deadline) tt tt
+
+up_in_call : (chain : Chain) (clock : ℕ) (note : Option ℕ) → IsNoLook (asked_by chain) → GoesInCall (up_to chain clock note)
+up_in_call chain clock None call = passed_in_call chain clock call
+up_in_call chain clock (Some note) call = call
+
+stopped_in_call : (chain : Chain) → IsNoLook (asked_by chain) → GoesInCall (stopped chain)
+stopped_in_call (ForLook limits) call = absurd call
+stopped_in_call (ForIsNotified note) call = tt
+stopped_in_call (ForNoteWait note deadline) call = tt
+
+lowered_in_call : (asked : ℕ) (note least : Option ℕ) → GoesInCall (lowered_to asked note least)
+lowered_in_call asked None least = tt
+lowered_in_call asked (Some note) least = tt
+
+-- it goes on at a place of a call, or is over
+pub goes_in_call : (walk : EnvWalk) (found : EnvFound) → IsNoLook (env_asked_of walk) → GoesInCall (env_got_of walk found)
+goes_in_call (NextLoad parent deadline) (NextNumber next) call = either GoesInCall (nat_lt next 64) tt tt
+goes_in_call (TakeNumber parent deadline) (Taken number) call = either GoesInCall (nat_lt number 64) tt tt
+goes_in_call (MakeNote note parent deadline) Stored call = tt
+goes_in_call (Notifying note) Stored call = tt
+goes_in_call (Advancing moment) Stored call = tt
+goes_in_call (ClockLoad chain) (Clock clock) call = up_in_call chain clock (chain_note chain) call
+goes_in_call (NoteLoad chain clock at) (Note note) call = either GoesInCall (is_over clock (standing_of note)) (stopped_in_call chain call) (up_in_call chain clock note.parent call)
+goes_in_call (ExpiryLoad asked at least) (Note note) call = lowered_in_call asked note.parent (earlier least note.deadline)
+goes_in_call walk found call = call
+
+-- ---- the machine's step
 
 -- a step of the seat on the lock, as the machine has it
 abbrev pub act_steps : {C : Type 0} {N : ℕ} (old new : Whole C N) (i : ℕ) (here next : Seat C N) (step : Step) (walk : Walk C) (wait : Option AnyWait) (found : Found) → slice_get old.seats i ≡ Some here → new.seats ≡ slice_set old.seats i next → walk_of here.doing ≡ Some walk →

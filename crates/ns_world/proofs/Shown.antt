@@ -3,7 +3,6 @@ use Rattle.std.proofs.Common.{List, None, Option, Some, ap, refl, subst, sym, �
 use Rattle.ns_world.proofs.Prelude.{Any, AtSomePoint, BeginsWith, Cause, ClockLoad, EnvCourse, EnvEvent, EnvRequest, EnvSoFar, EnvWalk, ForLook, IsFirstAsk, Limits, LookFits, LookMeans, NoteLoad, NoteStanding, OnVariables, Request, Shows, Subject, Walk, WasShown, asked_of, begins}
 use Rattle.ns_world.proofs.Prelude.{begins_course, begins_through, env_asked_of, env_course_at, limits_for, limits_of, looked_shows, looks_at, others_leave_course, want_of}
 use Rattle.ns_world.proofs.Looking.{looks_asked}
-use Rattle.ns_world.proofs.Places.{IsNoLook}
 use Rattle.ns_env.specs.declared.request.EnvRequest.TheVariants as TheEnvRequest
 
 -- what a history begins with, it begins with when it has grown
@@ -44,10 +43,6 @@ pub look_begins : (earlier : List EnvEvent) (seat : ℕ) (events : List EnvEvent
 look_begins earlier seat events notes place since first = (env_course_at events, since, begins_course events notes seat place first)
 
 -- ---- a look
-
-pub means_no_look : (now : List EnvEvent) (request : EnvRequest) (course : EnvCourse) (cause : Option Cause) → IsNoLook request → LookMeans now request course cause → ⊥
-means_no_look now (TheEnvRequest.Look limits) course cause own_call means = own_call
-means_no_look now request course cause own_call means = means
 
 -- what a look goes by is what may end the wait that was asked
 pub limits_are : {C : Type 0} (walk : Walk C) (request : Request C) (limits : Limits) → asked_of walk ≡ request → looks_at (want_of walk) ≡ Some limits → Says (limits_of request) limits

@@ -1,7 +1,7 @@
 -- A turn of a run, by what beginning a call and a step promise.
 use Rattle.std.proofs.Common.{Bool, Err, IfErr, IfOk, List, None, Ok, Option, Result, Some, [], ap, arith, cond, false, inl, inr, length, length-set, nat_lt, not, refl, slice_get, subst, sym, true, ℕ, ◌-◌, ◌∙◌, ◌∷◌, ◌≡◌, ◌≢◌}
-use Rattle.ns_world.proofs.Prelude.{AnyWait, Call, Commits, EnvEnd, EnvWalk, Fault, GoesOnOrBegins, InCells, Lists, LookOver, Mode, Next, NoSuchSeat, ObjectLeads, ObjectReply, ObjectWalk, On, OutOfMemory, Over, Progress, Round, RoundLeads, Seat, SeatLooks, SeatMakes, Sees, Step, TurnOf, Turned}
-use Rattle.ns_world.proofs.Prelude.{TurnsOf, TurnsWith, UnlockQuiet, Walk, Went, Whole, WholeFault, WholeIsBusy, WholeIsIdle, WholeMoves, WholeStarts, WholeStep, Word, env_ends, env_got_of, got_of, in_call, is_call, mode_of, option_map_or, placed, progress, progressed, same_Some, set_here}
+use Rattle.ns_world.proofs.Prelude.{AnyWait, Call, Commits, EnvEnd, EnvSays, EnvWalk, Fault, GoesOnOrBegins, InCells, Lists, LookOver, Mode, Next, NoSuchSeat, ObjectLeads, ObjectReply, ObjectWalk, On, OutOfMemory, Over, Progress, Round, RoundLeads, Seat, SeatLooks, SeatMakes, Sees, Step, TurnOf, Turned}
+use Rattle.ns_world.proofs.Prelude.{TurnsOf, TurnsWith, UnlockQuiet, Walk, Went, Whole, WholeFault, WholeIsBusy, WholeIsIdle, WholeMoves, WholeStarts, WholeStep, Word, env_got_of, got_of, in_call, is_call, mode_of, option_map_or, placed, progress, progressed, same_Some, set_here}
 use Rattle.ns_world.proofs.Prelude.{slice_get_within, start_of, step_after, waits_then, walk_of, want_of, whole_busy}
 use Rattle.ns_world.specs.Prelude.{Nothing, Wait}
 use Rattle.ns_world.proofs.SeatSet.{as_many}
@@ -43,9 +43,11 @@ step_made ends (On walk) made = tt
 step_made ends (TheNext.Idle walk) made = tt
 step_made ends (TheNext.Done reply) made = made reply
 
-env_made : (end : EnvEnd) → IsMade (env_ends end)
-env_made (Over reply) = tt
-env_made (LookOver cause) = tt
+asks_made : (next : Next EnvWalk EnvEnd) (step : Step) → EnvSays next step → IsMade step
+asks_made (On walk) step says = subst IsMade (sym says) tt
+asks_made (TheNext.Idle walk) step says = subst IsMade (sym says) tt
+asks_made (TheNext.Done (Over reply)) step says = subst IsMade (sym says) tt
+asks_made (TheNext.Done (LookOver cause)) step says = absurd says
 
 -- every call's first place is one
 starts_call : {C : Type 0} (N : ℕ) (mode : Option Mode) (call : Call C) → is_call (start_of N mode call) ≡ true
@@ -67,7 +69,7 @@ module _ {C : Type 0} {N : ℕ} where
     by : (n : Next ObjectWalk ObjectReply) → RoundLeads n here p.walk p.wait next step → IsMade step
     by (On round) g = subst IsMade (sym g.1) tt
     by n g = sees_made here next p.walk _ _ step g
-  makes_made old new here next step (inr (inr (inr (inl p)))) = subst IsMade (sym p.asks.answers) (step_made env_ends (env_got_of p.walk p.asks.found) env_made)
+  makes_made old new here next step (inr (inr (inr (inl p)))) = asks_made (env_got_of p.walk p.asks.found) step p.asks.answers
   makes_made old new here next step (inr (inr (inr (inr p)))) = by (waits_then p.walk p.leads) p.goes where
     by : (round : Option Round) → ObjectLeads round p.leads here next step → IsMade step
     by (Some round) g = subst IsMade (sym g.answers) tt

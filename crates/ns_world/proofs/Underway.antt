@@ -9,7 +9,7 @@ use Rattle.ns_world.proofs.HowFar.{AddsNothing, HasCome, Outcome, UnderwayIn, ha
 use Rattle.ns_world.proofs.Laws.{moves_led, no_more, starts_led, steps_led}
 use Rattle.ns_world.proofs.OwnRounds.{objects_take_on}
 use Rattle.ns_world.proofs.OwnSteps.{lock_takes_on, notes_take_on}
-use Rattle.ns_world.proofs.Places.{IsFirstAt, IsNoLook, first_at}
+use Rattle.ns_world.proofs.Places.{IsFirstAt, first_at}
 use Rattle.ns_world.proofs.SeatSet.{here_then, number_here, others_stay}
 use Rattle.ns_world.proofs.Shown.{begins_on}
 use Rattle.ns_world.proofs.Placing.{act_steps}
@@ -139,10 +139,9 @@ module _ (C : Type 0) (N : â„•) (before : Whole C N) (earlier : Past) (seat : â„
         course = env_course_at earlier.notes;
         began = refl;
         added = sym (append-nil (env_own earlier.notes seat));
-        so_far = begins_course earlier.notes before.env.notes seat walk first.0;
+        so_far = begins_course earlier.notes before.env.notes seat walk first;
         same = held;
         silent = refl;
-        no_look = subst IsNoLook asked first.1;
       },
       refl,
     )

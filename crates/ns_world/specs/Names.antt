@@ -2,7 +2,7 @@
 pub use Rattle.ns_counters.specs.Items.{AreAmong, have_variable}
 pub use Rattle.ns_counters.specs.Meanings.{ObjectMeans}
 pub use Rattle.ns_counters.specs.Names.{EnvAct, EnvEnd, EnvFound, EnvWalk, ForIsNotified, NoteLoad, NoteWord}
-pub use Rattle.ns_counters.specs.Prelude.{AnyAnswers, AreThere, AtSomePoint, EnvEvent, EnvPlain, EnvState, HaveShownNothing, IsLater, IsLawful, IsLawfulEnv, IsLawfulObjects, IsLow, IsReady, NoteStanding, ObjectEffect, ObjectGoes, ObjectSoFar, ObjectStanding, ObjectState, Past, RoundShows}
+pub use Rattle.ns_counters.specs.Prelude.{AnyAnswers, AreAsAsked, AreThere, AtSomePoint, EnvEvent, EnvPlain, EnvState, HaveShownNothing, IsLater, IsLawful, IsLawfulEnv, IsLawfulObjects, IsLow, IsReady, NoteStanding, ObjectEffect, ObjectGoes, ObjectSoFar, ObjectStanding, ObjectState, Past, RoundShows}
 pub use Rattle.ns_counters.specs.Prelude.{RoundSoFar, StepFits, WalkFits, WereThere, by_round, env_after, env_got_of, first_words, is_among, is_due, is_there, item_at, items_of, most, object_asked, object_got, object_place, object_want, object_who, objects_after, objects_own, padded, past_and}
 pub use Rattle.ns_counters.specs.Prelude.{place_in, round_got, setup_of, standing_of, state_of, walk_in, word_at}
 pub use Rattle.ns_counters.specs.declared.items.Item.{Item}
@@ -21,7 +21,7 @@ pub use Rattle.ns_counters.specs.declared.walk.ObjectWalk.{ObjectWalk}
 pub use Rattle.ns_counters.specs.declared.walk.ObjectWalk.TheVariants.{AddLoad, DoneLoad, InRound, OnceLoad, ValueLoad, WaitMark}
 pub use Rattle.ns_env.specs.Meanings.{EnvGoesOn, EnvMeans, LookMeans}
 pub use Rattle.ns_env.specs.Names.{no_note}
-pub use Rattle.ns_env.specs.Prelude.{EnvActFits, EnvCourse, EnvEffect, EnvGoes, EnvSoFar, IfMade, IsFirstAsk, Shows, env_asked_of, env_course_after, env_course_at, env_own, env_want_of, env_who, fresh_plain, is_over, outcome, passed, place_after, stopped, up_to}
+pub use Rattle.ns_env.specs.Prelude.{EnvActFits, EnvCourse, EnvEffect, EnvGoes, EnvSoFar, IfMade, IsFirstAsk, NextIs, Shows, env_asked_of, env_course_after, env_course_at, env_own, env_want_of, env_who, fresh_plain, is_over, outcome, passed, place_after, stopped, up_to}
 pub use Rattle.ns_env.specs.declared.next.Next.{Next}
 pub use Rattle.ns_env.specs.declared.next.Next.TheVariants.{On}
 pub use Rattle.ns_env.specs.declared.reply.EnvReply.{EnvReply}

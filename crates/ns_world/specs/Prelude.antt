@@ -4,7 +4,7 @@ pub use Rattle.ns_counters.specs.Prelude.{WantFits, word_left}
 pub use Rattle.ns_counters.specs.declared.object.Place.{Place}
 pub use Rattle.ns_word.specs.Prelude.{IsBySeats, IsLegal, entry_of, may_acquire, mode_for, opening_by, opening_for, want_queuing, want_waiting}
 pub use Rattle.ns_world.specs.Among.{BeginsToWait, IsFew, MayGoOn, NamesFew, asks_for_any, at_will, cause_of, place_told, reply_for, reply_told, shown_by, waits_for_any, waits_then, woken_by}
-pub use Rattle.ns_world.specs.Asks.{env_ends, env_state, env_step_of, note_at, plain_of}
+pub use Rattle.ns_world.specs.Asks.{EndsCall, EnvSays, GoesInCall, IsNoLook, env_state, note_at, plain_of}
 pub use Rattle.ns_world.specs.Calls.{CallFits, CallInRange, NamesAll, SectionFits, finds, mode_of, mode_waited, object_start, start_of}
 pub use Rattle.ns_world.specs.Commits.{Commits, IsEvent}
 pub use Rattle.ns_world.specs.Doings.{asking_of, is_call, operating_of, placed, there, walk_of}

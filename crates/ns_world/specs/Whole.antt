@@ -2,9 +2,9 @@
 use Rattle.std.specs.Option.{option_map_or}
 use Rattle.std.specs.Prelude.{Bool, IsSome, List, None, Option, Some, [], false, length, map, slice_get, suc, true, zero, ℕ, ◌+◌, ◌∷◌, ◌≡◌, ◌≤◌}
 use Rattle.ns_world.specs.Names.{AnyWait, AreAmong, AreNumbered, AreThere, AtRest, Cvs, Doing, EnvEvent, EnvPlain, EnvState, Event, FirstClock, Held, IfMade, InRound, IsLawfulEnv, IsLawfulObjects, Lists, LockState, LooksByLimits, LooksByRound, Mode, NoteStanding, ObjectEvent, ObjectState}
-use Rattle.ns_world.specs.Names.{ObjectWalk, ObjectWords, OnLock, OnObjects, Part, Past, Request, Round, Seat, Setup, Truths, Word, asked_of, fresh_plain, fresh_state, have_variable, items_of, object_asked, want_of}
+use Rattle.ns_world.specs.Names.{ObjectWalk, ObjectWords, OnLock, OnNotes, OnObjects, Part, Past, Request, Round, Seat, Setup, Truths, Word, asked_of, env_asked_of, fresh_plain, fresh_state, have_variable, items_of, object_asked, want_of}
 use Rattle.ns_world.specs.Among.{asks_for_any, waits_for_any}
-use Rattle.ns_world.specs.Asks.{env_state, plain_of}
+use Rattle.ns_world.specs.Asks.{IsNoLook, env_state, plain_of}
 use Rattle.ns_world.specs.Doings.{asking_of, is_call, operating_of}
 use Rattle.ns_world.specs.Looks.{LooksAt, looks_at, note_asked}
 use Rattle.ns_world.specs.Objects.{fresh_words}
@@ -68,11 +68,12 @@ abbrev pub NeedsSection : {C : Type 0} {N : ℕ} → ObjectWalk → Option (Held
 NeedsSection (InRound round place) held = have_variable round.items ≡ true → IsSome held
 NeedsSection walk held = Unit {0}
 
--- A seat may be doing this, with this section in hand: a wait on the lock looks just where its walk wants a look, at its own limits or by a round of those that it is for; and a round whose call may go on to wait on the lock has a section in hand.
+-- A seat may be doing this, with this section in hand: a wait on the lock looks just where its walk wants a look, at its own limits or by a round of those that it is for; a seat that is on the clock and the notes otherwise is in a call there, and in no look; and a round whose call may go on to wait on the lock has a section in hand.
 abbrev pub DoingFits : {C : Type 0} {N : ℕ} → Setup → (ℕ → NoteStanding) → Option (Held C N) → Doing C → Type 0
 DoingFits setup notes held (OnLock walk wait) = WaitsFor setup notes (asked_of walk) wait × (looks_at (want_of walk) ≡ None)
 DoingFits setup notes held (LooksByLimits walk place) = WaitsFor setup notes (asked_of walk) None × LooksAt (want_of walk) place
 DoingFits setup notes held (LooksByRound walk wait round) = WaitsFor setup notes (asked_of walk) (Some wait) × (object_asked round ≡ InRound wait.round FirstClock) × IsSome (looks_at (want_of walk))
+DoingFits setup notes held (OnNotes walk) = IsNoLook (env_asked_of walk)
 DoingFits setup notes held (OnObjects walk) = NeedsSection (object_asked walk) held
 DoingFits setup notes held doing = Unit {0}
 

@@ -11,7 +11,6 @@ use ns_model::condition::Condition;
 use ns_model::cvs::Variables;
 use ns_model::event::{Answer, Entry, Event, Exit, Mode};
 use ns_queue::queues::Queues;
-use ns_queue::waiter::Which;
 use ns_word::act::{Act, Change, Found, Waking};
 use ns_word::hand::{bits, leave_self, queue_self, scan_and_queue, wake_waiters};
 use ns_word::owed::called;
@@ -44,8 +43,7 @@ fn acquire<C: Condition<N>, const N: usize>(
     requires few { word.old.readers < 64 }
     ensures { (seat : ℕ) (queues : _) (flags : List ℕ) (owed : List Owed) → Effect C.means seat (Act.Acquire aim arrival last) (part word.old row.now queues flags held.old owed) result (part word.new row.now queues flags held.new owed) [] }
 {
-    let unchanged = word.is_same(last);
-    if !unchanged {
+    if !word.is_same(last) {
         return Found::Saw(*word);
     }
     let mode = aim.mode();
@@ -189,11 +187,12 @@ fn return_waking<C: Seated<N>, const N: usize>(
     ensures { MatchResult result (λ found. ((row flags : List ℕ) → Makes C.means seat.old.number (Act.ReturnQueues (Change.WakeWaiters waking k) last) (part word.old row queues.old flags seat.old.held seat.old.owed.items) history.old.items found (part word.new row queues.new flags seat.new.held seat.new.owed.items) history.new.items) × StaysThere seat.old seat.new) (λ fault. (word.new ≡ word.old) × (queues.new ≡ queues.old) × (seat.new ≡ seat.old) × (history.new.items ≡ history.old.items)) }
 {
     commit_wake(queues, seat.number, history, waking, k)?;
-    let some = !queues.waiters(Which::Cv(k)).is_empty();
+    let some = queues.has_waiters(k);
     let held = last.is_held();
+    let owes = !held && some;
     seat.owed = wake_waiters(queues, waking, k, held);
-    *word = last.returned(held & some, bits(queues));
-    Ok(Found::Woke { owes: !held & some })
+    *word = last.returned(held && some, bits(queues));
+    Ok(Found::Woke { owes })
 }
 
 /// Puts the queues back as they stood, which clears the spinlock bit.
@@ -308,8 +307,7 @@ fn release<C: Seated<N>, const N: usize>(
     requires { CanLeave C.means releasing held.old }
     ensures { MatchResult result (λ found. (row flags : List ℕ) (owed : List Owed) (queues : _) → Makes C.means seat (Act.Release releasing last) (part word.old row queues flags held.old owed) history.old.items found (part word.new row queues flags held.new owed) history.new.items) (λ fault. (last ≡ word.old) × (word.new ≡ word.old) × (held.new ≡ held.old) × (history.new.items ≡ history.old.items)) }
 {
-    let is_last = word.is_same(last);
-    if !is_last {
+    if !word.is_same(last) {
         return Ok(Found::Saw(*word));
     }
     commit(seat, held, history, Exit::Plain)?;

@@ -1,9 +1,10 @@
 //! Code over any condition owes that the values that it passes on fit in memory.
 
 ghost use Rattle.std.specs.Mem.{FitsInMemory};
+ghost use Rattle.ns_model.proofs.Sizes.{events_fit};
 ghost use Rattle.ns_model.specs.contracts.event.Event.{the_row as event_row};
 ghost use Rattle.ns_word.specs.contracts.view.Held.{the_row as held_row};
-ghost use Rattle.ns_world.specs.Room.{event_fits, held_fits, seat_fits};
+ghost use Rattle.ns_world.specs.Room.{held_fits, seat_fits};
 ghost use Rattle.ns_world.specs.contracts.seat.Seat.{the_row as seat_row};
 
 use ns_model::condition::Condition;
@@ -20,7 +21,7 @@ pub trait Seated<const N: usize>: Queueable<N> {
 }
 
 impl<C: Condition<N>, const N: usize> Seated<N> for C {
-    ghost event_fits = { event_fits Self.row N.row C.has_room };
+    ghost event_fits = { events_fit Self.row N.row C.has_room };
 
     ghost held_fits = { held_fits Self.row N.row C.has_room };
 

@@ -1,6 +1,6 @@
 use Rattle.std.proofs.Common.{ap, arith, not, refl, rules, sym, ◌∙◌}
-use Rattle.ns_world.proofs.Prelude.{are_called, as_many, called_by, err_from_is_err_and, some_called}
-use Rattle.ns_world.proofs.Exchanged.{can_some, made, scanned, some_left}
+use Rattle.ns_world.proofs.Prelude.{are_called, as_many, called_by, err_from_is_err_and, some_called, some_there}
+use Rattle.ns_world.proofs.Exchanged.{can_some, made, scanned}
 use Rattle.ns_world.proofs.exchanges.release_returning.Goals as goal
 
 pub returns-then-not-is_same : goal.returns-then-not-is_same
@@ -21,7 +21,7 @@ returns g c = (
       scanned _ c.args.seat.now.number c.args.releasing c.args.last c.args.word.now c.released_returning.result c.args.row.now flags c.args.history.now.items c.commit.new.history.items
       c.args.queues.now c.scan-scan.new.self c.args.seat.now.owed.items c.called-seat.result.items c.args.seat.now.held c.commit.new.held (not c.is_empty-owes.result) c.scan-scan.result.tests c.bits.result
       c.requires c.in_ok-commit.ensures.0 (c.if-not-is_same.ensures.same refl) c.released_returning.ensures c.in_ok-commit.ensures.1
-      c.scan-scan.ensures.left (are_called _ _ _ _ (c.called-seat.ensures ∙ (λ i. called_by (c.as_slice.ensures.value i) (c.as_slice-2.ensures.value i))) c.scan-scan.ensures.woken c.scan-scan.ensures.vias) (ap not c.is_empty-owes.ensures ∙ some_left _
+      c.scan-scan.ensures.left (are_called _ _ _ _ (c.called-seat.ensures ∙ (λ i. called_by (c.as_slice.ensures.value i) (c.as_slice-2.ensures.value i))) c.scan-scan.ensures.woken c.scan-scan.ensures.vias) (ap not c.is_empty-owes.ensures ∙ some_there _
       ∙ some_called _ _ _ c.scan-scan.ensures.woken (are_called _ _ _ _ (c.called-seat.ensures ∙ (λ i. called_by (c.as_slice.ensures.value i) (c.as_slice-2.ensures.value i))) c.scan-scan.ensures.woken c.scan-scan.ensures.vias)) c.bits.ensures c.scan-scan.ensures.tests,
   refl,
 )

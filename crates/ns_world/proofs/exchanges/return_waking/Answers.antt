@@ -1,17 +1,23 @@
-use Rattle.std.proofs.Common.{ap, not, refl, ◌∙◌}
-use Rattle.ns_world.proofs.Prelude.{err_from_is_err_and, has_some, list_small}
-use Rattle.ns_world.proofs.Exchanged.{some_left, woken_back}
+use Rattle.std.proofs.Common.{ap, not, refl, ◌&&◌, ◌∙◌, ◌≡◌}
+use Rattle.ns_world.proofs.Prelude.{err_from_is_err_and, word_returned}
+use Rattle.ns_world.proofs.Exchanged.{woken_back}
 use Rattle.ns_world.proofs.exchanges.return_waking.Goals as goal
+use Rattle.ns_world.proofs.exchanges.return_waking.Goals.{else-held, else-not-held, then-held, then-not-held}
 
 pub returns : goal.returns
 returns g c = (
-  λ row flags.
-      woken_back g.C.Condition.means c.args.seat.now.number c.args.last c.args.word.now row flags c.args.history.now.items c.args.waking c.args.k c.returned.result c.commit_wake.new.history.items c.args.seat.now.owed.items c.wake_waiters-seat.result.items c.args.seat.now.held
-      c.args.queues.now c.wake_waiters-seat.new.queues c.is_held-held.result (not c.is_empty-some.result) c.bits.result
-      c.requires.same c.in_ok-commit_wake.ensures c.is_held-held.ensures (ap not c.is_empty-some.ensures ∙ some_left _ ∙ ap has_some c.waiters.ensures)
-      c.wake_waiters-seat.ensures.owed c.wake_waiters-seat.ensures.lists c.bits.ensures c.returned.ensures,
+  λ row flags. rw owes
+      (woken_back g.C.Condition.means c.args.seat.now.number c.args.last c.args.word.now row flags c.args.history.now.items c.args.waking c.args.k c.returned.result c.commit_wake.new.history.items c.args.seat.now.owed.items c.wake_waiters-seat.result.items c.args.seat.now.held
+      c.args.queues.now c.wake_waiters-seat.new.queues c.is_held-held.result c.has_waiters-some.result c.bits.result
+      c.requires.same c.in_ok-commit_wake.ensures c.is_held-held.ensures c.has_waiters-some.ensures
+      c.wake_waiters-seat.ensures.owed c.wake_waiters-seat.ensures.lists c.bits.ensures (c.returned.ensures ∙ ap (λ b. word_returned b c.bits.result c.args.last) moves)),
   refl,
-)
+) where
+  moves : c.if-held.returned ≡ (c.is_held-held.result && c.has_waiters-some.result)
+  moves = elim c.if-held.branch [ then-held w ↦ rw w.if-held.true w.returned-is | else-held w ↦ rw w.if-held.false (w.returned-is ∙ w.if-held.false) ]
+
+  owes : c.if-not-held.owes ≡ (not c.is_held-held.result && c.has_waiters-some.result)
+  owes = elim c.if-not-held.branch [ then-not-held w ↦ rw w.if-not-held.true w.owes-is | else-not-held w ↦ rw w.if-not-held.false (w.owes-is ∙ ap not w.if-not-held.false) ]
 
 pub returns-in_err-commit_wake : goal.returns-in_err-commit_wake
 returns-in_err-commit_wake g c =
@@ -27,8 +33,8 @@ returned-requires g c = tt
 pub commit_wake-requires : goal.commit_wake-requires
 commit_wake-requires g c = (g.met.C.Queueable.parts_fit.queues, (g.met.C.Seated.event_fits, c.requires.there))
 
-pub waiters-requires : goal.waiters-requires
-waiters-requires g c = (g.met.C.Queueable.parts_fit.queues, (list_small _ g.met.C.Queueable.list_fits, c.requires.there))
+pub has_waiters-some-requires : goal.has_waiters-some-requires
+has_waiters-some-requires g c = (g.met.C.Queueable.parts_fit.queues, c.requires.there)
 
 pub wake_waiters-seat-requires : goal.wake_waiters-seat-requires
 wake_waiters-seat-requires g c = (g.met.C.Queueable.parts_fit.queues, c.requires.there)

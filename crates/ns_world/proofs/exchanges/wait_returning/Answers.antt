@@ -1,6 +1,6 @@
 use Rattle.std.proofs.Common.{ap, arith, not, refl, rules, ◌∙◌}
-use Rattle.ns_world.proofs.Prelude.{are_called, as_many, called_by, err_from_is_err_and, some_called}
-use Rattle.ns_world.proofs.Exchanged.{some_left, wait_some, waited}
+use Rattle.ns_world.proofs.Prelude.{are_called, as_many, called_by, err_from_is_err_and, some_called, some_there}
+use Rattle.ns_world.proofs.Exchanged.{wait_some, waited}
 use Rattle.ns_world.proofs.exchanges.wait_returning.Goals as goal
 
 pub leave_section-requires : goal.leave_section-requires
@@ -18,7 +18,7 @@ returns g c = (
       waited _ c.args.seat.now.number c.args.wait c.args.again c.args.word.now c.args.word.now c.released_returning.result c.args.row.now flags c.args.history.now.items c.leave_section.new.history.items
       c.args.queues.now c.scan_and_queue-scan.new.queues c.args.seat.now.owed.items c.called-seat.result.items c.args.seat.now.held c.leave_section.new.held (not c.is_empty-owes.result) c.scan_and_queue-scan.result.tests c.bits.result
       c.requires.can c.in_ok-leave_section.ensures.0 refl (rw (← c.of.ensures) c.released_returning.ensures) c.in_ok-leave_section.ensures.1
-      c.scan_and_queue-scan.ensures.lists (are_called _ _ _ _ (c.called-seat.ensures ∙ (λ i. called_by (c.as_slice.ensures.value i) (c.as_slice-2.ensures.value i))) c.scan_and_queue-scan.ensures.woken c.scan_and_queue-scan.ensures.vias) (ap not c.is_empty-owes.ensures ∙ some_left _
+      c.scan_and_queue-scan.ensures.lists (are_called _ _ _ _ (c.called-seat.ensures ∙ (λ i. called_by (c.as_slice.ensures.value i) (c.as_slice-2.ensures.value i))) c.scan_and_queue-scan.ensures.woken c.scan_and_queue-scan.ensures.vias) (ap not c.is_empty-owes.ensures ∙ some_there _
       ∙ some_called _ _ _ c.scan_and_queue-scan.ensures.woken (are_called _ _ _ _ (c.called-seat.ensures ∙ (λ i. called_by (c.as_slice.ensures.value i) (c.as_slice-2.ensures.value i))) c.scan_and_queue-scan.ensures.woken c.scan_and_queue-scan.ensures.vias)) c.bits.ensures
       c.scan_and_queue-scan.ensures.tests,
   refl,

@@ -1,5 +1,5 @@
 use Rattle.std.proofs.Common.{ap, inl, inr, refl, subst, ◌∙◌, ◌≤◌}
-use Rattle.ns_world.proofs.Prelude.{LooksByLimits, LooksByRound, Seat, asking_of, doing_after, err_from_is_err_and, is_call, operating_of, set_same, step_of, tests_after, walk_of, whole_of}
+use Rattle.ns_world.proofs.Prelude.{LooksByLimits, LooksByRound, OnNotes, Seat, asking_of, doing_after, err_from_is_err_and, is_call, operating_of, set_same, step_of, tests_after, walk_of, whole_of}
 use Rattle.ns_queue.specs.Sizes.{row_small}
 use Rattle.ns_world.proofs.Laws.{step_keeps}
 use Rattle.ns_world.proofs.Mapped.{found_at}
@@ -28,8 +28,10 @@ returns-in-AtRest-clause-ok g c =
 
 pub ask-requires : goal.ask-requires
 ask-requires g c =
-    let at = found_at c.self.inside.seats.items c.args.seat c.index_mut-here.result.now c.if-at-len.false (c.len.ensures ∙ c.self.inside.seats.ok.0) c.index_mut-here.ensures.value in
-    (g.met.C.Seated.seat_fits, ask_here _ c.self.invariant c.args.seat c.index_mut-here.result.now at c.in-OnNotes.walk (ap asking_of c.in-OnNotes.is))
+    let at = found_at c.self.inside.seats.items c.args.seat c.index_mut-here.result.now c.if-at-len.false (c.len.ensures ∙ c.self.inside.seats.ok.0) c.index_mut-here.ensures.value in (
+      g.met.C.Seated.seat_fits,
+      (stands_here _ c.self.invariant c.args.seat c.index_mut-here.result.now at (OnNotes c.in-OnNotes.walk) c.in-OnNotes.is, ask_here _ c.self.invariant c.args.seat c.index_mut-here.result.now at c.in-OnNotes.walk (ap asking_of c.in-OnNotes.is)),
+    )
 
 pub returns-in-OnNotes-clause-ok : goal.returns-in-OnNotes-clause-ok
 returns-in-OnNotes-clause-ok g c =
