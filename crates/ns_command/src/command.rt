@@ -48,7 +48,7 @@ fn replay_command<'a>(alloc: Global) -> Result<Command<'a>, AllocError>
     let history = flag(
         alloc,
         "history",
-        "Print each event that was committed, as: section 0 w plain plain 0,0,0,0,0,0,0,0 5,0,0,0,0,0,0,0",
+        "Print the lock's history, a line for each event, as: section 0 w plain plain 0,0,0,0,0,0,0,0 5,0,0,0,0,0,0,0",
     );
     let tests = flag(
         alloc,

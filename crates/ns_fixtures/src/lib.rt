@@ -5,9 +5,9 @@
 //! proved:
 //!
 //! ```rust
-//! let mut held = ring.lock(&rt).wait(&rt, Wish::Room); // comes back once there is room
-//! put(&mut held, 7);
-//! let ring = held.unlock(&rt);
+//! let mut held = ring.lock(rt).wait(rt, Wish::Room); // comes back once there is room
+//! put(&mut held, number);
+//! ring = held.unlock(rt);
 //! ```
 //!
 //! Who waits for condition variables instead asks [`is_met`] after each wake.

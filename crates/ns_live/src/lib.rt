@@ -5,7 +5,10 @@
 //! notifies a note, by which whoever still waits is told to end.
 //!
 //! ```rust
-//! let sum = live(&rt, rt.alloc(), 10)?; // 55
+//! for (items, sum) in [(1, 1), (10, 55)] {
+//!     let outcome = live(&rt, rt.alloc(), items);
+//!     assert_eq!(rt; outcome, Ok(sum), "at {items}");
+//! }
 //! ```
 //!
 //! ns_cli calls it. It rests on ns_fixtures for the ring, and on ns_note for the note.

@@ -4,5 +4,4 @@ pub mod Prelude
 pub mod Runs
 pub mod Tallies
 pub mod Texts
-pub mod Words
 pub mod Written

@@ -113,7 +113,7 @@ fn differ(old: Word, new: Word) -> bool
     ensures same { result ≡ false → new ≡ old }
     ensures other { result ≡ true → new ≢ old }
 {
-    old != new
+    !old.is_same(new)
 }
 
 /// Makes a turn of the thread, and tells where the threads stand after it.

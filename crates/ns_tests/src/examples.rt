@@ -1,31 +1,27 @@
-//! The examples at the heads of ns_model, ns_env, ns_queue, ns_word and ns_world. Those of ns_note and
-//! ns_replay stand beside their other tests.
+//! The examples at the heads of ns_model and its files, ns_env, ns_counters, ns_queue and ns_word. Those of other
+//! crates stand beside their other tests, or in the cookbook.
 
 use crate::model::AtLeast;
 use crate::queue;
+use ns_counters::word::{decode_counter, encode_counter};
 use ns_env::act::{EnvAct, EnvFound};
 use ns_env::next::Next;
 use ns_env::reply::EnvReply;
 use ns_env::walk::{EnvEnd, EnvWalk};
+use ns_model::counter::{CounterEvent, CounterFault, CounterState, counter_after, legal_counter};
 use ns_model::event::{Entry, Event, Exit, Mode};
 use ns_model::history::{legal, row_after};
+use ns_model::once::{OnceEvent, legal_once};
 use ns_queue::queues::Queues;
 use ns_queue::waiter::{Waiter, Which};
 use ns_word::act::{Act, Found};
 use ns_word::codec::encode;
 use ns_word::walk::{Reply, Walk};
 use ns_word::word::{Arrival, Word};
-use ns_world::call::Call;
-use ns_world::reply;
-use ns_world::step::Step;
-use ns_world::world::World;
 use std::test::Fail;
 
 /// Any `Condition<2>`, by the name that it has in the example.
 type Plain = queue::AtLeast<'static>;
-
-/// Any `Condition<8>`, likewise.
-type Never = AtLeast;
 
 #[test]
 fn a_history(rt: HostRuntime) {
@@ -108,15 +104,41 @@ fn a_walk_on_notes(rt: HostRuntime) -> Result<(), Fail> {
 }
 
 #[test]
-fn a_world(rt: HostRuntime) -> Result<(), Fail> {
-    let mut world = World::<Never, 8>::new(rt.alloc(), 2, &[], 0)?; // `Never` is any `Condition<8>`
-    world.begin(0, Call::TryLock)?;
-    world.step(0)?; // Step::Went: the word was loaded
-    let step = world.step(0)?;
-    assert!(rt; step == Step::Finished(reply::Reply::Succeeded)); // seat 0 has the lock
-    world.begin(1, Call::TryLock)?;
-    let step = world.step(1)?;
-    assert!(rt; step == Step::Finished(reply::Reply::Busy));
-    assert!(rt; world.state().word.write && legal(world.history()));
-    Ok(())
+fn a_history_of_a_counter(rt: HostRuntime) {
+    // a counter of 1: a wait begins, it falls to 0, and from there on it can't rise
+    let waits = CounterEvent::Begun { who: 1 };
+    let falls = CounterEvent::Add {
+        who: 0,
+        delta: -1,
+        reply: Ok(0),
+    };
+    let stays = CounterEvent::Add {
+        who: 0,
+        delta: 2,
+        reply: Err(CounterFault::AfterWait),
+    };
+    let happened = [waits, falls, stays];
+    assert!(rt; legal_counter(1, &happened));
+    assert!(rt; counter_after(1, &happened).is_ready());
+}
+
+#[test]
+fn a_history_of_a_once_cell(rt: HostRuntime) {
+    // of two that begin to run one cell's function, the second is one too many
+    let begins = OnceEvent::Began { who: 0 };
+    let ends = OnceEvent::Ran { who: 0 };
+    assert!(rt; legal_once(&[begins, ends]));
+    assert!(rt; !legal_once(&[begins, OnceEvent::Began { who: 1 }]));
+    assert!(rt; !legal_once(&[begins, OnceEvent::Ran { who: 1 }]));
+}
+
+#[test]
+fn a_word_of_a_counter(rt: HostRuntime) {
+    // a counter of 2, for whose fall to 0 somebody waits: its word, and back
+    let counter = CounterState {
+        value: 2,
+        waited: true,
+    };
+    assert!(rt; encode_counter(counter) == 4_294_967_298);
+    assert!(rt; decode_counter(4_294_967_298).waited);
 }

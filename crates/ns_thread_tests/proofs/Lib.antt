@@ -1,2 +1,1 @@
 mod Meanings
-mod Walking

@@ -1,6 +1,6 @@
 //! What a turn has done, in words.
 
-use crate::sight::{Sight, both, either, only, without};
+use crate::sight::{Sight, both, either, has, only, without};
 use ns_model::seats::Seats;
 use std::alloc::AllocError;
 
@@ -11,7 +11,7 @@ fn push_done(out: &mut String, words: &str, threads: Seats) -> Result<(), AllocE
     }
     out.push_str(words)?;
     for thread in 0..64u8 {
-        if threads.contains(thread) {
+        if has(threads, thread) {
             write!(out, " {thread}")?;
         }
     }

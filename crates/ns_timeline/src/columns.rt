@@ -6,7 +6,7 @@
 
 ghost use Rattle.std.specs.Prelude.{◌<◌, ◌≤◌};
 
-use crate::sight::Sight;
+use crate::sight::{Sight, has};
 use ns_model::seats::Seats;
 use std::alloc::AllocError;
 
@@ -41,12 +41,10 @@ pub fn busiest(calls: &[usize; 64], threads: u8) -> Seats
 }
 
 /// The bar of a section: `#` for one that writes, `:` for one that reads.
-fn bar(sight: &Sight, thread: u8) -> char
-    requires { thread < 64 }
-{
+fn bar(sight: &Sight, thread: u8) -> char {
     if sight.writer == Some(thread) {
         '#'
-    } else if sight.readers.contains(thread) {
+    } else if has(sight.readers, thread) {
         ':'
     } else {
         ' '
@@ -55,20 +53,18 @@ fn bar(sight: &Sight, thread: u8) -> char
 
 /// The number of the condition variable that a thread waits for, the lowest where it waits for several, or
 /// `z` if it waits in the lock's list.
-fn list(sight: &Sight, thread: u8) -> Option<char>
-    requires { thread < 64 }
-{
-    if sight.lock.contains(thread) {
+fn list(sight: &Sight, thread: u8) -> Option<char> {
+    if has(sight.lock, thread) {
         return Some('z');
     }
     let [first, second, third, fourth] = sight.variables;
-    if first.contains(thread) {
+    if has(first, thread) {
         Some('0')
-    } else if second.contains(thread) {
+    } else if has(second, thread) {
         Some('1')
-    } else if third.contains(thread) {
+    } else if has(third, thread) {
         Some('2')
-    } else if fourth.contains(thread) {
+    } else if has(fourth, thread) {
         Some('3')
     } else {
         None
@@ -76,16 +72,14 @@ fn list(sight: &Sight, thread: u8) -> Option<char>
 }
 
 /// Where a thread stands in its call, if it is in one.
-fn place(sight: &Sight, thread: u8) -> char
-    requires { thread < 64 }
-{
+fn place(sight: &Sight, thread: u8) -> char {
     if sight.queues == Some(thread) {
         '@'
-    } else if sight.called().contains(thread) {
+    } else if has(sight.called(), thread) {
         '!'
     } else if let Some(list) = list(sight, thread) {
         list
-    } else if sight.busy.contains(thread) {
+    } else if has(sight.busy, thread) {
         '.'
     } else {
         ' '
@@ -95,7 +89,7 @@ fn place(sight: &Sight, thread: u8) -> char
 /// The columns of those who have one.
 pub fn push_columns(out: &mut String, shown: Seats, sight: &Sight) -> Result<(), AllocError> {
     for thread in 0..64u8 {
-        if shown.contains(thread) {
+        if has(shown, thread) {
             out.push(bar(sight, thread))?;
             out.push(place(sight, thread))?;
             out.push(' ')?;
@@ -107,7 +101,7 @@ pub fn push_columns(out: &mut String, shown: Seats, sight: &Sight) -> Result<(),
 /// The numbers of those who have a column.
 pub fn push_numbers(out: &mut String, shown: Seats) -> Result<(), AllocError> {
     for thread in 0..64u8 {
-        if shown.contains(thread) {
+        if has(shown, thread) {
             write!(out, "{thread:<3}")?;
         }
     }

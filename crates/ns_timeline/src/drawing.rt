@@ -12,6 +12,7 @@ use crate::document::document_of;
 use crate::line::Lines;
 use crate::paper::Paper;
 use crate::record::Record;
+use crate::sight::has;
 use crate::stepping::{Drawing, draw_schedule};
 use ns_model::seats::Seats;
 use ns_replay::{Fault, Run, Script, Sink, Source, collect_bytes, run_bytes, write_all};
@@ -29,7 +30,7 @@ fn begun(run: &Run) -> [usize; 64] {
     let busy = run.world.state().busy;
     let mut calls = [0usize; 64];
     for thread in 0..64u8 {
-        let left = usize::from(busy.contains(thread));
+        let left = usize::from(has(busy, thread));
         calls[thread as usize] = finished(&run.lines, thread).saturating_add(left);
     }
     calls

@@ -10,7 +10,7 @@ ghost use Rattle.ns_world.specs.Runs.{ListFits};
 
 use crate::model::AtLeast;
 use ns_model::event::{Entry, Event, Exit};
-use ns_model::history::row_after;
+use ns_model::history::{legal, row_after};
 use ns_world::call::Call;
 use ns_world::fault::Fault;
 use ns_world::reply::Reply;
@@ -19,6 +19,24 @@ use ns_world::step::Step;
 use ns_world::world::World;
 use std::alloc::{AllocError, Global};
 use std::test::Fail;
+
+/// Any `Condition<8>`, by the name that it has in the example.
+type Never = AtLeast;
+
+/// The example at the head of the crate.
+#[test]
+fn head_example(rt: HostRuntime) -> Result<(), Fail> {
+    let mut world = World::<Never, 8>::new(rt.alloc(), 2, &[], 0)?; // `Never` is any `Condition<8>`
+    world.begin(0, Call::TryLock)?;
+    world.step(0)?; // Step::Went: the word was loaded
+    let step = world.step(0)?;
+    assert!(rt; step == Step::Finished(Reply::Succeeded)); // seat 0 has the lock
+    world.begin(1, Call::TryLock)?;
+    let step = world.step(1)?;
+    assert!(rt; step == Step::Finished(Reply::Busy));
+    assert!(rt; world.state().word.write && legal(world.history()));
+    Ok(())
+}
 
 /// Makes a step of seat 0, again where it is refused, and answers whether it then is as with ample memory: the
 /// refused one changed nothing.

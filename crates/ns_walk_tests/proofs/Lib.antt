@@ -1,0 +1,5 @@
+mod Acts
+mod Driving
+mod Made
+mod Nobody
+mod Scanning

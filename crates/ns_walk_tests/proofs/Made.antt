@@ -1,0 +1,43 @@
+-- An act that puts no queues back is prepared, and the first act of a call may be made.
+use Rattle.std.proofs.Common.{None, Option, Some, [], ap, false, refl, subst, sym, true, ◌∙◌, ◌≡◌}
+use Rattle.ns_gate.proofs.Prelude.{Act, GateView, Owed, Paid, PayWake, ReleaseReturning, ReturnQueues, SeatOf, Truths, WaitReturning, Walk, the, want_of}
+use Rattle.ns_gate.specs.Performing.{Needs}
+use Rattle.ns_gate.specs.Prelude.{CanStep}
+use Rattle.ns_gate.specs.declared.queues.Turned.{Turned}
+use Rattle.ns_gate.specs.declared.perform.Beside.{Beside}
+use Rattle.ns_walk_tests.proofs.Acts.{begins_fit, needs_by}
+use Rattle.ns_walk_tests.specs.Acts.{beside_of, may_begin, may_make}
+use Rattle.ns_walk_tests.specs.Driving.{IsDriven, IsPrepared, at_most_one, behind_first, owed_behind, owed_by}
+use Rattle.ns_walk_tests.specs.declared.known.Known.{Known}
+
+-- the hand has made nothing of the queues
+abbrev pub unturned : Turned
+unturned = record { some = false; bits = record { waiting = false; conditional = false; writer_waits = false; long = false } }
+
+module _ {C : Type 0} (truths : Truths C) where
+  -- ---- an act that puts no queues back
+
+  owes_plain : (act : Act C) (known : Known) (view : GateView C 1) → may_make false act known ≡ true → view.at.owed ≡ at_most_one known.owed → owed_by truths act view ≡ at_most_one (owed_behind act known.owed)
+  owes_plain (ReturnQueues change last) known view may is = absurd (cc)
+  owes_plain (ReleaseReturning releasing last) known view may is = absurd (cc)
+  owes_plain (WaitReturning wait again last) known view may is = absurd (cc)
+  owes_plain PayWake known view may is = ap behind_first is ∙ none known.owed where
+    none : (owed : Option Owed) → behind_first (at_most_one owed) ≡ []
+    none None = refl
+    none (Some wake) = refl
+  owes_plain act known view may is = is
+
+  pub plain_prepared : (walk : Walk C) (act : Act C) (known : Known) (turned : Turned) (beside : Beside 1) (owed : Option Owed) (me : SeatOf C 1) → may_make false act known ≡ true → IsDriven truths (Some walk) known me → beside ≡ beside_of known turned (Paid false) → owed ≡ owed_behind act known.owed
+      → IsPrepared truths act beside owed me me
+  plain_prepared walk act known turned beside owed me may driven is behind = record {
+    same = refl;
+    needs = subst (λ (b : Beside 1). Needs truths None act b me) (sym is) (needs_by truths None act known turned (Some walk) me may driven);
+    owes = owes_plain act known (the me.0) may driven.owes ∙ ap at_most_one (sym behind);
+    kept = λ plain. refl;
+  }
+
+  -- ---- the first act of a call
+
+  pub first_can : (first : Walk C) (act : Act C) (known : Known) (me : SeatOf C 1) → act ≡ want_of first → may_begin first known.section ≡ true → IsDriven truths None known me → CanStep truths (Some first) act me
+  first_can first act known me is may driven = let fits = begins_fit truths first known.section (the me.0).at.held may driven.knows driven.stands.settled in
+      record { one = driven.stands.one; may = (driven.stands.over, fits.0, fits.1); walk = first; walks = refl; wants = sym is }

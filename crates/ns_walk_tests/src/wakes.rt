@@ -1,0 +1,102 @@
+//! A signal or a broadcast on the queues in a driven seat's hand.
+
+ghost use Rattle.std.specs.Prelude.{◌≡◌, ◌<◌, IfNone, IfSome};
+ghost use Rattle.ns_gate.specs.Prelude.{HasUnchangedQueues, the};
+ghost use Rattle.ns_gate.specs.declared.queues.Returning.TheVariants.{Changed};
+ghost use Rattle.ns_walk_tests.specs.Driving.{IsMade};
+
+use crate::known::Hand;
+use ns_gate::gate::{Gate, GateSeat};
+use ns_model::condition::Condition;
+use ns_word::act::{Change, Found, Waking};
+use ns_word::owed::wake_by;
+use ns_word::word::Word;
+use std::process::Abort;
+
+/// Takes the one who waits for the variable, if just one does.
+fn wake_sole<C: Condition<1>>(
+    gate: &Gate<C, 1>,
+    seat: &mut GateSeat<C, 1>,
+    waking: Waking,
+    k: u8,
+    last: Word,
+) -> Option<Hand>
+    requires of { seat.old.table_id ≡ gate.now }
+    requires has { HasUnchangedQueues seat.old.me }
+    requires variable { k < 4 }
+    ensures of { seat.new.table_id ≡ gate.now }
+    ensures made { IfSome result (λ made. IsMade C.means (Changed (Change.WakeWaiters waking k)) last made seat.old.me seat.new.me) }
+    ensures same { IfNone result ((seat.new.me.0 ≡ seat.old.me.0) × HasUnchangedQueues seat.new.me) }
+{
+    let held = last.is_held();
+    match gate.wake_sole_in_hand(seat, waking, k, held) {
+        Some((sole, turned)) => {
+            let owed = if held {
+                None
+            } else {
+                Some(wake_by(k, sole.seat))
+            };
+            let finds = Found::Woke { owes: !held };
+            Some(Hand {
+                turned,
+                finds,
+                owed,
+            })
+        }
+        None => None,
+    }
+}
+
+/// Takes those whom the call wakes of several who wait for the variable, to the lock list: the lock is to be held.
+fn wake_several<A: Abort, C: Condition<1>>(
+    rt: &A,
+    gate: &Gate<C, 1>,
+    seat: &mut GateSeat<C, 1>,
+    waking: Waking,
+    k: u8,
+    last: Word,
+) -> Hand
+    requires of { seat.old.table_id ≡ gate.now }
+    requires has { HasUnchangedQueues seat.old.me }
+    requires variable { k < 4 }
+    ensures of { seat.new.table_id ≡ gate.now }
+    ensures made { IsMade C.means (Changed (Change.WakeWaiters waking k)) last result seat.old.me seat.new.me }
+{
+    if !last.is_held() {
+        panic!(rt; "the seat would owe more than one wake");
+    }
+    let (_, turned) = gate.wake_in_hand(seat, waking, k, true);
+    Hand {
+        turned,
+        finds: Found::Woke { owes: false },
+        owed: None,
+    }
+}
+
+/// Takes those whom the call wakes out of the list of the variable.
+pub fn wake<A: Abort, C: Condition<1>>(
+    rt: &A,
+    gate: &Gate<C, 1>,
+    seat: &mut GateSeat<C, 1>,
+    waking: Waking,
+    k: u8,
+    last: Word,
+) -> Hand
+    requires of { seat.old.table_id ≡ gate.now }
+    requires has { HasUnchangedQueues seat.old.me }
+    requires variable { k < 4 }
+    ensures of { seat.new.table_id ≡ gate.now }
+    ensures made { IsMade C.means (Changed (Change.WakeWaiters waking k)) last result seat.old.me seat.new.me }
+{
+    if let Some(turned) = gate.wake_nobody_in_hand(seat, k) {
+        return Hand {
+            turned,
+            finds: Found::Woke { owes: false },
+            owed: None,
+        };
+    }
+    if let Some(made) = wake_sole(gate, seat, waking, k, last) {
+        return made;
+    }
+    wake_several(rt, gate, seat, waking, k, last)
+}
