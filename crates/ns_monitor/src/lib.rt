@@ -20,9 +20,9 @@
 //! };
 //! ```
 //!
-//! A [`Handle`] is a seat of a [`Monitor`] together with the monitor. Each call of the one has a call of the same
-//! name at the other, which promises the same: the monitor's take its caller's seat or section, which has to be of
-//! that monitor, and by a handle it is.
+//! A [`Handle`] is a seat of a [`Monitor`] together with the monitor. Each call on a seat, a section or a wait stands
+//! at both by one name, and promises the same: the monitor's takes its caller's seat, section or wait, which has to
+//! be of that monitor, and by a handle it is.
 //!
 //! So a second acquire by one seat, a section used after its release or its wait, a write through a
 //! read section and a release in the wrong mode don't compile. Many readers may hold the lock beside

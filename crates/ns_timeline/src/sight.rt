@@ -1,5 +1,8 @@
 //! What can be seen of a world between two turns.
 
+ghost use Rattle.std.specs.Prelude.{◌≡◌, ◌&&◌, nat_lt};
+ghost use Rattle.ns_model.specs.Seats.{is_in};
+
 use ns_model::seats::Seats;
 use ns_queue::waiter::Shown;
 use ns_word::word::Word;
@@ -33,9 +36,11 @@ pub fn only(thread: u8) -> Seats {
     Seats(1u64.wrapping_shl(u32::from(thread)))
 }
 
-/// Whether the thread is in the set.
-pub fn has(some: Seats, thread: u8) -> bool {
-    both(some, only(thread)) != Seats::none()
+/// Whether the thread is in the set, as one below 64 may be.
+pub fn has(some: Seats, thread: u8) -> bool
+    ensures { result ≡ (nat_lt thread 64 && is_in some thread) }
+{
+    thread < 64 && some.contains(thread)
 }
 
 /// Those of the first set who aren't in the second.

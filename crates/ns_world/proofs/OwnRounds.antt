@@ -1,16 +1,12 @@
 -- Where a step of its own leads a call on counters and once cells, which may have gone on to wait on the lock.
-use Rattle.std.proofs.Common.{List, None, Option, Some, [], ap, append-nil, append_assoc, inl, inr, refl, slice_get, slice_set, subst, suc, sym, true, unwrap_or, ℕ, ◌++◌, ◌∙◌, ◌≡◌}
+use Rattle.std.proofs.Common.{List, None, Option, Some, [], ap, append-nil, append_assoc, inl, inr, refl, slice_get, slice_set, subst, suc, sym, unwrap_or, ℕ, ◌++◌, ◌∙◌, ◌≡◌}
 use Rattle.ns_world.proofs.Prelude.{Answer, AnswersOfLock, AnswersTo, Any, AnyAnswers, AnyMeans, AnyWait, AreObjectsBy, BeginsToWait, BeginsWith, Cause, Doing, DoingFits, FirstClock, Found, Free, GoesRound, HasLedTo, Held, InHand, InRound, IsLater, IsLawfulWhole, IsReady, LookBy, Looked}
 use Rattle.ns_world.proofs.Prelude.{LooksByLimits, LooksByRound, MayEnd, Means, Next, Number, ObjectEffect, ObjectEvent, ObjectGoes, ObjectLeads, ObjectReply, ObjectSoFar, ObjectWalk, ObjectsSteps, OfObjects, On, OnLock, OnNotes, OnObjects, OnVariables, Operates, Past, PlaceBy, Reply, Request}
 use Rattle.ns_world.proofs.Prelude.{Round, RoundGo, RoundGoes, RoundNext, RoundOver, RoundPlace, RoundSoFar, Seat, SeatMakes, Step, WaitMeans, Walk, WalkFits, WalkReply, WereThere, Whole, at_will, begins_unchanged, by_round, cause_of, course_from, doing_after, doing_by, env_after, env_own}
 use Rattle.ns_world.proofs.Prelude.{first_place, got_of, held_at, items_of, last_nothing, later_itself, look_in, looks_at, made_begins, mode_of, mode_waited, notes_by, notes_of, nothing_done, object_asked, object_got, object_place, object_step_of, object_want, objects_after, objects_by, objects_own}
 use Rattle.ns_world.proofs.Prelude.{objects_own_all, operates_on, operating_of, option_map_or, own, own-append, past_and, place_after, place_told, reply_of_lock, reply_told, round_by, round_got, round_makes_none, round_want, row_after, shown_by, some_among, step_of, there, there_more, wait_first}
 use Rattle.ns_world.proofs.Prelude.{wait_is_first, waits_for_any, waits_then, walk_of, want_of, woken_by}
-use Rattle.ns_world.specs.Prelude.{IsLawful, RoundShows, Setup}
-use Rattle.ns_counters.specs.Meanings.{ObjectMeans}
-use Rattle.ns_world.specs.Meanings.{MakesOneRound}
-use Rattle.ns_counters.proofs.Rounds.{later_through, none_since, nothing_later}
-use Rattle.ns_counters.specs.declared.reply.ObjectReply.TheVariants as TheObject
+use Rattle.ns_world.specs.Prelude.{IsLawful}
 use Rattle.ns_world.proofs.HowFar.{AsShown, Awaiting, HasCome, LockLeads, LockUnderway, ObjectsUnderway, Outcome, RoundOn, ShownOn, Untouched, lock_rests, no_own, no_own_notes, shown_rests, until_rests, wait_for}
 use Rattle.ns_world.proofs.Looking.{Acts, round_goes, waits_is}
 use Rattle.ns_world.proofs.Mapped.{got-map}
@@ -21,20 +17,6 @@ use Rattle.ns_world.proofs.Led.{fits_here}
 use Rattle.ns_word.specs.declared.request.Request.TheVariants as TheRequest
 use Rattle.ns_word.specs.declared.walk.Reply.TheVariants as TheWalk
 use Rattle.ns_env.specs.declared.next.Next.TheVariants as TheNext
-
--- what rounds answer, one round has shown
-one_of_rounds : (setup : Setup) (earlier now : Past) (round : Round) (place : ℕ) → AnyAnswers setup earlier now round.items round.deadline place → RoundShows (IsReady setup) (items_of round.items) round.deadline earlier now (Some place)
-one_of_rounds setup earlier now round place a = by a.last where
-  begun : IsLater earlier a.mid
-  begun = nothing_later (IsReady setup) (items_of round.items) round.deadline a.rounds earlier a.mid a.nothing
-
-  by : RoundShows (IsReady setup) (items_of round.items) round.deadline a.mid now (Some place) → RoundShows (IsReady setup) (items_of round.items) round.deadline earlier now (Some place)
-  by (inl one) = inl (record { clock = one.clock; begins = later_through earlier a.mid one.clock begun one.begins; point = one.point; unready = one.unready; thing = one.thing; is = one.is; ready = one.ready; ends = one.ends })
-  by (inr none) = inr (none.0, none_since (IsReady setup) (items_of round.items) round.deadline true earlier a.mid now begun none.1)
-
-one_round : (setup : Setup) (earlier now : Past) (seat : ℕ) (asked : ObjectWalk) (events : List ObjectEvent) (answer : ObjectReply) → ObjectMeans setup earlier now seat asked events answer → MakesOneRound setup earlier now asked answer
-one_round setup earlier now seat (InRound round place) events (TheObject.Number answer) means = λ k named. one_of_rounds setup earlier now round answer means.1
-one_round setup earlier now seat asked events answer means = tt
 
 -- a wait on the lock for any of several tells which variable has woken it
 woken_is : (by : Option ℕ) → woken_by (reply_of_lock (TheWalk.WokenBy by)) ≡ by
@@ -110,7 +92,6 @@ module _ {C : Type 0} {N : ℕ} (before : Whole C N) (earlier : Past) (seat : �
               answer = reply;
               tells = refl;
               means = goes;
-              one_round = one_round before.objects.setup earlier on seat asked (o.events ++ p.operates.events) reply goes;
               still = still;
               same = ap (λ q. option_map_or (λ (s : Seat C N). s.held) q None) (here_then old new seat here next at seats) ∙ held;
               silent = silent;

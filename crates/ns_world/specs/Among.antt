@@ -1,7 +1,8 @@
 -- Waits for condition variables among notes and counters. As such a call begins, a round looks at the notes and counters; where that shows nothing, the call leaves its section and waits on the lock for the variables; and whenever that wait looks, another round does so.
 use Rattle.std.specs.Prelude.{Bool, IsSome, None, Option, Some, false, if◌then◌else◌, true, unwrap_or, ℕ, ◌≡◌, ◌≤◌}
 use Rattle.ns_world.specs.Names.{Any, AnyWait, AreAmong, AreVariables, Cause, Cvs, Every, Expired, Held, InRound, IsLow, Limits, Mode, Next, Number, ObjectReply, ObjectWalk, OnLock, OnVariables, Reply, Request, Round, Seat, Step, Subject, WaitFor as Wait, Went, have_variable, items_of, place_in}
-use Rattle.ns_world.specs.Names.{wait_first}
+use Rattle.ns_world.specs.Names.{FirstClock, RoundPlace, wait_first}
+use Rattle.ns_counters.specs.declared.round.RoundPlace.TheVariants.{AtCounter, AtNote}
 use Rattle.ns_world.specs.Calls.{mode_of, mode_waited}
 use Rattle.ns_world.specs.Doings.{placed}
 use Rattle.ns_counters.specs.declared.reply.ObjectReply.TheVariants as TheObject
@@ -54,6 +55,17 @@ abbrev pub IsFew : AnyWait → Type 0
 IsFew wait = wait.round.items.count ≤ 16
 
 -- ---- what a round shows
+
+-- the number of the object that a round looks at; before it has loaded the clock, that of the first
+abbrev pub object_at : RoundPlace → ℕ
+object_at FirstClock = 0
+object_at (AtNote at clock asked note) = at
+object_at (AtCounter at clock counter) = at
+
+-- A round that was at the one place looks on from the other: it has loaded the clock, and has gone back to no object.
+abbrev pub LooksOn : RoundPlace → RoundPlace → Type 0
+LooksOn place FirstClock = ⊥
+LooksOn place behind = object_at place ≤ object_at behind
 
 -- what a round has shown, by where its last step leads
 abbrev pub shown_by : Next ObjectWalk ObjectReply → Option ℕ

@@ -5,7 +5,7 @@ use Rattle.std.specs.Prelude.{IsSome, List, None, Option, Some, [], slice_get, s
 use Rattle.ns_world.specs.Names.{Add, AddLoad, Advance, Any, AnyAnswers, AreAmong, Asked, AtSomePoint, Broadcast, Broadcasting, Call, Cause, CounterWait, Course, CvWait, Cvs, Done, DoneLoad, EnvCourse, EnvEvent, EnvMeans, EnvReply, EnvRequest, Expiry, Finished, FirstClock, Get, HasMode, Held, InRound}
 use Rattle.ns_world.specs.Names.{IsLater, IsNotified, IsReady, Limits, Lock, Means, Mode, NewNote, NoteWait, Notify, Number, ObjectEvent, ObjectMeans, ObjectReply, ObjectWalk, OfLock, OfNotes, OfObjects, OnCondition, OnVariable, OnVariables, Once, OnceLoad, Only, Past, QuietWriter, RLock, RUnlock}
 use Rattle.ns_world.specs.Names.{Read, Reader, Reply, Request, Round, RoundShows, Set, Setup, Shows, Signal, Signaling, Started, Step, Subject, TryLock, TryRLock, Unlock, UnlockQuiet, Value, ValueLoad, Wait, WaitAny, WaitMark, WalkReply, WokenBy, Write, Writer, env_own, is_among, item_at, items_of}
-use Rattle.ns_world.specs.Names.{objects_own, own, past_and, row_after}
+use Rattle.ns_world.specs.Names.{Releasing, objects_own, own, past_and, row_after}
 use Rattle.ns_world.specs.Calls.{mode_of, mode_waited}
 use Rattle.ns_world.specs.Among.{waits_for_any}
 use Rattle.ns_world.specs.Replies.{told, env_told, object_told}
@@ -13,7 +13,6 @@ use Rattle.ns_world.specs.Moves.{WholeBegins, WholeStep, notes_by, objects_by}
 use Rattle.ns_world.specs.Whole.{Whole, IsLawfulWhole}
 use Rattle.ns_env.specs.declared.request.EnvRequest.TheVariants as TheEnvRequest
 use Rattle.ns_word.specs.declared.request.Request.TheVariants as TheRequest
-use Rattle.ns_counters.specs.declared.reply.ObjectReply.TheVariants as TheObject
 use Rattle.ns_world.specs.declared.reply.Reply.TheVariants.{Busy, Noisy, Succeeded}
 
 -- ---- what was asked
@@ -86,11 +85,11 @@ SaysOfTry mode Succeeded was held = HasMode mode held
 SaysOfTry mode Busy was held = held ≡ was
 SaysOfTry mode reply was held = ⊥
 
--- What a release says, likewise: where it has succeeded, nothing is in hand; where it was noisy, what was.
-abbrev pub SaysOfRelease : {C : Type 0} {N : ℕ} → Reply → Option (Held C N) → Option (Held C N) → Type 0
-SaysOfRelease Succeeded was held = (held ≡ None) × IsSome was
-SaysOfRelease Noisy was held = (held ≡ was) × IsSome was
-SaysOfRelease reply was held = ⊥
+-- What a release says, likewise: where it has succeeded, nothing is in hand; where one that was to be quiet was noisy, what was.
+abbrev pub SaysOfRelease : {C : Type 0} {N : ℕ} → Releasing → Reply → Option (Held C N) → Option (Held C N) → Type 0
+SaysOfRelease releasing Succeeded was held = (held ≡ None) × IsSome was
+SaysOfRelease QuietWriter Noisy was held = (held ≡ was) × IsSome was
+SaysOfRelease releasing reply was held = ⊥
 
 -- A call on the clock and the notes has this answer: it means what it says of what happened to them since the call began; what the call has done to them is just what the seat has; and the section in hand and the history of the row are as they were.
 pub record AnswersOfNotes {C : Type 0} {N : ℕ} (before : Whole C N) (earlier : List EnvEvent) (seat : ℕ) (request : EnvRequest) (reply : Reply) (after : Whole C N) (later : List EnvEvent) : Type 0 where
@@ -103,11 +102,6 @@ pub record AnswersOfNotes {C : Type 0} {N : ℕ} (before : Whole C N) (earlier :
   pub same : held_at after seat ≡ held_at before seat
   pub silent : own after.history seat ≡ own before.history seat
 
--- A wait for any of several that names a condition variable makes one round with its section in hand: the place that it answers so, one round has shown. A look is no event, so that it repeats none is said of its steps (`waits_for_variables_make_one_round`).
-abbrev pub MakesOneRound : Setup → Past → Past → ObjectWalk → ObjectReply → Type 0
-MakesOneRound setup earlier now (InRound round place) (TheObject.Number answer) = (k : ℕ) → is_among k (items_of round.items) ≡ true → RoundShows (IsReady setup) (items_of round.items) round.deadline earlier now (Some answer)
-MakesOneRound setup earlier now asked answer = Unit {0}
-
 -- A call on counters and once cells has this answer: it means what it says; what the call has done to them is just what the seat has; and the clock and the notes, the section in hand and the history of the row are as they were, but for what others did.
 pub record AnswersOfObjects {C : Type 0} {N : ℕ} (before : Whole C N) (earlier : Past) (seat : ℕ) (asked : ObjectWalk) (reply : Reply) (after : Whole C N) (later : Past) : Type 0 where
   pub events : List ObjectEvent
@@ -115,7 +109,6 @@ pub record AnswersOfObjects {C : Type 0} {N : ℕ} (before : Whole C N) (earlier
   pub answer : ObjectReply
   pub tells : reply ≡ object_told answer
   pub means : ObjectMeans before.objects.setup earlier later seat asked events answer
-  pub one_round : MakesOneRound before.objects.setup earlier later asked answer
   pub still : env_own later.notes seat ≡ env_own earlier.notes seat
   pub same : held_at after seat ≡ held_at before seat
   pub silent : own after.history seat ≡ own before.history seat

@@ -1,4 +1,4 @@
-use Rattle.std.proofs.Common.{None, rules, sym, ◌∙◌}
+use Rattle.std.proofs.Common.{None, sym, ◌∙◌}
 use Rattle.ns_monitor.proofs.Prelude.{in_room, AcquireLoad, HasSince, InAcquire, LoadWord, Saw, TableId, since, since_then, the}
 use Rattle.ns_monitor.proofs.Standing.{can_load, loads, same_number}
 use Rattle.ns_monitor.proofs.monitor.Monitor.acquire.Given.{Over}
@@ -19,7 +19,7 @@ acquire_on-requires g c = let t = g.C.Condition.means in
 
 pub returns : goal.returns
 returns g c = record {
-  seat = search rules;
+  seat = c.acquire_on.ensures.seat;
   since = since_then None _ _ _ (since_load g (goal.at.returns g c).After-load-word) c.acquire_on.ensures.since;
-  acquired = search rules;
+  acquired = c.acquire_on.ensures.acquired;
 }

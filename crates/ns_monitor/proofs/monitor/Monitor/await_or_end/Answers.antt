@@ -25,7 +25,7 @@ pub returns-then-flag-ne1 : goal.returns-then-flag-ne1
 returns-then-flag-ne1 g c = record {
   seat = search rules;
   since = since_flag g (goal.at.returns-then-flag-ne1 g c).After-load_flag-flag;
-  looked = search rules;
+  looked = c.loop.invariant.4;
   ended = search rules;
   came = (c.if-flag-ne1.true, goes g.C.Condition.means (InWait c.args.wait AwaitWakeInWait) LoadFlag (Flag c.load_flag-flag.result) _ c.loop.seat.me c.load_flag-flag.new.seat.me c.loop.invariant.5 refl refl refl c.load_flag-flag.ensures.did);
 }

@@ -1,4 +1,4 @@
-use Rattle.ns_monitor.proofs.Prelude.{in_room, None, rules, since_then}
+use Rattle.ns_monitor.proofs.Prelude.{in_room, None, since_then}
 use Rattle.ns_monitor.proofs.Standing.{same_number}
 use Rattle.ns_monitor.proofs.monitor.Monitor.come_back.Goals as goal
 
@@ -8,9 +8,9 @@ acquire-requires g c = let came = c.await_in-arrival in
 
 pub returns : goal.returns
 returns g c = record {
-  seat = search rules;
+  seat = c.acquire.ensures.seat;
   since = since_then None _ _ _ c.await_in-arrival.ensures.since c.acquire.ensures.since;
-  looked = search rules;
-  ended = search rules;
-  acquired = search rules;
+  looked = c.await_in-arrival.ensures.looked;
+  ended = c.await_in-arrival.ensures.ended;
+  acquired = c.acquire.ensures.acquired;
 }

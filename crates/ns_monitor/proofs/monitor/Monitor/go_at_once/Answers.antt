@@ -1,4 +1,4 @@
-use Rattle.ns_monitor.proofs.Prelude.{in_room, Some, refl, rules, since_then}
+use Rattle.ns_monitor.proofs.Prelude.{in_room, Some, refl, since_then}
 use Rattle.ns_monitor.proofs.Standing.{goes_behind, loads_first, may_decide, wants_to_go}
 use Rattle.ns_monitor.proofs.monitor.Monitor.go_at_once.Goals as goal
 
@@ -9,7 +9,7 @@ begin_to_go-requires g c =
 
 pub returns-in-Ok : goal.returns-in-Ok
 returns-in-Ok g c = let gone = goes_behind g.C.Condition.means c.args.walk c.args.going c.args.seat.now.me c.begin_to_go.new.seat.me c.requires.decides c.requires.going c.requires.rest c.in-Ok.ensures.began in record {
-  seat = search rules;
+  seat = c.begin_to_go.ensures.seat;
   since = gone.0;
   went = (gone.1, gone.2);
 }
@@ -20,7 +20,7 @@ go_by-requires g c = let led = loads_first g.C.Condition.means c.args.walk c.arg
 
 pub returns-in-Err : goal.returns-in-Err
 returns-in-Err g c = let led = loads_first g.C.Condition.means c.args.walk c.args.walk c.in-Err.word c.args.seat.now.me c.begin_to_go.new.seat.me refl c.requires.rest c.in-Err.ensures.began.1 in record {
-  seat = search rules;
+  seat = c.go_by.ensures.seat;
   since = since_then (Some c.args.walk) _ _ _ led.1 c.go_by.ensures.since;
   went = c.go_by.ensures.went;
 }

@@ -1,4 +1,4 @@
-use Rattle.std.proofs.Common.{None, refl, rules, subst, sym, true, ◌≡◌}
+use Rattle.std.proofs.Common.{None, refl, subst, sym, true, ◌≡◌}
 use Rattle.ns_monitor.proofs.Prelude.{in_room, CanStep, IsAtPlace, Made, Performed, Saw, going_act, going_at, going_of, may_go, since, since_itself, the}
 use Rattle.ns_monitor.proofs.Standing.{decided, can_go_by, goes_alone, goes_by, may_by, misses}
 use Rattle.ns_monitor.proofs.monitor.Monitor.go_by.Given.{Over}
@@ -11,7 +11,7 @@ at g c may = decided g.C.Condition.means c.args._walk c.args.word true _ c.args.
 
 pub returns-then-not-may_go : goal.returns-then-not-may_go
 returns-then-not-may_go g c = record {
-  seat = search rules;
+  seat = c.requires.of;
   since = since_itself (the c.args.seat.now.me.0);
   went = (c.requires.word, c.requires.at);
 }
@@ -23,7 +23,7 @@ exchange_to_go-requires g c = let t = g.C.Condition.means in let walk = c.args._
 
 pub returns-in-Ok : goal.returns-in-Ok
 returns-in-Ok g c = record {
-  seat = search rules;
+  seat = c.exchange_to_go.ensures.seat;
   since = since g.C.Condition.means None (going_act c.args.going c.args.word) Made c.args.seat.now.me c.exchange_to_go.new.seat.me c.in-Ok.ensures.did;
   went = let t = g.C.Condition.means in let walk = c.args._walk in let word = c.args.word in let me = c.args.seat.now.me in let now = c.exchange_to_go.new.seat.me in let is = c.requires.going in
       let may = (may_by c.args.going walk word c.may_go.result true is c.may_go.ensures c.if-not-may_go.false).1 in
@@ -33,7 +33,7 @@ returns-in-Ok g c = record {
 -- another step came between
 pub returns-in-Err : goal.returns-in-Err
 returns-in-Err g c = record {
-  seat = search rules;
+  seat = c.exchange_to_go.ensures.seat;
   since = since g.C.Condition.means None (going_act c.args.going c.args.word) (Saw c.in-Err.other) c.args.seat.now.me c.exchange_to_go.new.seat.me c.in-Err.ensures.did;
   went = let t = g.C.Condition.means in let walk = c.args._walk in let word = c.args.word in let other = c.in-Err.other in let me = c.args.seat.now.me in let now = c.exchange_to_go.new.seat.me in let is = c.requires.going in
       let may = (may_by c.args.going walk word c.may_go.result true is c.may_go.ensures c.if-not-may_go.false).1 in

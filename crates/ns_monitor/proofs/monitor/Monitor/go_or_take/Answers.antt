@@ -1,4 +1,4 @@
-use Rattle.std.proofs.Common.{None, ap, false, refl, rules, subst, sym, true, ◌∙◌}
+use Rattle.std.proofs.Common.{None, ap, false, refl, subst, sym, true, ◌∙◌}
 use Rattle.ns_monitor.proofs.Prelude.{in_room, CanStep, HasTakenAt, LoadWord, Made, Performed, Saw, TableId, TakeQueues, going_act, since, since_itself, since_then, taking_for, the, word_taken}
 use Rattle.ns_monitor.proofs.Standing.{can_go_by, can_load, decided, may_by, can_take, goes_alone, goes_by, loads, misses, misses_taking, saw_held, took}
 use Rattle.ns_monitor.proofs.monitor.Monitor.go_or_take.Goals as goal
@@ -14,7 +14,7 @@ exchange_to_go-requires g c = let t = g.C.Condition.means in let inv = c.loop.in
 
 pub returns-in-Ok : goal.returns-in-Ok
 returns-in-Ok g c = record {
-  seat = search rules;
+  seat = c.exchange_to_go.ensures.seat;
   since = since_then None _ _ _ c.loop.invariant.4 (since g.C.Condition.means None (going_act c.args.going c.loop.word) Made c.loop.seat.me c.exchange_to_go.new.seat.me c.in-Ok.ensures.did);
   came = let t = g.C.Condition.means in let inv = c.loop.invariant in let walk = c.args._walk in let is = c.requires.going in let d = c.requires.decides in let now = c.exchange_to_go.new.seat.me in
       let may = (may_by c.args.going walk c.loop.word c.may_go.result true is c.may_go.ensures c.if-may_go.true).1 in

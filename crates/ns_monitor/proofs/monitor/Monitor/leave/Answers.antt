@@ -21,7 +21,7 @@ since_back g c = since_then None _ _ _ (still_since g.C.Condition.means None _ c
 
 pub returns-then-stood : goal.returns-then-stood
 returns-then-stood g c = record {
-  seat = search rules;
+  seat = c.put_back.ensures.seat;
   since = since_back g (goal.at.returns-then-stood g c).After-put_back;
   ended = search rules;
   left = let t = g.C.Condition.means in let took = c.take-word in let left = c.leave_in_hand-stood in
@@ -39,7 +39,7 @@ await_flag-flag-requires g c = let t = g.C.Condition.means in let took = c.take-
 
 pub returns : goal.returns
 returns g c = record {
-  seat = search rules;
+  seat = c.await_flag-flag.ensures.seat;
   since = since_then None _ _ _ (since_back g (goal.at.returns g c).After-put_back) c.await_flag-flag.ensures.since;
   ended = taken_ended c.args.wait.on c.args.cause c.await_flag-flag.result c.outcome_taken.result c.outcome_taken.ensures;
   left = let t = g.C.Condition.means in let flag = c.await_flag-flag.result in

@@ -1,4 +1,4 @@
-use Rattle.std.proofs.Common.{arith, refl, rules, subst, sym, ◌<◌, ◌∙◌, ◌≡◌}
+use Rattle.std.proofs.Common.{arith, refl, subst, sym, ◌<◌, ◌∙◌, ◌≡◌}
 use Rattle.ns_monitor.proofs.Prelude.{in_room, HasLoaded, TableId}
 use Rattle.ns_monitor.proofs.Tests.{can_load_cell, loads_cell, loads_none}
 use Rattle.ns_monitor.proofs.monitor.Monitor.load_cells.Goals as goal
@@ -17,7 +17,7 @@ loop-i-preserved g c = let inv = c.loop-i.invariant in let few = c.requires.coun
 
 pub returns : goal.returns
 returns g c = record {
-  seat = search rules;
+  seat = ◌∙◌ {A = TableId} c.loop-i.invariant.0 c.requires.of;
   loaded = let all : c.loop-i.i ≡ c.args.count = omega arith in
       subst (λ n. HasLoaded g.C.Condition.means c.args.begins c.loop-i.begun c.args._walk n c.loop-i.row c.args.seat.now.me c.loop-i.seat.me) all c.loop-i.invariant.1;
 }

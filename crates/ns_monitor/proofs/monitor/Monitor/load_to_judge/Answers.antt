@@ -1,4 +1,4 @@
-use Rattle.std.proofs.Common.{arith, refl, rules, sym, ◌∙◌}
+use Rattle.std.proofs.Common.{arith, refl, sym, ◌∙◌}
 use Rattle.ns_monitor.proofs.Prelude.{in_room, TableId}
 use Rattle.ns_monitor.proofs.Begins.{may_judge}
 use Rattle.ns_monitor.proofs.Tests.{can_tell, is_judged}
@@ -10,7 +10,7 @@ judge_quiet-requires g c = let some_cells = g.met.C.Condition.has_cells.0 in let
 
 pub returns : goal.returns
 returns g c = record {
-  seat = search rules;
+  seat = ◌∙◌ {A = TableId} c.judge_quiet.ensures.seat c.load_cells-begun.ensures.seat;
   since = (is_judged g.C.Condition.means _ _ _ _ _ _ _ g.met.C.Condition.has_cells.0 c.is_quiet.ensures.first c.load_cells-begun.ensures.loaded c.judge_quiet.ensures.cell c.judge_quiet.ensures.did).0;
   judged = (is_judged g.C.Condition.means _ _ _ _ _ _ _ g.met.C.Condition.has_cells.0 c.is_quiet.ensures.first c.load_cells-begun.ensures.loaded c.judge_quiet.ensures.cell c.judge_quiet.ensures.did).1;
   row = (is_judged g.C.Condition.means _ _ _ _ _ _ _ g.met.C.Condition.has_cells.0 c.is_quiet.ensures.first c.load_cells-begun.ensures.loaded c.judge_quiet.ensures.cell c.judge_quiet.ensures.did).2;

@@ -6,7 +6,7 @@ use Rattle.ns_monitor.proofs.monitor.Monitor.load_to_scan.Goals as goal
 
 pub returns-then-not-needed : goal.returns-then-not-needed
 returns-then-not-needed g c = record {
-  seat = search rules;
+  seat = c.requires.of;
   since = search rules;
   ready = let t = g.C.Condition.means in let none = c.if-not-needed.true in
       record { at = subst (λ b. IsAtPlace t (cond b (loading_at g.row.N c.args.walk 0) (loading g.row.N c.args.walk).last) c.args.seat.now.me) none c.requires.at; taken = c.requires.taken; scans = c.requires.ready none };
@@ -20,7 +20,7 @@ load_cells-requires g c = let t = g.C.Condition.means in
 
 pub returns : goal.returns
 returns g c = record {
-  seat = search rules;
+  seat = c.load_cells.ensures.seat;
   since = let t = g.C.Condition.means in let loaded = c.load_cells.ensures.loaded in
       (is_scanned t _ _ _ _ _ g.met.C.Condition.has_cells.0 c.requires.scans (subst (λ b. IsAtPlace t (cond b (loading_at g.row.N c.args.walk 0) (loading g.row.N c.args.walk).last) c.args.seat.now.me) c.if-not-needed.false c.requires.at) loaded).1;
   ready = let t = g.C.Condition.means in let loaded = c.load_cells.ensures.loaded in let me = c.load_cells.new.seat.me in

@@ -6,14 +6,14 @@ use Rattle.ns_monitor.proofs.monitor.Monitor.look_before.Goals as goal
 
 pub returns-then-not-is_some : goal.returns-then-not-is_some
 returns-then-not-is_some g c = record {
-  seat = search rules;
+  seat = c.requires.of;
   since = since_itself (the c.args.seat.now.me.0);
   looked = g.W.Watch.same c.args.watch.now;
   shown = search rules;
-  ends = search rules;
-  mine = search rules;
+  ends = tt;
+  mine = refl;
   leads = (by_limits g.C.Condition.means c.args.wait c.args.again false c.args.seat.now.me (sym c.is_some.ensures ∙ c.if-not-is_some.true) c.requires.at, refl);
-  fresh = search rules;
+  fresh = λ is. is;
 }
 
 pub look-requires : goal.look-requires
@@ -28,9 +28,9 @@ is_limited_if limits (Some cause) is = is
 
 pub returns : goal.returns
 returns g c = record {
-  seat = search rules;
+  seat = ◌∙◌ {A = TableId} c.look.ensures.seat c.requires.of;
   since = since g.C.Condition.means None (Look c.args.wait.limits c.args.again) (Looked c.look-shown.result) c.args.seat.now.me c.look.new.seat.me c.look.ensures.did;
-  looked = search rules;
+  looked = c.look-shown.ensures.since;
   shown = search rules;
   ends = is_limited_if c.args.wait.limits c.look-shown.result (sym c.is_some.ensures ∙ c.if-not-is_some.false);
   mine = commits_none g.C.Condition.means None (Look c.args.wait.limits c.args.again) (Looked c.look-shown.result) c.args.seat.now.me c.look.new.seat.me c.look.ensures.did

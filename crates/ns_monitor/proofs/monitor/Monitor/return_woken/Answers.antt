@@ -1,4 +1,4 @@
-use Rattle.std.proofs.Common.{None, ap, not, refl, rules, subst, sym, ◌∙◌, ◌≡◌}
+use Rattle.std.proofs.Common.{None, ap, not, refl, subst, sym, ◌∙◌, ◌≡◌}
 use Rattle.ns_monitor.proofs.Prelude.{in_room, Carries, HasKeptItsQueues, HasReturnedWoken, HasSince, HasWokenInHand, InSignal, IsAtPlace, IsOrderly, ReturnQueues, Saw, TableId, WakeAndReturn, WakeWaiters, change_found, is_held, lists_woken, since, since_itself, since_then, taken_from, the, works}
 use Rattle.ns_monitor.proofs.Standing.{still_since}
 use Rattle.ns_monitor.proofs.Wakes.{by_both, by_one, can_return, hand_kept, hand_made, is_returned, misses_return}
@@ -15,7 +15,7 @@ exchange_to_return-requires g c = let t = g.C.Condition.means in let inv = c.loo
 
 pub returns-in-Ok : goal.returns-in-Ok
 returns-in-Ok g c = record {
-  seat = search rules;
+  seat = ◌∙◌ {A = TableId} c.exchange_to_return.ensures.seat (◌∙◌ {A = TableId} c.loop.invariant.2 c.requires.of);
   since = let me = c.loop.seat.me in let change = WakeWaiters c.args.call.waking c.args.call.k in
       since_then None _ _ _ c.loop.invariant.4 (since g.C.Condition.means None (ReturnQueues change c.loop.word) (change_found (the me.0).at.seat change c.loop.word (the me.0).stood) me c.exchange_to_return.new.seat.me c.in-Ok.ensures.did);
   returned = let t = g.C.Condition.means in let inv = c.loop.invariant in let now = c.exchange_to_return.new.seat.me in

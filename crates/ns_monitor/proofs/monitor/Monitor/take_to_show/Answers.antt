@@ -21,7 +21,7 @@ free g c = shows_by g.C.Condition.means c.loop.word false c.loop.seat.me (sym c.
 
 pub returns-in-Ok : goal.returns-in-Ok
 returns-in-Ok g c = record {
-  seat = search rules;
+  seat = ◌∙◌ {A = TableId} c.exchange_to_take.ensures.seat (◌∙◌ {A = TableId} c.loop.invariant.2 c.requires.of);
   since = since_then (Some showing) _ _ _ c.loop.invariant.4 (since g.C.Condition.means None (TakeQueues ToChange c.loop.word) Made c.loop.seat.me c.exchange_to_take.new.seat.me c.in-Ok.ensures.did);
   at = (takes_to_show g.C.Condition.means c.loop.word c.loop.seat.me c.exchange_to_take.new.seat.me (free g (goal.at.returns-in-Ok g c).In-Ok) c.in-Ok.ensures.did).0;
   word = search rules;

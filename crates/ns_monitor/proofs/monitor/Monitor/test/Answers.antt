@@ -1,4 +1,4 @@
-use Rattle.std.proofs.Common.{ap, arith, rules, sym, ◌-◌, ◌∙◌}
+use Rattle.std.proofs.Common.{ap, arith, sym, ◌-◌, ◌∙◌}
 use Rattle.ns_monitor.proofs.Prelude.{in_room, TableId, judge_of}
 use Rattle.ns_monitor.proofs.Tests.{can_tell, is_tested}
 use Rattle.ns_monitor.proofs.monitor.Monitor.test.Goals as goal
@@ -10,7 +10,7 @@ judge_met-requires g c = let some_cells = g.met.C.Condition.has_cells.0 in let b
 
 pub returns : goal.returns
 returns g c = record {
-  seat = search rules;
+  seat = ◌∙◌ {A = TableId} c.judge_met.ensures.seat c.load_cells-begun.ensures.seat;
   since = (is_tested g.C.Condition.means _ _ _ _ _ _ _ _ _ _ _ g.met.C.Condition.has_cells.0 c.load_cells-begun.ensures.loaded c.judge_met.ensures.cell c.judge_met.ensures.did c.test.ensures).0;
   tested = (is_tested g.C.Condition.means _ _ _ _ _ _ _ _ _ _ _ g.met.C.Condition.has_cells.0 c.load_cells-begun.ensures.loaded c.judge_met.ensures.cell c.judge_met.ensures.did c.test.ensures).1;
 }

@@ -46,7 +46,7 @@ returns-then-test g c = record {
   grows = let after = (goal.at.returns-then-test g c).After-test in grown g after c.test.new.seat.table_id c.test.new.seat.me c.test.ensures.seat (met g after c.if-test.true).rest (began g after);
   waited = let after = (goal.at.returns-then-test g c).After-test in waited g after Met c.test.new.seat.table_id c.test.new.seat.me (began g after) (met g after c.if-test.true);
   looked = g.W.Watch.same c.args.watch.now;
-  ended = search rules;
+  ended = tt;
   before = λ limited. inl (c.test.ensures.tested.mine ∙ ap (λ (k : Known _ _). k.mine) c.held.view_is);
 }
 
@@ -72,7 +72,7 @@ returns-in-Some g c = record {
   grows = let after = (goal.at.returns-in-Some g c).After-look_before in grown g (goal.at.returns-in-Some g c).After-test c.look_before.new.seat.table_id c.look_before.new.seat.me c.look_before.ensures.seat (ended g after c.in-Some.cause c.in-Some.is).0.rest (looked g after);
   waited = let after = (goal.at.returns-in-Some g c).After-look_before in subst (λ answer. HasWaitedFor g.C.Condition.means c.args.condition answer c.args.held (known_of c.look_before.new.seat.table_id c.look_before.new.seat.me)) (sym c.answer_of.ensures)
       (waited g (goal.at.returns-in-Some g c).After-test (answer_of c.in-Some.cause) c.look_before.new.seat.table_id c.look_before.new.seat.me (looked g after) (ended g after c.in-Some.cause c.in-Some.is).0);
-  looked = search rules;
+  looked = c.look_before.ensures.looked;
   ended = let limited = subst (λ o. IfSome o (λ (x : Cause). is_limited c.args.limits ≡ true)) c.in-Some.is c.look_before.ensures.ends in
       ended_as (λ x. g.W.Watch.shows c.args.watch.now c.look_before.new.watch c.args.limits (Some x)) c.in-Some.cause c.answer_of.result c.answer_of.ensures (subst (g.W.Watch.shows c.args.watch.now c.look_before.new.watch c.args.limits) c.in-Some.is (c.look_before.ensures.shown limited));
   before = λ limited. inl (c.look_before.ensures.mine ∙ (c.test.ensures.tested.mine ∙ ap (λ (k : Known _ _). k.mine) c.held.view_is));

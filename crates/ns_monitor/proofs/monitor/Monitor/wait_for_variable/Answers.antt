@@ -1,4 +1,4 @@
-use Rattle.std.proofs.Common.{Some, ap, arith, rules, subst, sym, true, ◌∙◌, ◌≡◌}
+use Rattle.std.proofs.Common.{Some, ap, arith, subst, sym, true, ◌∙◌, ◌≡◌}
 use Rattle.ns_monitor.proofs.Prelude.{in_room, Answered, Await, Grows, HasAnswered, HasMode, IsFreshIn, Known, TableId, answer_of_wait, is_limited, known_of, queuing_first, the, waits_for_variable}
 use Rattle.ns_monitor.proofs.Callers.{grew}
 use Rattle.ns_monitor.proofs.Standing.{same_number}
@@ -43,7 +43,7 @@ returns g c = record {
   waited = let t = g.C.Condition.means in let after = (goal.at.returns g c).After-wait_at_variables-outcome in let s0 = c.held.inside.seat in let now = c.wait_at_variables-outcome.new.seat in
       rw c.holding.ensures (variable_wait_tells t (queuing_first (waits_for_variable c.mode-mode.result c.args.k c.args.limits)) c.mode-mode.result c.args.k c.args.limits c.answer.result c.args.held s0.table_id now.table_id s0.me now.me c.held.view_is c.wait_at_variables-outcome.ensures.since
       (subst (λ a. HasAnswered t (Await (waits_for_variable c.mode-mode.result c.args.k c.args.limits)) (Answered a) now.me) (sym c.answer.ensures) (answered g after)));
-  looked = search rules;
+  looked = c.wait_at_variables-outcome.ensures.looked;
   ended = let new = c.wait_at_variables-outcome.new.watch in
       ended_so (λ cause. (is_limited c.args.limits ≡ true) × g.W.Watch.shows c.args.watch.now new c.args.limits (Some cause))
       (λ cause. g.W.Watch.shows c.args.watch.now new c.args.limits (Some cause)) c.wait_at_variables-outcome.result c.answer.result c.answer.ensures

@@ -1,4 +1,4 @@
-use Rattle.std.proofs.Common.{Some, rules, sym, ◌∙◌}
+use Rattle.std.proofs.Common.{Some, sym, ◌∙◌}
 use Rattle.ns_monitor.proofs.Prelude.{in_room, HasSince, TableId, found_nobody, is_held, since_then, taken_from, takes_nobody, the, waking_by, woken_nobody}
 use Rattle.ns_monitor.proofs.Standing.{still_since}
 use Rattle.ns_monitor.proofs.Wakes.{hand_of_nobody, nobody_woken, taken_still}
@@ -19,7 +19,7 @@ return_woken-requires g c = let t = g.C.Condition.means in let took = c.begin_to
 
 pub returns-in-Some : goal.returns-in-Some
 returns-in-Some g c = record {
-  seat = search rules;
+  seat = c.return_woken.ensures.seat;
   since = since_then (Some (waking_by c.args.call.waking c.args.call.k)) _ _ _ (since_look g (goal.at.returns-in-Some g c).After-wake_nobody_in_hand) c.return_woken.ensures.since;
   woke = let e = c.wake_nobody_in_hand.ensures in let now = c.wake_nobody_in_hand.new.seat.me in
       let nobody = (λ i. woken_nobody c.args.call.k (the (e.seat.1 i)).stood) ∙ (sym e.nobody ∙ c.in-Some.is) in
@@ -32,7 +32,7 @@ wake_some-requires g c = let t = g.C.Condition.means in let took = c.begin_to_ta
 
 pub returns : goal.returns
 returns g c = record {
-  seat = search rules;
+  seat = c.wake_some.ensures.seat;
   since = since_then (Some (waking_by c.args.call.waking c.args.call.k)) _ _ _ (since_look g (goal.at.returns g c).After-wake_nobody_in_hand) c.wake_some.ensures.since;
-  woke = search rules;
+  woke = c.wake_some.ensures.woke;
 }

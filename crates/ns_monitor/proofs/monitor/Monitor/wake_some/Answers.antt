@@ -1,4 +1,4 @@
-use Rattle.std.proofs.Common.{None, refl, rules, subst, sym, ◌∙◌}
+use Rattle.std.proofs.Common.{None, refl, subst, sym, ◌∙◌}
 use Rattle.ns_monitor.proofs.Prelude.{in_room, HasSince, HasWokenInHand, InSignal, IsOrderly, TableId, WakeAndReturn, found_sole, since_itself, since_then, taken_from, the, works}
 use Rattle.ns_monitor.proofs.Standing.{still_since}
 use Rattle.ns_monitor.proofs.Wakes.{hand_made, taken_still}
@@ -19,9 +19,9 @@ wake_sole-requires g c = let t = g.C.Condition.means in let waking = c.args.call
 
 pub returns-in-Some : goal.returns-in-Some
 returns-in-Some g c = record {
-  seat = search rules;
+  seat = c.wake_sole.ensures.seat;
   since = since_then None _ _ _ (since_look g (goal.at.returns-in-Some g c).After-wake_sole_in_hand) c.wake_sole.ensures.since;
-  woke = search rules;
+  woke = c.wake_sole.ensures.woke;
 }
 
 pub wake_waiters-requires : goal.wake_waiters-requires
@@ -30,7 +30,7 @@ wake_waiters-requires g c = let t = g.C.Condition.means in let look = c.wake_sol
 
 pub returns-in-None : goal.returns-in-None
 returns-in-None g c = record {
-  seat = search rules;
+  seat = c.wake_waiters.ensures.seat;
   since = since_then None _ _ _ (since_look g (goal.at.returns-in-None g c).After-wake_sole_in_hand) c.wake_waiters.ensures.since;
-  woke = search rules;
+  woke = c.wake_waiters.ensures.woke;
 }

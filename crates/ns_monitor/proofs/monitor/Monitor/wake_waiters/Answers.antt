@@ -45,7 +45,7 @@ pay-requires g c = let t = g.C.Condition.means in let back = c.return_woken-move
 
 pub returns : goal.returns
 returns g c = record {
-  seat = search rules;
+  seat = c.pay.ensures.seat;
   since = let me = c.args.seat.now.me in let made = c.wake_in_hand-taken in
       since_then None _ _ _ (since_then None _ _ _ (still_since g.C.Condition.means None (the me.0) me made.new.seat.me made.ensures.seat.1 (since_itself (the me.0))) c.return_woken-moved.ensures.since) c.pay.ensures.since;
   woke = search rules;
