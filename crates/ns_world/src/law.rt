@@ -37,8 +37,8 @@ pub fn calls_mean_what_they_answer<C: Condition<N>, const N: usize>()
         HasLedTo later after × AnswersCall before earlier seat call reply after later }
 {}
 
-/// A wait for any of several that names a condition variable makes one round with its section in hand. No step of that
-/// round leads back: to the clock, with which a round begins, or to an object before the one that it looked at.
+/// Of the round that a wait for any of several makes with its section in hand, where it names a condition variable: no
+/// step leads back, to the clock, with which a round begins, or to an object before the one that it looked at.
 pub fn waits_for_variables_make_one_round<C: Condition<N>, const N: usize>()
     ensures { (old new : Whole C N) (here next : Seat C N) (step : Step) (steps : ObjectsSteps old new here next step) (round again : Round) (place behind : RoundPlace) (k : ℕ) →
         steps.walk ≡ InRound round place → is_among k (items_of round.items) ≡ true → next.doing ≡ OnObjects (InRound again behind) →
