@@ -1,4 +1,5 @@
 """What crates.txt says of the crates of this repository, and work on them, each behind those below it."""
+import glob
 import os
 import signal
 import subprocess
@@ -32,6 +33,15 @@ def sources_of(name):
     folder = f"{TOP}/crates/{name}"
     paths = [f"{at}/{file}" for part in PARTS for at, _, files in os.walk(f"{folder}/{part}") for file in files]
     return sorted(os.path.relpath(path, folder) for path in paths)
+
+
+def has_tests(name):
+    """Whether a source of the crate has a test."""
+    for path in glob.glob(f"{TOP}/crates/{name}/src/**/*.rt", recursive=True):
+        with open(path, "rb") as file:
+            if b"#[test]" in file.read():
+                return True
+    return False
 
 
 def kit():

@@ -5,7 +5,6 @@
 print what its crate's file stdout has, and to end with the status of its file status, or 0. What has no answer, as a
 program that doesn't end in ten minutes, has failed. The last line is 'N passed, M failed'.
 """
-import glob
 import os
 import re
 import subprocess
@@ -14,7 +13,7 @@ import tempfile
 import time
 from concurrent.futures import ThreadPoolExecutor, as_completed
 
-from crates import TOP, lanes, uses_by_crate
+from crates import TOP, has_tests, lanes, uses_by_crate
 
 SECONDS = "600"  # the gate gives a program 120, which isn't compiled with checks there
 PARTS = 3  # of the rows, which are run one by one
@@ -67,12 +66,6 @@ def run_rows(part):
         wanted = "".join(f"{row.partition(' of ')[0]}: ok\n" for row in rows)
         passed, failed, _, said = run("ns_tests", [room], wanted.encode())
         return passed, failed, f"ns_tests: {len(rows)} rows printed what they must", said
-
-
-def has_tests(name):
-    """Whether a source of the crate has a test."""
-    paths = glob.glob(f"{TOP}/crates/{name}/src/**/*.rt", recursive=True)
-    return any(b"#[test]" in open(path, "rb").read() for path in paths)
 
 
 def main():
