@@ -5,7 +5,8 @@ ghost use Rattle.ns_env.specs.Nexts.{place_after};
 ghost use Rattle.ns_walk_tests.specs.Driving.{IsDriven};
 
 use crate::asks::{beside_of, may_begin, may_make};
-use crate::known::{Known, goes_between, has_queues, next_has, section_after};
+use crate::known::Known;
+use crate::learnt::{goes_between, has_queues, next_has, section_after};
 use crate::prepared::{UNTURNED, prepare};
 use ns_env::next::Next;
 use ns_gate::gate::{Gate, GateSeat};

@@ -4,17 +4,19 @@
 //! until another seat has let it go on. What is known of a seat that is driven, and when it may make an act, is
 //! in `specs/`: the contracts of tests speak of it.
 //!
-//! There is nothing here but tests. They rest on ns_gate alone, so they can begin once that is proved.
+//! There is nothing here but tests, and the types that `specs/` speaks of. They rest on ns_gate alone, so they can begin
+//! once that is proved.
 #![tactic(auto)]
 
-pub mod asks;
 #[cfg(test)]
-mod calls;
+mod asks;
 #[cfg(test)]
 mod driver;
 #[cfg(test)]
 mod hand;
 pub mod known;
+#[cfg(test)]
+mod learnt;
 #[cfg(test)]
 mod prepared;
 #[cfg(test)]
@@ -22,9 +24,7 @@ mod scans;
 #[cfg(test)]
 mod seats;
 #[cfg(test)]
-mod signal_walks;
-#[cfg(test)]
-mod wait_walks;
+mod turns;
 #[cfg(test)]
 mod wakes;
 #[cfg(test)]

@@ -5,7 +5,8 @@ ghost use Rattle.ns_walk_tests.specs.Driving.{IsDriven, IsPrepared};
 
 use crate::asks::{beside_of, has_read, is_in_range, is_known, is_packable, may_make};
 use crate::hand::{leave, queue, show};
-use crate::known::{Known, has_armed, has_queues, owed_behind};
+use crate::known::Known;
+use crate::learnt::{has_armed, has_queues, owed_behind};
 use crate::scans::{enter, scan};
 use crate::wakes::wake;
 use ns_gate::gate::{Gate, GateSeat};

@@ -4,6 +4,7 @@ ghost use Rattle.std.specs.Prelude.{◌==◌, ◌≡◌, None, Option, nat_le, s
 ghost use Rattle.ns_model.specs.Truths.{truths};
 ghost use Rattle.ns_walk_tests.specs.Driving.{IsDriven, new_known};
 
+use crate::known::Known;
 use ns_env::limits::Cause;
 use ns_gate::gate::{Gate, GateSeat};
 use ns_model::condition::Condition;
@@ -40,6 +41,18 @@ impl Condition<1> for Above {
     ghost has_cells = { Prim.search rules };
 
     ghost has_room = { Prim.search rules };
+}
+
+/// What is known of a new seat of this number, whose looks are to show this.
+pub fn new_known(number: u8, shown: Option<Cause>) -> Known
+    ensures { result ≡ new_known number shown }
+{
+    Known {
+        number,
+        section: None,
+        owed: None,
+        shown,
+    }
 }
 
 /// A gate and its three seats.

@@ -1,130 +1,253 @@
-//! Seats driven by walks as values, act by act, each made by `Gate::perform`: a lock, a section, and what shows both.
+//! Seats driven by walks as values, act by act, each made by `Gate::perform`.
 //!
 //! One thread drives all seats. A call that waits stands where it waits until another seat has let it go on.
 
-ghost use Rattle.std.specs.Prelude.{◌≡◌, None};
-ghost use Rattle.ns_walk_tests.specs.Driving.{IsDriven, new_known};
-
-use crate::calls::{answer, finish, lock_and_read, new_known, wait};
-use crate::driver::{begin, drive};
-use crate::seats::{Above, Seats, three};
-use ns_env::next::Next;
-use ns_gate::gate::{Gate, GateSeat};
-use ns_model::condition::Condition;
-use ns_model::event::Mode;
+use crate::seats::Above;
+use crate::turns::{Turn, Until, play};
+use ns_env::limits::{Cause, Limits};
+use ns_model::cvs::Variables;
+use ns_model::event::{Answer, Mode};
+use ns_word::act::Waking;
+use ns_word::wait::{Subject, Wait};
 use ns_word::walk::{Reply, Walk};
 use ns_word::word::Releasing;
-use std::process::Abort;
+
+/// The seat makes a call that answers this.
+fn answers(seat: u8, first: Walk<Above>, reply: Reply) -> Turn<Above> {
+    Turn {
+        seat,
+        begins: Some(first),
+        until: Until::Answers(reply),
+    }
+}
+
+/// The seat makes a call that succeeds.
+fn makes(seat: u8, first: Walk<Above>) -> Turn<Above> {
+    answers(seat, first, Reply::Succeeded)
+}
+
+/// The seat begins a call, and goes on until it has to wait.
+fn waits(seat: u8, first: Walk<Above>) -> Turn<Above> {
+    Turn {
+        seat,
+        begins: Some(first),
+        until: Until::Waits,
+    }
+}
+
+/// The seat goes on with its call, which answers this.
+fn ends(seat: u8, reply: Reply) -> Turn<Above> {
+    Turn {
+        seat,
+        begins: None,
+        until: Until::Answers(reply),
+    }
+}
+
+/// The seat reads the cell.
+fn reads(seat: u8, value: u64) -> Turn<Above> {
+    answers(seat, Walk::get(0), Reply::Number(value))
+}
+
+/// A wait for this in this mode, which nothing ends, or a deadline.
+fn wait_for(mode: Mode, on: Subject<Above>, deadline: Option<u64>) -> Walk<Above> {
+    let limits = Limits {
+        deadline,
+        note: None,
+    };
+    Walk::wait::<1>(Wait { mode, on, limits })
+}
+
+/// A wait for the first variable in a write section.
+fn wait_for_the_first(deadline: Option<u64>) -> Walk<Above> {
+    let on = Subject::OnVariables(Variables::Only(0));
+    wait_for(Mode::Write, on, deadline)
+}
+
+/// A release of a write section.
+fn release() -> Walk<Above> {
+    Walk::release(Releasing::Writer)
+}
+
+/// The wait was met.
+const MET: Reply = Reply::Answered(Answer::Met);
 
 /// The state is shown; a section is judged, before and behind a store; and a noisy one is not released quietly.
-fn judge<A: Abort, C: Condition<1>>(
-    rt: &A,
-    gate: &Gate<C, 1>,
-    seat: &mut GateSeat<C, 1>,
-) -> [Reply; 6]
-    requires one { (seat.old.table_id ≡ gate.now) × IsDriven C.means None (new_known 0 None) seat.old.me }
-{
-    let mut known = new_known(0, None);
-    let shown = answer(rt, gate, seat, &mut known, Walk::show());
-    let [_, number] = lock_and_read(rt, gate, seat, &mut known, Mode::Write);
-    let before = answer(rt, gate, seat, &mut known, Walk::is_quiet::<1>());
-    let set = answer(rt, gate, seat, &mut known, Walk::set(0, 5));
-    let behind = answer(rt, gate, seat, &mut known, Walk::is_quiet::<1>());
-    let released = answer(rt, gate, seat, &mut known, Walk::quiet_release::<1>());
-    [shown, number, before, set, behind, released]
+#[test]
+fn sections_are_shown_and_judged(rt: HostRuntime) {
+    play(
+        &rt,
+        rt.alloc(),
+        None,
+        &[
+            makes(0, Walk::show()),
+            makes(0, Walk::lock(Mode::Write)),
+            reads(0, 0),
+            answers(0, Walk::is_quiet::<1>(), Reply::Is(true)),
+            makes(0, Walk::set(0, 5)),
+            answers(0, Walk::is_quiet::<1>(), Reply::Is(false)),
+            answers(0, Walk::quiet_release::<1>(), Reply::Noisy),
+        ],
+    );
 }
 
 /// One that locks queues behind a section of another, which releases with a scan and wakes it.
-fn queue_behind<A: Abort, C: Condition<1>>(
-    rt: &A,
-    gate: &Gate<C, 1>,
-    one: &mut GateSeat<C, 1>,
-    other: &mut GateSeat<C, 1>,
-) -> [Reply; 3]
-    requires one { (one.old.table_id ≡ gate.now) × IsDriven C.means None (new_known 0 None) one.old.me }
-    requires other { (other.old.table_id ≡ gate.now) × IsDriven C.means None (new_known 1 None) other.old.me }
-{
-    let (mut by_one, mut by_other) = (new_known(0, None), new_known(1, None));
-    lock_and_read(rt, gate, one, &mut by_one, Mode::Write);
-    let place = wait(rt, gate, other, &mut by_other, Walk::lock(Mode::Write));
-    let woke = answer(rt, gate, one, &mut by_one, Walk::release(Releasing::Writer));
-    let locked = finish(rt, gate, other, &mut by_other, place);
-    let released = answer(
-        rt,
-        gate,
-        other,
-        &mut by_other,
-        Walk::release(Releasing::Writer),
+#[test]
+fn a_lock_queues_behind_a_section(rt: HostRuntime) {
+    play(
+        &rt,
+        rt.alloc(),
+        None,
+        &[
+            makes(0, Walk::lock(Mode::Write)),
+            reads(0, 0),
+            waits(1, Walk::lock(Mode::Write)),
+            makes(0, release()),
+            ends(1, Reply::Succeeded),
+            makes(1, release()),
+        ],
     );
-    [woke, locked, released]
 }
 
 /// Two lock; the one that has loaded the word first finds another, and queues.
-fn lose_a_race<A: Abort, C: Condition<1>>(
-    rt: &A,
-    gate: &Gate<C, 1>,
-    one: &mut GateSeat<C, 1>,
-    other: &mut GateSeat<C, 1>,
-) -> [Reply; 3]
-    requires one { (one.old.table_id ≡ gate.now) × IsDriven C.means None (new_known 0 None) one.old.me }
-    requires other { (other.old.table_id ≡ gate.now) × IsDriven C.means None (new_known 1 None) other.old.me }
-{
-    let (mut by_one, mut by_other) = (new_known(0, None), new_known(1, None));
-    let loaded = begin(rt, gate, other, &mut by_other, Walk::lock(Mode::Write));
-    lock_and_read(rt, gate, one, &mut by_one, Mode::Write);
-    let Next::Idle(place) = drive(rt, gate, other, &mut by_other, loaded) else {
-        panic!(rt; "both have the lock");
-    };
-    let woke = answer(rt, gate, one, &mut by_one, Walk::release(Releasing::Writer));
-    let locked = finish(rt, gate, other, &mut by_other, place);
-    let released = answer(
-        rt,
-        gate,
-        other,
-        &mut by_other,
-        Walk::release(Releasing::Writer),
-    );
-    [woke, locked, released]
-}
-
-#[test]
-fn sections_are_shown_and_judged(rt: HostRuntime) {
-    let Seats { gate, mut one, .. } = three::<_, Above>(&rt, rt.alloc(), None);
-    let replies = judge(&rt, &gate, &mut one);
-    let [quiet, noisy] = [Reply::Is(true), Reply::Is(false)];
-    assert_eq!(rt;
-        replies,
-        [
-            Reply::Succeeded,
-            Reply::Number(0),
-            quiet,
-            Reply::Succeeded,
-            noisy,
-            Reply::Noisy
-        ]
-    );
-}
-
-#[test]
-fn a_lock_queues_behind_a_section(rt: HostRuntime) {
-    let Seats {
-        gate,
-        mut one,
-        mut other,
-        ..
-    } = three::<_, Above>(&rt, rt.alloc(), None);
-    let replies = queue_behind(&rt, &gate, &mut one, &mut other);
-    assert_eq!(rt; replies, [Reply::Succeeded; 3]);
-}
-
 #[test]
 fn a_lock_that_finds_another_word_queues(rt: HostRuntime) {
-    let Seats {
-        gate,
-        mut one,
-        mut other,
-        ..
-    } = three::<_, Above>(&rt, rt.alloc(), None);
-    let replies = lose_a_race(&rt, &gate, &mut one, &mut other);
-    assert_eq!(rt; replies, [Reply::Succeeded; 3]);
+    let loads = Turn {
+        seat: 1,
+        begins: Some(Walk::lock(Mode::Write)),
+        until: Until::Begun,
+    };
+    let queues = Turn {
+        seat: 1,
+        begins: None,
+        until: Until::Waits,
+    };
+    play(
+        &rt,
+        rt.alloc(),
+        None,
+        &[
+            loads,
+            makes(0, Walk::lock(Mode::Write)),
+            reads(0, 0),
+            queues,
+            makes(0, release()),
+            ends(1, Reply::Succeeded),
+            makes(1, release()),
+        ],
+    );
+}
+
+/// A signal wakes nobody, and then the one who waits, while the lock is free. The look of a wait with a deadline shows
+/// nothing.
+#[test]
+fn a_signal_wakes_nobody_or_one(rt: HostRuntime) {
+    let signal = Walk::signal(Waking::Signaling, 0);
+    play(
+        &rt,
+        rt.alloc(),
+        None,
+        &[
+            makes(1, signal),
+            makes(0, Walk::lock(Mode::Write)),
+            reads(0, 0),
+            waits(0, wait_for_the_first(Some(3))),
+            makes(1, signal),
+            ends(0, MET),
+            reads(0, 0),
+            makes(0, release()),
+        ],
+    );
+}
+
+/// A broadcast in a section moves the one who waits to the lock list, and the release wakes it.
+#[test]
+fn a_broadcast_in_a_section_moves_one(rt: HostRuntime) {
+    play(
+        &rt,
+        rt.alloc(),
+        None,
+        &[
+            makes(0, Walk::lock(Mode::Write)),
+            reads(0, 0),
+            waits(0, wait_for_the_first(None)),
+            makes(1, Walk::lock(Mode::Write)),
+            reads(1, 0),
+            makes(1, Walk::signal(Waking::Broadcasting, 0)),
+            makes(1, release()),
+            ends(0, MET),
+            reads(0, 0),
+            makes(0, release()),
+        ],
+    );
+}
+
+/// A broadcast in a section moves both who wait, and one goes behind the other.
+#[test]
+fn a_broadcast_in_a_section_moves_several(rt: HostRuntime) {
+    play(
+        &rt,
+        rt.alloc(),
+        None,
+        &[
+            makes(0, Walk::lock(Mode::Write)),
+            reads(0, 0),
+            waits(0, wait_for_the_first(None)),
+            makes(1, Walk::lock(Mode::Write)),
+            reads(1, 0),
+            waits(1, wait_for_the_first(None)),
+            makes(2, Walk::lock(Mode::Write)),
+            reads(2, 0),
+            makes(2, Walk::signal(Waking::Broadcasting, 0)),
+            makes(2, release()),
+            ends(0, MET),
+            reads(0, 0),
+            makes(0, release()),
+            ends(1, MET),
+            reads(1, 0),
+            makes(1, release()),
+        ],
+    );
+}
+
+/// One waits in a read section until the other has stored what it waits for.
+#[test]
+fn a_wait_comes_back_once_its_condition_is_true(rt: HostRuntime) {
+    let condition = Subject::OnCondition(Above { least: 5 });
+    play(
+        &rt,
+        rt.alloc(),
+        None,
+        &[
+            makes(0, Walk::lock(Mode::Read)),
+            reads(0, 0),
+            waits(0, wait_for(Mode::Read, condition, None)),
+            makes(1, Walk::lock(Mode::Write)),
+            reads(1, 0),
+            makes(1, Walk::set(0, 5)),
+            makes(1, release()),
+            ends(0, MET),
+            makes(0, Walk::release(Releasing::Reader)),
+        ],
+    );
+}
+
+/// A wait for a variable comes back once its look shows that its deadline has passed.
+#[test]
+fn a_wait_that_is_ended_leaves_its_list(rt: HostRuntime) {
+    play(
+        &rt,
+        rt.alloc(),
+        Some(Cause::Expired),
+        &[
+            makes(0, Walk::lock(Mode::Write)),
+            reads(0, 0),
+            answers(
+                0,
+                wait_for_the_first(Some(3)),
+                Reply::Answered(Answer::TimedOut),
+            ),
+            makes(0, release()),
+        ],
+    );
 }
