@@ -29,8 +29,9 @@ class Progress:
 
     def __init__(self, names, uses, proofs, more, lanes, out=sys.stdout):
         self.todo, self.out = {it: set(below(it, uses)) for it in names}, out
-        self.proofs, self.lanes, self.count = proofs, lanes, len(names)
-        self.work, self.spent, self.proved = sum(proofs.get(it, 0) for it in names) + more, EARLIER, EARLIER
+        mean = sum(proofs.values()) / len(proofs)  # for a crate that isn't in the table
+        self.proofs, self.lanes, self.count = {it: proofs.get(it, mean) for it in names}, lanes, len(names)
+        self.work, self.spent, self.proved = sum(self.proofs.values()) + more, EARLIER, EARLIER
         self.begun = self.last = time.time()
         self.since, self.one, self.is_over = {it: self.begun for it in self.ready()}, threading.RLock(), threading.Event()
         if out.isatty():
@@ -49,7 +50,7 @@ class Progress:
         """How many crates are done, after how long, and how many minutes the rest takes at the pace so far."""
         seconds = time.time() - self.begun
         running = sorted(self.since, key=self.since.get)[: self.lanes - 1]
-        half = sum(self.proofs.get(it, 0) for it in running) / 2
+        half = sum(self.proofs[it] for it in running) / 2
         left = self.spent / (self.proved + half) * self.work / self.lanes - seconds
         took = f"{seconds / 60:.0f} min" if seconds >= 90 else f"{seconds:.0f} s"
         return f"{self.count - len(self.todo)} of {self.count} crates, {took}" + (f"; about {left / 60:.0f} more" if left >= 90 else "")
@@ -57,7 +58,7 @@ class Progress:
     def done(self, name, what, is_kept=False):
         """Says what became of a crate: it was proved, or found proved."""
         with self.one:
-            now, work = time.time(), self.proofs.get(name, 0)
+            now, work = time.time(), self.proofs[name]
             self.spent, self.last = self.spent + (now - self.last) * min(self.lanes, len(self.since)), now
             self.todo.pop(name, None)
             self.since = {it: self.since.get(it, now) for it in self.ready()}

@@ -71,7 +71,8 @@ class Told:
             self.progress.done(name, f"{'its tests are ' if tests else ''}NOT PROVED{first}")
         elif not self.waits[name]:
             edits = edits_of(name)
-            self.progress.done(name, "proved" + (", with its tests" if tests else f", {edits} wrong bodies to refuse" if edits else ""))
+            more = f", {edits} wrong bod{'y' if edits == 1 else 'ies'} to refuse" if edits else ", with its tests" if tests else ""
+            self.progress.done(name, f"proved{more}")
 
     def keep(self, name):
         """An earlier run proved the crate, and most likely its tests, and tried its edits."""
