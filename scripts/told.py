@@ -27,7 +27,7 @@ RAN = re.compile(r"rt: (\w+) ran, and wrote what its file stdout has$")
 QUIET = re.compile(r"tests: \d+$|test .* \.\.\. ok$|test result: ok\.|rt: \w+ ran \(built by Rattle's own compiler\), |$")
 # among what a check says: what is proved and what was read, and why something is not proved
 GOOD = re.compile(r"\w+ \S+: proved$|statements \w+: |logic /")
-WHY = re.compile(r".*(: error\b|it is not proved that |no proof: )")
+WHY = re.compile(r"rt: (?!note: )|.*(: error\b|it is not proved that |no proof: )")
 
 
 def edits_of(name):
@@ -77,6 +77,7 @@ class Told:
     def keep(self, name):
         """An earlier run proved the crate, and most likely its tests, and tried its edits."""
         self.kept.add(name)
+        self.waits[name].discard("")
         self.progress.add(-self.edits.get(name, 0))
         self.progress.done(name, "kept, an earlier run proved it", is_kept=True)
 
