@@ -1,9 +1,11 @@
--- Which seats the law speaks of, and how many: those that wait or are owed a wake are seats, each stands once, and not all of 64 read while one asks to.
-use Rattle.std.proofs.Common.{List, None, [], ap, arith, cond, eqb, false, inl, inr, length, ne_eqb, refl, subst, sym, true, ℕ, ◌++◌, ◌+◌, ◌<◌, ◌∷◌, ◌≡◌, ◌≤◌}
-use Rattle.ns_word.proofs.Prelude.{AreApart, Cv, EachFits, Event, IsLawful, IsOrderly, Lists, LockState, NoneIs, Read, SeatView, Standing, Truths, ViewFits, Waiter, WaitersPlaced, awaits, beside, cases_eq, counts_in, every_parts, few, is_reading, is_unwoken, one_if, one_most, owed_to, readers}
-use Rattle.ns_word.proofs.Prelude.{room_for, standing_after, times, times_among, times_in, times_in-cons, waiters_of, walk_at, ◌∙◌}
-use Rattle.ns_word.proofs.Bases.{counts_none, counts_there, none_parts, owed_at, view_with}
+-- Which seats the law speaks of, and how many: those that wait or are owed a wake are seats, each stands once, there are no more than were made, and not all of 64 read while one asks to.
+use Rattle.std.proofs.Common.{List, None, [], ap, arith, eqb, false, inl, inr, length, length-append, map, ne_eqb, refl, subst, sym, true, ℕ, ◌++◌, ◌+◌, ◌<◌, ◌∷◌, ◌≡◌, ◌≤◌}
+use Rattle.ns_word.proofs.Prelude.{AreApart, Cv, EachFits, Event, IsLawful, IsOrderly, Lists, LockState, NoneIs, SeatView, Standing, Truths, WaitersPlaced, awaits, beside, cases_eq, counts_in, few, is_reading, is_unwoken, length-map, list_any, one_if, one_most, owed_to, readers, standing_after}
+use Rattle.ns_word.proofs.Prelude.{times, times_among, times_in, total_amid, waiters_of, walk_at, ◌∙◌}
+use Rattle.ns_word.proofs.Bases.{counts_none, counts_there, owed_at, view_with}
 use Rattle.ns_word.proofs.Knows.{due_awaits}
+use Rattle.std.specs.List.{AllByRecursion, IsDistinct}
+use Rattle.std.proofs.lemmas.Map.Steps.{length-le_from_distinct_below}
 
 -- ---- seats that wait
 
@@ -58,77 +60,47 @@ module _ {C : Type 0} {N : ℕ} (truths : Truths C) (seats : ℕ) (h : List (Eve
       let all : owed_to seat s.views ≡ owed_to seat front + (times_among seat view.owed + owed_to seat back) = ap (owed_to seat) split ∙ owed_at seat front view back in
       placed_below seat (omega (arith, all, some))
 
--- ---- how many read
+-- ---- how many there are
 
 module _ {C : Type 0} {N : ℕ} where
-  abbrev reader : SeatView C N → Waiter C
-  reader view = record { seat = view.seat; mode = Read; cond = None; tries = 0; via = None }
+  abbrev numbers : List (SeatView C N) → List ℕ
+  numbers views = map (λ (v : SeatView C N). v.seat) views
 
-  -- the seats that read
-  reading : List (SeatView C N) → List (Waiter C)
-  reading [] = []
-  reading (view ∷ views) = cond (is_reading view.held) (record { seat = view.seat; mode = Read; cond = None; tries = 0; via = None } ∷ reading views) (reading views)
+  apart_from : (seat : ℕ) (views : List (SeatView C N)) → NoneIs seat views → AllByRecursion (λ n. eqb seat n ≡ false) (numbers views)
+  apart_from seat [] p = tt
+  apart_from seat (u ∷ views) p = (ne_eqb seat u.seat (λ e. p.0 (sym e)), apart_from seat views p.1)
 
-  reading_length : (views : List (SeatView C N)) → length (reading views) ≡ readers views
-  unfolding reading
-  reading_length [] = refl
-  reading_length (u ∷ views) =
-      let rest = reading_length views in
-      elim (is_reading u.held) as (λ b. length (cond b (record { seat = u.seat; mode = Read; cond = None; tries = 0; via = None } ∷ reading views) (reading views)) ≡ cond b 1 0 + readers views) [ true ↦ omega (arith, rest) | false ↦ omega (arith, rest) ]
+  distinct : (views : List (SeatView C N)) → AreApart views → IsDistinct eqb (numbers views)
+  unfolding IsDistinct
+  distinct [] p = tt
+  distinct (u ∷ views) p = (apart_from u.seat views p.0, distinct views p.1)
 
-  -- one more view may stand in it, once
-  reading_more : (seat : ℕ) (u : SeatView C N) (views : List (SeatView C N)) → times_in seat (reading (u ∷ views)) ≤ one_if (eqb u.seat seat) + times_in seat (reading views)
-  unfolding reading
-  reading_more seat u views =
-      elim (is_reading u.held) as (λ b. times_in seat (cond b (record { seat = u.seat; mode = Read; cond = None; tries = 0; via = None } ∷ reading views) (reading views)) ≤ one_if (eqb u.seat seat) + times_in seat (reading views))
-      [ true ↦ omega (arith, times_in-cons seat (record { seat = u.seat; mode = Read; cond = None; tries = 0; via = None }) (reading views)) | false ↦ omega arith ]
+  module _ (truths : Truths C) (seats : ℕ) (now : Standing C) (row : List ℕ) where
+    below : (seat : ℕ) (views : List (SeatView C N)) → EachFits truths seats now row views → list_any (eqb seat) (numbers views) ≡ true → seat < seats
+    below seat [] p is = absurd (cc)
+    below seat (u ∷ views) p is = elim (cases_eq seat u.seat) [
+      | inl e ↦ omega (arith, p.0.in_range, e)
+      | inr ne ↦ below seat views p.1 (rw (ne_eqb seat u.seat ne) at is)
+    ]
 
-  reading_none : (seat : ℕ) (views : List (SeatView C N)) → NoneIs seat views → times_in seat (reading views) ≡ 0
-  unfolding reading
-  reading_none seat [] p = refl
-  reading_none seat (u ∷ views) p =
-      let here : one_if (eqb u.seat seat) ≡ 0 = rw (ne_eqb u.seat seat p.0) refl in
-      omega (arith, reading_more seat u views, reading_none seat views p.1, here)
+    -- no more views than seats
+    pub seats_most : (views : List (SeatView C N)) → AreApart views → EachFits truths seats now row views → length views ≤ seats
+    seats_most views apart p = omega (arith, length-le_from_distinct_below (numbers views) seats (distinct views apart) (λ seat. below seat views p), length-map views (λ (v : SeatView C N). v.seat))
 
-  reading_once : (seat : ℕ) (views : List (SeatView C N)) → AreApart views → times_in seat (reading views) ≤ 1
-  unfolding reading
-  reading_once seat [] p = omega arith
-  reading_once seat (u ∷ views) p = elim (cases_eq u.seat seat) [
-    | inl e ↦ let none = reading_none seat views (subst (λ x. NoneIs x views) e p.0) in omega (arith, reading_more seat u views, none, one_most (eqb u.seat seat))
-    | inr ne ↦ let here : one_if (eqb u.seat seat) ≡ 0 = rw (ne_eqb u.seat seat ne) refl in omega (arith, reading_more seat u views, reading_once seat views p.1, here)
-  ]
-
-  reading_below : (truths : Truths C) (seats : ℕ) (now : Standing C) (row : List ℕ) (seat : ℕ) (views : List (SeatView C N)) → EachFits truths seats now row views → seats ≤ seat → times_in seat (reading views) ≡ 0
-  unfolding reading
-  reading_below truths seats now row seat [] p high = refl
-  reading_below truths seats now row seat (u ∷ views) p high =
-      let low = p.0.in_range in
-      let here : one_if (eqb u.seat seat) ≡ 0 = rw (ne_eqb u.seat seat (λ e. absurd (omega (arith, low, high, e)))) refl in
-      omega (arith, reading_more seat u views, reading_below truths seats now row seat views p.1 high, here)
-
-  -- a seat without a section isn't among them
-  reading_not : (front : List (SeatView C N)) (view : SeatView C N) (back : List (SeatView C N)) → AreApart (front ++ view ∷ back) → view.held ≡ None → times_in view.seat (reading (front ++ view ∷ back)) ≡ 0
-  unfolding reading
-  reading_not [] view back p none = rw none (reading_none view.seat back p.0)
-  reading_not (u ∷ front) view back p none =
-      let here : one_if (eqb u.seat view.seat) ≡ 0 = rw (ne_eqb u.seat view.seat (λ e. (none_parts u.seat front view back p.0).1 (sym e))) refl in
-      omega (arith, reading_more view.seat u (front ++ view ∷ back), reading_not front view back p.1 none, here)
+module _ {C : Type 0} {N : ℕ} where
+  readers_among : (views : List (SeatView C N)) → readers views ≤ length views
+  readers_among [] = omega arith
+  readers_among (u ∷ views) = omega (arith, readers_among views, one_most (is_reading u.held))
 
 module _ {C : Type 0} {N : ℕ} (truths : Truths C) (seats : ℕ) (h : List (Event C N)) (s : LockState C N) (p : IsLawful truths seats h s) where
   -- the word counts no more readers than there are seats
   pub readers_most : s.word.readers ≤ seats
-  readers_most =
-      let length_is = reading_length s.views in
-      let most = few seats (reading s.views) (λ seat. reading_once seat s.views p.apart) (λ seat high. reading_below truths seats (standing_after h) s.row seat s.views p.one_history.each high) in
-      omega (arith, p.readers_counted, length_is, most)
+  readers_most = omega (arith, p.readers_counted, readers_among s.views, seats_most truths seats (standing_after h) s.row s.views p.apart p.one_history.each)
 
   -- and fewer where a seat has no section in hand
   pub readers_fewer : (front : List (SeatView C N)) (view : SeatView C N) (back : List (SeatView C N)) → s.views ≡ front ++ view ∷ back → view.held ≡ None → s.word.readers < seats
   readers_fewer front view back split none =
-      let views = front ++ view ∷ back in
-      let apart = subst (λ vs. AreApart vs) split p.apart in
-      let each = subst (λ vs. EachFits truths seats (standing_after h) s.row vs) split p.one_history.each in
-      let count : s.word.readers ≡ readers views = p.readers_counted ∙ ap (λ vs. readers vs) split in
-      let here = (every_parts (ViewFits truths seats (standing_after h) s.row) front view back each).1 in
-      let room = room_for seats (reading views) (reader view) (λ seat. reading_once seat views apart) (λ seat high. reading_below truths seats (standing_after h) s.row seat views each high) here.in_range (reading_not front view back apart none) in
-      omega (arith, count, reading_length views, room)
+      let count : readers s.views ≡ readers front + (one_if (is_reading view.held) + readers back) = ap (λ vs. readers vs) split ∙ total_amid (λ (u : SeatView C N). one_if (is_reading u.held)) front view back in
+      let here : one_if (is_reading view.held) ≡ 0 = ap (λ held. one_if (is_reading held)) none in
+      let all : length s.views ≡ length front + length (view ∷ back) = ap length split ∙ length-append front (view ∷ back) in
+      omega (arith, p.readers_counted, count, here, all, readers_among front, readers_among back, seats_most truths seats (standing_after h) s.row s.views p.apart p.one_history.each)

@@ -13,10 +13,13 @@ pub mod Names
 pub mod Owed
 pub mod Places
 pub mod Prelude
+pub mod Progress
+pub mod Rests
 pub mod Seen
 pub mod Stands
 pub mod Steps
 pub mod Told
+pub mod Turns
 pub mod Views
 pub mod Waits
 pub mod Walks

@@ -1,5 +1,5 @@
 -- The lock list, lists of seats, and how often a seat counts in the lists.
-use Rattle.std.specs.Prelude.{Bool, List, None, Option, [], false, if◌then◌else◌, nat_lt, not, sum_by, true, ℕ, ◌&&◌, ◌++◌, ◌+◌, ◌||◌, ◌∷◌, ◌≡◌, ◌⊎◌}
+use Rattle.std.specs.Prelude.{Bool, List, None, Option, [], false, if◌then◌else◌, nat_lt, not, sum_by, ℕ, ◌&&◌, ◌++◌, ◌+◌, ◌||◌, ◌∷◌, ◌≡◌, ◌⊎◌}
 use Rattle.ns_word.specs.Names.{AtLock, AtVariables, Bits, Home, Lists, Mode, Waiter, Write, has_condition, has_some, is_eligible, is_long, times_in, writes}
 use Rattle.std.specs.List.{list_any}
 

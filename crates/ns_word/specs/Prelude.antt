@@ -22,11 +22,14 @@ pub use Rattle.ns_word.specs.Names.{Woken, WokenBy, Word, Write, Writer, beside,
 pub use Rattle.ns_word.specs.Names.{phase_of, place_after, reads, row_after, seats_of, standing_after, standing_next, taken_set, tests_of, times, times_in, waiters_of, who_of, with_each, with_waiters, without, without_in, woken_of, woken_phase, woken_phases, writes}
 pub use Rattle.ns_word.specs.Owed.{Tells, called_by, called_of, is_from_lock, times_among, value_of, variable_told, wake_by, wakes_of}
 pub use Rattle.ns_word.specs.Places.{ActFits, AimFits, AreVariables, CanLeave, CanWait, CellFits, ComesBack, HasList, HasMode, IsForCondition, IsInRange, IsLeft, IsSettled, IsSettledBy, IsUnmet, MayWait, OwesOne, PlaceFits, QueueFits, ReleaseFits, Tests, WaitFits}
+pub use Rattle.ns_word.specs.Progress.{cost_of, counts, steps_left}
+pub use Rattle.ns_word.specs.Rests.{AllRest, HasReason, IsIdleLook, is_idle, rests_at}
 pub use Rattle.ns_word.specs.Seen.{HasNumber, word_seen}
 pub use Rattle.ns_word.specs.Stands.{AreCalled, IsFoundLeaving, QueuesFor, WaitsFor, waiter}
 pub use Rattle.ns_word.specs.Steps.{Effect, LockState, MayShow, Part, Step, acquire_hand, change_commits, change_found, changed, entry_for, entry_of, exit_for, flags_with, held_after, held_by, in_hand, kept_by, leave_of, meets_at, moved_to, moves, newly_held, opening_by, opening_for, owed_after}
 pub use Rattle.ns_word.specs.Steps.{part_of, release_hand, section_of, signal_hand, taken_by, wait_hand, waited_in, waits_at, wake_of, with_lock}
 pub use Rattle.ns_word.specs.Told.{AreBy, IsLed, IsTold, LedBy, Told, calls_of, nothing_told, told_after, walk_over}
+pub use Rattle.ns_word.specs.Turns.{Rounds, Run, Turn, counted, paid}
 pub use Rattle.ns_word.specs.Views.{AreApart, AreNumbered, NoneIs, called_to, is_reading, is_writing, owed_in, owed_to, queuers, readers, takers, walk_at, writers}
 pub use Rattle.ns_word.specs.Waits.{IsWokenBy, OutcomeFits, answer_of, answer_of_wait, arrival_of, cause_in, home_of, mode_for, outcome_taken, phase_by_wake, phase_for, phase_kept, variable_in, woken_by}
 pub use Rattle.ns_word.specs.Walks.{Stance, acquire_by, acquire_has_queues, acquired_for, after_judging, armed_place, awaits, back_with, calls_from_lock, expected_for, first_for, got_acquiring, got_in_cells, got_leaving, got_of, got_queuing, got_releasing, got_showing, got_signaling, got_trying}

@@ -40,6 +40,8 @@ pub mod hand;
 pub mod law;
 pub mod number;
 pub mod owed;
+pub mod progress;
+pub mod progress_law;
 pub mod queue_law;
 pub mod release_walk;
 pub mod request;
