@@ -17,6 +17,8 @@
 
 mod compare;
 #[cfg(test)]
+mod costs;
+#[cfg(test)]
 mod examples;
 #[cfg(test)]
 mod live;
