@@ -47,7 +47,7 @@ fn wake_sole<C: Condition<1>>(
     }
 }
 
-/// Takes those whom the call wakes of several who wait for the variable, to the lock list: the lock is to be held.
+/// Takes those whom the call wakes of several who wait for the variable. With the lock free it is to be one of them.
 fn wake_several<A: Abort, C: Condition<1>>(
     rt: &A,
     gate: &Gate<C, 1>,
@@ -62,14 +62,17 @@ fn wake_several<A: Abort, C: Condition<1>>(
     ensures of { seat.new.table_id ≡ gate.now }
     ensures made { IsMade C.means (Changed (Change.WakeWaiters waking k)) last result seat.old.me seat.new.me }
 {
-    if !last.is_held() {
-        panic!(rt; "the seat would owe more than one wake");
-    }
-    let (_, turned) = gate.wake_in_hand(seat, waking, k, true);
+    let held = last.is_held();
+    let (taken, turned) = gate.wake_in_hand(seat, waking, k, held);
+    let owed = match (held, taken.as_slice()) {
+        (true, _) => None,
+        (false, [one]) => Some(wake_by(k, one.seat)),
+        (false, _) => panic!(rt; "the seat would owe more than one wake, or none"),
+    };
     Hand {
         turned,
-        finds: Found::Woke { owes: false },
-        owed: None,
+        finds: Found::Woke { owes: !held },
+        owed,
     }
 }
 

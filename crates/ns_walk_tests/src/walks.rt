@@ -160,6 +160,33 @@ fn a_signal_wakes_nobody_or_one(rt: HostRuntime) {
     );
 }
 
+/// A signal takes the first of two who wait, while the lock is free, and a second one the other.
+#[test]
+fn a_signal_wakes_one_of_several(rt: HostRuntime) {
+    let signal = Walk::signal(Waking::Signaling, 0);
+    play(
+        &rt,
+        rt.alloc(),
+        None,
+        &[
+            makes(0, Walk::lock(Mode::Write)),
+            reads(0, 0),
+            waits(0, wait_for_the_first(None)),
+            makes(1, Walk::lock(Mode::Write)),
+            reads(1, 0),
+            waits(1, wait_for_the_first(None)),
+            makes(2, signal),
+            ends(0, MET),
+            reads(0, 0),
+            makes(0, release()),
+            makes(2, signal),
+            ends(1, MET),
+            reads(1, 0),
+            makes(1, release()),
+        ],
+    );
+}
+
 /// A broadcast in a section moves the one who waits to the lock list, and the release wakes it.
 #[test]
 fn a_broadcast_in_a_section_moves_one(rt: HostRuntime) {
