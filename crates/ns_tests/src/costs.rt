@@ -6,10 +6,11 @@ ghost use Rattle.ns_world.specs.Prelude.{CallInRange};
 use crate::model::AtLeast;
 use ns_env::limits::Limits;
 use ns_model::event::Mode;
+use ns_word::acquire_walk::AcquirePlace;
 use ns_word::act::Waking;
-use ns_word::wait::{Subject, Wait};
+use ns_word::wait::{Aim, Subject, Wait};
 use ns_word::walk::Walk;
-use ns_word::word::Releasing;
+use ns_word::word::{Arrival, Releasing, Taking, Word};
 use ns_world::call::Call;
 use ns_world::fault::Fault;
 use ns_world::step::Step;
@@ -47,6 +48,18 @@ fn calls_pay_by_their_kind(rt: HostRuntime) {
     assert!(rt; Walk::wait::<1>(WAIT).cost::<1>() == 61_001);
     assert!(rt; Walk::wait::<8>(WAIT).cost::<8>() == 63_801);
     assert!(rt; Walk::wait::<16>(WAIT).cost::<16>() == 67_001);
+}
+
+/// A lock that finds the queues with another has nothing left but to look again; so has one that waits, while its
+/// flag is set.
+#[test]
+fn calls_rest_while_they_can_only_look(rt: HostRuntime) {
+    let held = Word::FREE.acquired(Mode::Write, Arrival::AsFresh);
+    let taken = held.taken(Taking::ToChange);
+    let lock: Walk<bool> = Walk::lock(Mode::Write);
+    assert!(rt; lock.rests::<8>(taken, 0) && !lock.rests::<8>(held, 0));
+    let waits: Walk<bool> = Walk::InAcquire(Aim::ForLock(Mode::Write), AcquirePlace::AwaitWake(0));
+    assert!(rt; waits.rests::<8>(held, 1) && !waits.rests::<8>(held, 0));
 }
 
 /// A world, how many turns it has made, and at how many of them a call went on.
@@ -119,14 +132,14 @@ fn herd(alloc: Global) -> Result<(u64, u64), Fault> {
 }
 
 /// Each release wakes all readers, the writer's next lock is faster, and each reader queues again, while all others
-/// lose an exchange to it. All turns together, those too that find the queues with another, are a fifth of what the
-/// calls have paid.
+/// lose an exchange to it. All turns together, those too that find the queues with another, are below what the calls
+/// have paid.
 #[test]
 fn a_herd_stays_below_what_it_pays(rt: HostRuntime) -> Result<(), Fail> {
     let lock = Walk::<bool>::lock(Mode::Write).cost::<8>();
     let release = Walk::<bool>::release(Releasing::Writer).cost::<8>();
     let paid = 64 * lock + 20 * (release + lock);
     let (turns, went) = herd(rt.alloc())?;
-    assert!(rt; 40_000 <= went && turns <= paid);
+    assert!(rt; 40_000 <= went && turns <= paid / 5);
     Ok(())
 }

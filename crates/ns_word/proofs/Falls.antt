@@ -3,20 +3,21 @@ use Rattle.std.proofs.Common.{Bool, List, None, Option, Some, [], ap, arith, con
 use Rattle.ns_word.proofs.Prelude.{Acquire, AcquireExchange, AcquireLoad, Act, Aim, Arm, ArmToWait, AsFresh, AwaitWake, AwaitWakeInWait, AwaitWakeToLeave, Broadcasting, Cause, Cell, Change, Cv, Effect, Ended, Event, Flag, ForWait, Found, GetLoad, Held, HeldFits, Idle, InAcquire, InCells}
 use Rattle.ns_word.proofs.Prelude.{InLeaving, InQueuing, InRelease, InShow, InSignal, InTry, InWait, IsInRange, IsLawful, Leave, LeaveLoad, LeaveSelf, Left, Limits, Lists, Load, LoadToScan, LockState, LookIn, LookOut, Looked, Made, Mode, Next, On, OnCondition, OnEntry, OnReturn, OnVariables, Owed}
 use Rattle.ns_word.proofs.Prelude.{Paid, Part, Pay, PayInWait, PayTheWoken, PlaceFits, Queue, QueueSelf, QueueToWait, Quiet, QuietCells, QuietLast, QuietWriter, Release, ReleaseExchange, ReleaseLoad, ReleaseReturning, Reply, ReturnQueues, ReturnShown, Saw, ScanAndRelease, ScanCells, Scanned}
-use Rattle.ns_word.proofs.Prelude.{SeatView, SectionFits, SetLoad, SetStore, Signaling, Step, Subject, Take, TakeQueues, TakeToLeave, TakeToQueue, TakeToScan, TakeToShow, TakeToWake, TestCells, TestLast, Tested, ToChange, ToRelease, ToTell, Truths, TryAcquire, ViewFits, Visit, Wait, WaitFits}
-use Rattle.ns_word.proofs.Prelude.{WaitReturning, Waiter, WakeAndReturn, WakeWaiters, Waking, Walk, Woke, Woken, Word, acquired_for, arrival_of, awaits, below_in, both_ways, called_of, changed, every_parts, few, got_of, got_waiting, has_some, held_after, home_of, is_held, is_unwoken, is_woken}
-use Rattle.ns_word.proofs.Prelude.{judge_of, left_of, length-map, meets_at, mode_for, one_if, one_most, outcome_taken, owed_after, part_of, pay_releasing, pay_waiting, pay_woken, place_after, queued, rest_or_look, standing_after, stands_at, taken_by, times_in, times_signaled, total, tries_of}
-use Rattle.ns_word.proofs.Prelude.{value_of, waited_in, waiters_of, waits_at, wake_by, wakes_of, walk_at, want_of, with_lock, woken_by, woken_of, word_taken, ◌∙◌}
+use Rattle.ns_word.proofs.Prelude.{SeatView, SectionFits, SetLoad, SetStore, Signaling, Step, Subject, Succeeded, Take, TakeQueues, TakeToLeave, TakeToQueue, TakeToScan, TakeToShow, TakeToWake, TestCells, TestLast, Tested, ToChange, ToRelease, ToTell, Truths, TryAcquire, ViewFits, Visit, Wait}
+use Rattle.ns_word.proofs.Prelude.{WaitFits, WaitReturning, Waiter, WakeAndReturn, WakeWaiters, Waking, Walk, Woke, Woken, Word, acquired_for, arrival_of, awaits, below_in, both_ways, called_of, changed, every_parts, few, got_of, got_waiting, has_some, held_after, home_of, is_held, is_unwoken}
+use Rattle.ns_word.proofs.Prelude.{is_woken, judge_of, left_of, length-map, meets_at, mode_for, one_if, one_most, outcome_taken, owed_after, part_of, pay_releasing, pay_waiting, pay_woken, place_after, queued, rest_or_look, standing_after, stands_at, taken_by, times_in, times_signaled, total}
+use Rattle.ns_word.proofs.Prelude.{tries_of, value_of, waited_in, waiters_of, waits_at, wake_by, wakes_of, walk_at, want_of, with_lock, woken_by, woken_of, word_taken, ◌∙◌}
 use Rattle.ns_word.proofs.Bases.{entered_at, times_queued, times_scan, view_of}
 use Rattle.ns_word.proofs.Acts.{can_in_range}
 use Rattle.ns_word.proofs.Ranges.{counts_once, lists_orderly, stands_below}
-use Rattle.ns_word.proofs.Ranks.{acquired_left, armed_left, decides, either, idles, look_left, released_left, stale_most, stale_other, taken_left, test_left, waiting_left, woken_left}
+use Rattle.ns_word.proofs.Ranks.{acquired_left, armed_left, decides, either, idles, look_left, paid_left, stale_most, stale_other, taken_left, test_left, waiting_left}
 use Rattle.ns_word.proofs.Others.{Falls, changed_keeps, flag_falls, row_falls, scan_falls, sum_falls, word_falls}
 use Rattle.ns_word.specs.declared.act.Act.TheVariants.{LoadFlag, LoadWord, PayWake}
 use Rattle.ns_word.specs.Progress.{counts, counts_by, left_at, left_to, stale, stale_by, stands_in, steps_left, waits_again, waits_again_for, weigh_at}
 use Rattle.ns_word.specs.declared.act.Change.TheVariants as TheChange
 
 module _ {C : Type 0} (meets : C → Bool) where
+  -- how a wait goes on that is woken, ends early, or is taken as it leaves
   outcomes : (on : Subject C) → ((v : ℕ) → waits_again meets on (woken_by on v) ≡ waits_again meets on (Woken None)) × ((cause : Cause) → waits_again meets on (Ended cause) ≡ false) × ((cause : Cause) (v : ℕ) → waits_again meets on (outcome_taken on cause v) ≡ false)
   outcomes (OnCondition c) = (λ v. refl, λ cause. refl, λ cause v. refl)
   outcomes (OnVariables variables) = (λ v. refl, λ cause. refl, λ cause v. refl)
@@ -62,9 +63,8 @@ module _ {C : Type 0} {N : ℕ} (truths : Truths C) (some : 0 < N) (small : N �
   few_woken : (walk : Walk C) → Old walk → length (called_of (woken_of meets part.lists.lock)) ≤ 64
   few_woken walk p =
       let woken = woken_of meets part.lists.lock in
-      let placed = p.waiters_placed in
-      let most = few seats woken (λ seat. omega (arith, times_scan seat meets part.lists.lock, counts_once truths seats h (at walk) placed p.one_history.each seat))
-      (λ seat high. omega (arith, times_scan seat meets part.lists.lock, stands_below truths seats h (at walk) placed p.one_history.each seat high)) in
+      let most = few seats woken (λ seat. omega (arith, times_scan seat meets part.lists.lock, counts_once truths seats h (at walk) p.waiters_placed p.one_history.each seat))
+      (λ seat high. omega (arith, times_scan seat meets part.lists.lock, stands_below truths seats h (at walk) p.waiters_placed p.one_history.each seat high)) in
       omega (arith, most, low, length-map {B = Owed} woken (λ w. record { seat = w.seat; value = value_of w.via }))
 
   -- ---- kinds of steps
@@ -72,6 +72,7 @@ module _ {C : Type 0} {N : ℕ} (truths : Truths C) (some : 0 < N) (small : N �
   moved : {made : Part C N} (walk : Walk C) (to : Option (Walk C)) → next ≡ made → Falls truths who (at walk).views part made (Some walk) to → Fall walk to
   moved walk to e p = subst (λ x. Falls truths who (at walk).views part x (Some walk) to) (sym e) p
 
+  -- an exchange that fails is a step, whether it leads to a load or not
   fails : (to : Next (Walk C) Reply) (word last : Word) → word ≡ part.word → word ≢ last → one_if (idles to) < stale part.word last
   fails to word last same ne = omega (arith, stale_other part.word last (λ f. ne (same ∙ f)), one_most (idles to))
 
@@ -111,8 +112,7 @@ module _ {C : Type 0} {N : ℕ} (truths : Truths C) (some : 0 < N) (small : N �
   scans : (walk : Walk C) (to : Option (Walk C)) (word : Word) (lists : Lists C) → Old walk → next ≡ record part { word = word; lists = lists; held = None; owed = called_of (woken_of meets part.lists.lock) } →
       ((seat : ℕ) → seat ≢ who → times_in seat (left_of meets part.lists.lock) ≤ times_in seat lists.lock) → weigh_at N meets (stands_in lists.lock who) to + 57192 < weigh (Some walk) → Fall walk to
   scans walk to word lists p e keeps less =
-      let most = stale_most word to in
-      moved walk to e (scan_falls truths who _ part _ to word lists None _ p.waiters_own keeps (omega (arith, less, most, few_woken walk p)))
+      let most = stale_most word to in moved walk to e (scan_falls truths who _ part _ to word lists None _ p.waiters_own keeps (omega (arith, less, most, few_woken walk p)))
 
   -- a wake is paid
   pays : (walk : Walk C) (to : Option (Walk C)) (owes : Bool) → Effect truths who PayWake part (Paid owes) next commits → left_at N meets stands part.word to ≡ left_at N meets stands part.word (Some walk) → Fall walk to
@@ -135,30 +135,24 @@ module _ {C : Type 0} {N : ℕ} (truths : Truths C) (some : 0 < N) (small : N �
   -- one that has queued, or waits for variables, doesn't release again when it is taken as it stands now
   waits_off : (on : Subject C) (mode : Mode) (again : Bool) → let lists = waits_at on who mode again (with_lock part.lists (left_of meets part.lists.lock)) in (not (stands_in lists.lock who) && waits_again meets on (Woken None)) ≡ false
   waits_off (OnCondition c) mode again = ap (λ b. not b && waits_again meets (OnCondition c) (Woken None)) (stands_queued mode (Some c) 0 again (left_of meets part.lists.lock))
-  waits_off (OnVariables variables) mode again =
-      let lists = waits_at (OnVariables variables) who mode again (with_lock part.lists (left_of meets part.lists.lock)) in
-      elim (stands_in lists.lock who) as (λ b. (not b && false) ≡ false) [ true ↦ refl | false ↦ refl ]
+  waits_off (OnVariables variables) mode again = elim (stands_in (waits_at (OnVariables variables) who mode again (with_lock part.lists (left_of meets part.lists.lock))).lock who) as (λ b. (not b && false) ≡ false) [ true ↦ refl | false ↦ refl ]
 
   -- who stays where a scan takes some stays as another queues
   waits_keep : (on : Subject C) (mode : Mode) (again : Bool) (seat : ℕ) → IsInRange on → length part.lists.cvs ≡ 4 → let lock = left_of meets part.lists.lock in times_in seat lock ≤ times_in seat (waits_at on who mode again (with_lock part.lists lock)).lock
   waits_keep (OnCondition c) mode again seat range four = let more = times_queued seat who mode (Some c) 0 again (left_of meets part.lists.lock) in omega (arith, more)
-  waits_keep (OnVariables variables) mode again seat range four =
-      let same = ap (times_in seat) (entered_at variables who mode again (with_lock part.lists (left_of meets part.lists.lock)) four range).lock in omega (arith, same)
+  waits_keep (OnVariables variables) mode again seat range four = let same = ap (times_in seat) (entered_at variables who mode again (with_lock part.lists (left_of meets part.lists.lock)) four range).lock in omega (arith, same)
 
   -- a wait for a condition tests it
   tested : (mode : Mode) (on : Subject C) (limits : Limits) (visit : Visit) (i : ℕ) (found : Found) → let wait : Wait C = record { mode = mode; on = on; limits = limits } in
       Effect truths who (judge_of on i) part found next commits → WaitFits truths wait (TestLast visit i) part.held → Old (InWait wait (TestLast visit i)) → Fall (InWait wait (TestLast visit i)) (place_after (got_waiting N wait (TestLast visit i) found))
   tested mode (OnCondition c) limits visit i (Tested true) e here p = finds _ None e.3 (omega arith)
   tested mode (OnCondition c) limits OnEntry i (Tested false) e here p =
-      let wait : Wait C = record { mode = mode; on = OnCondition c; limits = limits } in
-      let most = look_left N meets stands wait false in finds _ _ e.3 (omega (arith, most, here.1))
+      let wait : Wait C = record { mode = mode; on = OnCondition c; limits = limits } in finds _ _ e.3 (omega (arith, look_left N meets stands wait false, here.1))
   tested mode (OnCondition c) limits (OnReturn (Woken by)) i (Tested false) e here p =
       let wait : Wait C = record { mode = mode; on = OnCondition c; limits = limits } in
-      let most = look_left N meets stands wait true in
       let section : HeldFits (standing_after h) part.row who e.0 = subst (λ x. SectionFits (standing_after h) part.row who (Some (InWait wait (TestLast (OnReturn (Woken by)) i))) x) e.1 (fits _ p).section in
       let unmet : meets c ≡ false = ap (truths.holds c) (sym section.cells) ∙ sym e.2 in
-      let once = ap (λ b. one_if (not b)) unmet in
-      finds _ _ e.3 (omega (arith, most, once, here.1))
+      let once = ap (λ b. one_if (not b)) unmet in finds _ _ e.3 (omega (arith, look_left N meets stands wait true, once, here.1))
   tested mode (OnCondition c) limits (OnReturn (Ended cause)) i (Tested false) e here p = finds _ None e.3 (omega arith)
   tested mode (OnCondition c) limits visit i _ e here p = absurd e
   tested mode (OnVariables variables) limits visit i found e here p = absurd here.2
@@ -193,8 +187,8 @@ module _ {C : Type 0} {N : ℕ} (truths : Truths C) (some : 0 < N) (small : N �
   by_walk (InRelease releasing (ScanCells last i)) (Cell v) e c here p = finds _ _ e.1 (either (λ place. weigh (Some (InRelease releasing place)) + 2 < weigh (Some (InRelease releasing (ScanCells last i)))) (ltb (i + 1) N) (λ f. omega (arith, here.1)) (λ f. omega (arith, here.1)))
   by_walk (InRelease releasing (ScanAndRelease last)) (Scanned owes tests) e c here p =
       let lists = with_lock part.lists (left_of meets part.lists.lock) in
-      scans _ (place_after (pay_releasing releasing owes)) _ lists p e.4 (λ seat ne. omega arith) (omega (arith, released_left N meets (stands_in lists.lock who) part.word releasing owes))
-  by_walk (InRelease releasing Pay) (Paid owes) e c here p = pays _ (place_after (pay_releasing releasing owes)) owes e (released_left N meets stands part.word releasing owes)
+      scans _ (place_after (pay_releasing releasing owes)) _ lists p e.4 (λ seat ne. omega arith) (omega (arith, paid_left N meets (stands_in lists.lock who) part.word (InRelease releasing Pay) Succeeded owes refl))
+  by_walk (InRelease releasing Pay) (Paid owes) e c here p = pays _ (place_after (pay_releasing releasing owes)) owes e (paid_left N meets stands part.word (InRelease releasing Pay) Succeeded owes refl)
   by_walk (InCells (GetLoad i)) (Cell v) e c here p = finds _ None e.1 (omega arith)
   by_walk (InCells (SetLoad i v)) (Cell w) e c here p = finds _ (Some (InCells (SetStore i v))) e.1 (omega arith)
   by_walk (InCells (SetStore i v)) Made e c here p = moved _ None e.3 (row_falls truths who _ part _ _ (slice_set part.row i v) _ (omega arith))
@@ -212,14 +206,12 @@ module _ {C : Type 0} {N : ℕ} (truths : Truths C) (some : 0 < N) (small : N �
   by_walk (InWait wait (InQueuing again (LoadToScan last i))) (Cell v) e c here p =
       finds _ _ e.1 (either (λ place. weigh (Some (InWait wait (InQueuing again place))) + 2 < weigh (Some (InWait wait (InQueuing again (LoadToScan last i))))) (ltb (i + 1) N) (λ f. omega (arith, here.0.1)) (λ f. omega (arith, here.0.1)))
   by_walk (InWait wait (InQueuing again (QueueToWait last))) (Scanned owes tests) e c here p =
-      let lists = waited_in truths who wait again part.row part.lists in
-      let off = ap one_if (waits_off wait.on wait.mode again) in
+      let lists = waited_in truths who wait again part.row part.lists in let off = ap one_if (waits_off wait.on wait.mode again) in
       scans _ (place_after (pay_waiting wait owes)) _ lists p e.4 (λ seat ne. waits_keep wait.on wait.mode again seat (can_in_range truths wait again part.held here.0.0) p.waiters_placed.four)
       (omega (arith, waiting_left N meets (stands_in lists.lock who) part.word wait owes, off))
   by_walk (InWait wait PayInWait) (Paid owes) e c here p = pays _ (place_after (pay_waiting wait owes)) owes e (omega (arith, waiting_left N meets stands part.word wait owes))
   by_walk (InWait wait AwaitWakeInWait) (Flag v) e c here p =
-      let same = ap one_if ((outcomes meets wait.on).0 v) in
-      checks _ (ForWait wait (woken_by wait.on v)) 0 (rest_or_look wait) v (eqb v 1) refl c e p
+      let same = ap one_if ((outcomes meets wait.on).0 v) in checks _ (ForWait wait (woken_by wait.on v)) 0 (rest_or_look wait) v (eqb v 1) refl c e p
       (λ off. let high = ap (λ b. one_if (not b && waits_again meets wait.on (Woken None))) off in omega (arith, high, same))
   by_walk (InWait wait LookOut) (Looked None) e c here p = absurd (cc)
   by_walk (InWait wait LookOut) (Looked (Some cause)) e c here p = finds _ (Some (InWait wait (InLeaving cause LeaveLoad))) e.1 (omega arith)
@@ -233,11 +225,11 @@ module _ {C : Type 0} {N : ℕ} (truths : Truths C) (some : 0 < N) (small : N �
       let ended = ap one_if ((outcomes meets wait.on).2 cause v) in checks _ (ForWait wait (outcome_taken wait.on cause v)) 0 _ v (eqb v 1) refl c e p (λ off. omega (arith, ended))
   by_walk (InSignal waking k (TakeToWake last)) Made e c here p = takes _ (Some (InSignal waking k (WakeAndReturn _))) _ _ e.2 (omega arith)
   by_walk (InSignal waking k (WakeAndReturn last)) (Woke owes) e c here p =
-      let none = woken_left N meets (stands_in (changed who (WakeWaiters waking k) last part.lists).lock who) part.word waking k owes in
+      let none = paid_left N meets (stands_in (changed who (WakeWaiters waking k) last part.lists).lock who) part.word (InSignal waking k PayTheWoken) Succeeded owes refl in
       returns _ (place_after (pay_woken waking k owes)) (WakeWaiters waking k) last _ e.2 (omega (arith, none, few_taken (InSignal waking k (WakeAndReturn last)) waking k (is_held last) here.1 p))
   by_walk (InSignal waking k (WakeAndReturn last)) Made e c here p = let never : Woke (not (is_held last) && has_some (taken_by waking (waiters_of part.lists (Cv k)))) ≡ Made = e.0 in absurd (cc)
   by_walk (InSignal waking k (WakeAndReturn last)) (Left stood) e c here p = let never : Woke (not (is_held last) && has_some (taken_by waking (waiters_of part.lists (Cv k)))) ≡ Left stood = e.0 in absurd (cc)
-  by_walk (InSignal waking k PayTheWoken) (Paid owes) e c here p = pays _ (place_after (pay_woken waking k owes)) owes e (woken_left N meets stands part.word waking k owes)
+  by_walk (InSignal waking k PayTheWoken) (Paid owes) e c here p = pays _ (place_after (pay_woken waking k owes)) owes e (paid_left N meets stands part.word (InSignal waking k PayTheWoken) Succeeded owes refl)
   by_walk (InShow (TakeToShow last)) Made e c here p = takes _ (Some (InShow (ReturnShown _))) _ _ e.2 (omega arith)
   by_walk (InShow (ReturnShown last)) Made e c here p = returns _ None TheChange.Nothing last _ e.2 (omega arith)
   by_walk (InShow (ReturnShown last)) (Left stood) e c here p = let never : Made ≡ Left stood = e.0 in absurd (cc)

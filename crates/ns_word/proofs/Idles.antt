@@ -1,5 +1,5 @@
 -- A step that doesn't count changes nothing: its seat loads the word or its flag, or looks, and is where it was, or looks next.
-use Rattle.std.proofs.Common.{Bool, List, None, Some, ap, arith, cond, eqb, false, is_some, length, not, refl, true, ℕ, ◌++◌, ◌∷◌, ◌≡◌}
+use Rattle.std.proofs.Common.{Bool, List, None, Some, [], ap, arith, cond, eqb, false, is_some, length, not, refl, true, ℕ, ◌++◌, ◌∷◌, ◌≡◌}
 use Rattle.ns_word.proofs.Prelude.{AcquireLoad, Act, AsFresh, AwaitWake, AwaitWakeInWait, AwaitWakeToLeave, Effect, Event, Flag, Found, GetLoad, Idle, InAcquire, InCells, InLeaving, InQueuing, InRelease, InShow, InSignal, InTry, InWait, LeaveLoad, Load, LoadFlag, LoadWord, LockState, Look, LookIn}
 use Rattle.ns_word.proofs.Prelude.{LookOut, Looked, Next, OnCondition, OnVariables, Part, ReleaseLoad, Reply, Saw, SeatView, ShowLoad, SignalLoad, Step, Subject, TestLast, Truths, TryLoad, Walk, Word, got_of, is_limited, judge_of, may_acquire, meets_at, mode_for, needs_scan, one_if, part_of}
 use Rattle.ns_word.proofs.Prelude.{place_after, total, total_amid, want_of, ◌∙◌}
@@ -8,15 +8,12 @@ use Rattle.ns_word.proofs.Ranks.{either}
 use Rattle.ns_word.proofs.Others.{shared}
 use Rattle.ns_word.specs.Progress.{counts, counts_by, left_at, left_to, stands_in, steps_left}
 
--- such an act leaves all as it was
-same_part : {C : Type 0} {N : ℕ} (truths : Truths C) (who : ℕ) (act : Act C) (old : Part C N) (found : Found) (new : Part C N) (commits : List (Event C N)) (to : Next (Walk C) Reply) → Effect truths who act old found new commits → counts_by act found to ≡ false → new ≡ old
-same_part truths who LoadWord old (Saw word) new commits to e c = e.1
-same_part truths who LoadFlag old (Flag v) new commits to e c = e.1
-same_part truths who (Look limits again) old (Looked None) new commits to e c = e.1
-same_part truths who (Look limits again) old (Looked (Some cause)) new commits to e c = absurd (cc)
+-- such an act leaves all as it was, and commits nothing
+same_part : {C : Type 0} {N : ℕ} (truths : Truths C) (who : ℕ) (act : Act C) (old : Part C N) (found : Found) (new : Part C N) (commits : List (Event C N)) (to : Next (Walk C) Reply) → Effect truths who act old found new commits → counts_by act found to ≡ false → (new ≡ old) × (commits ≡ [])
+same_part truths who LoadWord old (Saw word) new commits to e c = (e.1, e.2)
+same_part truths who LoadFlag old (Flag v) new commits to e c = (e.1, e.2)
+same_part truths who (Look limits again) old (Looked None) new commits to e c = (e.1, e.2)
 same_part truths who LoadWord old other new commits to e c = absurd e
-same_part truths who LoadFlag old other new commits to e c = absurd e
-same_part truths who (Look limits again) old other new commits to e c = absurd e
 same_part truths who act old found new commits to e c = absurd (cc)
 
 judge_counts : {C : Type 0} (on : Subject C) (i : ℕ) (found : Found) (to : Next (Walk C) Reply) → counts_by (judge_of on i) found to ≡ true
@@ -60,9 +57,10 @@ module _ {C : Type 0} (N : ℕ) (meets : C → Bool) (stands : Bool) (word : Wor
   stays _ _ = λ c. absurd (cc)
 
 pub idle_same : {C : Type 0} {N : ℕ} (truths : Truths C) (old new : LockState C N) (view : SeatView C N) (found : Found) (commits : List (Event C N)) → (step : Step truths old view found new commits) → counts N step.walk found ≡ false →
-    (steps_left truths new ≡ steps_left truths old) × (new ≡ record old { views = new.views })
+    (steps_left truths new ≡ steps_left truths old) × (new ≡ record old { views = new.views }) × (step.held ≡ view.held) × (step.owed ≡ view.owed) × (commits ≡ [])
 idle_same {C} {N} truths old new view found commits step c =
-    let same = same_part truths view.seat (want_of step.walk) (part_of old view.held view.owed) found (part_of new step.held step.owed) commits (got_of N step.walk found) step.effect c in
+    let part = same_part truths view.seat (want_of step.walk) (part_of old view.held view.owed) found (part_of new step.held step.owed) commits (got_of N step.walk found) step.effect c in
+    let same = part.0 in
     let next = view_of view.seat (place_after (got_of N step.walk found)) step.held step.owed in
     let places = stays N (meets_at truths old.row) (stands_in old.lists.lock view.seat) old.word step.walk found c in
     let walks = ap (left_at N (meets_at truths old.row) (stands_in old.lists.lock view.seat) old.word) step.walks in
@@ -72,4 +70,7 @@ idle_same {C} {N} truths old new view found commits step c =
     let was = ap (total (left_to truths old)) step.was in (
       omega (arith, becomes, was, total_amid (left_to truths old) step.front next step.back, total_amid (left_to truths old) step.front view step.back, places, walks, held, owed),
       λ i. record { word = (same i).word; row = (same i).row; lists = (same i).lists; flags = (same i).flags; views = new.views },
+      ap (λ (p : Part C N). p.held) same,
+      ap (λ (p : Part C N). p.owed) same,
+      part.1,
     )

@@ -128,30 +128,28 @@ module _ {C : Type 0} {N : ℕ} (truths : Truths C) (who : ℕ) (views : List (S
         most = 2;
         others = λ u other.
             let meets = meets_at truths part.row in
-            let same = still_stands N meets (stands_in part.lists.lock u.seat) (stands_in lists.lock u.seat) u.walk (stands_still part.lists.lock lists.lock u.seat (keeps u.seat other.0)) in
+            let same = still_stands N meets _ _ u.walk (stands_still part.lists.lock lists.lock u.seat (keeps u.seat other.0)) in
             omega (arith, rises N meets meets (stands_in part.lists.lock u.seat) (stands_in lists.lock u.seat) part.word word u.walk 0 0 same.0 same.1);
         own = omega (arith, less);
       }
 
       -- a scan, whom it takes goes on to acquire
       pub scan_falls : Every (WaiterFits views) part.lists.lock → ((seat : ℕ) → seat ≢ who → times_in seat (left_of (meets_at truths part.row) part.lists.lock) ≤ times_in seat lists.lock) → share changed_to to + 50526 < share part walk → Falls part changed_to walk to
-      scan_falls fit keeps less = record { most = 802; others = rise; own = omega (arith, less) } where
-        releases : (u : SeatView C N) → IsOther who views u → one_if (may_release (meets_at truths part.row) (stands_in lists.lock u.seat) u.walk) ≤ one_if (may_release (meets_at truths part.row) (stands_in part.lists.lock u.seat) u.walk) + 0
-        releases u other =
+      scan_falls fit keeps less = record {
+        most = 802;
+        others = λ u other.
             let meets = meets_at truths part.row in
-            let parts = times_scan u.seat meets part.lists.lock in
-            let left = keeps u.seat other.0 in
-            elim (cases_eq (times_in u.seat (woken_of meets part.lists.lock)) 0) [
-              | inl stays ↦ (still_stands N meets (stands_in part.lists.lock u.seat) (stands_in lists.lock u.seat) u.walk (stands_still part.lists.lock lists.lock u.seat (omega (arith, parts, left, stays)))).0
+            let was = stands_in part.lists.lock u.seat in
+            let is = stands_in lists.lock u.seat in
+            let fewer : one_if (may_release meets is u.walk) ≤ one_if (may_release meets was u.walk) + 0 = elim (cases_eq (times_in u.seat (woken_of meets part.lists.lock)) 0) [
+              | inl stays ↦ (still_stands N meets was is u.walk (stands_still part.lists.lock lists.lock u.seat (omega (arith, times_scan u.seat meets part.lists.lock, keeps u.seat other.0, stays)))).0
               | inr taken ↦
                   let w = waiter_of (WaiterFits views) meets u.seat (woken_of meets part.lists.lock) (every_taken (WaiterFits views) meets part.lists.lock fit) (omega (arith, taken)) in
-                  taken_settles N meets (stands_in part.lists.lock u.seat) (stands_in lists.lock u.seat) u.walk w.0.mode w.0.cond w.0.tries (ap (λ walk. lock_stance (waits_in walk)) (sym (ap (λ s. walk_at s views) w.1 ∙ other.1)) ∙ w.2.1) w.2.0
-            ]
-
-        rise : (u : SeatView C N) → IsOther who views u → left_to truths (shared changed_to) u ≤ left_to truths (shared part) u + 802
-        rise u other =
-            let meets = meets_at truths part.row in
-            omega (arith, rises N meets meets (stands_in part.lists.lock u.seat) (stands_in lists.lock u.seat) part.word word u.walk 0 4 (releases u other) (rank_rises N meets (stands_in part.lists.lock u.seat) (stands_in lists.lock u.seat) u.walk))
+                  taken_settles N meets was is u.walk w.0.mode w.0.cond w.0.tries (ap (λ walk. lock_stance (waits_in walk)) (sym (ap (λ s. walk_at s views) w.1 ∙ other.1)) ∙ w.2.1) w.2.0
+            ] in
+            omega (arith, rises N meets meets was is part.word word u.walk 0 4 fewer (rank_rises N meets was is u.walk));
+        own = omega (arith, less);
+      }
 
   -- so less is left to all
   pub sum_falls : (seats : ℕ) (h : List (Event C N)) → seats ≤ 64 → (front back : List (SeatView C N)) (part next : Part C N) (walk : Walk C) (to : Option (Walk C)) →

@@ -1,9 +1,9 @@
 -- What is left to a seat by its place: how little it is where a decision leads by the word that is there, and how it changes with the row, the lock list and the word.
 use Rattle.std.proofs.Common.{Bool, None, Option, Some, ap, arith, cond, eq-eqb, false, ltb, not, refl, sym, true, ℕ, ◌&&◌, ◌*◌, ◌+◌, ◌-◌, ◌<◌, ◌≡◌, ◌≢◌, ◌≤◌}
-use Rattle.ns_word.proofs.Prelude.{Acquire, AcquireExchange, AcquireLoad, Act, Aim, AsFresh, AwaitWake, AwaitWakeInWait, ForLock, ForWait, GetLoad, Idle, InAcquire, InCells, InLeaving, InQueuing, InRelease, InShow, InSignal, InTry, InWait, LeaveLoad, Load, LoadWord, LookOut, Mode, Next, On}
+use Rattle.ns_word.proofs.Prelude.{Acquire, AcquireExchange, AcquireLoad, Act, Aim, AsFresh, AwaitWake, AwaitWakeInWait, Done, ForLock, ForWait, GetLoad, Idle, InAcquire, InCells, InLeaving, InQueuing, InRelease, InShow, InSignal, InTry, InWait, LeaveLoad, Load, LoadWord, LookOut, Mode, Next, On}
 use Rattle.ns_word.proofs.Prelude.{OnCondition, OnReturn, OnVariables, Outcome, PayInWait, QueuePlace, Release, ReleaseExchange, ReleaseLoad, ReleasePlace, ReleaseReturning, Releasing, Reply, ReturnQueues, Saw, ScanAndRelease, ShowLoad, SignalLoad, Subject, Take, TakeQueues, TakeToLeave}
-use Rattle.ns_word.proofs.Prelude.{TakeToQueue, TakeToScan, TakeToShow, TakeToWake, TestLast, TryLoad, Visit, Wait, WaitReturning, Waking, Walk, Woken, Word, acquired_for, armed_place, back_with, beq, both_ways, cond_on, false_from_ne_true, got_of, is_limited, is_satisfied, judge_of, lock_stance}
-use Rattle.ns_word.proofs.Prelude.{look_or_queue, may_acquire, mode_for, needs_scan, one_if, pay_releasing, pay_waiting, pay_woken, place_after, scan_place, test_place, waits_in, want_of, ◌∙◌}
+use Rattle.ns_word.proofs.Prelude.{TakeToQueue, TakeToScan, TakeToShow, TakeToWake, TestLast, TryLoad, Visit, Wait, WaitReturning, Walk, Woken, Word, acquired_for, armed_place, back_with, beq, both_ways, cond_on, false_from_ne_true, got_of, is_limited, is_satisfied, judge_of, lock_stance}
+use Rattle.ns_word.proofs.Prelude.{look_or_queue, may_acquire, mode_for, needs_scan, one_if, pay_waiting, place_after, scan_place, test_place, waits_in, want_of, ◌∙◌}
 use Rattle.ns_word.specs.Progress.{left_at, may_release, may_wait, rank, same_word, stale, stale_at, stale_by, waits_again, waits_again_for, weigh_at}
 use Rattle.ns_word.proofs.Same as Same
 
@@ -58,19 +58,22 @@ module _ {C : Type 0} where
     abbrev pub Decides : ℕ → Next (Walk C) Reply → Type 0
     Decides base next = left_at N meets stands word (place_after next) ≤ base + one_if (idles next)
 
+    -- An exchange that comes next succeeds.
     now : stale word word ≡ 0
     now = stale_now word
 
     takes_or_idles : (base : ℕ) (again last : Walk C) → left_at N meets stands word (Some again) ≤ base + 1 → left_at N meets stands word (Some last) ≤ base → Decides base (cond word.spin (Idle again) (On last))
     takes_or_idles base again last g l = either (Decides base) word.spin (λ e. omega (arith, g)) (λ e. omega (arith, l))
 
-    decision : (base : ℕ) (may : Bool) (first again last : Walk C) → left_at N meets stands word (Some first) ≤ base → left_at N meets stands word (Some again) ≤ base + 1 → left_at N meets stands word (Some last) ≤ base → Decides base (cond may (On first) (cond word.spin (Idle again) (On last)))
+    decision : (base : ℕ) (may : Bool) (first again last : Walk C) → left_at N meets stands word (Some first) ≤ base → left_at N meets stands word (Some again) ≤ base + 1 → left_at N meets stands word (Some last) ≤ base →
+        Decides base (cond may (On first) (cond word.spin (Idle again) (On last)))
     decision base may first again last f g l = either (Decides base) may (λ e. omega (arith, f)) (λ e. takes_or_idles base again last g l)
 
     judge_now : (on : Subject C) (i : ℕ) → stale_by word (judge_of on i) ≡ 0
     judge_now (OnCondition c) i = refl
     judge_now (OnVariables variables) i = refl
 
+    -- so wherever the word is seen
     pub decides : (walk : Walk C) → Decides (weigh_at N meets stands (Some walk)) (got_of N walk (Saw word))
     decides (InTry mode TryLoad) = either (Decides 400) (may_acquire mode AsFresh word) (λ e. omega (arith, now)) (λ e. omega arith)
     decides (InAcquire aim (AcquireLoad arrival)) = decision (weigh_at N meets stands (Some (InAcquire aim (AcquireLoad arrival)))) (may_acquire (mode_for aim) arrival word) _ _ _ (omega (arith, now)) (omega arith) (omega (arith, now))
@@ -93,11 +96,8 @@ module _ {C : Type 0} where
 
     -- ---- where a place leads that has nothing left to pay
 
-    pub released_left : (releasing : Releasing) (owes : Bool) → left_at N meets stands word (place_after (pay_releasing {C = C} releasing owes)) ≡ 0
-    released_left releasing owes = either (λ (next : Next (Walk C) Reply). left_at N meets stands word (place_after next) ≡ 0) owes (λ e. refl) (λ e. refl)
-
-    pub woken_left : (waking : Waking) (k : ℕ) (owes : Bool) → left_at N meets stands word (place_after (pay_woken {C = C} waking k owes)) ≡ 0
-    woken_left waking k owes = either (λ (next : Next (Walk C) Reply). left_at N meets stands word (place_after next) ≡ 0) owes (λ e. refl) (λ e. refl)
+    pub paid_left : (walk : Walk C) (reply : Reply) (owes : Bool) → left_at N meets stands word (Some walk) ≡ 0 → left_at N meets stands word (place_after (cond owes (On walk) (Done reply))) ≡ 0
+    paid_left walk reply owes none = either (λ (next : Next (Walk C) Reply). left_at N meets stands word (place_after next) ≡ 0) owes (λ e. none) (λ e. refl)
 
     pub waiting_left : (wait : Wait C) (owes : Bool) → left_at N meets stands word (place_after (pay_waiting wait owes)) ≡ 60000 * one_if (not stands && waits_again meets wait.on (Woken None)) + 1400
     waiting_left wait owes = either (λ next. left_at N meets stands word (place_after next) ≡ 60000 * one_if (not stands && waits_again meets wait.on (Woken None)) + 1400) owes (λ e. omega arith) (λ e. omega arith)

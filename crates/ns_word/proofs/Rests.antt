@@ -1,9 +1,9 @@
 -- Where nothing is left to any seat but to look again, each call in progress has a reason to wait.
 use Rattle.std.proofs.Common.{Bool, IsSome, List, None, Option, Some, [], ap, arith, cond, eq-eqb, eqb-true, false, inl, inr, is_some, lt-ltb, ltb, ltb-true, ne_eqb, not, refl, subst, sym, true, ℕ, ◌&&◌, ◌+◌, ◌∷◌, ◌≡◌, ◌≢◌, ◌≤◌, ◌⊎◌}
-use Rattle.ns_word.proofs.Prelude.{AcquireExchange, AcquireLoad, Act, AsFresh, AwaitWake, AwaitWakeInWait, AwaitWakeToLeave, Busy, Done, Effect, Event, Every, Flag, Found, GetLoad, HasOne, Held, Idle, InAcquire, InCells, InLeaving, InQueuing, InRelease, InShow, InSignal, InTry, InWait, IsLawful}
-use Rattle.ns_word.proofs.Prelude.{LeaveLoad, Limits, Load, LoadFlag, LoadWord, LockState, Look, LookIn, LookOut, Looked, Next, On, OnCondition, OnVariables, Part, PlaceFits, ReleaseExchange, ReleaseLoad, Reply, Saw, SeatView, ShowLoad, SignalLoad, Step, Subject, Take, TakeToLeave, TakeToQueue}
-use Rattle.ns_word.proofs.Prelude.{TakeToScan, TakeToShow, TakeToWake, TestLast, Truths, TryLoad, ViewFits, Visit, Wait, Walk, Word, and_parts, awaits, both_ways, called_to, cases_Bool, cases_eq, counts_in, every_map, false_from_ne_true, got_of, has_queues, is_armed, is_held, is_on_way}
-use Rattle.ns_word.proofs.Prelude.{is_reading, is_unwoken, is_writing, judge_of, may_acquire, mode_for, needs_scan, one_if, or_cases, or_parts, owed_in, owed_to, part_of, pays, readers, standing_after, takers, times_among, total, walk_at, want_of, was_woken, writers, ◌∙◌}
+use Rattle.ns_word.proofs.Prelude.{AcquireExchange, AcquireLoad, Act, AsFresh, AwaitWake, AwaitWakeInWait, AwaitWakeToLeave, Busy, Cause, Done, Effect, Event, Every, Flag, Found, GetLoad, HasOne, Held, Idle, InAcquire, InCells, InLeaving, InQueuing, InRelease, InShow, InSignal, InTry, InWait}
+use Rattle.ns_word.proofs.Prelude.{IsLawful, LeaveLoad, Limits, Load, LoadFlag, LoadWord, LockState, Look, LookIn, LookOut, Looked, Next, On, OnCondition, OnVariables, Part, PlaceFits, ReleaseExchange, ReleaseLoad, Reply, Saw, SeatView, ShowLoad, SignalLoad, Step, Subject, Take, TakeToLeave}
+use Rattle.ns_word.proofs.Prelude.{TakeToQueue, TakeToScan, TakeToShow, TakeToWake, TestLast, Truths, TryLoad, ViewFits, Visit, Wait, Walk, Word, and_parts, awaits, both_ways, called_to, cases_Bool, cases_eq, counts_in, every_map, false_from_ne_true, got_of, has_queues, is_armed, is_held}
+use Rattle.ns_word.proofs.Prelude.{is_on_way, is_reading, is_writing, judge_of, may_acquire, mode_for, needs_scan, one_if, or_cases, or_parts, owed_in, owed_to, part_of, pays, readers, standing_after, takers, times_among, total, walk_at, want_of, was_woken, writers, ◌∙◌}
 use Rattle.ns_word.specs.Progress.{counts, counts_by}
 use Rattle.ns_model.proofs.Tallies.{every_both}
 use Rattle.ns_word.specs.Rests.{AllRest, HasReason, IsIdleLook, WaitsInList, is_idle, rests_at, rests_by}
@@ -142,12 +142,9 @@ module _ {C : Type 0} {N : ℕ} (truths : Truths C) (seats : ℕ) (h : List (Eve
   listed : (view : SeatView C N) → walk_at view.seat views ≡ view.walk → (view.walk ≡ None) ⊎ Waits truths N s.word (s.flags view.seat) view.walk view.held → (view.walk ≡ None) ⊎ WaitsInList s view
   listed view own (inl none) = inl none
   listed view own (inr is) = inr (record { waits = is.0; armed = is.2; listed = counted; empty = is.3 }) where
-    unwoken : is_unwoken (walk_at view.seat views) (s.flags view.seat) ≡ true
-    unwoken = rw (own, is.0, is.2) refl
-
     counted : counts_in view.seat s.lists ≡ 1
     counted =
-        let sum : counts_in view.seat s.lists + owed_to view.seat views ≡ 1 = p.waiters_placed.placed view.seat ∙ ap (λ b. cond b 1 0) unwoken in
+        let sum : counts_in view.seat s.lists + owed_to view.seat views ≡ 1 = p.waiters_placed.placed view.seat ∙ rw (own, is.0, is.2) refl in
         let none = owed_nobody view.seat views nobody_owes in omega (arith, sum, none)
 
   all_listed : Every (λ view. (view.walk ≡ None) ⊎ WaitsInList s view) views
@@ -184,11 +181,12 @@ module _ {C : Type 0} where
   load_counts word (On place) = refl
   load_counts word (Done reply) = refl
 
-  look_counts : (limits : Limits) (again : Bool) (set : Bool) (next : Next (Walk C) Reply) → (set && is_idle next) ≡ false → (counts_by (Look limits again) (Looked None) next ≡ true) ⊎ ((is_idle next ≡ true) × (set ≡ false))
-  look_counts limits again false (Idle place) e = inr (refl, refl)
-  look_counts limits again true (Idle place) e = absurd (cc)
-  look_counts limits again set (On place) e = inl refl
-  look_counts limits again set (Done reply) e = inl refl
+  look_counts : (limits : Limits) (again : Bool) (set : Bool) (next : Next (Walk C) Reply) → (counts_by (Look limits again) (Looked None) next ≡ not (set && is_idle next)) ⊎ ((is_idle next ≡ true) × (set ≡ false))
+  look_counts limits again false (Idle place) = inr (refl, refl)
+  look_counts limits again true (Idle place) = inl refl
+  look_counts limits again false next = inl refl
+  look_counts limits again true (On place) = inl refl
+  look_counts limits again true (Done reply) = inl refl
 
   judges : (on : Subject C) (i : ℕ) (limits : Limits) (again : Bool) → judge_of on i ≢ Look limits again
   judges (OnCondition c) i limits again e = absurd (cc)
@@ -208,22 +206,38 @@ module _ {C : Type 0} where
   looks_out N (InShow ShowLoad) limits again e idle = absurd (cc)
   looks_out N _ limits again e idle = absurd (cc)
 
-module _ {C : Type 0} {N : ℕ} (truths : Truths C) where
-  by_act : (seat : ℕ) (old new : Part C N) (commits : List (Event C N)) (walk : Walk C) (act : Act C) (found : Found) → want_of walk ≡ act → Effect truths seat act old found new commits → rests_by N old.word (old.flags seat) walk act ≡ false →
-      (counts_by act found (got_of N walk found) ≡ true) ⊎ IsIdleLook walk found (old.flags seat)
-  by_act seat old new commits walk LoadWord (Saw word) is e r = inl (load_counts word (got_of N walk (Saw word)) ∙ ap not (ap (λ x. is_idle (got_of N walk (Saw x))) e.0 ∙ r))
-  by_act seat old new commits walk LoadFlag (Flag v) is e r = inl (ap (λ x. not (is_armed x)) e.0 ∙ ap not r)
-  by_act seat old new commits walk (Look limits again) (Looked None) is e r = elim (look_counts limits again (is_armed (old.flags seat)) (got_of N walk (Looked None)) r) [
-    | inl counted ↦ inl counted
-    | inr idle ↦ let out = looks_out N walk limits again is idle.0 in inr (record { wait = out.0; place = out.1; nothing = refl; clear = λ set. both_ways _ idle.1 (eq-eqb (old.flags seat) 1 set) })
-  ]
-  by_act seat old new commits walk (Look limits again) (Looked (Some cause)) is e r = inl refl
-  by_act seat old new commits walk LoadWord _ is e r = absurd e
-  by_act seat old new commits walk LoadFlag _ is e r = absurd e
-  by_act seat old new commits walk (Look limits again) _ is e r = absurd e
-  by_act seat old new commits walk act found is e r = inl refl
+  -- A step counts just where its place doesn't rest; but a look that shows something counts, and one that shows nothing with the flag clear doesn't.
+  abbrev Goes : ℕ → Walk C → Act C → Word → ℕ → Found → Type 0
+  Goes N walk act word flag found = (counts_by act found (got_of N walk found) ≡ not (rests_by N word flag walk act)) ⊎ (((cause : Cause) × (found ≡ Looked (Some cause)) × (counts_by act found (got_of N walk found) ≡ true)) ⊎ IsIdleLook walk found flag)
 
-  pub step_goes_on : (old : LockState C N) (view : SeatView C N) (found : Found) (new : LockState C N) (commits : List (Event C N)) → (step : Step truths old view found new commits) →
-      rests_at N old.word (old.flags view.seat) view.walk ≡ false → (counts N step.walk found ≡ true) ⊎ IsIdleLook step.walk found (old.flags view.seat)
-  step_goes_on old view found new commits step r =
-      by_act view.seat (part_of old view.held view.owed) (part_of new step.held step.owed) commits step.walk (want_of step.walk) found refl step.effect (subst (λ walk. rests_at N old.word (old.flags view.seat) walk ≡ false) step.walks r)
+module _ {C : Type 0} {N : ℕ} (truths : Truths C) where
+  by_act : (seat : ℕ) (old new : Part C N) (commits : List (Event C N)) (walk : Walk C) (act : Act C) (found : Found) → want_of walk ≡ act → Effect truths seat act old found new commits → Goes N walk act old.word (old.flags seat) found
+  by_act seat old new commits walk LoadWord (Saw word) is e = inl (load_counts word (got_of N walk (Saw word)) ∙ ap (λ x. not (is_idle (got_of N walk (Saw x)))) e.0)
+  by_act seat old new commits walk LoadFlag (Flag v) is e = inl (ap (λ x. not (is_armed x)) e.0)
+  by_act seat old new commits walk (Look limits again) (Looked None) is e = elim (look_counts limits again (is_armed (old.flags seat)) (got_of N walk (Looked None))) [
+    | inl same ↦ inl same
+    | inr idle ↦ let out = looks_out N walk limits again is idle.0 in inr (inr (record { wait = out.0; place = out.1; nothing = refl; clear = λ set. both_ways _ idle.1 (eq-eqb (old.flags seat) 1 set) }))
+  ]
+  by_act seat old new commits walk (Look limits again) (Looked (Some cause)) is e = inr (inl (cause, refl, refl))
+  by_act seat old new commits walk LoadWord _ is e = absurd e
+  by_act seat old new commits walk LoadFlag _ is e = absurd e
+  by_act seat old new commits walk (Look limits again) _ is e = absurd e
+  by_act seat old new commits walk act found is e = inl refl
+
+  module _ (old : LockState C N) (view : SeatView C N) (found : Found) (new : LockState C N) (commits : List (Event C N)) (step : Step truths old view found new commits) where
+    goes : Goes N step.walk (want_of step.walk) old.word (old.flags view.seat) found
+    goes = by_act view.seat (part_of old view.held view.owed) (part_of new step.held step.owed) commits step.walk (want_of step.walk) found refl step.effect
+
+    pub step_goes_on : rests_at N old.word (old.flags view.seat) view.walk ≡ false → (counts N step.walk found ≡ true) ⊎ IsIdleLook step.walk found (old.flags view.seat)
+    step_goes_on r = elim goes [
+      | inl same ↦ inl (same ∙ ap not (ap (rests_at N old.word (old.flags view.seat)) (sym step.walks) ∙ r))
+      | inr (inl shown) ↦ inl shown.2
+      | inr (inr idle) ↦ inr idle
+    ]
+
+    pub step_rests : rests_at N old.word (old.flags view.seat) view.walk ≡ true → (counts N step.walk found ≡ false) ⊎ ((cause : Cause) × (found ≡ Looked (Some cause)))
+    step_rests r = elim goes [
+      | inl same ↦ inl (same ∙ ap not (ap (rests_at N old.word (old.flags view.seat)) (sym step.walks) ∙ r))
+      | inr (inl shown) ↦ inr (shown.0, shown.1)
+      | inr (inr idle) ↦ inl (λ i. counts N (idle.place i) (idle.nothing i))
+    ]

@@ -1,6 +1,6 @@
 -- While no call begins, a round that doesn't begin at rest has a step that counts; so rounds come to rest.
 use Rattle.std.proofs.Common.{Bool, List, None, Option, Some, [], ap, arith, cond, eq-eqb, eqb, false, inl, inr, length, ne_eqb, refl, subst, sym, true, ℕ, ◌++◌, ◌+◌, ◌<◌, ◌∷◌, ◌≡◌, ◌≢◌, ◌≤◌, ◌⊎◌}
-use Rattle.ns_word.proofs.Prelude.{AreApart, AwaitWakeInWait, Event, Found, InWait, IsLawful, LockState, LookOut, QuietKeeps, SeatStep, SeatView, Step, Truths, Walk, both_ways, cases_Bool, cases_eq, got_of, one_if, place_after, walk_at, ◌∙◌}
+use Rattle.ns_word.proofs.Prelude.{AreApart, AwaitWakeInWait, Event, Found, InWait, IsLawful, LockState, LookOut, QuietKeeps, SeatStep, SeatView, Step, Truths, Walk, both_ways, cases_Bool, cases_eq, got_of, one_if, one_most, place_after, walk_at, ◌∙◌}
 use Rattle.ns_word.specs.Progress.{cost_of, counts, steps_left}
 use Rattle.ns_word.specs.Rests.{AllRest, rests_at}
 use Rattle.ns_word.specs.Turns.{BeginsNone, IsMade, IsRound, Rounds, Run, Turn, cost_at, counted, paid, turns_of}
@@ -11,14 +11,10 @@ use Rattle.ns_word.proofs.Idles.{idle_same}
 use Rattle.ns_word.proofs.Turns.{made_lawful, run_pays}
 use Rattle.ns_word.proofs.Views.{apart_parts, walk_here, walk_there}
 
--- the turns that count nothing and are left to one that doesn't rest
-abbrev looks_left : {C : Type 0} → Walk C → ℕ
-looks_left (InWait wait LookOut) = 1
-looks_left walk = 0
-
-looks_most : {C : Type 0} (walk : Walk C) → looks_left walk ≤ 1
-looks_most (InWait wait LookOut) = omega arith
-looks_most walk = omega arith
+-- it is at its look while it waits, the one turn that counts nothing and is left to one that doesn't rest
+abbrev looks : {C : Type 0} → Walk C → Bool
+looks (InWait wait LookOut) = true
+looks walk = false
 
 -- where nothing is counted, the first counts nothing, and neither do the others
 none_counted : (b : Bool) (n : ℕ) → one_if b + n ≡ 0 → (b ≡ false) × (n ≡ 0)
@@ -68,7 +64,7 @@ module _ {C : Type 0} {N : ℕ} (truths : Truths C) where
   module _ (some : 0 < N) (small : N ≤ 16) (quiet : QuietKeeps N truths) (seats : ℕ) (few : seats ≤ 64) where
     -- Who doesn't rest makes one such turn at most: a look, behind which the wait finds its flag clear.
     idle_turns : (h : List (Event C N)) (old : LockState C N) (turns : List (Turn C)) (new : LockState C N) (seat : ℕ) (walk : Walk C) → IsLawful truths seats h old → Run truths old turns new → BeginsNone turns → counted N turns ≡ 0 →
-        walk_at seat old.views ≡ Some walk → rests_at N old.word (old.flags seat) (Some walk) ≡ false → Stays (looks_left walk) seat turns new
+        walk_at seat old.views ≡ Some walk → rests_at N old.word (old.flags seat) (Some walk) ≡ false → Stays (one_if (looks walk)) seat turns new
     idle_turns h old [] new seat walk p r begun still is goes = (omega arith, λ over. let never : Some walk ≡ None = sym is ∙ sym (ap (λ s. walk_at seat s.views) r) ∙ over in absurd (cc))
     idle_turns h old (turn ∷ turns) new seat walk p r begun still is goes =
         let first = none_counted (counts N turn.walk turn.found) (counted N turns) still in
@@ -89,7 +85,7 @@ module _ {C : Type 0} {N : ℕ} (truths : Truths C) where
                     let rest = idle_turns (h ++ r.1) r.0 turns new seat (InWait look.wait AwaitWakeInWait) after_all r.3 begun.1 first.1 back (ne_eqb (r.0.flags seat) 1 clear) in
                     let one : one_if (eqb turn.seat seat) ≡ 1 = ap one_if (eq-eqb turn.seat seat e) in
                     let own : walk ≡ turn.walk = cc in
-                    (omega (arith, one, rest.0, ap looks_left (own ∙ out)), rest.1)
+                    (omega (arith, one, rest.0, ap (λ w. one_if (looks w)) (own ∙ out)), rest.1)
               ]
           | inr ne ↦
               let rest = idle_turns (h ++ r.1) r.0 turns new seat walk after_all r.3 begun.1 first.1 (idle.others seat ne ∙ is) (rw (idle.word, ap (λ f. f seat) idle.flags) goes) in
@@ -99,15 +95,15 @@ module _ {C : Type 0} {N : ℕ} (truths : Truths C) where
     -- a round that counts nothing began at rest
     rested : (h : List (Event C N)) (old : LockState C N) (turns : List (Turn C)) (new : LockState C N) → IsLawful truths seats h old → Run truths old turns new → BeginsNone turns → IsRound old turns new → counted N turns ≡ 0 → AllRest old
     rested h old turns new p r begun round still = every_both (λ view. walk_at view.seat old.views ≡ view.walk) _ (λ view. rests_at N old.word (old.flags view.seat) view.walk ≡ true) each old.views (every_at old.views p.apart) round where
-      each : (view : SeatView C N) → walk_at view.seat old.views ≡ view.walk → (view.walk ≡ None) ⊎ (2 ≤ turns_of view.seat turns) ⊎ (walk_at view.seat new.views ≡ None) → rests_at N old.word (old.flags view.seat) view.walk ≡ true
+      each : (view : SeatView C N) → walk_at view.seat old.views ≡ view.walk → (rests_at N old.word (old.flags view.seat) view.walk ≡ true) ⊎ (2 ≤ turns_of view.seat turns) ⊎ (walk_at view.seat new.views ≡ None) → rests_at N old.word (old.flags view.seat) view.walk ≡ true
       each view own made = by view.walk own made where
-        by : (walk : Option (Walk C)) → walk_at view.seat old.views ≡ walk → (walk ≡ None) ⊎ (2 ≤ turns_of view.seat turns) ⊎ (walk_at view.seat new.views ≡ None) → rests_at N old.word (old.flags view.seat) walk ≡ true
+        by : (walk : Option (Walk C)) → walk_at view.seat old.views ≡ walk → (rests_at N old.word (old.flags view.seat) walk ≡ true) ⊎ (2 ≤ turns_of view.seat turns) ⊎ (walk_at view.seat new.views ≡ None) → rests_at N old.word (old.flags view.seat) walk ≡ true
         by None own made = refl
         by (Some walk) own made = elim (cases_Bool (rests_at N old.word (old.flags view.seat) (Some walk))) [
           | inl rests ↦ rests
           | inr goes ↦ let stays = idle_turns h old turns new view.seat walk p r begun still own goes in elim made [
-            | inl none ↦ absurd (cc)
-            | inr (inl two) ↦ absurd (omega (arith, two, stays.0, looks_most walk))
+            | inl rests ↦ absurd (both_ways (rests_at N old.word (old.flags view.seat) (Some walk)) goes rests)
+            | inr (inl two) ↦ absurd (omega (arith, two, stays.0, one_most (looks walk)))
             | inr (inr over) ↦ absurd (stays.1 over)
           ]
         ]

@@ -6,6 +6,8 @@ use Rattle.ns_word.proofs.Falls.{counted_falls}
 use Rattle.ns_word.proofs.Idles.{idle_same}
 use Rattle.ns_word.proofs.ToldAfter.{begins_if, seat_steps_keep}
 use Rattle.ns_word.specs.Progress.{cost_of, counts, left_at, left_to, stale_by, stands_in, steps_left}
+use Rattle.std.specs.Prelude.{suc, zero, ◌*◌}
+use Rattle.ns_word.specs.Begins.{fresh_state, fresh_views}
 use Rattle.ns_word.specs.Turns.{IsMade, Run, Turn, begun_by, counted, paid}
 
 module _ {C : Type 0} where
@@ -62,3 +64,10 @@ module _ {C : Type 0} {N : ℕ} (truths : Truths C) where
         let counts_here = ap (λ walk. one_if (counts N walk turn.found)) m.place in
         let rest = run_pays turns (h ++ run.1) run.0 new (made_lawful h old turn run.0 run.1 p m) run.3 in
         omega (arith, pays, takes, counts_here, rest)
+
+fresh_left : {C : Type 0} {N : ℕ} (truths : Truths C) (s : LockState C N) (first n : ℕ) → total (left_to truths s) (fresh_views {C = C} {N = N} first n) ≡ 6600 * n
+fresh_left truths s first zero = refl
+fresh_left truths s first (suc n) = omega (arith, fresh_left truths s (first + 1) n)
+
+pub fresh_has_left : {C : Type 0} (N : ℕ) (truths : Truths C) (seats : ℕ) → steps_left truths (fresh_state {C = C} {N = N} seats) ≡ 6600 * seats
+fresh_has_left {C} N truths seats = fresh_left truths (fresh_state {C = C} {N = N} seats) 0 seats

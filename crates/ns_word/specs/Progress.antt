@@ -10,10 +10,10 @@ use Rattle.ns_word.specs.Walks.{got_of, want_of}
 
 -- ---- which steps count
 
--- Each step counts, but for a load of the word that finds the queues with another and leaves nothing to do but to load it again, a load of one's own flag that finds it set, and a look of one that waits in its list, where it shows nothing.
+-- Each step counts, but for a load of the word that finds the queues with another and leaves nothing to do but to load it again, a load of one's own flag that finds it set, and a look of one that waits in its list, or was taken from it, where it shows nothing.
 abbrev pub counts_by : {C : Type 0} → Act C → Found → Next (Walk C) Reply → Bool
-counts_by LoadWord found (Idle again) = false
-counts_by (Look limits back) (Looked None) (Idle again) = false
+counts_by LoadWord found (Idle next) = false
+counts_by (Look limits again) (Looked None) (Idle next) = false
 counts_by LoadFlag (Flag v) next = not (is_armed v)
 counts_by act found next = true
 

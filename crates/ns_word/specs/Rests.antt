@@ -13,7 +13,7 @@ abbrev pub is_idle : {C : Type 0} → Next (Walk C) Reply → Bool
 is_idle (Idle next) = true
 is_idle next = false
 
--- Whether a place that wants this act is to look again, where this is the lock word and this its seat's own flag: it loads the word and finds the queues with another; or it waits with its flag set, and loads that, or looks and is shown nothing.
+-- Whether a place that wants this act is to look again, where this is the lock word and this its seat's own flag: it loads the word and finds the queues with another; or it waits with its flag set, and loads that, or looks, whatever it will be shown.
 abbrev pub rests_by : {C : Type 0} → ℕ → Word → ℕ → Walk C → Act C → Bool
 rests_by N word flag walk LoadWord = is_idle (got_of N walk (Saw word))
 rests_by N word flag walk LoadFlag = is_armed flag

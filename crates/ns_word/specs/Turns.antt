@@ -1,12 +1,11 @@
 -- Runs of turns, how many of their steps count, what the calls pay that begin in them, and rounds of them.
-use Rattle.std.specs.Prelude.{Bool, List, None, Option, Some, [], false, if◌then◌else◌, ℕ, ◌==◌, ◌∷◌, ◌≡◌, ◌≤◌, ◌⊎◌}
+use Rattle.std.specs.Prelude.{Bool, List, None, Option, Some, [], false, if◌then◌else◌, true, ℕ, ◌==◌, ◌∷◌, ◌≡◌, ◌≤◌, ◌⊎◌}
 use Rattle.ns_word.specs.Names.{Event, Every, Found, SeatView, Truths, Walk, one_if, total}
 use Rattle.ns_word.specs.Begins.{SeatStep}
 use Rattle.ns_word.specs.Progress.{cost_of, counts}
+use Rattle.ns_word.specs.Rests.{rests_at}
 use Rattle.ns_word.specs.Steps.{LockState}
 use Rattle.ns_word.specs.Views.{walk_at}
-
--- ---- runs
 
 -- A turn: whose it is, the place from which it makes a step, whether a call begins there with the turn, and what the step finds.
 pub record Turn (C : Type 0) : Type 0 where
@@ -42,8 +41,6 @@ cost_at N turn = if turn.begins then cost_of N turn.walk else 0
 abbrev pub paid : {C : Type 0} → ℕ → List (Turn C) → ℕ
 paid N turns = total (cost_at N) turns
 
--- ---- rounds
-
 -- no call begins
 abbrev pub BeginsNone : {C : Type 0} → List (Turn C) → Type 0
 BeginsNone turns = Every (λ turn. turn.begins ≡ false) turns
@@ -52,9 +49,9 @@ BeginsNone turns = Every (λ turn. turn.begins ≡ false) turns
 abbrev pub turns_of : {C : Type 0} → ℕ → List (Turn C) → ℕ
 turns_of seat turns = total (λ turn. one_if (turn.seat == seat)) turns
 
--- Each seat that is in a call as the turns begin makes two of them at least, or its call is over when they end.
+-- Each seat that doesn't rest as the turns begin makes two of them at least, or its call is over when they end.
 abbrev pub IsRound : {C : Type 0} {N : ℕ} → LockState C N → List (Turn C) → LockState C N → Type 0
-IsRound old turns new = Every (λ view. (view.walk ≡ None) ⊎ (2 ≤ turns_of view.seat turns) ⊎ (walk_at view.seat new.views ≡ None)) old.views
+IsRound {C} {N} old turns new = Every (λ view. (rests_at N old.word (old.flags view.seat) view.walk ≡ true) ⊎ (2 ≤ turns_of view.seat turns) ⊎ (walk_at view.seat new.views ≡ None)) old.views
 
 -- The rounds are made one after another, and lead from old to new; no call begins in them.
 abbrev pub Rounds : {C : Type 0} {N : ℕ} → Truths C → LockState C N → List (List (Turn C)) → LockState C N → Type 0

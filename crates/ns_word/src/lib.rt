@@ -12,7 +12,7 @@
 //! and their histories ns_model's; a wait's limits, and where a walk goes ([`ns_env::next`]), ns_env's.
 //!
 //! The law is in `specs/Lawful.antt`, its proof in `proofs/`, and the contract that carries it
-//! is [`law::steps_keep_the_law`]'s.
+//! is [`law::steps_keep_the_law`]'s. That calls end, or wait for a reason, [`progress_law`] says.
 //!
 //! ```rust
 //! // a call is a walk: a place that wants an act next, and goes on by what the act found

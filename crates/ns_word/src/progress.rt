@@ -36,7 +36,8 @@ impl<C: Copy> Walk<C> {
         }
     }
 
-    /// What a call pays that begins at this place, over a row of `N` cells: so many counted steps at most come of it.
+    /// What a call pays that begins at this place, over a row of `N` cells: it adds no more to the steps that count and
+    /// are left to all.
     ///
     /// Needs the first place of a call, and a row of at most 16 cells.
     pub fn cost<const N: usize>(&self) -> u64
