@@ -1,7 +1,7 @@
 -- What a step tells its caller.
 use Rattle.std.proofs.Common.{Bool, List, None, Option, Result, Some, [], ap, cond, inl, inr, ne_eqb, refl, slice_index, subst, sym, ℕ, ◌++◌, ◌<◌, ◌∙◌, ◌∷◌, ◌≡◌}
 use Rattle.ns_gate.proofs.Prelude.{Acquire, Act, ActFits, BeginsIf, CanStep, Cell, Changed, Effect, Flag, Found, GateView, HasStepped, Held, IsExchange, IsOwedNext, IsPackable, JudgeMet, JudgeQuiet, Lists, LoadCell, LoadFlag, LoadWord, LockState, Made, MayExchange, Me, Owed, Part, Performed}
-use Rattle.ns_gate.proofs.Prelude.{PerformedWith, Release, ReleaseReturning, ReturnQueues, Returning, Saw, SeatView, SectionFits, TakeQueues, Truths, WaitReturning, Walk, Word, act_by, act_fits, act_of, act_returning, cases_eq, change_found, decoded, exchanged, found_fits, found_of, found_returned}
+use Rattle.ns_gate.proofs.Prelude.{PerformedWith, Release, ReleaseReturning, ReturnQueues, Returning, Saw, SeatView, SectionFits, TakeQueues, Truths, WaitReturning, Walk, Word, act_by, act_fits, act_of, act_returning, cases_eq, change_found, decoded, exchanged, found_fits, found_back, found_of}
 use Rattle.ns_gate.proofs.Prelude.{got_of, made_by, next_owed, number_of, packable, part_of, place_after, row_in, scanned, standing_after, the, tried_for, view_fits, view_in, walk_by, want_of, word_of}
 
 -- the wake that is owed next
@@ -28,7 +28,7 @@ module _ {C : Type 0} {N : ℕ} (truths : Truths C) where
   ]
 
   pub returned_so : (returning : Returning C) (last : Word) (result : Result Unit Word) (me now : Me (Lists C) (List (GateView C N))) → Performed truths None (act_returning returning last) (tried_for (made_by truths (act_returning returning last) (the me.0)) result) me now
-      → Performed truths None (act_returning returning last) (tried_for (found_returned truths (the me.0).at.seat returning last (row_in (the me.0).at.held) (the me.0).stood) result) me now
+      → Performed truths None (act_returning returning last) (tried_for (found_back truths returning last me) result) me now
   returned_so (Changed change) last result me now p = p
   returned_so other last result me now p = p
 

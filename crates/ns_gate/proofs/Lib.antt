@@ -1,4 +1,5 @@
 pub mod Allowed
+pub mod Bounds
 pub mod Calls
 pub mod Endings
 pub mod Findings

@@ -1,3 +1,4 @@
+pub mod Bounds
 pub mod Calls
 pub mod Endings
 pub mod Law

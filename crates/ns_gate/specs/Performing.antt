@@ -1,18 +1,16 @@
 -- What is to be known beside an act.
 use Rattle.std.specs.Prelude.{List, None, Option, slice_index, slice_set, ℕ, ◌<◌, ◌≡◌}
 use Rattle.ns_gate.specs.Names.{Acquire, Act, ArmFlag, Beside, Changed, IsPackable, JudgeMet, JudgeQuiet, LoadCell, LoadFlag, LoadWord, Look, MayShow, PayWake, Release, ReleaseReturning, Released, ReturnQueues, Returning, StoreCell, TakeQueues, Truths, WaitReturning, Waited, Walk, Word, before_in}
-use Rattle.ns_gate.specs.Names.{bits_of, owes_more, row_in}
+use Rattle.ns_gate.specs.Names.{owes_more, row_in}
 use Rattle.ns_gate.specs.Calls.{SeatOf}
 use Rattle.ns_gate.specs.Law.{GateView}
-use Rattle.ns_gate.specs.Steps.{the, Carries, IsOwedNext, found_returned, lists_returned, some_returned}
+use Rattle.ns_gate.specs.Steps.{the, HasTurned, IsOwedNext, found_back}
 
--- The queues are in hand as they are put back for this, and it is known what the hand has made of them; the word last seen has a number.
+-- The queues are in hand as they are put back for this, and what they then tell is known; the word last seen has a number.
 pub record IsTurned {C : Type 0} {N : ℕ} (truths : Truths C) (returning : Returning C) (last : Word) (beside : Beside N) (me : SeatOf C N) : Type 0 where
   pub number : IsPackable last
-  pub carries : Carries (lists_returned truths (the me.0).at.seat returning last (row_in (the me.0).at.held) (the me.0).stood) me
-  pub moved : beside.turned.some ≡ some_returned truths returning last (row_in (the me.0).at.held) (the me.0).stood
-  pub bits : beside.turned.bits ≡ bits_of (lists_returned truths (the me.0).at.seat returning last (row_in (the me.0).at.held) (the me.0).stood).lock
-  pub finds : beside.finds ≡ found_returned truths (the me.0).at.seat returning last (row_in (the me.0).at.held) (the me.0).stood
+  pub hand : HasTurned truths returning last beside.turned me
+  pub finds : beside.finds ≡ found_back truths returning last me
 
 -- the seat's own number is known
 abbrev pub IsNumbered : {C : Type 0} {N : ℕ} → Beside N → GateView C N → Type 0
@@ -32,7 +30,7 @@ IsOnWord (ReleaseReturning releasing last) = Unit {0}
 IsOnWord (WaitReturning wait again last) = Unit {0}
 IsOnWord act = ⊥
 
--- What an act needs beside itself. None but loads begin a call.
+-- What an act needs beside itself and the seat's number. None but loads begin a call.
 abbrev pub Needs : {C : Type 0} {N : ℕ} → Truths C → Option (Walk C) → Act C → Beside N → SeatOf C N → Type 0
 Needs truths begins LoadWord beside me = Unit {0}
 Needs truths begins (Acquire aim arrival last) beside me = (begins ≡ None) × IsPackable last
@@ -45,7 +43,7 @@ Needs {C} {N} truths begins (LoadCell i) beside me = i < N
 Needs {C} {N} truths begins (JudgeQuiet i) beside me = (i < N) × (beside.before ≡ before_in (the me.0).at.held) × IsRowBut i beside.row (row_in (the me.0).at.held)
 Needs {C} {N} truths begins (JudgeMet i c) beside me = (i < N) × IsRowBut i beside.row (row_in (the me.0).at.held)
 Needs {C} {N} truths begins (StoreCell i v) beside me = (begins ≡ None) × (i < N)
-Needs truths begins ArmFlag beside me = (begins ≡ None) × IsNumbered beside (the me.0)
+Needs truths begins ArmFlag beside me = begins ≡ None
 Needs truths begins PayWake beside me = (begins ≡ None) × IsOwedNext beside.wake (the me.0).at.owed × (beside.wake.seat < 64) × (beside.finds ≡ owes_more (the me.0).at.owed)
-Needs truths begins LoadFlag beside me = (begins ≡ None) × IsNumbered beside (the me.0)
-Needs truths begins (Look limits again) beside me = (begins ≡ None) × IsNumbered beside (the me.0) × MayShow limits beside.shown
+Needs truths begins LoadFlag beside me = begins ≡ None
+Needs truths begins (Look limits again) beside me = (begins ≡ None) × MayShow limits beside.shown

@@ -1,6 +1,7 @@
 -- The names that contracts, proofs and the crates above cite, passed on from one place. Declares nothing.
 pub use Rattle.atomic_table.specs.Seated.{TableId}
 pub use Rattle.ns_env.specs.Prelude.{IsMade}
+pub use Rattle.ns_gate.specs.Bounds.{Bounded, HasComeBy, HasMadeSteps, HasGuessedTo, HasMade, HasTried, HasWorked}
 pub use Rattle.ns_gate.specs.Calls.{HasAnswered, HasReached, HasSince, IsAtPlace, IsAtRest, IsTrueToHistory, IsWide, OwesBelow, SeatOf}
 pub use Rattle.ns_gate.specs.Endings.{EndsAs}
 pub use Rattle.ns_gate.specs.Law.{AtHome, Fits, GateView, HasCome, Holds, Homes, IsRuled, RefusesGate, Shows, Underlying, Views, fresh, fresh_seat, is_seat, no_lists, number_of_seat}
@@ -15,10 +16,10 @@ pub use Rattle.ns_gate.specs.Names.{bits_of, called_by, called_of, calls_of, car
 pub use Rattle.ns_gate.specs.Names.{has_some, held_after, homes_after, is_held, is_of, is_reading, is_write, is_writing, judge_of, keeps_slots, kept_by, left_by_writer, left_of, meets_at, mode_for, moved_to, moves, newly_held, number_of, one_if, opening, outside, owed_after, owes_more, own_of}
 pub use Rattle.ns_gate.specs.Names.{part_of, pays, place_after, readers, releasing_of, rest, rest_of, room_fits, row_after, row_in, scanned, seats_of, section_of, sole_of, standing_after, stands_at, taken_by, taken_set, takers, takes, tests_of, times, times_in, told_after, total, value_of, view_in}
 pub use Rattle.ns_gate.specs.Names.{waited_in, waiters_of, wakes_of, want_of, with_waiters, without, woken_of, word_acquired, word_released, word_released_returning, word_returned, word_taken, writers, writes}
-pub use Rattle.ns_gate.specs.Performing.{IsOnWord, IsTurned, Needs}
+pub use Rattle.ns_gate.specs.Performing.{IsNumbered, IsOnWord, IsTurned, Needs}
 pub use Rattle.ns_gate.specs.Showing.{ShowsLists}
-pub use Rattle.ns_gate.specs.Steps.{CameByGuess, CanStep, Carries, HasGuessed, HasLooked, HasMadeBoth, HasStepped, HasUnchangedQueues, HasUseFor, IsExchange, IsLoad, IsOwedNext, IsPlainExchange, IsStoreOf, MayBegin, MayExchange, MayGuess, MayLoad, MayStore, Performed, PerformedBoth, PerformedWith}
-pub use Rattle.ns_gate.specs.Steps.{StandsNowhere, WantsNext, act_by, act_of, act_returning, carried_by, content_by, course_by, first_said, found_returned, lists_returned, lists_scanned, made_by, next_owed, some_returned, the, tried, tried_for, walk_by, word_at, word_returning}
+pub use Rattle.ns_gate.specs.Steps.{CameByGuess, CanStep, Carries, HasGuessed, HasLooked, HasMadeBoth, HasStepped, HasTurned, HasUnchangedQueues, IsExchange, IsLoad, IsOwedNext, IsPlainExchange, IsStoreOf, MayBegin, MayExchange, MayGuess, MayLoad, MayStore, Performed, PerformedBoth, PerformedWith}
+pub use Rattle.ns_gate.specs.Steps.{StandsNowhere, WantsNext, act_by, act_of, act_returning, carried_by, content_by, course_by, first_said, found_back, found_returned, lists_returned, lists_scanned, made_by, next_owed, some_returned, the, tried, tried_for, walk_by, word_at, word_returning}
 pub use Rattle.ns_gate.specs.Wakes.{lists_left, lists_woken, owed_woken, scanned_writer, sought_at, taken_from, turned_to, wake_told, without_each, woken_nobody, woken_sole}
 pub use Rattle.ns_word.specs.Prelude.{Expired, InHand, IsInRange, is_limited, look_or_queue, mode_released, wait_first, waits_at}
 pub use Rattle.ns_word.specs.declared.acquire_walk.AcquirePlace.TheVariants.{AcquireLoad, Arm}

@@ -1,7 +1,7 @@
 -- What one step of a seat is: a step of the machine between two lawful states.
-use Rattle.std.specs.Prelude.{Bool, Err, List, None, Ok, Option, Result, Some, [], slice_index, true, ℕ, ◌++◌, ◌+◌, ◌∷◌, ◌≡◌, ◌≤◌, ◌⊎◌}
+use Rattle.std.specs.Prelude.{Bool, Err, List, None, Ok, Option, Result, Some, [], slice_index, true, ℕ, ◌++◌, ◌+◌, ◌∷◌, ◌≡◌, ◌≤◌}
 use Rattle.ns_gate.specs.Names.{Acquire, Act, ArmFlag, BeginsWith, Bits, CallGoes, Cause, Changed, Course, Event, Found, IsFirst, IsLawful, IsLook, IsOne, IsTold, JudgeMet, JudgeQuiet, Left, Lists, LoadCell, LoadFlag, LoadWord, LockState, Looked, Made, Me, Owed, PayWake, PlaceFits, Release}
-use Rattle.ns_gate.specs.Names.{ReleaseReturning, Released, ReturnQueues, Returning, Saw, Scanned, SeatStep, SeatView, StoreCell, TakeQueues, Truths, ViewFits, WaitReturning, Waited, Walk, Woke, Word, asked_of, bits_of, calls_of, change_found, changed, content_at, course_after, course_from}
+use Rattle.ns_gate.specs.Names.{ReleaseReturning, Released, ReturnQueues, Returning, Saw, Scanned, SeatStep, SeatView, StoreCell, TakeQueues, Truths, Turned, ViewFits, WaitReturning, Waited, Walk, Woke, Word, asked_of, bits_of, calls_of, change_found, changed, content_at, course_after, course_from}
 use Rattle.ns_gate.specs.Names.{found_of, got_of, has_queues, has_some, left_of, meets_at, mode_for, moves, place_after, releasing_of, rest, row_after, row_in, scanned, standing_after, the_or, times, told_after, waited_in, want_of, with_lock, woken_of, word_acquired, word_released}
 use Rattle.ns_gate.specs.Names.{word_released_returning, word_returned, word_taken}
 use Rattle.ns_gate.specs.Law.{GateView, fresh_seat}
@@ -198,6 +198,16 @@ abbrev pub found_returned : {C : Type 0} → Truths C → ℕ → Returning C �
 found_returned truths seat (Changed change) last row stood = change_found seat change last stood
 found_returned truths seat returning last row stood = scanned truths row stood.lock
 
+-- the same of a seat that has them in hand
+abbrev pub found_back : {C : Type 0} {N : ℕ} → Truths C → Returning C → Word → Me (Lists C) (List (GateView C N)) → Found
+found_back truths returning last me = found_returned truths (the me.0).at.seat returning last (row_in (the me.0).at.held) (the me.0).stood
+
+-- The seat has the queues in hand as they are put back for this, at this word last seen; and this tells of them.
+pub record HasTurned {C : Type 0} {N : ℕ} (truths : Truths C) (returning : Returning C) (last : Word) (turned : Turned) (me : Me (Lists C) (List (GateView C N))) : Type 0 where
+  pub carries : Carries (lists_returned truths (the me.0).at.seat returning last (row_in (the me.0).at.held) (the me.0).stood) me
+  pub some : turned.some ≡ some_returned truths returning last (row_in (the me.0).at.held) (the me.0).stood
+  pub bits : turned.bits ≡ bits_of (lists_returned truths (the me.0).at.seat returning last (row_in (the me.0).at.held) (the me.0).stood).lock
+
 -- the word that is then left, where the lock list holds what these bits tell of
 abbrev pub word_returning : {C : Type 0} → Returning C → Bool → Bits → Word → Word
 word_returning (Changed change) some bits last = word_returned some bits last
@@ -276,7 +286,3 @@ made_by truths act view = Made
 abbrev pub IsOwedNext : Owed → List Owed → Type 0
 IsOwedNext wake [] = ⊥
 IsOwedNext wake (next ∷ others) = next ≡ wake
-
--- the number is the seat's own, or that of the seat that it owes the next wake
-abbrev pub HasUseFor : {C : Type 0} {N : ℕ} → ℕ → GateView C N → Type 0
-HasUseFor number view = (number ≡ view.at.seat) ⊎ ((value : ℕ) × IsOwedNext (record { seat = number; value = value }) view.at.owed)

@@ -1,8 +1,9 @@
 //! One function for every act that a seat's call wants. Only a test runs walks as values, and calls it.
 
 ghost use Rattle.std.specs.Prelude.{◌≡◌, IfErr};
-ghost use Rattle.ns_gate.specs.Prelude.{IsPackable, IsOnWord, IsTurned, Needs, CanStep, Performed, act_returning, tried_for};
+ghost use Rattle.ns_gate.specs.Prelude.{IsNumbered, IsPackable, IsOnWord, IsTurned, Needs, CanStep, HasMade, Performed, act_returning, the, tried_for};
 
+use crate::bound::Bound;
 use crate::gate::{Gate, GateSeat};
 use crate::queues::{Returning, Turned};
 use ns_env::limits::Cause;
@@ -46,10 +47,10 @@ fn found_by(tries: Result<(), LockWord>, made: Found) -> Found
 impl<C: Condition<N>, const N: usize> Gate<C, N> {
     /// Makes the act that the seat's call wants next, or begins with.
     ///
-    /// Needs a seat of this gate, whose call wants that; and beside it what the act's own function
-    /// asks for: for an exchange a word that has a number, for a cell one below `N`; for the seat's
-    /// flag and for a look its number, and what the look has shown; for a judgment the section's rows;
-    /// for a wake the one that is owed next; and for putting the queues back what the hand has made of them.
+    /// Needs a seat of this gate, whose call wants that; its number; and beside it what the act's own function
+    /// asks for: for an exchange a word that has a number, for a cell one below `N`; for a look what it has
+    /// shown; for a judgment the section's rows; for a wake the one that is owed next; and for putting the
+    /// queues back what the hand has made of them.
     ///
     /// The calls of a monitor use the functions of one kind, since walks as values cost many times as much.
     /// What is done to the queues in hand is no step, and has its own functions.
@@ -61,95 +62,100 @@ impl<C: Condition<N>, const N: usize> Gate<C, N> {
         beside: &Beside<N>,
     ) -> Found
         requires of { seat.old.table_id ≡ self.now }
+        requires number { IsNumbered beside.now (the seat.old.me.0) }
         requires can { CanStep C.means begins act seat.old.me }
         requires needs { Needs C.means begins act beside.now seat.old.me }
         ensures seat { seat.new.table_id ≡ seat.old.table_id }
         ensures did { Performed C.means begins act result seat.old.me seat.new.me }
     {
+        let mut bound = Bound::new(self, seat, beside.number);
+        let found = bound.perform(begins, act, beside);
+        bound.end();
+        found
+    }
+}
+
+impl<C: Condition<N>, const N: usize> Bound<'_, C, N> {
+    /// What [`Gate::perform`] does.
+    fn perform(&mut self, begins: Option<Walk<C>>, act: Act<C>, beside: &Beside<N>) -> Found
+        requires can { CanStep C.means begins act self.old.me }
+        requires needs { Needs C.means begins act beside.now self.old.me }
+        ensures { HasMade C.means begins act result self.old self.new }
+    {
         match act {
-            Act::LoadWord => Found::Saw(self.load(seat, begins).parts()),
-            Act::LoadCell(i) => Found::Cell(self.load_cell(seat, begins, i)),
+            Act::LoadWord => Found::Saw(self.load(begins).parts()),
+            Act::LoadCell(i) => Found::Cell(self.load_cell(begins, i)),
             Act::JudgeQuiet(i) => {
                 let mut row = beside.row;
-                row[usize::from(i)] = self.judge_quiet(seat, begins, i);
+                row[usize::from(i)] = self.judge_quiet(begins, i);
                 Found::Quiet(C::quiet(&beside.before, &row))
             }
             Act::JudgeMet(i, condition) => {
                 let mut row = beside.row;
-                row[usize::from(i)] = self.judge_met(seat, begins, i, condition);
+                row[usize::from(i)] = self.judge_met(begins, i, condition);
                 Found::Tested(condition.test(&row))
             }
-            Act::LoadFlag => Found::Flag(self.load_flag(seat, beside.number)),
+            Act::LoadFlag => Found::Flag(self.load_flag()),
             Act::Look(limits, again) => {
-                self.look(seat, beside.number, limits, again, beside.shown);
+                self.look(limits, again, beside.shown);
                 Found::Looked(beside.shown)
             }
             Act::StoreCell(i, value) => {
-                self.store_cell(seat, i, value);
+                self.store_cell(i, value);
                 Found::Made
             }
             Act::ArmFlag => {
-                self.arm_flag(seat, beside.number);
+                self.arm_flag();
                 Found::Made
             }
             Act::PayWake => {
-                self.pay_wake(seat, beside.wake);
+                self.pay_wake(beside.wake);
                 beside.finds
             }
-            _ => self.perform_exchange(seat, act, beside),
+            _ => self.perform_exchange(act, beside),
         }
     }
 
     /// The same for an exchange, which begins no call.
-    fn perform_exchange(&self, seat: &mut GateSeat<C, N>, act: Act<C>, beside: &Beside<N>) -> Found
-        requires of { seat.old.table_id ≡ self.now }
+    fn perform_exchange(&mut self, act: Act<C>, beside: &Beside<N>) -> Found
         requires kind { IsOnWord act }
-        requires can { CanStep C.means None act seat.old.me }
-        requires needs { Needs C.means None act beside.now seat.old.me }
-        ensures seat { seat.new.table_id ≡ seat.old.table_id }
-        ensures did { Performed C.means None act result seat.old.me seat.new.me }
+        requires can { CanStep C.means None act self.old.me }
+        requires needs { Needs C.means None act beside.now self.old.me }
+        ensures { HasMade C.means None act result self.old self.new }
     {
         match act {
             Act::Acquire(aim, arrival, last) => {
-                let tries = self.exchange_to_acquire(seat, aim, arrival, LockWord::new(last));
+                let tries = self.exchange_to_acquire(aim, arrival, LockWord::new(last));
                 found_by(tries, Found::Made)
             }
             Act::TakeQueues(taking, last) => {
-                let tries = self.exchange_to_take(seat, taking, LockWord::new(last));
+                let tries = self.exchange_to_take(taking, LockWord::new(last));
                 found_by(tries, Found::Made)
             }
             Act::Release(releasing, last) => {
-                let tries = self.exchange_to_release(seat, releasing, LockWord::new(last));
+                let tries = self.exchange_to_release(releasing, LockWord::new(last));
                 found_by(tries, Found::Made)
             }
             Act::ReturnQueues(change, last) => {
-                self.put_back(seat, Returning::Changed(change), last, beside)
+                self.put_back(Returning::Changed(change), last, beside)
             }
             Act::ReleaseReturning(releasing, last) => {
-                self.put_back(seat, Returning::Released(releasing), last, beside)
+                self.put_back(Returning::Released(releasing), last, beside)
             }
             Act::WaitReturning(wait, again, last) => {
-                self.put_back(seat, Returning::Waited(wait, again), last, beside)
+                self.put_back(Returning::Waited(wait, again), last, beside)
             }
             _ => unreachable!(),
         }
     }
 
     /// Puts the queues back, with what is to be known beside.
-    fn put_back(
-        &self,
-        seat: &mut GateSeat<C, N>,
-        returning: Returning<C>,
-        last: Word,
-        beside: &Beside<N>,
-    ) -> Found
-        requires of { seat.old.table_id ≡ self.now }
-        requires can { CanStep C.means None (act_returning returning last) seat.old.me }
-        requires turned { IsTurned C.means returning last beside.now seat.old.me }
-        ensures seat { seat.new.table_id ≡ seat.old.table_id }
-        ensures did { Performed C.means None (act_returning returning last) result seat.old.me seat.new.me }
+    fn put_back(&mut self, returning: Returning<C>, last: Word, beside: &Beside<N>) -> Found
+        requires can { CanStep C.means None (act_returning returning last) self.old.me }
+        requires turned { IsTurned C.means returning last beside.now self.old.me }
+        ensures { HasMade C.means None (act_returning returning last) result self.old self.new }
     {
-        let tries = self.exchange_to_return(seat, returning, LockWord::new(last), beside.turned);
+        let tries = self.exchange_to_return(returning, LockWord::new(last), beside.turned);
         found_by(tries, beside.finds)
     }
 }

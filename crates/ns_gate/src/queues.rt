@@ -5,17 +5,17 @@
 //! Each step that puts them back asks that what is in hand is what its place makes of the lists at
 //! home (`Carries`), so the rule needs nothing more.
 
-ghost use Rattle.std.specs.Prelude.{◌≡◌, ◌<◌, ⊤, map, IfErr, IfOk, None};
-ghost use Rattle.ns_gate.specs.Prelude.{CanStep, Carries, HasUnchangedQueues, IsInRange, IsPackable, Performed, StandsNowhere, act_returning, bits_of, changed, found_returned, lists_returned, lists_scanned, meets_at, row_in, scanned_writer, seats_of, some_returned, sought_at, stands_at, tests_of};
-ghost use Rattle.ns_gate.specs.Prelude.{the, times, tried, tried_for, waits_at, woken_of, word_returning};
+ghost use Rattle.std.specs.Prelude.{◌≡◌, ⊤, map, IfErr, IfOk, None};
+ghost use Rattle.ns_gate.specs.Prelude.{CanStep, Carries, HasTried, HasTurned, HasUnchangedQueues, HasWorked, IsInRange, IsPackable, StandsNowhere, act_returning, bits_of, changed, found_back, lists_scanned, meets_at, scanned_writer, seats_of, sought_at, stands_at, tests_of, the, times, waits_at};
+ghost use Rattle.ns_gate.specs.Prelude.{woken_of, word_returning};
 
-use crate::gate::{Gate, GateSeat};
+use crate::bound::Bound;
 use ns_model::condition::Condition;
 use ns_model::event::Mode;
 use ns_queue::queues::Queues;
 use ns_queue::room::Queueable;
 use ns_queue::scan::{Foremost, Scan, Sought};
-use ns_word::act::{Act, Change};
+use ns_word::act::{Act, Change, Found};
 use ns_word::hand::{bits, enter, leave_self, queue_self};
 use ns_word::number::LockWord;
 use ns_word::owed::{Owed, called_one};
@@ -82,93 +82,94 @@ fn turned_with<C: Queueable<N>, const N: usize>(queues: &Queues<C, N>, some: boo
     }
 }
 
-impl<C: Condition<N>, const N: usize> Gate<C, N> {
+/// Takes out of the lock list the writer whom a scan at this row wakes, if it wakes one; tells what
+/// [`Bound::scan_writer_in_hand`] does.
+#[inline(always)]
+fn scan_writer<C: Queueable<N>, const N: usize>(
+    queues: &mut Queues<C, N>,
+    row: &[u64; N],
+) -> Result<(Option<Owed>, Turned), Sought>
+    ensures told { result ≡ scanned_writer C.means row.now queues.old }
+    ensures lists { IfOk result (λ _. queues.new ≡ lists_scanned C.means row.now queues.old) }
+    ensures still { IfErr result (λ _. queues.new ≡ queues.old) }
+{
+    match queues.take_writer(row) {
+        Foremost::Reader(sought) => Err(sought),
+        Foremost::Nobody => Ok((None, turned_with(queues, false))),
+        Foremost::Writer(number, via) => {
+            let wake = called_one(number, via);
+            Ok((Some(wake), turned_with(queues, true)))
+        }
+    }
+}
+
+impl<C: Condition<N>, const N: usize> Bound<'_, C, N> {
     /// Sets the spinlock bit and takes the queues, where the lock word is still the one last seen; else
     /// tells the word.
     ///
-    /// Needs a seat of this gate, whose call wants that next, and a word that has a number, as each
-    /// has that a load or an exchange has told.
-    pub fn exchange_to_take(
-        &self,
-        seat: &mut GateSeat<C, N>,
-        taking: Taking,
-        last: LockWord,
-    ) -> Result<(), LockWord>
-        requires of { seat.old.table_id ≡ self.now }
+    /// Needs a call that wants that next, and a word that has a number, as each has that a load or an
+    /// exchange has told.
+    pub fn exchange_to_take(&mut self, taking: Taking, last: LockWord) -> Result<(), LockWord>
         requires last { IsPackable last }
-        requires can { CanStep C.means None (Act.TakeQueues taking last) seat.old.me }
-        ensures seat { seat.new.table_id ≡ seat.old.table_id }
-        ensures word { IfErr result IsPackable }
-        ensures did { Performed C.means None (Act.TakeQueues taking last) (tried result) seat.old.me seat.new.me }
+        requires can { CanStep C.means None (Act.TakeQueues taking last) self.old.me }
+        ensures { HasTried C.means (Act.TakeQueues taking last) Found.Made result self.old self.new }
     {
-        self.exchange(seat, last, last.taken(taking))
+        self.exchange(last, last.taken(taking))
     }
 
     /// Puts the queues back as they are in hand, and clears the spinlock bit, where the lock word is
     /// still the one last seen; else tells the word. Where a section is released with that, the seat
     /// then owes the wakes of those whom the scan took.
     ///
-    /// Needs a seat of this gate, whose call wants that next; a word that has a number; the queues in
-    /// hand, changed so, or scanned at the section's row; and what the hand has made of them.
+    /// Needs a call that wants that next; a word that has a number; the queues in hand, changed so, or
+    /// scanned at the section's row; and what the hand has made of them.
     #[inline(always)]
     pub fn exchange_to_return(
-        &self,
-        seat: &mut GateSeat<C, N>,
+        &mut self,
         returning: Returning<C>,
         last: LockWord,
         turned: Turned,
     ) -> Result<(), LockWord>
-        requires of { seat.old.table_id ≡ self.now }
         requires last { IsPackable last }
-        requires can { CanStep C.means None (act_returning returning last) seat.old.me }
-        requires carries { Carries (lists_returned C.means (the seat.old.me.0).at.seat returning last (row_in (the seat.old.me.0).at.held) (the seat.old.me.0).stood) seat.old.me }
-        requires some { turned.some ≡ some_returned C.means returning last (row_in (the seat.old.me.0).at.held) (the seat.old.me.0).stood }
-        requires bits { turned.bits ≡ bits_of (lists_returned C.means (the seat.old.me.0).at.seat returning last (row_in (the seat.old.me.0).at.held) (the seat.old.me.0).stood).lock }
-        ensures seat { seat.new.table_id ≡ seat.old.table_id }
-        ensures word { IfErr result IsPackable }
-        ensures did { Performed C.means None (act_returning returning last) (tried_for (found_returned C.means (the seat.old.me.0).at.seat returning last (row_in (the seat.old.me.0).at.held) (the seat.old.me.0).stood) result) seat.old.me seat.new.me }
+        requires can { CanStep C.means None (act_returning returning last) self.old.me }
+        requires hand { HasTurned C.means returning last turned self.old.me }
+        ensures { HasTried C.means (act_returning returning last) (found_back C.means returning last self.old.me) result self.old self.new }
     {
-        self.exchange(seat, last, returning.word(last, turned))
+        self.exchange(last, returning.word(last, turned))
     }
 
-    /// Puts the seat of this number into the lock list in hand, without condition: at the back, or at
-    /// the front if it was woken. Tells what the lock list holds then.
+    /// Puts the seat into the lock list in hand, without condition: at the back, or at the front if it was
+    /// woken. Tells what the lock list holds then.
     ///
-    /// Needs a seat of this gate, which has the queues in hand as they stood, and a number below 64,
-    /// whose seat stands in no list.
-    pub fn queue_in_hand(
-        &self,
-        seat: &mut GateSeat<C, N>,
-        number: u8,
-        mode: Mode,
-        arrival: Arrival,
-    ) -> Bits
-        requires of { seat.old.table_id ≡ self.now }
-        requires has { HasUnchangedQueues seat.old.me }
-        requires below { number < 64 }
-        requires free { times number (the seat.old.me.0).stood ≡ 0 }
-        ensures seat { (seat.new.table_id ≡ seat.old.table_id) × (seat.new.me.0 ≡ seat.old.me.0) }
-        ensures lists { (last : _) → Carries (changed number (Change.QueueSelf mode arrival) last (the seat.old.me.0).stood) seat.new.me }
-        ensures bits { (last : _) → result ≡ bits_of (changed number (Change.QueueSelf mode arrival) last (the seat.old.me.0).stood).lock }
+    /// Needs a seat that has the queues in hand as they stood, and stands in no list.
+    pub fn queue_in_hand(&mut self, mode: Mode, arrival: Arrival) -> Bits
+        requires has { HasUnchangedQueues self.old.me }
+        requires free { times (the self.old.me.0).at.seat (the self.old.me.0).stood ≡ 0 }
+        ensures worked { HasWorked self.old self.new }
+        ensures lists { (last : _) → Carries (changed (the self.old.me.0).at.seat (Change.QueueSelf mode arrival) last (the self.old.me.0).stood) self.new.me }
+        ensures bits { (last : _) → result ≡ bits_of (changed (the self.old.me.0).at.seat (Change.QueueSelf mode arrival) last (the self.old.me.0).stood).lock }
     {
-        let queues = seat.slot_mut(&self.table.shared, 0).lists();
+        let gate = self.gate;
+        let number = self.number;
+        let queues = self.seat.slot_mut(&gate.table.shared, 0).lists();
         queue_self(queues, number, mode, arrival);
         bits(queues)
     }
 
-    /// Takes the seat of this number out of all lists in hand, if it stands where a wait of this home does.
-    /// Tells whether it stood there, and what the lock list holds then.
+    /// Takes the seat out of all lists in hand, if it stands where a wait of this home does. Tells whether it
+    /// stood there, and what the lock list holds then.
     ///
-    /// Needs a seat of this gate, which has the queues in hand as they stood.
-    pub fn leave_in_hand(&self, seat: &mut GateSeat<C, N>, number: u8, home: Home) -> (bool, Bits)
-        requires of { seat.old.table_id ≡ self.now }
-        requires has { HasUnchangedQueues seat.old.me }
-        ensures seat { (seat.new.table_id ≡ seat.old.table_id) × (seat.new.me.0 ≡ seat.old.me.0) }
-        ensures stood { result.0 ≡ stands_at number home (the seat.old.me.0).stood }
-        ensures lists { (last : _) → Carries (changed number (Change.LeaveSelf home) last (the seat.old.me.0).stood) seat.new.me }
-        ensures bits { (last : _) → result.1 ≡ bits_of (changed number (Change.LeaveSelf home) last (the seat.old.me.0).stood).lock }
+    /// Needs a seat that has the queues in hand as they stood.
+    pub fn leave_in_hand(&mut self, home: Home) -> (bool, Bits)
+        requires { HasUnchangedQueues self.old.me }
+        ensures worked { HasWorked self.old self.new }
+        ensures stood { result.0 ≡ stands_at (the self.old.me.0).at.seat home (the self.old.me.0).stood }
+        ensures lists { (last : _) → Carries (changed (the self.old.me.0).at.seat (Change.LeaveSelf home) last (the self.old.me.0).stood) self.new.me }
+        ensures bits { (last : _) → result.1 ≡ bits_of (changed (the self.old.me.0).at.seat (Change.LeaveSelf home) last (the self.old.me.0).stood).lock }
     {
-        let queues = seat.slot_mut(&self.table.shared, 0).lists();
+        let gate = self.gate;
+        let number = self.number;
+        let queues = self.seat.slot_mut(&gate.table.shared, 0).lists();
         let stood = leave_self(queues, number, home);
         (stood, bits(queues))
     }
@@ -177,80 +178,58 @@ impl<C: Condition<N>, const N: usize> Gate<C, N> {
     /// then goes alone. Tells the wake that is owed to that one, and what the hand has made of the
     /// queues; where a scan takes nobody, there is no wake. Where a scan takes readers, tells what the
     /// search for the first of them found, and the queues stay as they stood:
-    /// [`Gate::scan_from_in_hand`] goes on from there.
+    /// [`Bound::scan_from_in_hand`] goes on from there.
     ///
-    /// Needs a seat of this gate, which has the queues in hand as they stood.
+    /// Needs a seat that has the queues in hand as they stood.
     #[inline(always)]
-    pub fn scan_writer_in_hand(
-        &self,
-        seat: &mut GateSeat<C, N>,
-        row: &[u64; N],
-    ) -> Result<(Option<Owed>, Turned), Sought>
-        requires of { seat.old.table_id ≡ self.now }
-        requires has { HasUnchangedQueues seat.old.me }
-        ensures seat { (seat.new.table_id ≡ seat.old.table_id) × (seat.new.me.0 ≡ seat.old.me.0) }
-        ensures told { result ≡ scanned_writer C.means row.now (the seat.old.me.0).stood }
-        ensures lists { IfOk result (λ _. Carries (lists_scanned C.means row.now (the seat.old.me.0).stood) seat.new.me) }
-        ensures still { IfErr result (λ _. HasUnchangedQueues seat.new.me) }
+    pub fn scan_writer_in_hand(&mut self, row: &[u64; N]) -> Result<(Option<Owed>, Turned), Sought>
+        requires has { HasUnchangedQueues self.old.me }
+        ensures worked { HasWorked self.old self.new }
+        ensures told { result ≡ scanned_writer C.means row.now (the self.old.me.0).stood }
+        ensures lists { IfOk result (λ _. Carries (lists_scanned C.means row.now (the self.old.me.0).stood) self.new.me) }
+        ensures still { IfErr result (λ _. HasUnchangedQueues self.new.me) }
     {
-        let queues = seat.slot_mut(&self.table.shared, 0).lists();
-        match queues.take_writer(row) {
-            Foremost::Reader(sought) => Err(sought),
-            Foremost::Nobody => Ok((None, turned_with(queues, false))),
-            Foremost::Writer(number, via) => {
-                let wake = called_one(number, via);
-                Ok((Some(wake), turned_with(queues, true)))
-            }
-        }
+        let gate = self.gate;
+        let queues = self.seat.slot_mut(&gate.table.shared, 0).lists();
+        scan_writer(queues, row)
     }
 
     /// Takes out of the lock list in hand those whom a scan at this row wakes, from the first on, whom a
     /// search has found. Tells whom it took, and what the lock list holds then.
     ///
-    /// Needs a seat of this gate, which has the queues in hand as they stood, and what a search of their
-    /// lock list finds at this row, as [`Gate::scan_writer_in_hand`] tells it.
-    pub fn scan_from_in_hand(
-        &self,
-        seat: &mut GateSeat<C, N>,
-        row: &[u64; N],
-        sought: Sought,
-    ) -> (Scan, Bits)
-        requires of { seat.old.table_id ≡ self.now }
-        requires has { HasUnchangedQueues seat.old.me }
-        requires found { sought ≡ sought_at C.means row.now (the seat.old.me.0).stood }
-        ensures seat { (seat.new.table_id ≡ seat.old.table_id) × (seat.new.me.0 ≡ seat.old.me.0) }
-        ensures woken { result.0.woken.items ≡ seats_of (woken_of (meets_at C.means row.now) (the seat.old.me.0).stood.lock) }
-        ensures vias { result.0.vias.items ≡ map (λ w. w.via) (woken_of (meets_at C.means row.now) (the seat.old.me.0).stood.lock) }
-        ensures tests { result.0.tests ≡ tests_of C.means.same (meets_at C.means row.now) (the seat.old.me.0).stood.lock }
-        ensures lists { Carries (lists_scanned C.means row.now (the seat.old.me.0).stood) seat.new.me }
-        ensures bits { result.1 ≡ bits_of (lists_scanned C.means row.now (the seat.old.me.0).stood).lock }
+    /// Needs a seat that has the queues in hand as they stood, and what a search of their lock list finds at
+    /// this row, as [`Bound::scan_writer_in_hand`] tells it.
+    pub fn scan_from_in_hand(&mut self, row: &[u64; N], sought: Sought) -> (Scan, Bits)
+        requires has { HasUnchangedQueues self.old.me }
+        requires found { sought ≡ sought_at C.means row.now (the self.old.me.0).stood }
+        ensures worked { HasWorked self.old self.new }
+        ensures woken { result.0.woken.items ≡ seats_of (woken_of (meets_at C.means row.now) (the self.old.me.0).stood.lock) }
+        ensures vias { result.0.vias.items ≡ map (λ w. w.via) (woken_of (meets_at C.means row.now) (the self.old.me.0).stood.lock) }
+        ensures tests { result.0.tests ≡ tests_of C.means.same (meets_at C.means row.now) (the self.old.me.0).stood.lock }
+        ensures lists { Carries (lists_scanned C.means row.now (the self.old.me.0).stood) self.new.me }
+        ensures bits { result.1 ≡ bits_of (lists_scanned C.means row.now (the self.old.me.0).stood).lock }
     {
-        let queues = seat.slot_mut(&self.table.shared, 0).lists();
+        let gate = self.gate;
+        let queues = self.seat.slot_mut(&gate.table.shared, 0).lists();
         let scan = queues.scan_from(row, sought);
         (scan, bits(queues))
     }
 
-    /// Puts a wait of the seat of this number into its list, or into those of all its variables, with the lists
-    /// in hand as they are. Tells what the lock list holds then.
+    /// Puts a wait of the seat into its list, or into those of all its variables, with the lists in hand as they
+    /// are. Tells what the lock list holds then.
     ///
-    /// Needs a seat of this gate, which has the queues in hand; a wait for variables that there are, at least
-    /// one, if it is for any; and a number below 64, whose seat stands in none of the lists in hand.
-    pub fn enter_in_hand(
-        &self,
-        seat: &mut GateSeat<C, N>,
-        number: u8,
-        wait: Wait<C>,
-        again: bool,
-    ) -> Bits
-        requires of { seat.old.table_id ≡ self.now }
-        requires has { StandsNowhere number seat.old.me }
+    /// Needs a seat that has the queues in hand, and stands in none of them; and a wait for variables that there
+    /// are, at least one, if it is for any.
+    pub fn enter_in_hand(&mut self, wait: Wait<C>, again: bool) -> Bits
+        requires has { StandsNowhere (the self.old.me.0).at.seat self.old.me }
         requires list { IsInRange wait.on }
-        requires below { number < 64 }
-        ensures seat { (seat.new.table_id ≡ seat.old.table_id) × (seat.new.me.0 ≡ seat.old.me.0) }
-        ensures lists { (lists : _) → Carries lists seat.old.me → Carries (waits_at wait.on number wait.mode again lists) seat.new.me }
-        ensures bits { (lists : _) → Carries lists seat.old.me → result ≡ bits_of (waits_at wait.on number wait.mode again lists).lock }
+        ensures worked { HasWorked self.old self.new }
+        ensures lists { (lists : _) → Carries lists self.old.me → Carries (waits_at wait.on (the self.old.me.0).at.seat wait.mode again lists) self.new.me }
+        ensures bits { (lists : _) → Carries lists self.old.me → result ≡ bits_of (waits_at wait.on (the self.old.me.0).at.seat wait.mode again lists).lock }
     {
-        let queues = seat.slot_mut(&self.table.shared, 0).lists();
+        let gate = self.gate;
+        let number = self.number;
+        let queues = self.seat.slot_mut(&gate.table.shared, 0).lists();
         enter(queues, wait.on, number, wait.mode, again);
         bits(queues)
     }

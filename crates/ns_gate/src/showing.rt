@@ -1,9 +1,9 @@
 //! The waiter lists as a seat shows them that has the queues in hand.
 
 ghost use Rattle.std.specs.Prelude.{◌≡◌};
-ghost use Rattle.ns_gate.specs.Prelude.{HasUnchangedQueues, ShowsLists, bits_of, the};
+ghost use Rattle.ns_gate.specs.Prelude.{HasUnchangedQueues, HasWorked, ShowsLists, bits_of, the};
 
-use crate::gate::{Gate, GateSeat};
+use crate::bound::Bound;
 use arrayvec::ArrayVec;
 use ns_model::condition::Condition;
 use ns_queue::queues::Queues;
@@ -35,19 +35,19 @@ fn shown_lists<C: Condition<N>, const N: usize>(queues: &Queues<C, N>) -> ShownL
     }
 }
 
-impl<C: Condition<N>, const N: usize> Gate<C, N> {
+impl<C: Condition<N>, const N: usize> Bound<'_, C, N> {
     /// Shows the queues in hand, and leaves them as they are. Tells what the lock list holds too.
     ///
-    /// Needs a seat of this gate, which has the queues in hand as they stood.
-    pub fn show_in_hand(&self, seat: &mut GateSeat<C, N>) -> (ShownLists, Bits)
-        requires of { seat.old.table_id ≡ self.now }
-        requires has { HasUnchangedQueues seat.old.me }
-        ensures seat { (seat.new.table_id ≡ seat.old.table_id) × (seat.new.me.0 ≡ seat.old.me.0) }
-        ensures has { HasUnchangedQueues seat.new.me }
-        ensures shows { ShowsLists (the seat.old.me.0).stood result.0 }
-        ensures bits { result.1 ≡ bits_of (the seat.old.me.0).stood.lock }
+    /// Needs a seat that has the queues in hand as they stood.
+    pub fn show_in_hand(&mut self) -> (ShownLists, Bits)
+        requires has { HasUnchangedQueues self.old.me }
+        ensures worked { HasWorked self.old self.new }
+        ensures has { HasUnchangedQueues self.new.me }
+        ensures shows { ShowsLists (the self.old.me.0).stood result.0 }
+        ensures bits { result.1 ≡ bits_of (the self.old.me.0).stood.lock }
     {
-        let queues = seat.slot_mut(&self.table.shared, 0).lists();
+        let gate = self.gate;
+        let queues = self.seat.slot_mut(&gate.table.shared, 0).lists();
         (shown_lists(queues), bits(queues))
     }
 }

@@ -6,9 +6,9 @@
 //! differ in whether it is held. So they are kept apart, and the queues in hand are turned then.
 
 ghost use Rattle.std.specs.Prelude.{◌≡◌, ℕ, ◌<◌, ◌≤◌, ◌&&◌, not, true, false, IfNone, OnSome};
-ghost use Rattle.ns_gate.specs.Prelude.{Carries, Cv, HasUnchangedQueues, HaveSeats, IsOrderly, bits_of, has_some, lists_woken, moved_to, taken_from, the, times, times_in, turned_to, waiters_of, without_each, woken_nobody, woken_sole};
+ghost use Rattle.ns_gate.specs.Prelude.{Carries, Cv, HasUnchangedQueues, HasWorked, HaveSeats, IsOrderly, bits_of, has_some, lists_woken, moved_to, taken_from, the, times, times_in, turned_to, waiters_of, without_each, woken_nobody, woken_sole};
 
-use crate::gate::{Gate, GateSeat};
+use crate::bound::Bound;
 use crate::queues::Turned;
 use arrayvec::ArrayVec;
 use ns_model::condition::Condition;
@@ -98,20 +98,43 @@ fn turned_by<C: Queueable<N>, const N: usize>(
     }
 }
 
-impl<C: Condition<N>, const N: usize> Gate<C, N> {
+/// Does what a call does that wakes, where just one waits for the variable, and tells what
+/// [`Bound::wake_sole_in_hand`] does.
+///
+/// Needs a number below 4.
+#[inline(always)]
+fn wake_sole<C: Queueable<N>, const N: usize>(
+    queues: &mut Queues<C, N>,
+    _waking: Waking,
+    k: u8,
+    held: bool,
+) -> Option<(Waiter<C>, Turned)>
+    requires { k < 4 }
+    ensures orderly { IsOrderly queues.old }
+    ensures sole { result ≡ woken_sole _waking k held queues.old }
+    ensures lists { OnSome result (queues.new ≡ lists_woken _waking k held queues.old) }
+    ensures same { IfNone result (queues.new ≡ queues.old) }
+{
+    let waiter = queues.take_sole(k)?;
+    let taken = [waiter];
+    move_if(queues, &taken, held);
+    Some((waiter, turned_by(queues, &taken, held)))
+}
+
+impl<C: Condition<N>, const N: usize> Bound<'_, C, N> {
     /// What the hand has made of the queues for a call that wakes, where nobody waits for its variable:
     /// it takes nobody, and they stay as they stood. Where somebody waits, answers nothing.
     ///
-    /// Needs a seat of this gate, which has the queues in hand as they stood, and a number below 4.
-    pub fn wake_nobody_in_hand(&self, seat: &mut GateSeat<C, N>, k: u8) -> Option<Turned>
-        requires of { seat.old.table_id ≡ self.now }
-        requires has { HasUnchangedQueues seat.old.me }
+    /// Needs a seat that has the queues in hand as they stood, and a number below 4.
+    pub fn wake_nobody_in_hand(&mut self, k: u8) -> Option<Turned>
+        requires has { HasUnchangedQueues self.old.me }
         requires variable { k < 4 }
-        ensures seat { (seat.new.table_id ≡ seat.old.table_id) × (seat.new.me.0 ≡ seat.old.me.0) }
-        ensures has { HasUnchangedQueues seat.new.me }
-        ensures nobody { result ≡ woken_nobody k (the seat.old.me.0).stood }
+        ensures worked { HasWorked self.old self.new }
+        ensures has { HasUnchangedQueues self.new.me }
+        ensures nobody { result ≡ woken_nobody k (the self.old.me.0).stood }
     {
-        let queues = seat.slot_mut(&self.table.shared, 0).lists();
+        let gate = self.gate;
+        let queues = self.seat.slot_mut(&gate.table.shared, 0).lists();
         if queues.has_waiters(k) {
             return None;
         }
@@ -121,62 +144,53 @@ impl<C: Condition<N>, const N: usize> Gate<C, N> {
         })
     }
 
-    /// Does what [`Gate::wake_in_hand`] does, where just one waits for the variable: whom a signal takes
+    /// Does what [`Bound::wake_in_hand`] does, where just one waits for the variable: whom a signal takes
     /// then, a broadcast takes too. Answers that one and what the hand has made of the queues. It makes
     /// no list. Where nobody waits, or several do, answers nothing, and the queues stay as they stood.
     ///
-    /// Needs a seat of this gate, which has the queues in hand as they stood, and a number below 4. The
+    /// Needs a seat that has the queues in hand as they stood, and a number below 4. The
     /// call is for the proof alone.
     pub fn wake_sole_in_hand(
-        &self,
-        seat: &mut GateSeat<C, N>,
+        &mut self,
         _waking: Waking,
         k: u8,
         held: bool,
     ) -> Option<(Waiter<C>, Turned)>
-        requires of { seat.old.table_id ≡ self.now }
-        requires has { HasUnchangedQueues seat.old.me }
+        requires has { HasUnchangedQueues self.old.me }
         requires variable { k < 4 }
-        ensures seat { (seat.new.table_id ≡ seat.old.table_id) × (seat.new.me.0 ≡ seat.old.me.0) }
-        ensures orderly { IsOrderly (the seat.old.me.0).stood }
-        ensures sole { result ≡ woken_sole _waking k held (the seat.old.me.0).stood }
-        ensures lists { OnSome result (Carries (lists_woken _waking k held (the seat.old.me.0).stood) seat.new.me) }
-        ensures same { IfNone result (HasUnchangedQueues seat.new.me) }
+        ensures worked { HasWorked self.old self.new }
+        ensures orderly { IsOrderly (the self.old.me.0).stood }
+        ensures sole { result ≡ woken_sole _waking k held (the self.old.me.0).stood }
+        ensures lists { OnSome result (Carries (lists_woken _waking k held (the self.old.me.0).stood) self.new.me) }
+        ensures same { IfNone result (HasUnchangedQueues self.new.me) }
     {
-        let queues = seat.slot_mut(&self.table.shared, 0).lists();
-        match queues.take_sole(k) {
-            Some(waiter) => {
-                let taken = [waiter];
-                move_if(queues, &taken, held);
-                Some((waiter, turned_by(queues, &taken, held)))
-            }
-            None => None,
-        }
+        let gate = self.gate;
+        let queues = self.seat.slot_mut(&gate.table.shared, 0).lists();
+        wake_sole(queues, _waking, k, held)
     }
 
     /// Takes those out of the lists of the variables whom the call wakes, and puts them at the back of
     /// the lock list if the lock is held. Answers them in order, to be kept until the queues are
     /// back, and what the hand has made of the queues.
     ///
-    /// Needs a seat of this gate, which has the queues in hand as they stood, and a number below 4.
+    /// Needs a seat that has the queues in hand as they stood, and a number below 4.
     pub fn wake_in_hand(
-        &self,
-        seat: &mut GateSeat<C, N>,
+        &mut self,
         waking: Waking,
         k: u8,
         held: bool,
     ) -> (ArrayVec<Waiter<C>, 64>, Turned)
-        requires of { seat.old.table_id ≡ self.now }
-        requires has { HasUnchangedQueues seat.old.me }
+        requires has { HasUnchangedQueues self.old.me }
         requires variable { k < 4 }
-        ensures seat { (seat.new.table_id ≡ seat.old.table_id) × (seat.new.me.0 ≡ seat.old.me.0) }
-        ensures orderly { IsOrderly (the seat.old.me.0).stood }
-        ensures taken { result.0.items ≡ taken_from waking k (the seat.old.me.0).stood }
-        ensures lists { Carries (lists_woken waking k held (the seat.old.me.0).stood) seat.new.me }
-        ensures some { result.1.some ≡ (held && has_some (taken_from waking k (the seat.old.me.0).stood)) }
-        ensures bits { result.1.bits ≡ bits_of (lists_woken waking k held (the seat.old.me.0).stood).lock }
+        ensures worked { HasWorked self.old self.new }
+        ensures orderly { IsOrderly (the self.old.me.0).stood }
+        ensures taken { result.0.items ≡ taken_from waking k (the self.old.me.0).stood }
+        ensures lists { Carries (lists_woken waking k held (the self.old.me.0).stood) self.new.me }
+        ensures some { result.1.some ≡ (held && has_some (taken_from waking k (the self.old.me.0).stood)) }
+        ensures bits { result.1.bits ≡ bits_of (lists_woken waking k held (the self.old.me.0).stood).lock }
     {
-        let queues = seat.slot_mut(&self.table.shared, 0).lists();
+        let gate = self.gate;
+        let queues = self.seat.slot_mut(&gate.table.shared, 0).lists();
         let taken = take_waiters(queues, waking, k);
         move_if(queues, taken.as_slice(), held);
         let turned = turned_by(queues, taken.as_slice(), held);
@@ -187,28 +201,27 @@ impl<C: Condition<N>, const N: usize> Gate<C, N> {
     /// whether the lock is held: those who were taken go to the back of the lock list if it is held
     /// now, and else out of it again. Answers what the hand has made of the queues then.
     ///
-    /// Needs a seat of this gate, which has the queues in hand as [`Gate::wake_in_hand`] makes them
+    /// Needs a seat that has the queues in hand as [`Bound::wake_in_hand`] makes them
     /// for the other truth of `held`; those who were taken; and that the lists stood orderly, as that
     /// told. The call and the number of its variable are for the proof alone.
     pub fn turn_in_hand(
-        &self,
-        seat: &mut GateSeat<C, N>,
+        &mut self,
         taken: &[Waiter<C>],
         _waking: Waking,
         _k: u8,
         held: bool,
     ) -> Turned
-        requires of { seat.old.table_id ≡ self.now }
         requires variable { _k < 4 }
-        requires orderly { IsOrderly (the seat.old.me.0).stood }
-        requires taken { taken.now ≡ taken_from _waking _k (the seat.old.me.0).stood }
-        requires lists { Carries (lists_woken _waking _k (not held) (the seat.old.me.0).stood) seat.old.me }
-        ensures seat { (seat.new.table_id ≡ seat.old.table_id) × (seat.new.me.0 ≡ seat.old.me.0) }
-        ensures lists { Carries (lists_woken _waking _k held (the seat.old.me.0).stood) seat.new.me }
-        ensures some { result.some ≡ (held && has_some (taken_from _waking _k (the seat.old.me.0).stood)) }
-        ensures bits { result.bits ≡ bits_of (lists_woken _waking _k held (the seat.old.me.0).stood).lock }
+        requires orderly { IsOrderly (the self.old.me.0).stood }
+        requires taken { taken.now ≡ taken_from _waking _k (the self.old.me.0).stood }
+        requires lists { Carries (lists_woken _waking _k (not held) (the self.old.me.0).stood) self.old.me }
+        ensures worked { HasWorked self.old self.new }
+        ensures lists { Carries (lists_woken _waking _k held (the self.old.me.0).stood) self.new.me }
+        ensures some { result.some ≡ (held && has_some (taken_from _waking _k (the self.old.me.0).stood)) }
+        ensures bits { result.bits ≡ bits_of (lists_woken _waking _k held (the self.old.me.0).stood).lock }
     {
-        let queues = seat.slot_mut(&self.table.shared, 0).lists();
+        let gate = self.gate;
+        let queues = self.seat.slot_mut(&gate.table.shared, 0).lists();
         turn(queues, taken, held);
         turned_by(queues, taken, held)
     }

@@ -1,4 +1,5 @@
 pub mod Begins
+pub mod Bounds
 pub mod Callers
 pub mod Locks
 pub mod Looks

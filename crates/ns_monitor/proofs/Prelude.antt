@@ -1,4 +1,5 @@
 -- The names that proofs cite, of specs and of what stands below, passed on from one place. Declares nothing.
+pub use Rattle.ns_gate.proofs.Bounds.{come_by}
 pub use Rattle.ns_gate.proofs.Calls.{begins, can_go, goes, goes_on, since, since_itself, since_then, works}
 pub use Rattle.ns_gate.proofs.Findings.{cell_in_hand, does}
 pub use Rattle.ns_gate.proofs.Keeps.{hand_of}
@@ -6,7 +7,7 @@ pub use Rattle.ns_gate.proofs.Prelude.{list_fits, list_small, view_fits, waiter_
 pub use Rattle.ns_gate.proofs.Stays.{HasKeptItsQueues, effect_of, nowhere_now, stays_arming, stays_by, stays_itself, stays_through, still_carries}
 pub use Rattle.ns_gate.proofs.Wakes.{found_nobody, found_sole, moves_nobody, orderly_now, owes_the_woken, still_woken, takes_nobody, woken_found}
 pub use Rattle.ns_monitor.proofs.Room.{in_room}
-pub use Rattle.ns_monitor.specs.Names.{limits_by}
+pub use Rattle.ns_monitor.specs.Names.{Bounded, HasComeBy, HasGuessedTo, HasMade, HasMadeSteps, HasTried, HasTurned, HasWorked, limits_by}
 pub use Rattle.ns_monitor.specs.Prelude.{Acquire, AcquireLoad, AcquiresBy, Acquiring, Act, Aim, Answer, Answered, AnyWait, AnyWaitMeans, AreNew, AreRead, AreSaved, AreSome, Arm, ArmFlag, ArmToWait, Arrival, AsFresh, Await, AwaitWake, AwaitWakeInWait, AwaitWakeToLeave, BeginsWith, Bits, Broadcasting}
 pub use Rattle.ns_monitor.specs.Prelude.{Busy, CameByGuess, CanLeave, CanStep, Canceled, Carries, Cause, Cell, CellFits, Change, Changed, Changing, CondWait, ConditionWaitMeans, Course, CvWait, Cvs, Decides, Done, Effect, Ended, EndedBy, EnvEvent, EnvKnown, Event, Expired, Flag, ForLock, ForWait}
 pub use Rattle.ns_monitor.specs.Prelude.{Found, GateView, Get, Going, Grows, HadLooked, HasAcquired, HasAnswered, HasBegun, HasBegunBy, HasBegunToWait, HasComeBack, HasComeBackFrom, HasComeBackFromAny, HasGone, HasGoneBehind, HasInHand, HasLearned, HasLeft, HasLoaded, HasLocked, HasLookedOn}

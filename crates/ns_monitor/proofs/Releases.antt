@@ -1,9 +1,10 @@
 -- A scan of the lock list with the queues in hand, by a release or by a wait: what it takes and leaves.
-use Rattle.std.proofs.Common.{Bool, Err, List, None, Ok, Option, Some, [], ap, arith, cond, false, filter, inl, inr, is_some, length, map, ne_eqb, not, refl, subst, sym, true, ℕ, ◌&&◌, ◌<◌, ◌==◌, ◌||◌, ◌∙◌, ◌∷◌, ◌≡◌}
-use Rattle.ns_monitor.proofs.Prelude.{Await, Bits, Carries, Changed, GateView, HasInHand, HasReached, HasRow, HasScanned, HasSince, HasUnchangedQueues, IsAtPlace, IsInRange, IsReady, Lists, MayEnter, MayScan, OnCondition, OnVariables, Owed, OwesTheWoken, Paid, Pays, PutsBack, Release, Released}
+use Rattle.std.proofs.Common.{Bool, Err, List, None, Ok, Option, Some, [], ap, arith, cond, false, filter, inl, inr, is_some, length, map, ne_eqb, not, refl, subst, sym, true, ℕ, ◌&&◌, ◌==◌, ◌||◌, ◌∙◌, ◌∷◌, ◌≡◌}
+use Rattle.ns_monitor.proofs.Prelude.{Await, Bits, Bounded, Carries, Changed, GateView, HasInHand, HasReached, HasRow, HasScanned, HasUnchangedQueues, HasWorked, IsAtPlace, IsInRange, IsReady, Lists, MayEnter, MayScan, OnCondition, OnVariables, Owed, OwesTheWoken, Paid, Pays, PutsBack, Release, Released}
 use Rattle.ns_monitor.proofs.Prelude.{Returning, Scanning, ScansAs, SeatOf, Sought, Subject, ToRelease, ToWait, Truths, Turned, Waited, Waiter, Walk, Word, are_called, asked_of, begins_with_reader, bits_of, called_by, called_of, cases_Bool, entered, found_back, free_scanned, got_of, has_condition}
 use Rattle.ns_monitor.proofs.Prelude.{has_queues, has_some, is_eligible, is_satisfied, lacks_row, left_of, list_any, lists_returned, lists_scanned, meets_at, pay_releasing, pay_waiting, paying_at, reads, ready_at, returning_at, returning_for, returning_of, row_in, scanned_writer, seats_of}
 use Rattle.ns_monitor.proofs.Prelude.{some_returned, the, times, waits_at, wake_told, with_lock, woken_of, works, writes}
+use Rattle.ns_monitor.proofs.Bounds.{gone_behind}
 
 -- ---- the scan
 
@@ -110,40 +111,46 @@ same_hand truths (Waited wait again) seat last row held stood scans = (ap (λ lo
 
 module _ {C : Type 0} {N : ℕ} (truths : Truths C) where
   -- what a scan at this row has made of the queues in hand is what is put back
-  hand_at : (returning : Returning C) (walk : Walk C) (row : List ℕ) (number : ℕ) (some : Bool) (bits : Bits) (me now : SeatOf C N) → IsReady truths walk row me → number ≡ (the me.0).at.seat → now.0 ≡ me.0
-      → ((last : Word) → Carries (lists_returned truths number returning last row (the me.0).stood) now) → ((last : Word) → some ≡ some_returned truths returning last row (the me.0).stood) → ((last : Word) → bits ≡ bits_of (lists_returned truths number returning last row (the me.0).stood).lock)
-      → HasInHand truths returning (record { some = some; bits = bits }) now
-  hand_at returning walk row number some bits me now ready is same carries took tells = record {
-    carries = λ last. carries last ∙ ap (λ lists. (0, lists) ∷ []) (left last);
-    some = λ last. took last ∙ ((same_hand truths returning number last row (row_in (the me.0).at.held) (the me.0).stood ready.scans).1 ∙ (λ i. some_returned truths returning last (row_in (the (sym same i)).at.held) (the (sym same i)).stood));
-    bits = λ last. tells last ∙ ap (λ (lists : Lists C). bits_of lists.lock) (left last);
+  hand_at : (returning : Returning C) (walk : Walk C) (row : List ℕ) (some : Bool) (bits : Bits) (me now : SeatOf C N) → IsReady truths walk row me → now.0 ≡ me.0
+      → ((last : Word) → Carries (lists_returned truths (the me.0).at.seat returning last row (the me.0).stood) now) → ((last : Word) → some ≡ some_returned truths returning last row (the me.0).stood)
+      → ((last : Word) → bits ≡ bits_of (lists_returned truths (the me.0).at.seat returning last row (the me.0).stood).lock) → HasInHand truths returning (record { some = some; bits = bits }) now
+  hand_at returning walk row some bits me now ready same carries took tells = λ last. record {
+    carries = carries last ∙ ap (λ lists. (0, lists) ∷ []) (left last);
+    some = took last ∙ ((same_hand truths returning (the me.0).at.seat last row (row_in (the me.0).at.held) (the me.0).stood ready.scans).1 ∙ (λ i. some_returned truths returning last (row_in (the (sym same i)).at.held) (the (sym same i)).stood));
+    bits = tells last ∙ ap (λ (lists : Lists C). bits_of lists.lock) (left last);
   } where
-    left : (last : Word) → lists_returned truths number returning last row (the me.0).stood ≡ lists_returned truths (the now.0).at.seat returning last (row_in (the now.0).at.held) (the now.0).stood
-    left last = (same_hand truths returning number last row (row_in (the me.0).at.held) (the me.0).stood ready.scans).0
-        ∙ ((λ i. lists_returned truths (is i) returning last (row_in (the me.0).at.held) (the me.0).stood)
-        ∙ (λ i. lists_returned truths (the (sym same i)).at.seat returning last (row_in (the (sym same i)).at.held) (the (sym same i)).stood))
+    left : (last : Word) → lists_returned truths (the me.0).at.seat returning last row (the me.0).stood ≡ lists_returned truths (the now.0).at.seat returning last (row_in (the now.0).at.held) (the now.0).stood
+    left last = (same_hand truths returning (the me.0).at.seat last row (row_in (the me.0).at.held) (the me.0).stood ready.scans).0
+        ∙ (λ i. lists_returned truths (the (sym same i)).at.seat returning last (row_in (the (sym same i)).at.held) (the (sym same i)).stood)
 
   -- so it is for a release, and for a wait that has queued
-  pub hand_scanned : (scanning : Scanning C) (last : Word) (row : List ℕ) (turned : Turned) (me now : SeatOf C N) → IsReady truths (ready_at scanning last) row me → MayScan scanning me → now.0 ≡ me.0 → Carries (entered scanning (lists_scanned truths row (the me.0).stood)) now
-      → turned.some ≡ has_some (woken_of (meets_at truths row) (the me.0).stood.lock) → turned.bits ≡ bits_of (entered scanning (lists_scanned truths row (the me.0).stood)).lock → HasInHand truths (returning_for scanning) turned now
-  hand_scanned (ToRelease releasing) last row turned me now ready may same carries took tells =
-      hand_at (Released releasing) (ready_at (ToRelease releasing) last) row (the me.0).at.seat turned.some turned.bits me now ready refl same (λ _. carries) (λ _. took) (λ _. tells)
-  hand_scanned (ToWait queuing) last row turned me now ready may same carries took tells =
-      hand_at (Waited queuing.wait queuing.again) (ready_at (ToWait queuing) last) row queuing.number turned.some turned.bits me now ready may.1.0 same (λ _. carries) (λ _. took) (λ _. tells)
+  pub hand_scanned : (scanning : Scanning C) (last : Word) (row : List ℕ) (turned : Turned) (me now : SeatOf C N) → IsReady truths (ready_at scanning last) row me → now.0 ≡ me.0 → Carries (entered scanning (the me.0).at.seat (lists_scanned truths row (the me.0).stood)) now
+      → turned.some ≡ has_some (woken_of (meets_at truths row) (the me.0).stood.lock) → turned.bits ≡ bits_of (entered scanning (the me.0).at.seat (lists_scanned truths row (the me.0).stood)).lock → HasInHand truths (returning_for scanning) turned now
+  hand_scanned (ToRelease releasing) last row turned me now ready same carries took tells =
+      hand_at (Released releasing) (ready_at (ToRelease releasing) last) row turned.some turned.bits me now ready same (λ _. carries) (λ _. took) (λ _. tells)
+  hand_scanned (ToWait queuing) last row turned me now ready same carries took tells =
+      hand_at (Waited queuing.wait queuing.again) (ready_at (ToWait queuing) last) row turned.some turned.bits me now ready same (λ _. carries) (λ _. took) (λ _. tells)
 
   -- what a call may scan for it still may where only the lists in hand have changed
   pub may_still : (scanning : Scanning C) (me now : SeatOf C N) → MayScan scanning me → now.0 ≡ me.0 → MayScan scanning now
   may_still (ToRelease releasing) me now may same = tt
-  may_still (ToWait queuing) me now may same = subst (λ (vs : List (GateView C N)). IsInRange queuing.wait.on × ((queuing.number ≡ (the vs).at.seat) × (queuing.number < 64)) × (times queuing.number (the vs).stood ≡ 0)) (sym same) may
+  may_still (ToWait queuing) me now may same = subst (λ (vs : List (GateView C N)). IsInRange queuing.wait.on × (times (the vs).at.seat (the vs).stood ≡ 0)) (sym same) may
 
   -- what a scan has come to that began where only the lists in hand have changed
-  pub scanned_still : (scanning : Scanning C) (me now left : SeatOf C N) → now.0 ≡ me.0 → HasScanned truths scanning now left → HasScanned truths scanning me left
-  scanned_still scanning me now left same e = record { since = subst (λ vs. HasSince None (the vs) (the left.0)) same e.since; paid = e.paid; none = e.none; true_to = e.true_to }
+  pub scanned_still : (scanning : Scanning C) (old mid new : Bounded C N) → HasWorked old mid → HasScanned truths scanning mid new → HasScanned truths scanning old new
+  scanned_still scanning old mid new w e = record { since = gone_behind None old mid new w e.since; paid = e.paid; none = e.none; true_to = e.true_to }
 
   -- a wait that stands in no list stands in none that a scan has left
-  pub may_enter : (scanning : Scanning C) (row : List ℕ) (me now : SeatOf C N) → MayScan scanning me → Carries (lists_scanned truths row (the me.0).stood) now → MayEnter scanning now
-  may_enter (ToRelease releasing) row me now may carries = tt
-  may_enter (ToWait queuing) row me now may carries = (may.0, may.1.1, (lists_scanned truths row (the me.0).stood, carries, free_scanned queuing.number (meets_at truths row) (the me.0).stood _ refl may.2))
+  pub may_enter : (scanning : Scanning C) (row : List ℕ) (me now : SeatOf C N) → MayScan scanning me → now.0 ≡ me.0 → Carries (lists_scanned truths row (the me.0).stood) now → MayEnter scanning now
+  may_enter (ToRelease releasing) row me now may same carries = tt
+  may_enter (ToWait queuing) row me now may same carries = (
+    may.0,
+    (
+      lists_scanned truths row (the me.0).stood,
+      carries,
+      subst (λ (vs : List (GateView C N)). times (the vs).at.seat (lists_scanned truths row (the me.0).stood) ≡ 0) (sym same) (free_scanned (the me.0).at.seat (meets_at truths row) (the me.0).stood _ refl may.1),
+    ),
+  )
 
   -- the queues may go back, with what the scan has made of them
   pub put_scanned : (scanning : Scanning C) (last : Word) (turned : Turned) (now : SeatOf C N) (place : Walk C) (returning : Returning C) → place ≡ ready_at scanning last → returning ≡ returning_for scanning →

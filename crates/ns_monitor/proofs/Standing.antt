@@ -267,27 +267,21 @@ module _ {C : Type 0} {N : ℕ} (truths : Truths C) where
 
   -- what is in hand stays so, while another word is found
   pub hand_stays : (returning : Returning C) (turned : Turned) (me now : SeatOf C N) → HasKeptItsQueues me now → HasInHand truths returning turned me → HasInHand truths returning turned now
-  hand_stays returning turned me now s hand = record {
-    carries = λ last. s.slots ∙ (hand.carries last ∙ (λ i. (0, lists_returned truths (sym s.seat i) returning last (row_in (sym s.held i)) (sym s.stood i)) ∷ []));
-    some = λ last. hand.some last ∙ (λ i. some_returned truths returning last (row_in (sym s.held i)) (sym s.stood i));
-    bits = λ last. hand.bits last ∙ (λ i. bits_of (lists_returned truths (sym s.seat i) returning last (row_in (sym s.held i)) (sym s.stood i)).lock);
+  hand_stays returning turned me now s hand = λ last. record {
+    carries = s.slots ∙ ((hand last).carries ∙ (λ i. (0, lists_returned truths (sym s.seat i) returning last (row_in (sym s.held i)) (sym s.stood i)) ∷ []));
+    some = (hand last).some ∙ (λ i. some_returned truths returning last (row_in (sym s.held i)) (sym s.stood i));
+    bits = (hand last).bits ∙ (λ i. bits_of (lists_returned truths (sym s.seat i) returning last (row_in (sym s.held i)) (sym s.stood i)).lock);
   }
 
   -- what was made of the queues in hand by one that puts itself in or takes itself out
-  pub hand_by : (change : Change) (number : ℕ) (bits : Bits) (me now : SeatOf C N) → number ≡ (the me.0).at.seat → now.0 ≡ me.0 → ((last : Word) → moves change last (the me.0).stood ≡ false) →
-      ((last : Word) → Carries (changed number change last (the me.0).stood) now) → ((last : Word) → bits ≡ bits_of (changed number change last (the me.0).stood).lock)
+  pub hand_by : (change : Change) (bits : Bits) (me now : SeatOf C N) → now.0 ≡ me.0 → ((last : Word) → moves change last (the me.0).stood ≡ false) →
+      ((last : Word) → Carries (changed (the me.0).at.seat change last (the me.0).stood) now) → ((last : Word) → bits ≡ bits_of (changed (the me.0).at.seat change last (the me.0).stood).lock)
       → HasInHand truths (Changed change) (record { some = false; bits = bits }) now
-  hand_by change number bits me now is same still lists tells = record {
-    carries = λ last. lists last ∙ (λ i. (0, changed (seat i) change last (the (sym same i)).stood) ∷ []);
-    some = λ last. sym (still last) ∙ (λ i. moves change last (the (sym same i)).stood);
-    bits = λ last. tells last ∙ (λ i. bits_of (changed (seat i) change last (the (sym same i)).stood).lock);
-  } where
-    seat : number ≡ (the now.0).at.seat
-    seat = is ∙ ap (λ (vs : List (GateView C N)). (the vs).at.seat) (sym same)
-
-  -- work in hand is no step
-  pub still_since : (b : Option (Walk C)) (v : GateView C N) (me now : SeatOf C N) → now.0 ≡ me.0 → HasSince b v (the me.0) → HasSince b v (the now.0)
-  still_since b v me now same s = subst (λ (vs : List (GateView C N)). HasSince b v (the vs)) (sym same) s
+  hand_by change bits me now same still lists tells = λ last. record {
+    carries = lists last ∙ (λ i. (0, changed (the (sym same i)).at.seat change last (the (sym same i)).stood) ∷ []);
+    some = sym (still last) ∙ (λ i. moves change last (the (sym same i)).stood);
+    bits = tells last ∙ (λ i. bits_of (changed (the (sym same i)).at.seat change last (the (sym same i)).stood).lock);
+  }
 
   pub can_put_back : (walk : Walk C) (last : Word) (me : SeatOf C N) → PutsBack walk → IsAtPlace truths (returning_at walk last) me → CanStep truths None (act_returning (returning_of walk) last) me
   can_put_back walk last me puts at = can_go truths (returning_at walk last) (act_returning (returning_of walk) last) me (puts_at N walk last puts).wants at
@@ -326,7 +320,7 @@ module _ {C : Type 0} {N : ℕ} (truths : Truths C) where
       let r = puts_at N walk last puts in let returning = returning_of walk in let act = act_returning returning last in
       let has = ap has_queues at.walks ∙ r.has last in
       let found = found_back truths returning last me in
-      let lists = (hand_stays returning turned start me s hand).carries last in
+      let lists = (hand_stays returning turned start me s hand last).carries in
       let same : found ≡ found_back truths returning first start = (λ i. found_returned truths (s.seat i) returning last (row_in (s.held i)) (s.stood i)) ∙ r.same truths first (the start.0).at.seat (row_in (the start.0).at.held) (the start.0).stood in (
         subst (λ (x : Found × Request C). HasReached truths x.1 (got_of N walk x.0) now) (λ i. (same i, r.asked i))
             (goes_on truths (returning_at walk last) act found (got_of N walk found) me now at (r.made truths (the me.0).at.seat (row_in (the me.0).at.held) (the me.0).stood)

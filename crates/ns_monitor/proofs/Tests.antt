@@ -1,9 +1,10 @@
 -- The cells of the row are loaded one after another, step by step, and the test of a wait tells.
 use Rattle.std.proofs.Common.{Bool, List, None, Option, Some, [], ap, arith, cond, false, get_or, get_or-set_other, get_or-set_same, inl, inr, le-ltb, length, length-set, lt-ltb, nat_lt, refl, set, slice_index, subst, sym, true, ℕ, ◌+◌, ◌-◌, ◌<◌, ◌∙◌, ◌∷◌, ◌≡◌, ◌≤◌}
-use Rattle.ns_monitor.proofs.Prelude.{Act, AreRead, Await, CanStep, Cell, Found, GateView, HasAnswered, HasGone, HasLoaded, HasReached, HasSince, HasTested, HasUnchangedQueues, Held, InCells, InQueuing, InRelease, InWait, Is, IsAtPlace, IsQuiet, IsWide, JudgeMet, JudgeQuiet, Lists, LoadCell}
+use Rattle.ns_monitor.proofs.Prelude.{Act, AreRead, Await, Bounded, CanStep, Cell, Found, HasAnswered, HasGone, HasLoaded, HasMade, HasMadeSteps, HasReached, HasTested, HasUnchangedQueues, Held, InCells, InQueuing, InRelease, InWait, Is, IsAtPlace, IsQuiet, IsWide, JudgeMet, JudgeQuiet, Lists, LoadCell}
 use Rattle.ns_monitor.proofs.Prelude.{LoadToScan, LockState, Next, On, Part, Performed, PlaceFits, QueueToWait, Quiet, QuietCells, QuietLast, Reply, ScanAndRelease, ScanCells, SeatOf, StandsAt, TestCells, Tested, ToTell, Truths, Visit, Wait, Walk, asked_of, before_in, begins, carried_by, cases_Bool}
-use Rattle.ns_monitor.proofs.Prelude.{cases_eq, cell_in_hand, cond-false, cond-true, cond_both, does, goes_on, got_of, has_queues, judging, loading, loading_at, place_after, release_has_queues, row_in, same_number_lists, since, since_itself, since_then, tested_by, the, view_in, wait_has_queues}
+use Rattle.ns_monitor.proofs.Prelude.{cases_eq, cell_in_hand, cond-false, cond-true, cond_both, does, goes_on, got_of, has_queues, judging, loading, loading_at, place_after, release_has_queues, row_in, same_number_lists, tested_by, the, view_in, wait_has_queues}
 use Rattle.ns_monitor.proofs.Prelude.{want_of}
+use Rattle.ns_monitor.proofs.Bounds.{gone_by, gone_itself, gone_then}
 use Rattle.ns_monitor.proofs.Standing.{commits_none, held_in, same_held}
 
 -- ---- the row
@@ -86,9 +87,9 @@ module _ {C : Type 0} {N : ℕ} (truths : Truths C) where
   steps (Some first) walk act found next me now at is free keeps p =
       subst (λ w. HasReached truths (asked_of w) next now) at.0 (begins truths first act found next me now (ap (λ w. got_of N w found) at.0 ∙ is) (λ _. p.carried ∙ (keeps ∙ at.1.empty)) p)
 
-  since_more : (b left : Option (Walk C)) (act : Act C) (found : Found) (v : GateView C N) (me now : SeatOf C N) → HasGone b left v (the me.0) → Performed truths left act found me now → HasSince b v (the now.0)
-  since_more b None act found v me now s p = since_then b v (the me.0) (the now.0) s (since truths None act found me now p)
-  since_more b (Some first) act found v me now s p = subst (λ (x : Option (Walk C) × GateView C N). HasSince x.0 x.1 (the now.0)) (λ i. (sym s.0 i, s.1 i)) (since truths (Some first) act found me now p)
+  since_more : (b left : Option (Walk C)) (act : Act C) (found : Found) (start old new : Bounded C N) → HasGone b left start old → HasMade truths left act found old new → HasMadeSteps b start new
+  since_more b None act found start old new s did = gone_then b start old new s (gone_by did)
+  since_more b (Some first) act found start old new s did = subst (λ (x : Option (Walk C) × Bounded C N). HasMadeSteps x.0 x.1 new) (λ i. (sym s.0 i, s.1 i)) (gone_by did)
 
   -- ---- a cell is loaded
 
@@ -102,52 +103,54 @@ module _ {C : Type 0} {N : ℕ} (truths : Truths C) where
   ]
 
   -- nothing is loaded yet
-  pub loads_none : (b : Option (Walk C)) (walk : Walk C) (row : List ℕ) (me : SeatOf C N) → length row ≡ N → StandsAt truths b (loading_at N walk 0) me → HasLoaded truths b b walk 0 row me me
-  loads_none b walk row me width at = record { at = at; since = gone b; held = refl; mine = refl; taken = λ taken. (taken, refl); read = record { width = width; cells = λ k low. absurd (omega (arith, low)) } } where
-    gone : (b : Option (Walk C)) → HasGone b b (the me.0) (the me.0)
-    gone None = since_itself (the me.0)
+  pub loads_none : (b : Option (Walk C)) (walk : Walk C) (row : List ℕ) (seat : Bounded C N) → length row ≡ N → StandsAt truths b (loading_at N walk 0) seat.me → HasLoaded truths b b walk 0 row seat seat
+  loads_none b walk row seat width at = record { at = at; since = gone b; held = refl; mine = refl; taken = λ taken. (taken, refl); read = record { width = width; cells = λ k low. absurd (omega (arith, low)) } } where
+    gone : (b : Option (Walk C)) → HasGone b b seat seat
+    gone None = gone_itself seat
     gone (Some first) = (refl, refl)
 
-  pub can_load_cell : (b left : Option (Walk C)) (walk : Walk C) (i : ℕ) (row : List ℕ) (start me : SeatOf C N) → i < (loading N walk).count → HasLoaded truths b left walk i row start me → CanStep truths left (LoadCell i) me
-  can_load_cell b left walk i row start me low has = can_step left ((loading N walk).at i) (LoadCell i) me (loads_at N walk i low).wants (subst (λ w. StandsAt truths left w me) (at_cell N walk i low) has.at)
+  pub can_load_cell : (b left : Option (Walk C)) (walk : Walk C) (i : ℕ) (row : List ℕ) (start old : Bounded C N) → i < (loading N walk).count → HasLoaded truths b left walk i row start old → CanStep truths left (LoadCell i) old.me
+  can_load_cell b left walk i row start old low has = can_step left ((loading N walk).at i) (LoadCell i) old.me (loads_at N walk i low).wants (subst (λ w. StandsAt truths left w old.me) (at_cell N walk i low) has.at)
 
   -- one more is
-  pub loads_cell : (b left : Option (Walk C)) (walk : Walk C) (i value : ℕ) (row : List ℕ) (start me now : SeatOf C N) → i < (loading N walk).count → i < N → HasLoaded truths b left walk i row start me → Performed truths left (LoadCell i) (Cell value) me now
-      → HasLoaded truths b None walk (i + 1) (set row i value) start now
-  loads_cell b left walk i value row start me now low inside has p =
+  pub loads_cell : (b left : Option (Walk C)) (walk : Walk C) (i value : ℕ) (row : List ℕ) (start old new : Bounded C N) → i < (loading N walk).count → i < N → HasLoaded truths b left walk i row start old → HasMade truths left (LoadCell i) (Cell value) old new
+      → HasLoaded truths b None walk (i + 1) (set row i value) start new
+  loads_cell b left walk i value row start old new low inside has did =
+      let me = old.me in let now = new.me in let p = did.by in
       let l = loads_at N walk i low in let place = (loading N walk).at i in let at = subst (λ w. StandsAt truths left w me) (at_cell N walk i low) has.at in
       let held = same_held truths left (LoadCell i) (Cell value) me now p (ap (λ (q : Part C N). q.held) (does truths left (LoadCell i) (Cell value) me now p).1) in
       let section = there N truths walk i (the me.0).at.held low (fits_at left place me at).0 in record {
         at = steps left place (LoadCell i) (Cell value) (On (loading_at N walk (i + 1))) me now at (l.goes value) l.free refl p;
-        since = since_more b left (LoadCell i) (Cell value) (the start.0) me now has.since p;
+        since = since_more b left (LoadCell i) (Cell value) start old new has.since did;
         held = held ∙ has.held;
         mine = commits_none truths left (LoadCell i) (Cell value) me now p (does truths left (LoadCell i) (Cell value) me now p).2 ∙ has.mine;
         taken = λ taken. let before = has.taken taken in let after = stays_taken left place i value me now at p before.0 in (after.0, after.1 ∙ before.1);
-        read = reads_more N (row_in (the start.0).at.held) row i value inside has.read
+        read = reads_more N (row_in (the start.me.0).at.held) row i value inside has.read
             (cell_in_hand truths left i value section.0 me now p (held ∙ section.1) ∙ ap (λ (o : Option (Held C N)). slice_index (row_in o) i) (sym section.1 ∙ has.held));
       }
 
   -- ---- the last one tells
 
-  pub can_tell : (b left : Option (Walk C)) (walk : Walk C) (act : Act C) (row : List ℕ) (start me : SeatOf C N) → want_of (loading N walk).last ≡ act → HasLoaded truths b left walk (loading N walk).count row start me → CanStep truths left act me
-  can_tell b left walk act row start me wants has = can_step left (loading N walk).last act me wants (subst (λ w. StandsAt truths left w me) (at_last N walk) has.at)
+  pub can_tell : (b left : Option (Walk C)) (walk : Walk C) (act : Act C) (row : List ℕ) (start old : Bounded C N) → want_of (loading N walk).last ≡ act → HasLoaded truths b left walk (loading N walk).count row start old → CanStep truths left act old.me
+  can_tell b left walk act row start old wants has = can_step left (loading N walk).last act old.me wants (subst (λ w. StandsAt truths left w old.me) (at_last N walk) has.at)
 
   -- what comes of a last load: where it leads, and the row, which is the one of the section in hand
-  record HasTold (b : Option (Walk C)) (walk : Walk C) (found : Found) (row : List ℕ) (start now : SeatOf C N) : Type 0 where
-    leads : HasReached truths (asked_of (loading N walk).last) (got_of N (loading N walk).last found) now
-    since : HasSince b (the start.0) (the now.0)
-    held : (the now.0).at.held ≡ (the start.0).at.held
-    mine : (the now.0).told.mine ≡ (the start.0).told.mine
-    row_is : row ≡ row_in (the start.0).at.held
+  record HasTold (b : Option (Walk C)) (walk : Walk C) (found : Found) (row : List ℕ) (start new : Bounded C N) : Type 0 where
+    leads : HasReached truths (asked_of (loading N walk).last) (got_of N (loading N walk).last found) new.me
+    since : HasMadeSteps b start new
+    held : (the new.me.0).at.held ≡ (the start.me.0).at.held
+    mine : (the new.me.0).told.mine ≡ (the start.me.0).told.mine
+    row_is : row ≡ row_in (the start.me.0).at.held
 
-  told : (b left : Option (Walk C)) (walk : Walk C) (act : Act C) (found : Found) (row : List ℕ) (value : ℕ) (section : Held C N) (start me now : SeatOf C N) → 1 ≤ N → (loading N walk).count ≡ N - 1 → has_queues (Some (loading N walk).last) ≡ false
-      → HasLoaded truths b left walk (loading N walk).count row start me → (view_in (the me.0).at left).held ≡ Some section → value ≡ slice_index (row_in (the me.0).at.held) (N - 1) → carried_by act found (the now.0).stood me.1 ≡ me.1
-      → (p : Performed truths left act found me now) → p.did.made.step.held ≡ (view_in (the me.0).at left).held → p.did.commits ≡ [] → HasTold b walk found (set row (N - 1) value) start now
-  told b left walk act found row value section start me now some last free has there is keeps p same none =
-      let at = subst (λ w. StandsAt truths left w me) (at_last N walk) has.at in let whole = row_in (the start.0).at.held in
+  told : (b left : Option (Walk C)) (walk : Walk C) (act : Act C) (found : Found) (row : List ℕ) (value : ℕ) (section : Held C N) (start old new : Bounded C N) → 1 ≤ N → (loading N walk).count ≡ N - 1 → has_queues (Some (loading N walk).last) ≡ false
+      → HasLoaded truths b left walk (loading N walk).count row start old → (view_in (the old.me.0).at left).held ≡ Some section → value ≡ slice_index (row_in (the old.me.0).at.held) (N - 1) → carried_by act found (the new.me.0).stood old.me.1 ≡ old.me.1
+      → (did : HasMade truths left act found old new) → did.by.did.made.step.held ≡ (view_in (the old.me.0).at left).held → did.by.did.commits ≡ [] → HasTold b walk found (set row (N - 1) value) start new
+  told b left walk act found row value section start old new some last free has there is keeps did same none =
+      let me = old.me in let now = new.me in let p = did.by in
+      let at = subst (λ w. StandsAt truths left w me) (at_last N walk) has.at in let whole = row_in (the start.me.0).at.held in
       let more = reads_more N whole row (N - 1) value (omega (arith, some)) (subst (AreRead N whole row) last has.read) (is ∙ ap (λ (o : Option (Held C N)). slice_index (row_in o) (N - 1)) has.held) in record {
         leads = steps left (loading N walk).last act found (got_of N (loading N walk).last found) me now at refl (λ _. free) keeps p;
-        since = since_more b left act found (the start.0) me now has.since p;
+        since = since_more b left act found start old new has.since did;
         held = same_held truths left act found me now p same ∙ has.held;
         mine = commits_none truths left act found me now p none ∙ has.mine;
         row_is = all_read N whole (set row (N - 1) value) (ap (λ (o : Option (Held C N)). length (row_in o)) (sym has.held) ∙ wide_row N (the me.0).at.held section (sym (held_in truths left (the me.0).at) ∙ there) (fits_at left (loading N walk).last me at).1)
@@ -156,15 +159,15 @@ module _ {C : Type 0} {N : ℕ} (truths : Truths C) where
 
   -- ---- a wait tests its condition
 
-  pub is_tested : (b left : Option (Walk C)) (wait : Wait C) (visit : Visit) (c : C) (row : List ℕ) (value : ℕ) (met : Bool) (start me now : SeatOf C N) → 1 ≤ N → HasLoaded truths b left (InWait wait (TestCells visit 0)) (N - 1) row start me
-      → value ≡ slice_index (row_in (the me.0).at.held) (N - 1) → Performed truths left (JudgeMet (N - 1) c) (Tested (truths.holds c (row_in (the me.0).at.held))) me now → met ≡ truths.holds c (set row (N - 1) value)
-      → HasSince b (the start.0) (the now.0) × HasTested truths wait visit c met (set row (N - 1) value) start now
-  is_tested b left wait visit c row value met start me now some has cell p is =
-      let found = Tested (truths.holds c (row_in (the me.0).at.held)) in let e = does truths left (JudgeMet (N - 1) c) found me now p in
-      let t = told b left (InWait wait (TestCells visit 0)) (JudgeMet (N - 1) c) found row value e.0 start me now some refl refl has e.1 cell refl p (ap (λ (q : Part C N). q.held) e.3) e.4 in (
+  pub is_tested : (b left : Option (Walk C)) (wait : Wait C) (visit : Visit) (c : C) (row : List ℕ) (value : ℕ) (met : Bool) (start old new : Bounded C N) → 1 ≤ N → HasLoaded truths b left (InWait wait (TestCells visit 0)) (N - 1) row start old
+      → value ≡ slice_index (row_in (the old.me.0).at.held) (N - 1) → HasMade truths left (JudgeMet (N - 1) c) (Tested (truths.holds c (row_in (the old.me.0).at.held))) old new → met ≡ truths.holds c (set row (N - 1) value)
+      → HasMadeSteps b start new × HasTested truths wait visit c met (set row (N - 1) value) start.me new.me
+  is_tested b left wait visit c row value met start old new some has cell did is =
+      let found = Tested (truths.holds c (row_in (the old.me.0).at.held)) in let e = does truths left (JudgeMet (N - 1) c) found old.me new.me did.by in
+      let t = told b left (InWait wait (TestCells visit 0)) (JudgeMet (N - 1) c) found row value e.0 start old new some refl refl has e.1 cell refl did (ap (λ (q : Part C N). q.held) e.3) e.4 in (
         t.since,
         record {
-          leads = subst (λ met. HasReached truths (Await wait) (tested_by wait visit met) now) (ap (λ o. truths.holds c (row_in o)) has.held ∙ (ap (truths.holds c) (sym t.row_is) ∙ sym is)) t.leads;
+          leads = subst (λ met. HasReached truths (Await wait) (tested_by wait visit met) new.me) (ap (λ o. truths.holds c (row_in o)) has.held ∙ (ap (truths.holds c) (sym t.row_is) ∙ sym is)) t.leads;
           held = t.held;
           mine = t.mine;
           row_is = t.row_is;
@@ -175,26 +178,26 @@ module _ {C : Type 0} {N : ℕ} (truths : Truths C) where
   -- ---- a section is judged
 
   -- the answer tells of the section that was in hand as the call began, and the row is that section's
-  pub is_judged : (left : Option (Walk C)) (first : Walk C) (row : List ℕ) (value : ℕ) (start me now : SeatOf C N) → 1 ≤ N → first ≡ judging N → HasLoaded truths (Some first) left (InCells (QuietCells ToTell 0)) (N - 1) row start me
-      → value ≡ slice_index (row_in (the me.0).at.held) (N - 1) → Performed truths left (JudgeQuiet (N - 1)) (Quiet (truths.quiet (before_in (the me.0).at.held) (row_in (the me.0).at.held))) me now
-      → HasSince (Some (judging N)) (the start.0) (the now.0) × HasAnswered truths IsQuiet (Is (truths.quiet (before_in (the start.0).at.held) (row_in (the start.0).at.held))) now × (set row (N - 1) value ≡ row_in (the start.0).at.held)
-  is_judged left first row value start me now some is has cell p =
-      let found = Quiet (truths.quiet (before_in (the me.0).at.held) (row_in (the me.0).at.held)) in let e = does truths left (JudgeQuiet (N - 1)) found me now p in
-      let t = told (Some first) left (InCells (QuietCells ToTell 0)) (JudgeQuiet (N - 1)) found row value e.0 start me now some refl refl has e.1 cell refl p (ap (λ (q : Part C N). q.held) e.3) e.4 in (
-        subst (λ w. HasSince (Some w) (the start.0) (the now.0)) is t.since,
-        subst (λ (o : Option (Held C N)). HasAnswered truths IsQuiet (Is (truths.quiet (before_in o) (row_in o))) now) has.held t.leads,
+  pub is_judged : (left : Option (Walk C)) (first : Walk C) (row : List ℕ) (value : ℕ) (start old new : Bounded C N) → 1 ≤ N → first ≡ judging N → HasLoaded truths (Some first) left (InCells (QuietCells ToTell 0)) (N - 1) row start old
+      → value ≡ slice_index (row_in (the old.me.0).at.held) (N - 1) → HasMade truths left (JudgeQuiet (N - 1)) (Quiet (truths.quiet (before_in (the old.me.0).at.held) (row_in (the old.me.0).at.held))) old new
+      → HasMadeSteps (Some (judging N)) start new × HasAnswered truths IsQuiet (Is (truths.quiet (before_in (the start.me.0).at.held) (row_in (the start.me.0).at.held))) new.me × (set row (N - 1) value ≡ row_in (the start.me.0).at.held)
+  is_judged left first row value start old new some is has cell did =
+      let found = Quiet (truths.quiet (before_in (the old.me.0).at.held) (row_in (the old.me.0).at.held)) in let e = does truths left (JudgeQuiet (N - 1)) found old.me new.me did.by in
+      let t = told (Some first) left (InCells (QuietCells ToTell 0)) (JudgeQuiet (N - 1)) found row value e.0 start old new some refl refl has e.1 cell refl did (ap (λ (q : Part C N). q.held) e.3) e.4 in (
+        subst (λ w. HasMadeSteps (Some w) start new) is t.since,
+        subst (λ (o : Option (Held C N)). HasAnswered truths IsQuiet (Is (truths.quiet (before_in o) (row_in o))) new.me) has.held t.leads,
         t.row_is,
       )
 
   -- ---- a scan has its row
 
-  pub is_scanned : (left : Option (Walk C)) (walk : Walk C) (row : List ℕ) (start me : SeatOf C N) → 1 ≤ N → (loading N walk).count ≡ N → IsAtPlace truths (loading_at N walk 0) start → HasLoaded truths None left walk N row start me
-      → IsAtPlace truths (loading N walk).last me × HasSince None (the start.0) (the me.0) × (row ≡ row_in (the start.0).at.held)
-  is_scanned (Some first) walk row start me some scans at has = absurd (let no = has.since.0 in cc)
-  is_scanned None walk row start me some scans at has =
-      let low = subst (λ n. 1 ≤ n) (sym scans) some in
-      let section = there N truths walk 0 (the start.0).at.held low (subst (λ w. PlaceFits truths (Some w) (the start.0).at.held) (at_cell N walk 0 low) at.fits) in (
-        subst (λ w. IsAtPlace truths w me) (ap (loading_at N walk) (sym scans) ∙ at_last N walk) has.at,
+  pub is_scanned : (left : Option (Walk C)) (walk : Walk C) (row : List ℕ) (start old : Bounded C N) → 1 ≤ N → (loading N walk).count ≡ N → IsAtPlace truths (loading_at N walk 0) start.me → HasLoaded truths None left walk N row start old
+      → IsAtPlace truths (loading N walk).last old.me × HasMadeSteps None start old × (row ≡ row_in (the start.me.0).at.held)
+  is_scanned (Some first) walk row start old some scans at has = absurd (let no = has.since.0 in cc)
+  is_scanned None walk row start old some scans at has =
+      let held = (the start.me.0).at.held in let low = subst (λ n. 1 ≤ n) (sym scans) some in
+      let section = there N truths walk 0 held low (subst (λ w. PlaceFits truths (Some w) held) (at_cell N walk 0 low) at.fits) in (
+        subst (λ w. IsAtPlace truths w old.me) (ap (loading_at N walk) (sym scans) ∙ at_last N walk) has.at,
         has.since,
-        all_read N (row_in (the start.0).at.held) row (wide_row N (the start.0).at.held section.0 section.1 at.wide) has.read,
+        all_read N (row_in held) row (wide_row N held section.0 section.1 at.wide) has.read,
       )

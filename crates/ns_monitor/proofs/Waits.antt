@@ -41,11 +41,11 @@ module _ {C : Type 0} {N : ℕ} (truths : Truths C) where
   -- ---- it leaves its list
 
   -- whether it still stood there is what it learned as it took itself out
-  pub left_next : (wait : Wait C) (cause : Cause) (word : Word) (home : Home) (number : ℕ) (stood b : Bool) (me now : SeatOf C N) → home ≡ home_of wait.on → number ≡ (the me.0).at.seat → now.0 ≡ me.0 → stood ≡ stands_at number home (the me.0).stood → stood ≡ b
+  pub left_next : (wait : Wait C) (cause : Cause) (word : Word) (home : Home) (stood b : Bool) (me now : SeatOf C N) → home ≡ home_of wait.on → now.0 ≡ me.0 → stood ≡ stands_at (the me.0).at.seat home (the me.0).stood → stood ≡ b
       → got_of N (InWait wait (InLeaving cause (Leave word))) (found_back truths (Changed (LeaveSelf home)) word now) ≡ cond b (On (InAcquire (ForWait wait (Ended cause)) (AcquireLoad AsFresh))) (On (InWait wait (InLeaving cause AwaitWakeToLeave)))
-  left_next wait cause word home number stood b me now at_home is same tells so =
+  left_next wait cause word home stood b me now at_home same tells so =
       ap (λ (x : Bool). cond x (On (InAcquire (ForWait wait (Ended cause)) (AcquireLoad AsFresh))) (On (InWait wait (InLeaving cause AwaitWakeToLeave))))
-      ((λ i. stands_at (the (same i)).at.seat home (the (same i)).stood) ∙ (ap (λ who. stands_at who home (the me.0).stood) (sym is) ∙ (sym tells ∙ so)))
+      ((λ i. stands_at (the (same i)).at.seat home (the (same i)).stood) ∙ (sym tells ∙ so))
 
   -- one that was taken before is woken, and comes back
   pub taken_next : (wait : Wait C) (cause : Cause) (flag : ℕ) (outcome : Outcome) (arrival : Arrival) (me : SeatOf C N) → flag ≢ 1 → outcome ≡ outcome_taken wait.on cause flag → arrival ≡ arrival_of 0 flag →

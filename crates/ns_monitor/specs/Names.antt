@@ -1,5 +1,6 @@
 -- The names of crates below and of this crate's own types, passed on from one place. Declares nothing.
 pub use Rattle.ns_gate.specs.Prelude.{Acquire, AcquireLoad, Act, Answered, Arm, ArmFlag, Arrival, Await, AwaitWakeInWait, BeginsWith, Bits, Broadcasting, Busy, CameByGuess, CanLeave, CanStep, Carries, Cause, Cell, Change, Course, Done, Effect, Event, Expired, Flag, ForWait, Found, GateView, GetLoad}
+pub use Rattle.ns_gate.specs.Prelude.{Bounded, HasComeBy, HasGuessedTo, HasMade, HasMadeSteps, HasTried, HasTurned, HasWorked, found_back}
 pub use Rattle.ns_gate.specs.Prelude.{HasAnswered, HasLearned as SeatHasLearned, HasMadeBoth, HasMode, HasReached, HasSince, HasStepped, HasUnchangedQueues, Held, Idle, InAcquire, InCells, InHand, InLeaving, InQueuing, InRelease, InShow, InSignal, InTry, InWait, Is, IsAtPlace, IsAtRest, IsFirst}
 pub use Rattle.ns_gate.specs.Prelude.{IsInRange, IsLawful, IsMade, IsOrderly, IsOwedNext, IsPackable, IsQuiet, IsSettled, IsTold, IsTrueToHistory, IsWide, JudgeMet, JudgeQuiet, Leave, LeaveLoad, LeaveSelf, Limits, Lists, Load, LoadCell, LoadFlag, LoadWord, LockState, Look, Looked, Made, MayShow}
 pub use Rattle.ns_gate.specs.Prelude.{Mode, Next, On, OnCondition, OnVariables, Owed, OwesBelow, Paid, Part, Pay, PayInWait, PayWake, Performed, PlaceFits, Queue, QueueSelf, QueueToWait, Quiet, QuietWriter, Read, Reader, Release, ReleaseReturning, Releasing, Request, ReturnQueues, ReturnShown, Saw}

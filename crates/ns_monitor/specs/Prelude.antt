@@ -4,6 +4,7 @@ pub use Rattle.ns_monitor.specs.Known.{AreNew, AreOfOneHistory, EndsAs, Grows, H
 pub use Rattle.ns_monitor.specs.Limits.{HasLookedOn, IsLooking, LookShows}
 pub use Rattle.ns_monitor.specs.Looks.{may_show, none_shown, nothing_named, same_looker, shown_at_will, shown_since, still_looking, then_looker}
 pub use Rattle.ns_monitor.specs.Names.{Acquire, AcquireLoad, Acquiring, Act, Aim, Answer, Answered, AnyWait, AnyWaitMeans, Arm, ArmFlag, ArmToWait, Arrival, AsFresh, Await, AwaitWake, AwaitWakeInWait, AwaitWakeToLeave, BeginsWith, Bits, Broadcasting, Busy, CameByGuess, CanLeave, CanStep, Canceled}
+pub use Rattle.ns_monitor.specs.Names.{Bounded, HasComeBy, HasGuessedTo, HasMade, HasMadeSteps, HasTried, HasTurned, HasWorked, found_back}
 pub use Rattle.ns_monitor.specs.Names.{Carries, Cause, Cell, CellFits, Change, Changed, Changing, CondWait, ConditionWaitMeans, Course, CvWait, Cvs, Done, Effect, Ended, EnvEvent, EnvKnown, Event, Expired, Flag, ForLock, ForWait, Found, GateView, Get, Going, HasAnswered, HasLeft, HasMode}
 pub use Rattle.ns_monitor.specs.Names.{HasReached, HasSince, HasStepped, HasUnchangedQueues, HasWaited, Held, Home, Idle, InAcquire, InCells, InHand, InLeaving, InQueuing, InRelease, InShow, InSignal, InTry, InWait, Is, IsAtPlace, IsAtRest, IsFirst, IsForVariables, IsInRange, IsLawful, IsMade}
 pub use Rattle.ns_monitor.specs.Names.{IsOrderly, IsOwedNext, IsPackable, IsQuiet, IsSettled, IsTold, IsWide, JudgeMet, JudgeQuiet, Leave, LeaveLoad, LeaveSelf, Leaving, Limits, Lists, Load, LoadCell, LoadFlag, LoadToScan, LoadWord, LockState, Look, LookIn, LookOut, Looked, Made, MayEnd, Met, Mode}
@@ -20,7 +21,7 @@ pub use Rattle.ns_monitor.specs.Saved.{AreSaved, HasSaved, IsFresh, IsFreshIn, I
 pub use Rattle.ns_monitor.specs.Scans.{HasScanned, MayEnter, MayScan, entered, paying_at, ready_at, returning_for}
 pub use Rattle.ns_monitor.specs.Several.{AreSome, HasBegunToWait, HasComeBackFromAny, HasSeenTrue, HasStoodUnwoken, IsByOneOf, IsWaitingForAny, SaysWoken, WaitKnown, WaitsOn, WaitsStill, any_waiting, at_will, waits_for_any}
 pub use Rattle.ns_monitor.specs.Shows.{HasStood, ShowsState}
-pub use Rattle.ns_monitor.specs.Standing.{AcquiresBy, Decides, HasAcquired, HasBegunBy, HasGoneBehind, HasInHand, HasTakenAt, IsNumberOf, MayGoAlone, OwesTheWoken, Pays, PutsBack, ReleasesBy, Sleeps, WentAtOnce, WentOrTook, found_back, going_act, going_at, going_of, gone_to, may_go, returning_at}
+pub use Rattle.ns_monitor.specs.Standing.{AcquiresBy, Decides, HasAcquired, HasBegunBy, HasGoneBehind, HasInHand, HasTakenAt, IsNumberOf, MayGoAlone, OwesTheWoken, Pays, PutsBack, ReleasesBy, Sleeps, WentAtOnce, WentOrTook, going_act, going_at, going_of, gone_to, may_go, returning_at}
 pub use Rattle.ns_monitor.specs.Standing.{returning_of, scanning_at, taken_at, taking_at, taking_for}
 pub use Rattle.ns_monitor.specs.Tests.{AreRead, HasGone, HasLoaded, HasRow, HasTested, IsReady, MayTest, ScansAs, StandsAt, lacks_row, loading, loading_at, tested_by}
 pub use Rattle.ns_monitor.specs.Variables.{HasComeBackFrom, HasWaitedForVariable, HasWoken, wake_event}

@@ -1,8 +1,7 @@
 -- A scan of the lock list by a release, or by a wait that leaves its section: it takes waiters out of the list, the wait puts itself into its own, the queues go back, and those who were taken are paid their wakes.
-use Rattle.std.specs.Prelude.{None, [], false, ℕ, ◌<◌, ◌≡◌}
-use Rattle.ns_monitor.specs.Names.{HasReached, HasSince, InQueuing, InRelease, InWait, IsInRange, Lists, Paid, Pay, PayInWait, QueueToWait, Released, Returning, ScanAndRelease, Scanning, SeatOf, StandsNowhere, ToRelease, ToWait, Truths, Waited, Walk, Word, asked_of, got_of, the, times, waits_at}
+use Rattle.std.specs.Prelude.{None, [], false, ℕ, ◌≡◌}
+use Rattle.ns_monitor.specs.Names.{Bounded, HasMadeSteps, HasReached, InQueuing, InRelease, InWait, IsInRange, Lists, Paid, Pay, PayInWait, QueueToWait, Released, Returning, ScanAndRelease, Scanning, SeatOf, StandsNowhere, ToRelease, ToWait, Truths, Waited, Walk, Word, asked_of, got_of, the, times, waits_at}
 use Rattle.ns_monitor.specs.Several.{HasSeenTrue}
-use Rattle.ns_monitor.specs.Standing.{IsNumberOf}
 
 -- what the queues are put back for after it
 abbrev pub returning_for : {C : Type 0} → Scanning C → Returning C
@@ -19,24 +18,24 @@ abbrev pub paying_at : {C : Type 0} → Scanning C → Walk C
 paying_at (ToRelease releasing) = InRelease releasing Pay
 paying_at (ToWait queuing) = InWait queuing.wait PayInWait
 
--- the lists once a wait has queued, if the call is one
-abbrev pub entered : {C : Type 0} → Scanning C → Lists C → Lists C
-entered (ToRelease releasing) lists = lists
-entered (ToWait queuing) lists = waits_at queuing.wait.on queuing.number queuing.wait.mode queuing.again lists
+-- the lists once a wait of this seat has queued, if the call is one
+abbrev pub entered : {C : Type 0} → Scanning C → ℕ → Lists C → Lists C
+entered (ToRelease releasing) seat lists = lists
+entered (ToWait queuing) seat lists = waits_at queuing.wait.on seat queuing.wait.mode queuing.again lists
 
--- a wait is for variables that there are, if it is for variables, and by its own seat, which stands in no list
+-- a wait is for variables that there are, if it is for variables, and its seat stands in no list
 abbrev pub MayScan : {C : Type 0} {N : ℕ} → Scanning C → SeatOf C N → Type 0
 MayScan (ToRelease releasing) me = Unit {0}
-MayScan (ToWait queuing) me = IsInRange queuing.wait.on × IsNumberOf queuing.number me × (times queuing.number (the me.0).stood ≡ 0)
+MayScan (ToWait queuing) me = IsInRange queuing.wait.on × (times (the me.0).at.seat (the me.0).stood ≡ 0)
 
 -- a wait may queue by the lists in hand
 abbrev pub MayEnter : {C : Type 0} {N : ℕ} → Scanning C → SeatOf C N → Type 0
 MayEnter (ToRelease releasing) me = Unit {0}
-MayEnter (ToWait queuing) me = IsInRange queuing.wait.on × (queuing.number < 64) × StandsNowhere queuing.number me
+MayEnter (ToWait queuing) me = IsInRange queuing.wait.on × StandsNowhere (the me.0).at.seat me
 
 -- The queues are back, the section is released or left, and each wake that was owed is paid.
-pub record HasScanned {C : Type 0} {N : ℕ} (truths : Truths C) (scanning : Scanning C) (me now : SeatOf C N) : Type 0 where
-  pub since : HasSince None (the me.0) (the now.0)
-  pub paid : HasReached truths (asked_of (paying_at scanning)) (got_of N (paying_at scanning) (Paid false)) now
-  pub none : (the now.0).at.owed ≡ []
-  pub true_to : HasSeenTrue truths now
+pub record HasScanned {C : Type 0} {N : ℕ} (truths : Truths C) (scanning : Scanning C) (old new : Bounded C N) : Type 0 where
+  pub since : HasMadeSteps None old new
+  pub paid : HasReached truths (asked_of (paying_at scanning)) (got_of N (paying_at scanning) (Paid false)) new.me
+  pub none : (the new.me.0).at.owed ≡ []
+  pub true_to : HasSeenTrue truths new.me

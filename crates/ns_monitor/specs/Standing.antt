@@ -1,9 +1,9 @@
 -- What the loops of a call are told of the place at which it stands, and where they lead it.
 use Rattle.std.specs.Prelude.{Bool, Err, List, None, Ok, Option, Result, Some, false, if◌then◌else◌, not, true, ℕ, ◌<◌, ◌≡◌}
-use Rattle.ns_monitor.specs.Names.{Acquire, AcquireExchange, AcquireLoad, Acquiring, Act, Aim, Arm, ArmToWait, Arrival, AtLock, Carries, Changed, Changing, Done, Flag, Found, Going, HasMadeBoth, HasReached, HasUnchangedQueues, Idle, InAcquire, InLeaving, InQueuing, InRelease, InShow, InSignal}
+use Rattle.ns_monitor.specs.Names.{Acquire, AcquireExchange, AcquireLoad, Acquiring, Act, Aim, Arm, ArmToWait, Arrival, AtLock, Changed, Changing, Done, Flag, Going, HasMadeBoth, HasReached, HasTurned, HasUnchangedQueues, Idle, InAcquire, InLeaving, InQueuing, InRelease, InShow, InSignal}
 use Rattle.ns_monitor.specs.Names.{InWait, IsAtPlace, IsOrderly, IsPackable, Leave, LeaveLoad, LeaveSelf, Leaving, Load, LoadFlag, LoadWord, Next, Nothing, On, Owed, Paid, PayWake, Performed, Queue, QueueSelf, QueueToWait, Release, ReleaseExchange, ReleaseLoad, ReleasePlace, Released, Releasing}
 use Rattle.ns_monitor.specs.Names.{Reply, ReturnShown, Returning, Saw, ScanAndRelease, SeatOf, SignalLoad, Succeeded, Take, TakeToLeave, TakeToQueue, TakeToScan, TakeToWake, Taking, ToChange, ToQueue, Truths, Turned, Waited, WakeAndReturn, Walk, Word, acquire_by, acquired_for, asked_of, bits_of}
-use Rattle.ns_monitor.specs.Names.{called_of, found_returned, got_of, has_queues, home_of, lists_returned, may_acquire, meets_at, mode_for, needs_scan, release_by, request_for, row_in, scan_place, some_returned, the, want_of, woken_of}
+use Rattle.ns_monitor.specs.Names.{called_of, got_of, has_queues, home_of, may_acquire, meets_at, mode_for, needs_scan, release_by, request_for, row_in, scan_place, the, want_of, woken_of}
 use Rattle.ns_word.specs.declared.request.Request.TheVariants as TheRequest
 
 -- the seat's number, as its caller has it at hand
@@ -158,14 +158,8 @@ returning_at (InShow place) word = InShow (ReturnShown word)
 returning_at walk word = walk
 
 -- the seat has in hand what is put back for this, whatever the word is; this tells of it
-pub record HasInHand {C : Type 0} {N : ℕ} (truths : Truths C) (returning : Returning C) (turned : Turned) (me : SeatOf C N) : Type 0 where
-  pub carries : (last : Word) → Carries (lists_returned truths (the me.0).at.seat returning last (row_in (the me.0).at.held) (the me.0).stood) me
-  pub some : (last : Word) → turned.some ≡ some_returned truths returning last (row_in (the me.0).at.held) (the me.0).stood
-  pub bits : (last : Word) → turned.bits ≡ bits_of (lists_returned truths (the me.0).at.seat returning last (row_in (the me.0).at.held) (the me.0).stood).lock
-
--- what the seat finds that has put it back
-abbrev pub found_back : {C : Type 0} {N : ℕ} → Truths C → Returning C → Word → SeatOf C N → Found
-found_back truths returning last me = found_returned truths (the me.0).at.seat returning last (row_in (the me.0).at.held) (the me.0).stood
+abbrev pub HasInHand : {C : Type 0} {N : ℕ} → Truths C → Returning C → Turned → SeatOf C N → Type 0
+HasInHand truths returning turned me = (last : Word) → HasTurned truths returning last turned me
 
 -- the wakes that it then owes: those of them whom a scan of the lock list takes at the row of the section in hand
 abbrev pub OwesTheWoken : {C : Type 0} {N : ℕ} → Truths C → Returning C → SeatOf C N → List Owed → Type 0

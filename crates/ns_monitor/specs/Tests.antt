@@ -1,6 +1,6 @@
 -- How a call loads the cells of the row one after another, and what the test of a wait tells.
 use Rattle.std.specs.Prelude.{Bool, List, None, Option, Some, false, if◌then◌else◌, length, slice_index, ℕ, ◌-◌, ◌<◌, ◌≡◌}
-use Rattle.ns_monitor.specs.Names.{Answered, Await, Done, GateView, HasMode, HasReached, HasSince, HasUnchangedQueues, InCells, InQueuing, InRelease, InWait, IsAtPlace, IsAtRest, IsFirst, LoadToScan, Met, Next, OnCondition, OnEntry, OnVariables, PlaceFits, QueueToWait, QuietCells, QuietLast, Reply}
+use Rattle.ns_monitor.specs.Names.{Answered, Await, Bounded, Done, HasMadeSteps, HasMode, HasReached, HasUnchangedQueues, InCells, InQueuing, InRelease, InWait, IsAtPlace, IsAtRest, IsFirst, LoadToScan, Met, Next, OnCondition, OnEntry, OnVariables, PlaceFits, QueueToWait, QuietCells, QuietLast, Reply}
 use Rattle.ns_monitor.specs.Names.{ScanAndRelease, ScanCells, SeatOf, Subject, TestCells, TestLast, Truths, Visit, Wait, Waiter, Walk, Word, left_of, load_place, meets_at, quiet_place, row_in, scan_place, test_place, the, unmet_by, wait_first, woken_of}
 
 -- ---- cells one after another
@@ -34,9 +34,9 @@ StandsAt truths None walk me = IsAtPlace truths walk me
 StandsAt {C} {N} truths (Some first) walk me = (first ≡ walk) × IsAtRest truths me × IsFirst N first × PlaceFits truths (Some first) (the me.0).at.held
 
 -- the seat has made steps of a call that begins so; or that call is yet to begin, and nothing has changed
-abbrev pub HasGone : {C : Type 0} {N : ℕ} → Option (Walk C) → Option (Walk C) → GateView C N → GateView C N → Type 0
-HasGone begins None v w = HasSince begins v w
-HasGone begins (Some first) v w = (begins ≡ Some first) × (w ≡ v)
+abbrev pub HasGone : {C : Type 0} {N : ℕ} → Option (Walk C) → Option (Walk C) → Bounded C N → Bounded C N → Type 0
+HasGone begins None old new = HasMadeSteps begins old new
+HasGone begins (Some first) old new = (begins ≡ Some first) × (new ≡ old)
 
 -- so many cells of a row of N were read into another
 pub record AreRead (N : ℕ) (row read : List ℕ) (count : ℕ) : Type 0 where
@@ -44,13 +44,13 @@ pub record AreRead (N : ℕ) (row read : List ℕ) (count : ℕ) : Type 0 where
   pub cells : (k : ℕ) → k < count → slice_index read k ≡ slice_index row k
 
 -- A call has loaded so many cells of the section in hand. The section is as it was, nothing was committed, and the queues are as they were, if they are in hand as they stood.
-pub record HasLoaded {C : Type 0} {N : ℕ} (truths : Truths C) (begins left : Option (Walk C)) (walk : Walk C) (count : ℕ) (row : List ℕ) (me now : SeatOf C N) : Type 0 where
-  pub at : StandsAt truths left (loading_at N walk count) now
-  pub since : HasGone begins left (the me.0) (the now.0)
-  pub held : (the now.0).at.held ≡ (the me.0).at.held
-  pub mine : (the now.0).told.mine ≡ (the me.0).told.mine
-  pub taken : HasUnchangedQueues me → HasUnchangedQueues now × ((the now.0).stood ≡ (the me.0).stood)
-  pub read : AreRead N (row_in (the me.0).at.held) row count
+pub record HasLoaded {C : Type 0} {N : ℕ} (truths : Truths C) (begins left : Option (Walk C)) (walk : Walk C) (count : ℕ) (row : List ℕ) (old new : Bounded C N) : Type 0 where
+  pub at : StandsAt truths left (loading_at N walk count) new.me
+  pub since : HasGone begins left old new
+  pub held : (the new.me.0).at.held ≡ (the old.me.0).at.held
+  pub mine : (the new.me.0).told.mine ≡ (the old.me.0).told.mine
+  pub taken : HasUnchangedQueues old.me → HasUnchangedQueues new.me × ((the new.me.0).stood ≡ (the old.me.0).stood)
+  pub read : AreRead N (row_in (the old.me.0).at.held) row count
 
 -- ---- the test of a wait
 

@@ -1,10 +1,12 @@
 //! An acquire that may have to wait: in the lock list, for its flag.
 
 ghost use Rattle.std.specs.Prelude.{◌≡◌, None};
-ghost use Rattle.ns_monitor.specs.Prelude.{AcquireLoad, AcquiresBy, Arm, HasAcquired, HasSince, HasUnchangedQueues, InAcquire, IsAtPlace, IsNumberOf, IsPackable, the};
+ghost use Rattle.ns_monitor.specs.Prelude.{AcquireLoad, AcquiresBy, Arm, HasAcquired, HasMadeSteps, HasSince, HasUnchangedQueues, InAcquire, IsAtPlace, IsNumberOf, IsPackable, the};
 
 use crate::going::Going;
+use crate::loops::{await_flag, go_or_take, put_back};
 use crate::monitor::Monitor;
+use ns_gate::bound::Bound;
 use ns_gate::gate::GateSeat;
 use ns_gate::queues::{Returning, Turned};
 use ns_model::condition::Condition;
@@ -41,93 +43,80 @@ impl<C: Condition<N>, const N: usize> Monitor<C, N> {
         ensures acquired { HasAcquired C.means (Aim.ForLock mode) result.me }
     {
         let mut seat = seat;
+        let mut bound = Bound::new(&self.gate, &mut seat, number);
         let aim = Aim::ForLock(mode);
-        self.acquire_on(rt, &mut seat, number, aim, Arrival::AsFresh, last);
+        acquire_on(rt, &mut bound, aim, Arrival::AsFresh, last);
+        bound.end();
         seat
     }
+}
 
-    /// Acquires the lock for this, and waits in the lock list as often as it has to.
-    pub(crate) fn acquire<R: Wait>(
-        &self,
-        rt: &R,
-        seat: &mut GateSeat<C, N>,
-        number: u8,
-        aim: Aim<C>,
-        arrival: Arrival,
-    )
-        requires of { seat.old.table_id ≡ self.now }
-        requires number { IsNumberOf number seat.old.me }
-        requires at { IsAtPlace C.means (InAcquire aim (AcquireLoad arrival)) seat.old.me }
-        ensures seat { seat.new.table_id ≡ self.now }
-        ensures since { HasSince None (the seat.old.me.0) (the seat.new.me.0) }
-        ensures acquired { HasAcquired C.means aim seat.new.me }
-    {
-        let word = self.gate.load(seat, None);
-        self.acquire_on(rt, seat, number, aim, arrival, word);
-    }
+/// Acquires the lock for this, and waits in the lock list as often as it has to.
+pub(crate) fn acquire<R: Wait, C: Condition<N>, const N: usize>(
+    rt: &R,
+    seat: &mut Bound<'_, C, N>,
+    aim: Aim<C>,
+    arrival: Arrival,
+)
+    requires at { IsAtPlace C.means (InAcquire aim (AcquireLoad arrival)) seat.old.me }
+    ensures since { HasMadeSteps None seat.old seat.new }
+    ensures acquired { HasAcquired C.means aim seat.new.me }
+{
+    let word = seat.load(None);
+    acquire_on(rt, seat, aim, arrival, word);
+}
 
-    /// The same by the word last seen.
-    fn acquire_on<R: Wait>(
-        &self,
-        rt: &R,
-        seat: &mut GateSeat<C, N>,
-        number: u8,
-        aim: Aim<C>,
-        first: Arrival,
-        last: LockWord,
-    )
-        requires of { seat.old.table_id ≡ self.now }
-        requires number { IsNumberOf number seat.old.me }
-        requires last { IsPackable last }
-        requires at { AcquiresBy C.means aim first last seat.old.me }
-        ensures seat { seat.new.table_id ≡ self.now }
-        ensures since { HasSince None (the seat.old.me.0) (the seat.new.me.0) }
-        ensures acquired { HasAcquired C.means aim seat.new.me }
-    {
-        let mut arrival = first;
-        let mut word = last;
-        for _ in rt.forever() {
-            let going = Going::Acquiring(aim, arrival);
-            let place = Walk::InAcquire(aim, AcquirePlace::AcquireLoad(arrival));
-            let Some(taken) = self.go_or_take(rt, seat, going, place, word) else {
-                return;
-            };
-            arrival = self.queue(rt, seat, number, aim, arrival, taken);
-            word = self.gate.load(seat, None);
-        }
-        unreachable!()
+/// The same by the word last seen.
+fn acquire_on<R: Wait, C: Condition<N>, const N: usize>(
+    rt: &R,
+    seat: &mut Bound<'_, C, N>,
+    aim: Aim<C>,
+    first: Arrival,
+    last: LockWord,
+)
+    requires last { IsPackable last }
+    requires at { AcquiresBy C.means aim first last seat.old.me }
+    ensures since { HasMadeSteps None seat.old seat.new }
+    ensures acquired { HasAcquired C.means aim seat.new.me }
+{
+    let mut arrival = first;
+    let mut word = last;
+    for _ in rt.forever() {
+        let going = Going::Acquiring(aim, arrival);
+        let place = Walk::InAcquire(aim, AcquirePlace::AcquireLoad(arrival));
+        let Some(taken) = go_or_take(rt, seat, going, place, word) else {
+            return;
+        };
+        arrival = queue(rt, seat, aim, arrival, taken);
+        word = seat.load(None);
     }
+    unreachable!()
+}
 
-    /// Puts the seat into the lock list, with the queues in hand, and waits until it is woken. Answers
-    /// how it comes to acquire then.
-    fn queue<R: Wait>(
-        &self,
-        rt: &R,
-        seat: &mut GateSeat<C, N>,
-        number: u8,
-        aim: Aim<C>,
-        arrival: Arrival,
-        word: LockWord,
-    ) -> Arrival
-        requires of { seat.old.table_id ≡ self.now }
-        requires number { IsNumberOf number seat.old.me }
-        requires word { IsPackable word }
-        requires at { IsAtPlace C.means (InAcquire aim (Arm arrival word)) seat.old.me }
-        requires taken { HasUnchangedQueues seat.old.me }
-        ensures seat { seat.new.table_id ≡ self.now }
-        ensures since { HasSince None (the seat.old.me.0) (the seat.new.me.0) }
-        ensures woken { IsAtPlace C.means (InAcquire aim (AcquireLoad result)) seat.new.me }
-    {
-        let mode = aim.mode();
-        self.gate.arm_flag(seat, number);
-        let bits = self.gate.queue_in_hand(seat, number, mode, arrival);
-        let returning = Returning::Changed(Change::QueueSelf(mode, arrival));
-        let place = Walk::InAcquire(aim, AcquirePlace::Queue(arrival, word.parts()));
-        let turned = Turned { some: false, bits };
-        self.put_back(rt, seat, returning, place, word, turned);
-        let tries = arrival.tries();
-        let place = Walk::InAcquire(aim, AcquirePlace::AwaitWake(tries));
-        let flag = self.await_flag(rt, seat, number, place);
-        arrival_of(tries, flag)
-    }
+/// Puts the seat into the lock list, with the queues in hand, and waits until it is woken. Answers
+/// how it comes to acquire then.
+fn queue<R: Wait, C: Condition<N>, const N: usize>(
+    rt: &R,
+    seat: &mut Bound<'_, C, N>,
+    aim: Aim<C>,
+    arrival: Arrival,
+    word: LockWord,
+) -> Arrival
+    requires word { IsPackable word }
+    requires at { IsAtPlace C.means (InAcquire aim (Arm arrival word)) seat.old.me }
+    requires taken { HasUnchangedQueues seat.old.me }
+    ensures since { HasMadeSteps None seat.old seat.new }
+    ensures woken { IsAtPlace C.means (InAcquire aim (AcquireLoad result)) seat.new.me }
+{
+    let mode = aim.mode();
+    seat.arm_flag();
+    let bits = seat.queue_in_hand(mode, arrival);
+    let returning = Returning::Changed(Change::QueueSelf(mode, arrival));
+    let place = Walk::InAcquire(aim, AcquirePlace::Queue(arrival, word.parts()));
+    let turned = Turned { some: false, bits };
+    put_back(rt, seat, returning, place, word, turned);
+    let tries = arrival.tries();
+    let place = Walk::InAcquire(aim, AcquirePlace::AwaitWake(tries));
+    let flag = await_flag(rt, seat, place);
+    arrival_of(tries, flag)
 }

@@ -1,12 +1,13 @@
 //! What a call does by the lock word that it has seen last, as long as it hasn't the waiter queues.
 
-ghost use Rattle.std.specs.Prelude.{◌≡◌, ⊤, None, Some, true, IfErr};
-ghost use Rattle.ns_monitor.specs.Prelude.{CameByGuess, CanStep, Decides, HasBegunBy, HasReached, HasSince, IsAtRest, IsFirst, IsPackable, MayGoAlone, Performed, PlaceFits, Saw, WantsNext, WentAtOnce, Word, asked_of, going_act, going_of, got_of, may_go, taking_for, the, tried};
+ghost use Rattle.std.specs.Prelude.{◌≡◌, ⊤, None, Some, true, if◌then◌else◌};
+ghost use Rattle.ns_monitor.specs.Prelude.{Busy, CanStep, Decides, HasAnswered, HasBegunBy, HasComeBy, HasGuessedTo, HasMadeSteps, HasReached, HasTried, IsAtRest, IsFirst, IsPackable, MayGoAlone, PlaceFits, Saw, Succeeded, TryLock, WantsNext, WentAtOnce, Word, asked_of, going_act, going_of, got_of, may_go, taking_for, the, trying};
 
-use crate::monitor::Monitor;
+use ns_gate::bound::Bound;
 use ns_gate::gate::GateSeat;
 use ns_model::condition::Condition;
-use ns_word::act::Act;
+use ns_model::event::Mode;
+use ns_word::act::{Act, Found};
 use ns_word::number::LockWord;
 use ns_word::wait::Aim;
 use ns_word::walk::Walk;
@@ -73,7 +74,7 @@ macro_rules! released {
         } = $monitor.begin_unlock($held, $releasing);
         let seat = match last {
             None => seat,
-            Some(last) => $monitor.unlock_slow($rt, seat, $releasing, last),
+            Some(last) => $monitor.unlock_slow($rt, seat, number, $releasing, last),
         };
         seated(seat, number, alone)
     }};
@@ -142,151 +143,153 @@ impl<C: Copy> Going<C> {
     }
 }
 
-impl<C: Condition<N>, const N: usize> Monitor<C, N> {
-    /// Makes the exchange by which a call goes without the waiter queues, where the word is still the
-    /// one last seen; else tells the word.
-    #[inline(always)]
-    pub(crate) fn exchange_to_go(
-        &self,
-        seat: &mut GateSeat<C, N>,
-        going: Going<C>,
-        last: LockWord,
-    ) -> Result<(), LockWord>
-        requires of { seat.old.table_id ≡ self.now }
-        requires last { IsPackable last }
-        requires may { may_go going last ≡ true }
-        requires can { CanStep C.means None (going_act going last) seat.old.me }
-        ensures seat { seat.new.table_id ≡ self.now }
-        ensures word { IfErr result IsPackable }
-        ensures did { Performed C.means None (going_act going last) (tried result) seat.old.me seat.new.me }
-    {
-        match going {
-            Going::Acquiring(aim, arrival) => {
-                self.gate.exchange_to_acquire(seat, aim, arrival, last)
-            }
-            Going::Leaving(releasing) => self.gate.exchange_to_release(seat, releasing, last),
-            Going::Changing => unreachable!(),
-        }
+/// Makes the exchange by which a call goes without the waiter queues, where the word is still the
+/// one last seen; else tells the word.
+#[inline(always)]
+pub(crate) fn exchange_to_go<C: Condition<N>, const N: usize>(
+    seat: &mut Bound<'_, C, N>,
+    going: Going<C>,
+    last: LockWord,
+) -> Result<(), LockWord>
+    requires last { IsPackable last }
+    requires may { may_go going last ≡ true }
+    requires can { CanStep C.means None (going_act going last) seat.old.me }
+    ensures { HasTried C.means (going_act going last) Found.Made result seat.old seat.new }
+{
+    match going {
+        Going::Acquiring(aim, arrival) => seat.exchange_to_acquire(aim, arrival, last),
+        Going::Leaving(releasing) => seat.exchange_to_release(releasing, last),
+        Going::Changing => unreachable!(),
     }
+}
 
-    /// Begins a call by the exchange by which it would go where the lock word is the one that is guessed:
-    /// then the exchange is both, the load with which the call begins and what it does behind that. Else
-    /// it is the load alone, and tells the word.
-    #[inline(always)]
-    fn guess_to_go(
-        &self,
-        seat: &mut GateSeat<C, N>,
-        walk: Walk<C>,
-        going: Going<C>,
-        guess: LockWord,
-    ) -> Result<(), LockWord>
-        requires of { seat.old.table_id ≡ self.now }
-        requires can { CanStep C.means (Some walk) Act.LoadWord seat.old.me }
-        requires guess { IsPackable guess }
-        requires may { may_go going guess ≡ true }
-        requires next { WantsNext N walk guess (going_act going guess) }
-        ensures seat { seat.new.table_id ≡ self.now }
-        ensures word { IfErr result IsPackable }
-        ensures came { CameByGuess C.means walk guess (going_act going guess) result seat.old.me seat.new.me }
-    {
-        match going {
-            Going::Acquiring(aim, arrival) => {
-                self.gate.acquire_guessing(seat, walk, aim, arrival, guess)
-            }
-            Going::Leaving(releasing) => self.gate.release_guessing(seat, walk, releasing, guess),
-            Going::Changing => unreachable!(),
-        }
+/// Begins a call by the exchange by which it would go where the lock word is the one that is guessed:
+/// then the exchange is both, the load with which the call begins and what it does behind that. Else
+/// it is the load alone, and tells the word.
+#[inline(always)]
+fn guess_to_go<C: Condition<N>, const N: usize>(
+    seat: &mut Bound<'_, C, N>,
+    walk: Walk<C>,
+    going: Going<C>,
+    guess: LockWord,
+) -> Result<(), LockWord>
+    requires can { CanStep C.means (Some walk) Act.LoadWord seat.old.me }
+    requires guess { IsPackable guess }
+    requires may { may_go going guess ≡ true }
+    requires next { WantsNext N walk guess (going_act going guess) }
+    ensures { HasGuessedTo C.means walk guess (going_act going guess) result seat.old seat.new }
+{
+    match going {
+        Going::Acquiring(aim, arrival) => seat.acquire_guessing(walk, aim, arrival, guess),
+        Going::Leaving(releasing) => seat.release_guessing(walk, releasing, guess),
+        Going::Changing => unreachable!(),
     }
+}
 
-    /// Begins a call that loads the lock word. Where the caller was alone with the lock it guesses that it
-    /// still is, and where that is right it has gone at once. Else answers the word that it began with.
-    /// `alone` then says whether that has to do with no other caller.
-    ///
-    /// A load that follows an exchange of the same word waits for that to end, which a right guess spares.
-    /// A wrong one costs what an exchange takes more than a load.
-    ///
-    /// It guesses only where the caller's last lock, try or release began with such a word too. So past
-    /// waiters and beside other readers a caller guesses wrong once, and then loads first until the word is
-    /// such a one again.
-    #[inline(always)]
-    pub(crate) fn begin_to_go(
-        &self,
-        seat: &mut GateSeat<C, N>,
-        walk: Walk<C>,
-        going: Going<C>,
-        alone: &mut bool,
-    ) -> Result<(), LockWord>
-        requires of { seat.old.table_id ≡ self.now }
-        requires alone { MayGoAlone going }
-        requires can { CanStep C.means (Some walk) Act.LoadWord seat.old.me }
-        requires next { (word : Word) → may_go going word ≡ true → WantsNext N walk word (going_act going word) }
-        ensures seat { seat.new.table_id ≡ self.now }
-        ensures began { HasBegunBy C.means walk going result seat.old.me seat.new.me }
-    {
-        let guess = going.word_alone();
-        if *alone {
-            let tried = self.guess_to_go(seat, walk, going, guess);
-            *alone = tried.is_ok();
-            return tried;
-        }
-        let word = self.gate.load(seat, Some(walk));
-        *alone = word.number() == guess.number();
-        Err(word)
+/// Begins a call that loads the lock word. Where the caller was alone with the lock it guesses that it
+/// still is, and where that is right it has gone at once. Else answers the word that it began with.
+/// `alone` then says whether that has to do with no other caller.
+///
+/// A load that follows an exchange of the same word waits for that to end, which a right guess spares.
+/// A wrong one costs what an exchange takes more than a load.
+///
+/// It guesses only where the caller's last lock, try or release began with such a word too. So past
+/// waiters and beside other readers a caller guesses wrong once, and then loads first until the word is
+/// such a one again.
+#[inline(always)]
+fn begin_to_go<C: Condition<N>, const N: usize>(
+    seat: &mut Bound<'_, C, N>,
+    walk: Walk<C>,
+    going: Going<C>,
+    alone: &mut bool,
+) -> Result<(), LockWord>
+    requires alone { MayGoAlone going }
+    requires can { CanStep C.means (Some walk) Act.LoadWord seat.old.me }
+    requires next { (word : Word) → may_go going word ≡ true → WantsNext N walk word (going_act going word) }
+    ensures { HasComeBy (HasBegunBy C.means walk going result) seat.old seat.new }
+{
+    let guess = going.word_alone();
+    if *alone {
+        let tried = guess_to_go(seat, walk, going, guess);
+        *alone = tried.is_ok();
+        return tried;
     }
+    let word = seat.load(Some(walk));
+    *alone = word.number() == guess.number();
+    Err(word)
+}
 
-    /// Goes on by the word that the call began with, by one exchange where that lets it and no other step
-    /// comes between.
-    #[inline(always)]
-    fn go_by(
-        &self,
-        seat: &mut GateSeat<C, N>,
-        going: Going<C>,
-        _walk: Walk<C>,
-        word: LockWord,
-    ) -> Option<LockWord>
-        requires of { seat.old.table_id ≡ self.now }
-        requires decides { Decides _walk }
-        requires going { going ≡ going_of _walk }
-        requires word { IsPackable word }
-        requires at { HasReached C.means (asked_of _walk) (got_of N _walk (Saw word)) seat.old.me }
-        ensures seat { seat.new.table_id ≡ self.now }
-        ensures since { HasSince None (the seat.old.me.0) (the seat.new.me.0) }
-        ensures went { WentAtOnce C.means _walk result seat.new.me }
-    {
-        if !going.may_go(word) {
-            return Some(word);
-        }
-        match self.exchange_to_go(seat, going, word) {
-            Ok(()) => None,
-            Err(other) => Some(other),
-        }
+/// Goes on by the word that the call began with, by one exchange where that lets it and no other step
+/// comes between.
+#[inline(always)]
+fn go_by<C: Condition<N>, const N: usize>(
+    seat: &mut Bound<'_, C, N>,
+    going: Going<C>,
+    _walk: Walk<C>,
+    word: LockWord,
+) -> Option<LockWord>
+    requires decides { Decides _walk }
+    requires going { going ≡ going_of _walk }
+    requires word { IsPackable word }
+    requires at { HasReached C.means (asked_of _walk) (got_of N _walk (Saw word)) seat.old.me }
+    ensures since { HasMadeSteps None seat.old seat.new }
+    ensures went { WentAtOnce C.means _walk result seat.new.me }
+{
+    if !going.may_go(word) {
+        return Some(word);
     }
+    match exchange_to_go(seat, going, word) {
+        Ok(()) => None,
+        Err(other) => Some(other),
+    }
+}
 
-    /// Begins a call that loads the word first, and goes by one exchange where the word lets it and no
-    /// other step comes between. Else answers the word that it saw last, with which a call goes on that
-    /// may have to wait.
-    #[inline(always)]
-    pub(crate) fn go_at_once(
-        &self,
-        seat: &mut GateSeat<C, N>,
-        going: Going<C>,
-        walk: Walk<C>,
-        alone: &mut bool,
-    ) -> Option<LockWord>
-        requires of { seat.old.table_id ≡ self.now }
-        requires rest { IsAtRest C.means seat.old.me }
-        requires decides { Decides walk }
-        requires first { IsFirst N walk }
-        requires fits { PlaceFits C.means (Some walk) (the seat.old.me.0).at.held }
-        requires going { going ≡ going_of walk }
-        requires alone { MayGoAlone going }
-        ensures seat { seat.new.table_id ≡ self.now }
-        ensures since { HasSince (Some walk) (the seat.old.me.0) (the seat.new.me.0) }
-        ensures went { WentAtOnce C.means walk result seat.new.me }
-    {
-        match self.begin_to_go(seat, walk, going, alone) {
-            Ok(()) => None,
-            Err(word) => self.go_by(seat, going, walk, word),
-        }
+/// Begins a call that loads the word first, and goes by one exchange where the word lets it and no
+/// other step comes between. Else answers the word that it saw last, with which a call goes on that
+/// may have to wait.
+#[inline(always)]
+pub(crate) fn go_at_once<C: Condition<N>, const N: usize>(
+    seat: &mut Bound<'_, C, N>,
+    going: Going<C>,
+    walk: Walk<C>,
+    alone: &mut bool,
+) -> Option<LockWord>
+    requires rest { IsAtRest C.means seat.old.me }
+    requires decides { Decides walk }
+    requires first { IsFirst N walk }
+    requires fits { PlaceFits C.means (Some walk) (the seat.old.me.0).at.held }
+    requires going { going ≡ going_of walk }
+    requires alone { MayGoAlone going }
+    ensures since { HasMadeSteps (Some walk) seat.old seat.new }
+    ensures went { WentAtOnce C.means walk result seat.new.me }
+{
+    match begin_to_go(seat, walk, going, alone) {
+        Ok(()) => None,
+        Err(word) => go_by(seat, going, walk, word),
     }
+}
+
+/// Tries to acquire the lock in this mode: loads its word, and makes at most one exchange. One exchange
+/// may be both; one that guessed wrong is the load.
+#[inline(always)]
+pub(crate) fn try_acquire<C: Condition<N>, const N: usize>(
+    seat: &mut Bound<'_, C, N>,
+    mode: Mode,
+    alone: &mut bool,
+) -> bool
+    requires rest { IsAtRest C.means seat.old.me }
+    requires free { (the seat.old.me.0).at.held ≡ None }
+    ensures since { HasMadeSteps (Some (trying mode)) seat.old seat.new }
+    ensures tried { HasAnswered C.means (TryLock mode) (if result then Succeeded else Busy) seat.new.me }
+{
+    let aim = Aim::ForLock(mode);
+    let going = Going::Acquiring(aim, Arrival::AsFresh);
+    let Err(word) = begin_to_go(seat, Walk::try_lock(mode), going, alone) else {
+        return true;
+    };
+    if !word.may_acquire(mode, Arrival::AsFresh) {
+        return false;
+    }
+    seat.exchange_to_acquire(aim, Arrival::AsFresh, word)
+        .is_ok()
 }

@@ -1,14 +1,16 @@
 //! The monitor, and its calls.
 
-ghost use Rattle.std.specs.Prelude.{◌≡◌, ◌<◌, ◌≤◌, ◌++◌, [], ◌∷◌, if◌then◌else◌, None, Some, true, All, IfErr, IfOk, OnOk, length, slice_index, slice_set};
+ghost use Rattle.std.specs.Prelude.{◌≡◌, ◌<◌, ◌≤◌, ◌++◌, [], ◌∷◌, None, Some, true, All, IfErr, IfOk, OnOk, length, slice_index, slice_set};
 ghost use Rattle.ns_model.specs.declared.event.Exit.TheVariants as TheExit;
-ghost use Rattle.ns_gate.specs.Prelude.{Read, Write, TryLock, Busy, Succeeded, QuietWriter, Reader, Writer, InHand, HasMode, section_of, mode_released, HasAnswered, HasSince, IsAtRest, RefusesGate, ShareTheLock, the};
+ghost use Rattle.ns_gate.specs.Prelude.{Read, Write, QuietWriter, Reader, Writer, InHand, HasMode, section_of, mode_released, IsAtRest, RefusesGate, ShareTheLock, the};
 ghost use Rattle.ns_monitor.specs.Prelude.{AreNew, AreOfOneHistory, EndsAs, Grows, HasBegun, HasLearned, HasLocked, HasSeenMore, IsFreshIn, IsNumberOf, IsQuietFor, WentAtOnce, getting, judging, known_of, locking, releasing_by, setting, trying};
 
 use crate::caller::{Caller, Free, Hand, ReadHeld, Renewed, Seat, Section, WriteHeld};
-use crate::going::{Begun, Going};
+use crate::cells::load_to_judge;
+use crate::going::{Begun, Going, go_at_once, try_acquire};
 use crate::handle::Acting;
 use crate::{Closed, Fault};
+use ns_gate::bound::Bound;
 use ns_gate::gate::{Gate, GateSeat};
 use ns_model::condition::Condition;
 use ns_model::event::Mode;
@@ -102,30 +104,6 @@ impl<C: Condition<N>, const N: usize> Monitor<C, N> {
         Ok((Monitor { gate }, given))
     }
 
-    /// Tries to acquire the lock in this mode: loads its word, and makes at most one exchange. One exchange
-    /// may be both; one that guessed wrong is the load.
-    #[inline(always)]
-    fn try_acquire(&self, seat: &mut GateSeat<C, N>, mode: Mode, alone: &mut bool) -> bool
-        requires of { seat.old.table_id ≡ self.now }
-        requires rest { IsAtRest C.means seat.old.me }
-        requires free { (the seat.old.me.0).at.held ≡ None }
-        ensures seat { seat.new.table_id ≡ self.now }
-        ensures since { HasSince (Some (trying mode)) (the seat.old.me.0) (the seat.new.me.0) }
-        ensures tried { HasAnswered C.means (TryLock mode) (if result then Succeeded else Busy) seat.new.me }
-    {
-        let aim = Aim::ForLock(mode);
-        let going = Going::Acquiring(aim, Arrival::AsFresh);
-        let Err(word) = self.begin_to_go(seat, Walk::try_lock(mode), going, alone) else {
-            return true;
-        };
-        if !word.may_acquire(mode, Arrival::AsFresh) {
-            return false;
-        }
-        self.gate
-            .exchange_to_acquire(seat, aim, Arrival::AsFresh, word)
-            .is_ok()
-    }
-
     /// Tries to acquire the lock for such a section.
     #[inline(always)]
     fn try_lock_as<H: Renewed<C, N>>(&self, seat: Seat<C, N>) -> Result<Caller<H, C, N>, Seat<C, N>>
@@ -139,7 +117,10 @@ impl<C: Condition<N>, const N: usize> Monitor<C, N> {
             hand,
             mut alone,
         } = seat;
-        if self.try_acquire(&mut seat, H::mode(), &mut alone) {
+        let mut bound = Bound::new(&self.gate, &mut seat, number);
+        let went = try_acquire(&mut bound, H::mode(), &mut alone);
+        bound.end();
+        if went {
             Ok(holding(seat, number, alone))
         } else {
             Err(Caller {
@@ -195,7 +176,9 @@ impl<C: Condition<N>, const N: usize> Monitor<C, N> {
             mut alone,
         } = seat;
         let going = Going::Acquiring(Aim::ForLock(mode), Arrival::AsFresh);
-        let last = self.go_at_once(&mut seat, going, Walk::lock(mode), &mut alone);
+        let mut bound = Bound::new(&self.gate, &mut seat, number);
+        let last = go_at_once(&mut bound, going, Walk::lock(mode), &mut alone);
+        bound.end();
         Begun {
             seat,
             number,
@@ -235,8 +218,11 @@ impl<C: Condition<N>, const N: usize> Monitor<C, N> {
         ensures value { InHand held.old.held (λ section. result ≡ slice_index section.row i) }
     {
         let cell = i as u8;
-        self.gate
-            .load_cell(&mut held.seat, Some(Walk::get(cell)), cell)
+        let number = held.number;
+        let mut seat = Bound::new(&self.gate, &mut held.seat, number);
+        let value = seat.load_cell(Some(Walk::get(cell)), cell);
+        seat.end();
+        value
     }
 
     /// Sets a cell of the section's row to a value.
@@ -251,9 +237,11 @@ impl<C: Condition<N>, const N: usize> Monitor<C, N> {
         ensures section { InHand held.old.held (λ section. held.new.held ≡ Some (record section { row = slice_set section.row i value })) }
     {
         let cell = i as u8;
-        let first = Some(Walk::set(cell, value));
-        let old = self.gate.load_cell(&mut held.seat, first, cell);
-        self.gate.store_cell(&mut held.seat, cell, value);
+        let number = held.number;
+        let mut seat = Bound::new(&self.gate, &mut held.seat, number);
+        let old = seat.load_cell(Some(Walk::set(cell, value)), cell);
+        seat.store_cell(cell, value);
+        seat.end();
         held.hand.save(i, old);
     }
 
@@ -264,7 +252,10 @@ impl<C: Condition<N>, const N: usize> Monitor<C, N> {
         ensures saw { HasSeenMore C.means (judging N) held.old held.new }
         ensures quiet { InHand held.old.held (λ section. result ≡ C.means.quiet section.before section.row) }
     {
-        let row = self.load_to_judge(&mut held.seat);
+        let number = held.number;
+        let mut seat = Bound::new(&self.gate, &mut held.seat, number);
+        let row = load_to_judge(&mut seat);
+        seat.end();
         let before = held.hand.before(&row);
         C::quiet(&before, &row)
     }
@@ -363,7 +354,9 @@ impl<C: Condition<N>, const N: usize> Monitor<C, N> {
             mut alone,
         } = held;
         let going = Going::Leaving(releasing);
-        let last = self.go_at_once(&mut seat, going, Walk::release(releasing), &mut alone);
+        let mut bound = Bound::new(&self.gate, &mut seat, number);
+        let last = go_at_once(&mut bound, going, Walk::release(releasing), &mut alone);
+        bound.end();
         Begun {
             seat,
             number,

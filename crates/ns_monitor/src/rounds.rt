@@ -2,16 +2,18 @@
 //! tests.
 
 ghost use Rattle.std.specs.Prelude.{◌≡◌, ◌⊎◌, ◌||◌, is_some, None, Some, IfSome, false, true};
-ghost use Rattle.ns_monitor.specs.Prelude.{Answered, Await, EndedBy, Grows, HadLooked, HasAnswered, HasReached, HasSince, HasWaitedFor, IfAnswered, InQueuing, InWait, IsAtPlace, IsForCondition, IsFreshIn, IsMade, IsNumberOf, Load, OnCondition, QueuesOrEnds, is_limited, look_or_queue, row_in, the};
+ghost use Rattle.ns_monitor.specs.Prelude.{Answered, Await, EndedBy, Grows, HadLooked, HasAnswered, HasMadeSteps, HasReached, HasWaitedFor, IfAnswered, InQueuing, InWait, IsAtPlace, IsForCondition, IsFreshIn, IsMade, Load, OnCondition, QueuesOrEnds, is_limited, look_or_queue, row_in, the};
 ghost use Rattle.ns_monitor.specs.Prelude.{wait_first, waiting, waits_by};
 ghost use Rattle.ns_note.specs.Known.{Grows as EnvGrows};
 
 use crate::caller::{Caller, Renewed};
+use crate::cells::test;
 use crate::monitor::{Monitor, holding};
 use crate::scanning::Queuing;
+use crate::waiting::{come_back, queue_to_wait};
 use crate::watching::{Looker, NoWatch, Watch, watched};
 use ns_env::limits::{Cause, Limits};
-use ns_gate::gate::GateSeat;
+use ns_gate::bound::Bound;
 use ns_model::condition::Condition;
 use ns_model::event::Answer;
 use ns_note::env::Env;
@@ -21,89 +23,74 @@ use ns_word::wait::{Outcome, Subject, Visit, Wait as Waiting, answer_of};
 use ns_word::walk::Walk;
 use std::sync::Wait;
 
-impl<C: Condition<N>, const N: usize> Monitor<C, N> {
-    /// Looks, before a wait queues, at what may end it early, if anything may. Answers what the look
-    /// has shown; then the wait is over.
-    fn look_before<W: Watch>(
-        &self,
-        seat: &mut GateSeat<C, N>,
-        number: u8,
-        wait: Waiting<C>,
-        again: bool,
-        watch: &mut W,
-    ) -> Option<Cause>
-        requires of { seat.old.table_id ≡ self.now }
-        requires number { IsNumberOf number seat.old.me }
-        requires watches { W.watches watch.old wait.limits }
-        requires at { HasReached C.means (Await wait) (look_or_queue wait again) seat.old.me }
-        ensures seat { seat.new.table_id ≡ self.now }
-        ensures since { HasSince None (the seat.old.me.0) (the seat.new.me.0) }
-        ensures looked { W.since watch.old watch.new }
-        ensures shown { is_limited wait.limits ≡ true → W.shows watch.old watch.new wait.limits result }
-        ensures ends { IfSome result (λ cause. is_limited wait.limits ≡ true) }
-        ensures mine { (the seat.new.me.0).told.mine ≡ (the seat.old.me.0).told.mine }
-        ensures leads { QueuesOrEnds C.means wait again result seat.old.me seat.new.me }
-        ensures fresh { IsFreshIn N wait.mode (the seat.old.me.0).at.held → IsFreshIn N wait.mode (the seat.new.me.0).at.held }
-    {
-        if !wait.limits.is_some() {
-            return None;
-        }
-        let shown = watch.look(wait.limits);
-        self.gate.look(seat, number, wait.limits, again, shown);
-        shown
+/// Looks, before a wait queues, at what may end it early, if anything may. Answers what the look
+/// has shown; then the wait is over.
+fn look_before<W: Watch, C: Condition<N>, const N: usize>(
+    seat: &mut Bound<'_, C, N>,
+    wait: Waiting<C>,
+    again: bool,
+    watch: &mut W,
+) -> Option<Cause>
+    requires watches { W.watches watch.old wait.limits }
+    requires at { HasReached C.means (Await wait) (look_or_queue wait again) seat.old.me }
+    ensures since { HasMadeSteps None seat.old seat.new }
+    ensures looked { W.since watch.old watch.new }
+    ensures shown { is_limited wait.limits ≡ true → W.shows watch.old watch.new wait.limits result }
+    ensures ends { IfSome result (λ cause. is_limited wait.limits ≡ true) }
+    ensures mine { (the seat.new.me.0).told.mine ≡ (the seat.old.me.0).told.mine }
+    ensures leads { QueuesOrEnds C.means wait again result seat.old.me seat.new.me }
+    ensures fresh { IsFreshIn N wait.mode (the seat.old.me.0).at.held → IsFreshIn N wait.mode (the seat.new.me.0).at.held }
+{
+    if !wait.limits.is_some() {
+        return None;
     }
+    let shown = watch.look(wait.limits);
+    seat.look(wait.limits, again, shown);
+    shown
+}
 
-    /// Queues, and waits until the wait's condition is true, or the wait is ended early. The condition is false of
-    /// this row of the section in hand.
-    fn wait_on<R: Wait, W: Watch>(
-        &self,
-        rt: &R,
-        seat: &mut GateSeat<C, N>,
-        number: u8,
-        wait: Waiting<C>,
-        row: &mut [u64; N],
-        watch: &mut W,
-    ) -> Answer
-        requires of { seat.old.table_id ≡ self.now }
-        requires number { IsNumberOf number seat.old.me }
-        requires on { IsForCondition wait.on }
-        requires watches { W.watches watch.old wait.limits }
-        requires row { row.old ≡ row_in (the seat.old.me.0).at.held }
-        requires at { IsAtPlace C.means (InWait wait (InQueuing false Load)) seat.old.me }
-        ensures seat { seat.new.table_id ≡ self.now }
-        ensures since { HasSince None (the seat.old.me.0) (the seat.new.me.0) }
-        ensures looked { W.since watch.old watch.new }
-        ensures ended { IfAnswered result (λ cause. (is_limited wait.limits ≡ true) × W.shows watch.old watch.new wait.limits (Some cause)) }
-        ensures answered { HasAnswered C.means (Await wait) (Answered result) seat.new.me }
-        ensures fresh { IsFreshIn N wait.mode (the seat.new.me.0).at.held }
-    {
-        let Subject::OnCondition(condition) = wait.on else {
-            unreachable!()
-        };
-        let mut again = false;
-        for _ in rt.forever() {
-            let queuing = Queuing {
-                number,
-                wait,
-                again,
-            };
-            self.queue_to_wait(rt, seat, queuing, row);
-            let outcome = self.come_back(rt, seat, number, wait, watch);
-            let visit = Visit::OnReturn(outcome);
-            if self.test(seat, None, wait, condition, visit, row) {
-                return Answer::Met;
-            }
-            if let Outcome::Ended(cause) = outcome {
-                return answer_of(cause);
-            }
-            if let Some(cause) = self.look_before(seat, number, wait, true, watch) {
-                return answer_of(cause);
-            }
-            again = true;
-        }
+/// Queues, and waits until the wait's condition is true, or the wait is ended early. The condition is false of
+/// this row of the section in hand.
+fn wait_on<R: Wait, W: Watch, C: Condition<N>, const N: usize>(
+    rt: &R,
+    seat: &mut Bound<'_, C, N>,
+    wait: Waiting<C>,
+    row: &mut [u64; N],
+    watch: &mut W,
+) -> Answer
+    requires on { IsForCondition wait.on }
+    requires watches { W.watches watch.old wait.limits }
+    requires row { row.old ≡ row_in (the seat.old.me.0).at.held }
+    requires at { IsAtPlace C.means (InWait wait (InQueuing false Load)) seat.old.me }
+    ensures since { HasMadeSteps None seat.old seat.new }
+    ensures looked { W.since watch.old watch.new }
+    ensures ended { IfAnswered result (λ cause. (is_limited wait.limits ≡ true) × W.shows watch.old watch.new wait.limits (Some cause)) }
+    ensures answered { HasAnswered C.means (Await wait) (Answered result) seat.new.me }
+    ensures fresh { IsFreshIn N wait.mode (the seat.new.me.0).at.held }
+{
+    let Subject::OnCondition(condition) = wait.on else {
         unreachable!()
+    };
+    let mut again = false;
+    for _ in rt.forever() {
+        queue_to_wait(rt, seat, Queuing { wait, again }, row);
+        let outcome = come_back(rt, seat, wait, watch);
+        let visit = Visit::OnReturn(outcome);
+        if test(seat, None, wait, condition, visit, row) {
+            return Answer::Met;
+        }
+        if let Outcome::Ended(cause) = outcome {
+            return answer_of(cause);
+        }
+        if let Some(cause) = look_before(seat, wait, true, watch) {
+            return answer_of(cause);
+        }
+        again = true;
     }
+    unreachable!()
+}
 
+impl<C: Condition<N>, const N: usize> Monitor<C, N> {
     /// Waits until the condition is true, or what watches for its limits ends the wait. Where the
     /// condition is true of the section in hand, nothing is released, nor where the first look shows
     /// what ends it.
@@ -135,7 +122,9 @@ impl<C: Condition<N>, const N: usize> Monitor<C, N> {
         let wait = Waiting { mode, on, limits };
         let first = Some(Walk::wait::<N>(wait));
         let mut row = [0; N];
-        if self.test(&mut seat, first, wait, condition, Visit::OnEntry, &mut row) {
+        let mut bound = Bound::new(&self.gate, &mut seat, number);
+        if test(&mut bound, first, wait, condition, Visit::OnEntry, &mut row) {
+            bound.end();
             let back = Caller {
                 seat,
                 number,
@@ -144,7 +133,8 @@ impl<C: Condition<N>, const N: usize> Monitor<C, N> {
             };
             return (back, Answer::Met);
         }
-        if let Some(cause) = self.look_before(&mut seat, number, wait, false, watch) {
+        if let Some(cause) = look_before(&mut bound, wait, false, watch) {
+            bound.end();
             let back = Caller {
                 seat,
                 number,
@@ -153,7 +143,8 @@ impl<C: Condition<N>, const N: usize> Monitor<C, N> {
             };
             return (back, answer_of(cause));
         }
-        let answer = self.wait_on(rt, &mut seat, number, wait, &mut row, watch);
+        let answer = wait_on(rt, &mut bound, wait, &mut row, watch);
+        bound.end();
         (holding(seat, number, false), answer)
     }
 

@@ -1,10 +1,10 @@
 //! The scan of the lock list by a release, or by a wait that leaves its section.
 
 ghost use Rattle.std.specs.Prelude.{◌≡◌, ⊤};
-ghost use Rattle.ns_monitor.specs.Prelude.{Carries, HasScanned, IsPackable, IsReady, MayEnter, MayScan, ToRelease, bits_of, entered, paying_at, ready_at, returning_for, sought_at, the};
+ghost use Rattle.ns_monitor.specs.Prelude.{Carries, HasScanned, HasWorked, IsPackable, IsReady, MayEnter, MayScan, ToRelease, bits_of, entered, paying_at, ready_at, returning_for, sought_at, the};
 
-use crate::monitor::Monitor;
-use ns_gate::gate::GateSeat;
+use crate::loops::{pay, pay_one, put_back};
+use ns_gate::bound::Bound;
 use ns_gate::queues::{Returning, Turned};
 use ns_model::condition::Condition;
 use ns_queue::scan::Sought;
@@ -20,8 +20,6 @@ use std::sync::Wait;
 /// A seat that queues for a wait, and leaves its section.
 #[derive(Copy)]
 pub struct Queuing<C> {
-    /// The seat's number.
-    pub number: u8,
     /// The wait.
     pub wait: Waiting<C>,
     /// Whether it queues again.
@@ -97,125 +95,109 @@ impl<C: Copy> Scanning<C> {
     }
 }
 
-impl<C: Condition<N>, const N: usize> Monitor<C, N> {
-    /// Puts a wait into its list, where the call is one, with the lists in hand as a scan has left them. Tells
-    /// what the hand has made of them then.
-    #[inline(always)]
-    fn enter(&self, seat: &mut GateSeat<C, N>, scanning: Scanning<C>, turned: Turned) -> Turned
-        requires of { seat.old.table_id ≡ self.now }
-        requires may { MayEnter scanning seat.old.me }
-        ensures seat { (seat.new.table_id ≡ self.now) × (seat.new.me.0 ≡ seat.old.me.0) }
-        ensures lists { (lists : _) → Carries lists seat.old.me → Carries (entered scanning lists) seat.new.me }
-        ensures some { result.some ≡ turned.some }
-        ensures bits { (lists : _) → Carries lists seat.old.me → turned.bits ≡ bits_of lists.lock → result.bits ≡ bits_of (entered scanning lists).lock }
-    {
-        match scanning {
-            Scanning::ToRelease(_) => turned,
-            Scanning::ToWait(
-                Queuing {
-                    number,
-                    wait,
-                    again,
-                },
-            ) => {
-                let bits = self.gate.enter_in_hand(seat, number, wait, again);
-                Turned { bits, ..turned }
-            }
+/// Puts a wait into its list, where the call is one, with the lists in hand as a scan has left them. Tells
+/// what the hand has made of them then.
+#[inline(always)]
+fn enter<C: Condition<N>, const N: usize>(
+    seat: &mut Bound<'_, C, N>,
+    scanning: Scanning<C>,
+    turned: Turned,
+) -> Turned
+    requires { MayEnter scanning seat.old.me }
+    ensures worked { HasWorked seat.old seat.new }
+    ensures lists { (lists : _) → Carries lists seat.old.me → Carries (entered scanning (the seat.old.me.0).at.seat lists) seat.new.me }
+    ensures some { result.some ≡ turned.some }
+    ensures bits { (lists : _) → Carries lists seat.old.me → turned.bits ≡ bits_of lists.lock → result.bits ≡ bits_of (entered scanning (the seat.old.me.0).at.seat lists).lock }
+{
+    match scanning {
+        Scanning::ToRelease(_) => turned,
+        Scanning::ToWait(Queuing { wait, again }) => {
+            let bits = seat.enter_in_hand(wait, again);
+            Turned { bits, ..turned }
         }
     }
+}
 
-    /// With the queues in hand and a row ready: scans the lock list, lets a wait queue, puts the queues back,
-    /// and pays the wakes of those whom the scan took.
-    ///
-    /// Where that is nobody, or a writer alone, no list of them is made: a function pays for its lists
-    /// as it is called, whether it uses them or not, and whoever needs the queues waits meanwhile.
-    #[inline(always)]
-    pub(crate) fn scan_and_return<R: Wait>(
-        &self,
-        rt: &R,
-        seat: &mut GateSeat<C, N>,
-        scanning: Scanning<C>,
-        word: LockWord,
-        row: &[u64; N],
-    )
-        requires of { seat.old.table_id ≡ self.now }
-        requires word { IsPackable word }
-        requires may { MayScan scanning seat.old.me }
-        requires ready { IsReady C.means (ready_at scanning word) row.now seat.old.me }
-        ensures seat { seat.new.table_id ≡ self.now }
-        ensures scanned { HasScanned C.means scanning seat.old.me seat.new.me }
-    {
-        let (wake, left) = match self.gate.scan_writer_in_hand(seat, row) {
-            Ok(told) => told,
-            Err(sought) => {
-                match scanning {
-                    Scanning::ToRelease(releasing) => {
-                        self.wake_released(rt, seat, releasing, word, row, sought)
-                    }
-                    Scanning::ToWait(_) => self.scan_and_wake(
-                        rt, seat, scanning, word, row, sought,
-                    ),
+/// With the queues in hand and a row ready: scans the lock list, lets a wait queue, puts the queues back,
+/// and pays the wakes of those whom the scan took.
+///
+/// Where that is nobody, or a writer alone, no list of them is made: a function pays for its lists
+/// as it is called, whether it uses them or not, and whoever needs the queues waits meanwhile.
+#[inline(always)]
+pub(crate) fn scan_and_return<R: Wait, C: Condition<N>, const N: usize>(
+    rt: &R,
+    seat: &mut Bound<'_, C, N>,
+    scanning: Scanning<C>,
+    word: LockWord,
+    row: &[u64; N],
+)
+    requires word { IsPackable word }
+    requires may { MayScan scanning seat.old.me }
+    requires ready { IsReady C.means (ready_at scanning word) row.now seat.old.me }
+    ensures { HasScanned C.means scanning seat.old seat.new }
+{
+    let (wake, left) = match seat.scan_writer_in_hand(row) {
+        Ok(told) => told,
+        Err(sought) => {
+            match scanning {
+                Scanning::ToRelease(releasing) => {
+                    wake_released(rt, seat, releasing, word, row, sought)
                 }
-                return;
+                Scanning::ToWait(_) => scan_and_wake(rt, seat, scanning, word, row, sought),
             }
-        };
-        let turned = self.enter(seat, scanning, left);
-        let place = scanning.place(word.parts());
-        self.put_back(rt, seat, scanning.returning(), place, word, turned);
-        if let Some(wake) = wake {
-            self.pay_one(seat, scanning.paying(), wake);
+            return;
         }
+    };
+    let turned = enter(seat, scanning, left);
+    let place = scanning.place(word.parts());
+    put_back(rt, seat, scanning.returning(), place, word, turned);
+    if let Some(wake) = wake {
+        pay_one(seat, scanning.paying(), wake);
     }
+}
 
-    /// The same where a release's scan takes readers, of whom this is the first. What a call takes is zeroed in
-    /// memory before it is written, unless the call is inlined. So what is scanned for is made here, and a release
-    /// that wakes no readers pays nothing for it.
-    #[cold]
-    fn wake_released<R: Wait>(
-        &self,
-        rt: &R,
-        seat: &mut GateSeat<C, N>,
-        releasing: Releasing,
-        word: LockWord,
-        row: &[u64; N],
-        sought: Sought,
-    )
-        requires of { seat.old.table_id ≡ self.now }
-        requires word { IsPackable word }
-        requires ready { IsReady C.means (ready_at (ToRelease releasing) word) row.now seat.old.me }
-        requires found { sought ≡ sought_at C.means row.now (the seat.old.me.0).stood }
-        ensures seat { seat.new.table_id ≡ self.now }
-        ensures scanned { HasScanned C.means (ToRelease releasing) seat.old.me seat.new.me }
-    {
-        self.scan_and_wake(rt, seat, Scanning::ToRelease(releasing), word, row, sought)
-    }
+/// The same where a release's scan takes readers, of whom this is the first. What a call takes is zeroed in
+/// memory before it is written, unless the call is inlined. So what is scanned for is made here, and a release
+/// that wakes no readers pays nothing for it.
+#[cold]
+fn wake_released<R: Wait, C: Condition<N>, const N: usize>(
+    rt: &R,
+    seat: &mut Bound<'_, C, N>,
+    releasing: Releasing,
+    word: LockWord,
+    row: &[u64; N],
+    sought: Sought,
+)
+    requires word { IsPackable word }
+    requires ready { IsReady C.means (ready_at (ToRelease releasing) word) row.now seat.old.me }
+    requires found { sought ≡ sought_at C.means row.now (the seat.old.me.0).stood }
+    ensures { HasScanned C.means (ToRelease releasing) seat.old seat.new }
+{
+    scan_and_wake(rt, seat, Scanning::ToRelease(releasing), word, row, sought)
+}
 
-    /// The same where a scan takes readers, of whom this is the first: goes on from there, with lists of those
-    /// whom it takes.
-    #[cold]
-    fn scan_and_wake<R: Wait>(
-        &self,
-        rt: &R,
-        seat: &mut GateSeat<C, N>,
-        scanning: Scanning<C>,
-        word: LockWord,
-        row: &[u64; N],
-        sought: Sought,
-    )
-        requires of { seat.old.table_id ≡ self.now }
-        requires word { IsPackable word }
-        requires may { MayScan scanning seat.old.me }
-        requires ready { IsReady C.means (ready_at scanning word) row.now seat.old.me }
-        requires found { sought ≡ sought_at C.means row.now (the seat.old.me.0).stood }
-        ensures seat { seat.new.table_id ≡ self.now }
-        ensures scanned { HasScanned C.means scanning seat.old.me seat.new.me }
-    {
-        let (scan, bits) = self.gate.scan_from_in_hand(seat, row, sought);
-        let some = !scan.woken.is_empty();
-        let turned = self.enter(seat, scanning, Turned { some, bits });
-        let place = scanning.place(word.parts());
-        self.put_back(rt, seat, scanning.returning(), place, word, turned);
-        let owed = called(scan.woken.as_slice(), scan.vias.as_slice());
-        self.pay(seat, scanning.paying(), &owed);
-    }
+/// The same where a scan takes readers, of whom this is the first: goes on from there, with lists of those
+/// whom it takes.
+#[cold]
+fn scan_and_wake<R: Wait, C: Condition<N>, const N: usize>(
+    rt: &R,
+    seat: &mut Bound<'_, C, N>,
+    scanning: Scanning<C>,
+    word: LockWord,
+    row: &[u64; N],
+    sought: Sought,
+)
+    requires word { IsPackable word }
+    requires may { MayScan scanning seat.old.me }
+    requires ready { IsReady C.means (ready_at scanning word) row.now seat.old.me }
+    requires found { sought ≡ sought_at C.means row.now (the seat.old.me.0).stood }
+    ensures { HasScanned C.means scanning seat.old seat.new }
+{
+    let (scan, bits) = seat.scan_from_in_hand(row, sought);
+    let some = !scan.woken.is_empty();
+    let turned = enter(seat, scanning, Turned { some, bits });
+    let place = scanning.place(word.parts());
+    put_back(rt, seat, scanning.returning(), place, word, turned);
+    let owed = called(scan.woken.as_slice(), scan.vias.as_slice());
+    pay(seat, scanning.paying(), &owed);
 }

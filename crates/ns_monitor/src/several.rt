@@ -7,10 +7,14 @@
 ghost use Rattle.std.specs.Prelude.{◌≡◌, Some, None, [], ℕ};
 ghost use Rattle.ns_monitor.specs.Prelude.{AreSome, AwaitWakeInWait, ForWait, HasAcquired, HasBegunToWait, HasComeBackFromAny, HasSince, IfStill, IfWoken, InWait, IsAtPlace, IsNumberOf, IsWaitingForAny, WaitsStill, the, waits_for_any};
 
+use crate::acquiring::acquire;
 use crate::caller::{Caller, Renewed};
 use crate::monitor::{Monitor, holding};
+use crate::variables::queue_at_variables;
+use crate::waiting::come_back;
 use crate::watching::EndedWatch;
 use ns_env::limits::Limits;
+use ns_gate::bound::Bound;
 use ns_gate::gate::GateSeat;
 use ns_model::condition::Condition;
 use ns_model::cvs::{Cvs, Variables};
@@ -101,7 +105,9 @@ impl<C: Condition<N>, const N: usize> Monitor<C, N> {
         } = held;
         let mode = H::mode();
         let wait = for_any(mode, cvs);
-        self.queue_at_variables(rt, &mut seat, number, wait);
+        let mut bound = Bound::new(&self.gate, &mut seat, number);
+        queue_at_variables(rt, &mut bound, wait);
+        bound.end();
         AnyWaiting {
             seat,
             number,
@@ -135,9 +141,11 @@ impl<C: Condition<N>, const N: usize> Monitor<C, N> {
         } = waiting;
         let mode = H::mode();
         let wait = for_any(mode, cvs);
-        let flag = self.gate.load_flag(&mut seat, number);
+        let mut bound = Bound::new(&self.gate, &mut seat, number);
+        let flag = bound.load_flag();
         if flag == 1 {
-            self.gate.look(&mut seat, number, wait.limits, false, None);
+            bound.look(wait.limits, false, None);
+            bound.end();
             return AnyPoll::Still(AnyWaiting {
                 seat,
                 number,
@@ -147,7 +155,8 @@ impl<C: Condition<N>, const N: usize> Monitor<C, N> {
         }
         let k = variable_told(flag);
         let aim = Aim::ForWait(wait, Outcome::Woken(Some(k)));
-        self.acquire(rt, &mut seat, number, aim, arrival_of(0, flag));
+        acquire(rt, &mut bound, aim, arrival_of(0, flag));
+        bound.end();
         AnyPoll::Woken(holding(seat, number, false), k)
     }
 
@@ -175,7 +184,9 @@ impl<C: Condition<N>, const N: usize> Monitor<C, N> {
         } = waiting;
         let mode = H::mode();
         let wait = for_any(mode, cvs);
-        let outcome = self.come_back(rt, &mut seat, number, wait, &mut EndedWatch);
+        let mut bound = Bound::new(&self.gate, &mut seat, number);
+        let outcome = come_back(rt, &mut bound, wait, &mut EndedWatch);
+        bound.end();
         let by = outcome.variable();
         (holding(seat, number, false), by)
     }

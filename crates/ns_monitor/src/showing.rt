@@ -1,13 +1,14 @@
 //! How a monitor stands, for whoever looks for a fault: its lock word and its waiters.
 
 ghost use Rattle.std.specs.Prelude.{◌≡◌, None, Some};
-ghost use Rattle.ns_monitor.specs.Prelude.{HasSeenMore, HasSince, HasStood, HasUnchangedQueues, InShow, IsAtPlace, IsAtRest, IsPackable, ReturnShown, ShowsState, ToChange, known_of, showing, the, word_taken};
+ghost use Rattle.ns_monitor.specs.Prelude.{HasMadeSteps, HasSeenMore, HasStood, HasUnchangedQueues, InShow, IsAtPlace, IsAtRest, IsPackable, ReturnShown, ShowsState, ToChange, known_of, showing, the, word_taken};
 
 use crate::caller::{Caller, Hand};
+use crate::loops::put_back;
 use crate::monitor::Monitor;
 use arrayvec::ArrayVec;
 use crossbeam_utils::Backoff;
-use ns_gate::gate::GateSeat;
+use ns_gate::bound::Bound;
 use ns_gate::queues::{Returning, Turned};
 use ns_gate::showing::ShownLists;
 use ns_model::condition::Condition;
@@ -30,35 +31,36 @@ pub struct DebugState {
     pub cvs: [ArrayVec<Shown, 64>; 4],
 }
 
-impl<C: Condition<N>, const N: usize> Monitor<C, N> {
-    /// Begins to show, and takes the queues. Answers the word that the exchange compared. This is a loop of its
-    /// own, since it tells of the state in which it took the queues (`HasStood`).
-    fn take_to_show<R: Wait>(&self, rt: &R, seat: &mut GateSeat<C, N>) -> LockWord
-        requires of { seat.old.table_id ≡ self.now }
-        requires rest { IsAtRest C.means seat.old.me }
-        ensures seat { seat.new.table_id ≡ self.now }
-        ensures since { HasSince (Some showing) (the seat.old.me.0) (the seat.new.me.0) }
-        ensures at { IsAtPlace C.means (InShow (ReturnShown (word_taken ToChange result))) seat.new.me }
-        ensures word { IsPackable result }
-        ensures taken { HasUnchangedQueues seat.new.me }
-        ensures stood { HasStood C.means result (the seat.new.me.0).stood (known_of seat.old.table_id seat.old.me) (known_of seat.new.table_id seat.new.me) }
-    {
-        let backoff = Backoff::new();
-        let mut word = self.gate.load(seat, Some(Walk::show()));
-        for _ in rt.forever() {
-            if word.spin() {
-                backoff.snooze();
-                word = self.gate.load(seat, None);
-            } else {
-                match self.gate.exchange_to_take(seat, Taking::ToChange, word) {
-                    Ok(()) => return word,
-                    Err(other) => word = other,
-                }
+/// Begins to show, and takes the queues. Answers the word that the exchange compared. This is a loop of its
+/// own, since it tells of the state in which it took the queues (`HasStood`).
+fn take_to_show<R: Wait, C: Condition<N>, const N: usize>(
+    rt: &R,
+    seat: &mut Bound<'_, C, N>,
+) -> LockWord
+    requires rest { IsAtRest C.means seat.old.me }
+    ensures since { HasMadeSteps (Some showing) seat.old seat.new }
+    ensures at { IsAtPlace C.means (InShow (ReturnShown (word_taken ToChange result))) seat.new.me }
+    ensures word { IsPackable result }
+    ensures taken { HasUnchangedQueues seat.new.me }
+    ensures stood { HasStood C.means result (the seat.new.me.0).stood (known_of seat.old.gate seat.old.me) (known_of seat.new.gate seat.new.me) }
+{
+    let backoff = Backoff::new();
+    let mut word = seat.load(Some(Walk::show()));
+    for _ in rt.forever() {
+        if word.spin() {
+            backoff.snooze();
+            word = seat.load(None);
+        } else {
+            match seat.exchange_to_take(Taking::ToChange, word) {
+                Ok(()) => return word,
+                Err(other) => word = other,
             }
         }
-        unreachable!()
     }
+    unreachable!()
+}
 
+impl<C: Condition<N>, const N: usize> Monitor<C, N> {
     /// How the monitor stands at one moment of the call: its lock word, and who waits in the lock list
     /// and for each condition variable.
     ///
@@ -76,14 +78,16 @@ impl<C: Condition<N>, const N: usize> Monitor<C, N> {
         ensures saw { HasSeenMore C.means showing caller.old caller.new }
         ensures shows { ShowsState C.means result caller.old caller.new }
     {
-        let seat = &mut caller.seat;
-        let word = self.take_to_show(rt, seat);
-        let (lists, bits) = self.gate.show_in_hand(seat);
+        let number = caller.number;
+        let mut seat = Bound::new(&self.gate, &mut caller.seat, number);
+        let word = take_to_show(rt, &mut seat);
+        let (lists, bits) = seat.show_in_hand();
         let taken = word.taken(Taking::ToChange);
         let place = Walk::InShow(ShowPlace::ReturnShown(taken.parts()));
         let returning = Returning::Changed(Change::Nothing);
         let turned = Turned { some: false, bits };
-        self.put_back(rt, seat, returning, place, taken, turned);
+        put_back(rt, &mut seat, returning, place, taken, turned);
+        seat.end();
         let ShownLists { lock, cvs } = lists;
         let word = word.parts();
         DebugState { word, lock, cvs }

@@ -1,16 +1,18 @@
 //! Condition variables: a wait that leaves its section until somebody wakes it.
 
 ghost use Rattle.std.specs.Prelude.{◌≡◌, ◌<◌, Some, [], true, IfSome};
-ghost use Rattle.ns_gate.specs.Prelude.{AwaitWakeInWait, ForWait, HasSince, InWait, IsAtPlace, IsAtRest, IsInRange, IsMade, PlaceFits, is_limited, the, wait_first};
+ghost use Rattle.ns_gate.specs.Prelude.{AwaitWakeInWait, ForWait, HasMadeSteps, InWait, IsAtPlace, IsAtRest, IsInRange, IsMade, PlaceFits, is_limited, the, wait_first};
 ghost use Rattle.ns_note.specs.Known.{Grows as EnvGrows};
-ghost use Rattle.ns_monitor.specs.Prelude.{EndedBy, Grows, HasAcquired, HasSeenTrue, HasWaitedForVariable, IfAnswered, IfEnded, IsForVariables, IsNumberOf, queuing_first, variable_waiting, waits_for_variable};
+ghost use Rattle.ns_monitor.specs.Prelude.{EndedBy, Grows, HasAcquired, HasSeenTrue, HasWaitedForVariable, IfAnswered, IfEnded, IsForVariables, queuing_first, variable_waiting, waits_for_variable};
 
 use crate::caller::{Caller, Renewed};
+use crate::loops::begin_to_take;
 use crate::monitor::{Monitor, holding};
 use crate::scanning::Queuing;
+use crate::waiting::{come_back, leave_section};
 use crate::watching::{Looker, Watch, watched};
 use ns_env::limits::Limits;
-use ns_gate::gate::GateSeat;
+use ns_gate::bound::Bound;
 use ns_model::condition::Condition;
 use ns_model::cvs::Variables;
 use ns_model::event::Answer;
@@ -21,64 +23,50 @@ use ns_word::wait::{Outcome, QueuePlace, Subject, Wait as Waiting, WaitPlace};
 use ns_word::walk::Walk;
 use std::sync::Wait;
 
+/// Begins a wait for variables: leaves the section in hand, puts the seat into the lists of the variables, and
+/// wakes those waiters who can go on.
+pub(crate) fn queue_at_variables<R: Wait, C: Condition<N>, const N: usize>(
+    rt: &R,
+    seat: &mut Bound<'_, C, N>,
+    wait: Waiting<C>,
+)
+    requires rest { IsAtRest C.means seat.old.me }
+    requires variables { IsForVariables wait.on × IsInRange wait.on }
+    requires fits { PlaceFits C.means (Some (queuing_first wait)) (the seat.old.me.0).at.held }
+    ensures since { HasMadeSteps (Some (queuing_first wait)) seat.old seat.new }
+    ensures waits { IsAtPlace C.means (InWait wait AwaitWakeInWait) seat.new.me }
+    ensures owes { (the seat.new.me.0).at.owed ≡ [] }
+    ensures true_to { HasSeenTrue C.means seat.new.me }
+{
+    let place = Walk::InWait(wait, WaitPlace::InQueuing(false, QueuePlace::Load));
+    let word = begin_to_take(rt, seat, place);
+    let mut row = [0; N];
+    let queuing = Queuing { wait, again: false };
+    leave_section(rt, seat, queuing, word, &mut row);
+}
+
+/// Waits for variables until it is woken, or what watches for its limits ends the wait. Answers what came
+/// of it.
+fn wait_at_variables<R: Wait, W: Watch, C: Condition<N>, const N: usize>(
+    rt: &R,
+    seat: &mut Bound<'_, C, N>,
+    wait: Waiting<C>,
+    watch: &mut W,
+) -> Outcome
+    requires rest { IsAtRest C.means seat.old.me }
+    requires variables { IsForVariables wait.on × IsInRange wait.on }
+    requires fits { PlaceFits C.means (Some (queuing_first wait)) (the seat.old.me.0).at.held }
+    requires watches { W.watches watch.old wait.limits }
+    ensures since { HasMadeSteps (Some (queuing_first wait)) seat.old seat.new }
+    ensures looked { W.since watch.old watch.new }
+    ensures ended { IfEnded result (λ cause. (is_limited wait.limits ≡ true) × W.shows watch.old watch.new wait.limits (Some cause)) }
+    ensures acquired { HasAcquired C.means (ForWait wait result) seat.new.me }
+{
+    queue_at_variables(rt, seat, wait);
+    come_back(rt, seat, wait, watch)
+}
+
 impl<C: Condition<N>, const N: usize> Monitor<C, N> {
-    /// Begins a wait for variables: leaves the section in hand, puts the seat into the lists of the variables, and
-    /// wakes those waiters who can go on.
-    pub(crate) fn queue_at_variables<R: Wait>(
-        &self,
-        rt: &R,
-        seat: &mut GateSeat<C, N>,
-        number: u8,
-        wait: Waiting<C>,
-    )
-        requires of { seat.old.table_id ≡ self.now }
-        requires number { IsNumberOf number seat.old.me }
-        requires rest { IsAtRest C.means seat.old.me }
-        requires variables { IsForVariables wait.on × IsInRange wait.on }
-        requires fits { PlaceFits C.means (Some (queuing_first wait)) (the seat.old.me.0).at.held }
-        ensures seat { seat.new.table_id ≡ self.now }
-        ensures since { HasSince (Some (queuing_first wait)) (the seat.old.me.0) (the seat.new.me.0) }
-        ensures waits { IsAtPlace C.means (InWait wait AwaitWakeInWait) seat.new.me }
-        ensures owes { (the seat.new.me.0).at.owed ≡ [] }
-        ensures true_to { HasSeenTrue C.means seat.new.me }
-    {
-        let place = Walk::InWait(wait, WaitPlace::InQueuing(false, QueuePlace::Load));
-        let word = self.begin_to_take(rt, seat, place);
-        let mut row = [0; N];
-        let queuing = Queuing {
-            number,
-            wait,
-            again: false,
-        };
-        self.leave_section(rt, seat, queuing, word, &mut row);
-    }
-
-    /// Waits for variables until it is woken, or what watches for its limits ends the wait. Answers what came
-    /// of it.
-    fn wait_at_variables<R: Wait, W: Watch>(
-        &self,
-        rt: &R,
-        seat: &mut GateSeat<C, N>,
-        number: u8,
-        wait: Waiting<C>,
-        watch: &mut W,
-    ) -> Outcome
-        requires of { seat.old.table_id ≡ self.now }
-        requires number { IsNumberOf number seat.old.me }
-        requires rest { IsAtRest C.means seat.old.me }
-        requires variables { IsForVariables wait.on × IsInRange wait.on }
-        requires fits { PlaceFits C.means (Some (queuing_first wait)) (the seat.old.me.0).at.held }
-        requires watches { W.watches watch.old wait.limits }
-        ensures seat { seat.new.table_id ≡ self.now }
-        ensures since { HasSince (Some (queuing_first wait)) (the seat.old.me.0) (the seat.new.me.0) }
-        ensures looked { W.since watch.old watch.new }
-        ensures ended { IfEnded result (λ cause. (is_limited wait.limits ≡ true) × W.shows watch.old watch.new wait.limits (Some cause)) }
-        ensures acquired { HasAcquired C.means (ForWait wait result) seat.new.me }
-    {
-        self.queue_at_variables(rt, seat, number, wait);
-        self.come_back(rt, seat, number, wait, watch)
-    }
-
     /// Waits for a variable until it is woken, or what watches for its limits ends the wait.
     fn wait_for_variable<H: Renewed<C, N>, R: Wait, W: Watch>(
         &self,
@@ -105,7 +93,9 @@ impl<C: Condition<N>, const N: usize> Monitor<C, N> {
         let mode = H::mode();
         let on = Subject::OnVariables(Variables::Only(k));
         let wait = Waiting { mode, on, limits };
-        let outcome = self.wait_at_variables(rt, &mut seat, number, wait, watch);
+        let mut bound = Bound::new(&self.gate, &mut seat, number);
+        let outcome = wait_at_variables(rt, &mut bound, wait, watch);
+        bound.end();
         (holding(seat, number, false), outcome.answer())
     }
 

@@ -1,13 +1,14 @@
 //! Condition variables: signals and broadcasts.
 
 ghost use Rattle.std.specs.Prelude.{◌≡◌, ◌<◌, [], ◌∷◌, None, Some};
-ghost use Rattle.ns_monitor.specs.Prelude.{Broadcasting, Grows, HasAnswered, HasReturnedWoken, HasSince, HasTakenAt, HasWoken, HasWokenInHand, InSignal, IsAtPlace, IsAtRest, IsOrderly, IsPackable, SignalLoad, Signaling, Succeeded, WakeAndReturn, is_held, is_held_by_one, taken_from, the, waking_by};
+ghost use Rattle.ns_monitor.specs.Prelude.{Broadcasting, Grows, HasAnswered, HasMadeSteps, HasReturnedWoken, HasTakenAt, HasWoken, HasWokenInHand, InSignal, IsAtPlace, IsAtRest, IsOrderly, IsPackable, SignalLoad, Signaling, Succeeded, WakeAndReturn, is_held, is_held_by_one, taken_from, the, waking_by};
 ghost use Rattle.ns_word.specs.declared.request.Request.TheVariants as TheRequest;
 
 use crate::caller::{Caller, Hand};
+use crate::loops::{begin_to_take, pay, pay_one};
 use crate::monitor::Monitor;
 use arrayvec::ArrayVec;
-use ns_gate::gate::GateSeat;
+use ns_gate::bound::Bound;
 use ns_gate::queues::{Returning, Turned};
 use ns_model::condition::Condition;
 use ns_queue::waiter::Waiter;
@@ -38,152 +39,146 @@ struct WakeCall {
     k: u8,
 }
 
-impl<C: Condition<N>, const N: usize> Monitor<C, N> {
-    /// Puts the queues back without those whom the call has taken, who are at the back of the lock list
-    /// where the word that the exchange compares is held: what is in hand is turned each time the word
-    /// found differs in that. Answers whether the lock was held; else they are owed their wakes.
-    ///
-    /// The taken are kept apart until the queues are back. To turn what is in hand is to put them at the back
-    /// of the lock list there, or to take them out of it again. That needs the lists to have stood orderly,
-    /// which `wake_in_hand` tells. So what is in hand depends on the word, and this is a loop of its own.
-    fn return_woken<R: Wait>(
-        &self,
-        rt: &R,
-        seat: &mut GateSeat<C, N>,
-        call: WakeCall,
-        first: LockWord,
-        taken: &[Waiter<C>],
-        made: Turned,
-    ) -> bool
-        requires of { seat.old.table_id ≡ self.now }
-        requires variable { call.k < 4 }
-        requires word { IsPackable first }
-        requires at { IsAtPlace C.means (InSignal call.waking call.k (WakeAndReturn first)) seat.old.me }
-        requires orderly { IsOrderly (the seat.old.me.0).stood }
-        requires taken { taken.now ≡ taken_from call.waking call.k (the seat.old.me.0).stood }
-        requires hand { HasWokenInHand call.waking call.k (is_held first) made seat.old.me }
-        ensures seat { seat.new.table_id ≡ self.now }
-        ensures since { HasSince None (the seat.old.me.0) (the seat.new.me.0) }
-        ensures returned { HasReturnedWoken C.means call.waking call.k result (the seat.old.me.0).stood seat.new.me }
-    {
-        let returning = Returning::Changed(Change::WakeWaiters(call.waking, call.k));
-        let mut word = first;
-        let mut turned = made;
-        for _ in rt.forever() {
-            match self.gate.exchange_to_return(seat, returning, word, turned) {
-                Ok(()) => return word.is_held(),
-                Err(other) => {
-                    let held = other.is_held();
-                    if is_held_by_one(word, other) {
-                        turned = self
-                            .gate
-                            .turn_in_hand(seat, taken, call.waking, call.k, held);
-                    }
-                    word = other;
+/// Puts the queues back without those whom the call has taken, who are at the back of the lock list
+/// where the word that the exchange compares is held: what is in hand is turned each time the word
+/// found differs in that. Answers whether the lock was held; else they are owed their wakes.
+///
+/// The taken are kept apart until the queues are back. To turn what is in hand is to put them at the back
+/// of the lock list there, or to take them out of it again. That needs the lists to have stood orderly,
+/// which `wake_in_hand` tells. So what is in hand depends on the word, and this is a loop of its own.
+fn return_woken<R: Wait, C: Condition<N>, const N: usize>(
+    rt: &R,
+    seat: &mut Bound<'_, C, N>,
+    call: WakeCall,
+    first: LockWord,
+    taken: &[Waiter<C>],
+    made: Turned,
+) -> bool
+    requires variable { call.k < 4 }
+    requires word { IsPackable first }
+    requires at { IsAtPlace C.means (InSignal call.waking call.k (WakeAndReturn first)) seat.old.me }
+    requires orderly { IsOrderly (the seat.old.me.0).stood }
+    requires taken { taken.now ≡ taken_from call.waking call.k (the seat.old.me.0).stood }
+    requires hand { HasWokenInHand call.waking call.k (is_held first) made seat.old.me }
+    ensures since { HasMadeSteps None seat.old seat.new }
+    ensures returned { HasReturnedWoken C.means call.waking call.k result (the seat.old.me.0).stood seat.new.me }
+{
+    let returning = Returning::Changed(Change::WakeWaiters(call.waking, call.k));
+    let mut word = first;
+    let mut turned = made;
+    for _ in rt.forever() {
+        match seat.exchange_to_return(returning, word, turned) {
+            Ok(()) => return word.is_held(),
+            Err(other) => {
+                let held = other.is_held();
+                if is_held_by_one(word, other) {
+                    turned = seat.turn_in_hand(taken, call.waking, call.k, held);
                 }
+                word = other;
             }
         }
-        unreachable!()
     }
+    unreachable!()
+}
 
-    /// Puts the queues back without this one waiter, which the call has taken alone, and pays it its wake
-    /// where the lock was free. It makes no list of those taken, nor of the wakes that are owed.
-    fn wake_sole<R: Wait>(
-        &self,
-        rt: &R,
-        seat: &mut GateSeat<C, N>,
-        call: WakeCall,
-        word: LockWord,
-        sole: Waiter<C>,
-        made: Turned,
-    )
-        requires of { seat.old.table_id ≡ self.now }
-        requires variable { call.k < 4 }
-        requires word { IsPackable word }
-        requires at { IsAtPlace C.means (InSignal call.waking call.k (WakeAndReturn word)) seat.old.me }
-        requires orderly { IsOrderly (the seat.old.me.0).stood }
-        requires alone { taken_from call.waking call.k (the seat.old.me.0).stood ≡ sole ∷ [] }
-        requires hand { HasWokenInHand call.waking call.k (is_held word) made seat.old.me }
-        ensures seat { seat.new.table_id ≡ self.now }
-        ensures since { HasSince None (the seat.old.me.0) (the seat.new.me.0) }
-        ensures woke { HasAnswered C.means (TheRequest.Wake call.waking call.k) Succeeded seat.new.me }
-    {
-        let taken = [sole];
-        let moved = self.return_woken(rt, seat, call, word, &taken, made);
-        if !moved {
-            let place = Walk::InSignal(call.waking, call.k, SignalPlace::PayTheWoken);
-            self.pay_one(seat, place, wake_by(call.k, sole.seat));
-        }
-    }
-
-    /// With the queues in hand, taken at this word: takes those of the list of the variable whom the
-    /// call wakes out of all variables' lists, and moves them to the lock list where the lock is held,
-    /// else pays them their wakes. Its lists have room for 64 waiters, so it is kept apart from the
-    /// calls that wake just one.
-    #[cold]
-    fn wake_waiters<R: Wait>(
-        &self,
-        rt: &R,
-        seat: &mut GateSeat<C, N>,
-        call: WakeCall,
-        word: LockWord,
-    )
-        requires of { seat.old.table_id ≡ self.now }
-        requires variable { call.k < 4 }
-        requires taken { HasTakenAt C.means (InSignal call.waking call.k SignalLoad) word seat.old.me seat.old.me }
-        ensures seat { seat.new.table_id ≡ self.now }
-        ensures since { HasSince None (the seat.old.me.0) (the seat.new.me.0) }
-        ensures woke { HasAnswered C.means (TheRequest.Wake call.waking call.k) Succeeded seat.new.me }
-    {
-        let held = word.is_held();
-        let (taken, made) = self.gate.wake_in_hand(seat, call.waking, call.k, held);
-        let moved = self.return_woken(rt, seat, call, word, taken.as_slice(), made);
-        let owed = if moved {
-            ArrayVec::new()
-        } else {
-            wakes(call.k, taken.as_slice())
-        };
+/// Puts the queues back without this one waiter, which the call has taken alone, and pays it its wake
+/// where the lock was free. It makes no list of those taken, nor of the wakes that are owed.
+fn wake_sole<R: Wait, C: Condition<N>, const N: usize>(
+    rt: &R,
+    seat: &mut Bound<'_, C, N>,
+    call: WakeCall,
+    word: LockWord,
+    sole: Waiter<C>,
+    made: Turned,
+)
+    requires variable { call.k < 4 }
+    requires word { IsPackable word }
+    requires at { IsAtPlace C.means (InSignal call.waking call.k (WakeAndReturn word)) seat.old.me }
+    requires orderly { IsOrderly (the seat.old.me.0).stood }
+    requires alone { taken_from call.waking call.k (the seat.old.me.0).stood ≡ sole ∷ [] }
+    requires hand { HasWokenInHand call.waking call.k (is_held word) made seat.old.me }
+    ensures since { HasMadeSteps None seat.old seat.new }
+    ensures woke { HasAnswered C.means (TheRequest.Wake call.waking call.k) Succeeded seat.new.me }
+{
+    let taken = [sole];
+    let moved = return_woken(rt, seat, call, word, &taken, made);
+    if !moved {
         let place = Walk::InSignal(call.waking, call.k, SignalPlace::PayTheWoken);
-        self.pay(seat, place, &owed);
+        pay_one(seat, place, wake_by(call.k, sole.seat));
     }
+}
 
-    /// With the queues in hand, taken at this word: wakes those of the list of the variable whom the
-    /// call wakes, with no list made where just one waits.
-    fn wake_some<R: Wait>(&self, rt: &R, seat: &mut GateSeat<C, N>, call: WakeCall, word: LockWord)
-        requires of { seat.old.table_id ≡ self.now }
-        requires variable { call.k < 4 }
-        requires taken { HasTakenAt C.means (InSignal call.waking call.k SignalLoad) word seat.old.me seat.old.me }
-        ensures seat { seat.new.table_id ≡ self.now }
-        ensures since { HasSince None (the seat.old.me.0) (the seat.new.me.0) }
-        ensures woke { HasAnswered C.means (TheRequest.Wake call.waking call.k) Succeeded seat.new.me }
-    {
-        let held = word.is_held();
-        match self.gate.wake_sole_in_hand(seat, call.waking, call.k, held) {
-            Some((sole, made)) => self.wake_sole(rt, seat, call, word, sole, made),
-            None => self.wake_waiters(rt, seat, call, word),
-        }
+/// With the queues in hand, taken at this word: takes those of the list of the variable whom the
+/// call wakes out of all variables' lists, and moves them to the lock list where the lock is held,
+/// else pays them their wakes. Its lists have room for 64 waiters, so it is kept apart from the
+/// calls that wake just one.
+#[cold]
+fn wake_waiters<R: Wait, C: Condition<N>, const N: usize>(
+    rt: &R,
+    seat: &mut Bound<'_, C, N>,
+    call: WakeCall,
+    word: LockWord,
+)
+    requires variable { call.k < 4 }
+    requires taken { HasTakenAt C.means (InSignal call.waking call.k SignalLoad) word seat.old.me seat.old.me }
+    ensures since { HasMadeSteps None seat.old seat.new }
+    ensures woke { HasAnswered C.means (TheRequest.Wake call.waking call.k) Succeeded seat.new.me }
+{
+    let held = word.is_held();
+    let (taken, made) = seat.wake_in_hand(call.waking, call.k, held);
+    let moved = return_woken(rt, seat, call, word, taken.as_slice(), made);
+    let owed = if moved {
+        ArrayVec::new()
+    } else {
+        wakes(call.k, taken.as_slice())
+    };
+    let place = Walk::InSignal(call.waking, call.k, SignalPlace::PayTheWoken);
+    pay(seat, place, &owed);
+}
+
+/// With the queues in hand, taken at this word: wakes those of the list of the variable whom the
+/// call wakes, with no list made where just one waits.
+fn wake_some<R: Wait, C: Condition<N>, const N: usize>(
+    rt: &R,
+    seat: &mut Bound<'_, C, N>,
+    call: WakeCall,
+    word: LockWord,
+)
+    requires variable { call.k < 4 }
+    requires taken { HasTakenAt C.means (InSignal call.waking call.k SignalLoad) word seat.old.me seat.old.me }
+    ensures since { HasMadeSteps None seat.old seat.new }
+    ensures woke { HasAnswered C.means (TheRequest.Wake call.waking call.k) Succeeded seat.new.me }
+{
+    let held = word.is_held();
+    match seat.wake_sole_in_hand(call.waking, call.k, held) {
+        Some((sole, made)) => wake_sole(rt, seat, call, word, sole, made),
+        None => wake_waiters(rt, seat, call, word),
     }
+}
 
-    /// Takes the queues, and wakes those whom the call wakes. Where nobody waits for the variable, it
-    /// only puts the queues back.
-    fn wake<R: Wait>(&self, rt: &R, seat: &mut GateSeat<C, N>, call: WakeCall)
-        requires of { seat.old.table_id ≡ self.now }
-        requires variable { call.k < 4 }
-        requires rest { IsAtRest C.means seat.old.me }
-        ensures seat { seat.new.table_id ≡ self.now }
-        ensures since { HasSince (Some (waking_by call.waking call.k)) (the seat.old.me.0) (the seat.new.me.0) }
-        ensures woke { HasAnswered C.means (TheRequest.Wake call.waking call.k) Succeeded seat.new.me }
-    {
-        let place = Walk::InSignal(call.waking, call.k, SignalPlace::SignalLoad);
-        let word = self.begin_to_take(rt, seat, place);
-        if let Some(made) = self.gate.wake_nobody_in_hand(seat, call.k) {
-            let taken: [Waiter<C>; 0] = [];
-            self.return_woken(rt, seat, call, word, &taken, made);
-            return;
-        }
-        self.wake_some(rt, seat, call, word);
+/// Takes the queues, and wakes those whom the call wakes. Where nobody waits for the variable, it
+/// only puts the queues back.
+fn wake<R: Wait, C: Condition<N>, const N: usize>(
+    rt: &R,
+    seat: &mut Bound<'_, C, N>,
+    call: WakeCall,
+)
+    requires variable { call.k < 4 }
+    requires rest { IsAtRest C.means seat.old.me }
+    ensures since { HasMadeSteps (Some (waking_by call.waking call.k)) seat.old seat.new }
+    ensures woke { HasAnswered C.means (TheRequest.Wake call.waking call.k) Succeeded seat.new.me }
+{
+    let place = Walk::InSignal(call.waking, call.k, SignalPlace::SignalLoad);
+    let word = begin_to_take(rt, seat, place);
+    if let Some(made) = seat.wake_nobody_in_hand(call.k) {
+        let taken: [Waiter<C>; 0] = [];
+        return_woken(rt, seat, call, word, &taken, made);
+        return;
     }
+    wake_some(rt, seat, call, word);
+}
 
+impl<C: Condition<N>, const N: usize> Monitor<C, N> {
     /// Wakes at least one of those who wait for a condition variable, if any do: the first of them, and
     /// if that one reads, every other reader and the first writer.
     ///
@@ -200,7 +195,10 @@ impl<C: Condition<N>, const N: usize> Monitor<C, N> {
         ensures woke { HasWoken Signaling k caller.old caller.new }
     {
         let waking = Waking::Signaling;
-        self.wake(rt, &mut caller.seat, WakeCall { waking, k });
+        let number = caller.number;
+        let mut seat = Bound::new(&self.gate, &mut caller.seat, number);
+        wake(rt, &mut seat, WakeCall { waking, k });
+        seat.end();
     }
 
     /// Wakes everybody who waits for a condition variable, as [`Monitor::signal`] wakes at least one.
@@ -214,6 +212,9 @@ impl<C: Condition<N>, const N: usize> Monitor<C, N> {
         ensures woke { HasWoken Broadcasting k caller.old caller.new }
     {
         let waking = Waking::Broadcasting;
-        self.wake(rt, &mut caller.seat, WakeCall { waking, k });
+        let number = caller.number;
+        let mut seat = Bound::new(&self.gate, &mut caller.seat, number);
+        wake(rt, &mut seat, WakeCall { waking, k });
+        seat.end();
     }
 }

@@ -102,10 +102,10 @@ module _ {C : Type 0} (truths : Truths C) where
   needs_by begins (JudgeMet i c) known turned at me may d = let s = both (nat_lt i 1) _ may in let low = below i 1 s.0 in
       (low, row_but _ i (row_in (the me.0).at.held) low (has_one known.section (the me.0).at.held s.1 d.knows (wide_at at me d.stands)))
   needs_by begins (StoreCell i v) known turned at me may d = let s = both (not (is_some begins)) _ may in (begins_none begins s.0, below i 1 s.1)
-  needs_by begins ArmFlag known turned at me may d = (begins_none begins may, d.number)
-  needs_by begins LoadFlag known turned at me may d = (begins_none begins may, d.number)
+  needs_by begins ArmFlag known turned at me may d = begins_none begins may
+  needs_by begins LoadFlag known turned at me may d = begins_none begins may
   needs_by begins PayWake known turned at me may d = let s = both (not (is_some begins)) _ may in let p = pays known.owed (the me.0).at.owed s.1 d.owes (owes_at at me d.stands) in (begins_none begins s.0, p.0, p.1, p.2)
-  needs_by begins (Look limits again) known turned at me may d = let s = both (not (is_some begins)) _ may in (begins_none begins s.0, d.number, shows limits known.shown s.1)
+  needs_by begins (Look limits again) known turned at me may d = let s = both (not (is_some begins)) _ may in (begins_none begins s.0, shows limits known.shown s.1)
   needs_by begins act known turned at me may d = absurd (cc)
 
   -- ---- a call that begins

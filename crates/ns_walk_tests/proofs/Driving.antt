@@ -304,9 +304,9 @@ module _ {C : Type 0} (truths : Truths C) where
 
   -- the slot is empty once what was put there is taken out
   left_none : (act : Act C) (beside : Beside 1) (me : SeatOf C 1) → is_returning act ≡ true → Needs truths None act beside me → rest me.1 ≡ []
-  left_none (ReturnQueues change last) beside me back needs = ap rest needs.1.carries
-  left_none (ReleaseReturning releasing last) beside me back needs = ap rest needs.1.carries
-  left_none (WaitReturning wait again last) beside me back needs = ap rest needs.1.carries
+  left_none (ReturnQueues change last) beside me back needs = ap rest needs.1.hand.carries
+  left_none (ReleaseReturning releasing last) beside me back needs = ap rest needs.1.hand.carries
+  left_none (WaitReturning wait again last) beside me back needs = ap rest needs.1.hand.carries
   left_none _ beside me back needs = absurd (cc)
 
   owes_now : (act : Act C) (found : Found) (me now : SeatOf C 1) (had has : Bool) → goes_between act found had has ≡ true → has_queues (the me.0).at.walk ≡ had → Performed truths None act found me now → (the now.0).at.owed ≡ owed_by truths act (the me.0)
@@ -337,7 +337,7 @@ module _ {C : Type 0} (truths : Truths C) where
         number = (l.number ∙ (driven.number.0 ∙ ((λ i. (the (sym prep.same i)).at.seat) ∙ sym (ap (λ (x : SeatView C 1). x.seat) p.did.becomes))), subst (λ n. n < 64) (sym l.number) driven.number.1);
         knows = subst (λ (s : Option Section). Knows s (the now.0).at.held) (sym l.section)
             (knows_after None act found known.section beside me me now prep.needs p (stands_wide (place_after next) now stands) (subst (λ (vs : List (GateView C 1)). Knows known.section (the vs).at.held) (sym prep.same) driven.knows));
-        owes = owes_now act found me now had has goes (ap has_queues here.walks) p ∙ ((λ i. owed_by truths act (the (prep.same i))) ∙ (prep.owes ∙ ap at_most_one (sym l.owes)));
+        owes = owes_now act found me now had has goes (ap has_queues here.walks) p ∙ (prep.owes ∙ ap at_most_one (sym l.owes));
         hand = hand.1;
         nowhere = λ armed. nowhere_now truths act found me now p (armed_waits (the now.0).at.walk (ap has_armed (stands_walk (place_after next) now stands) ∙ armed));
       }
@@ -362,9 +362,9 @@ module _ {C : Type 0} (truths : Truths C) where
   begins_plain first (ReleaseReturning releasing last) beside me needs = absurd (let e = needs.0 in cc)
   begins_plain first (WaitReturning wait again last) beside me needs = absurd (let e = needs.0 in cc)
   begins_plain first (StoreCell i v) beside me needs = absurd (let e = needs.0 in cc)
-  begins_plain first ArmFlag beside me needs = absurd (let e = needs.0 in cc)
+  begins_plain first ArmFlag beside me needs = absurd (let e = needs in cc)
   begins_plain first PayWake beside me needs = absurd (let e = needs.0 in cc)
-  begins_plain first LoadFlag beside me needs = absurd (let e = needs.0 in cc)
+  begins_plain first LoadFlag beside me needs = absurd (let e = needs in cc)
   begins_plain first (Look limits again) beside me needs = absurd (let e = needs.0 in cc)
 
   pub begins_driven : (first : Walk C) (act : Act C) (next : Next (Walk C) Reply) (beside : Beside 1) (found : Found) (known new : Known) (me now : SeatOf C 1) → IsDriven truths None known me → Needs truths (Some first) act beside me

@@ -17,18 +17,19 @@ same_both false x = refl
 
 module _ {C : Type 0} (truths : Truths C) where
   -- it has made nothing of the queues
-  pub nobody_made : (waking : Waking) (k : ℕ) (last : Word) (turned : Turned) (old now : SeatOf C 1) → now.0 ≡ old.0 → HasUnchangedQueues now → woken_nobody k (the old.0).stood ≡ Some turned
-      → IsMade truths (Changed (WakeWaiters waking k)) last (record { turned = turned; finds = Woke false; owed = None }) old now
-  nobody_made waking k last turned old now same has is =
-      let stood = (the old.0).stood in let held = is_held last in
+  pub nobody_made : (waking : Waking) (k : ℕ) (last : Word) (turned : Turned) (me : SeatOf C 1) → HasUnchangedQueues me → woken_nobody k (the me.0).stood ≡ Some turned
+      → IsMade truths (Changed (WakeWaiters waking k)) last (record { turned = turned; finds = Woke false; owed = None }) me
+  nobody_made waking k last turned me has is =
+      let stood = (the me.0).stood in let held = is_held last in
       let n = found_nobody k stood turned is in
       let taken = (takes_nobody waking k stood n.0).0 in
       let lists = moves_nobody waking k held stood n.0 in
       record {
-        same = same;
-        carries = has ∙ ap (λ (l : Lists C). (0, l) ∷ []) ((λ i. (the (same i)).stood) ∙ sym lists);
-        moved = n.1 ∙ sym (ap (λ (ws : List (Waiter C)). held && has_some ws) taken ∙ none_of held);
-        bits = n.2 ∙ sym (ap (λ (l : Lists C). bits_of l.lock) lists);
+        turned = record {
+          carries = has ∙ ap (λ (l : Lists C). (0, l) ∷ []) (sym lists);
+          some = n.1 ∙ sym (ap (λ (ws : List (Waiter C)). held && has_some ws) taken ∙ none_of held);
+          bits = n.2 ∙ sym (ap (λ (l : Lists C). bits_of l.lock) lists);
+        };
         finds = ap Woke (sym (ap (λ (ws : List (Waiter C)). not held && has_some ws) taken ∙ none_of (not held)));
         owes = ap (λ (ws : List (Waiter C)). if held then [] else wakes_of k ws) taken ∙ same_both held [];
       }

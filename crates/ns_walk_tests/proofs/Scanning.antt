@@ -1,13 +1,15 @@
 -- A scan of the lock list in hand: what it has made of the queues, and what is owed then.
-use Rattle.std.proofs.Common.{Bool, Err, List, None, Ok, Option, Some, [], ap, arith, cond, count_by, false, inl, inr, is_some, length, map, refl, slice_index, slice_index_or, subst, sym, true, ℕ, ◌&&◌, ◌||◌, ◌∙◌, ◌∷◌, ◌≡◌}
-use Rattle.ns_gate.proofs.Prelude.{Carries, GateView, Owed, SeatOf, Sought, Truths, Waiter, begins_with_reader, bits_of, called_by, called_of, cases_Bool, has_some, lists_scanned, meets_at, seats_of, the, wake_told, woken_of, writes}
+use Rattle.std.proofs.Common.{Bool, Err, List, None, Ok, Option, Some, [], ap, arith, cond, count_by, false, inl, inr, is_some, length, map, refl, slice_index, slice_index_or, sym, true, ℕ, ◌&&◌, ◌||◌, ◌∙◌, ◌∷◌, ◌≡◌}
+use Rattle.ns_gate.proofs.Prelude.{Carries, Owed, SeatOf, Sought, Truths, Waiter, begins_with_reader, bits_of, called_by, called_of, cases_Bool, has_some, lists_scanned, meets_at, row_in, seats_of, the, wake_told, woken_of, writes}
 use Rattle.ns_gate.specs.Prelude.{scanned_writer}
 use Rattle.ns_gate.specs.declared.queues.Turned.{Turned}
 use Rattle.ns_queue.specs.Prelude.{Asked, asked_of, has_condition, is_eligible, reads, runs_after, tests_of}
 use Rattle.ns_word.proofs.Scans.{are_called}
 use Rattle.ns_word.specs.declared.act.Found.TheVariants.{Scanned}
 use Rattle.std.specs.List.{list_any}
-use Rattle.ns_walk_tests.specs.Driving.{IsScanned, at_most_one}
+use Rattle.ns_gate.specs.declared.queues.Returning.TheVariants.{Released}
+use Rattle.ns_gate.specs.Prelude.{Bits, Releasing, Word, scanned}
+use Rattle.ns_walk_tests.specs.Driving.{IsMade, at_most_one}
 use Rattle.ns_walk_tests.specs.declared.known.Hand.{Hand}
 
 or_none : (a b : Bool) → a || b ≡ false → (a ≡ false) × (b ≡ false)
@@ -72,36 +74,35 @@ module _ {C : Type 0} where
   some_one [] seat is = absurd (cc)
   some_one (w ∷ ws) seat is = refl
 
-module _ {C : Type 0} (truths : Truths C) where
-  -- where the seat was looked at before
-  pub scanned_behind : (row : List ℕ) (made : Hand) (old mid now : SeatOf C 1) → mid.0 ≡ old.0 → IsScanned truths row made mid now → IsScanned truths row made old now
-  scanned_behind row made old mid now same s = let t = subst (λ (vs : List (GateView C 1)). IsScanned truths row made (vs, mid.1) now) same s in record { same = t.same; carries = t.carries; moved = t.moved; bits = t.bits; finds = t.finds; owes = t.owes }
+module _ {C : Type 0} (truths : Truths C) (releasing : Releasing) (last : Word) (row : List ℕ) (old now : SeatOf C 1) (same : now.0 ≡ old.0) (here : row ≡ row_in (the old.0).at.held) (carries : Carries (lists_scanned truths row (the old.0).stood) now) where
+  -- what a scan has made of them, where it is known of the seat as it was before
+  scan_made : (made : Hand) → made.turned.some ≡ has_some (woken_of (meets_at truths row) (the old.0).stood.lock) → made.turned.bits ≡ bits_of (lists_scanned truths row (the old.0).stood).lock → made.finds ≡ scanned truths row (the old.0).stood.lock
+      → called_of (woken_of (meets_at truths row) (the old.0).stood.lock) ≡ at_most_one made.owed → IsMade truths (Released releasing) last made now
+  scan_made made some bits finds owes =
+      let stood : (the old.0).stood ≡ (the now.0).stood = λ i. (the (sym same i)).stood in
+      let is_row : row ≡ row_in (the now.0).at.held = here ∙ (λ i. row_in (the (sym same i)).at.held) in
+      record {
+        turned = record {
+          carries = carries ∙ (λ i. (0, lists_scanned truths (is_row i) (stood i)) ∷ []);
+          some = some ∙ (λ i. has_some (woken_of (meets_at truths (is_row i)) (stood i).lock));
+          bits = bits ∙ (λ i. bits_of (lists_scanned truths (is_row i) (stood i)).lock);
+        };
+        finds = finds ∙ (λ i. scanned truths (is_row i) (stood i).lock);
+        owes = (λ i. called_of (woken_of (meets_at truths (sym is_row i)) (sym stood i).lock)) ∙ owes;
+      }
 
-  pub writer_scanned : (row : List ℕ) (owed : Option Owed) (turned : Turned) (owes : Bool) (old now : SeatOf C 1) → now.0 ≡ old.0 → scanned_writer truths row (the old.0).stood ≡ Ok (owed, turned) → Carries (lists_scanned truths row (the old.0).stood) now
-      → list_any has_condition (the old.0).stood.lock ≡ false → owes ≡ is_some owed → IsScanned truths row (record { turned = turned; finds = Scanned owes 0; owed = owed }) old now
-  writer_scanned row owed turned owes old now same told carries none is =
+  pub writer_scanned : (owed : Option Owed) (turned : Turned) (owes : Bool) → scanned_writer truths row (the old.0).stood ≡ Ok (owed, turned) → list_any has_condition (the old.0).stood.lock ≡ false → owes ≡ is_some owed
+      → IsMade truths (Released releasing) last (record { turned = turned; finds = Scanned owes 0; owed = owed }) now
+  writer_scanned owed turned owes told none is =
       let meets = meets_at truths row in let lock = (the old.0).stood.lock in
       let few = told_few (begins_with_reader (woken_of meets lock)) _ _ owed turned told in
       let called : called_of (woken_of meets lock) ≡ at_most_one owed = called_alone meets lock few.0 ∙ ap at_most_one few.1 in
-      record {
-        same = same;
-        carries = carries;
-        moved = sym (ap (λ (t : Turned). t.some) few.2);
-        bits = sym (ap (λ (t : Turned). t.bits) few.2);
-        finds = λ i. Scanned ((is ∙ (sym (some_owed owed) ∙ sym (ap has_some called))) i) (sym (none_tested truths.same meets lock none) i);
-        owes = called;
-      }
+      scan_made _ (sym (ap (λ (t : Turned). t.some) few.2)) (sym (ap (λ (t : Turned). t.bits) few.2))
+      (λ i. Scanned ((is ∙ (sym (some_owed owed) ∙ sym (ap has_some called))) i) (sym (none_tested truths.same meets lock none) i)) called
 
-  pub reader_scanned : (row : List ℕ) (seat : ℕ) (via : Option ℕ) (wake : Owed) (made : Hand) (tests : ℕ) (old now : SeatOf C 1) → now.0 ≡ old.0 → Carries (lists_scanned truths row (the old.0).stood) now
-      → seat ∷ [] ≡ seats_of (woken_of (meets_at truths row) (the old.0).stood.lock) → via ∷ [] ≡ map (λ (w : Waiter C). w.via) (woken_of (meets_at truths row) (the old.0).stood.lock) → wake ∷ [] ≡ called_by (seat ∷ []) (via ∷ [])
-      → tests ≡ tests_of truths.same (meets_at truths row) (the old.0).stood.lock → made.turned.some ≡ true → made.turned.bits ≡ bits_of (lists_scanned truths row (the old.0).stood).lock → made.finds ≡ Scanned true tests → made.owed ≡ Some wake → IsScanned truths row made old now
-  reader_scanned row seat via wake made tests old now same carries told names is tested some bits finds owed =
+  pub reader_scanned : (seat : ℕ) (via : Option ℕ) (wake : Owed) (bits : Bits) (tests : ℕ) → seat ∷ [] ≡ seats_of (woken_of (meets_at truths row) (the old.0).stood.lock) → via ∷ [] ≡ map (λ (w : Waiter C). w.via) (woken_of (meets_at truths row) (the old.0).stood.lock) → wake ∷ [] ≡ called_by (seat ∷ []) (via ∷ [])
+      → tests ≡ tests_of truths.same (meets_at truths row) (the old.0).stood.lock → bits ≡ bits_of (lists_scanned truths row (the old.0).stood).lock → IsMade truths (Released releasing) last (record { turned = record { some = true; bits = bits }; finds = Scanned true tests; owed = Some wake }) now
+  reader_scanned seat via wake bits tests told names is tested holds =
       let ws = woken_of (meets_at truths row) (the old.0).stood.lock in
-      let called = are_called ws (seat ∷ []) (via ∷ []) (wake ∷ []) is told names in record {
-        same = same;
-        carries = carries;
-        moved = some ∙ sym (some_one ws seat told);
-        bits = bits;
-        finds = finds ∙ (λ i. Scanned (ap has_some called i) (tested i));
-        owes = sym called ∙ ap at_most_one (sym owed);
-      }
+      let called = are_called ws (seat ∷ []) (via ∷ []) (wake ∷ []) is told names in
+      scan_made _ (sym (some_one ws seat told)) holds (λ i. Scanned (ap has_some called i) (tested i)) (sym called)

@@ -1,9 +1,8 @@
 -- What a test knows of a seat that it drives by walks as values, over a row of one cell.
 use Rattle.std.specs.Prelude.{Bool, List, None, Option, Some, [], false, if◌then◌else◌, not, true, ℕ, ◌&&◌, ◌<◌, ◌∷◌, ◌≡◌}
 use Rattle.ns_gate.specs.declared.perform.Beside.{Beside}
-use Rattle.ns_gate.specs.Prelude.{Acquire, Act, Carries, Cause, Cell, Found, GateView, HasUnchangedQueues, Held, IsAtPlace, IsAtRest, LoadCell, Made, Owed, PayWake, Release, ReleaseReturning, ReturnQueues, Saw, SeatOf, StoreCell, TakeQueues, Truths, WaitReturning, Walk, has_queues, act_returning, bits_of, called_of, found_returned, has_some, lists_returned, lists_scanned, meets_at, mode_for, owed_after, row_in, some_returned, the, times, woken_of, Needs, Word}
+use Rattle.ns_gate.specs.Prelude.{Acquire, Act, Cause, Cell, Found, GateView, HasTurned, HasUnchangedQueues, Held, IsAtPlace, IsAtRest, IsNumbered, LoadCell, Made, Owed, PayWake, Release, ReleaseReturning, ReturnQueues, Saw, SeatOf, StoreCell, TakeQueues, Truths, WaitReturning, Walk, has_queues, act_returning, called_of, found_back, meets_at, mode_for, owed_after, row_in, the, times, woken_of, Needs, Word}
 use Rattle.ns_gate.specs.declared.queues.Returning.{Returning}
-use Rattle.ns_word.specs.Finds.{scanned}
 use Rattle.ns_word.specs.Walks.{has_armed}
 use Rattle.ns_walk_tests.specs.declared.known.Hand.{Hand}
 use Rattle.ns_walk_tests.specs.declared.known.Known.{Known}
@@ -106,11 +105,12 @@ owed_by truths (WaitReturning wait again last) view = called_of (woken_of (meets
 owed_by truths PayWake view = behind_first view.at.owed
 owed_by truths act view = view.at.owed
 
--- A seat of a call in progress may make the act with what is told beside it, and owes this wake then at most. Where the act puts the queues back, what they become has been made of them in hand; any other act finds the seat as it was.
+-- A seat of a call in progress may make the act with what is told beside it, which has its number, and owes this wake then at most. Where the act puts the queues back, what they become has been made of them in hand; any other act finds the seat as it was.
 pub record IsPrepared {C : Type 0} (truths : Truths C) (act : Act C) (beside : Beside 1) (owed : Option Owed) (old me : SeatOf C 1) : Type 0 where
   pub same : me.0 ≡ old.0
+  pub number : IsNumbered beside (the me.0)
   pub needs : Needs truths None act beside me
-  pub owes : owed_by truths act (the old.0) ≡ at_most_one owed
+  pub owes : owed_by truths act (the me.0) ≡ at_most_one owed
   pub kept : is_returning act ≡ false → me.1 ≡ old.1
 
 -- the wake that is owed behind an act that puts no queues back, where this one was owed
@@ -119,22 +119,10 @@ owed_behind PayWake owed = None
 owed_behind act owed = owed
 
 -- The queues in hand are as they are put back for this, and a test knows what the hand has made of them, what is found once they are back, and the one wake that is owed then.
-pub record IsMade {C : Type 0} (truths : Truths C) (returning : Returning C) (last : Word) (made : Hand) (old me : SeatOf C 1) : Type 0 where
-  pub same : me.0 ≡ old.0
-  pub carries : Carries (lists_returned truths (the old.0).at.seat returning last (row_in (the old.0).at.held) (the old.0).stood) me
-  pub moved : made.turned.some ≡ some_returned truths returning last (row_in (the old.0).at.held) (the old.0).stood
-  pub bits : made.turned.bits ≡ bits_of (lists_returned truths (the old.0).at.seat returning last (row_in (the old.0).at.held) (the old.0).stood).lock
-  pub finds : made.finds ≡ found_returned truths (the old.0).at.seat returning last (row_in (the old.0).at.held) (the old.0).stood
-  pub owes : owed_by truths (act_returning returning last) (the old.0) ≡ at_most_one made.owed
-
--- a scan at this row has left the queues in hand so, and a test knows the same of it
-pub record IsScanned {C : Type 0} (truths : Truths C) (row : List ℕ) (made : Hand) (old me : SeatOf C 1) : Type 0 where
-  pub same : me.0 ≡ old.0
-  pub carries : Carries (lists_scanned truths row (the old.0).stood) me
-  pub moved : made.turned.some ≡ has_some (woken_of (meets_at truths row) (the old.0).stood.lock)
-  pub bits : made.turned.bits ≡ bits_of (lists_scanned truths row (the old.0).stood).lock
-  pub finds : made.finds ≡ scanned truths row (the old.0).stood.lock
-  pub owes : called_of (woken_of (meets_at truths row) (the old.0).stood.lock) ≡ at_most_one made.owed
+pub record IsMade {C : Type 0} (truths : Truths C) (returning : Returning C) (last : Word) (made : Hand) (me : SeatOf C 1) : Type 0 where
+  pub turned : HasTurned truths returning last made.turned me
+  pub finds : made.finds ≡ found_back truths returning last me
+  pub owes : owed_by truths (act_returning returning last) (the me.0) ≡ at_most_one made.owed
 
 -- what is known of a new seat of this number, whose looks are to show this
 abbrev pub new_known : ℕ → Option Cause → Known

@@ -9,6 +9,7 @@ use crate::known::Known;
 use crate::learnt::{goes_between, has_queues, next_has, section_after};
 use crate::prepared::{UNTURNED, prepare};
 use ns_env::next::Next;
+use ns_gate::bound::Bound;
 use ns_gate::gate::{Gate, GateSeat};
 use ns_model::condition::Condition;
 use ns_word::act::Found;
@@ -29,7 +30,9 @@ pub fn go_on<A: Abort, C: Condition<1>>(
     ensures driven { IsDriven C.means (place_after result) known.new seat.new.me }
 {
     let act = walk.want();
-    let (beside, owed) = prepare(rt, gate, seat, *known, walk, act);
+    let mut bound = Bound::new(gate, seat, known.number);
+    let (beside, owed) = prepare(rt, &mut bound, *known, walk, act);
+    bound.end();
     let found = gate.perform(seat, None, act, &beside);
     let next = walk.got::<1>(found);
     if !goes_between(act, found, has_queues(walk), next_has(next)) {

@@ -1,12 +1,12 @@
 //! A signal or a broadcast on the queues in a driven seat's hand.
 
-ghost use Rattle.std.specs.Prelude.{◌≡◌, ◌<◌, IfNone, IfSome};
-ghost use Rattle.ns_gate.specs.Prelude.{HasUnchangedQueues, the};
+ghost use Rattle.std.specs.Prelude.{◌<◌, IfNone, IfSome};
+ghost use Rattle.ns_gate.specs.Prelude.{HasUnchangedQueues, HasWorked};
 ghost use Rattle.ns_gate.specs.declared.queues.Returning.TheVariants.{Changed};
 ghost use Rattle.ns_walk_tests.specs.Driving.{IsMade};
 
 use crate::known::Hand;
-use ns_gate::gate::{Gate, GateSeat};
+use ns_gate::bound::Bound;
 use ns_model::condition::Condition;
 use ns_word::act::{Change, Found, Waking};
 use ns_word::owed::wake_by;
@@ -15,21 +15,19 @@ use std::process::Abort;
 
 /// Takes the one who waits for the variable, if just one does.
 fn wake_sole<C: Condition<1>>(
-    gate: &Gate<C, 1>,
-    seat: &mut GateSeat<C, 1>,
+    seat: &mut Bound<'_, C, 1>,
     waking: Waking,
     k: u8,
     last: Word,
 ) -> Option<Hand>
-    requires of { seat.old.table_id ≡ gate.now }
     requires has { HasUnchangedQueues seat.old.me }
     requires variable { k < 4 }
-    ensures of { seat.new.table_id ≡ gate.now }
-    ensures made { IfSome result (λ made. IsMade C.means (Changed (Change.WakeWaiters waking k)) last made seat.old.me seat.new.me) }
-    ensures same { IfNone result ((seat.new.me.0 ≡ seat.old.me.0) × HasUnchangedQueues seat.new.me) }
+    ensures worked { HasWorked seat.old seat.new }
+    ensures made { IfSome result (λ made. IsMade C.means (Changed (Change.WakeWaiters waking k)) last made seat.new.me) }
+    ensures same { IfNone result (HasUnchangedQueues seat.new.me) }
 {
     let held = last.is_held();
-    match gate.wake_sole_in_hand(seat, waking, k, held) {
+    match seat.wake_sole_in_hand(waking, k, held) {
         Some((sole, turned)) => {
             let owed = if held {
                 None
@@ -50,20 +48,18 @@ fn wake_sole<C: Condition<1>>(
 /// Takes those whom the call wakes of several who wait for the variable. With the lock free it is to be one of them.
 fn wake_several<A: Abort, C: Condition<1>>(
     rt: &A,
-    gate: &Gate<C, 1>,
-    seat: &mut GateSeat<C, 1>,
+    seat: &mut Bound<'_, C, 1>,
     waking: Waking,
     k: u8,
     last: Word,
 ) -> Hand
-    requires of { seat.old.table_id ≡ gate.now }
     requires has { HasUnchangedQueues seat.old.me }
     requires variable { k < 4 }
-    ensures of { seat.new.table_id ≡ gate.now }
-    ensures made { IsMade C.means (Changed (Change.WakeWaiters waking k)) last result seat.old.me seat.new.me }
+    ensures worked { HasWorked seat.old seat.new }
+    ensures made { IsMade C.means (Changed (Change.WakeWaiters waking k)) last result seat.new.me }
 {
     let held = last.is_held();
-    let (taken, turned) = gate.wake_in_hand(seat, waking, k, held);
+    let (taken, turned) = seat.wake_in_hand(waking, k, held);
     let owed = match (held, taken.as_slice()) {
         (true, _) => None,
         (false, [one]) => Some(wake_by(k, one.seat)),
@@ -79,27 +75,25 @@ fn wake_several<A: Abort, C: Condition<1>>(
 /// Takes those whom the call wakes out of the list of the variable.
 pub fn wake<A: Abort, C: Condition<1>>(
     rt: &A,
-    gate: &Gate<C, 1>,
-    seat: &mut GateSeat<C, 1>,
+    seat: &mut Bound<'_, C, 1>,
     waking: Waking,
     k: u8,
     last: Word,
 ) -> Hand
-    requires of { seat.old.table_id ≡ gate.now }
     requires has { HasUnchangedQueues seat.old.me }
     requires variable { k < 4 }
-    ensures of { seat.new.table_id ≡ gate.now }
-    ensures made { IsMade C.means (Changed (Change.WakeWaiters waking k)) last result seat.old.me seat.new.me }
+    ensures worked { HasWorked seat.old seat.new }
+    ensures made { IsMade C.means (Changed (Change.WakeWaiters waking k)) last result seat.new.me }
 {
-    if let Some(turned) = gate.wake_nobody_in_hand(seat, k) {
+    if let Some(turned) = seat.wake_nobody_in_hand(k) {
         return Hand {
             turned,
             finds: Found::Woke { owes: false },
             owed: None,
         };
     }
-    if let Some(made) = wake_sole(gate, seat, waking, k, last) {
+    if let Some(made) = wake_sole(seat, waking, k, last) {
         return made;
     }
-    wake_several(rt, gate, seat, waking, k, last)
+    wake_several(rt, seat, waking, k, last)
 }

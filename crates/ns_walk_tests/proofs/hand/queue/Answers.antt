@@ -1,13 +1,9 @@
-use Rattle.std.proofs.Common.{[], ap, refl, ◌∙◌, ◌∷◌}
-use Rattle.ns_gate.specs.Prelude.{QueueSelf, bits_of, changed, the}
+use Rattle.std.proofs.Common.{refl}
+use Rattle.ns_gate.specs.Prelude.{QueueSelf}
+use Rattle.ns_gate.specs.declared.queues.Returning.TheVariants.{Changed}
+use Rattle.ns_walk_tests.proofs.Made.{made_of}
 use Rattle.ns_walk_tests.proofs.hand.queue.Goals as goal
 
 pub returns-clause-made : goal.returns-clause-made
-returns-clause-made g c = let e = c.queue_in_hand-bits.ensures in let last = c.args._last in let change = QueueSelf c.args.mode c.args.arrival in let stood = (the c.args.seat.now.me.0).stood in record {
-  same = e.seat.1;
-  carries = e.lists last ∙ ap (λ n. (0, changed n change last stood) ∷ []) c.requires.number.0;
-  moved = refl;
-  bits = e.bits last ∙ ap (λ n. bits_of (changed n change last stood).lock) c.requires.number.0;
-  finds = refl;
-  owes = c.requires.owes;
-}
+returns-clause-made g c = let last = c.args._last in let e = c.queue_in_hand-bits.ensures in
+    made_of g.C.Condition.means (Changed (QueueSelf c.args.mode c.args.arrival)) last _ c.args.seat.now.me c.queue_in_hand-bits.new.self.me e.worked.by (record { turned = record { carries = e.lists last; some = refl; bits = e.bits last }; finds = refl; owes = c.requires.owes })

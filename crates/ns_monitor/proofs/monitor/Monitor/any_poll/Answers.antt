@@ -1,72 +1,34 @@
-use Rattle.std.proofs.Common.{None, Some, ap, arith, false, refl, subst, sym, ◌∙◌}
-use Rattle.ns_monitor.proofs.Prelude.{in_room, AcquireLoad, Await, AwaitWakeInWait, CanStep, Flag, ForWait, HasAcquired, HasAnswered, HasSince, InAcquire, InWait, IsAtPlace, IsWaitingForAny, Limits, LoadFlag, Look}
-use Rattle.ns_monitor.proofs.Prelude.{LookOut, Looked, Performed, TableId, Wait, WaitKnown, Woken, WokenBy, at_will, can_go, goes}
-use Rattle.ns_monitor.proofs.Prelude.{got_of, since, since_then, the, waits_for_any}
-use Rattle.ns_monitor.proofs.SeveralWaits.{any_back_fresh, has_come_back, still_waits, tells_still}
-use Rattle.ns_monitor.proofs.Standing.{same_number}
-use Rattle.ns_monitor.proofs.Waits.{looks_out, woken_next}
+use Rattle.std.proofs.Common.{None, Some, ap, false, refl, subst, ◌∙◌}
+use Rattle.ns_monitor.proofs.Prelude.{Await, AwaitWakeInWait, ForWait, HasAcquired, HasAnswered, HasComeBackFromAny, InWait, Known, LoadFlag, Look, Looked, Performed, TableId, Wait, WaitKnown, WaitsStill, Woken, WokenBy, can_go, in_room, known_of, rules, waits_for_any}
+use Rattle.ns_monitor.proofs.Bounds.{gone_by, gone_then}
+use Rattle.ns_monitor.proofs.SeveralWaits.{has_come_back, still_waits, tells_still}
 use Rattle.ns_monitor.proofs.monitor.Monitor.any_poll.Given.{Over}
-use Rattle.ns_monitor.proofs.monitor.Monitor.any_poll.Goals.{After-look, After-acquire}
+use Rattle.ns_monitor.proofs.monitor.Monitor.any_poll.Goals.{After-acquire, After-look}
 use Rattle.ns_monitor.proofs.monitor.Monitor.any_poll.Goals as goal
 
 pub load_flag-flag-requires : goal.load_flag-flag-requires
-load_flag-flag-requires g c = let of = ◌∙◌ {A = TableId} (ap (λ (k : WaitKnown _ _). k.known.monitor) c.waiting.view_is) (◌∙◌ {A = TableId} c.requires.of (sym c.self.view_is)) in
-    in_room (of, (c.waiting.invariant.1, can_go g.C.Condition.means (InWait (waits_for_any g.H.Section.mode c.waiting.inside.cvs) AwaitWakeInWait) LoadFlag c.waiting.inside.seat.me refl c.waiting.invariant.0.at))
+load_flag-flag-requires g c = in_room (rw c.new-bound.ensures (can_go g.C.Condition.means (InWait (waits_for_any g.H.Section.mode c.waiting.inside.cvs) AwaitWakeInWait) LoadFlag c.waiting.inside.seat.me refl c.waiting.invariant.0.at))
 
-pub look-requires : goal.look-requires
-look-requires g c = let t = g.C.Condition.means in let cvs = c.waiting.inside.cvs in let wait : Wait g.row.C.Denot = waits_for_any g.H.Section.mode cvs in let flag = c.load_flag-flag in let me = c.waiting.inside.seat.me in let mid = flag.new.seat.me in
+-- the bound seat waits still
+still : (g : Over) (c : After-look g) → WaitsStill g.C.Condition.means c.args.waiting (record { known = known_of c.look.new.self.gate c.look.new.self.me; cvs = c.waiting.inside.cvs })
+still g c = let t = g.C.Condition.means in let mode = g.H.Section.mode in let cvs = c.waiting.inside.cvs in let s0 = c.waiting.inside.seat in let flag = c.load_flag-flag in let mid = flag.new.self in let new = c.look.new.self in
+    let loads = rw c.new-bound.ensures at flag.ensures in
     let is = c.for_any-wait.ensures ∙ ap (λ m. waits_for_any {C = g.row.C.Denot} m cvs) c.mode-mode.ensures in
-    let of = ◌∙◌ {A = TableId} (ap (λ (k : WaitKnown _ _). k.known.monitor) c.waiting.view_is) (◌∙◌ {A = TableId} c.requires.of (sym c.self.view_is)) in
-    let out = looks_out t wait flag.result me mid c.if-flag-eq1.true refl c.waiting.invariant.0.at flag.ensures.did in in_room (
-      ◌∙◌ {A = TableId} flag.ensures.seat of,
-      (
-        same_number t None c.waiting.inside.number me mid c.waiting.invariant.1 (since t None LoadFlag (Flag flag.result) me mid flag.ensures.did),
-        (
-          tt,
-          subst (λ (l : Limits). CanStep t None (Look l false) mid) (sym (ap (λ (v : Wait g.row.C.Denot). v.limits) is)) (can_go t (InWait wait LookOut) (Look at_will false) mid refl out),
-        ),
-      ),
-    )
-
--- the look that shows nothing
-looked : (g : Over) (c : After-look g) → Performed g.C.Condition.means None (Look at_will false) (Looked None) c.load_flag-flag.new.seat.me c.look.new.seat.me
-looked g c = let is = c.for_any-wait.ensures ∙ ap (λ m. waits_for_any {C = g.row.C.Denot} m c.waiting.inside.cvs) c.mode-mode.ensures in
-    subst (λ (l : Limits). Performed g.C.Condition.means None (Look l false) (Looked None) c.load_flag-flag.new.seat.me c.look.new.seat.me) (ap (λ (v : Wait g.row.C.Denot). v.limits) is) c.look.ensures.did
-
--- it waits still
-still : (g : Over) (c : After-look g) → IsWaitingForAny g.C.Condition.means g.H.Section.mode c.waiting.inside.cvs c.look.new.seat.me × HasSince None (the c.waiting.inside.seat.me.0) (the c.look.new.seat.me.0)
-still g c =
-    still_waits g.C.Condition.means g.H.Section.mode c.waiting.inside.cvs c.load_flag-flag.result c.waiting.inside.seat.me c.load_flag-flag.new.seat.me c.look.new.seat.me c.if-flag-eq1.true c.waiting.invariant.0 c.load_flag-flag.ensures.did (looked g c)
+    let looks = subst (λ l. Performed t None (Look l false) (Looked None) mid.me new.me) (ap (λ (v : Wait g.row.C.Denot). v.limits) is) c.look.ensures.by in
+    let waits = still_waits t mode cvs flag.result s0.me mid.me new.me c.if-flag-eq1.true c.waiting.invariant.0 loads.by looks in
+    let same = ◌∙◌ {A = TableId} c.look.ensures.gate (◌∙◌ {A = TableId} loads.gate (ap (λ (k : WaitKnown _ _). k.known.monitor) c.waiting.view_is)) in
+    tells_still t mode cvs c.args.waiting s0.table_id new.gate flag.result s0.me mid.me new.me c.waiting.view_is same c.if-flag-eq1.true c.waiting.invariant.0 waits.0 waits.1 loads.by looks
 
 pub returns-then-flag-eq1-clause-still : goal.returns-then-flag-eq1-clause-still
-returns-then-flag-eq1-clause-still g c = let s0 = c.waiting.inside.seat in let now = c.look.new.seat in
-    tells_still g.C.Condition.means g.H.Section.mode c.waiting.inside.cvs c.args.waiting s0.table_id now.table_id c.load_flag-flag.result s0.me c.load_flag-flag.new.seat.me now.me c.waiting.view_is
-    (◌∙◌ {A = TableId} c.look.ensures.seat (◌∙◌ {A = TableId} c.load_flag-flag.ensures.seat (ap (λ (k : WaitKnown _ _). k.known.monitor) c.waiting.view_is))) c.if-flag-eq1.true c.waiting.invariant.0 (still g c).0 (still g c).1
-    c.load_flag-flag.ensures.did (looked g c)
+returns-then-flag-eq1-clause-still g c = subst (λ (k : Known g.row.C.Denot g.row.N). WaitsStill g.C.Condition.means c.args.waiting (record { known = k; cvs = c.waiting.inside.cvs })) (search rules) (still g (goal.at.returns-then-flag-eq1-clause-still g c).After-look)
 
-pub acquire-requires : goal.acquire-requires
-acquire-requires g c = let t = g.C.Condition.means in let cvs = c.waiting.inside.cvs in let wait : Wait g.row.C.Denot = waits_for_any g.H.Section.mode cvs in let flag = c.load_flag-flag in let me = c.waiting.inside.seat.me in let mid = flag.new.seat.me in
-    let is = c.for_any-wait.ensures ∙ ap (λ m. waits_for_any {C = g.row.C.Denot} m cvs) c.mode-mode.ensures in
-    let led = goes t (InWait wait AwaitWakeInWait) LoadFlag (Flag flag.result) (got_of g.row.N (InWait wait AwaitWakeInWait) (Flag flag.result)) me mid c.waiting.invariant.0.at refl refl refl flag.ensures.did in
-    let next = woken_next t wait flag.result (Woken (Some c.variable_told-k.result)) c.arrival_of.result mid c.if-flag-eq1.false (ap (λ n. Woken (Some n)) c.variable_told-k.ensures) c.arrival_of.ensures led in in_room (
-      ◌∙◌ {A = TableId} flag.ensures.seat (◌∙◌ {A = TableId} (ap (λ (k : WaitKnown _ _). k.known.monitor) c.waiting.view_is) c.requires.of),
-      (
-        same_number t None c.waiting.inside.number me mid c.waiting.invariant.1 (since t None LoadFlag (Flag flag.result) me mid flag.ensures.did),
-        subst (λ (v : Wait g.row.C.Denot). IsAtPlace t (InAcquire (ForWait v (Woken (Some c.variable_told-k.result))) (AcquireLoad c.arrival_of.result)) mid) (sym is) next,
-      ),
-    )
-
--- it has come back
-over : (g : Over) (c : After-acquire g) → HasSince None (the c.waiting.inside.seat.me.0) (the c.acquire.new.seat.me.0)
-over g c = let mid = c.load_flag-flag.new.seat.me in since_then None _ _ _ (since g.C.Condition.means None LoadFlag (Flag c.load_flag-flag.result) c.waiting.inside.seat.me mid c.load_flag-flag.ensures.did) c.acquire.ensures.since
-
-answered : (g : Over) (c : After-acquire g) → HasAnswered g.C.Condition.means (Await (waits_for_any g.H.Section.mode c.waiting.inside.cvs)) (WokenBy (Some c.variable_told-k.result)) c.acquire.new.seat.me
-answered g c = subst (λ (v : Wait g.row.C.Denot). HasAcquired g.C.Condition.means (ForWait v (Woken (Some c.variable_told-k.result))) c.acquire.new.seat.me) (c.for_any-wait.ensures ∙ ap (λ m. waits_for_any m c.waiting.inside.cvs) c.mode-mode.ensures) c.acquire.ensures.acquired
-
-pub holding-requires : goal.holding-requires
-holding-requires g c = let t = g.C.Condition.means in let now = c.acquire.new.seat.me in let after = (goal.at.holding-requires g c).After-acquire in let a = answered g after in
-    (omega arith, (omega arith, (omega arith, ((a.rest, same_number t None c.waiting.inside.number c.waiting.inside.seat.me now c.waiting.invariant.1 (over g after)), any_back_fresh t g.H.Section.mode c.waiting.inside.cvs (Some c.variable_told-k.result) now a))))
+-- the bound seat has come back
+back : (g : Over) (c : After-acquire g) → HasComeBackFromAny g.C.Condition.means g.H.Section.mode (Some c.variable_told-k.result) c.args.waiting (known_of c.acquire.new.seat.gate c.acquire.new.seat.me)
+back g c = let t = g.C.Condition.means in let mode = g.H.Section.mode in let cvs = c.waiting.inside.cvs in let k = c.variable_told-k.result in let s0 = c.waiting.inside.seat in let new = c.acquire.new.seat in
+    let loads = rw c.new-bound.ensures at c.load_flag-flag.ensures in let since = gone_then None _ _ _ (gone_by loads) c.acquire.ensures.since in
+    let is = c.for_any-wait.ensures ∙ ap (λ m. waits_for_any m cvs) c.mode-mode.ensures in
+    let answered : HasAnswered t (Await (waits_for_any mode cvs)) (WokenBy (Some k)) new.me = subst (λ (v : Wait g.row.C.Denot). HasAcquired t (ForWait v (Woken (Some k))) new.me) is c.acquire.ensures.acquired in
+    has_come_back t mode cvs (Some k) c.args.waiting s0.table_id new.gate s0.me new.me c.waiting.view_is (◌∙◌ {A = TableId} since.gate (ap (λ (k : WaitKnown _ _). k.known.monitor) c.waiting.view_is)) c.waiting.invariant.0 since.by answered
 
 pub returns-clause-woken : goal.returns-clause-woken
-returns-clause-woken g c = let s0 = c.waiting.inside.seat in let now = c.acquire.new.seat in
-    rw c.holding.ensures (has_come_back g.C.Condition.means g.H.Section.mode c.waiting.inside.cvs (Some c.variable_told-k.result) c.args.waiting s0.table_id now.table_id s0.me now.me c.waiting.view_is (◌∙◌ {A = TableId} c.acquire.ensures.seat (sym c.requires.of)) c.waiting.invariant.0 (over g (goal.at.returns-clause-woken g c).After-acquire) (answered g (goal.at.returns-clause-woken g c).After-acquire))
+returns-clause-woken g c = rw c.holding.ensures (subst (λ (k : Known g.row.C.Denot g.row.N). HasComeBackFromAny g.C.Condition.means g.H.Section.mode (Some c.variable_told-k.result) c.args.waiting k) (search rules) (back g (goal.at.returns-clause-woken g c).After-acquire))

@@ -1,5 +1,5 @@
 use Rattle.std.proofs.Common.{List, [], ap, arith, length, length-append, refl, rules, subst, sym, ℕ, ◌+◌, ◌<◌, ◌∙◌, ◌∷◌, ◌≡◌}
-use Rattle.ns_monitor.proofs.Prelude.{in_room, AreNew, GateView, IsNumberOf, Known, SeatOf, TableId, all_new, first_of, fresh_seat, known_of, new_more, new_seat, numbered_first, numbered_rest, rest_of, the}
+use Rattle.ns_monitor.proofs.Prelude.{AreNew, GateView, IsNumberOf, Known, SeatOf, TableId, all_new, first_of, fresh_seat, known_of, new_more, new_seat, numbered_first, numbered_rest, rest_of, the}
 use Rattle.ns_monitor.proofs.Made.{new_rests}
 use Rattle.ns_monitor.proofs.monitor.Monitor.new.Goals as goal
 
@@ -30,7 +30,7 @@ returns g c = record {
 }
 
 pub new-requires : goal.new-requires
-new-requires g c = in_room c.requires
+new-requires g c = (omega arith, (omega arith, (omega arith, c.requires)))
 
 pub part-seat-requires : goal.part-seat-requires
-part-seat-requires g c = in_room (◌∙◌ {A = TableId} c.loop-number.invariant.0 c.in_ok-gate.ensures.0)
+part-seat-requires g c = (omega arith, (omega arith, (omega arith, ◌∙◌ {A = TableId} c.loop-number.invariant.0 c.in_ok-gate.ensures.0)))

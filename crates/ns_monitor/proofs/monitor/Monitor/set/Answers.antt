@@ -1,38 +1,28 @@
-use Rattle.std.proofs.Common.{Some, ap, arith, refl, rules, sym, ◌∙◌}
-use Rattle.ns_monitor.proofs.Prelude.{in_room, InCells, Known, SetStore, StoreCell, TableId, can_go, setting, the}
+use Rattle.std.proofs.Common.{Some, ap, subst, ◌∙◌}
+use Rattle.ns_monitor.proofs.Prelude.{Grows, HasAnswered, HasMode, HasSaved, HasSince, IsAtRest, IsNumberOf, Known, SeatOf, Succeeded, TableId, rules, setting, the}
 use Rattle.ns_monitor.proofs.Saves.{saves}
 use Rattle.ns_monitor.proofs.Standing.{same_number}
 use Rattle.ns_monitor.proofs.Callers.{grew, is_set, sets_next}
+use Rattle.ns_model.specs.declared.event.Mode.TheVariants.{Write}
+use Rattle.ns_word.specs.declared.request.Request.TheVariants as TheRequest
+use Rattle.ns_monitor.proofs.monitor.Monitor.set.Given.{Over}
+use Rattle.ns_monitor.proofs.monitor.Monitor.set.Goals.{After-store_cell}
 use Rattle.ns_monitor.proofs.monitor.Monitor.set.Goals as goal
+
+-- the cell was set
+is : (g : Over) (c : After-store_cell g) → HasAnswered g.C.Condition.means (TheRequest.Set c.args.i c.args.value) Succeeded c.store_cell.new.self.me × HasSince (Some (setting c.args.i c.args.value)) (the c.held.inside.seat.me.0) (the c.store_cell.new.self.me.0)
+is g c = let t = g.C.Condition.means in let i = c.args.i in let value = c.args.value in let old = c.held.inside.seat in let load = c.load_cell-old in let loaded = rw c.new-seat.ensures at load.ensures in
+    is_set t i value old.me load.new.self.me c.store_cell.new.self.me (sets_next t i value load.result c.set.result old.me load.new.self.me c.set.ensures.first c.held.invariant.0 loaded.by) c.store_cell.ensures.by
 
 -- the section stays in hand, and has saved what the cell held
 pub invariant_of-held : goal.invariant_of-held
-invariant_of-held g c = let t = g.C.Condition.means in let i = c.args.i in let value = c.args.value in let old = c.held.inside.seat in let load = c.load_cell-old in let new = c.store_cell.new.seat in
-    let a = is_set t i value old.me load.new.seat.me new.me (sets_next t i value load.result c.set.result old.me load.new.seat.me c.set.ensures.first c.held.invariant.0 load.ensures.did) c.store_cell.ensures.did in (
-      a.0.rest,
-      same_number t (Some (setting i value)) c.held.inside.number old.me new.me c.held.invariant.1 a.1,
-      saves i load.result value c.held.inside.hand.saved c.save.new.self.saved (the old.me.0).at.held (the new.me.0).at.held (search rules) c.held.invariant.2 (search rules) (search rules) (search rules) c.save.ensures,
-    )
+invariant_of-held g c = let t = g.C.Condition.means in let i = c.args.i in let value = c.args.value in let old = c.held.inside.seat in let new = c.store_cell.new.self in let a = is g (goal.at.invariant_of-held g c).After-store_cell in
+    let saved = saves i c.load_cell-old.result value c.held.inside.hand.saved c.save.new.self.saved (the old.me.0).at.held (the new.me.0).at.held (search rules) c.held.invariant.2 (search rules) (search rules) (search rules) c.save.ensures in
+    subst (λ (me : SeatOf g.row.C.Denot g.row.N). IsAtRest t me × IsNumberOf c.held.inside.number me × (HasMode Write (the me.0).at.held × HasSaved c.save.new.self.saved (the me.0).at.held)) (search rules)
+    (a.0.rest, same_number t (Some (setting i value)) c.held.inside.number old.me new.me c.held.invariant.1 a.1, saved)
 
-pub returns : goal.returns
-returns g c = record {
-  grows = let t = g.C.Condition.means in let i = c.args.i in let value = c.args.value in let old = c.held.inside.seat in let load = c.load_cell-old in let new = c.store_cell.new.seat in
-      let a = is_set t i value old.me load.new.seat.me new.me (sets_next t i value load.result c.set.result old.me load.new.seat.me c.set.ensures.first c.held.invariant.0 load.ensures.did) c.store_cell.ensures.did in
-      grew t (setting i value) c.args.held.now old.table_id new.table_id old.me new.me c.held.view_is (◌∙◌ {A = TableId} c.store_cell.ensures.seat (◌∙◌ {A = TableId} load.ensures.seat (ap (λ (k : Known g.row.C.Denot g.row.N). k.monitor) c.held.view_is))) a.0.rest a.1;
-  mine = search rules;
-  wide = search rules;
-  section = search rules;
-}
-
-pub store_cell-requires : goal.store_cell-requires
-store_cell-requires g c = let t = g.C.Condition.means in let i = c.args.i in let value = c.args.value in let me = c.held.inside.seat.me in let load = c.load_cell-old in let mid = load.new.seat.me in
-    let of = ◌∙◌ {A = TableId} load.ensures.seat (◌∙◌ {A = TableId} (ap (λ (k : Known g.row.C.Denot g.row.N). k.monitor) c.held.view_is) (c.requires.of ∙ sym c.self.view_is)) in
-    let next = sets_next t i value load.result c.set.result me mid c.set.ensures.first c.held.invariant.0 load.ensures.did in
-    in_room (of, (search rules, can_go t (InCells (SetStore i value)) (StoreCell i value) mid refl next.0))
-
-pub load_cell-old-requires : goal.load_cell-old-requires
-load_cell-old-requires g c = let of = ap (λ (k : Known g.row.C.Denot g.row.N). k.monitor) c.held.view_is ∙ (c.requires.of ∙ sym c.self.view_is) in
-    in_room (of, (c.requires.cell, search rules))
-
-pub save-requires : goal.save-requires
-save-requires g c = let wide = g.met.C.Condition.has_cells in (omega (arith, wide), c.requires.cell)
+pub returns-clause-grows : goal.returns-clause-grows
+returns-clause-grows g c = let t = g.C.Condition.means in let i = c.args.i in let value = c.args.value in let old = c.held.inside.seat in let new = c.store_cell.new.self in let a = is g (goal.at.returns-clause-grows g c).After-store_cell in
+    let loaded = rw c.new-seat.ensures at c.load_cell-old.ensures in
+    subst (λ (k : Known g.row.C.Denot g.row.N). Grows t (setting i value) c.args.held.now k) (search rules)
+    (grew t (setting i value) c.args.held.now old.table_id new.gate old.me new.me c.held.view_is (◌∙◌ {A = TableId} c.store_cell.ensures.gate (◌∙◌ {A = TableId} loaded.gate (ap (λ (k : Known g.row.C.Denot g.row.N). k.monitor) c.held.view_is))) a.0.rest a.1)

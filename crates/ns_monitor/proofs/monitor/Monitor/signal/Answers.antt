@@ -1,13 +1,9 @@
-use Rattle.std.proofs.Common.{sym, ◌∙◌}
-use Rattle.ns_monitor.proofs.Prelude.{Signaling, TableId, waking_by}
-use Rattle.ns_monitor.proofs.Callers.{grew}
+use Rattle.std.proofs.Common.{subst}
+use Rattle.ns_monitor.proofs.Prelude.{HasWoken, Known, Signaling, rules, waking_by}
 use Rattle.ns_monitor.proofs.Wakes.{has_woken}
 use Rattle.ns_monitor.proofs.monitor.Monitor.signal.Goals as goal
 
-pub returns : goal.returns
-returns g c = record {
-  grows = let t = g.C.Condition.means in let old = c.caller.inside.seat in let new = c.wake.new.seat in
-      grew t (waking_by Signaling c.args.k) c.args.caller.now old.table_id new.table_id old.me new.me c.caller.view_is (◌∙◌ {A = TableId} c.wake.ensures.seat (sym c.requires.of)) c.wake.ensures.woke.rest c.wake.ensures.since;
-  woke = let t = g.C.Condition.means in let old = c.caller.inside.seat in let new = c.wake.new.seat in
-      has_woken t (waking_by Signaling c.args.k) Signaling c.args.k c.args.caller.now old.table_id new.table_id old.me new.me c.caller.view_is c.wake.ensures.since c.wake.ensures.woke;
-}
+pub returns-clause-woke : goal.returns-clause-woke
+returns-clause-woke g c = let t = g.C.Condition.means in let k = c.args.k in let old = c.caller.inside.seat in let new = c.wake.new.seat in let since = rw c.new-seat.ensures at c.wake.ensures.since in
+    subst (λ (now : Known g.row.C.Denot g.row.N). HasWoken Signaling k c.args.caller.now now) (search rules)
+    (has_woken t (waking_by Signaling k) Signaling k c.args.caller.now old.table_id new.gate old.me new.me c.caller.view_is since.by c.wake.ensures.woke)

@@ -1,0 +1,5 @@
+use Rattle.ns_gate.proofs.Prelude.{arith}
+use Rattle.ns_gate.proofs.bound.Bound.park.Goals as goal
+
+pub park-requires : goal.park-requires
+park-requires g c = let wide = c.gate.invariant.0 in let below = c.own_flag-flag.ensures.1 in omega (arith, wide, below)

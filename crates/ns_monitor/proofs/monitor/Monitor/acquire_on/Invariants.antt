@@ -1,8 +1,0 @@
-use Rattle.std.proofs.Common.{None, ◌≡◌}
-use Rattle.ns_monitor.proofs.Prelude.{AcquiresBy, HasSince, IsPackable, the}
-use Rattle.ns_monitor.proofs.monitor.Monitor.acquire_on.Given as goal
-
-abbrev pub invariant-loop : goal.invariant-loop
-invariant-loop g l =
-    (goal.iterator-loop g).can_next l.iterator' × (goal.iterator-loop g).is_finite l.iterator' × (l.seat.table_id ≡ l.fn.seat.table_id) × IsPackable l.word
-    × HasSince None (the l.fn.seat.me.0) (the l.seat.me.0) × AcquiresBy g.C.Condition.means l.aim l.arrival l.word l.seat.me

@@ -1,0 +1,47 @@
+use Rattle.std.proofs.Common.{Bool, None, Some, ap, cond, refl, rules, subst, sym, true, ◌∙◌, ◌≡◌}
+use Rattle.ns_monitor.proofs.Prelude.{AwaitWakeInWait, Cause, Ended, Idle, IfEnded, InWait, LookOut, On, Outcome, Woken, in_room, is_limited}
+use Rattle.ns_monitor.proofs.Bounds.{gone_then}
+use Rattle.ns_monitor.proofs.Waits.{woken_next}
+use Rattle.ns_monitor.proofs.waiting.await_in.Goals as goal
+
+pub returns-then-not-is_some : goal.returns-then-not-is_some
+returns-then-not-is_some g c = record {
+  since = c.await_flag-flag.ensures.since;
+  looked = g.W.Watch.same c.args.watch.now;
+  ended = search rules;
+  comes = woken_next g.C.Condition.means c.args.wait c.await_flag-flag.result c.woken_by.result c.arrival_of.result c.await_flag-flag.new.seat.me c.await_flag-flag.ensures.cleared c.woken_by.ensures c.arrival_of.ensures c.await_flag-flag.ensures.woken;
+}
+
+pub returns-in-Ok : goal.returns-in-Ok
+returns-in-Ok g c = let waits = c.await_or_end in let came = c.in-Ok.ensures.came in record {
+  since = waits.ensures.since;
+  looked = waits.ensures.looked;
+  ended = search rules;
+  comes = woken_next g.C.Condition.means c.args.wait c.in-Ok.flag c.woken_by-in-Ok.result c.arrival_of-in-Ok.result waits.new.seat.me came.0 c.woken_by-in-Ok.ensures c.arrival_of-in-Ok.ensures came.1;
+}
+
+pub leave-requires : goal.leave-requires
+leave-requires g c = let waits = c.await_or_end in
+    in_room (c.requires.range, c.in-Err.ensures.came)
+
+pub await_or_end-requires : goal.await_or_end-requires
+await_or_end-requires g c = in_room (sym c.is_some.ensures ∙ c.if-not-is_some.false, (c.requires.watches, c.requires.at))
+
+-- what it left for is what was shown
+shown : (so : Cause → Type 0) (cause : Cause) (outcome : Outcome) → IfEnded outcome (λ other. other ≡ cause) → so cause → IfEnded outcome so
+shown so cause (Woken by) is met = tt
+shown so cause (Ended other) is met = subst so (sym is) met
+
+pub returns-in-Err : goal.returns-in-Err
+returns-in-Err g c = record {
+  since = gone_then None _ _ _ c.await_or_end.ensures.since c.leave.ensures.since;
+  looked = c.await_or_end.ensures.looked;
+  comes = c.leave.ensures.left;
+  ended = let w = c.args.watch.now in let limits = c.args.wait.limits in
+      shown (λ cause. (is_limited limits ≡ true) × g.W.Watch.shows w c.await_or_end.new.watch limits (Some cause)) c.in-Err.cause c.leave.result.1 c.leave.ensures.ended (sym c.is_some.ensures ∙ c.if-not-is_some.false, c.in-Err.ensures.ended);
+}
+
+pub await_flag-flag-requires : goal.await_flag-flag-requires
+await_flag-flag-requires g c = let wait = c.args.wait in
+    let rests = ap (λ (b : Bool). cond b (On (InWait wait LookOut)) (Idle (InWait wait AwaitWakeInWait))) (sym c.is_some.ensures ∙ c.if-not-is_some.true) in
+    in_room (record { loads = refl; free = refl; rests = rests }, c.requires.at)

@@ -1,0 +1,41 @@
+use Rattle.std.proofs.Common.{Bool, None, ap, refl, rules, subst, sym, ◌∙◌, ◌≡◌}
+use Rattle.ns_monitor.proofs.Prelude.{HasReached, HasWokenInHand, InSignal, IsOrderly, WakeAndReturn, has_some, in_room, list_fits, list_small, number, owed_woken, pay_woken, taken_from, the, wakes_of, works}
+use Rattle.ns_monitor.proofs.Bounds.{gone_itself, gone_then, gone_working}
+use Rattle.ns_monitor.proofs.Wakes.{hand_made}
+use Rattle.ns_monitor.proofs.waking.wake_waiters.Given.{Over}
+use Rattle.ns_monitor.proofs.waking.wake_waiters.Goals.{Joined-moved, else-moved, then-moved}
+use Rattle.ns_word.specs.declared.request.Request.TheVariants as TheRequest
+use Rattle.ns_monitor.proofs.waking.wake_waiters.Goals as goal
+
+pub return_woken-moved-requires : goal.return_woken-moved-requires
+return_woken-moved-requires g c = let t = g.C.Condition.means in let taken = c.requires.taken in let made = c.wake_in_hand-taken in let e = made.ensures in let me = c.args.seat.now.me in let now = made.new.self.me in let same = e.worked.by in in_room (c.requires.variable, (taken.packs, (works t (InSignal c.args.call.waking c.args.call.k (WakeAndReturn c.args.word)) me now taken.at refl same, (subst IsOrderly (λ i. (the (sym same i)).stood) e.orderly, (c.as_slice.ensures.value ∙ (e.taken ∙ (λ i. taken_from c.args.call.waking c.args.call.k (the (sym same i)).stood)), subst (λ held. HasWokenInHand c.args.call.waking c.args.call.k held made.result.1 now) c.is_held-held.ensures (hand_made c.args.call.waking c.args.call.k c.is_held-held.result made.result.1 me now same e.lists e.some e.bits))))))
+
+-- those to whom it pays are those to whom it owes a wake
+paid : (g : Over) (c : Joined-moved g) → c.if-moved.owed.items ≡ owed_woken c.args.call.waking c.args.call.k c.return_woken-moved.result (the c.wake_in_hand-taken.new.self.me.0).stood
+paid g c = let made = c.wake_in_hand-taken in let waking = c.args.call.waking in let k = c.args.call.k in let same = made.ensures.worked.by in
+    let owed = λ (b : Bool). owed_woken waking k b (the made.new.self.me.0).stood in
+    let taken = made.ensures.taken ∙ (λ i. taken_from waking k (the (sym same i)).stood) in
+    elim c.if-moved.branch [
+      | then-moved w ↦ (λ i. (w.owed-is i).items) ∙ (w.new-owed.ensures ∙ ap owed (sym w.if-moved.true))
+      | else-moved w ↦ (λ i. (w.owed-is i).items) ∙ (w.wakes-owed.ensures ∙ (ap (wakes_of k) (w.as_slice-else-moved.ensures.value ∙ taken) ∙ ap owed (sym w.if-moved.false)))
+    ]
+
+pub pay-requires : goal.pay-requires
+pay-requires g c = let t = g.C.Condition.means in let back = c.return_woken-moved.ensures in let now = c.return_woken-moved.new.seat.me in
+    let by = subst (λ ns. HasReached t (TheRequest.Wake c.args.call.waking c.args.call.k) (pay_woken c.args.call.waking c.args.call.k (has_some ns)) now) (sym back.returned.owed) back.returned.leads in
+    in_room (record { pays = refl; free = refl; more = refl }, (by, back.returned.owed ∙ sym (paid g (goal.at.pay-requires g c).Joined-moved)))
+
+pub returns : goal.returns
+returns g c = record {
+  since = gone_then None _ _ _ (gone_then None _ _ _ (gone_working None _ _ _ (gone_itself c.args.seat.now) c.wake_in_hand-taken.ensures.worked) c.return_woken-moved.ensures.since) c.pay.ensures.since;
+  woke = search rules;
+}
+
+pub wake_in_hand-taken-requires : goal.wake_in_hand-taken-requires
+wake_in_hand-taken-requires g c = in_room (list_small _ (list_fits g.row.C (number g.row.N) g.met.C.Condition.has_room), (c.requires.taken.taken, c.requires.variable))
+
+pub as_slice-requires : goal.as_slice-requires
+as_slice-requires g c = list_small _ (list_fits g.row.C (number g.row.N) g.met.C.Condition.has_room)
+
+pub as_slice-requires-else-moved : goal.as_slice-requires-else-moved
+as_slice-requires-else-moved g c = list_small _ (list_fits g.row.C (number g.row.N) g.met.C.Condition.has_room)
