@@ -1,6 +1,6 @@
 -- What laws say in words of their own, by which the program isn't proved: of rounds and of replies.
 use Rattle.std.proofs.Common.{Bool, IsSome, List, None, Option, Some, [], ap, arith, cond, drop, false, if◌then◌else◌, refl, slice_index, subst, suc, sym, true, ℕ, ◌==◌, ◌∙◌, ◌∷◌, ◌≡◌, ◌≤◌}
-use Rattle.ns_world.proofs.Prelude.{Answer, AnswersOfLock, Any, AnyMeans, Await, EnvEvent, GoesRound, HasMode, Held, InHand, InRound, Mode, Next, Number, ObjectLeads, ObjectReply, ObjectWalk, OnObjects, OnVariables, Releasing, Reply, Round, RoundLeads, RoundPlace, Seat, Step, WaitMeans}
+use Rattle.ns_world.proofs.Prelude.{Answer, AnswersOfLock, Any, AnyMeans, Await, EnvEvent, GoesRound, HasMode, Held, InHand, InRound, Mode, Next, Number, ObjectLeads, ObjectWalk, OnObjects, OnVariables, Releasing, Reply, Round, RoundLeads, RoundPlace, Seat, Step, WaitMeans}
 use Rattle.ns_world.proofs.Prelude.{Subject, Wait, WalkReply, Whole, have_variable, held_at, is_among, items_of, none_among, reply_of_lock, row_after, waits_then}
 use Rattle.ns_world.specs.Among.{LooksOn, is_for_any, object_at}
 use Rattle.ns_world.specs.Looks.{came_back, doing_after}

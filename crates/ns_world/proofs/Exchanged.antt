@@ -1,60 +1,12 @@
--- What the exchanges that were made do, over plain data.
-use Rattle.std.proofs.Common.{Bool, IfSome, List, MatchResult, None, Option, Some, [], ap, append-nil, false, if◌then◌else◌, is_some, not, refl, sym, true, ℕ, ◌&&◌, ◌++◌, ◌∙◌, ◌∷◌, ◌≡◌}
-use Rattle.ns_world.proofs.Prelude.{Act, Any, Arrival, AtLock, AtVariables, Bits, Broadcasting, CanLeave, CanWait, Change, ChangeFits, Cv, Effect, Err, Event, Found, Held, Home, IsInRange, IsUnmet, LeaveSelf, Left, Lists, Lock, Made, Makes, Mode, Nothing, Ok, OnCondition, OnVariables, Only, Owed}
-use Rattle.ns_world.proofs.Prelude.{Part, Plain, QueueSelf, Release, ReleaseReturning, Releasing, Result, ReturnQueues, Scanned, Signaling, Subject, Truths, Wait, WaitReturning, Waiter, WakeWaiters, Waking, Woke, Word, bits_of, called_of, change_commits, changed, cvs_without, exit_for, has_some}
-use Rattle.ns_world.proofs.Prelude.{is_held, leave_of, left_of, meets_at, moved_to, part, releasing_of, section_of, some_seats, stands_at, taken_by, taken_set, tests_of, waited_in, waiters_of, wakes_of, with_waiters, woken_of, word_released, word_released_returning, word_returned}
-
--- a section that may be left is in hand
-pub can_some : {C : Type 0} {N : ℕ} (truths : Truths C) (releasing : Releasing) (held : Option (Held C N)) → CanLeave truths releasing held → is_some held ≡ true
-can_some truths releasing None can = absurd can
-can_some truths releasing (Some held) can = refl
-
-module _ {C : Type 0} {N : ℕ} (truths : Truths C) (seat : ℕ) (releasing : Releasing) (last word word' : Word) (row : List ℕ) (flags : List ℕ) (h h' : List (Event C N)) where
-  pub released : (queues : Lists C) (owed : List Owed) (held held' : Option (Held C N)) → CanLeave truths releasing held → IfSome held (λ section. h' ≡ h ++ section_of truths.holds seat section Plain ∷ []) →
-      word ≡ last → word' ≡ word_released releasing last → held' ≡ None →
-      Makes truths seat (Release releasing last) (part word row queues flags held owed) h Made (part word' row queues flags held' owed) h'
-  released queues owed None held' can grows same becomes over = absurd can
-  released queues owed (Some held) held' can grows same becomes over = record {
-    commits = section_of truths.holds seat held Plain ∷ [];
-    effect = (held, refl, can.0, sym same, rw (becomes, over) refl, refl);
-    grows = grows;
-  }
-
-  pub scanned : (queues queues' : Lists C) (owed owed' : List Owed) (held held' : Option (Held C N)) (owes : Bool) (tests : ℕ) (bits : Bits) → CanLeave truths releasing held → IfSome held (λ section. h' ≡ h ++ section_of truths.holds seat section Plain ∷ []) →
-      word ≡ last → word' ≡ word_released_returning releasing owes bits last → held' ≡ None →
-      queues' ≡ with_waiters queues Lock (left_of (meets_at truths row) queues.lock) → owed' ≡ called_of (woken_of (meets_at truths row) queues.lock) →
-      owes ≡ has_some owed' → bits ≡ bits_of queues'.lock → tests ≡ tests_of truths.same (meets_at truths row) queues.lock →
-      Makes truths seat (ReleaseReturning releasing last) (part word row queues flags held owed) h (Scanned owes tests) (part word' row queues' flags held' owed') h'
-  scanned queues queues' owed owed' None held' owes tests bits can grows same becomes over left woken some tell count = absurd can
-  scanned queues queues' owed owed' (Some held) held' owes tests bits can grows same becomes over left woken some tell count =
-      let owing : owes ≡ has_some (woken_of (meets_at truths row) queues.lock) = some ∙ ap has_some woken ∙ some_seats (woken_of (meets_at truths row) queues.lock) in
-      record {
-        commits = section_of truths.holds seat held Plain ∷ [];
-        effect = (held, refl, can.0, sym same, rw (becomes, over, tell, left, woken, owing) refl, some ∙ ap has_some woken, count, refl);
-        grows = grows;
-      }
-
--- an act that commits nothing
-pub made : {C : Type 0} {N : ℕ} {truths : Truths C} {seat : ℕ} {act : Act C} {old new : Part C N} {found : Found} (h : List (Event C N)) → Effect truths seat act old found new [] → Makes truths seat act old h found new h
-made h effect = record { commits = []; effect = effect; grows = sym (append-nil h) }
-
--- one that queues put the queues back
-pub queued_back : {C : Type 0} {N : ℕ} (truths : Truths C) (seat : ℕ) (mode : Mode) (arrival : Arrival) (last word word' : Word) (row flags : List ℕ) (owed : List Owed) (held : Option (Held C N)) (queues queues' : Lists C) (bits : Bits) →
-    last ≡ word → queues' ≡ changed seat (QueueSelf mode arrival) last queues → bits ≡ bits_of queues'.lock → word' ≡ word_returned false bits last →
-    Effect truths seat (ReturnQueues (QueueSelf mode arrival) last) (part word row queues flags held owed) Made (part word' row queues' flags held owed) []
-queued_back truths seat mode arrival last word word' row flags owed held queues queues' bits same lists tell becomes = (refl, same, rw (becomes, tell, lists) refl, refl)
-
--- one that has changed nothing put them back
-pub unchanged_back : {C : Type 0} {N : ℕ} (truths : Truths C) (seat : ℕ) (last word word' : Word) (row flags : List ℕ) (owed : List Owed) (held : Option (Held C N)) (queues : Lists C) (bits : Bits) →
-    last ≡ word → bits ≡ bits_of queues.lock → word' ≡ word_returned false bits last →
-    Effect truths seat (ReturnQueues Nothing last) (part word row queues flags held owed) Made (part word' row queues flags held owed) []
-unchanged_back truths seat last word word' row flags owed held queues bits same tell becomes = (refl, same, rw (becomes, tell) refl, refl)
-
--- who didn't stand there commits nothing as it leaves
-pub not_leaving : {C : Type 0} {N : ℕ} (seat : ℕ) (home : Home) → leave_of {C = C} {N = N} seat home false ≡ []
-not_leaving seat AtLock = refl
-not_leaving seat (AtVariables (Only k)) = refl
-not_leaving seat (AtVariables (Any cvs)) = refl
+-- What the acts on a lock do, over plain data.
+use Rattle.std.proofs.Common.{Bool, Err, IfSome, List, MatchResult, None, Ok, Option, Result, Some, [], ap, append-nil, arith, cond, false, get_or, inl, inr, length, remove, slice_index_or, slice_set, subst, ◌<◌, if◌then◌else◌, is_some, map, not, refl, sym, true, ℕ, ◌&&◌, ◌++◌, ◌∙◌, ◌∷◌, ◌≡◌, ◌≢◌}
+use Rattle.ns_world.proofs.Prelude.{Acquire, Act, Any, AtLock, AtVariables, Broadcasting, CanLeave, CanWait, Cv, Effect, Event, Held, Home, IsInRange, IsUnmet, KeptLock, Leaves, Lists, Lock, Made, MakesAct, OnCondition, OnVariables, Only, Release, ReleaseReturning, Releasing, ReturnQueues, Saw, Scanned, Seat}
+use Rattle.ns_world.proofs.Prelude.{Signaling, StaysThere, Subject, cases_eq, flag_at, get_or-set_other, get_or-set_same, Owed, OwesOne, TakeQueues, Truths, Wait, WaitReturning, Waiter, WakeWaiters, Waking, Woke, are_called, bits_of, called_by, called_of, change_commits, cvs_without, expected, has_some, is_held, leave_of, leaves_by, left_of, lock_part, meets_at}
+use Rattle.ns_world.proofs.Prelude.{moved_to, releasing_of, section_of, some_called, some_seats, taken_by, taken_set, tests_of, waited_in, waiters_of, wakes_of, with_waiters, woken_of, word_released, word_released_returning, word_returned}
+use Rattle.ns_word.specs.Prelude.{flags_with, seats_of}
+use Rattle.std.proofs.lemmas.Bool.{eq-eqb, ne_eqb}
+use Rattle.ns_word.specs.Words.{mode_released}
+use Rattle.ns_model.specs.declared.event.Exit.TheVariants.{Plain}
 
 -- a call takes somebody where somebody stands there
 pub some_taken : {C : Type 0} (waking : Waking) (ws : List (Waiter C)) → has_some (taken_by waking ws) ≡ has_some ws
@@ -62,78 +14,149 @@ some_taken Signaling [] = refl
 some_taken Signaling (w ∷ ws) = refl
 some_taken Broadcasting ws = refl
 
-module _ {C : Type 0} {N : ℕ} (truths : Truths C) (seat : ℕ) (last word : Word) (row flags : List ℕ) (h : List (Event C N)) where
-  -- one that leaves put them back
-  pub left_back : (home : Home) (word' : Word) (h' : List (Event C N)) (owed : List Owed) (held : Option (Held C N)) (queues queues' : Lists C) (stood : Bool) (bits : Bits) →
-      last ≡ word → h' ≡ h ++ change_commits seat (LeaveSelf home) queues → stood ≡ stands_at seat home queues → queues' ≡ changed seat (LeaveSelf home) last queues → bits ≡ bits_of queues'.lock → word' ≡ word_returned false bits last →
-      Makes truths seat (ReturnQueues (LeaveSelf home) last) (part word row queues flags held owed) h (Left stood) (part word' row queues' flags held owed) h'
-  left_back home word' h' owed held queues queues' stood bits same grows stands lists tell becomes = record {
-    commits = change_commits seat (LeaveSelf home) queues;
-    effect = (ap Left (sym stands), same, rw (becomes, tell, lists) refl, refl);
-    grows = grows;
-  }
+unmet_in_range : {C : Type 0} (truths : Truths C) (on : Subject C) (row : List ℕ) → IsUnmet truths on row → IsInRange on
+unmet_in_range truths (OnCondition c) row p = tt
+unmet_in_range truths (OnVariables variables) row p = p
 
-  -- and one that wakes
-  pub woken_back : (waking : Waking) (k : ℕ) (word' : Word) (h' : List (Event C N)) (owed owed' : List Owed) (held : Option (Held C N)) (queues queues' : Lists C) (is some : Bool) (bits : Bits) →
-      last ≡ word → h' ≡ h ++ change_commits seat (WakeWaiters waking k) queues → is ≡ is_held last → some ≡ has_some (waiters_of queues (Cv k)) →
-      owed' ≡ (if is then [] else wakes_of k (taken_by waking (waiters_of queues (Cv k)))) →
-      queues' ≡ moved_to is (taken_by waking (waiters_of queues (Cv k))) (cvs_without (taken_set (taken_by waking (waiters_of queues (Cv k)))) queues) →
-      bits ≡ bits_of queues'.lock → word' ≡ word_returned (is && some) bits last →
-      Makes truths seat (ReturnQueues (WakeWaiters waking k) last) (part word row queues flags held owed) h (Woke (not is && some)) (part word' row queues' flags held owed') h'
-  woken_back waking k word' h' owed owed' held queues queues' is some bits same grows holds stands owes lists tell becomes =
-      let taken : some ≡ has_some (taken_by waking (waiters_of queues (Cv k))) = stands ∙ sym (some_taken waking (waiters_of queues (Cv k))) in
-      record {
-        commits = change_commits seat (WakeWaiters waking k) queues;
-        effect = (rw (holds, taken) refl, same, rw (becomes, tell, lists, owes, holds, taken) refl, refl);
-        grows = grows;
-      }
+module _ {C : Type 0} {N : ℕ} (truths : Truths C) where
+  -- a section that may be left is in hand
+  pub can_some : (releasing : Releasing) (held : Option (Held C N)) → CanLeave truths releasing held → is_some held ≡ true
+  can_some releasing None can = absurd can
+  can_some releasing (Some held) can = refl
 
--- what a change needs is of the lists alone
-pub fits_there : {C : Type 0} {N : ℕ} (seat : ℕ) (change : Change) (word : Word) (row row' flags flags' : List ℕ) (held : Option (Held C N)) (owed : List Owed) (queues : Lists C) →
-    ChangeFits seat change (part word row queues flags held owed) → ChangeFits seat change (part word row' queues flags' held owed)
-fits_there seat (QueueSelf mode arrival) word row row' flags flags' held owed queues p = p
-fits_there seat other word row row' flags flags' held owed queues p = p
+  -- so is one that a wait may leave
+  pub wait_some : (wait : Wait C) (again : Bool) (held : Option (Held C N)) → CanWait truths wait again held → is_some held ≡ true
+  wait_some wait again None can = absurd can
+  wait_some wait again (Some held) can = refl
 
--- ---- one that queues
+  -- and its list is one that there is
+  pub can_in_range : (wait : Wait C) (again : Bool) (held : Option (Held C N)) → CanWait truths wait again held → IsInRange wait.on
+  can_in_range wait again None p = absurd p
+  can_in_range wait again (Some held) p = unmet_in_range truths wait.on held.row p.unmet
 
--- a fact of what may have been refused, by another
-pub on_both : {A B X Y : Type 0} {P Q : A → Type 0} (r : Result A B) → ((x : A) → P x → Q x) → (X → Y) → MatchResult r P (λ fault. X) → MatchResult r Q (λ fault. Y)
-on_both (Ok x) f h p = f x p
-on_both (Err e) f h p = h p
+  -- the section that is left, its mode, and what it commits
+  left : (releasing : Releasing) (commits : Held C N → List (Event C N)) (held held' : Option (Held C N)) (h h' : List (Event C N)) → CanLeave truths releasing held → Leaves commits held h held' h' →
+      (section : Held C N) × (held ≡ Some section) × (section.mode ≡ mode_released releasing) × (h' ≡ h ++ commits section)
+  left releasing commits None held' h h' can leaves = absurd can
+  left releasing commits (Some section) held' h h' can leaves = (section, refl, can.0, leaves.0)
+
+  left_waiting : (wait : Wait C) (again : Bool) (commits : Held C N → List (Event C N)) (held held' : Option (Held C N)) (h h' : List (Event C N)) → CanWait truths wait again held → Leaves commits held h held' h' →
+      (section : Held C N) × (held ≡ Some section) × (section.mode ≡ wait.mode) × (h' ≡ h ++ commits section)
+  left_waiting wait again commits None held' h h' can leaves = absurd can
+  left_waiting wait again commits (Some section) held' h h' can leaves = (section, refl, can.mode, leaves.0)
+
+  module _ (lock : KeptLock C N) (seat : Seat C N) where
+    refused_by : (act : Act C) → lock.word ≢ expected act lock.word → Effect truths seat.number act (lock_part lock seat) (Saw lock.word) (lock_part lock seat) []
+    refused_by (Acquire aim arrival last) another = (refl, another, refl, refl)
+    refused_by (TakeQueues taking last) another = (refl, another, refl, refl)
+    refused_by (ReturnQueues change last) another = (refl, another, refl, refl)
+    refused_by (Release releasing last) another = (refl, another, refl, refl)
+    refused_by (ReleaseReturning releasing last) another = (refl, another, refl, refl)
+    refused_by (WaitReturning wait again last) another = (refl, another, refl, refl)
+    refused_by act another = absurd (another refl)
+
+    -- an act that finds another word than it needs changes nothing
+    pub finds_another : (act : Act C) → lock.word ≢ expected act lock.word → MakesAct truths act lock seat (Saw lock.word) lock seat
+    finds_another act another = record { commits = []; effect = refused_by act another; grows = sym (append-nil lock.history.items); stays = refl }
+
+    -- a release without a scan
+    pub released : (releasing : Releasing) (new : KeptLock C N) (next : Seat C N) → CanLeave truths releasing seat.held → Leaves (λ section. section_of truths.holds seat.number section Plain ∷ []) seat.held lock.history.items next.held new.history.items →
+        lock_part new next ≡ record (lock_part lock seat) { word = word_released releasing lock.word; held = next.held } → StaysThere seat next → MakesAct truths (Release releasing lock.word) lock seat Made new next
+    released releasing new next can leaves becomes stays =
+        let section = left releasing _ seat.held next.held lock.history.items new.history.items can leaves in record {
+          commits = section_of truths.holds seat.number section.0 Plain ∷ [];
+          effect = (section.0, section.1, section.2, refl, becomes ∙ (λ i. record (lock_part lock seat) { word = word_released releasing lock.word; held = leaves.1 i }), refl);
+          grows = section.3;
+          stays = stays;
+        }
+
+    -- queues put back by a call that wakes
+    pub woken_back : (waking : Waking) (k : ℕ) (new : KeptLock C N) (next : Seat C N) (is some : Bool) → is ≡ is_held lock.word → some ≡ has_some (waiters_of lock.queues (Cv k)) → new.history.items ≡ lock.history.items ++ change_commits seat.number (WakeWaiters waking k) lock.queues →
+        next.owed.items ≡ (if is then [] else wakes_of k (taken_by waking (waiters_of lock.queues (Cv k)))) → new.queues ≡ moved_to is (taken_by waking (waiters_of lock.queues (Cv k))) (cvs_without (taken_set (taken_by waking (waiters_of lock.queues (Cv k)))) lock.queues) →
+        lock_part new next ≡ record (lock_part lock seat) { word = word_returned (is && some) (bits_of new.queues.lock) lock.word; lists = new.queues; owed = next.owed.items } → StaysThere seat next → MakesAct truths (ReturnQueues (WakeWaiters waking k) lock.word) lock seat (Woke (not is && some)) new next
+    woken_back waking k new next is some holds stands grows owes lists becomes stays =
+        let all = taken_by waking (waiters_of lock.queues (Cv k)) in
+        let taken : some ≡ has_some all = stands ∙ sym (some_taken waking (waiters_of lock.queues (Cv k))) in
+        let moved = lists ∙ ap (λ held. moved_to held all (cvs_without (taken_set all) lock.queues)) holds in record {
+          commits = change_commits seat.number (WakeWaiters waking k) lock.queues;
+          effect = (
+            λ i. Woke (not (sym holds i) && sym taken i),
+            refl,
+            becomes ∙ (λ i. record (lock_part lock seat) { word = word_returned (holds i && taken i) (bits_of (moved i).lock) lock.word; lists = moved i; owed = (owes ∙ ap (λ held. if held then [] else wakes_of k all) holds) i }),
+            refl,
+          );
+          grows = grows;
+          stays = stays;
+        }
+
+    module _ (new : KeptLock C N) (next : Seat C N) (seats : List ℕ) (vias : List (Option ℕ)) (tests : ℕ) (told : seats ≡ seats_of (woken_of (meets_at truths lock.row) lock.queues.lock))
+        (names : vias ≡ map (λ (w : Waiter C). w.via) (woken_of (meets_at truths lock.row) lock.queues.lock)) (count : tests ≡ tests_of truths.same (meets_at truths lock.row) lock.queues.lock) where
+      abbrev woken : List (Waiter C)
+      woken = woken_of (meets_at truths lock.row) lock.queues.lock
+
+      some : has_some seats ≡ has_some (called_of woken)
+      some = some_called woken seats (called_of woken) told refl
+
+      after : (releasing : Releasing) (lists : Lists C) → new.queues ≡ lists → next.held ≡ None → lock_part new next ≡ record (lock_part lock seat) { word = word_released_returning releasing (has_some seats) (bits_of new.queues.lock) lock.word; lists = new.queues; held = next.held; owed = called_by seats vias } →
+          lock_part new next ≡ record (lock_part lock seat) { word = word_released_returning releasing (has_some woken) (bits_of lists.lock) lock.word; lists = lists; held = None; owed = called_of woken }
+      after releasing lists stay over becomes =
+          becomes ∙ (λ i. record (lock_part lock seat) { word = word_released_returning releasing ((some ∙ some_seats woken) i) (bits_of (stay i).lock) lock.word; lists = stay i; held = over i; owed = are_called woken seats vias (called_by seats vias) refl told names i })
+
+      -- one with a scan
+      pub scanned : (releasing : Releasing) → CanLeave truths releasing seat.held → Leaves (λ section. section_of truths.holds seat.number section Plain ∷ []) seat.held lock.history.items next.held new.history.items → new.queues ≡ with_waiters lock.queues Lock (left_of (meets_at truths lock.row) lock.queues.lock) →
+          lock_part new next ≡ record (lock_part lock seat) { word = word_released_returning releasing (has_some seats) (bits_of new.queues.lock) lock.word; lists = new.queues; held = next.held; owed = called_by seats vias } → StaysThere seat next →
+          MakesAct truths (ReleaseReturning releasing lock.word) lock seat (Scanned (has_some seats) tests) new next
+      scanned releasing can leaves stay becomes stays =
+          let section = left releasing _ seat.held next.held lock.history.items new.history.items can leaves in record {
+            commits = section_of truths.holds seat.number section.0 Plain ∷ [];
+            effect = (section.0, section.1, section.2, refl, after releasing _ stay leaves.1 becomes, some, count, refl);
+            grows = section.3;
+            stays = stays;
+          }
+
+      -- the same by a wait
+      pub waited : (wait : Wait C) (again : Bool) → CanWait truths wait again seat.held → Leaves (leaves_by truths.holds seat.number wait.on again) seat.held lock.history.items next.held new.history.items → new.queues ≡ waited_in truths seat.number wait again lock.row lock.queues →
+          lock_part new next ≡ record (lock_part lock seat) { word = word_released_returning (releasing_of wait.mode) (has_some seats) (bits_of new.queues.lock) lock.word; lists = new.queues; held = next.held; owed = called_by seats vias } → StaysThere seat next →
+          MakesAct truths (WaitReturning wait again lock.word) lock seat (Scanned (has_some seats) tests) new next
+      waited wait again can leaves lists becomes stays =
+          let section = left_waiting wait again _ seat.held next.held lock.history.items new.history.items can leaves in record {
+            commits = leaves_by truths.holds seat.number wait.on again section.0;
+            effect = (section.0, section.1, section.2, refl, after (releasing_of wait.mode) _ lists leaves.1 becomes, some, count, refl);
+            grows = section.3;
+            stays = stays;
+          }
+
+-- the flags after one was stored
+pub set_flag : (flags : List ℕ) (who value : ℕ) → who < length flags → ◌≡◌ {A = ℕ → ℕ} (flag_at (slice_set flags who value)) (flags_with (flag_at flags) who value)
+set_flag flags who value low i seat = stored i where
+  stored : get_or (slice_set flags who value) seat 0 ≡ flags_with (flag_at flags) who value seat
+  stored = elim (cases_eq who seat) [
+    | inl e ↦ subst (λ (m : ℕ). get_or (slice_set flags who value) m 0 ≡ flags_with (flag_at flags) who value m) e (get_or-set_same flags who value 0 low ∙ sym (ap (λ (c : Bool). cond c value (flag_at flags who)) (eq-eqb who who refl)))
+    | inr ne ↦ get_or-set_other flags who seat value 0 (λ e. ne (sym e)) ∙ sym (ap (λ (c : Bool). cond c value (flag_at flags seat)) (ne_eqb who seat ne))
+  ]
+
+-- who owes one owes some
+pub owes_some : (owed : List Owed) → OwesOne 64 owed → 0 < length owed
+owes_some [] one = absurd one
+owes_some (wake ∷ owed) one = omega arith
+
+-- the wake that is paid is the first of those that are owed
+pub pays_first : (owed rest : List Owed) (wake : Owed) → OwesOne 64 owed → wake ≡ slice_index_or owed 0 wake → rest ≡ remove owed 0 → (owed ≡ wake ∷ rest) × (wake.seat < 64)
+pays_first [] rest wake one first others = absurd one
+pays_first (next ∷ owed) rest wake one first others = (λ i. sym first i ∷ sym others i, subst (λ (w : Owed). w.seat < 64) (sym first) one)
+
+-- who didn't stand there commits nothing as it leaves
+pub not_leaving : {C : Type 0} {N : ℕ} (seat : ℕ) (home : Home) → leave_of {C = C} {N = N} seat home false ≡ []
+not_leaving seat AtLock = refl
+not_leaving seat (AtVariables (Only k)) = refl
+not_leaving seat (AtVariables (Any cvs)) = refl
 
 -- where nothing is committed the history stays
 pub none_more : {C : Type 0} {N : ℕ} (held : Option (Held C N)) (h : List (Event C N)) → IfSome held (λ section. h ≡ h ++ [])
 none_more None h = tt
 none_more (Some held) h = sym (append-nil h)
 
--- a section that a wait may leave is in hand
-pub wait_some : {C : Type 0} {N : ℕ} (truths : Truths C) (wait : Wait C) (again : Bool) (held : Option (Held C N)) → CanWait truths wait again held → is_some held ≡ true
-wait_some truths wait again None can = absurd can
-wait_some truths wait again (Some held) can = refl
-
--- and its list is one that there is
-unmet_in_range : {C : Type 0} (truths : Truths C) (on : Subject C) (row : List ℕ) → IsUnmet truths on row → IsInRange on
-unmet_in_range truths (OnCondition c) row p = tt
-unmet_in_range truths (OnVariables variables) row p = p
-
-pub can_in_range : {C : Type 0} {N : ℕ} (truths : Truths C) (wait : Wait C) (again : Bool) (held : Option (Held C N)) → CanWait truths wait again held → IsInRange wait.on
-can_in_range truths wait again None p = absurd p
-can_in_range truths wait again (Some held) p = unmet_in_range truths wait.on held.row p.unmet
-
-module _ {C : Type 0} {N : ℕ} (truths : Truths C) (seat : ℕ) (wait : Wait C) (again : Bool) (last word word' : Word) (row : List ℕ) (flags : List ℕ) (h h' : List (Event C N)) where
-  abbrev commits_of : Held C N → List (Event C N)
-  commits_of held = if again then [] else section_of truths.holds seat held (exit_for wait.on) ∷ []
-
-  pub waited : (queues queues' : Lists C) (owed owed' : List Owed) (held held' : Option (Held C N)) (owes : Bool) (tests : ℕ) (bits : Bits) → CanWait truths wait again held → IfSome held (λ section. h' ≡ h ++ commits_of section) →
-      word ≡ last → word' ≡ word_released_returning (releasing_of wait.mode) owes bits last → held' ≡ None →
-      queues' ≡ waited_in truths seat wait again row queues → owed' ≡ called_of (woken_of (meets_at truths row) queues.lock) →
-      owes ≡ has_some owed' → bits ≡ bits_of queues'.lock → tests ≡ tests_of truths.same (meets_at truths row) queues.lock →
-      Makes truths seat (WaitReturning wait again last) (part word row queues flags held owed) h (Scanned owes tests) (part word' row queues' flags held' owed') h'
-  waited queues queues' owed owed' None held' owes tests bits can grows same becomes over lists woken some tell count = absurd can
-  waited queues queues' owed owed' (Some held) held' owes tests bits can grows same becomes over lists woken some tell count =
-      let owing : owes ≡ has_some (woken_of (meets_at truths row) queues.lock) = some ∙ ap has_some woken ∙ some_seats (woken_of (meets_at truths row) queues.lock) in
-      record {
-        commits = commits_of held;
-        effect = (held, refl, can.mode, sym same, rw (becomes, over, tell, lists, woken, owing) refl, some ∙ ap has_some woken, count, refl);
-        grows = grows;
-      }
+-- a fact of what may have been refused, by another
+pub on_both : {A B X Y : Type 0} {P Q : A → Type 0} (r : Result A B) → ((x : A) → P x → Q x) → (X → Y) → MatchResult r P (λ fault. X) → MatchResult r Q (λ fault. Y)
+on_both (Ok x) f h p = f x p
+on_both (Err e) f h p = h p

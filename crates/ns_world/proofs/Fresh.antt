@@ -2,7 +2,6 @@
 use Rattle.std.proofs.Common.{List, None, Option, Some, [], ap, append_assoc, arith, false, get_or, length, map, refl, replicate, slice_get, slice_index, sub-one, suc, sym, zero, ℕ, ◌++◌, ◌+◌, ◌-◌, ◌<◌, ◌∙◌, ◌∷◌, ◌≡◌, ◌≤◌}
 use Rattle.ns_world.proofs.Prelude.{AreNumbered, HasLedTo, IsLawfulWhole, NoteStanding, ObjectWalk, Seat, Truths, asking_of, flag_at, fresh_lawful, fresh_seat, fresh_seats, fresh_views, fresh_whole, in_call, lawful_fresh, most, new_lawful, no_note, note_at, nothing_done, operating_of, option_map_or, same_Some, standing_of}
 use Rattle.ns_world.proofs.Prelude.{state_of, view_of, walk_in}
-use Rattle.ns_world.proofs.Exchanged.{made}
 
 -- where all are the same, so is each
 pub each_same : {A : Type 0} (x : A) (n i : ℕ) → get_or (replicate n x) i x ≡ x

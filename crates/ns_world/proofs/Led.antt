@@ -9,7 +9,6 @@ use Rattle.ns_world.proofs.Mapped.{got-map}
 use Rattle.ns_world.proofs.Places.{IsFirstAt}
 use Rattle.ns_world.proofs.SeatSet.{number_here, reads, within}
 use Rattle.ns_world.proofs.Placing.{IsPlace, placed_after}
-use Rattle.ns_world.proofs.Exchanged.{made}
 use Rattle.ns_env.specs.declared.next.Next.TheVariants as TheNext
 
 -- ---- what is done to the clock and the notes

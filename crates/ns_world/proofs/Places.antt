@@ -3,9 +3,8 @@ use Rattle.std.proofs.Common.{Bool, IsSome, List, MatchOption, None, Option, Som
 use Rattle.ns_world.proofs.Prelude.{Act, ActFits, Add, Any, AreVariables, ArmFlag, Broadcast, Call, CallFits, CallInRange, CanLeave, CounterWait, CvWait, Cvs, Doing, Done, Expiry, Fit, Get, HasMode, Held, IfMade, InCells, InQueuing, InWait, IsFirst, IsFirstAsk, IsNoLook}
 use Rattle.ns_world.proofs.Prelude.{IsNotified, IsSettled, Limits, Load, LoadFlag, MayWait, Mode, NeedsSection, NewNote, NoteStanding, NoteWait, Notify, ObjectStanding, OnCondition, OnEntry, OnLock, OnNotes, OnObjects, OnVariables, Once, Only, Owed, OwesOne, Part, PayWake}
 use Rattle.ns_world.proofs.Prelude.{PlaceFits, QuietCells, QuietLast, RLock, RUnlock, Read, Reader, ReturnQueues, Set, Setup, Signal, Subject, TestCells, TestLast, ToRelease, Truths, TryLock, TryRLock, Unlock, UnlockQuiet, Value, WaitAny, WaitFor, WaitReturning, Write, Writer, asked_of}
-use Rattle.ns_world.proofs.Prelude.{asks_for_any, env_asked_of, few, items_of, looks_at, mode_of, mode_waited, nat_tests, note_asked, object_asked, operating_of, part, quiet_asks, quiet_is_first, some_among, start_of, test_asks, there, wait_first, wait_is_first, waits_for_any, want_of}
+use Rattle.ns_world.proofs.Prelude.{asks_for_any, env_asked_of, few, items_of, looks_at, mode_of, mode_waited, nat_tests, note_asked, object_asked, operating_of, quiet_asks, quiet_is_first, some_among, start_of, test_asks, there, wait_first, wait_is_first, waits_for_any, want_of}
 use Rattle.ns_world.specs.Prelude.{Lock, Wait}
-use Rattle.ns_world.proofs.Exchanged.{made}
 
 -- a call that begins where a test says that its need is met
 pub begins_where : {C : Type 0} (n : ℕ) (setup : Setup) (notes : ℕ → NoteStanding) (call : Call C) (mode : Option Mode) (met : Bool) (start : Doing C) (r : Option (Doing C)) → r ≡ cond met (Some start) None →

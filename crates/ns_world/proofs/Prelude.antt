@@ -38,26 +38,26 @@ pub use Rattle.ns_word.proofs.ToldAfter.{own_all, own_append, own_append as own_
 pub use Rattle.ns_word.proofs.Waits.{unqueued}
 pub use Rattle.ns_word.specs.declared.act.Change.TheVariants.{Nothing}
 pub use Rattle.ns_world.specs.Among.{BeginsToWait, NamesFew}
-pub use Rattle.ns_world.specs.Prelude.{Act, ActFits, Add, Advance, Advances, Advancing, Answer, AnswersCall, AnswersOfLock, AnswersTo, Any, AnyAnswers, AnyMeans, AnyWait, AreAmong, AreBy, AreEnvBy, AreNumbered, AreObjectsBy, AreThere, AreVariables, ArmFlag, Arrival, Asked, AtLock, AtRest}
+pub use Rattle.ns_world.specs.Prelude.{Acquire, Act, ActFits, Add, Advance, Advances, Advancing, Answer, AnswersCall, AnswersOfLock, AnswersTo, Any, AnyAnswers, AnyMeans, AnyWait, AreAmong, AreBy, AreEnvBy, AreNumbered, AreObjectsBy, AreThere, AreVariables, ArmFlag, Arrival, Asked, AtLock, AtRest}
 pub use Rattle.ns_world.specs.Prelude.{AtSomePoint, AtVariables, Await, BeginsWith, Bits, Broadcast, Broadcasting, Call, CallFits, CallGoes, CallInRange, CanLeave, CanWait, Cause, Change, ChangeFits, ClockLoad, Commits, CounterWait, Counts, Course, Cv, CvWait, Cvs, Doing, DoingFits, Done, Effect}
 pub use Rattle.ns_world.specs.Prelude.{EndUntold, EnvAct, EnvActFits, EnvCourse, EnvEffect, EnvEnd, EnvEvent, EnvFound, EnvGoes, EnvGoesOn, EnvPlain, EnvRequest, EnvSoFar, EnvWalk, Event, Every, Expired, Expiry, ExpiryLoad, Fault, Finished, FirstClock, ForIsNotified, ForLook, ForNoteWait, Found}
 pub use Rattle.ns_world.specs.Prelude.{Get, GoesOn, GoesOnOrBegins, GoesRound, Happens, HasLedTo, HasList, HasMode, HaveLedTo, HaveShownNothing, Held, Home, IfMade, InCells, InHand, InQueuing, InRound, InWait, IsCounted, IsFew, IsFinished, IsFirst, IsFirstAsk, IsInRange, IsLater, IsLawfulEnv}
-pub use Rattle.ns_world.specs.Prelude.{IsLawfulObjects, IsLawfulWhole, IsLow, IsNotified, IsReady, IsSettled, IsUnfinished, IsUnmet, Items, LeaveSelf, LedTo, Left, Limits, Line, ListFits, Lists, Load, LoadFlag, LockState, Look, LookBy, LookFits, LookMeans, LookOver, Looked, Looks, LooksAt}
-pub use Rattle.ns_world.specs.Prelude.{LooksByLimits, LooksByRound, Made, Makes, MayEnd, MayGoOn, MayShow, MayWait, Means, Meanwhile, Mode, NamesAll, NeedsSection, NewNote, Next, NextLoad, NoSuchSeat, NoteLoad, NoteStanding, NoteWait, NotesSteps, Notify, Notifying, Number, ObjectEvent, ObjectGoes}
+pub use Rattle.ns_world.specs.Prelude.{IsLawfulObjects, IsLawfulWhole, IsLow, IsNotified, IsReady, IsSettled, IsUnfinished, IsUnmet, Items, KeptLock, LeaveSelf, Leaves, LedTo, Left, Limits, Line, ListFits, Lists, Load, LoadFlag, LockState, Look, LookBy, LookFits, LookMeans, LookOver, Looked, Looks, LooksAt}
+pub use Rattle.ns_world.specs.Prelude.{LooksByLimits, LooksByRound, Made, MakesAct, MayEnd, MayGoOn, MayShow, MayWait, Means, Meanwhile, Mode, NamesAll, NeedsSection, NewNote, Next, NextLoad, NoSuchSeat, NoteLoad, NoteStanding, NoteWait, NotesSteps, Notify, Notifying, Number, ObjectEvent, ObjectGoes}
 pub use Rattle.ns_world.specs.Prelude.{ObjectLeads, ObjectReply, ObjectSoFar, ObjectStanding, ObjectWalk, ObjectWords, ObjectsSteps, OfLock, OfNotes, OfObjects, On, OnCondition, OnEntry, OnLock, OnNotes, OnObjects, OnVariable, OnVariables, Once, Only, Operates, OutOfMemory, Over, Owed, OwesOne}
 pub use Rattle.ns_world.specs.Prelude.{Part, Past, PayWake, Performs, PlaceBy, PlaceFits, Plain, Progress, QueueSelf, QuietCells, QuietKeeps, QuietLast, RLock, RUnlock, Read, Reader, Release, ReleaseReturning, Releasing, Reply, Request, ReturnQueues, Round, RoundGo, RoundLeads, RoundNext, RoundOver}
-pub use Rattle.ns_world.specs.Prelude.{RoundPlace, RoundShows, RoundSoFar, Scanned, Seat, SeatLooks, SeatMakes, SeatView, Sees, Set, Setup, Shows, Signal, Signaling, SoFar, Started, Step, StepFits, Stops, StopsFor, Subject, TestCells, TestLast, ToRelease, Truths, TryLock, TryRLock, Turn, TurnFault}
+pub use Rattle.ns_world.specs.Prelude.{RoundPlace, RoundShows, RoundSoFar, Saw, Scanned, Seat, SeatLooks, SeatMakes, SeatView, Sees, Set, Setup, Shows, Signal, Signaling, SoFar, Started, StaysThere, Step, StepFits, Stops, StopsFor, Subject, TakeQueues, TestCells, TestLast, ToRelease, Truths, TryLock, TryRLock, Turn, TurnFault}
 pub use Rattle.ns_world.specs.Prelude.{TurnOf, Turned, TurnsOf, TurnsWith, Unlock, UnlockQuiet, Value, WaitAny, WaitFor, WaitFor as Wait, WaitMeans, WaitReturning, Waiter, WaitsFor, WakeWaiters, Waking, Walk, WalkFits, WalkReply, WasShown, Went, WereThere, Whole, WholeBegins, WholeFault}
 pub use Rattle.ns_world.specs.Prelude.{WholeIsBusy, WholeIsIdle, WholeMoves, WholeStarts, WholeStep, Woke, Word, Write, Writer, asked_of, asking_of, asks_for_any, asks_of, at_will, bits_of, by_round, called_by, called_of, calls_of, came_back, cause_of, change_commits, changed, counts_in}
-pub use Rattle.ns_world.specs.Prelude.{course_after, course_from, cvs_without, doing_after, doing_at, doing_by, done_by, done_in, env_after, env_asked_of, env_course_after, env_course_at, env_got_of, env_own, env_state, env_want_of, exit_for, finds, flag_at, fresh_seat}
-pub use Rattle.ns_world.specs.Prelude.{fresh_seats, fresh_views, fresh_whole, got_of, hand_of, happened, has_armed, has_queues, has_some, have_variable, held_after, held_at, in_call, is_among, is_call, is_due, is_end, is_held, is_in, is_over, is_there, is_unwoken, items_of, kept, leave_of, left_of}
-pub use Rattle.ns_world.specs.Prelude.{limits_for, limits_of, lists_by, lock_of, look_in, looked_after, looks_at, meets_at, mode_of, mode_waited, most, moved_to, no_note, note_asked, note_at, notes_by, notes_of, nothing_done, object_asked, object_got, object_place, object_start, object_step_of}
-pub use Rattle.ns_world.specs.Prelude.{objects_after, objects_by, objects_of, objects_own, operating_of, outcome, owed_to, own, part, part_in, passed, past_and, place_after, place_told, placed, plain_of, progress, progressed, releasing_of, reply_of_lock, reply_told, rest_of, round_got, row_after}
+pub use Rattle.ns_world.specs.Prelude.{course_after, course_from, cvs_without, doing_after, doing_at, doing_by, done_by, done_in, env_after, env_asked_of, env_course_after, env_course_at, env_got_of, env_own, env_state, env_want_of, exit_for, expected, finds, flag_at, fresh_seat}
+pub use Rattle.ns_world.specs.Prelude.{fresh_seats, fresh_views, fresh_whole, got_of, hand_of, happened, has_armed, has_queues, has_some, have_variable, held_after, held_at, in_call, is_among, is_call, is_due, is_end, is_held, is_in, is_over, is_there, is_unwoken, items_of, kept, leave_of, leaves_by, left_of}
+pub use Rattle.ns_world.specs.Prelude.{limits_for, limits_of, lists_by, lock_of, lock_part, look_in, looked_after, looks_at, meets_at, mode_of, mode_waited, most, moved_to, no_note, note_asked, note_at, notes_by, notes_of, nothing_done, object_asked, object_got, object_place, object_start, object_step_of}
+pub use Rattle.ns_world.specs.Prelude.{objects_after, objects_by, objects_of, objects_own, operating_of, outcome, owed_to, own, part_in, passed, past_and, place_after, place_told, placed, plain_of, progress, progressed, releasing_of, reply_of_lock, reply_told, rest_of, round_got, row_after}
 pub use Rattle.ns_world.specs.Prelude.{section_of, shown_by, shown_of, standing_of, stands_at, start_of, state_of, step_after, step_of, stopped, taken_by, taken_set, tests_after, tests_at, tests_of, there, times, times_among, times_in, up_to, view_of, wait_first, waited_in, waiters_of}
 pub use Rattle.ns_world.specs.Prelude.{waits_for_any, waits_then, wakes_by, wakes_of, wakes_owed, walk_at, walk_in, walk_of, want_of, whole_busy, whole_of, with_waiters, woken_by, woken_of, word_at, word_items, word_released, word_released_returning, word_returned}
 pub use Rattle.ns_world.specs.Prelude.{EnvSays, GoesInCall, IsNoLook}
 pub use Rattle.ns_world.specs.Replies.{env_told}
-pub use Rattle.ns_world.specs.Runs.{Item, tests_told}
+pub use Rattle.ns_world.specs.Runs.{Item, item_of, so_far, tests_told}
 pub use Rattle.ns_world.specs.contracts.world.World.{the_row as world_row}
 pub use Rattle.ns_world.specs.declared.world.World.TheInside.{Inside}
 pub use Rattle.std.proofs.Common.{[], ap, arith, false, map, refl, replicate, slice_get, sym, take}

@@ -3,7 +3,6 @@ use Rattle.std.proofs.Common.{List, None, Option, Some, ap, drop, inl, inr, leng
 use Rattle.ns_world.proofs.Prelude.{AnyWait, AreNumbered, Doing, DoingFits, HasLedTo, Held, IfMade, IsLawful, IsLawfulWhole, IsSettled, LooksByLimits, LooksByRound, NoteStanding, OnLock, Past, PlaceFits, Request, Seat, SeatView, Setup, WaitsFor, Whole, asked_of, cases_eq, kept, lock_of, map-set}
 use Rattle.ns_world.proofs.Prelude.{note_asked, number, number_at, numbers_stay, same_Some, set_here, set_same, set_there, slice_get_within, split_at, there_more, view_fits, view_of, walk_of}
 use Rattle.ns_world.proofs.Mapped.{got-map}
-use Rattle.ns_world.proofs.Exchanged.{made}
 
 -- ---- the seats
 

@@ -4,9 +4,9 @@ use Rattle.ns_world.proofs.Prelude.{Event, HasList, Inside, IsLawful, IsLawfulWh
 use Rattle.ns_world.proofs.Prelude.{stands_nowhere, times, times_among, times_in, times_in-cons, unqueued, view_of, wakes_owed, walk_at, walk_of, whole_of}
 use Rattle.ns_world.proofs.SeatSet.{number_here, split_here}
 
-module _ {C : Type 0} {N : ℕ} (truths : Truths C) (w : Inside C N) (lawful : IsLawfulWhole (whole_of truths (kept w.word w.row w.queues w.flags w.env w.seats.items w.history.items w.objects))) where
+module _ {C : Type 0} {N : ℕ} (truths : Truths C) (w : Inside C N) (lawful : IsLawfulWhole (whole_of truths (kept w.lock w.env w.seats.items w.objects))) where
   abbrev world : Whole C N
-  world = whole_of truths (kept w.word w.row w.queues w.flags w.env w.seats.items w.history.items w.objects)
+  world = whole_of truths (kept w.lock w.env w.seats.items w.objects)
 
   module _ (i : ℕ) (seat : Seat C N) (at : slice_get w.seats.items i ≡ Some seat) where
     abbrev views : List (SeatView C N)
@@ -17,17 +17,17 @@ module _ {C : Type 0} {N : ℕ} (truths : Truths C) (w : Inside C N) (lawful : I
     number_below = let is = number_here world lawful i seat at in let low = slice_get_within w.seats.items i seat at in let few = lawful.few in omega (arith, is, low, few)
 
     -- one that is about to queue stands nowhere
-    nowhere : has_armed (walk_of seat.doing) ≡ true → times seat.number w.queues ≡ 0
-    nowhere armed = stands_nowhere truths _ lawful.few w.history.items (lock_of world) (take i views) (view_of seat) (drop (suc i) views) (split_here world lawful i seat at) lawful.lawful (unqueued (walk_of seat.doing) armed)
+    nowhere : has_armed (walk_of seat.doing) ≡ true → times seat.number w.lock.queues ≡ 0
+    nowhere armed = stands_nowhere truths _ lawful.few w.lock.history.items (lock_of world) (take i views) (view_of seat) (drop (suc i) views) (split_here world lawful i seat at) lawful.lawful (unqueued (walk_of seat.doing) armed)
 
     -- the list that its walk names is one that there is
     listed : (walk : Option (Walk C)) → (walk_of seat.doing) ≡ walk → IfSome walk HasList
     listed None e = tt
-    listed (Some walk) e = has_list truths _ lawful.few w.history.items (lock_of world) (take i views) (view_of seat) (drop (suc i) views) (split_here world lawful i seat at) lawful.lawful walk e
+    listed (Some walk) e = has_list truths _ lawful.few w.lock.history.items (lock_of world) (take i views) (view_of seat) (drop (suc i) views) (split_here world lawful i seat at) lawful.lawful walk e
 
   -- what showing the queues needs of each seat
   pub shown_fit : ((i : ℕ) (seat : Seat C N) → slice_get w.seats.items i ≡ Some seat → IfSome (walk_of seat.doing) HasList) × ((i : ℕ) (seat : Seat C N) → slice_get w.seats.items i ≡ Some seat → seat.number < 64)
-      × ((i : ℕ) (seat : Seat C N) → slice_get w.seats.items i ≡ Some seat → has_armed (walk_of seat.doing) ≡ true → times seat.number w.queues ≡ 0)
+      × ((i : ℕ) (seat : Seat C N) → slice_get w.seats.items i ≡ Some seat → has_armed (walk_of seat.doing) ≡ true → times seat.number w.lock.queues ≡ 0)
   shown_fit = (λ i seat at. listed i seat at (walk_of seat.doing) refl, number_below, nowhere)
 
 -- ---- the wakes that are owed

@@ -40,11 +40,11 @@ pub use Rattle.ns_word.specs.Prelude.{got_of, has_armed, has_queues, has_some, h
 pub use Rattle.ns_word.specs.Prelude.{times_among, times_in, wait_first, waited_in, waiters_of, wakes_of, walk_at, want_of, with_waiters, woken_of, word_released, word_released_returning, word_returned}
 pub use Rattle.ns_word.specs.declared.acquire_walk.AcquirePlace.TheVariants.{AcquireLoad}
 pub use Rattle.ns_word.specs.declared.act.Act.{Act}
-pub use Rattle.ns_word.specs.declared.act.Act.TheVariants.{ArmFlag, LoadFlag, Look, PayWake, Release, ReleaseReturning, ReturnQueues, WaitReturning}
+pub use Rattle.ns_word.specs.declared.act.Act.TheVariants.{Acquire, ArmFlag, LoadFlag, Look, PayWake, Release, ReleaseReturning, ReturnQueues, TakeQueues, WaitReturning}
 pub use Rattle.ns_word.specs.declared.act.Change.{Change}
 pub use Rattle.ns_word.specs.declared.act.Change.TheVariants.{LeaveSelf, QueueSelf, WakeWaiters}
 pub use Rattle.ns_word.specs.declared.act.Found.{Found}
-pub use Rattle.ns_word.specs.declared.act.Found.TheVariants.{Left, Looked, Made, Scanned, Woke}
+pub use Rattle.ns_word.specs.declared.act.Found.TheVariants.{Left, Looked, Made, Saw, Scanned, Woke}
 pub use Rattle.ns_word.specs.declared.act.Waking.{Waking}
 pub use Rattle.ns_word.specs.declared.act.Waking.TheVariants.{Broadcasting, Signaling}
 pub use Rattle.ns_word.specs.declared.cell_walk.CellPlace.TheVariants.{GetLoad, QuietCells, QuietLast, SetLoad}
@@ -83,6 +83,7 @@ pub use Rattle.ns_world.specs.declared.call.Call.TheVariants.{Add, Advance, Broa
 pub use Rattle.ns_world.specs.declared.environment.Environment.{Environment}
 pub use Rattle.ns_world.specs.declared.fault.Fault.{Fault}
 pub use Rattle.ns_world.specs.declared.fault.Fault.TheVariants.{NoSuchSeat, OutOfMemory, StepLimit, TooManySeats}
+pub use Rattle.ns_world.specs.declared.lock.Lock.{Lock as KeptLock}
 pub use Rattle.ns_world.specs.declared.objects.AnyWait.{AnyWait}
 pub use Rattle.ns_world.specs.declared.objects.Objects.{Objects as ObjectWords}
 pub use Rattle.ns_world.specs.declared.reply.Reply.{Reply}

@@ -2,10 +2,12 @@
 use Rattle.std.specs.List.{flat_map}
 use Rattle.std.specs.Option.{option_map_or}
 use Rattle.std.specs.Prelude.{All, Bool, List, None, Option, Some, [], false, if◌then◌else◌, length, not, replicate, slice_get, slice_index, slice_set, true, unwrap_or, ℕ, ◌++◌, ◌+◌, ◌<◌, ◌==◌, ◌∷◌, ◌≡◌, ◌≤◌, ◌⊎◌}
-use Rattle.ns_world.specs.Names.{Call, Fault, Finished, Idle, Line, Misuse, NoSuchSeat, Nothing, OutOfMemory, Reply, Seat, Started, Step, StepLimit, Turn, Went}
+use Rattle.ns_world.specs.Names.{Call, Fault, Finished, Idle, Line, Misuse, NoSuchSeat, Nothing, OutOfMemory, Reply, Seat, Started, Step, StepLimit, Truths, Turn, Went}
 use Rattle.ns_world.specs.Calls.{CallInRange}
 use Rattle.ns_world.specs.Moves.{WholeBegins, WholeCommits, WholeMoves}
-use Rattle.ns_world.specs.Whole.{Whole, WholeIsIdle, WholeIsBusy, whole_busy}
+use Rattle.ns_world.specs.Whole.{Whole, WholeIsIdle, WholeIsBusy, whole_busy, whole_of}
+use Rattle.ns_world.specs.World.{Kept}
+use Rattle.ns_world.specs.declared.run.Tally.{Tally}
 use Rattle.ns_world.specs.declared.reply.Reply.TheVariants as TheReply
 
 -- ---- one turn
@@ -19,6 +21,10 @@ pub record Progress (C : Type 0) (N : ℕ) : Type 0 where
 -- a progress, part by part
 abbrev pub progress : {C : Type 0} {N : ℕ} → Whole C N → List ℕ → List Line → Progress C N
 progress world over lines = record { world = world; over = over; lines = lines }
+
+-- the progress of a run whose world and tally are these
+abbrev pub so_far : {C : Type 0} {N : ℕ} → Truths C → Kept C N → Tally → Progress C N
+so_far truths world tally = progress (whole_of truths world) tally.over tally.lines.items
 
 -- before the first turn
 abbrev pub start : {C : Type 0} {N : ℕ} → Whole C N → Progress C N
@@ -126,9 +132,13 @@ pub record Item : Type 0 where
   pub seat : ℕ
   pub whole : Bool
 
+-- an item of a word of a schedule
+abbrev pub item_of : Turn → Item
+item_of turn = record { seat = turn.thread; whole = turn.whole }
+
 -- a word of a schedule is as many items as it says
 abbrev pub word_items : Turn → List Item
-word_items turn = replicate turn.times (record { seat = turn.thread; whole = turn.whole })
+word_items turn = replicate turn.times (item_of turn)
 
 -- the items of a schedule, word by word
 abbrev pub items_of : List Turn → List Item

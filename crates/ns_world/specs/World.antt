@@ -1,6 +1,6 @@
 -- What a world keeps, and why none is made.
 use Rattle.std.specs.Prelude.{List, ℕ, ◌<◌, ◌≤◌}
-use Rattle.ns_world.specs.Names.{Environment, Event, Fault, Lists, ObjectWords, OutOfMemory, Seat, TooManySeats, Word}
+use Rattle.ns_world.specs.Names.{Environment, Event, Fault, KeptLock, Lists, ObjectWords, OutOfMemory, Seat, TooManySeats, Word}
 
 -- what a world keeps, with the flags and the notes in lists
 pub record Kept (C : Type 0) (N : ℕ) : Type 0 where
@@ -13,9 +13,9 @@ pub record Kept (C : Type 0) (N : ℕ) : Type 0 where
   pub history : List (Event C N)
   pub objects : ObjectWords
 
--- what a world keeps, of its parts
-abbrev pub kept : {C : Type 0} {N : ℕ} → Word → List ℕ → Lists C → List ℕ → Environment → List (Seat C N) → List (Event C N) → ObjectWords → Kept C N
-kept word row queues flags env seats history objects = record { word = word; row = row; queues = queues; flags = flags; env = env; seats = seats; history = history; objects = objects }
+-- what a world keeps, of its lock and what stands beside that
+abbrev pub kept : {C : Type 0} {N : ℕ} → KeptLock C N → Environment → List (Seat C N) → ObjectWords → Kept C N
+kept lock env seats objects = record { word = lock.word; row = lock.row; queues = lock.queues; flags = lock.flags; env = env; seats = seats; history = lock.history.items; objects = objects }
 
 -- why no world is made: more than 64 seats, or want of memory where there are no more
 abbrev pub RefusesWorld : ℕ → Fault → Type 0

@@ -115,21 +115,17 @@ pub(crate) fn step_objects<C: Seated<N>, const N: usize>(
     }
 }
 
-/// Makes the step that the round wants by which the seat's wait looks; where that is over, the wait goes on with
-/// what it has shown.
+/// The seat goes where a step of the round leads by which its wait looks; where the round is over, the wait goes on
+/// with what it has shown.
 pub(crate) fn go_round<C: Seated<N>, const N: usize>(
-    env: &Environment,
-    objects: &mut Objects,
     seat: &mut Seat<C, N>,
     walk: Walk<C>,
     wait: AnyWait,
-    round: ObjectWalk,
+    next: ObjectNext,
 ) -> Step
-    requires fits { StepFits env.now.next round }
-    requires few { IsFew wait }
-    ensures { (next : NextOf WalkOf ReplyOf) × Operates (plain_of env.now) objects.old seat.old.number round objects.new next × RoundLeads next seat.old walk wait seat.new result }
+    requires { IsFew wait }
+    ensures { RoundLeads next seat.old walk wait seat.new result }
 {
-    let next = operate(env, objects, round);
     if let Next::On(place) = next {
         seat.doing = Doing::LooksByRound(walk, wait, place);
         return Step::Went;

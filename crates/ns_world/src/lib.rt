@@ -27,6 +27,7 @@ mod environment;
 mod exchanges;
 pub mod fault;
 pub mod law;
+mod lock;
 mod looks;
 mod objects;
 mod operate;

@@ -4,13 +4,14 @@ ghost use Rattle.std.specs.Mem.{FitsInMemory};
 ghost use Rattle.ns_model.proofs.Sizes.{events_fit};
 ghost use Rattle.ns_model.specs.contracts.event.Event.{the_row as event_row};
 ghost use Rattle.ns_word.specs.contracts.view.Held.{the_row as held_row};
-ghost use Rattle.ns_world.specs.Room.{held_fits, seat_fits};
+ghost use Rattle.ns_world.specs.Room.{held_fits, lock_fits, seat_fits};
+ghost use Rattle.ns_world.specs.contracts.lock.Lock.{the_row as lock_row};
 ghost use Rattle.ns_world.specs.contracts.seat.Seat.{the_row as seat_row};
 
 use ns_model::condition::Condition;
 use ns_queue::room::Queueable;
 
-/// What code over any condition knows of the room that events, sections in hand and a world's seat take, beside
+/// What code over any condition knows of the room that events, sections in hand, a world's lock and its seats take, beside
 /// what the lists need. Every condition has it, so a caller never writes it.
 pub trait Seated<const N: usize>: Queueable<N> {
     ghost event_fits: { FitsInMemory (event_row Self.row N.row) };
@@ -18,6 +19,8 @@ pub trait Seated<const N: usize>: Queueable<N> {
     ghost held_fits: { FitsInMemory (held_row Self.row N.row) };
 
     ghost seat_fits: { FitsInMemory (seat_row Self.row N.row) };
+
+    ghost lock_fits: { FitsInMemory (lock_row Self.row N.row Self.Condition) };
 }
 
 impl<C: Condition<N>, const N: usize> Seated<N> for C {
@@ -26,4 +29,6 @@ impl<C: Condition<N>, const N: usize> Seated<N> for C {
     ghost held_fits = { held_fits Self.row N.row C.has_room };
 
     ghost seat_fits = { seat_fits Self.row N.row C.has_room };
+
+    ghost lock_fits = { lock_fits Self.row N.row C.has_room Self.Condition };
 }

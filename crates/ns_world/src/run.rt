@@ -3,7 +3,7 @@
 
 ghost use Rattle.std.specs.Prelude.{◌≡◌, ◌≤◌, ◌<◌, ◌+◌, ◌∷◌, [], Some, IfSome, IfOk, IfErr, OnOk, OnErr, All, map, replicate, slice_get, slice_index, MatchResult, ◌^◌, ◌++◌};
 ghost use Rattle.ns_world.specs.Prelude.{CallInRange, whole_of};
-ghost use Rattle.ns_world.specs.Runs.{calls_of, Counts, CountsTurn, progress, is_end, TurnsWith, tests_told, TurnFault, Advances, IsFinished, Stops, Runs, RunFault, AllIdle, IsCounted, ListFits, items_of};
+ghost use Rattle.ns_world.specs.Runs.{calls_of, Counts, CountsTurn, progress, is_end, TurnsWith, tests_told, TurnFault, Advances, IsFinished, Stops, Runs, RunFault, AllIdle, IsCounted, ListFits, item_of, items_of, so_far};
 
 use crate::call::Call;
 use crate::fault::Fault;
@@ -173,27 +173,26 @@ pub fn counted_turn<C: Seated<N>, const N: usize>(
     Ok(step)
 }
 
-/// An item of the seat: a turn, and for a `whole` one further turns until its call returns or is idle.
+/// An item of a word of the schedule: a turn, and for a `whole` one further turns until its call returns or is idle.
 fn item<C: Seated<N>, const N: usize>(
     world: &mut World<C, N>,
     lists: &[Vec<Call<C>>],
     tally: &mut Tally,
-    seat: u8,
-    whole: bool,
+    word: &Turn,
     limit: u32,
 ) -> Result<(), Fault>
     requires lists { All (λ calls. ListFits N calls.items) lists.now }
     requires counted { IsCounted (whole_of C.means world.old) tally.old.over }
     requires turns { tally.old.turns ≤ limit }
     ensures ok { OnOk result (let calls = map (λ calls. calls.items) lists.now in
-        Advances calls limit (progress (whole_of C.means world.old) tally.old.over tally.old.lines.items) tally.old.turns (record { seat = seat; whole = whole } ∷ []) [] (progress (whole_of C.means world.new) tally.new.over tally.new.lines.items) tally.new.turns) }
+        Advances calls limit (so_far C.means world.old tally.old) tally.old.turns (item_of word.now ∷ []) [] (so_far C.means world.new tally.new) tally.new.turns) }
     ensures counted { OnOk result (IsCounted (whole_of C.means world.new) tally.new.over) }
     ensures err { IfErr result (λ fault. let calls = map (λ calls. calls.items) lists.now in
-        Stops calls limit (progress (whole_of C.means world.old) tally.old.over tally.old.lines.items) tally.old.turns (record { seat = seat; whole = whole } ∷ []) (progress (whole_of C.means world.new) tally.new.over tally.new.lines.items) tally.new.turns fault) }
+        Stops calls limit (so_far C.means world.old tally.old) tally.old.turns (item_of word.now ∷ []) (so_far C.means world.new tally.new) tally.new.turns fault) }
 {
     loop {
-        let step = counted_turn(world, lists, tally, seat, limit)?;
-        if is_end(whole, step) {
+        let step = counted_turn(world, lists, tally, word.thread, limit)?;
+        if is_end(word.whole, step) {
             return Ok(());
         }
     }
@@ -211,13 +210,13 @@ fn schedule_word<C: Seated<N>, const N: usize>(
     requires counted { IsCounted (whole_of C.means world.old) tally.old.over }
     requires turns { tally.old.turns ≤ limit }
     ensures ok { OnOk result (let calls = map (λ calls. calls.items) lists.now in
-        Advances calls limit (progress (whole_of C.means world.old) tally.old.over tally.old.lines.items) tally.old.turns (items_of (word.now ∷ [])) [] (progress (whole_of C.means world.new) tally.new.over tally.new.lines.items) tally.new.turns) }
+        Advances calls limit (so_far C.means world.old tally.old) tally.old.turns (items_of (word.now ∷ [])) [] (so_far C.means world.new tally.new) tally.new.turns) }
     ensures counted { OnOk result (IsCounted (whole_of C.means world.new) tally.new.over) }
     ensures err { IfErr result (λ fault. let calls = map (λ calls. calls.items) lists.now in
-        Stops calls limit (progress (whole_of C.means world.old) tally.old.over tally.old.lines.items) tally.old.turns (items_of (word.now ∷ [])) (progress (whole_of C.means world.new) tally.new.over tally.new.lines.items) tally.new.turns fault) }
+        Stops calls limit (so_far C.means world.old tally.old) tally.old.turns (items_of (word.now ∷ [])) (so_far C.means world.new tally.new) tally.new.turns fault) }
 {
     for _ in 0..word.times {
-        item(world, lists, tally, word.thread, word.whole, limit)?;
+        item(world, lists, tally, word, limit)?;
     }
     Ok(())
 }

@@ -8,10 +8,11 @@ use crate::among::{go_round, step_objects};
 use crate::asks::ask;
 use crate::call::Call;
 use crate::environment::Environment;
-use crate::exchanges::make;
 use crate::fault::Fault;
+use crate::lock::Lock;
 use crate::looks::look;
 use crate::objects::Objects;
+use crate::operate::operate;
 use crate::room::Seated;
 use crate::seat::{Doing, Seat, is_call};
 use crate::seats::{busy_seats, new_seats};
@@ -39,13 +40,9 @@ use std::marker::Model;
 /// The queues are worked on in place, at the step that puts them back; only what is shown is a copy.
 #[derive(Drop)]
 pub struct World<C: Condition<N>, const N: usize> {
-    word: Word,
-    row: [u64; N],
-    queues: Queues<C, N>,
-    flags: [u8; 64],
+    lock: Lock<C, N>,
     env: Environment,
     seats: Vec<Seat<C, N>>,
-    history: Vec<Event<C, N>>,
     objects: Objects,
 }
 
@@ -55,9 +52,9 @@ impl<C: Condition<N>, const N: usize> Model for World<C, N> {
 
     ghost Value = { Kept C N };
 
-    ghost view = { λ w. kept w.word w.row w.queues w.flags w.env w.seats.items w.history.items w.objects };
+    ghost view = { λ w. kept w.lock w.env w.seats.items w.objects };
 
-    ghost invariant = { λ w. IsLawfulWhole (whole_of C.means (kept w.word w.row w.queues w.flags w.env w.seats.items w.history.items w.objects)) };
+    ghost invariant = { λ w. IsLawfulWhole (whole_of C.means (kept w.lock w.env w.seats.items w.objects)) };
 }
 
 impl<C: Seated<N>, const N: usize> World<C, N> {
@@ -78,13 +75,15 @@ impl<C: Seated<N>, const N: usize> World<C, N> {
         let objects = Objects::new(seats as u8, counters, onces as u8);
         let seats = new_seats(alloc, seats as u8)?;
         Ok(World {
-            word: Word::FREE,
-            row: [0; N],
-            queues: Queues::new(),
-            flags: [0; 64],
+            lock: Lock {
+                word: Word::FREE,
+                row: [0; N],
+                queues: Queues::new(),
+                flags: [0; 64],
+                history: Vec::new(alloc),
+            },
             env: Environment::new(),
             seats,
-            history: Vec::new(alloc),
             objects,
         })
     }
@@ -136,24 +135,12 @@ impl<C: Seated<N>, const N: usize> World<C, N> {
             Doing::OnNotes(walk) => Ok(ask(&mut self.env, here, walk)),
             Doing::OnObjects(walk) => Ok(step_objects(&self.env, &mut self.objects, here, walk)),
             Doing::LooksByLimits(walk, place) => Ok(look(&self.env, here, walk, place)),
-            Doing::LooksByRound(walk, wait, round) => Ok(go_round(
-                &self.env,
-                &mut self.objects,
-                here,
-                walk,
-                wait,
-                round,
-            )),
+            Doing::LooksByRound(walk, wait, round) => {
+                let next = operate(&self.env, &mut self.objects, round);
+                Ok(go_round(here, walk, wait, next))
+            }
             Doing::OnLock(walk, wait) => {
-                let found = make(
-                    &mut self.word,
-                    &mut self.row,
-                    &mut self.queues,
-                    &mut self.flags,
-                    here,
-                    &mut self.history,
-                    walk.want(),
-                )?;
+                let found = self.lock.make(here, walk.want())?;
                 here.tests = tests_after(found, here.tests);
                 Ok(settle(here, wait, &walk.got::<N>(found)))
             }
@@ -167,7 +154,7 @@ impl<C: Seated<N>, const N: usize> World<C, N> {
         ensures legal { IsLegal C.means.holds result.now }
         ensures by_seats { IsBySeats (length self.now.seats) result.now }
     {
-        self.history.as_slice()
+        self.lock.history.as_slice()
     }
 
     /// The lock word as it stands, as [`World::state`] shows it. A picture asks for it at each turn, and for
@@ -175,7 +162,7 @@ impl<C: Seated<N>, const N: usize> World<C, N> {
     pub fn word(&self) -> Word
         ensures { result ≡ self.now.word }
     {
-        self.word
+        self.lock.word
     }
 
     /// The world as it stands, of which the law of the lock holds, and those of the clock and the
@@ -189,7 +176,7 @@ impl<C: Seated<N>, const N: usize> World<C, N> {
         ensures busy { (seat : ℕ) → is_in result.busy seat ≡ whole_busy (whole_of C.means self.now) seat }
         ensures lawful { IsLawfulWhole (whole_of C.means self.now) }
     {
-        let queues = shown_queues(&self.queues, &self.seats, &self.row);
+        let queues = shown_queues(&self.lock.queues, &self.seats, &self.lock.row);
         State {
             word: self.word(),
             lock: queues.shown(Which::Lock),
@@ -200,7 +187,7 @@ impl<C: Seated<N>, const N: usize> World<C, N> {
                 queues.shown(Which::Cv(3)),
             ],
             owed: owed_wakes(&self.seats),
-            row: self.row,
+            row: self.lock.row,
             busy: busy_seats(&self.seats),
         }
     }

@@ -9,15 +9,7 @@ over (On place) seat seat' walk wait step not sees = absurd (not place refl)
 over next seat seat' walk wait step not sees = sees
 
 pub returns-in-On : goal.returns-in-On
-returns-in-On g c = (
-  c.operate-next.result,
-  c.operate-next.ensures c.args.seat.now.number,
-  subst (λ next. RoundLeads next c.args.seat.now c.args.walk c.args.wait (record c.args.seat.now { doing = LooksByRound c.args.walk c.args.wait c.in-On.place }) Went) (sym c.in-On.is) (refl, refl),
-)
+returns-in-On g c = subst (λ next. RoundLeads next c.args.seat.now c.args.walk c.args.wait (record c.args.seat.now { doing = LooksByRound c.args.walk c.args.wait c.in-On.place }) Went) (sym c.in-On.is) (refl, refl)
 
 pub returns : goal.returns
-returns g c = (
-  c.operate-next.result,
-  c.operate-next.ensures c.args.seat.now.number,
-  over c.operate-next.result c.args.seat.now c.see.new.seat c.args.walk c.args.wait c.see.result c.in_default.not-On (rw (← c.shown_by-shown.ensures, ← c.cause_of.ensures) c.see.ensures),
-)
+returns g c = over c.args.next c.args.seat.now c.see.new.seat c.args.walk c.args.wait c.see.result c.in_default.not-On (rw (← c.shown_by-shown.ensures, ← c.cause_of.ensures) c.see.ensures)

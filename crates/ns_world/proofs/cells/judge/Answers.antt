@@ -1,5 +1,5 @@
-use Rattle.ns_world.proofs.Prelude.{refl}
+use Rattle.ns_world.proofs.Prelude.{[], append-nil, refl, sym}
 use Rattle.ns_world.proofs.cells.judge.Goals as goal
 
 pub returns : goal.returns
-returns g c = λ seat word row queues flags owed. (c.in-Some.section, c.in-Some.is, c.quiet.ensures, refl, refl)
+returns g c = λ lock. record { commits = []; effect = (c.in-Some.section, c.in-Some.is, c.quiet.ensures, refl, refl); grows = sym (append-nil lock.history.items); stays = refl }

@@ -14,7 +14,7 @@ loop-step-init g c =
 pub returns-in_err-step : goal.returns-in_err-step
 returns-in_err-step g c = record {
   err = let p = err_from_is_err_and c.from_residual.result c.from_residual.ensures.1 in
-      rw (p.1, p.2) (stops_behind c.loop-step.invariant.advances (c.in_err-step.ensures.err c.args.whole));
+      rw (p.1, p.2) (stops_behind c.loop-step.invariant.advances (c.in_err-step.ensures.err c.args.word.now.whole));
   counted = let p = err_from_is_err_and c.from_residual.result c.from_residual.ensures.1 in rw p.1 tt;
   ok = let p = err_from_is_err_and c.from_residual.result c.from_residual.ensures.1 in rw p.1 tt;
 }

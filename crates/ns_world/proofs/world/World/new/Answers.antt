@@ -8,12 +8,12 @@ at_most : {n : ℕ} → n < 2 ^ 32 → n ≤ 4294967295
 at_most few = omega (arith, few)
 
 pub invariant_of-result : goal.invariant_of-result
-invariant_of-result g c = rw (c.in_ok-seats.ensures, c.new.ensures, c.new-2.ensures, c.new-3.ensures.items, no_flags, c.new-objects.ensures)
+invariant_of-result g c = rw (c.in_ok-seats.ensures, c.new.ensures, c.new-2.ensures.items, c.new-3.ensures, no_flags, c.new-objects.ensures)
     (whole_new g.row.C.Denot g.row.N g.C.Condition.means c.args.seats
     c.args.counters.now c.args.onces (omega arith) c.requires.counters c.requires.onces (λ k. at_most (c.type_inv.counters k).fits))
 
 pub returns : goal.returns
-returns g c = record { made = (rw (c.in_ok-seats.ensures, c.new.ensures, c.new-2.ensures, c.new-3.ensures.items, no_flags, c.new-objects.ensures) refl, omega arith); lawful = invariant_of-result g c }
+returns g c = record { made = (rw (c.in_ok-seats.ensures, c.new.ensures, c.new-2.ensures.items, c.new-3.ensures, no_flags, c.new-objects.ensures) refl, omega arith); lawful = invariant_of-result g c }
 
 pub new-requires : goal.new-requires
 new-requires g c = g.met.C.Queueable.parts_fit.queues
@@ -26,9 +26,6 @@ new-objects-requires g c = c.requires.counters
 
 pub returns-in_err-seats : goal.returns-in_err-seats
 returns-in_err-seats g c = record { lawful = let p = err_from_is_err_and c.from_residual.result c.from_residual.ensures.1 in rw p.1 tt; made = let p = err_from_is_err_and c.from_residual.result c.from_residual.ensures.1 in rw (p.1, p.2) (omega arith) }
-
-pub new-requires-2 : goal.new-requires-2
-new-requires-2 g c = tt
 
 pub overflow_cast-seats : goal.overflow_cast-seats
 overflow_cast-seats g c = record { fits = omega arith }

@@ -1,6 +1,5 @@
 use Rattle.std.proofs.Common.{ap, inl, inr, refl, subst, ◌∙◌, ◌≤◌}
 use Rattle.ns_world.proofs.Prelude.{LooksByLimits, LooksByRound, OnNotes, Seat, asking_of, doing_after, err_from_is_err_and, is_call, operating_of, set_same, step_of, tests_after, walk_of, whole_of}
-use Rattle.ns_queue.specs.Sizes.{row_small}
 use Rattle.ns_world.proofs.Laws.{step_keeps}
 use Rattle.ns_world.proofs.Mapped.{found_at}
 use Rattle.ns_world.proofs.Tells.{act_here, ask_here, few_there, may_go_on, no_look_here, operates_fit, refused_here, stands_here}
@@ -107,15 +106,15 @@ returns-in-LooksByLimits-clause-lawful g c = invariant_of-self-in-LooksByLimits 
 
 -- ---- a look by a round
 
+pub operate-next-requires : goal.operate-next-requires
+operate-next-requires g c =
+    let at = found_at c.self.inside.seats.items c.args.seat c.index_mut-here.result.now c.if-at-len.false (c.len.ensures ∙ c.self.inside.seats.ok.0) c.index_mut-here.ensures.value in
+    operates_fit _ c.self.invariant c.args.seat c.index_mut-here.result.now at c.in-LooksByRound.round (ap operating_of c.in-LooksByRound.is)
+
 pub go_round-requires : goal.go_round-requires
 go_round-requires g c =
-    let at = found_at c.self.inside.seats.items c.args.seat c.index_mut-here.result.now c.if-at-len.false (c.len.ensures ∙ c.self.inside.seats.ok.0) c.index_mut-here.ensures.value in (
-      g.met.C.Seated.seat_fits,
-      (
-        operates_fit _ c.self.invariant c.args.seat c.index_mut-here.result.now at c.in-LooksByRound.round (ap operating_of c.in-LooksByRound.is),
-        (stands_here _ c.self.invariant c.args.seat c.index_mut-here.result.now at (LooksByRound c.in-LooksByRound.walk c.in-LooksByRound.wait c.in-LooksByRound.round) c.in-LooksByRound.is).0.there.0,
-      ),
-    )
+    let at = found_at c.self.inside.seats.items c.args.seat c.index_mut-here.result.now c.if-at-len.false (c.len.ensures ∙ c.self.inside.seats.ok.0) c.index_mut-here.ensures.value in
+    (g.met.C.Seated.seat_fits, (stands_here _ c.self.invariant c.args.seat c.index_mut-here.result.now at (LooksByRound c.in-LooksByRound.walk c.in-LooksByRound.wait c.in-LooksByRound.round) c.in-LooksByRound.is).0.there.0)
 
 pub returns-in-LooksByRound-clause-ok : goal.returns-in-LooksByRound-clause-ok
 returns-in-LooksByRound-clause-ok g c =
@@ -125,7 +124,7 @@ returns-in-LooksByRound-clause-ok g c =
       next = c.go_round.new.seat;
       at = at;
       seats = refl;
-      makes = let made = c.go_round.ensures in inr (inr (inl (record { walk = c.in-LooksByRound.walk; wait = c.in-LooksByRound.wait; round = c.in-LooksByRound.round; stands = c.in-LooksByRound.is; leads = made.0; operates = made.1; goes = made.2; same = refl })));
+      makes = inr (inr (inl (record { walk = c.in-LooksByRound.walk; wait = c.in-LooksByRound.wait; round = c.in-LooksByRound.round; stands = c.in-LooksByRound.is; leads = c.operate-next.result; operates = c.operate-next.ensures c.index_mut-here.result.now.number; goes = c.go_round.ensures; same = refl })));
     }))
 
 pub invariant_of-self-in-LooksByRound : goal.invariant_of-self-in-LooksByRound
@@ -141,7 +140,7 @@ make-requires g c =
     let at = found_at c.self.inside.seats.items c.args.seat c.index_mut-here.result.now c.if-at-len.false (c.len.ensures ∙ c.self.inside.seats.ok.0) c.index_mut-here.ensures.value in
     let act = act_here _ c.self.invariant c.args.seat c.index_mut-here.result.now at c.in-OnLock.walk (ap walk_of c.in-OnLock.is) in
     let no_look = no_look_here _ c.self.invariant c.args.seat c.index_mut-here.result.now at c.in-OnLock.walk c.in-OnLock.wait c.in-OnLock.is in
-    (row_small g.met.C.Condition.has_cells.1, (g.met.C.Queueable.parts_fit.queues, (g.met.C.Seated.seat_fits, (g.met.C.Seated.event_fits, (rw c.want.ensures act, rw c.want.ensures no_look)))))
+    (g.met.C.Seated.lock_fits, (g.met.C.Seated.seat_fits, (rw c.want.ensures act, rw c.want.ensures no_look)))
 
 pub settle-requires : goal.settle-requires
 settle-requires g c =
@@ -151,7 +150,7 @@ settle-requires g c =
 pub returns-in_ok-found-in-OnLock-clause-ok : goal.returns-in_ok-found-in-OnLock-clause-ok
 returns-in_ok-found-in-OnLock-clause-ok g c =
     let at = found_at c.self.inside.seats.items c.args.seat c.index_mut-here.result.now c.if-at-len.false (c.len.ensures ∙ c.self.inside.seats.ok.0) c.index_mut-here.ensures.value in
-    let made = c.in_ok-found-in-OnLock.ensures.0 in let kept = c.in_ok-found-in-OnLock.ensures.1 in let found = c.in_ok-found-in-OnLock.found in
+    let made = c.in_ok-found-in-OnLock.ensures in let found = c.in_ok-found-in-OnLock.found in
     rw (← c.self.view_is) (inr (record {
       here = c.index_mut-here.result.now;
       next = c.settle.new.seat;
@@ -166,7 +165,7 @@ returns-in_ok-found-in-OnLock-clause-ok g c =
         performs = rw c.settle.ensures.seat record {
           commits = made.commits;
           effect = rw (← c.want.ensures) made.effect;
-          goes = λ i. record (kept i) { doing = doing_after c.in-OnLock.wait (c.got.ensures i); tests = (c.tests_after-here.ensures ∙ ap (λ (s : Seat _ _). tests_after found s.tests) kept) i };
+          goes = λ i. record (made.stays i) { doing = doing_after c.in-OnLock.wait (c.got.ensures i); tests = (c.tests_after-here.ensures ∙ ap (λ (s : Seat _ _). tests_after found s.tests) made.stays) i };
           grows = made.grows;
           answers = c.settle.ensures.step ∙ ap (step_of c.in-OnLock.wait) c.got.ensures;
         };
@@ -184,7 +183,7 @@ pub invariant_of-self-in_err-found-in-OnLock : goal.invariant_of-self-in_err-fou
 invariant_of-self-in_err-found-in-OnLock g c =
     let at = found_at c.self.inside.seats.items c.args.seat c.index_mut-here.result.now c.if-at-len.false (c.len.ensures ∙ c.self.inside.seats.ok.0) c.index_mut-here.ensures.value in
     let err = c.in_err-found-in-OnLock.ensures in
-    rw (err.1, err.2, err.3, err.4, err.5, err.6, set_same c.self.inside.seats.items c.args.seat c.index_mut-here.result.now at) c.self.invariant
+    rw (err.lock, err.history, err.seat, set_same c.self.inside.seats.items c.args.seat c.index_mut-here.result.now at) c.self.invariant
 
 pub returns-in_err-found-in-OnLock-clause-lawful : goal.returns-in_err-found-in-OnLock-clause-lawful
 returns-in_err-found-in-OnLock-clause-lawful g c = invariant_of-self-in_err-found-in-OnLock g c
@@ -194,5 +193,5 @@ returns-in_err-found-in-OnLock-clause-err g c =
     let at = found_at c.self.inside.seats.items c.args.seat c.index_mut-here.result.now c.if-at-len.false (c.len.ensures ∙ c.self.inside.seats.ok.0) c.index_mut-here.ensures.value in
     let p = err_from_is_err_and c.from_residual.result c.from_residual.ensures.1 in
     let err = c.in_err-found-in-OnLock.ensures in
-    let refused = refused_here _ c.self.invariant c.args.seat c.index_mut-here.result.now at c.in-OnLock.walk (ap walk_of c.in-OnLock.is) (rw c.want.ensures at err.0) in
-    rw (p.1, p.2) (rw (← c.self.view_is) (rw (err.1, err.2, err.3, err.4, err.5, err.6, set_same c.self.inside.seats.items c.args.seat c.index_mut-here.result.now at) refl, refused))
+    let refused = refused_here _ c.self.invariant c.args.seat c.index_mut-here.result.now at c.in-OnLock.walk (ap walk_of c.in-OnLock.is) (rw c.want.ensures at err.commits) in
+    rw (p.1, p.2) (rw (← c.self.view_is) (rw (err.lock, err.history, err.seat, set_same c.self.inside.seats.items c.args.seat c.index_mut-here.result.now at) refl, refused))
