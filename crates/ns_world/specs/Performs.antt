@@ -46,8 +46,8 @@ abbrev pub Acts : {C E : Type 0} {N : ℕ} → Truths C → Act C → KeptLock C
 Acts truths act old here result new next = MatchResult result (λ found. MakesAct truths act old here found new next) (λ fault. RefusesAct act old here new next)
 
 -- the section in hand is over, and what it commits stands at the end of the history
-abbrev pub Leaves : {C : Type 0} {N : ℕ} → (Held C N → List (Event C N)) → Option (Held C N) → List (Event C N) → Option (Held C N) → List (Event C N) → Type 0
-Leaves commits held history held' history' = IfSome held (λ section. history' ≡ history ++ commits section) × (held' ≡ None)
+abbrev pub Leaves : {C : Type 0} {N : ℕ} → (Held C N → List (Event C N)) → Seat C N → List (Event C N) → Seat C N → List (Event C N) → Type 0
+Leaves commits here history next history' = IfSome here.held (λ section. history' ≡ history ++ commits section) × (next ≡ record here { held = None })
 
 -- what a wait commits of the section that it leaves: nothing where it queues again
 abbrev pub leaves_by : {C : Type 0} {N : ℕ} → (C → List ℕ → Bool) → ℕ → Subject C → Bool → Held C N → List (Event C N)

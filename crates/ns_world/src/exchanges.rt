@@ -1,8 +1,10 @@
-//! The compare-exchanges of a lock's word. Each finds the word that its seat has last seen.
+//! An act of a seat on the lock, and the compare-exchanges of its word. An exchange that finds the word which its
+//! seat has last seen is made; any other changes nothing.
 
-ghost use Rattle.std.specs.Prelude.{◌≡◌, ◌<◌, ◌++◌, ◌∷◌, [], false, true, IsSome, MatchResult, length};
-ghost use Rattle.ns_world.specs.Prelude.{Acts, IsEvent, Leaves, MakesAct, MayMake, bits_of, called_by, change_commits, entry_of, exit_for, has_some, leave_of, leaves_by, opening_for, section_of, word_released_returning};
+ghost use Rattle.std.specs.Prelude.{◌≡◌, ◌<◌, ◌++◌, ◌∷◌, [], false, true, None, IsSome, MatchResult, length};
+ghost use Rattle.ns_world.specs.Prelude.{Acts, IsEvent, Leaves, MakesAct, MayMake, bits_of, called_by, change_commits, entry_of, exit_for, expected, has_some, leave_of, leaves_by, looks_at, opening_for, section_of, word_released_returning};
 
+use crate::cells::{judge, judge_met};
 use crate::lock::Lock;
 use crate::room::Seated;
 use crate::seat::Seat;
@@ -16,8 +18,27 @@ use ns_word::hand::{bits, leave_self, queue_self, scan_and_queue, wake_waiters};
 use ns_word::owed::called;
 use ns_word::view::{Held, Opening};
 use ns_word::wait::{Aim, Home, Outcome, Subject, Wait, answer_of};
-use ns_word::word::{Arrival, Releasing, Taking};
+use ns_word::word::{Arrival, Releasing, Taking, Word};
 use std::alloc::AllocError;
+
+/// What an act has found, where there was memory for the event that it commits.
+type Made = Result<Found, AllocError>;
+
+/// The word that the act needs to find: a compare-exchange the one that its seat has last seen, any other act none
+/// in particular.
+fn expected<C: Copy>(act: Act<C>, word: Word) -> Word
+    ensures { result ≡ expected act word }
+{
+    match act {
+        Act::Acquire(_, _, last) => last,
+        Act::TakeQueues(_, last) => last,
+        Act::ReturnQueues(_, last) => last,
+        Act::Release(_, last) => last,
+        Act::ReleaseReturning(_, last) => last,
+        Act::WaitReturning(_, _, last) => last,
+        _ => word,
+    }
+}
 
 /// How a section begins that is acquired for this.
 fn opening_for<C: Condition<N>, const N: usize>(aim: Aim<C>) -> Opening<C>
@@ -114,30 +135,6 @@ fn entry<C: Condition<N>, const N: usize>(section: &Held<C, N>) -> Entry<C>
     }
 }
 
-/// Ends the section in hand: its event stands at the end of the history. Where that is refused,
-/// nothing has changed.
-fn commit<C: Seated<N>, const N: usize>(
-    seat: u8,
-    held: &mut Option<Held<C, N>>,
-    history: &mut Vec<Event<C, N>>,
-    exit: Exit<C>,
-) -> Result<(), AllocError>
-    requires { IsSome held.old }
-    ensures { MatchResult result (λ done. Leaves (λ section. section_of C.means.holds seat section exit ∷ []) held.old history.old.items held.new history.new.items) (λ fault. (held.new ≡ held.old) × (history.new.items ≡ history.old.items)) }
-{
-    let Some(section) = *held else { unreachable!() };
-    history.push(Event::Section {
-        who: seat,
-        mode: section.mode,
-        entry: entry(&section),
-        before: section.before,
-        after: section.row,
-        exit,
-    })?;
-    *held = None;
-    Ok(())
-}
-
 /// How a section ends that is left for such a wait.
 fn exit_for<C: Copy>(on: Subject<C>) -> Exit<C>
     ensures { result ≡ exit_for on }
@@ -149,28 +146,50 @@ fn exit_for<C: Copy>(on: Subject<C>) -> Exit<C>
     }
 }
 
-/// Ends the section in hand for a wait. One that queues again commits nothing: the section that it
-/// came back with has shown nothing to its caller.
-fn leave_section<C: Seated<N>, const N: usize>(
-    seat: u8,
-    held: &mut Option<Held<C, N>>,
-    history: &mut Vec<Event<C, N>>,
-    on: Subject<C>,
-    again: bool,
-) -> Result<(), AllocError>
-    requires { IsSome held.old }
-    ensures { MatchResult result (λ done. Leaves (leaves_by C.means.holds seat on again) held.old history.old.items held.new history.new.items) (λ fault. (again ≡ false) × (held.new ≡ held.old) × (history.new.items ≡ history.old.items)) }
-{
-    if again {
-        *held = None;
-        return Ok(());
+impl<C: Seated<N>, const N: usize> Seat<C, N> {
+    /// Ends the section in hand: its event stands at the end of the history. Where that is refused,
+    /// nothing has changed.
+    fn commit(&mut self, history: &mut Vec<Event<C, N>>, exit: Exit<C>) -> Result<(), AllocError>
+        requires { IsSome self.old.held }
+        ensures { MatchResult result (λ done. Leaves (λ section. section_of C.means.holds self.old.number section exit ∷ []) self.old history.old.items self.new history.new.items) (λ fault. (self.new ≡ self.old) × (history.new.items ≡ history.old.items)) }
+    {
+        let Some(section) = self.held else {
+            unreachable!()
+        };
+        history.push(Event::Section {
+            who: self.number,
+            mode: section.mode,
+            entry: entry(&section),
+            before: section.before,
+            after: section.row,
+            exit,
+        })?;
+        self.held = None;
+        Ok(())
     }
-    commit(seat, held, history, exit_for(on))
+
+    /// Ends the section in hand for a wait. One that queues again commits nothing: the section that it
+    /// came back with has shown nothing to its caller.
+    fn leave(
+        &mut self,
+        history: &mut Vec<Event<C, N>>,
+        on: Subject<C>,
+        again: bool,
+    ) -> Result<(), AllocError>
+        requires { IsSome self.old.held }
+        ensures { MatchResult result (λ done. Leaves (leaves_by C.means.holds self.old.number on again) self.old history.old.items self.new history.new.items) (λ fault. (again ≡ false) × (self.new ≡ self.old) × (history.new.items ≡ history.old.items)) }
+    {
+        if again {
+            self.held = None;
+            return Ok(());
+        }
+        self.commit(history, exit_for(on))
+    }
 }
 
 impl<C: Condition<N>, const N: usize> Lock<C, N> {
     /// Sets the spinlock bit, with which the queues are the seat's.
-    pub(crate) fn take_queues(&mut self, taking: Taking) -> Found
+    fn take_queues(&mut self, taking: Taking) -> Found
         requires { self.old.word.spin ≡ false }
         ensures { (seat : _) → MakesAct C.means (Act.TakeQueues taking self.old.word) self.old seat result self.new seat }
     {
@@ -181,7 +200,7 @@ impl<C: Condition<N>, const N: usize> Lock<C, N> {
 
 impl<C: Seated<N>, const N: usize> Lock<C, N> {
     /// Acquires for this.
-    pub(crate) fn acquire(&mut self, seat: &mut Seat<C, N>, aim: Aim<C>, arrival: Arrival) -> Found
+    fn acquire(&mut self, seat: &mut Seat<C, N>, aim: Aim<C>, arrival: Arrival) -> Found
         requires { MayMake C.means (Act.Acquire aim arrival self.old.word) self.old seat.old }
         ensures { MakesAct C.means (Act.Acquire aim arrival self.old.word) self.old seat.old result self.new seat.new }
     {
@@ -209,7 +228,7 @@ impl<C: Seated<N>, const N: usize> Lock<C, N> {
     /// Takes the seat out of all lists, if it still stands where a wait of this home does, and puts the
     /// queues back, which clears the spinlock bit. That a wait for variables was left is committed; where
     /// the event is refused, nothing has changed.
-    fn return_left(&mut self, seat: &Seat<C, N>, home: Home) -> Result<Found, AllocError>
+    fn return_left(&mut self, seat: &Seat<C, N>, home: Home) -> Made
         ensures { Acts C.means (Act.ReturnQueues (Change.LeaveSelf home) self.old.word) self.old seat.now result self.new seat.now }
     {
         commit_leave(&self.queues, seat.number, &mut self.history, home)?;
@@ -222,12 +241,7 @@ impl<C: Seated<N>, const N: usize> Lock<C, N> {
     /// queues back, which clears the spinlock bit, and commits the call. Where the lock is held they stand at the back of
     /// the lock list then, else the seat owes them their wakes. Where the event is refused, nothing has
     /// changed.
-    fn return_waking(
-        &mut self,
-        seat: &mut Seat<C, N>,
-        waking: Waking,
-        k: u8,
-    ) -> Result<Found, AllocError>
+    fn return_waking(&mut self, seat: &mut Seat<C, N>, waking: Waking, k: u8) -> Made
         requires { k < 4 }
         ensures { Acts C.means (Act.ReturnQueues (Change.WakeWaiters waking k) self.old.word) self.old seat.old result self.new seat.new }
     {
@@ -240,21 +254,9 @@ impl<C: Seated<N>, const N: usize> Lock<C, N> {
         Ok(Found::Woke { owes })
     }
 
-    /// Puts the queues back as they stood, which clears the spinlock bit.
-    fn return_unchanged(&mut self) -> Found
-        ensures { (seat : _) → MakesAct C.means (Act.ReturnQueues Change.Nothing self.old.word) self.old seat result self.new seat }
-    {
-        self.word = self.word.returned(false, bits(&self.queues));
-        Found::Made
-    }
-
     /// Changes the lists in hand, and puts the queues back, which clears the spinlock bit. Where the
     /// change is an event that is refused, nothing has changed.
-    pub(crate) fn return_queues(
-        &mut self,
-        seat: &mut Seat<C, N>,
-        change: Change,
-    ) -> Result<Found, AllocError>
+    fn return_queues(&mut self, seat: &mut Seat<C, N>, change: Change) -> Made
         requires { MayMake C.means (Act.ReturnQueues change self.old.word) self.old seat.old }
         ensures { Acts C.means (Act.ReturnQueues change self.old.word) self.old seat.old result self.new seat.new }
     {
@@ -262,7 +264,10 @@ impl<C: Seated<N>, const N: usize> Lock<C, N> {
             Change::QueueSelf(mode, arrival) => Ok(self.return_queued(seat, mode, arrival)),
             Change::LeaveSelf(home) => self.return_left(seat, home),
             Change::WakeWaiters(waking, k) => self.return_waking(seat, waking, k),
-            Change::Nothing => Ok(self.return_unchanged()),
+            Change::Nothing => {
+                self.word = self.word.returned(false, bits(&self.queues));
+                Ok(Found::Made)
+            }
         }
     }
 
@@ -287,15 +292,11 @@ impl<C: Seated<N>, const N: usize> Lock<C, N> {
 
     /// Releases the section without a scan, and commits it. Where the event is refused, nothing has
     /// changed.
-    pub(crate) fn release(
-        &mut self,
-        seat: &mut Seat<C, N>,
-        releasing: Releasing,
-    ) -> Result<Found, AllocError>
+    fn release(&mut self, seat: &mut Seat<C, N>, releasing: Releasing) -> Made
         requires { MayMake C.means (Act.Release releasing self.old.word) self.old seat.old }
         ensures { Acts C.means (Act.Release releasing self.old.word) self.old seat.old result self.new seat.new }
     {
-        commit(seat.number, &mut seat.held, &mut self.history, Exit::Plain)?;
+        seat.commit(&mut self.history, Exit::Plain)?;
         self.word = self.word.released(releasing);
         Ok(Found::Made)
     }
@@ -303,15 +304,11 @@ impl<C: Seated<N>, const N: usize> Lock<C, N> {
     /// Takes those out of the lock list whom a scan at the row wakes, clears the spinlock bit,
     /// releases the section and commits it; the seat then owes the wakes. Where the event is refused,
     /// nothing has changed.
-    pub(crate) fn release_returning(
-        &mut self,
-        seat: &mut Seat<C, N>,
-        releasing: Releasing,
-    ) -> Result<Found, AllocError>
+    fn release_returning(&mut self, seat: &mut Seat<C, N>, releasing: Releasing) -> Made
         requires { MayMake C.means (Act.ReleaseReturning releasing self.old.word) self.old seat.old }
         ensures { Acts C.means (Act.ReleaseReturning releasing self.old.word) self.old seat.old result self.new seat.new }
     {
-        commit(seat.number, &mut seat.held, &mut self.history, Exit::Plain)?;
+        seat.commit(&mut self.history, Exit::Plain)?;
         let scan = self.queues.scan(&self.row);
         Ok(self.release_scanned(seat, releasing, scan))
     }
@@ -319,23 +316,42 @@ impl<C: Seated<N>, const N: usize> Lock<C, N> {
     /// Takes those out of the lock list whom a scan at the row wakes, puts the wait into its list, clears
     /// the spinlock bit, releases the section and commits it, unless the wait queues again; the seat then
     /// owes the wakes. Where the event is refused, nothing has changed.
-    pub(crate) fn wait_returning(
-        &mut self,
-        seat: &mut Seat<C, N>,
-        wait: Wait<C>,
-        again: bool,
-    ) -> Result<Found, AllocError>
+    fn wait_returning(&mut self, seat: &mut Seat<C, N>, wait: Wait<C>, again: bool) -> Made
         requires { MayMake C.means (Act.WaitReturning wait again self.old.word) self.old seat.old }
         ensures { Acts C.means (Act.WaitReturning wait again self.old.word) self.old seat.old result self.new seat.new }
     {
-        leave_section(
-            seat.number,
-            &mut seat.held,
-            &mut self.history,
-            wait.on,
-            again,
-        )?;
+        seat.leave(&mut self.history, wait.on, again)?;
         let scan = scan_and_queue(&mut self.queues, &self.row, seat.number, wait, again);
         Ok(self.release_scanned(seat, Releasing::of(wait.mode), scan))
+    }
+
+    /// Makes the seat's act, which is one on the lock and no look. A compare-exchange that finds another word than its
+    /// seat has last seen changes nothing. Only an act that commits an event takes memory, for that event; where it is
+    /// refused, nothing has changed.
+    pub(crate) fn make(&mut self, seat: &mut Seat<C, N>, act: Act<C>) -> Made
+        requires fits { MayMake C.means act self.old seat.old }
+        requires inside { looks_at act ≡ None }
+        ensures { Acts C.means act self.old seat.old result self.new seat.new }
+    {
+        if !self.word.is_same(expected(act, self.word)) {
+            return Ok(Found::Saw(self.word));
+        }
+        match act {
+            Act::LoadWord => Ok(Found::Saw(self.word)),
+            Act::Acquire(aim, arrival, _) => Ok(self.acquire(seat, aim, arrival)),
+            Act::TakeQueues(taking, _) => Ok(self.take_queues(taking)),
+            Act::ReturnQueues(change, _) => self.return_queues(seat, change),
+            Act::Release(releasing, _) => self.release(seat, releasing),
+            Act::ReleaseReturning(releasing, _) => self.release_returning(seat, releasing),
+            Act::WaitReturning(wait, again, _) => self.wait_returning(seat, wait, again),
+            Act::LoadCell(i) => Ok(Found::Cell(self.row[i as usize])),
+            Act::JudgeQuiet(i) => Ok(judge(seat, i)),
+            Act::JudgeMet(i, cond) => Ok(judge_met(seat, i, cond)),
+            Act::StoreCell(i, value) => Ok(self.store(seat, i, value)),
+            Act::ArmFlag => Ok(self.arm_flag(seat)),
+            Act::PayWake => Ok(self.pay_wake(seat)),
+            Act::LoadFlag => Ok(Found::Flag(self.flags[seat.number as usize])),
+            Act::Look(_, _) => unreachable!(),
+        }
     }
 }

@@ -1,5 +1,5 @@
 use Rattle.ns_world.proofs.Prelude.{false≢true, refl}
-use Rattle.ns_world.proofs.exchanges.commit.Goals as goal
+use Rattle.ns_world.proofs.seat.Seat.commit.Goals as goal
 
 pub entry-requires : goal.entry-requires
 entry-requires g c = g.met.C.Seated.held_fits
