@@ -50,7 +50,7 @@ pub use Rattle.ns_world.specs.Prelude.{RoundPlace, RoundShows, RoundSoFar, Saw, 
 pub use Rattle.ns_world.specs.Prelude.{TurnOf, Turned, TurnsOf, TurnsWith, Unlock, UnlockQuiet, Value, WaitAny, WaitFor, WaitFor as Wait, WaitMeans, WaitReturning, Waiter, WaitsFor, WakeWaiters, Waking, Walk, WalkFits, WalkReply, WasShown, Went, WereThere, Whole, WholeBegins, WholeFault}
 pub use Rattle.ns_world.specs.Prelude.{WholeIsBusy, WholeIsIdle, WholeMoves, WholeStarts, WholeStep, Woke, Word, Write, Writer, asked_of, asking_of, asks_for_any, asks_of, at_will, bits_of, by_round, called_by, called_of, calls_of, came_back, cause_of, change_commits, changed, counts_in}
 pub use Rattle.ns_world.specs.Prelude.{course_after, course_from, cvs_without, doing_after, doing_at, doing_by, done_by, done_in, env_after, env_asked_of, env_course_after, env_course_at, env_got_of, env_own, env_state, env_want_of, exit_for, expected, finds, flag_at, fresh_seat}
-pub use Rattle.ns_world.specs.Prelude.{fresh_seats, fresh_views, fresh_whole, got_of, hand_of, happened, has_armed, has_queues, has_some, have_variable, held_after, held_at, in_call, is_among, is_call, is_due, is_end, is_held, is_in, is_over, is_there, is_unwoken, items_of, kept, leave_of, leaves_by, left_of}
+pub use Rattle.ns_world.specs.Prelude.{fresh_seats, fresh_views, fresh_whole, got_of, hand_of, happened, has_armed, has_queues, has_some, have_variable, held_after, held_at, in_call, is_among, is_call, is_due, is_end, is_held, is_in, is_of, is_over, is_there, is_unwoken, items_of, kept, leave_of, leaves_by, left_of}
 pub use Rattle.ns_world.specs.Prelude.{limits_for, limits_of, lists_by, lock_of, lock_part, look_in, looked_after, looks_at, meets_at, mode_of, mode_waited, most, moved_to, no_note, note_asked, note_at, notes_by, notes_of, nothing_done, object_asked, object_got, object_place, object_start, object_step_of}
 pub use Rattle.ns_world.specs.Prelude.{objects_after, objects_by, objects_of, objects_own, operating_of, outcome, owed_to, own, part_in, passed, past_and, place_after, place_told, placed, plain_of, progress, progressed, releasing_of, reply_of_lock, reply_told, rest_of, round_got, row_after}
 pub use Rattle.ns_world.specs.Prelude.{section_of, shown_by, shown_of, standing_of, stands_at, start_of, state_of, step_after, step_of, stopped, taken_by, taken_set, tests_after, tests_at, tests_of, there, times, times_among, times_in, up_to, view_of, wait_first, waited_in, waiters_of}

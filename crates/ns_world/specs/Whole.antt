@@ -2,14 +2,17 @@
 use Rattle.std.specs.Option.{option_map_or}
 use Rattle.std.specs.Prelude.{Bool, IsSome, List, None, Option, Some, [], false, length, map, slice_get, suc, true, zero, ℕ, ◌+◌, ◌∷◌, ◌≡◌, ◌≤◌}
 use Rattle.ns_world.specs.Names.{AnyWait, AreAmong, AreNumbered, AreThere, AtRest, Cvs, Doing, EnvEvent, EnvPlain, EnvState, Event, FirstClock, Held, IfMade, InRound, IsLawfulEnv, IsLawfulObjects, Lists, LockState, LooksByLimits, LooksByRound, Mode, NoteStanding, ObjectEvent, ObjectState}
-use Rattle.ns_world.specs.Names.{ObjectWalk, ObjectWords, OnLock, OnNotes, OnObjects, Part, Past, Request, Round, Seat, Setup, Truths, Word, asked_of, env_asked_of, fresh_plain, fresh_state, have_variable, items_of, object_asked, want_of}
+use Rattle.ns_world.specs.Names.{ObjectWalk, ObjectWords, OnLock, OnNotes, OnObjects, Part, Past, Read, Request, Round, Seat, Setup, Truths, Word, Write, asked_of, env_asked_of, fresh_plain, fresh_state, have_variable, items_of, object_asked, want_of}
 use Rattle.ns_world.specs.Among.{asks_for_any, waits_for_any}
 use Rattle.ns_world.specs.Asks.{IsNoLook, env_state, plain_of}
+use Rattle.ns_world.specs.Calls.{mode_of}
 use Rattle.ns_world.specs.Doings.{asking_of, is_call, operating_of}
 use Rattle.ns_world.specs.Looks.{LooksAt, looks_at, note_asked}
 use Rattle.ns_world.specs.Objects.{fresh_words}
 use Rattle.ns_world.specs.Performs.{flag_at, view_of}
 use Rattle.ns_world.specs.World.{Kept}
+use Rattle.ns_world.specs.declared.seats.Sort.{Sort}
+use Rattle.ns_world.specs.declared.seats.Sort.TheVariants.{Busy, Reading, Writing}
 use Rattle.ns_word.specs.Lawful.{IsLawful}
 use Rattle.ns_word.specs.declared.request.Request.TheVariants as TheRequest
 
@@ -143,3 +146,21 @@ WholeIsBusy {C} {N} world i = (seat : Seat C N) × (slice_get world.seats i ≡ 
 -- the number is that of a seat with none
 abbrev pub WholeIsIdle : {C : Type 0} {N : ℕ} → Whole C N → ℕ → Type 0
 WholeIsIdle {C} {N} world i = (seat : Seat C N) × (slice_get world.seats i ≡ Some seat) × (in_call seat ≡ false)
+
+-- ---- who has a section in hand
+
+-- a section is in hand, in this mode
+abbrev pub is_held_in : Mode → Option Mode → Bool
+is_held_in Read (Some Read) = true
+is_held_in Write (Some Write) = true
+is_held_in mode held = false
+
+-- the seat has a section in hand in this mode
+abbrev pub holds : {C : Type 0} {N : ℕ} → Mode → Seat C N → Bool
+holds mode seat = is_held_in mode (mode_of seat.held)
+
+-- the seat is of this sort
+abbrev pub is_of : {C : Type 0} {N : ℕ} → Sort → Seat C N → Bool
+is_of Busy seat = in_call seat
+is_of Reading seat = holds Read seat
+is_of Writing seat = holds Write seat

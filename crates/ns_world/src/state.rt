@@ -22,4 +22,8 @@ pub struct State<const N: usize> {
     pub row: [u64; N],
     /// The seats with a call in progress.
     pub busy: Seats,
+    /// The seats with a read section in hand.
+    pub readers: Seats,
+    /// The seat with a write section in hand, if one has.
+    pub writers: Seats,
 }

@@ -1,8 +1,9 @@
 //! The world: the lock with its row, a clock and notes, and beside it counters and once cells, one
 //! step at a time.
 
-ghost use Rattle.std.specs.Prelude.{◌≡◌, ◌≤◌, ◌<◌, ℕ, length, map, MatchResult, IfOk, IfErr};
-ghost use Rattle.ns_world.specs.Prelude.{BeginFault, CallInRange, IsBySeats, IsLawfulWhole, IsLegal, RefusesWorld, WholeBegins, WholeFault, WholeStep, fresh_whole, is_in, lists_shown, shown_of, tests_at, wakes_owed, whole_busy, whole_of};
+ghost use Rattle.std.specs.Prelude.{◌≡◌, ◌≤◌, ◌<◌, ℕ, false, length, map, slice_get, MatchResult, IfOk, IfErr};
+ghost use Rattle.std.specs.Option.{option_map_or};
+ghost use Rattle.ns_world.specs.Prelude.{BeginFault, CallInRange, IsBySeats, IsLawfulWhole, IsLegal, RefusesWorld, WholeBegins, WholeFault, WholeStep, fresh_whole, holds, is_in, lists_shown, shown_of, tests_at, wakes_owed, whole_busy, whole_of};
 
 use crate::among::{go_round, step_objects};
 use crate::asks::ask;
@@ -15,12 +16,12 @@ use crate::objects::Objects;
 use crate::operate::operate;
 use crate::room::Seated;
 use crate::seat::{Doing, Seat, is_call};
-use crate::seats::{busy_seats, new_seats};
+use crate::seats::{Sort, all_of, new_seats};
 use crate::shows::{owed_wakes, shown_queues};
 use crate::state::State;
 use crate::step::{Begun, Step, mode_of, place, settle, tests_after};
 use ns_model::condition::Condition;
-use ns_model::event::Event;
+use ns_model::event::{Event, Mode};
 use ns_queue::queues::Queues;
 use ns_queue::waiter::Which;
 use ns_word::word::Word;
@@ -174,6 +175,8 @@ impl<C: Seated<N>, const N: usize> World<C, N> {
         ensures owed { result.owed.items ≡ wakes_owed self.now.seats }
         ensures row { result.row ≡ self.now.row }
         ensures busy { (seat : ℕ) → is_in result.busy seat ≡ whole_busy (whole_of C.means self.now) seat }
+        ensures readers { (seat : ℕ) → is_in result.readers seat ≡ option_map_or (holds Mode.Read) (slice_get self.now.seats seat) false }
+        ensures writers { (seat : ℕ) → is_in result.writers seat ≡ option_map_or (holds Mode.Write) (slice_get self.now.seats seat) false }
         ensures lawful { IsLawfulWhole (whole_of C.means self.now) }
     {
         let queues = shown_queues(&self.lock.queues, &self.seats, &self.lock.row);
@@ -188,7 +191,9 @@ impl<C: Seated<N>, const N: usize> World<C, N> {
             ],
             owed: owed_wakes(&self.seats),
             row: self.lock.row,
-            busy: busy_seats(&self.seats),
+            busy: all_of(&self.seats, Sort::Busy),
+            readers: all_of(&self.seats, Sort::Reading),
+            writers: all_of(&self.seats, Sort::Writing),
         }
     }
 

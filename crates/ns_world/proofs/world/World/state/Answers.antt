@@ -12,12 +12,20 @@ shown_queues-queues-requires g c =
 pub owed_wakes-requires : goal.owed_wakes-requires
 owed_wakes-requires g c = (g.met.C.Seated.seat_fits, rw c.deref-2.ensures.value (wakes_few _ c.self.invariant))
 
-pub busy_seats-requires : goal.busy_seats-requires
-busy_seats-requires g c = (g.met.C.Seated.seat_fits, rw c.deref-3.ensures.value c.self.invariant.few)
+pub all_of-requires : goal.all_of-requires
+all_of-requires g c = (g.met.C.Seated.seat_fits, rw c.deref-3.ensures.value c.self.invariant.few)
+
+pub all_of-requires-2 : goal.all_of-requires-2
+all_of-requires-2 g c = (g.met.C.Seated.seat_fits, rw c.deref-4.ensures.value c.self.invariant.few)
+
+pub all_of-requires-3 : goal.all_of-requires-3
+all_of-requires-3 g c = (g.met.C.Seated.seat_fits, rw c.deref-5.ensures.value c.self.invariant.few)
 
 pub returns : goal.returns
 returns g c = record {
-  busy = λ seat. rw (← c.self.view_is) (rw c.deref-3.ensures.value at (c.busy_seats.ensures seat));
+  busy = λ seat. rw (← c.self.view_is) (rw c.deref-3.ensures.value at (c.all_of.ensures seat));
+  readers = λ seat. rw (← c.self.view_is) (rw c.deref-4.ensures.value at (c.all_of-2.ensures seat));
+  writers = λ seat. rw (← c.self.view_is) (rw c.deref-5.ensures.value at (c.all_of-3.ensures seat));
   variables = let queues = c.shown_queues-queues.result in
       let all = each_shown queues.cvs _ _ _ _ c.shown.ensures.orderly.four c.shown-2.ensures.shown c.shown-3.ensures.shown c.shown-4.ensures.shown c.shown-5.ensures.shown in
       rw (← c.self.view_is) (all ∙ ap (λ (lists : Lists _). map (map shown_of) lists.cvs) (rw c.deref.ensures.value at c.shown_queues-queues.ensures));
