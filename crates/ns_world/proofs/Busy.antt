@@ -1,4 +1,4 @@
--- Which seats are busy, one after another.
+-- Which seats are of a sort, one after another.
 use Rattle.std.proofs.Common.{Bool, ap, arith, eq-eqb, eqb, false, inl, inr, ne_eqb, sym, true, ℕ, ◌+◌, ◌<◌, ◌||◌, ◌∙◌, ◌≡◌, ◌≤◌}
 use Rattle.ns_world.proofs.Prelude.{cases_eq, cases_lt, or-false, or-true}
 
