@@ -7,6 +7,10 @@ use Rattle.ns_gate.proofs.Prelude.{lists_without, writes}
 use Rattle.ns_gate.proofs.Stays.{HasKeptItsQueues, effect_of, still_carries}
 
 module _ {C : Type 0} where
+  -- what the hand has made of the lists depends on those taken, and on the lists, alone
+  pub turned_alike : (held : Bool) {taken others : List (Waiter C)} {lists put : Lists C} → taken ≡ others → lists ≡ put → ◌≡◌ {A = Turned} (record { some = held && has_some taken; bits = bits_of lists.lock }) (record { some = held && has_some others; bits = bits_of put.lock })
+  turned_alike held taken put i = record { some = held && has_some (taken i); bits = bits_of (put i).lock }
+
   -- ---- where they may go
 
   -- who is in the list was taken or is left

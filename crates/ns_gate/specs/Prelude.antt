@@ -20,7 +20,7 @@ pub use Rattle.ns_gate.specs.Performing.{IsNumbered, IsOnWord, IsTurned, Needs}
 pub use Rattle.ns_gate.specs.Showing.{ShowsLists}
 pub use Rattle.ns_gate.specs.Steps.{CameByGuess, CanStep, Carries, HasGuessed, HasLooked, HasMadeBoth, HasStepped, HasTurned, HasUnchangedQueues, IsExchange, IsLoad, IsOwedNext, IsPlainExchange, IsStoreOf, MayBegin, MayExchange, MayGuess, MayLoad, MayStore, Performed, PerformedBoth, PerformedWith}
 pub use Rattle.ns_gate.specs.Steps.{StandsNowhere, WantsNext, act_by, act_of, act_returning, carried_by, content_by, course_by, first_said, found_back, found_returned, lists_returned, lists_scanned, made_by, next_owed, some_returned, the, tried, tried_for, walk_by, word_at, word_returning}
-pub use Rattle.ns_gate.specs.Wakes.{lists_left, lists_woken, owed_woken, scanned_writer, sought_at, taken_from, turned_to, wake_told, without_each, woken_nobody, woken_sole}
+pub use Rattle.ns_gate.specs.Wakes.{lists_left, lists_woken, owed_woken, scanned_writer, sought_at, taken_from, turned_to, turned_woken, wake_told, without_each, woken_nobody, woken_sole}
 pub use Rattle.ns_word.specs.Prelude.{Expired, InHand, IsInRange, is_limited, look_or_queue, mode_released, wait_first, waits_at}
 pub use Rattle.ns_word.specs.declared.acquire_walk.AcquirePlace.TheVariants.{AcquireLoad, Arm}
 pub use Rattle.ns_word.specs.declared.request.Request.TheVariants.{Await, IsQuiet, TryLock}

@@ -1,6 +1,6 @@
 -- What a signal or a broadcast makes of the lists in hand, and a scan that takes nobody, or a writer alone.
 use Rattle.std.specs.Option.{option_map}
-use Rattle.std.specs.Prelude.{Bool, Err, List, None, Ok, Option, Result, Some, [], false, if◌then◌else◌, ℕ, ◌∷◌}
+use Rattle.std.specs.Prelude.{Bool, Err, List, None, Ok, Option, Result, Some, [], false, if◌then◌else◌, ℕ, ◌&&◌, ◌∷◌}
 use Rattle.ns_gate.specs.Names.{Cv, Lists, Owed, Sought, Truths, Turned, Waiter, Waking, begins_with_reader, bits_of, cvs_without, has_some, left_of, meets_at, moved_to, sole_of, sought_of, taken_by, taken_set, value_of, waiters_of, wakes_of, without, woken_of}
 
 -- those whom it takes out of the list of its variable, where the lists stand so
@@ -14,6 +14,10 @@ lists_left waking k lists = cvs_without (taken_set (taken_from waking k lists)) 
 -- the lists that are put back: where the lock is held, those who were taken are at the back of its list; else they are in none
 abbrev pub lists_woken : {C : Type 0} → Waking → ℕ → Bool → Lists C → Lists C
 lists_woken waking k held lists = moved_to held (taken_from waking k lists) (lists_left waking k lists)
+
+-- what the hand has made of the queues then: it takes somebody where it moves those it found
+abbrev pub turned_woken : {C : Type 0} → Waking → ℕ → Bool → Lists C → Turned
+turned_woken waking k held lists = record { some = held && has_some (taken_from waking k lists); bits = bits_of (lists_woken waking k held lists).lock }
 
 -- what the hand has made of the queues where nobody waits for the variable: it takes nobody, and they are as they stood
 abbrev pub woken_nobody : {C : Type 0} → ℕ → Lists C → Option Turned

@@ -6,10 +6,9 @@
 //! that a seat is told. So each step of a seat is a step of the machine, and what holds between any
 //! two of those holds between any two steps of any threads.
 //!
-//! A call makes its steps by a [`bound::Bound`]: its seat bound to the gate. ns_monitor calls it: its public
-//! calls are made of these steps. The steps, the law and what a
-//! seat is told are ns_word's, the waiter queues ns_queue's, the table the kit's atomic_table,
-//! and how its seats meet ns_seats'.
+//! A call makes its steps by its seat bound to the gate, a [`bound::Bound`]: ns_monitor's calls are made
+//! of these steps. The steps, the law and what a seat is told are ns_word's, the waiter queues ns_queue's,
+//! the table the kit's atomic_table, and how its seats meet ns_seats'.
 #![tactic(auto)]
 
 pub mod bound;

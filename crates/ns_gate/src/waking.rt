@@ -6,7 +6,7 @@
 //! differ in whether it is held. So they are kept apart, and the queues in hand are turned then.
 
 ghost use Rattle.std.specs.Prelude.{◌≡◌, ℕ, ◌<◌, ◌≤◌, ◌&&◌, not, true, false, IfNone, OnSome};
-ghost use Rattle.ns_gate.specs.Prelude.{Carries, Cv, HasUnchangedQueues, HasWorked, HaveSeats, IsOrderly, bits_of, has_some, lists_woken, moved_to, taken_from, the, times, times_in, turned_to, waiters_of, without_each, woken_nobody, woken_sole};
+ghost use Rattle.ns_gate.specs.Prelude.{Carries, Cv, HasUnchangedQueues, HasWorked, HaveSeats, IsOrderly, bits_of, has_some, lists_woken, moved_to, taken_from, the, times, times_in, turned_to, turned_woken, waiters_of, without_each, woken_nobody, woken_sole};
 
 use crate::bound::Bound;
 use crate::queues::Turned;
@@ -89,8 +89,7 @@ fn turned_by<C: Queueable<N>, const N: usize>(
     taken: &[Waiter<C>],
     held: bool,
 ) -> Turned
-    ensures some { result.some ≡ (held && has_some taken.now) }
-    ensures bits { result.bits ≡ bits_of queues.now.lock }
+    ensures { result ≡ record { some = held && has_some taken.now; bits = bits_of queues.now.lock } }
 {
     Turned {
         some: held && !taken.is_empty(),
@@ -186,8 +185,7 @@ impl<C: Condition<N>, const N: usize> Bound<'_, C, N> {
         ensures orderly { IsOrderly (the self.old.me.0).stood }
         ensures taken { result.0.items ≡ taken_from waking k (the self.old.me.0).stood }
         ensures lists { Carries (lists_woken waking k held (the self.old.me.0).stood) self.new.me }
-        ensures some { result.1.some ≡ (held && has_some (taken_from waking k (the self.old.me.0).stood)) }
-        ensures bits { result.1.bits ≡ bits_of (lists_woken waking k held (the self.old.me.0).stood).lock }
+        ensures turned { result.1 ≡ turned_woken waking k held (the self.old.me.0).stood }
     {
         let gate = self.gate;
         let queues = self.seat.slot_mut(&gate.table.shared, 0).lists();
@@ -217,8 +215,7 @@ impl<C: Condition<N>, const N: usize> Bound<'_, C, N> {
         requires lists { Carries (lists_woken _waking _k (not held) (the self.old.me.0).stood) self.old.me }
         ensures worked { HasWorked self.old self.new }
         ensures lists { Carries (lists_woken _waking _k held (the self.old.me.0).stood) self.new.me }
-        ensures some { result.some ≡ (held && has_some (taken_from _waking _k (the self.old.me.0).stood)) }
-        ensures bits { result.bits ≡ bits_of (lists_woken _waking _k held (the self.old.me.0).stood).lock }
+        ensures turned { result ≡ turned_woken _waking _k held (the self.old.me.0).stood }
     {
         let gate = self.gate;
         let queues = self.seat.slot_mut(&gate.table.shared, 0).lists();

@@ -12,7 +12,7 @@ move_if-requires g c = let waking = c.args._waking in let k = c.args.k in let li
 pub returns-clause-sole : goal.returns-clause-sole
 returns-clause-sole g c = let waking = c.args._waking in let k = c.args.k in let held = c.args.held in let lists = c.args.queues.now in let sole = sym c.in_ok-waiter.ensures.sole in
     let put = woken_by_sole waking k held lists c.take_sole.new.self c.move_if.new.queues c.in_ok-waiter.waiter sole c.in_ok-waiter.ensures.left c.move_if.ensures in
-    made_sole waking k held lists c.in_ok-waiter.waiter c.turned_by.result sole c.turned_by.ensures.some (c.turned_by.ensures.bits ∙ ap (λ queues. bits_of queues.lock) put)
+    made_sole waking k held lists c.in_ok-waiter.waiter c.turned_by.result sole (λ i. (c.turned_by.ensures i).some) ((λ i. (c.turned_by.ensures i).bits) ∙ ap (λ queues. bits_of queues.lock) put)
 
 pub returns-clause-lists : goal.returns-clause-lists
 returns-clause-lists g c = woken_by_sole c.args._waking c.args.k c.args.held c.args.queues.now c.take_sole.new.self c.move_if.new.queues c.in_ok-waiter.waiter (sym c.in_ok-waiter.ensures.sole) c.in_ok-waiter.ensures.left c.move_if.ensures

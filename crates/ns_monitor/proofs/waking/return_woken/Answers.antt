@@ -47,7 +47,7 @@ loop-preserved-then-is_held_by_one g c = let t = g.C.Condition.means in let afte
   gone_working None _ _ _ (gone g after) turn.ensures.worked,
   (λ i. (the (same i)).stood) ∙ ((missed g after).1.stood ∙ c.loop.invariant.4),
   works t (InSignal c.args.call.waking c.args.call.k (WakeAndReturn c.in-Err.other)) me now (missed g after).0 refl same,
-  subst (λ held. HasWokenInHand c.args.call.waking c.args.call.k held turn.result now) c.is_held-held.ensures (hand_made c.args.call.waking c.args.call.k c.is_held-held.result turn.result me now same turn.ensures.lists turn.ensures.some turn.ensures.bits),
+  subst (λ held. HasWokenInHand c.args.call.waking c.args.call.k held turn.result now) c.is_held-held.ensures (hand_made c.args.call.waking c.args.call.k c.is_held-held.result turn.result me now same turn.ensures.lists (λ i. (turn.ensures.turned i).some) (λ i. (turn.ensures.turned i).bits)),
 )
 
 pub loop-preserved : goal.loop-preserved

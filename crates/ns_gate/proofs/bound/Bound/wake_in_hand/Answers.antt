@@ -1,6 +1,6 @@
-use Rattle.std.proofs.Common.{List, ap, arith, refl, sym, ◌&&◌, ◌∙◌, ◌≡◌}
-use Rattle.ns_gate.proofs.Prelude.{TableId, bits_of, has_slot, has_some, list_fits, list_small, lists_woken, moved_to, now_in_hand, number, queues_fit, taken_from, the, was_in_hand}
-use Rattle.ns_gate.proofs.Wakes.{may_move}
+use Rattle.std.proofs.Common.{ap, arith, refl, sym, ◌∙◌, ◌≡◌}
+use Rattle.ns_gate.proofs.Prelude.{TableId, has_slot, list_fits, list_small, lists_woken, moved_to, now_in_hand, number, queues_fit, taken_from, the, was_in_hand}
+use Rattle.ns_gate.proofs.Wakes.{may_move, turned_alike}
 use Rattle.ns_gate.proofs.bound.Bound.wake_in_hand.Goals as goal
 
 pub slot_mut-requires : goal.slot_mut-requires
@@ -39,6 +39,5 @@ returns g c =
       orderly = rw was at c.take_waiters-taken.ensures.orderly;
       taken = c.take_waiters-taken.ensures.taken ∙ ap (taken_from c.args.waking c.args.k) was;
       lists = now_in_hand stood _ _ c.self.inside.seat.now.me.1 (rw (← c.self.view_is) at c.requires.has) put;
-      some = c.turned_by-turned.ensures.some ∙ ap (λ (ws : List _). c.args.held && has_some ws) (c.as_slice-2.ensures.value ∙ c.take_waiters-taken.ensures.taken ∙ ap (taken_from c.args.waking c.args.k) was);
-      bits = c.turned_by-turned.ensures.bits ∙ ap (λ lists. bits_of lists.lock) put;
+      turned = c.turned_by-turned.ensures ∙ turned_alike c.args.held (c.as_slice-2.ensures.value ∙ c.take_waiters-taken.ensures.taken ∙ ap (taken_from c.args.waking c.args.k) was) put;
     }
