@@ -1,10 +1,16 @@
 -- What the loops of a call are told of the place at which it stands, and where they lead it.
-use Rattle.std.specs.Prelude.{Bool, Err, List, None, Ok, Option, Result, Some, false, if◌then◌else◌, not, true, ℕ, ◌<◌, ◌≡◌}
-use Rattle.ns_monitor.specs.Names.{Acquire, AcquireExchange, AcquireLoad, Acquiring, Act, Aim, Arm, ArmToWait, Arrival, AtLock, Changed, Changing, Done, Flag, Going, HasMadeBoth, HasReached, HasTurned, HasUnchangedQueues, Idle, InAcquire, InLeaving, InQueuing, InRelease, InShow, InSignal}
+use Rattle.std.specs.Prelude.{Bool, Err, List, None, Ok, Option, Result, Some, false, [], if◌then◌else◌, not, true, ℕ, ◌<◌, ◌≡◌, ◌≢◌}
+use Rattle.ns_monitor.specs.Names.{Acquire, AcquireExchange, AcquireLoad, Acquiring, Act, Aim, Arm, ArmToWait, Arrival, AtLock, Changed, Changing, Done, Flag, Going, HasMadeBoth, HasReached, HasTurned, HasUnchangedQueues, Idle, InAcquire, InLeaving, InQueuing, InRelease, InShow, InSignal, Bounded, HasMadeSteps, found_back}
 use Rattle.ns_monitor.specs.Names.{InWait, IsAtPlace, IsOrderly, IsPackable, Leave, LeaveLoad, LeaveSelf, Leaving, Load, LoadFlag, LoadWord, Next, Nothing, On, Owed, Paid, PayWake, Performed, Queue, QueueSelf, QueueToWait, Release, ReleaseExchange, ReleaseLoad, ReleasePlace, Released, Releasing}
 use Rattle.ns_monitor.specs.Names.{Reply, ReturnShown, Returning, Saw, ScanAndRelease, SeatOf, SignalLoad, Succeeded, Take, TakeToLeave, TakeToQueue, TakeToScan, TakeToWake, Taking, ToChange, ToQueue, Truths, Turned, Waited, WakeAndReturn, Walk, Word, acquire_by, acquired_for, asked_of, bits_of}
 use Rattle.ns_monitor.specs.Names.{called_of, got_of, has_queues, home_of, may_acquire, meets_at, mode_for, needs_scan, release_by, request_for, row_in, scan_place, the, want_of, woken_of}
 use Rattle.ns_word.specs.declared.request.Request.TheVariants as TheRequest
+use Rattle.ns_monitor.specs.Several.{HasSeenTrue}
+
+-- the seat has made some steps of one call, and this is so of it then
+pub record HasMadeStepsTo {C : Type 0} {N : ℕ} (begun : Option (Walk C)) (to : SeatOf C N → Type 0) (old new : Bounded C N) : Type 0 where
+  pub since : HasMadeSteps begun old new
+  pub so : to new.me
 
 -- the seat's number, as its caller has it at hand
 abbrev pub IsNumberOf : {C : Type 0} {N : ℕ} → ℕ → SeatOf C N → Type 0
@@ -18,11 +24,22 @@ pub record Sleeps {C : Type 0} (N : ℕ) (walk : Walk C) : Type 0 where
   pub free : has_queues (Some walk) ≡ false
   pub rests : got_of N walk (Flag 1) ≡ Idle walk
 
+-- it has found this value in its flag, which isn't set any more
+pub record IsWoken {C : Type 0} {N : ℕ} (truths : Truths C) (walk : Walk C) (flag : ℕ) (me : SeatOf C N) : Type 0 where
+  pub cleared : flag ≢ 1
+  pub woken : HasReached truths (asked_of walk) (got_of N walk (Flag flag)) me
+
 -- a call at this place pays the wakes that it owes, until it owes none
 pub record Pays {C : Type 0} (N : ℕ) (walk : Walk C) : Type 0 where
   pub pays : want_of walk ≡ PayWake
   pub free : has_queues (Some walk) ≡ false
   pub more : got_of N walk (Paid true) ≡ On walk
+
+-- it has paid them all; where it had seen a true condition, it still has
+pub record HasPaid {C : Type 0} {N : ℕ} (truths : Truths C) (walk : Walk C) (me now : SeatOf C N) : Type 0 where
+  pub paid : HasReached truths (asked_of walk) (got_of N walk (Paid false)) now
+  pub none : (the now.0).at.owed ≡ []
+  pub true_to : HasSeenTrue truths me → HasSeenTrue truths now
 
 -- ---- by the word last seen
 
@@ -165,6 +182,12 @@ HasInHand truths returning turned me = (last : Word) → HasTurned truths return
 abbrev pub OwesTheWoken : {C : Type 0} {N : ℕ} → Truths C → Returning C → SeatOf C N → List Owed → Type 0
 OwesTheWoken truths (Changed change) me owed = Unit {0}
 OwesTheWoken truths returning me owed = owed ≡ called_of (woken_of (meets_at truths (row_in (the me.0).at.held)) (the me.0).stood.lock)
+
+-- the queues are back, by a word that was as this one but for what others changed
+pub record HasPutBack {C : Type 0} {N : ℕ} (truths : Truths C) (returning : Returning C) (walk : Walk C) (first : Word) (me now : SeatOf C N) : Type 0 where
+  pub returned : HasReached truths (asked_of walk) (got_of N walk (found_back truths returning first me)) now
+  pub owes : OwesTheWoken truths returning me (the now.0).at.owed
+  pub true_to : HasSeenTrue truths now
 
 -- ---- acquires and releases
 

@@ -84,6 +84,11 @@ pub record IsReady {C : Type 0} {N : ℕ} (truths : Truths C) (walk : Walk C) (r
   pub taken : HasUnchangedQueues me
   pub scans : ScansAs truths row (row_in (the me.0).at.held) (the me.0).stood.lock
 
+-- it has made the row ready so, and the lists stood as they do
+pub record HasMadeReady {C : Type 0} {N : ℕ} (truths : Truths C) (walk : Walk C) (row : List ℕ) (me now : SeatOf C N) : Type 0 where
+  pub ready : IsReady truths walk row now
+  pub stood : (the now.0).stood ≡ (the me.0).stood
+
 -- a wait for a condition has this row at hand, since it has tested it; one for variables has none
 abbrev pub HasRow : {C : Type 0} → Subject C → List ℕ → List ℕ → Type 0
 HasRow (OnCondition c) row held = row ≡ held

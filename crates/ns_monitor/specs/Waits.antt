@@ -4,6 +4,8 @@ use Rattle.ns_monitor.specs.Names.{Answer, Answered, Await, AwaitWakeInWait, Can
 use Rattle.ns_monitor.specs.Names.{TimedOut, Truths, Wait, Woken, answer_of, entry_of, got_of, is_met, row_after, section_of, the}
 use Rattle.ns_model.specs.declared.event.Entry.TheVariants.{Waited}
 use Rattle.ns_monitor.specs.Known.{Known}
+use Rattle.ns_monitor.specs.Several.{HasSeenTrue}
+use Rattle.ns_monitor.specs.Standing.{IsWoken}
 
 -- this is so of what has ended a wait early, if anything has
 abbrev pub IfEnded : Outcome → (Cause → Type 0) → Type 0
@@ -12,8 +14,14 @@ IfEnded (Ended cause) so = so cause
 
 -- a wait has found this value in its flag, which isn't set any more, or its last look has shown this cause to leave
 abbrev pub WokenOrEnded : {C : Type 0} {N : ℕ} → Truths C → Wait C → Result ℕ Cause → SeatOf C N → Type 0
-WokenOrEnded {C} {N} truths wait (Ok flag) me = (flag ≢ 1) × HasReached truths (Await wait) (got_of N (InWait wait AwaitWakeInWait) (Flag flag)) me
+WokenOrEnded truths wait (Ok flag) me = IsWoken truths (InWait wait AwaitWakeInWait) flag me
 WokenOrEnded truths wait (Err cause) me = IsAtPlace truths (InWait wait (InLeaving cause LeaveLoad)) me
+
+-- a wait has left its section: it waits to be woken, owes nobody a wake, and has seen a history in which its own events are just its own
+pub record HasLeftToWait {C : Type 0} {N : ℕ} (truths : Truths C) (wait : Wait C) (me : SeatOf C N) : Type 0 where
+  pub waits : IsAtPlace truths (InWait wait AwaitWakeInWait) me
+  pub owes : (the me.0).at.owed ≡ []
+  pub true_to : HasSeenTrue truths me
 
 -- this is so of what a wait answers that has ended it early, if it answers that
 abbrev pub IfAnswered : Answer → (Cause → Type 0) → Type 0

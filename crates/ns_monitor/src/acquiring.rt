@@ -1,7 +1,7 @@
 //! An acquire that may have to wait: in the lock list, for its flag.
 
 ghost use Rattle.std.specs.Prelude.{◌≡◌, None};
-ghost use Rattle.ns_monitor.specs.Prelude.{AcquireLoad, AcquiresBy, Arm, HasAcquired, HasMadeSteps, HasSince, HasUnchangedQueues, InAcquire, IsAtPlace, IsNumberOf, IsPackable, the};
+ghost use Rattle.ns_monitor.specs.Prelude.{AcquireLoad, AcquiresBy, Arm, HasAcquired, HasMadeStepsTo, HasSince, HasUnchangedQueues, InAcquire, IsAtPlace, IsNumberOf, IsPackable, the};
 
 use crate::going::Going;
 use crate::loops::{await_flag, go_or_take, put_back};
@@ -59,8 +59,7 @@ pub(crate) fn acquire<R: Wait, C: Condition<N>, const N: usize>(
     arrival: Arrival,
 )
     requires at { IsAtPlace C.means (InAcquire aim (AcquireLoad arrival)) seat.old.me }
-    ensures since { HasMadeSteps None seat.old seat.new }
-    ensures acquired { HasAcquired C.means aim seat.new.me }
+    ensures { HasMadeStepsTo None (HasAcquired C.means aim) seat.old seat.new }
 {
     let word = seat.load(None);
     acquire_on(rt, seat, aim, arrival, word);
@@ -76,8 +75,7 @@ fn acquire_on<R: Wait, C: Condition<N>, const N: usize>(
 )
     requires last { IsPackable last }
     requires at { AcquiresBy C.means aim first last seat.old.me }
-    ensures since { HasMadeSteps None seat.old seat.new }
-    ensures acquired { HasAcquired C.means aim seat.new.me }
+    ensures { HasMadeStepsTo None (HasAcquired C.means aim) seat.old seat.new }
 {
     let mut arrival = first;
     let mut word = last;
@@ -105,8 +103,7 @@ fn queue<R: Wait, C: Condition<N>, const N: usize>(
     requires word { IsPackable word }
     requires at { IsAtPlace C.means (InAcquire aim (Arm arrival word)) seat.old.me }
     requires taken { HasUnchangedQueues seat.old.me }
-    ensures since { HasMadeSteps None seat.old seat.new }
-    ensures woken { IsAtPlace C.means (InAcquire aim (AcquireLoad result)) seat.new.me }
+    ensures { HasMadeStepsTo None (IsAtPlace C.means (InAcquire aim (AcquireLoad result))) seat.old seat.new }
 {
     let mode = aim.mode();
     seat.arm_flag();

@@ -2,7 +2,7 @@
 //! whether the section is quiet, and a scan.
 
 ghost use Rattle.std.specs.Prelude.{◌≡◌, ◌≤◌, None, Some, false, if◌then◌else◌};
-ghost use Rattle.ns_monitor.specs.Prelude.{HasAnswered, HasLoaded, HasMadeSteps, HasMode, HasTested, HasUnchangedQueues, Is, IsAtPlace, IsAtRest, IsQuiet, IsReady, MayTest, OnCondition, ScansAs, StandsAt, Write, before_in, judging, loading, loading_at, row_in, the};
+ghost use Rattle.ns_monitor.specs.Prelude.{HasAnswered, HasLoaded, HasMadeReady, HasMadeStepsTo, HasMode, HasTested, HasUnchangedQueues, Is, IsAtPlace, IsAtRest, IsQuiet, MayTest, OnCondition, ScansAs, StandsAt, Write, before_in, judging, loading, loading_at, row_in, the};
 
 use ns_gate::bound::Bound;
 use ns_model::condition::Condition;
@@ -43,8 +43,7 @@ pub(crate) fn test<C: Condition<N>, const N: usize>(
 ) -> bool
     requires on { wait.on ≡ OnCondition condition }
     requires may { MayTest C.means begins wait visit seat.old.me }
-    ensures since { HasMadeSteps begins seat.old seat.new }
-    ensures tested { HasTested C.means wait visit condition result row.new seat.old.me seat.new.me }
+    ensures { HasMadeStepsTo begins (HasTested C.means wait visit condition result row.new seat.old.me) seat.old seat.new }
 {
     let place = Walk::InWait(wait, WaitPlace::TestCells(visit, 0));
     let begun = load_cells(seat, begins, place, row, N - 1);
@@ -56,8 +55,7 @@ pub(crate) fn test<C: Condition<N>, const N: usize>(
 pub(crate) fn load_to_judge<C: Condition<N>, const N: usize>(seat: &mut Bound<'_, C, N>) -> [u64; N]
     requires rest { IsAtRest C.means seat.old.me }
     requires writes { HasMode Write (the seat.old.me.0).at.held }
-    ensures since { HasMadeSteps (Some (judging N)) seat.old seat.new }
-    ensures judged { HasAnswered C.means IsQuiet (Is (C.means.quiet (before_in (the seat.old.me.0).at.held) (row_in (the seat.old.me.0).at.held))) seat.new.me }
+    ensures judged { HasMadeStepsTo (Some (judging N)) (HasAnswered C.means IsQuiet (Is (C.means.quiet (before_in (the seat.old.me.0).at.held) (row_in (the seat.old.me.0).at.held)))) seat.old seat.new }
     ensures row { result ≡ row_in (the seat.old.me.0).at.held }
 {
     let begins = Some(Walk::is_quiet::<N>());
@@ -80,9 +78,7 @@ pub(crate) fn load_to_scan<C: Condition<N>, const N: usize>(
     requires at { IsAtPlace C.means (if needed then loading_at N walk 0 else (loading N walk).last) seat.old.me }
     requires taken { HasUnchangedQueues seat.old.me }
     requires ready { needed ≡ false → ScansAs C.means row.old (row_in (the seat.old.me.0).at.held) (the seat.old.me.0).stood.lock }
-    ensures since { HasMadeSteps None seat.old seat.new }
-    ensures ready { IsReady C.means (loading N walk).last row.new seat.new.me }
-    ensures stood { (the seat.new.me.0).stood ≡ (the seat.old.me.0).stood }
+    ensures { HasMadeStepsTo None (HasMadeReady C.means (loading N walk).last row.new seat.old.me) seat.old seat.new }
 {
     if !needed {
         return;

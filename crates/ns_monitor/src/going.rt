@@ -1,7 +1,7 @@
 //! What a call does by the lock word that it has seen last, as long as it hasn't the waiter queues.
 
 ghost use Rattle.std.specs.Prelude.{◌≡◌, ⊤, None, Some, true, if◌then◌else◌};
-ghost use Rattle.ns_monitor.specs.Prelude.{Busy, CanStep, Decides, HasAnswered, HasBegunBy, HasComeBy, HasGuessedTo, HasMadeSteps, HasReached, HasTried, IsAtRest, IsFirst, IsPackable, MayGoAlone, PlaceFits, Saw, Succeeded, TryLock, WantsNext, WentAtOnce, Word, asked_of, going_act, going_of, got_of, may_go, taking_for, the, trying};
+ghost use Rattle.ns_monitor.specs.Prelude.{Busy, CanStep, Decides, HasAnswered, HasBegunBy, HasComeBy, HasGuessedTo, HasMadeStepsTo, HasReached, HasTried, IsAtRest, IsFirst, IsPackable, MayGoAlone, PlaceFits, Saw, Succeeded, TryLock, WantsNext, WentAtOnce, Word, asked_of, going_act, going_of, got_of, may_go, taking_for, the, trying};
 
 use ns_gate::bound::Bound;
 use ns_gate::gate::GateSeat;
@@ -232,8 +232,7 @@ fn go_by<C: Condition<N>, const N: usize>(
     requires going { going ≡ going_of _walk }
     requires word { IsPackable word }
     requires at { HasReached C.means (asked_of _walk) (got_of N _walk (Saw word)) seat.old.me }
-    ensures since { HasMadeSteps None seat.old seat.new }
-    ensures went { WentAtOnce C.means _walk result seat.new.me }
+    ensures { HasMadeStepsTo None (WentAtOnce C.means _walk result) seat.old seat.new }
 {
     if !going.may_go(word) {
         return Some(word);
@@ -260,8 +259,7 @@ pub(crate) fn go_at_once<C: Condition<N>, const N: usize>(
     requires fits { PlaceFits C.means (Some walk) (the seat.old.me.0).at.held }
     requires going { going ≡ going_of walk }
     requires alone { MayGoAlone going }
-    ensures since { HasMadeSteps (Some walk) seat.old seat.new }
-    ensures went { WentAtOnce C.means walk result seat.new.me }
+    ensures { HasMadeStepsTo (Some walk) (WentAtOnce C.means walk result) seat.old seat.new }
 {
     match begin_to_go(seat, walk, going, alone) {
         Ok(()) => None,
@@ -279,8 +277,7 @@ pub(crate) fn try_acquire<C: Condition<N>, const N: usize>(
 ) -> bool
     requires rest { IsAtRest C.means seat.old.me }
     requires free { (the seat.old.me.0).at.held ≡ None }
-    ensures since { HasMadeSteps (Some (trying mode)) seat.old seat.new }
-    ensures tried { HasAnswered C.means (TryLock mode) (if result then Succeeded else Busy) seat.new.me }
+    ensures { HasMadeStepsTo (Some (trying mode)) (HasAnswered C.means (TryLock mode) (if result then Succeeded else Busy)) seat.old seat.new }
 {
     let aim = Aim::ForLock(mode);
     let going = Going::Acquiring(aim, Arrival::AsFresh);

@@ -2,7 +2,7 @@
 //! which is for the proof alone: no code reads it.
 
 ghost use Rattle.std.specs.Prelude.{◌≡◌, ◌≢◌, ◌∷◌, None, Some, false, true, []};
-ghost use Rattle.ns_monitor.specs.Prelude.{Changing, Decides, HasInHand, HasMadeSteps, HasReached, HasSeenTrue, HasTakenAt, IsAtPlace, IsAtRest, IsFirst, IsPackable, OwesTheWoken, Pays, PlaceFits, PutsBack, Sleeps, WentOrTook, asked_of, found_back, going_of, got_of, has_some, returning_at};
+ghost use Rattle.ns_monitor.specs.Prelude.{Changing, Decides, HasInHand, HasMadeStepsTo, HasPaid, HasPutBack, HasReached, HasTakenAt, IsAtPlace, IsAtRest, IsFirst, IsPackable, IsWoken, Pays, PlaceFits, PutsBack, Sleeps, WentOrTook, asked_of, going_of, got_of, has_some, returning_at};
 ghost use Rattle.ns_monitor.specs.Prelude.{returning_of, the};
 
 use crate::going::{Going, exchange_to_go};
@@ -32,8 +32,7 @@ pub(crate) fn go_or_take<R: Wait, C: Condition<N>, const N: usize>(
     requires going { going ≡ going_of _walk }
     requires word { IsPackable first }
     requires at { HasReached C.means (asked_of _walk) (got_of N _walk (Found.Saw first)) seat.old.me }
-    ensures since { HasMadeSteps None seat.old seat.new }
-    ensures came { WentOrTook C.means _walk result seat.old.me seat.new.me }
+    ensures { HasMadeStepsTo None (WentOrTook C.means _walk result seat.old.me) seat.old seat.new }
 {
     let taking = going.taking();
     let backoff = Backoff::new();
@@ -69,8 +68,7 @@ fn take_from<R: Wait, C: Condition<N>, const N: usize>(
     requires going { going_of _walk ≡ Changing }
     requires word { IsPackable first }
     requires at { HasReached C.means (asked_of _walk) (got_of N _walk (Found.Saw first)) seat.old.me }
-    ensures since { HasMadeSteps None seat.old seat.new }
-    ensures taken { HasTakenAt C.means _walk result seat.old.me seat.new.me }
+    ensures { HasMadeStepsTo None (HasTakenAt C.means _walk result seat.old.me) seat.old seat.new }
 {
     match go_or_take(rt, seat, Going::Changing, _walk, first) {
         Some(word) => word,
@@ -87,8 +85,7 @@ pub(crate) fn take<R: Wait, C: Condition<N>, const N: usize>(
     requires decides { Decides _walk }
     requires going { going_of _walk ≡ Changing }
     requires at { IsAtPlace C.means _walk seat.old.me }
-    ensures since { HasMadeSteps None seat.old seat.new }
-    ensures taken { HasTakenAt C.means _walk result seat.old.me seat.new.me }
+    ensures { HasMadeStepsTo None (HasTakenAt C.means _walk result seat.old.me) seat.old seat.new }
 {
     let first = seat.load(None);
     take_from(rt, seat, _walk, first)
@@ -105,8 +102,7 @@ pub(crate) fn begin_to_take<R: Wait, C: Condition<N>, const N: usize>(
     requires going { going_of walk ≡ Changing }
     requires first { IsFirst N walk }
     requires fits { PlaceFits C.means (Some walk) (the seat.old.me.0).at.held }
-    ensures since { HasMadeSteps (Some walk) seat.old seat.new }
-    ensures taken { HasTakenAt C.means walk result seat.old.me seat.new.me }
+    ensures { HasMadeStepsTo (Some walk) (HasTakenAt C.means walk result seat.old.me) seat.old seat.new }
 {
     let first = seat.load(Some(walk));
     take_from(rt, seat, walk, first)
@@ -128,10 +124,7 @@ pub(crate) fn put_back<R: Wait, C: Condition<N>, const N: usize>(
     requires word { IsPackable first }
     requires at { IsAtPlace C.means (returning_at _walk first) seat.old.me }
     requires hand { HasInHand C.means returning turned seat.old.me }
-    ensures since { HasMadeSteps None seat.old seat.new }
-    ensures returned { HasReached C.means (asked_of _walk) (got_of N _walk (found_back C.means returning first seat.old.me)) seat.new.me }
-    ensures owes { OwesTheWoken C.means returning seat.old.me (the seat.new.me.0).at.owed }
-    ensures true_to { HasSeenTrue C.means seat.new.me }
+    ensures { HasMadeStepsTo None (HasPutBack C.means returning _walk first seat.old.me) seat.old seat.new }
 {
     let mut word = first;
     for _ in rt.forever() {
@@ -151,9 +144,7 @@ pub(crate) fn await_flag<R: Wait, C: Condition<N>, const N: usize>(
 ) -> u8
     requires sleeps { Sleeps N _walk }
     requires at { IsAtPlace C.means _walk seat.old.me }
-    ensures since { HasMadeSteps None seat.old seat.new }
-    ensures cleared { result ≢ 1 }
-    ensures woken { HasReached C.means (asked_of _walk) (got_of N _walk (Found.Flag result)) seat.new.me }
+    ensures { HasMadeStepsTo None (IsWoken C.means _walk result) seat.old seat.new }
 {
     for _ in rt.forever() {
         let flag = seat.load_flag();
@@ -174,10 +165,7 @@ pub(crate) fn pay<C: Condition<N>, const N: usize>(
     requires pays { Pays N _walk }
     requires at { HasReached C.means (asked_of _walk) (got_of N _walk (Found.Paid (has_some (the seat.old.me.0).at.owed))) seat.old.me }
     requires owed { (the seat.old.me.0).at.owed ≡ owed.now.items }
-    ensures since { HasMadeSteps None seat.old seat.new }
-    ensures paid { HasReached C.means (asked_of _walk) (got_of N _walk (Found.Paid false)) seat.new.me }
-    ensures none { (the seat.new.me.0).at.owed ≡ [] }
-    ensures true_to { HasSeenTrue C.means seat.old.me → HasSeenTrue C.means seat.new.me }
+    ensures { HasMadeStepsTo None (HasPaid C.means _walk seat.old.me) seat.old seat.new }
 {
     for &wake in owed.as_slice() {
         seat.pay_wake(wake);
@@ -193,10 +181,7 @@ pub(crate) fn pay_one<C: Condition<N>, const N: usize>(
     requires pays { Pays N _walk }
     requires at { HasReached C.means (asked_of _walk) (got_of N _walk (Found.Paid true)) seat.old.me }
     requires owed { (the seat.old.me.0).at.owed ≡ wake ∷ [] }
-    ensures since { HasMadeSteps None seat.old seat.new }
-    ensures paid { HasReached C.means (asked_of _walk) (got_of N _walk (Found.Paid false)) seat.new.me }
-    ensures none { (the seat.new.me.0).at.owed ≡ [] }
-    ensures true_to { HasSeenTrue C.means seat.old.me → HasSeenTrue C.means seat.new.me }
+    ensures { HasMadeStepsTo None (HasPaid C.means _walk seat.old.me) seat.old seat.new }
 {
     seat.pay_wake(wake);
 }

@@ -1,7 +1,7 @@
 //! A release, and what leads to its scan of the lock list where somebody may have to be woken.
 
 ghost use Rattle.std.specs.Prelude.{◌≡◌, None};
-ghost use Rattle.ns_monitor.specs.Prelude.{HasAnswered, HasMadeSteps, HasSince, HasUnchangedQueues, InRelease, IsAtPlace, IsNumberOf, IsPackable, ReleasesBy, Succeeded, bits_of, scanning_at, the};
+ghost use Rattle.ns_monitor.specs.Prelude.{HasAnswered, HasMadeStepsTo, HasSince, HasUnchangedQueues, InRelease, IsAtPlace, IsNumberOf, IsPackable, ReleasesBy, Succeeded, bits_of, scanning_at, the};
 ghost use Rattle.ns_word.specs.declared.request.Request.TheVariants as TheRequest;
 
 use crate::cells::load_to_scan;
@@ -54,8 +54,7 @@ fn release_on<R: Wait, C: Condition<N>, const N: usize>(
 )
     requires last { IsPackable last }
     requires at { ReleasesBy C.means releasing last seat.old.me }
-    ensures since { HasMadeSteps None seat.old seat.new }
-    ensures released { HasAnswered C.means (TheRequest.Release releasing) Succeeded seat.new.me }
+    ensures { HasMadeStepsTo None (HasAnswered C.means (TheRequest.Release releasing) Succeeded) seat.old seat.new }
 {
     let going = Going::Leaving(releasing);
     let place = Walk::InRelease(releasing, ReleasePlace::ReleaseLoad);
@@ -76,8 +75,7 @@ fn scan_and_release<R: Wait, C: Condition<N>, const N: usize>(
     requires at { IsAtPlace C.means (InRelease releasing (scanning_at N word)) seat.old.me }
     requires taken { HasUnchangedQueues seat.old.me }
     requires tells { word.cond ≡ (bits_of (the seat.old.me.0).stood.lock).conditional }
-    ensures since { HasMadeSteps None seat.old seat.new }
-    ensures released { HasAnswered C.means (TheRequest.Release releasing) Succeeded seat.new.me }
+    ensures { HasMadeStepsTo None (HasAnswered C.means (TheRequest.Release releasing) Succeeded) seat.old seat.new }
 {
     let parts = word.parts();
     let mut row = [0; N];

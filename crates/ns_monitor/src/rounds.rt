@@ -2,7 +2,7 @@
 //! tests.
 
 ghost use Rattle.std.specs.Prelude.{◌≡◌, ◌⊎◌, ◌||◌, is_some, None, Some, IfSome, false, true};
-ghost use Rattle.ns_monitor.specs.Prelude.{Answered, Await, EndedBy, Grows, HadLooked, HasAnswered, HasMadeSteps, HasReached, HasWaitedFor, IfAnswered, InQueuing, InWait, IsAtPlace, IsForCondition, IsFreshIn, IsMade, Load, OnCondition, QueuesOrEnds, is_limited, look_or_queue, row_in, the};
+ghost use Rattle.ns_monitor.specs.Prelude.{Answered, Await, EndedBy, Grows, HadLooked, HasAnswered, HasMadeStepsTo, HasReached, HasWaitedFor, IfAnswered, InQueuing, InWait, IsAtPlace, IsForCondition, IsFreshIn, IsMade, Load, OnCondition, QueuesOrEnds, is_limited, look_or_queue, row_in, the};
 ghost use Rattle.ns_monitor.specs.Prelude.{wait_first, waiting, waits_by};
 ghost use Rattle.ns_note.specs.Known.{Grows as EnvGrows};
 
@@ -33,12 +33,11 @@ fn look_before<W: Watch, C: Condition<N>, const N: usize>(
 ) -> Option<Cause>
     requires watches { W.watches watch.old wait.limits }
     requires at { HasReached C.means (Await wait) (look_or_queue wait again) seat.old.me }
-    ensures since { HasMadeSteps None seat.old seat.new }
+    ensures leads { HasMadeStepsTo None (QueuesOrEnds C.means wait again result seat.old.me) seat.old seat.new }
     ensures looked { W.since watch.old watch.new }
     ensures shown { is_limited wait.limits ≡ true → W.shows watch.old watch.new wait.limits result }
     ensures ends { IfSome result (λ cause. is_limited wait.limits ≡ true) }
     ensures mine { (the seat.new.me.0).told.mine ≡ (the seat.old.me.0).told.mine }
-    ensures leads { QueuesOrEnds C.means wait again result seat.old.me seat.new.me }
     ensures fresh { IsFreshIn N wait.mode (the seat.old.me.0).at.held → IsFreshIn N wait.mode (the seat.new.me.0).at.held }
 {
     if !wait.limits.is_some() {
@@ -62,10 +61,9 @@ fn wait_on<R: Wait, W: Watch, C: Condition<N>, const N: usize>(
     requires watches { W.watches watch.old wait.limits }
     requires row { row.old ≡ row_in (the seat.old.me.0).at.held }
     requires at { IsAtPlace C.means (InWait wait (InQueuing false Load)) seat.old.me }
-    ensures since { HasMadeSteps None seat.old seat.new }
+    ensures answered { HasMadeStepsTo None (HasAnswered C.means (Await wait) (Answered result)) seat.old seat.new }
     ensures looked { W.since watch.old watch.new }
     ensures ended { IfAnswered result (λ cause. (is_limited wait.limits ≡ true) × W.shows watch.old watch.new wait.limits (Some cause)) }
-    ensures answered { HasAnswered C.means (Await wait) (Answered result) seat.new.me }
     ensures fresh { IsFreshIn N wait.mode (the seat.new.me.0).at.held }
 {
     let Subject::OnCondition(condition) = wait.on else {

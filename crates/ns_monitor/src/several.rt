@@ -5,7 +5,7 @@
 //! inside.
 
 ghost use Rattle.std.specs.Prelude.{◌≡◌, Some, None, [], ℕ};
-ghost use Rattle.ns_monitor.specs.Prelude.{AreSome, AwaitWakeInWait, ForWait, HasAcquired, HasBegunToWait, HasComeBackFromAny, HasSince, IfStill, IfWoken, InWait, IsAtPlace, IsNumberOf, IsWaitingForAny, WaitsStill, the, waits_for_any};
+ghost use Rattle.ns_monitor.specs.Prelude.{AreSome, ForWait, HasBegunToWait, HasComeBackFromAny, IfStill, IfWoken, IsNumberOf, IsWaitingForAny, WaitsStill, the, waits_for_any};
 
 use crate::acquiring::acquire;
 use crate::caller::{Caller, Renewed};

@@ -1,7 +1,7 @@
 //! How a monitor stands, for whoever looks for a fault: its lock word and its waiters.
 
 ghost use Rattle.std.specs.Prelude.{◌≡◌, None, Some};
-ghost use Rattle.ns_monitor.specs.Prelude.{HasMadeSteps, HasSeenMore, HasStood, HasUnchangedQueues, InShow, IsAtPlace, IsAtRest, IsPackable, ReturnShown, ShowsState, ToChange, known_of, showing, the, word_taken};
+ghost use Rattle.ns_monitor.specs.Prelude.{HasSeenMore, HasStood, HasTakenToShow, InShow, IsAtRest, ReturnShown, ShowsState, ToChange, showing, the};
 
 use crate::caller::{Caller, Hand};
 use crate::loops::put_back;
@@ -38,11 +38,7 @@ fn take_to_show<R: Wait, C: Condition<N>, const N: usize>(
     seat: &mut Bound<'_, C, N>,
 ) -> LockWord
     requires rest { IsAtRest C.means seat.old.me }
-    ensures since { HasMadeSteps (Some showing) seat.old seat.new }
-    ensures at { IsAtPlace C.means (InShow (ReturnShown (word_taken ToChange result))) seat.new.me }
-    ensures word { IsPackable result }
-    ensures taken { HasUnchangedQueues seat.new.me }
-    ensures stood { HasStood C.means result (the seat.new.me.0).stood (known_of seat.old.gate seat.old.me) (known_of seat.new.gate seat.new.me) }
+    ensures { HasTakenToShow C.means result seat.old seat.new }
 {
     let backoff = Backoff::new();
     let mut word = seat.load(Some(Walk::show()));

@@ -3,7 +3,7 @@
 ghost use Rattle.std.specs.Prelude.{◌≡◌, ◌<◌, Some, [], true, IfSome};
 ghost use Rattle.ns_gate.specs.Prelude.{AwaitWakeInWait, ForWait, HasMadeSteps, InWait, IsAtPlace, IsAtRest, IsInRange, IsMade, PlaceFits, is_limited, the, wait_first};
 ghost use Rattle.ns_note.specs.Known.{Grows as EnvGrows};
-ghost use Rattle.ns_monitor.specs.Prelude.{EndedBy, Grows, HasAcquired, HasSeenTrue, HasWaitedForVariable, IfAnswered, IfEnded, IsForVariables, queuing_first, variable_waiting, waits_for_variable};
+ghost use Rattle.ns_monitor.specs.Prelude.{EndedBy, Grows, HasAcquired, HasLeftToWait, HasMadeStepsTo, HasWaitedForVariable, IfAnswered, IfEnded, IsForVariables, queuing_first, variable_waiting, waits_for_variable};
 
 use crate::caller::{Caller, Renewed};
 use crate::loops::begin_to_take;
@@ -33,10 +33,7 @@ pub(crate) fn queue_at_variables<R: Wait, C: Condition<N>, const N: usize>(
     requires rest { IsAtRest C.means seat.old.me }
     requires variables { IsForVariables wait.on × IsInRange wait.on }
     requires fits { PlaceFits C.means (Some (queuing_first wait)) (the seat.old.me.0).at.held }
-    ensures since { HasMadeSteps (Some (queuing_first wait)) seat.old seat.new }
-    ensures waits { IsAtPlace C.means (InWait wait AwaitWakeInWait) seat.new.me }
-    ensures owes { (the seat.new.me.0).at.owed ≡ [] }
-    ensures true_to { HasSeenTrue C.means seat.new.me }
+    ensures { HasMadeStepsTo (Some (queuing_first wait)) (HasLeftToWait C.means wait) seat.old seat.new }
 {
     let place = Walk::InWait(wait, WaitPlace::InQueuing(false, QueuePlace::Load));
     let word = begin_to_take(rt, seat, place);
@@ -57,10 +54,9 @@ fn wait_at_variables<R: Wait, W: Watch, C: Condition<N>, const N: usize>(
     requires variables { IsForVariables wait.on × IsInRange wait.on }
     requires fits { PlaceFits C.means (Some (queuing_first wait)) (the seat.old.me.0).at.held }
     requires watches { W.watches watch.old wait.limits }
-    ensures since { HasMadeSteps (Some (queuing_first wait)) seat.old seat.new }
+    ensures acquired { HasMadeStepsTo (Some (queuing_first wait)) (HasAcquired C.means (ForWait wait result)) seat.old seat.new }
     ensures looked { W.since watch.old watch.new }
     ensures ended { IfEnded result (λ cause. (is_limited wait.limits ≡ true) × W.shows watch.old watch.new wait.limits (Some cause)) }
-    ensures acquired { HasAcquired C.means (ForWait wait result) seat.new.me }
 {
     queue_at_variables(rt, seat, wait);
     come_back(rt, seat, wait, watch)

@@ -1,7 +1,7 @@
 //! A wait outside: it leaves its section and queues, waits to be woken or ended, and may leave its list.
 
 ghost use Rattle.std.specs.Prelude.{◌≡◌, None, Some, IfErr, true, []};
-ghost use Rattle.ns_monitor.specs.Prelude.{AcquireLoad, AwaitWakeInWait, ForWait, HasAcquired, HasMadeSteps, HasRow, HasSeenTrue, HasTakenAt, IfEnded, InAcquire, InLeaving, InQueuing, InWait, IsAtPlace, IsInRange, LeaveLoad, Load, WokenOrEnded, is_limited, lacks_row, row_in, the};
+ghost use Rattle.ns_monitor.specs.Prelude.{AcquireLoad, AwaitWakeInWait, ForWait, HasAcquired, HasLeftToWait, HasMadeStepsTo, HasRow, HasTakenAt, IfEnded, InAcquire, InLeaving, InQueuing, InWait, IsAtPlace, IsInRange, LeaveLoad, Load, WokenOrEnded, is_limited, lacks_row, row_in, the};
 
 use crate::acquiring::acquire;
 use crate::cells::load_to_scan;
@@ -44,8 +44,7 @@ pub(crate) fn queue_to_wait<R: Wait, C: Condition<N>, const N: usize>(
     requires range { IsInRange queuing.wait.on }
     requires at { IsAtPlace C.means (InWait queuing.wait (InQueuing queuing.again Load)) seat.old.me }
     requires row { HasRow queuing.wait.on row.old (row_in (the seat.old.me.0).at.held) }
-    ensures since { HasMadeSteps None seat.old seat.new }
-    ensures waits { IsAtPlace C.means (InWait queuing.wait AwaitWakeInWait) seat.new.me }
+    ensures { HasMadeStepsTo None (HasLeftToWait C.means queuing.wait) seat.old seat.new }
 {
     let Queuing { wait, again } = queuing;
     let place = Walk::InWait(wait, WaitPlace::InQueuing(again, QueuePlace::Load));
@@ -64,10 +63,7 @@ pub(crate) fn leave_section<R: Wait, C: Condition<N>, const N: usize>(
     requires range { IsInRange queuing.wait.on }
     requires taken { HasTakenAt C.means (InWait queuing.wait (InQueuing queuing.again Load)) word seat.old.me seat.old.me }
     requires row { HasRow queuing.wait.on row.old (row_in (the seat.old.me.0).at.held) }
-    ensures since { HasMadeSteps None seat.old seat.new }
-    ensures waits { IsAtPlace C.means (InWait queuing.wait AwaitWakeInWait) seat.new.me }
-    ensures owes { (the seat.new.me.0).at.owed ≡ [] }
-    ensures true_to { HasSeenTrue C.means seat.new.me }
+    ensures { HasMadeStepsTo None (HasLeftToWait C.means queuing.wait) seat.old seat.new }
 {
     let Queuing { wait, again } = queuing;
     seat.arm_flag();
@@ -88,9 +84,8 @@ fn leave<R: Wait, C: Condition<N>, const N: usize>(
 ) -> (Arrival, Outcome)
     requires range { IsInRange wait.on }
     requires at { IsAtPlace C.means (InWait wait (InLeaving cause LeaveLoad)) seat.old.me }
-    ensures since { HasMadeSteps None seat.old seat.new }
+    ensures left { HasMadeStepsTo None (IsAtPlace C.means (InAcquire (ForWait wait result.1) (AcquireLoad result.0))) seat.old seat.new }
     ensures ended { IfEnded result.1 (λ other. other ≡ cause) }
-    ensures left { IsAtPlace C.means (InAcquire (ForWait wait result.1) (AcquireLoad result.0)) seat.new.me }
 {
     let place = Walk::InWait(wait, WaitPlace::InLeaving(cause, LeavePlace::LeaveLoad));
     let word = take(rt, seat, place);
@@ -131,10 +126,9 @@ fn await_in<R: Wait, W: Watch, C: Condition<N>, const N: usize>(
     requires range { IsInRange wait.on }
     requires watches { W.watches watch.old wait.limits }
     requires at { IsAtPlace C.means (InWait wait AwaitWakeInWait) seat.old.me }
-    ensures since { HasMadeSteps None seat.old seat.new }
+    ensures comes { HasMadeStepsTo None (IsAtPlace C.means (InAcquire (ForWait wait result.1) (AcquireLoad result.0))) seat.old seat.new }
     ensures looked { W.since watch.old watch.new }
     ensures ended { IfEnded result.1 (λ cause. (is_limited wait.limits ≡ true) × W.shows watch.old watch.new wait.limits (Some cause)) }
-    ensures comes { IsAtPlace C.means (InAcquire (ForWait wait result.1) (AcquireLoad result.0)) seat.new.me }
 {
     if !wait.limits.is_some() {
         let place = Walk::InWait(wait, WaitPlace::AwaitWakeInWait);
@@ -158,10 +152,9 @@ pub(crate) fn come_back<R: Wait, W: Watch, C: Condition<N>, const N: usize>(
     requires range { IsInRange wait.on }
     requires watches { W.watches watch.old wait.limits }
     requires at { IsAtPlace C.means (InWait wait AwaitWakeInWait) seat.old.me }
-    ensures since { HasMadeSteps None seat.old seat.new }
+    ensures acquired { HasMadeStepsTo None (HasAcquired C.means (ForWait wait result)) seat.old seat.new }
     ensures looked { W.since watch.old watch.new }
     ensures ended { IfEnded result (λ cause. (is_limited wait.limits ≡ true) × W.shows watch.old watch.new wait.limits (Some cause)) }
-    ensures acquired { HasAcquired C.means (ForWait wait result) seat.new.me }
 {
     let (arrival, outcome) = await_in(rt, seat, wait, watch);
     acquire(rt, seat, Aim::ForWait(wait, outcome), arrival);
@@ -191,10 +184,9 @@ fn await_or_end<R: Wait, W: Watch, C: Condition<N>, const N: usize>(
     requires limited { is_limited wait.limits ≡ true }
     requires watches { W.watches watch.old wait.limits }
     requires at { IsAtPlace C.means (InWait wait AwaitWakeInWait) seat.old.me }
-    ensures since { HasMadeSteps None seat.old seat.new }
+    ensures came { HasMadeStepsTo None (WokenOrEnded C.means wait result) seat.old seat.new }
     ensures looked { W.since watch.old watch.new }
     ensures ended { IfErr result (λ cause. W.shows watch.old watch.new wait.limits (Some cause)) }
-    ensures came { WokenOrEnded C.means wait result seat.new.me }
 {
     let mut pause = Pause::new();
     for _ in rt.forever() {

@@ -1,7 +1,7 @@
 //! Condition variables: signals and broadcasts.
 
 ghost use Rattle.std.specs.Prelude.{◌≡◌, ◌<◌, [], ◌∷◌, None, Some};
-ghost use Rattle.ns_monitor.specs.Prelude.{Broadcasting, Grows, HasAnswered, HasMadeSteps, HasReturnedWoken, HasTakenAt, HasWoken, HasWokenInHand, InSignal, IsAtPlace, IsAtRest, IsOrderly, IsPackable, SignalLoad, Signaling, Succeeded, WakeAndReturn, is_held, is_held_by_one, taken_from, the, waking_by};
+ghost use Rattle.ns_monitor.specs.Prelude.{Broadcasting, Grows, HasAnswered, HasMadeStepsTo, HasReturnedWoken, HasTakenAt, HasWoken, HasWokenInHand, InSignal, IsAtPlace, IsAtRest, IsOrderly, IsPackable, SignalLoad, Signaling, Succeeded, WakeAndReturn, is_held, is_held_by_one, taken_from, the, waking_by};
 ghost use Rattle.ns_word.specs.declared.request.Request.TheVariants as TheRequest;
 
 use crate::caller::{Caller, Hand};
@@ -60,8 +60,7 @@ fn return_woken<R: Wait, C: Condition<N>, const N: usize>(
     requires orderly { IsOrderly (the seat.old.me.0).stood }
     requires taken { taken.now ≡ taken_from call.waking call.k (the seat.old.me.0).stood }
     requires hand { HasWokenInHand call.waking call.k (is_held first) made seat.old.me }
-    ensures since { HasMadeSteps None seat.old seat.new }
-    ensures returned { HasReturnedWoken C.means call.waking call.k result (the seat.old.me.0).stood seat.new.me }
+    ensures { HasMadeStepsTo None (HasReturnedWoken C.means call.waking call.k result (the seat.old.me.0).stood) seat.old seat.new }
 {
     let returning = Returning::Changed(Change::WakeWaiters(call.waking, call.k));
     let mut word = first;
@@ -97,8 +96,7 @@ fn wake_sole<R: Wait, C: Condition<N>, const N: usize>(
     requires orderly { IsOrderly (the seat.old.me.0).stood }
     requires alone { taken_from call.waking call.k (the seat.old.me.0).stood ≡ sole ∷ [] }
     requires hand { HasWokenInHand call.waking call.k (is_held word) made seat.old.me }
-    ensures since { HasMadeSteps None seat.old seat.new }
-    ensures woke { HasAnswered C.means (TheRequest.Wake call.waking call.k) Succeeded seat.new.me }
+    ensures { HasMadeStepsTo None (HasAnswered C.means (TheRequest.Wake call.waking call.k) Succeeded) seat.old seat.new }
 {
     let taken = [sole];
     let moved = return_woken(rt, seat, call, word, &taken, made);
@@ -121,8 +119,7 @@ fn wake_waiters<R: Wait, C: Condition<N>, const N: usize>(
 )
     requires variable { call.k < 4 }
     requires taken { HasTakenAt C.means (InSignal call.waking call.k SignalLoad) word seat.old.me seat.old.me }
-    ensures since { HasMadeSteps None seat.old seat.new }
-    ensures woke { HasAnswered C.means (TheRequest.Wake call.waking call.k) Succeeded seat.new.me }
+    ensures { HasMadeStepsTo None (HasAnswered C.means (TheRequest.Wake call.waking call.k) Succeeded) seat.old seat.new }
 {
     let held = word.is_held();
     let (taken, made) = seat.wake_in_hand(call.waking, call.k, held);
@@ -146,8 +143,7 @@ fn wake_some<R: Wait, C: Condition<N>, const N: usize>(
 )
     requires variable { call.k < 4 }
     requires taken { HasTakenAt C.means (InSignal call.waking call.k SignalLoad) word seat.old.me seat.old.me }
-    ensures since { HasMadeSteps None seat.old seat.new }
-    ensures woke { HasAnswered C.means (TheRequest.Wake call.waking call.k) Succeeded seat.new.me }
+    ensures { HasMadeStepsTo None (HasAnswered C.means (TheRequest.Wake call.waking call.k) Succeeded) seat.old seat.new }
 {
     let held = word.is_held();
     match seat.wake_sole_in_hand(call.waking, call.k, held) {
@@ -165,8 +161,7 @@ fn wake<R: Wait, C: Condition<N>, const N: usize>(
 )
     requires variable { call.k < 4 }
     requires rest { IsAtRest C.means seat.old.me }
-    ensures since { HasMadeSteps (Some (waking_by call.waking call.k)) seat.old seat.new }
-    ensures woke { HasAnswered C.means (TheRequest.Wake call.waking call.k) Succeeded seat.new.me }
+    ensures { HasMadeStepsTo (Some (waking_by call.waking call.k)) (HasAnswered C.means (TheRequest.Wake call.waking call.k) Succeeded) seat.old seat.new }
 {
     let place = Walk::InSignal(call.waking, call.k, SignalPlace::SignalLoad);
     let word = begin_to_take(rt, seat, place);

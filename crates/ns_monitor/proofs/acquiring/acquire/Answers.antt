@@ -20,5 +20,5 @@ acquire_on-requires g c = let t = g.C.Condition.means in
 pub returns : goal.returns
 returns g c = record {
   since = gone_then None _ _ _ (since_load g (goal.at.returns g c).After-load-word) c.acquire_on.ensures.since;
-  acquired = c.acquire_on.ensures.acquired;
+  so = c.acquire_on.ensures.so;
 }

@@ -13,19 +13,19 @@ loop-preserved g c = let t = g.C.Condition.means in let inv = c.loop.invariant i
   tt,
   c.load-word.ensures.word,
   gone_then None _ _ _ inv.3 (gone_then None _ _ _ c.go_or_take.ensures.since (gone_then None _ _ _ c.queue-arrival.ensures.since (gone_by c.load-word.ensures.did))),
-  loads t walk c.load-word.result me3 now tt c.queue-arrival.ensures.woken did,
+  loads t walk c.load-word.result me3 now tt c.queue-arrival.ensures.so did,
 )
 
-pub returns-in_default-clause-since : goal.returns-in_default-clause-since
-returns-in_default-clause-since g c = gone_then None _ _ _ c.loop.invariant.3 c.go_or_take.ensures.since
+pub returns-in_default : goal.returns-in_default
+returns-in_default g c = record { since = gone_then None _ _ _ c.loop.invariant.3 c.go_or_take.ensures.since; so = c.in_default.ensures.so.1 }
 
 pub queue-arrival-requires : goal.queue-arrival-requires
-queue-arrival-requires g c = let inv = c.loop.invariant in let came = c.in-Some-go_or_take.ensures.came in
+queue-arrival-requires g c = let inv = c.loop.invariant in let came = c.in-Some-go_or_take.ensures.so in
     in_room (came.packs, (came.at, came.taken))
 
 pub load-word-requires : goal.load-word-requires
 load-word-requires g c =
-    in_room (can_load g.C.Condition.means (InAcquire c.args.aim (AcquireLoad c.queue-arrival.result)) c.queue-arrival.new.seat.me tt c.queue-arrival.ensures.woken)
+    in_room (can_load g.C.Condition.means (InAcquire c.args.aim (AcquireLoad c.queue-arrival.result)) c.queue-arrival.new.seat.me tt c.queue-arrival.ensures.so)
 
 pub go_or_take-requires : goal.go_or_take-requires
 go_or_take-requires g c = let inv = c.loop.invariant in in_room (tt, (refl, (inv.2, inv.4)))

@@ -23,7 +23,7 @@ put_back-requires g c = let t = g.C.Condition.means in let me1 = c.arm_flag.new.
 pub returns : goal.returns
 returns g c = record {
   since = gone_then None _ _ _ (gone_working None _ _ _ (gone_by c.arm_flag.ensures) c.queue_in_hand-bits.ensures.worked) (gone_then None _ _ _ c.put_back.ensures.since c.await_flag-flag.ensures.since);
-  woken = comes_to_acquire g.C.Condition.means c.args.aim c.tries-tries.result c.await_flag-flag.result c.arrival_of.result c.await_flag-flag.new.seat.me c.await_flag-flag.ensures.cleared c.arrival_of.ensures c.await_flag-flag.ensures.woken;
+  so = comes_to_acquire g.C.Condition.means c.args.aim c.tries-tries.result c.await_flag-flag.result c.arrival_of.result c.await_flag-flag.new.seat.me c.await_flag-flag.ensures.so.cleared c.arrival_of.ensures c.await_flag-flag.ensures.so.woken;
 }
 
 pub arm_flag-requires : goal.arm_flag-requires
@@ -35,5 +35,5 @@ parts-requires g c = c.requires.word
 
 pub await_flag-flag-requires : goal.await_flag-flag-requires
 await_flag-flag-requires g c = let t = g.C.Condition.means in
-    let at = subst (λ n. IsAtPlace t (InAcquire c.args.aim (AwaitWake n)) c.put_back.new.seat.me) (sym c.tries-tries.ensures) c.put_back.ensures.returned in
+    let at = subst (λ n. IsAtPlace t (InAcquire c.args.aim (AwaitWake n)) c.put_back.new.seat.me) (sym c.tries-tries.ensures) c.put_back.ensures.so.returned in
     in_room (record { loads = refl; free = refl; rests = refl }, at)

@@ -11,5 +11,5 @@ judge_met-requires g c = let some_cells = g.met.C.Condition.has_cells.0 in let b
 pub returns : goal.returns
 returns g c = record {
   since = (is_tested g.C.Condition.means _ _ _ _ _ _ _ _ _ _ _ g.met.C.Condition.has_cells.0 c.load_cells-begun.ensures c.judge_met.ensures.cell c.judge_met.ensures.did c.test.ensures).0;
-  tested = (is_tested g.C.Condition.means _ _ _ _ _ _ _ _ _ _ _ g.met.C.Condition.has_cells.0 c.load_cells-begun.ensures c.judge_met.ensures.cell c.judge_met.ensures.did c.test.ensures).1;
+  so = (is_tested g.C.Condition.means _ _ _ _ _ _ _ _ _ _ _ g.met.C.Condition.has_cells.0 c.load_cells-begun.ensures c.judge_met.ensures.cell c.judge_met.ensures.did c.test.ensures).1;
 }

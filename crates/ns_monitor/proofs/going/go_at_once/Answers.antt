@@ -11,7 +11,7 @@ begin_to_go-requires g c =
 pub returns-in-Ok : goal.returns-in-Ok
 returns-in-Ok g c = let began = c.in-Ok.ensures in
     let gone = goes_behind g.C.Condition.means c.args.walk c.args.going c.args.seat.now.me c.begin_to_go.new.seat.me c.requires.decides c.requires.going c.requires.rest began.by in
-    record { since = come_by _ _ began (λ by. gone.0); went = (gone.1, gone.2) }
+    record { since = come_by _ _ began (λ by. gone.0); so = (gone.1, gone.2) }
 
 pub go_by-requires : goal.go_by-requires
 go_by-requires g c = let began = c.in-Err.ensures.by in let led = loads_first g.C.Condition.means c.args.walk c.args.walk c.in-Err.word c.args.seat.now.me c.begin_to_go.new.seat.me refl c.requires.rest began.1 in
@@ -20,5 +20,5 @@ go_by-requires g c = let began = c.in-Err.ensures.by in let led = loads_first g.
 pub returns-in-Err : goal.returns-in-Err
 returns-in-Err g c = let began = c.in-Err.ensures in let led = loads_first g.C.Condition.means c.args.walk c.args.walk c.in-Err.word c.args.seat.now.me c.begin_to_go.new.seat.me refl c.requires.rest began.by.1 in record {
   since = gone_then (Some c.args.walk) _ _ _ (come_by _ _ began (λ by. led.1)) c.go_by.ensures.since;
-  went = c.go_by.ensures.went;
+  so = c.go_by.ensures.so;
 }

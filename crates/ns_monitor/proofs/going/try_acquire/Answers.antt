@@ -12,13 +12,13 @@ begin_to_go-requires g c = let t = g.C.Condition.means in let is = c.try_lock.en
 pub returns-in_default : goal.returns-in_default
 returns-in_default g c = let gone = tried_behind g.C.Condition.means c.args.mode c.try_lock.result c.args.seat.now.me c.begin_to_go.new.seat.me c.try_lock.ensures.first c.requires.rest c.in_default.ensures.by in record {
   since = come_by _ _ c.in_default.ensures (λ by. gone.1);
-  tried = gone.0;
+  so = gone.0;
 }
 
 pub returns-then-not-may_acquire : goal.returns-then-not-may_acquire
 returns-then-not-may_acquire g c = let led = loads_first g.C.Condition.means (trying c.args.mode) c.try_lock.result c.in-Err.word c.args.seat.now.me c.begin_to_go.new.seat.me c.try_lock.ensures.first c.requires.rest c.in-Err.ensures.by.1 in record {
   since = come_by _ _ c.in-Err.ensures (λ by. led.1);
-  tried = tries_by g.C.Condition.means c.args.mode c.in-Err.word false c.begin_to_go.new.seat.me (sym c.may_acquire.ensures ∙ c.if-not-may_acquire.true) led.0;
+  so = tries_by g.C.Condition.means c.args.mode c.in-Err.word false c.begin_to_go.new.seat.me (sym c.may_acquire.ensures ∙ c.if-not-may_acquire.true) led.0;
 }
 
 pub exchange_to_acquire-requires : goal.exchange_to_acquire-requires
@@ -32,5 +32,5 @@ returns g c = let t = g.C.Condition.means in let mode = c.args.mode in let word 
     let led = loads_first t (trying mode) c.try_lock.result word c.args.seat.now.me me c.try_lock.ensures.first c.requires.rest c.in-Err.ensures.by.1 in
     let did = c.exchange_to_acquire.ensures.did.by in record {
       since = gone_then (Some (trying mode)) _ _ _ (come_by _ _ c.in-Err.ensures (λ by. led.1)) (gone_by c.exchange_to_acquire.ensures.did);
-      tried = is_tried t mode word c.exchange_to_acquire.result c.is_ok.result me now c.is_ok.ensures.value (tries_by t mode word true me (sym c.may_acquire.ensures ∙ c.if-not-may_acquire.false) led.0) did;
+      so = is_tried t mode word c.exchange_to_acquire.result c.is_ok.result me now c.is_ok.ensures.value (tries_by t mode word true me (sym c.may_acquire.ensures ∙ c.if-not-may_acquire.false) led.0) did;
     }

@@ -19,8 +19,7 @@ since_now g c = gone_then None _ _ _ c.loop.invariant.2 (gone_by c.load_flag-fla
 pub returns-then-flag-ne1 : goal.returns-then-flag-ne1
 returns-then-flag-ne1 g c = record {
   since = since_now g (goal.at.returns-then-flag-ne1 g c).After-load_flag-flag;
-  cleared = search rules;
-  woken = is_woken g.C.Condition.means c.args._walk c.load_flag-flag.result c.loop.seat.me c.load_flag-flag.new.self.me c.requires.sleeps c.loop.invariant.3 c.load_flag-flag.ensures.by;
+  so = record { cleared = c.if-flag-ne1.true; woken = is_woken g.C.Condition.means c.args._walk c.load_flag-flag.result c.loop.seat.me c.load_flag-flag.new.self.me c.requires.sleeps c.loop.invariant.3 c.load_flag-flag.ensures.by };
 }
 
 pub loop-preserved : goal.loop-preserved

@@ -16,7 +16,7 @@ exchange_to_go-requires g c = let t = g.C.Condition.means in let inv = c.loop.in
 pub returns-in-Ok : goal.returns-in-Ok
 returns-in-Ok g c = record {
   since = gone_then None _ _ _ c.loop.invariant.3 (gone_by c.in-Ok.ensures.did);
-  came = let t = g.C.Condition.means in let inv = c.loop.invariant in let walk = c.args._walk in let is = c.requires.going in let d = c.requires.decides in let now = c.exchange_to_go.new.seat.me in
+  so = let t = g.C.Condition.means in let inv = c.loop.invariant in let walk = c.args._walk in let is = c.requires.going in let d = c.requires.decides in let now = c.exchange_to_go.new.seat.me in
       let may = (may_by c.args.going walk c.loop.word c.may_go.result true is c.may_go.ensures c.if-may_go.true).1 in
       (goes_alone _ c.loop.word may, goes_by t walk c.loop.word c.loop.seat.me now d may (decided t walk c.loop.word true _ c.loop.seat.me d may refl inv.5) (subst (λ x. Performed t None (going_act x c.loop.word) Made c.loop.seat.me now) is c.in-Ok.ensures.did.by));
 }
@@ -59,7 +59,7 @@ exchange_to_take-requires g c = let t = g.C.Condition.means in let inv = c.loop.
 pub returns-in-Ok-exchange_to_take : goal.returns-in-Ok-exchange_to_take
 returns-in-Ok-exchange_to_take g c = record {
   since = gone_then None _ _ _ c.loop.invariant.3 (gone_by c.in-Ok-exchange_to_take.ensures.did);
-  came = let t = g.C.Condition.means in let inv = c.loop.invariant in let walk = c.args._walk in let is = c.requires.going in let d = c.requires.decides in let me = c.loop.seat.me in let now = c.exchange_to_take.new.self.me in
+  so = let t = g.C.Condition.means in let inv = c.loop.invariant in let walk = c.args._walk in let is = c.requires.going in let d = c.requires.decides in let me = c.loop.seat.me in let now = c.exchange_to_take.new.self.me in
       let may = (may_by c.args.going walk c.loop.word c.may_go.result false is c.may_go.ensures c.if-may_go.false).1 in
       let taking = c.taking-taking.ensures ∙ ap taking_for is in
       subst (λ w. HasTakenAt t walk w c.args.seat.now.me now) (sym (c.taken.ensures ∙ ap (λ x. word_taken x c.loop.word) taking))

@@ -12,15 +12,13 @@ take_from-requires g c =
     let loaded = loads g.C.Condition.means c.args._walk c.load-first.result c.args.seat.now.me c.load-first.new.self.me c.requires.decides c.requires.at c.load-first.ensures.did.by in
     in_room (c.requires.decides, (c.requires.going, (c.load-first.ensures.word, loaded)))
 
-pub returns-clause-since : goal.returns-clause-since
-returns-clause-since g c = gone_then None _ _ _ (gone_by c.load-first.ensures.did) c.take_from.ensures.since
-
-pub returns-clause-taken : goal.returns-clause-taken
-returns-clause-taken g c = let took = c.take_from.ensures.taken in record {
-  at = took.at;
+pub returns : goal.returns
+returns g c = let took = c.take_from.ensures.so in record {
+  since = gone_then None _ _ _ (gone_by c.load-first.ensures.did) c.take_from.ensures.since;
+  so = record { at = took.at;
   taken = took.taken;
   packs = took.packs;
   held = took.held ∙ saw_held g.C.Condition.means LoadWord c.load-first.result c.args.seat.now.me c.load-first.new.self.me c.load-first.ensures.did.by;
   tells = took.tells;
-  orderly = took.orderly;
+  orderly = took.orderly };
 }

@@ -12,10 +12,10 @@ load_to_scan-requires g c = let t = g.C.Condition.means in let word = c.args.wor
 
 pub scan_and_return-requires : goal.scan_and_return-requires
 scan_and_return-requires g c =
-    in_room (omega (arith, g.met.C.Condition.has_cells), (c.requires.word, (tt, rw c.parts-parts.ensures at c.load_to_scan.ensures.ready)))
+    in_room (omega (arith, g.met.C.Condition.has_cells), (c.requires.word, (tt, rw c.parts-parts.ensures at c.load_to_scan.ensures.so.ready)))
 
 pub returns : goal.returns
 returns g c = let e = c.scan_and_return.ensures in record {
   since = gone_then None _ _ _ c.load_to_scan.ensures.since e.since;
-  released = e.paid;
+  so = e.paid;
 }

@@ -7,12 +7,11 @@ use Rattle.ns_monitor.proofs.rounds.look_before.Goals as goal
 
 pub returns-then-not-is_some : goal.returns-then-not-is_some
 returns-then-not-is_some g c = record {
-  since = gone_itself c.args.seat.now;
   looked = g.W.Watch.same c.args.watch.now;
   shown = search rules;
   ends = tt;
   mine = refl;
-  leads = (by_limits g.C.Condition.means c.args.wait c.args.again false c.args.seat.now.me (sym c.is_some.ensures ∙ c.if-not-is_some.true) c.requires.at, refl);
+  leads = record { since = gone_itself c.args.seat.now; so = (by_limits g.C.Condition.means c.args.wait c.args.again false c.args.seat.now.me (sym c.is_some.ensures ∙ c.if-not-is_some.true) c.requires.at, refl) };
   fresh = λ is. is;
 }
 
@@ -28,12 +27,11 @@ is_limited_if limits (Some cause) is = is
 
 pub returns : goal.returns
 returns g c = record {
-  since = gone_by c.look.ensures;
   looked = c.look-shown.ensures.since;
   shown = search rules;
   ends = is_limited_if c.args.wait.limits c.look-shown.result (sym c.is_some.ensures ∙ c.if-not-is_some.false);
   mine = commits_none g.C.Condition.means None (Look c.args.wait.limits c.args.again) (Looked c.look-shown.result) c.args.seat.now.me c.look.new.self.me c.look.ensures.by
       (does g.C.Condition.means None (Look c.args.wait.limits c.args.again) (Looked c.look-shown.result) c.args.seat.now.me c.look.new.self.me c.look.ensures.by).2;
-  leads = let t = g.C.Condition.means in let me = c.args.seat.now.me in looks_in t c.args.wait c.args.again c.look-shown.result me c.look.new.self.me (by_limits t c.args.wait c.args.again true me (sym c.is_some.ensures ∙ c.if-not-is_some.false) c.requires.at) c.look.ensures.by;
+  leads = record { since = gone_by c.look.ensures; so = let t = g.C.Condition.means in let me = c.args.seat.now.me in looks_in t c.args.wait c.args.again c.look-shown.result me c.look.new.self.me (by_limits t c.args.wait c.args.again true me (sym c.is_some.ensures ∙ c.if-not-is_some.false) c.requires.at) c.look.ensures.by };
   fresh = look_fresh g.C.Condition.means c.args.wait c.args.again c.look-shown.result c.args.seat.now.me c.look.new.self.me c.look.ensures.by;
 }

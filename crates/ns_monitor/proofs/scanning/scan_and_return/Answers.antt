@@ -46,13 +46,13 @@ put_back-requires g c = let t = g.C.Condition.means in let look = c.scan_writer_
 owed : (g : Over) (c : After-put_back g) → (the c.put_back.new.seat.me.0).at.owed ≡ told_list c.in-Ok.told.0
 owed g c = let t = g.C.Condition.means in let look = c.scan_writer_in_hand in let entered = c.enter-turned in
     calls_few t (ready_at c.args.scanning c.args.word) c.args.row.now c.in-Ok.told.0 c.in-Ok.told.1 _ c.args.seat.now.me entered.new.seat.me c.requires.ready (entered.ensures.worked.by ∙ look.ensures.worked.by) (sym look.ensures.told ∙ c.in-Ok.is)
-    (owes_scanned t c.args.scanning c.returning.result entered.new.seat.me (the c.put_back.new.seat.me.0).at.owed c.returning.ensures c.put_back.ensures.owes)
+    (owes_scanned t c.args.scanning c.returning.result entered.new.seat.me (the c.put_back.new.seat.me.0).at.owed c.returning.ensures c.put_back.ensures.so.owes)
 
 -- and the call stands where it pays it, if there is one
 pays : (g : Over) (c : After-put_back g) → HasReached g.C.Condition.means (asked_of (paying_at c.args.scanning)) (got_of g.row.N (paying_at c.args.scanning) (Paid (has_some (told_list c.in-Ok.told.0)))) c.put_back.new.seat.me
 pays g c = let t = g.C.Condition.means in let now = c.put_back.new.seat.me in
     subst (λ ns. HasReached t (asked_of (paying_at c.args.scanning)) (got_of g.row.N (paying_at c.args.scanning) (Paid (has_some ns))) now) (owed g c)
-    (pay_scanned t c.args.scanning c.args.word c.enter-turned.new.seat.me now c.place-place.result c.returning.result (c.place-place.ensures ∙ ap (ready_at c.args.scanning) c.parts.ensures) c.returning.ensures c.put_back.ensures.owes c.put_back.ensures.returned)
+    (pay_scanned t c.args.scanning c.args.word c.enter-turned.new.seat.me now c.place-place.result c.returning.result (c.place-place.ensures ∙ ap (ready_at c.args.scanning) c.parts.ensures) c.returning.ensures c.put_back.ensures.so.owes c.put_back.ensures.so.returned)
 
 gone : (g : Over) (c : After-put_back g) → HasMadeSteps None c.args.seat.now c.put_back.new.seat
 gone g c = gone_behind None _ _ _ (worked_then _ _ _ c.scan_writer_in_hand.ensures.worked c.enter-turned.ensures.worked) c.put_back.ensures.since
@@ -65,9 +65,9 @@ pay_one-requires g c = let t = g.C.Condition.means in let put = (goal.at.pay_one
 pub returns-in-Some : goal.returns-in-Some
 returns-in-Some g c = let t = g.C.Condition.means in let e = c.pay_one.ensures in record {
   since = gone_then None _ _ _ (gone g (goal.at.returns-in-Some g c).After-put_back) e.since;
-  paid = subst (λ walk. HasReached t (asked_of walk) (got_of g.row.N walk (Paid false)) c.pay_one.new.seat.me) c.paying.ensures e.paid;
-  none = e.none;
-  true_to = e.true_to c.put_back.ensures.true_to;
+  paid = subst (λ walk. HasReached t (asked_of walk) (got_of g.row.N walk (Paid false)) c.pay_one.new.seat.me) c.paying.ensures e.so.paid;
+  none = e.so.none;
+  true_to = e.so.true_to c.put_back.ensures.so.true_to;
 }
 
 pub returns-in_default : goal.returns-in_default
@@ -75,5 +75,5 @@ returns-in_default g c = let t = g.C.Condition.means in let put = (goal.at.retur
   since = gone g put;
   paid = subst (λ ns. HasReached t (asked_of (paying_at c.args.scanning)) (got_of g.row.N (paying_at c.args.scanning) (Paid (has_some ns))) c.put_back.new.seat.me) none (pays g put);
   none = owed g put ∙ none;
-  true_to = c.put_back.ensures.true_to;
+  true_to = c.put_back.ensures.so.true_to;
 }

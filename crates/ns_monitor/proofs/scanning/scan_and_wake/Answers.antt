@@ -25,9 +25,9 @@ put_back-requires g c = let t = g.C.Condition.means in let scan = c.scan_from_in
 pub pay-requires : goal.pay-requires
 pay-requires g c = let t = g.C.Condition.means in let scan = c.scan_from_in_hand-scan in let e = c.put_back.ensures in let me = c.args.seat.now.me in let entered = c.enter-turned in let now = c.put_back.new.seat.me in
     let same = entered.ensures.worked.by ∙ scan.ensures.worked.by in
-    let next = pay_scanned t c.args.scanning c.args.word entered.new.seat.me now c.place-place.result c.returning.result (c.place-place.ensures ∙ ap (ready_at c.args.scanning) c.parts.ensures) c.returning.ensures e.owes e.returned in
+    let next = pay_scanned t c.args.scanning c.args.word entered.new.seat.me now c.place-place.result c.returning.result (c.place-place.ensures ∙ ap (ready_at c.args.scanning) c.parts.ensures) c.returning.ensures e.so.owes e.so.returned in
     let at = pays_at t c.args.scanning c.paying.result now c.paying.ensures (has_some (the now.0).at.owed) next in
-    let owed = owes_scanned t c.args.scanning c.returning.result entered.new.seat.me (the now.0).at.owed c.returning.ensures e.owes in
+    let owed = owes_scanned t c.args.scanning c.returning.result entered.new.seat.me (the now.0).at.owed c.returning.ensures e.so.owes in
     let called = calls_are t (ready_at c.args.scanning c.args.word) c.args.row.now _ _ _ me entered.new.seat.me c.requires.ready same (c.called-owed.ensures ∙ (λ i. called_by (c.as_slice.ensures.value i) (c.as_slice-2.ensures.value i))) scan.ensures.woken scan.ensures.vias in
     in_room (at.0, (at.1, owed ∙ sym called))
 
@@ -37,7 +37,7 @@ called-owed-requires g c = record { few = search rules; same = rw (c.as_slice.en
 pub returns : goal.returns
 returns g c = let t = g.C.Condition.means in let worked = worked_then _ _ _ c.scan_from_in_hand-scan.ensures.worked c.enter-turned.ensures.worked in record {
   since = gone_then None _ _ _ (gone_behind None _ _ _ worked c.put_back.ensures.since) c.pay.ensures.since;
-  paid = subst (λ walk. HasReached t (asked_of walk) (got_of g.row.N walk (Paid false)) c.pay.new.seat.me) c.paying.ensures c.pay.ensures.paid;
-  none = c.pay.ensures.none;
-  true_to = c.pay.ensures.true_to c.put_back.ensures.true_to;
+  paid = subst (λ walk. HasReached t (asked_of walk) (got_of g.row.N walk (Paid false)) c.pay.new.seat.me) c.paying.ensures c.pay.ensures.so.paid;
+  none = c.pay.ensures.so.none;
+  true_to = c.pay.ensures.so.true_to c.put_back.ensures.so.true_to;
 }

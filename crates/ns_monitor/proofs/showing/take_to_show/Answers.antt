@@ -24,7 +24,7 @@ pub returns-in-Ok : goal.returns-in-Ok
 returns-in-Ok g c = record {
   since = gone_then (Some showing) _ _ _ c.loop.invariant.3 (gone_by c.in-Ok.ensures.did);
   at = (takes_to_show g.C.Condition.means c.loop.word c.loop.seat.me c.exchange_to_take.new.self.me (free g (goal.at.returns-in-Ok g c).In-Ok) c.in-Ok.ensures.did.by).0;
-  word = search rules;
+  packs = search rules;
   taken = (takes_to_show g.C.Condition.means c.loop.word c.loop.seat.me c.exchange_to_take.new.self.me (free g (goal.at.returns-in-Ok g c).In-Ok) c.in-Ok.ensures.did.by).1;
   stood = has_stood g.C.Condition.means c.args.seat.now.gate c.exchange_to_take.new.self.gate c.loop.word c.args.seat.now.me c.loop.seat.me c.exchange_to_take.new.self.me c.loop.invariant.3.by (free g (goal.at.returns-in-Ok g c).In-Ok) c.in-Ok.ensures.did.by;
 }

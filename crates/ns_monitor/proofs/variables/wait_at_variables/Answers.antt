@@ -7,12 +7,11 @@ queue_at_variables-requires g c = in_room (c.requires.rest, (c.requires.variable
 
 pub come_back-requires : goal.come_back-requires
 come_back-requires g c = let e = c.queue_at_variables.ensures in
-    in_room (c.requires.variables.1, (c.requires.watches, e.waits))
+    in_room (c.requires.variables.1, (c.requires.watches, e.so.waits))
 
 pub returns : goal.returns
 returns g c = let e = c.come_back.ensures in record {
-  since = gone_then (Some (queuing_first c.args.wait)) _ _ _ c.queue_at_variables.ensures.since e.since;
   looked = e.looked;
   ended = e.ended;
-  acquired = e.acquired;
+  acquired = record { since = gone_then (Some (queuing_first c.args.wait)) _ _ _ c.queue_at_variables.ensures.since e.acquired.since; so = e.acquired.so };
 }

@@ -6,23 +6,21 @@ use Rattle.ns_monitor.proofs.waiting.await_in.Goals as goal
 
 pub returns-then-not-is_some : goal.returns-then-not-is_some
 returns-then-not-is_some g c = record {
-  since = c.await_flag-flag.ensures.since;
   looked = g.W.Watch.same c.args.watch.now;
   ended = search rules;
-  comes = woken_next g.C.Condition.means c.args.wait c.await_flag-flag.result c.woken_by.result c.arrival_of.result c.await_flag-flag.new.seat.me c.await_flag-flag.ensures.cleared c.woken_by.ensures c.arrival_of.ensures c.await_flag-flag.ensures.woken;
+  comes = record { since = c.await_flag-flag.ensures.since; so = woken_next g.C.Condition.means c.args.wait c.await_flag-flag.result c.woken_by.result c.arrival_of.result c.await_flag-flag.new.seat.me c.await_flag-flag.ensures.so.cleared c.woken_by.ensures c.arrival_of.ensures c.await_flag-flag.ensures.so.woken };
 }
 
 pub returns-in-Ok : goal.returns-in-Ok
-returns-in-Ok g c = let waits = c.await_or_end in let came = c.in-Ok.ensures.came in record {
-  since = waits.ensures.since;
+returns-in-Ok g c = let waits = c.await_or_end in let came = c.in-Ok.ensures.came.so in record {
   looked = waits.ensures.looked;
   ended = search rules;
-  comes = woken_next g.C.Condition.means c.args.wait c.in-Ok.flag c.woken_by-in-Ok.result c.arrival_of-in-Ok.result waits.new.seat.me came.0 c.woken_by-in-Ok.ensures c.arrival_of-in-Ok.ensures came.1;
+  comes = record { since = waits.ensures.came.since; so = woken_next g.C.Condition.means c.args.wait c.in-Ok.flag c.woken_by-in-Ok.result c.arrival_of-in-Ok.result waits.new.seat.me came.cleared c.woken_by-in-Ok.ensures c.arrival_of-in-Ok.ensures came.woken };
 }
 
 pub leave-requires : goal.leave-requires
 leave-requires g c = let waits = c.await_or_end in
-    in_room (c.requires.range, c.in-Err.ensures.came)
+    in_room (c.requires.range, c.in-Err.ensures.came.so)
 
 pub await_or_end-requires : goal.await_or_end-requires
 await_or_end-requires g c = in_room (sym c.is_some.ensures ∙ c.if-not-is_some.false, (c.requires.watches, c.requires.at))
@@ -34,9 +32,8 @@ shown so cause (Ended other) is met = subst so (sym is) met
 
 pub returns-in-Err : goal.returns-in-Err
 returns-in-Err g c = record {
-  since = gone_then None _ _ _ c.await_or_end.ensures.since c.leave.ensures.since;
   looked = c.await_or_end.ensures.looked;
-  comes = c.leave.ensures.left;
+  comes = record { since = gone_then None _ _ _ c.await_or_end.ensures.came.since c.leave.ensures.left.since; so = c.leave.ensures.left.so };
   ended = let w = c.args.watch.now in let limits = c.args.wait.limits in
       shown (λ cause. (is_limited limits ≡ true) × g.W.Watch.shows w c.await_or_end.new.watch limits (Some cause)) c.in-Err.cause c.leave.result.1 c.leave.ensures.ended (sym c.is_some.ensures ∙ c.if-not-is_some.false, c.in-Err.ensures.ended);
 }

@@ -22,10 +22,9 @@ looking g c set = looks_out g.C.Condition.means c.args.wait c.load_flag-flag.res
 
 pub returns-then-flag-ne1 : goal.returns-then-flag-ne1
 returns-then-flag-ne1 g c = record {
-  since = since_flag g (goal.at.returns-then-flag-ne1 g c).After-load_flag-flag;
   looked = c.loop.invariant.3;
   ended = search rules;
-  came = (c.if-flag-ne1.true, goes g.C.Condition.means (InWait c.args.wait AwaitWakeInWait) LoadFlag (Flag c.load_flag-flag.result) _ c.loop.seat.me c.load_flag-flag.new.self.me c.loop.invariant.4 refl refl refl c.load_flag-flag.ensures.by);
+  came = record { since = since_flag g (goal.at.returns-then-flag-ne1 g c).After-load_flag-flag; so = record { cleared = c.if-flag-ne1.true; woken = goes g.C.Condition.means (InWait c.args.wait AwaitWakeInWait) LoadFlag (Flag c.load_flag-flag.result) _ c.loop.seat.me c.load_flag-flag.new.self.me c.loop.invariant.4 refl refl refl c.load_flag-flag.ensures.by } };
 }
 
 pub look-shown-requires : goal.look-shown-requires
@@ -38,10 +37,9 @@ look-requires g c = let t = g.C.Condition.means in let me = c.load_flag-flag.new
 
 pub returns-in-Some-shown : goal.returns-in-Some-shown
 returns-in-Some-shown g c = record {
-  since = gone_then None _ _ _ (since_flag g (goal.at.returns-in-Some-shown g c).After-load_flag-flag) (gone_by c.look.ensures);
   looked = g.W.Watch.then c.args.watch.now c.loop.watch c.look-shown.new.self c.loop.invariant.3 c.look-shown.ensures.since;
   ended = g.W.Watch.later c.args.watch.now c.loop.watch c.look-shown.new.self c.args.wait.limits (Some c.in-Some-shown.cause) c.loop.invariant.3 (subst (g.W.Watch.shows c.loop.watch c.look-shown.new.self c.args.wait.limits) c.in-Some-shown.is c.look-shown.ensures.shown);
-  came = goes_to_leave g.C.Condition.means c.args.wait c.look-shown.result c.in-Some-shown.cause c.load_flag-flag.new.self.me c.look.new.self.me c.in-Some-shown.is (looking g (goal.at.returns-in-Some-shown g c).After-load_flag-flag c.if-flag-ne1.false) c.look.ensures.by;
+  came = record { since = gone_then None _ _ _ (since_flag g (goal.at.returns-in-Some-shown g c).After-load_flag-flag) (gone_by c.look.ensures); so = goes_to_leave g.C.Condition.means c.args.wait c.look-shown.result c.in-Some-shown.cause c.load_flag-flag.new.self.me c.look.new.self.me c.in-Some-shown.is (looking g (goal.at.returns-in-Some-shown g c).After-load_flag-flag c.if-flag-ne1.false) c.look.ensures.by };
 }
 
 pub loop-preserved : goal.loop-preserved

@@ -8,13 +8,13 @@ use Rattle.ns_monitor.proofs.waiting.leave.Goals.{After-put_back}
 use Rattle.ns_monitor.proofs.waiting.leave.Goals as goal
 
 pub leave_in_hand-stood-requires : goal.leave_in_hand-stood-requires
-leave_in_hand-stood-requires g c = in_room c.take-word.ensures.taken.taken
+leave_in_hand-stood-requires g c = in_room c.take-word.ensures.so.taken
 
 pub put_back-requires : goal.put_back-requires
 put_back-requires g c = let t = g.C.Condition.means in let took = c.take-word in let left = c.leave_in_hand-stood in let me1 = took.new.seat.me in let e = left.ensures in
     let hand = hand_by t (LeaveSelf c.home-home.result) left.result.1 me1 left.new.self.me e.worked.by (λ last. refl) e.lists e.bits in
-    let stands = works t (InWait c.args.wait (InLeaving c.args.cause (Leave took.result))) me1 left.new.self.me took.ensures.taken.at refl e.worked.by in
-    in_room (tt, (ap (λ w. Changed (LeaveSelf w)) c.home-home.ensures, (took.ensures.taken.packs, (stands, hand))))
+    let stands = works t (InWait c.args.wait (InLeaving c.args.cause (Leave took.result))) me1 left.new.self.me took.ensures.so.at refl e.worked.by in
+    in_room (tt, (ap (λ w. Changed (LeaveSelf w)) c.home-home.ensures, (took.ensures.so.packs, (stands, hand))))
 
 -- it came so far, and stands where its list tells
 since_back : (g : Over) (c : After-put_back g) → HasMadeSteps None c.args.seat.now c.put_back.new.seat
@@ -22,27 +22,25 @@ since_back g c = gone_then None _ _ _ (gone_working None _ _ _ c.take-word.ensur
 
 pub returns-then-stood : goal.returns-then-stood
 returns-then-stood g c = record {
-  since = since_back g (goal.at.returns-then-stood g c).After-put_back;
   ended = search rules;
-  left = let t = g.C.Condition.means in let took = c.take-word in let left = c.leave_in_hand-stood in
+  left = record { since = since_back g (goal.at.returns-then-stood g c).After-put_back; so = let t = g.C.Condition.means in let took = c.take-word in let left = c.leave_in_hand-stood in
       subst (λ next. HasReached t (Await c.args.wait) next c.put_back.new.seat.me)
       (left_next t c.args.wait c.args.cause took.result c.home-home.result left.result.0 true took.new.seat.me left.new.self.me c.home-home.ensures
-      left.ensures.worked.by left.ensures.stood c.if-stood.true) c.put_back.ensures.returned;
+      left.ensures.worked.by left.ensures.stood c.if-stood.true) c.put_back.ensures.so.returned };
 }
 
 pub await_flag-flag-requires : goal.await_flag-flag-requires
 await_flag-flag-requires g c = let t = g.C.Condition.means in let took = c.take-word in let left = c.leave_in_hand-stood in
     let at : IsAtPlace t (InWait c.args.wait (InLeaving c.args.cause AwaitWakeToLeave)) c.put_back.new.seat.me = subst (λ next. HasReached t (Await c.args.wait) next c.put_back.new.seat.me)
     (left_next t c.args.wait c.args.cause took.result c.home-home.result left.result.0 false took.new.seat.me left.new.self.me c.home-home.ensures
-    left.ensures.worked.by left.ensures.stood c.if-stood.false) c.put_back.ensures.returned in
+    left.ensures.worked.by left.ensures.stood c.if-stood.false) c.put_back.ensures.so.returned in
     in_room (record { loads = refl; free = refl; rests = refl }, at)
 
 pub returns : goal.returns
 returns g c = record {
-  since = gone_then None _ _ _ (since_back g (goal.at.returns g c).After-put_back) c.await_flag-flag.ensures.since;
   ended = taken_ended c.args.wait.on c.args.cause c.await_flag-flag.result c.outcome_taken.result c.outcome_taken.ensures;
-  left = let t = g.C.Condition.means in let flag = c.await_flag-flag.result in
-      taken_next t c.args.wait c.args.cause flag c.outcome_taken.result c.arrival_of.result c.await_flag-flag.new.seat.me c.await_flag-flag.ensures.cleared c.outcome_taken.ensures c.arrival_of.ensures c.await_flag-flag.ensures.woken;
+  left = record { since = gone_then None _ _ _ (since_back g (goal.at.returns g c).After-put_back) c.await_flag-flag.ensures.since; so = let t = g.C.Condition.means in let flag = c.await_flag-flag.result in
+      taken_next t c.args.wait c.args.cause flag c.outcome_taken.result c.arrival_of.result c.await_flag-flag.new.seat.me c.await_flag-flag.ensures.so.cleared c.outcome_taken.ensures c.arrival_of.ensures c.await_flag-flag.ensures.so.woken };
 }
 
 pub take-word-requires : goal.take-word-requires

@@ -23,15 +23,13 @@ load_to_scan-requires g c = let t = g.C.Condition.means in let word = c.args.wor
 
 pub scan_and_return-requires : goal.scan_and_return-requires
 scan_and_return-requires g c = let is = armed g (goal.at.scan_and_return-requires g c).After-load_to_scan in let me = c.load_to_scan.new.seat.me in
-    let nowhere = subst (λ (lists : Lists g.row.C.Denot). times (the me.0).at.seat lists ≡ 0) (sym c.load_to_scan.ensures.stood) (subst (λ n. times n (the c.arm_flag.new.self.me.0).stood ≡ 0) (sym c.load_to_scan.ensures.since.by.seat) is.nowhere) in
-    in_room (omega (arith, g.met.C.Condition.has_cells), (c.requires.taken.packs, ((c.requires.range, nowhere), rw c.parts-parts.ensures at c.load_to_scan.ensures.ready)))
+    let nowhere = subst (λ (lists : Lists g.row.C.Denot). times (the me.0).at.seat lists ≡ 0) (sym c.load_to_scan.ensures.so.stood) (subst (λ n. times n (the c.arm_flag.new.self.me.0).stood ≡ 0) (sym c.load_to_scan.ensures.since.by.seat) is.nowhere) in
+    in_room (omega (arith, g.met.C.Condition.has_cells), (c.requires.taken.packs, ((c.requires.range, nowhere), rw c.parts-parts.ensures at c.load_to_scan.ensures.so.ready)))
 
 pub returns : goal.returns
 returns g c = let scanned = c.scan_and_return.ensures in record {
   since = gone_then None _ _ _ (gone_then None _ _ _ (gone_by c.arm_flag.ensures) c.load_to_scan.ensures.since) scanned.since;
-  waits = scanned.paid;
-  owes = scanned.none;
-  true_to = scanned.true_to;
+  so = record { waits = scanned.paid; owes = scanned.none; true_to = scanned.true_to };
 }
 
 pub arm_flag-requires : goal.arm_flag-requires

@@ -16,7 +16,7 @@ exchange_to_return-requires g c = let t = g.C.Condition.means in let inv = c.loo
 pub returns-in-Ok : goal.returns-in-Ok
 returns-in-Ok g c = record {
   since = gone_then None _ _ _ c.loop.invariant.3 (gone_by c.in-Ok.ensures.did);
-  returned = let t = g.C.Condition.means in let inv = c.loop.invariant in let now = c.exchange_to_return.new.self.me in
+  so = let t = g.C.Condition.means in let inv = c.loop.invariant in let now = c.exchange_to_return.new.self.me in
       subst (λ held. HasReturnedWoken t c.args.call.waking c.args.call.k held (the c.args.seat.now.me.0).stood now) (sym c.is_held.ensures)
       (is_returned t c.args.call.waking c.args.call.k c.loop.word c.loop.turned (the c.args.seat.now.me.0).stood c.loop.seat.me now inv.5 inv.6 inv.4 c.in-Ok.ensures.did.by);
 }

@@ -8,11 +8,11 @@ return_woken-moved-requires g c = in_room (c.requires.variable, (c.requires.word
 
 pub pay_one-requires : goal.pay_one-requires
 pay_one-requires g c = let t = g.C.Condition.means in let back = c.return_woken-moved.ensures in let now = c.return_woken-moved.new.seat.me in
-    let owes = owes_sole t c.args.call.waking c.args.call.k c.return_woken-moved.result (the c.args.seat.now.me.0).stood c.args.sole c.wake_by.result now c.requires.alone c.if-not-moved.true c.wake_by.ensures back.returned in
+    let owes = owes_sole t c.args.call.waking c.args.call.k c.return_woken-moved.result (the c.args.seat.now.me.0).stood c.args.sole c.wake_by.result now c.requires.alone c.if-not-moved.true c.wake_by.ensures back.so in
     in_room (record { pays = refl; free = refl; more = refl }, (owes.1, owes.0))
 
-pub returns-then-not-moved-clause-since : goal.returns-then-not-moved-clause-since
-returns-then-not-moved-clause-since g c = gone_then None _ _ _ c.return_woken-moved.ensures.since c.pay_one.ensures.since
+pub returns-then-not-moved : goal.returns-then-not-moved
+returns-then-not-moved g c = record { since = gone_then None _ _ _ c.return_woken-moved.ensures.since c.pay_one.ensures.since; so = c.pay_one.ensures.so.paid }
 
 pub shared_whole_as_slice-return_woken : goal.shared_whole_as_slice-return_woken
 shared_whole_as_slice-return_woken g c = let one = waiter_fits g.row.C (number g.row.N) g.met.C.Condition.has_room in omega (arith, one)

@@ -20,7 +20,7 @@ wake_sole-requires g c = let t = g.C.Condition.means in let waking = c.args.call
 pub returns-in-Some : goal.returns-in-Some
 returns-in-Some g c = record {
   since = gone_then None _ _ _ (since_look g (goal.at.returns-in-Some g c).After-wake_sole_in_hand) c.wake_sole.ensures.since;
-  woke = c.wake_sole.ensures.woke;
+  so = c.wake_sole.ensures.so;
 }
 
 pub wake_waiters-requires : goal.wake_waiters-requires
@@ -30,5 +30,5 @@ wake_waiters-requires g c = let t = g.C.Condition.means in let look = c.wake_sol
 pub returns-in-None : goal.returns-in-None
 returns-in-None g c = record {
   since = gone_then None _ _ _ (since_look g (goal.at.returns-in-None g c).After-wake_sole_in_hand) c.wake_waiters.ensures.since;
-  woke = c.wake_waiters.ensures.woke;
+  so = c.wake_waiters.ensures.so;
 }

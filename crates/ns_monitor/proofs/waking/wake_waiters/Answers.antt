@@ -22,13 +22,13 @@ paid g c = let made = c.wake_in_hand-taken in let waking = c.args.call.waking in
 
 pub pay-requires : goal.pay-requires
 pay-requires g c = let t = g.C.Condition.means in let back = c.return_woken-moved.ensures in let now = c.return_woken-moved.new.seat.me in
-    let by = subst (λ ns. HasReached t (TheRequest.Wake c.args.call.waking c.args.call.k) (pay_woken c.args.call.waking c.args.call.k (has_some ns)) now) (sym back.returned.owed) back.returned.leads in
-    in_room (record { pays = refl; free = refl; more = refl }, (by, back.returned.owed ∙ sym (paid g (goal.at.pay-requires g c).Joined-moved)))
+    let by = subst (λ ns. HasReached t (TheRequest.Wake c.args.call.waking c.args.call.k) (pay_woken c.args.call.waking c.args.call.k (has_some ns)) now) (sym back.so.owed) back.so.leads in
+    in_room (record { pays = refl; free = refl; more = refl }, (by, back.so.owed ∙ sym (paid g (goal.at.pay-requires g c).Joined-moved)))
 
 pub returns : goal.returns
 returns g c = record {
   since = gone_then None _ _ _ (gone_then None _ _ _ (gone_working None _ _ _ (gone_itself c.args.seat.now) c.wake_in_hand-taken.ensures.worked) c.return_woken-moved.ensures.since) c.pay.ensures.since;
-  woke = search rules;
+  so = c.pay.ensures.so.paid;
 }
 
 pub wake_in_hand-taken-requires : goal.wake_in_hand-taken-requires

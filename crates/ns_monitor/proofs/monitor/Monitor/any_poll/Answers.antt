@@ -27,7 +27,7 @@ back : (g : Over) (c : After-acquire g) → HasComeBackFromAny g.C.Condition.mea
 back g c = let t = g.C.Condition.means in let mode = g.H.Section.mode in let cvs = c.waiting.inside.cvs in let k = c.variable_told-k.result in let s0 = c.waiting.inside.seat in let new = c.acquire.new.seat in
     let loads = rw c.new-bound.ensures at c.load_flag-flag.ensures in let since = gone_then None _ _ _ (gone_by loads) c.acquire.ensures.since in
     let is = c.for_any-wait.ensures ∙ ap (λ m. waits_for_any m cvs) c.mode-mode.ensures in
-    let answered : HasAnswered t (Await (waits_for_any mode cvs)) (WokenBy (Some k)) new.me = subst (λ (v : Wait g.row.C.Denot). HasAcquired t (ForWait v (Woken (Some k))) new.me) is c.acquire.ensures.acquired in
+    let answered : HasAnswered t (Await (waits_for_any mode cvs)) (WokenBy (Some k)) new.me = subst (λ (v : Wait g.row.C.Denot). HasAcquired t (ForWait v (Woken (Some k))) new.me) is c.acquire.ensures.so in
     has_come_back t mode cvs (Some k) c.args.waiting s0.table_id new.gate s0.me new.me c.waiting.view_is (◌∙◌ {A = TableId} since.gate (ap (λ (k : WaitKnown _ _). k.known.monitor) c.waiting.view_is)) c.waiting.invariant.0 since.by answered
 
 pub returns-clause-woken : goal.returns-clause-woken

@@ -20,7 +20,7 @@ grown g c new rest gone = let t = g.C.Condition.means in let s0 = c.held.inside.
 
 -- the condition is true
 met : (g : Over) (c : After-test g) → c.test.result ≡ true → HasAnswered g.C.Condition.means (Await (waits_by c.mode-mode.result c.args.condition c.args.limits)) (Answered Met) c.test.new.seat.me
-met g c is = tested_so g.C.Condition.means (waits_by c.mode-mode.result c.args.condition c.args.limits) OnEntry c.args.condition c.test.result true c.test.new.row c.new-bound.result.me c.test.new.seat.me is c.test.ensures.tested
+met g c is = tested_so g.C.Condition.means (waits_by c.mode-mode.result c.args.condition c.args.limits) OnEntry c.args.condition c.test.result true c.test.new.row c.new-bound.result.me c.test.new.seat.me is c.test.ensures.so
 
 pub returns-then-test-clause-grows : goal.returns-then-test-clause-grows
 returns-then-test-clause-grows g c = let after = (goal.at.returns-then-test-clause-grows g c).After-test in
@@ -29,18 +29,18 @@ returns-then-test-clause-grows g c = let after = (goal.at.returns-then-test-clau
 
 -- it has looked
 looked : (g : Over) (c : After-look_before g) (test : After-test g) → HasMadeSteps (Some (wait_first g.row.N (waits_by c.mode-mode.result c.args.condition c.args.limits))) c.new-bound.result c.look_before.new.seat
-looked g c test = gone_then (Some (wait_first g.row.N (waits_by c.mode-mode.result c.args.condition c.args.limits))) _ _ _ (subst (λ w. HasMadeSteps (Some w) c.new-bound.result c.test.new.seat) c.wait.ensures.first c.test.ensures.since) c.look_before.ensures.since
+looked g c test = gone_then (Some (wait_first g.row.N (waits_by c.mode-mode.result c.args.condition c.args.limits))) _ _ _ (subst (λ w. HasMadeSteps (Some w) c.new-bound.result c.test.new.seat) c.wait.ensures.first c.test.ensures.since) c.look_before.ensures.leads.since
 
 pub returns-in-Some-clause-grows : goal.returns-in-Some-clause-grows
 returns-in-Some-clause-grows g c = let at = goal.at.returns-in-Some-clause-grows g c in let wait = waits_by c.mode-mode.result c.args.condition c.args.limits in
-    let led = subst (λ o. QueuesOrEnds g.C.Condition.means wait false o c.test.new.seat.me c.look_before.new.seat.me) c.in-Some.is c.look_before.ensures.leads in
+    let led = subst (λ o. QueuesOrEnds g.C.Condition.means wait false o c.test.new.seat.me c.look_before.new.seat.me) c.in-Some.is c.look_before.ensures.leads.so in
     subst (λ (k : Known g.row.C.Denot g.row.N). Grows g.C.Condition.means (wait_first g.row.N (waits_by g.H.Section.mode c.args.condition c.args.limits)) c.args.held k) (search rules)
     (grown g at.After-test c.look_before.new.seat led.0.rest (looked g at.After-look_before at.After-test))
 
 pub returns-clause-grows : goal.returns-clause-grows
 returns-clause-grows g c = let at = goal.at.returns-clause-grows g c in let wait = waits_by c.mode-mode.result c.args.condition c.args.limits in
     rw c.holding.ensures (subst (λ (k : Known g.row.C.Denot g.row.N). Grows g.C.Condition.means (wait_first g.row.N (waits_by g.H.Section.mode c.args.condition c.args.limits)) c.args.held k) (search rules)
-    (grown g at.After-test c.wait_on-answer.new.seat c.wait_on-answer.ensures.answered.rest (gone_then (Some (wait_first g.row.N wait)) _ _ _ (looked g at.After-look_before at.After-test) c.wait_on-answer.ensures.since)))
+    (grown g at.After-test c.wait_on-answer.new.seat c.wait_on-answer.ensures.answered.so.rest (gone_then (Some (wait_first g.row.N wait)) _ _ _ (looked g at.After-look_before at.After-test) c.wait_on-answer.ensures.answered.since)))
 
 pub returns-clause-ended : goal.returns-clause-ended
 returns-clause-ended g c =
