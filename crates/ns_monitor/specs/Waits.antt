@@ -1,7 +1,7 @@
 -- How far the parts of a wait have come, and what it tells once it is over.
-use Rattle.std.specs.Prelude.{Bool, Err, List, None, Ok, Option, Result, Some, [], false, ℕ, ◌++◌, ◌∷◌, ◌≡◌, ◌≢◌, ◌⊎◌}
-use Rattle.ns_monitor.specs.Names.{Answer, Answered, Await, AwaitWakeInWait, Canceled, Cause, CondWait, Ended, EnvEvent, Expired, Flag, HasAnswered, HasReached, Held, InHand, InLeaving, InQueuing, InWait, IsAtPlace, IsBack, LeaveLoad, Load, LookAnswers, Met, Note, Notified, Outcome, SeatOf}
-use Rattle.ns_monitor.specs.Names.{TimedOut, Truths, Wait, Woken, answer_of, entry_of, got_of, is_met, row_after, section_of, the}
+use Rattle.std.specs.Prelude.{Bool, Err, List, None, Ok, Option, Result, Some, [], false, ℕ, ◌++◌, ◌∷◌, ◌≡◌, ◌⊎◌}
+use Rattle.ns_monitor.specs.Names.{Answer, Answered, Await, AwaitWakeInWait, Canceled, Cause, CondWait, Ended, EnvEvent, Expired, HasAnswered, Held, InHand, InLeaving, InQueuing, InWait, IsAtPlace, IsBack, LeaveLoad, Load, LookAnswers, Met, Note, Notified, Outcome, SeatOf}
+use Rattle.ns_monitor.specs.Names.{TimedOut, Truths, Wait, Woken, answer_of, entry_of, is_met, row_after, section_of, the}
 use Rattle.ns_model.specs.declared.event.Entry.TheVariants.{Waited}
 use Rattle.ns_monitor.specs.Known.{Known}
 use Rattle.ns_monitor.specs.Several.{HasSeenTrue}

@@ -10,8 +10,10 @@ judge_quiet-requires g c = let some_cells = g.met.C.Condition.has_cells.0 in let
 
 pub returns : goal.returns
 returns g c = record {
-  judged = record { since = (is_judged g.C.Condition.means _ _ _ _ _ _ _ g.met.C.Condition.has_cells.0 c.is_quiet.ensures.first c.load_cells-begun.ensures c.judge_quiet.ensures.cell c.judge_quiet.ensures.did).0;
-  so = (is_judged g.C.Condition.means _ _ _ _ _ _ _ g.met.C.Condition.has_cells.0 c.is_quiet.ensures.first c.load_cells-begun.ensures c.judge_quiet.ensures.cell c.judge_quiet.ensures.did).1 };
+  judged = record {
+    since = (is_judged g.C.Condition.means _ _ _ _ _ _ _ g.met.C.Condition.has_cells.0 c.is_quiet.ensures.first c.load_cells-begun.ensures c.judge_quiet.ensures.cell c.judge_quiet.ensures.did).0;
+    so = (is_judged g.C.Condition.means _ _ _ _ _ _ _ g.met.C.Condition.has_cells.0 c.is_quiet.ensures.first c.load_cells-begun.ensures c.judge_quiet.ensures.cell c.judge_quiet.ensures.did).1;
+  };
   row = (is_judged g.C.Condition.means _ _ _ _ _ _ _ g.met.C.Condition.has_cells.0 c.is_quiet.ensures.first c.load_cells-begun.ensures c.judge_quiet.ensures.cell c.judge_quiet.ensures.did).2;
 }
 

@@ -1,4 +1,4 @@
-use Rattle.std.proofs.Common.{None, rules}
+use Rattle.std.proofs.Common.{None}
 use Rattle.ns_monitor.proofs.Prelude.{HasMadeSteps, LoadFlag, can_go, in_room}
 use Rattle.ns_monitor.proofs.Bounds.{gone_by, gone_itself, gone_then}
 use Rattle.ns_monitor.proofs.Standing.{is_woken, sleeps_on}

@@ -16,10 +16,12 @@ take_from-requires g c = in_room (c.requires.decides, (c.requires.going, (c.load
 pub returns : goal.returns
 returns g c = let took = c.take_from.ensures.so in let t = g.C.Condition.means in let me = c.args.seat.now.me in let now = c.load-first.new.self.me in let did = c.load-first.ensures.did.by in record {
   since = gone_then (Some c.args.walk) _ _ _ (gone_by c.load-first.ensures.did) c.take_from.ensures.since;
-  so = record { at = took.at;
-  taken = took.taken;
-  packs = took.packs;
-  held = took.held ∙ same_held t (Some c.args.walk) LoadWord (Saw c.load-first.result) me now did (ap (λ (q : Part g.row.C.Denot g.row.N). q.held) (does t (Some c.args.walk) LoadWord (Saw c.load-first.result) me now did).1);
-  tells = took.tells;
-  orderly = took.orderly };
+  so = record {
+    at = took.at;
+    taken = took.taken;
+    packs = took.packs;
+    held = took.held ∙ same_held t (Some c.args.walk) LoadWord (Saw c.load-first.result) me now did (ap (λ (q : Part g.row.C.Denot g.row.N). q.held) (does t (Some c.args.walk) LoadWord (Saw c.load-first.result) me now did).1);
+    tells = took.tells;
+    orderly = took.orderly;
+  };
 }

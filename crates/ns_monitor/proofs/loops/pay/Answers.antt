@@ -28,8 +28,10 @@ loop-wake-preserved g c = let t = g.C.Condition.means in let inv = c.loop-wake.i
 pub returns : goal.returns
 returns g c = record {
   since = c.loop-wake.invariant.1;
-  so = record { paid = let inv = c.loop-wake.invariant in
-      all_paid g.C.Condition.means c.args._walk c.loop-wake.seat.me (inv.0 ∙ drop_all c.loop-wake.wake-index c.as_slice-wake-items.result.now (omega arith)) inv.2;
-  true_to = c.loop-wake.invariant.3;
-  none = c.loop-wake.invariant.0 ∙ drop_all c.loop-wake.wake-index c.as_slice-wake-items.result.now (omega arith) };
+  so = record {
+    paid = let inv = c.loop-wake.invariant in
+        all_paid g.C.Condition.means c.args._walk c.loop-wake.seat.me (inv.0 ∙ drop_all c.loop-wake.wake-index c.as_slice-wake-items.result.now (omega arith)) inv.2;
+    true_to = c.loop-wake.invariant.3;
+    none = c.loop-wake.invariant.0 ∙ drop_all c.loop-wake.wake-index c.as_slice-wake-items.result.now (omega arith);
+  };
 }

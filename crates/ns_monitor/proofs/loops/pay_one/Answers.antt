@@ -18,7 +18,9 @@ returns g c = let t = g.C.Condition.means in let me = c.args.seat.now.me in let 
     let paid = is_paid t c.args._walk c.args.wake [] me now c.requires.pays c.requires.owed at c.pay_wake.ensures.by in
     record {
       since = gone_by c.pay_wake.ensures;
-      so = record { paid = all_paid t c.args._walk now paid.0 paid.1;
-      true_to = λ seen. true_now t None PayWake _ me now c.pay_wake.ensures.by;
-      none = paid.0 };
+      so = record {
+        paid = all_paid t c.args._walk now paid.0 paid.1;
+        true_to = λ seen. true_now t None PayWake _ me now c.pay_wake.ensures.by;
+        none = paid.0;
+      };
     }

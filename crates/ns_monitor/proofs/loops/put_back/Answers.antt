@@ -17,11 +17,13 @@ exchange_to_return-requires g c = let t = g.C.Condition.means in let inv = c.loo
 pub returns-in-Ok : goal.returns-in-Ok
 returns-in-Ok g c = record {
   since = gone_then None _ _ _ c.loop.invariant.3 (gone_by c.in-Ok.ensures.did);
-  so = record { returned = let inv = c.loop.invariant in
-      (is_back_for g.C.Condition.means c.args.returning c.args._walk c.args.first c.loop.word c.args.turned c.args.seat.now.me c.loop.seat.me c.exchange_to_return.new.self.me c.requires.returning c.requires.puts inv.5 inv.4 c.requires.hand c.in-Ok.ensures.did.by).0;
-  owes = let inv = c.loop.invariant in
-      (is_back_for g.C.Condition.means c.args.returning c.args._walk c.args.first c.loop.word c.args.turned c.args.seat.now.me c.loop.seat.me c.exchange_to_return.new.self.me c.requires.returning c.requires.puts inv.5 inv.4 c.requires.hand c.in-Ok.ensures.did.by).1;
-  true_to = true_now g.C.Condition.means None (act_returning c.args.returning c.loop.word) (found_back g.C.Condition.means c.args.returning c.loop.word c.loop.seat.me) c.loop.seat.me c.exchange_to_return.new.self.me c.in-Ok.ensures.did.by };
+  so = record {
+    returned = let inv = c.loop.invariant in
+        (is_back_for g.C.Condition.means c.args.returning c.args._walk c.args.first c.loop.word c.args.turned c.args.seat.now.me c.loop.seat.me c.exchange_to_return.new.self.me c.requires.returning c.requires.puts inv.5 inv.4 c.requires.hand c.in-Ok.ensures.did.by).0;
+    owes = let inv = c.loop.invariant in
+        (is_back_for g.C.Condition.means c.args.returning c.args._walk c.args.first c.loop.word c.args.turned c.args.seat.now.me c.loop.seat.me c.exchange_to_return.new.self.me c.requires.returning c.requires.puts inv.5 inv.4 c.requires.hand c.in-Ok.ensures.did.by).1;
+    true_to = true_now g.C.Condition.means None (act_returning c.args.returning c.loop.word) (found_back g.C.Condition.means c.args.returning c.loop.word c.loop.seat.me) c.loop.seat.me c.exchange_to_return.new.self.me c.in-Ok.ensures.did.by;
+  };
 }
 
 pub loop-preserved : goal.loop-preserved

@@ -15,10 +15,12 @@ take_from-requires g c =
 pub returns : goal.returns
 returns g c = let took = c.take_from.ensures.so in record {
   since = gone_then None _ _ _ (gone_by c.load-first.ensures.did) c.take_from.ensures.since;
-  so = record { at = took.at;
-  taken = took.taken;
-  packs = took.packs;
-  held = took.held ∙ saw_held g.C.Condition.means LoadWord c.load-first.result c.args.seat.now.me c.load-first.new.self.me c.load-first.ensures.did.by;
-  tells = took.tells;
-  orderly = took.orderly };
+  so = record {
+    at = took.at;
+    taken = took.taken;
+    packs = took.packs;
+    held = took.held ∙ saw_held g.C.Condition.means LoadWord c.load-first.result c.args.seat.now.me c.load-first.new.self.me c.load-first.ensures.did.by;
+    tells = took.tells;
+    orderly = took.orderly;
+  };
 }

@@ -53,9 +53,12 @@ returns-in-Ended g c = record {
   ended = ended_as (λ cause. (is_limited c.args.wait.limits ≡ true) × g.W.Watch.shows c.args.watch.now c.come_back-outcome.new.watch c.args.wait.limits (Some cause)) c.in-Ended.cause c.answer_of.result c.answer_of.ensures
       (let shown = subst (λ o. IfEnded o (λ cause. (is_limited c.args.wait.limits ≡ true) × g.W.Watch.shows c.loop.watch c.come_back-outcome.new.watch c.args.wait.limits (Some cause))) c.in-Ended.is c.come_back-outcome.ensures.ended in
       (shown.0, g.W.Watch.later c.args.watch.now c.loop.watch c.come_back-outcome.new.watch c.args.wait.limits (Some c.in-Ended.cause) c.loop.invariant.3 shown.1));
-  answered = record { since = since_test g (goal.at.returns-in-Ended g c).After-test; so = subst (λ a. HasAnswered g.C.Condition.means (Await c.args.wait) (Answered a) c.test.new.seat.me) (sym c.answer_of.ensures)
-      (subst (λ o. HasReached g.C.Condition.means (Await c.args.wait) (unmet_by c.args.wait (OnReturn o)) c.test.new.seat.me) c.in-Ended.is
-      (unmet g (goal.at.returns-in-Ended g c).After-test c.if-test.false)) };
+  answered = record {
+    since = since_test g (goal.at.returns-in-Ended g c).After-test;
+    so = subst (λ a. HasAnswered g.C.Condition.means (Await c.args.wait) (Answered a) c.test.new.seat.me) (sym c.answer_of.ensures)
+        (subst (λ o. HasReached g.C.Condition.means (Await c.args.wait) (unmet_by c.args.wait (OnReturn o)) c.test.new.seat.me) c.in-Ended.is
+        (unmet g (goal.at.returns-in-Ended g c).After-test c.if-test.false));
+  };
   fresh = fresh g (goal.at.returns-in-Ended g c).After-test;
 }
 
@@ -79,8 +82,11 @@ returns-in-Some-look_before g c = record {
       let limited = subst (λ o. IfSome o (λ (x : Cause). is_limited limits ≡ true)) c.in-Some-look_before.is c.look_before.ensures.ends in
       ended_as (λ x. (is_limited limits ≡ true) × g.W.Watch.shows c.args.watch.now new limits (Some x)) cause c.answer_of-in-Some-look_before.result c.answer_of-in-Some-look_before.ensures
       (limited, g.W.Watch.later c.args.watch.now mid new limits (Some cause) (g.W.Watch.then c.args.watch.now c.loop.watch mid c.loop.invariant.3 c.come_back-outcome.ensures.looked) (subst (g.W.Watch.shows mid new limits) c.in-Some-look_before.is (c.look_before.ensures.shown limited)));
-  answered = record { since = since_look g (goal.at.returns-in-Some-look_before g c).After-look_before; so = subst (λ a. HasAnswered g.C.Condition.means (Await c.args.wait) (Answered a) c.look_before.new.seat.me) (sym c.answer_of-in-Some-look_before.ensures)
-      (subst (λ o. QueuesOrEnds g.C.Condition.means c.args.wait true o c.test.new.seat.me c.look_before.new.seat.me) c.in-Some-look_before.is c.look_before.ensures.leads.so).0 };
+  answered = record {
+    since = since_look g (goal.at.returns-in-Some-look_before g c).After-look_before;
+    so = subst (λ a. HasAnswered g.C.Condition.means (Await c.args.wait) (Answered a) c.look_before.new.seat.me) (sym c.answer_of-in-Some-look_before.ensures)
+        (subst (λ o. QueuesOrEnds g.C.Condition.means c.args.wait true o c.test.new.seat.me c.look_before.new.seat.me) c.in-Some-look_before.is c.look_before.ensures.leads.so).0;
+  };
   fresh = c.look_before.ensures.fresh (fresh g (goal.at.returns-in-Some-look_before g c).After-test);
 }
 

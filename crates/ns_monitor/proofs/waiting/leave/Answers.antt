@@ -23,10 +23,13 @@ since_back g c = gone_then None _ _ _ (gone_working None _ _ _ c.take-word.ensur
 pub returns-then-stood : goal.returns-then-stood
 returns-then-stood g c = record {
   ended = search rules;
-  left = record { since = since_back g (goal.at.returns-then-stood g c).After-put_back; so = let t = g.C.Condition.means in let took = c.take-word in let left = c.leave_in_hand-stood in
-      subst (λ next. HasReached t (Await c.args.wait) next c.put_back.new.seat.me)
-      (left_next t c.args.wait c.args.cause took.result c.home-home.result left.result.0 true took.new.seat.me left.new.self.me c.home-home.ensures
-      left.ensures.worked.by left.ensures.stood c.if-stood.true) c.put_back.ensures.so.returned };
+  left = record {
+    since = since_back g (goal.at.returns-then-stood g c).After-put_back;
+    so = let t = g.C.Condition.means in let took = c.take-word in let left = c.leave_in_hand-stood in
+        subst (λ next. HasReached t (Await c.args.wait) next c.put_back.new.seat.me)
+        (left_next t c.args.wait c.args.cause took.result c.home-home.result left.result.0 true took.new.seat.me left.new.self.me c.home-home.ensures
+        left.ensures.worked.by left.ensures.stood c.if-stood.true) c.put_back.ensures.so.returned;
+  };
 }
 
 pub await_flag-flag-requires : goal.await_flag-flag-requires
@@ -39,8 +42,11 @@ await_flag-flag-requires g c = let t = g.C.Condition.means in let took = c.take-
 pub returns : goal.returns
 returns g c = record {
   ended = taken_ended c.args.wait.on c.args.cause c.await_flag-flag.result c.outcome_taken.result c.outcome_taken.ensures;
-  left = record { since = gone_then None _ _ _ (since_back g (goal.at.returns g c).After-put_back) c.await_flag-flag.ensures.since; so = let t = g.C.Condition.means in let flag = c.await_flag-flag.result in
-      taken_next t c.args.wait c.args.cause flag c.outcome_taken.result c.arrival_of.result c.await_flag-flag.new.seat.me c.await_flag-flag.ensures.so.cleared c.outcome_taken.ensures c.arrival_of.ensures c.await_flag-flag.ensures.so.woken };
+  left = record {
+    since = gone_then None _ _ _ (since_back g (goal.at.returns g c).After-put_back) c.await_flag-flag.ensures.since;
+    so = let t = g.C.Condition.means in let flag = c.await_flag-flag.result in
+        taken_next t c.args.wait c.args.cause flag c.outcome_taken.result c.arrival_of.result c.await_flag-flag.new.seat.me c.await_flag-flag.ensures.so.cleared c.outcome_taken.ensures c.arrival_of.ensures c.await_flag-flag.ensures.so.woken;
+  };
 }
 
 pub take-word-requires : goal.take-word-requires

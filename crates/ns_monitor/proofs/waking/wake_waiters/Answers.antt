@@ -1,4 +1,4 @@
-use Rattle.std.proofs.Common.{Bool, None, ap, refl, rules, subst, sym, ◌∙◌, ◌≡◌}
+use Rattle.std.proofs.Common.{Bool, None, ap, refl, subst, sym, ◌∙◌, ◌≡◌}
 use Rattle.ns_monitor.proofs.Prelude.{HasReached, HasWokenInHand, InSignal, IsOrderly, WakeAndReturn, has_some, in_room, list_fits, list_small, number, owed_woken, pay_woken, taken_from, the, wakes_of, works}
 use Rattle.ns_monitor.proofs.Bounds.{gone_itself, gone_then, gone_working}
 use Rattle.ns_monitor.proofs.Wakes.{hand_made}
