@@ -6,7 +6,7 @@ use Rattle.ns_monitor.proofs.Prelude.{On, Owed, OwesBelow, OwesTheWoken, Paid, P
 use Rattle.ns_monitor.proofs.Prelude.{SectionFits, SignalLoad, Sleeps, TakeQueues, Taking, ToChange, ToQueue, Told, Truths, Turned, WaitReturning, Waited, Walk, WantsNext, Word, act_returning, asked_of, begins, bits_of, called_of, can_go, carried_by, changed, does, found_back, found_returned, goes}
 use Rattle.ns_monitor.proofs.Prelude.{goes_on, going_act, going_at, going_of, gone_to, got_of, has_queues, has_some, lists_returned, may_go, meets_at, moves, orderly_now, owes_more, part_of, place_after, release_has_queues, rest, rest_of, returning_at, returning_of, row_in, scan_place, scanning_at}
 use Rattle.ns_monitor.proofs.Prelude.{since, since_then, some_returned, standing_after, stays_by, taken_at, taking_at, taking_for, the, view_fits, view_in, want_of, woken_of, word_taken}
-use Rattle.ns_monitor.specs.Prelude.{Release}
+use Rattle.ns_monitor.specs.Prelude.{Release, StandsAt}
 
 -- a word that was taken has a number, if the word before has
 pub taken_packs : (taking : Taking) (word : Word) → IsPackable word → IsPackable (word_taken taking word)
@@ -192,6 +192,16 @@ module _ {C : Type 0} {N : ℕ} (truths : Truths C) where
   -- a call that loads the word first may begin so
   pub may_decide : (walk : Walk C) (me : SeatOf C N) → Decides walk → IsFirst N walk → PlaceFits truths (Some walk) (the me.0).at.held → IsAtRest truths me → CanStep truths (Some walk) LoadWord me
   may_decide walk me d first fits rest = record { one = rest.one; may = (rest.over, first, fits); walk = walk; walks = refl; wants = (decides_at N walk d).wants }
+
+  -- the same of a call that stands there, or begins there
+  pub may_load : (b : Option (Walk C)) (walk : Walk C) (me : SeatOf C N) → Decides walk → StandsAt truths b walk me → CanStep truths b LoadWord me
+  may_load None walk me d at = can_load walk me d at
+  may_load (Some first) walk me d at = may_decide first me (subst Decides (sym at.0) d) at.2 at.3 at.1
+
+  -- it has seen this word, and its section is as it was
+  pub has_loaded : (b : Option (Walk C)) (walk : Walk C) (word : Word) (me now : SeatOf C N) → Decides walk → StandsAt truths b walk me → Performed truths b LoadWord (Saw word) me now → HasReached truths (asked_of walk) (got_of N walk (Saw word)) now × ((the now.0).at.held ≡ (the me.0).at.held)
+  has_loaded None walk word me now d at p = (loads walk word me now d at p, saw_held LoadWord word me now p)
+  has_loaded (Some first) walk word me now d at p = ((loads_first walk first word me now at.0 at.1 p).0, same_held (Some first) LoadWord (Saw word) me now p (ap (λ (q : Part C N). q.held) (does truths (Some first) LoadWord (Saw word) me now p).1))
 
   -- where the word lets it, it wants to go next
   pub wants_to_go : (walk : Walk C) (going : Going C) (word : Word) → Decides walk → going ≡ going_of walk → may_go going word ≡ true → WantsNext N walk word (going_act going word)

@@ -2,7 +2,7 @@
 //! which is for the proof alone: no code reads it.
 
 ghost use Rattle.std.specs.Prelude.{◌≡◌, ◌≢◌, ◌∷◌, None, Some, false, true, []};
-ghost use Rattle.ns_monitor.specs.Prelude.{Changing, Decides, HasInHand, HasMadeStepsTo, HasPaid, HasPutBack, HasReached, HasTakenAt, IsAtPlace, IsAtRest, IsFirst, IsPackable, IsWoken, Pays, PlaceFits, PutsBack, Sleeps, WentOrTook, asked_of, going_of, got_of, has_some, returning_at};
+ghost use Rattle.ns_monitor.specs.Prelude.{Changing, Decides, HasInHand, HasMadeStepsTo, HasPaid, HasPutBack, HasReached, HasTakenAt, IsAtPlace, IsPackable, IsWoken, Pays, PutsBack, Sleeps, StandsAt, WentOrTook, asked_of, going_of, got_of, has_some, returning_at};
 ghost use Rattle.ns_monitor.specs.Prelude.{returning_of, the};
 
 use crate::going::{Going, exchange_to_go};
@@ -56,56 +56,24 @@ pub(crate) fn go_or_take<R: Wait, C: Condition<N>, const N: usize>(
     unreachable!()
 }
 
-/// Takes the queues, for a call that has to change the lists and has seen this word. Answers the word then.
-#[inline(always)]
-fn take_from<R: Wait, C: Condition<N>, const N: usize>(
+/// Takes the queues, for a call that has to change the lists and stands at this place, or begins there. Answers
+/// the word then.
+pub(crate) fn take<R: Wait, C: Condition<N>, const N: usize>(
     rt: &R,
     seat: &mut Bound<'_, C, N>,
+    begins: Option<Walk<C>>,
     _walk: Walk<C>,
-    first: LockWord,
 ) -> LockWord
     requires decides { Decides _walk }
     requires going { going_of _walk ≡ Changing }
-    requires word { IsPackable first }
-    requires at { HasReached C.means (asked_of _walk) (got_of N _walk (Found.Saw first)) seat.old.me }
-    ensures { HasMadeStepsTo None (HasTakenAt C.means _walk result seat.old.me) seat.old seat.new }
+    requires stands { StandsAt C.means begins _walk seat.old.me }
+    ensures { HasMadeStepsTo begins (HasTakenAt C.means _walk result seat.old.me) seat.old seat.new }
 {
+    let first = seat.load(begins);
     match go_or_take(rt, seat, Going::Changing, _walk, first) {
         Some(word) => word,
         None => unreachable!(),
     }
-}
-
-/// Takes the queues, for a call that has to change the lists. Answers the word then.
-pub(crate) fn take<R: Wait, C: Condition<N>, const N: usize>(
-    rt: &R,
-    seat: &mut Bound<'_, C, N>,
-    _walk: Walk<C>,
-) -> LockWord
-    requires decides { Decides _walk }
-    requires going { going_of _walk ≡ Changing }
-    requires at { IsAtPlace C.means _walk seat.old.me }
-    ensures { HasMadeStepsTo None (HasTakenAt C.means _walk result seat.old.me) seat.old seat.new }
-{
-    let first = seat.load(None);
-    take_from(rt, seat, _walk, first)
-}
-
-/// Begins a call that has to change the lists, and takes the queues. Answers the word then.
-pub(crate) fn begin_to_take<R: Wait, C: Condition<N>, const N: usize>(
-    rt: &R,
-    seat: &mut Bound<'_, C, N>,
-    walk: Walk<C>,
-) -> LockWord
-    requires rest { IsAtRest C.means seat.old.me }
-    requires decides { Decides walk }
-    requires going { going_of walk ≡ Changing }
-    requires first { IsFirst N walk }
-    requires fits { PlaceFits C.means (Some walk) (the seat.old.me.0).at.held }
-    ensures { HasMadeStepsTo (Some walk) (HasTakenAt C.means walk result seat.old.me) seat.old seat.new }
-{
-    let first = seat.load(Some(walk));
-    take_from(rt, seat, walk, first)
 }
 
 /// Puts the queues back as they are in hand, for this; tries again with the word found where another

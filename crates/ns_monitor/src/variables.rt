@@ -6,7 +6,7 @@ ghost use Rattle.ns_note.specs.Known.{Grows as EnvGrows};
 ghost use Rattle.ns_monitor.specs.Prelude.{EndedBy, Grows, HasAcquired, HasLeftToWait, HasMadeStepsTo, HasWaitedForVariable, IfAnswered, IfEnded, IsForVariables, queuing_first, variable_waiting, waits_for_variable};
 
 use crate::caller::{Caller, Renewed};
-use crate::loops::begin_to_take;
+use crate::loops::take;
 use crate::monitor::{Monitor, holding};
 use crate::scanning::Queuing;
 use crate::waiting::{come_back, leave_section};
@@ -36,7 +36,7 @@ pub(crate) fn queue_at_variables<R: Wait, C: Condition<N>, const N: usize>(
     ensures { HasMadeStepsTo (Some (queuing_first wait)) (HasLeftToWait C.means wait) seat.old seat.new }
 {
     let place = Walk::InWait(wait, WaitPlace::InQueuing(false, QueuePlace::Load));
-    let word = begin_to_take(rt, seat, place);
+    let word = take(rt, seat, Some(place), place);
     let mut row = [0; N];
     let queuing = Queuing { wait, again: false };
     leave_section(rt, seat, queuing, word, &mut row);

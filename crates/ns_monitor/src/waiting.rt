@@ -48,7 +48,7 @@ pub(crate) fn queue_to_wait<R: Wait, C: Condition<N>, const N: usize>(
 {
     let Queuing { wait, again } = queuing;
     let place = Walk::InWait(wait, WaitPlace::InQueuing(again, QueuePlace::Load));
-    let word = take(rt, seat, place);
+    let word = take(rt, seat, None, place);
     leave_section(rt, seat, queuing, word, row);
 }
 
@@ -88,7 +88,7 @@ fn leave<R: Wait, C: Condition<N>, const N: usize>(
     ensures ended { IfEnded result.1 (λ other. other ≡ cause) }
 {
     let place = Walk::InWait(wait, WaitPlace::InLeaving(cause, LeavePlace::LeaveLoad));
-    let word = take(rt, seat, place);
+    let word = take(rt, seat, None, place);
     let home = wait.on.home();
     let (stood, bits) = seat.leave_in_hand(home);
     let returning = Returning::Changed(Change::LeaveSelf(home));

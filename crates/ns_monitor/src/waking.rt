@@ -5,7 +5,7 @@ ghost use Rattle.ns_monitor.specs.Prelude.{Broadcasting, Grows, HasAnswered, Has
 ghost use Rattle.ns_word.specs.declared.request.Request.TheVariants as TheRequest;
 
 use crate::caller::{Caller, Hand};
-use crate::loops::{begin_to_take, pay, pay_one};
+use crate::loops::{pay, pay_one, take};
 use crate::monitor::Monitor;
 use arrayvec::ArrayVec;
 use ns_gate::bound::Bound;
@@ -164,7 +164,7 @@ fn wake<R: Wait, C: Condition<N>, const N: usize>(
     ensures { HasMadeStepsTo (Some (waking_by call.waking call.k)) (HasAnswered C.means (TheRequest.Wake call.waking call.k) Succeeded) seat.old seat.new }
 {
     let place = Walk::InSignal(call.waking, call.k, SignalPlace::SignalLoad);
-    let word = begin_to_take(rt, seat, place);
+    let word = take(rt, seat, Some(place), place);
     if let Some(made) = seat.wake_nobody_in_hand(call.k) {
         let taken: [Waiter<C>; 0] = [];
         return_woken(rt, seat, call, word, &taken, made);

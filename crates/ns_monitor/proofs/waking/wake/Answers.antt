@@ -8,10 +8,10 @@ use Rattle.ns_monitor.proofs.waking.wake.Goals as goal
 
 -- behind the look at the list of the variable
 since_look : (g : Over) (c : After-wake_nobody_in_hand g) → HasMadeSteps (Some (waking_by c.args.call.waking c.args.call.k)) c.args.seat.now c.wake_nobody_in_hand.new.self
-since_look g c = gone_working _ _ _ _ c.begin_to_take-word.ensures.since c.wake_nobody_in_hand.ensures.worked
+since_look g c = gone_working _ _ _ _ c.take-word.ensures.since c.wake_nobody_in_hand.ensures.worked
 
 pub return_woken-requires : goal.return_woken-requires
-return_woken-requires g c = let t = g.C.Condition.means in let took = c.begin_to_take-word in let look = c.wake_nobody_in_hand in let e = look.ensures in let me = took.new.seat.me in let now = look.new.self.me in let nobody = sym e.nobody ∙ c.in-Some.is in
+return_woken-requires g c = let t = g.C.Condition.means in let took = c.take-word in let look = c.wake_nobody_in_hand in let e = look.ensures in let me = took.new.seat.me in let now = look.new.self.me in let nobody = sym e.nobody ∙ c.in-Some.is in
     let still = taken_still t c.args.call.waking c.args.call.k took.result c.args.seat.now.me me now took.ensures.so e.worked.by e.has in
     let none = (takes_nobody c.args.call.waking c.args.call.k (the me.0).stood (found_nobody c.args.call.k (the me.0).stood c.in-Some.made nobody).0).0 in
     let hand = hand_of_nobody c.args.call.waking c.args.call.k (is_held took.result) c.in-Some.made me now e.worked.by e.has nobody in
@@ -26,7 +26,7 @@ returns-in-Some g c = record {
 }
 
 pub wake_some-requires : goal.wake_some-requires
-wake_some-requires g c = let t = g.C.Condition.means in let took = c.begin_to_take-word in let look = c.wake_nobody_in_hand in let e = look.ensures in
+wake_some-requires g c = let t = g.C.Condition.means in let took = c.take-word in let look = c.wake_nobody_in_hand in let e = look.ensures in
     in_room (c.requires.variable, taken_still t c.args.call.waking c.args.call.k took.result c.args.seat.now.me took.new.seat.me look.new.self.me took.ensures.so e.worked.by e.has)
 
 pub returns : goal.returns
