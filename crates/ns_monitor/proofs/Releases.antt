@@ -1,6 +1,6 @@
 -- A scan of the lock list with the queues in hand, by a release or by a wait: what it takes and leaves.
 use Rattle.std.proofs.Common.{Bool, Err, List, None, Ok, Option, Some, [], ap, arith, cond, false, filter, inl, inr, is_some, length, map, ne_eqb, not, refl, subst, sym, true, ℕ, ◌&&◌, ◌==◌, ◌||◌, ◌∙◌, ◌∷◌, ◌≡◌}
-use Rattle.ns_monitor.proofs.Prelude.{Await, Bits, Bounded, Carries, Changed, GateView, HasInHand, HasReached, HasRow, HasScanned, HasUnchangedQueues, HasWorked, IsAtPlace, IsInRange, IsReady, Lists, MayEnter, MayScan, OnCondition, OnVariables, Owed, OwesTheWoken, Paid, Pays, PutsBack, Release, Released}
+use Rattle.ns_monitor.proofs.Prelude.{Await, Bits, Bounded, Carries, Changed, GateView, HasInHand, HasReached, HasRow, HasScanned, HasUnchangedQueues, HasWorked, IsAtPlace, IsInRange, IsReady, Lists, MayEnter, MayScan, OnCondition, OnVariables, Owed, OwesTheWoken, Paid, Pays, PutsBack, Release, Released, PutsBackAt, HasPutBack}
 use Rattle.ns_monitor.proofs.Prelude.{Returning, Scanning, ScansAs, SeatOf, Sought, Subject, ToRelease, ToWait, Truths, Turned, Waited, Waiter, Walk, Word, are_called, asked_of, begins_with_reader, bits_of, called_by, called_of, cases_Bool, entered, found_back, free_scanned, got_of, has_condition}
 use Rattle.ns_monitor.proofs.Prelude.{has_queues, has_some, is_eligible, is_satisfied, lacks_row, left_of, list_any, lists_returned, lists_scanned, meets_at, pay_releasing, pay_waiting, paying_at, reads, ready_at, returning_at, returning_for, returning_of, row_in, scanned_writer, seats_of}
 use Rattle.ns_monitor.proofs.Prelude.{some_returned, the, times, waits_at, wake_told, with_lock, woken_of, works, writes}
@@ -96,7 +96,7 @@ module _ {C : Type 0} where
   puts_for (ToWait queuing) last = (tt, refl, refl)
 
   -- and then pays wakes
-  pays_for : (N : ℕ) (scanning : Scanning C) → Pays N (paying_at scanning)
+  pub pays_for : (N : ℕ) (scanning : Scanning C) → Pays N (paying_at scanning)
   pays_for N (ToRelease releasing) = record { pays = refl; free = refl; more = refl }
   pays_for N (ToWait queuing) = record { pays = refl; free = refl; more = refl }
 
@@ -153,12 +153,10 @@ module _ {C : Type 0} {N : ℕ} (truths : Truths C) where
   )
 
   -- the queues may go back, with what the scan has made of them
-  pub put_scanned : (scanning : Scanning C) (last : Word) (turned : Turned) (now : SeatOf C N) (place : Walk C) (returning : Returning C) → place ≡ ready_at scanning last → returning ≡ returning_for scanning →
-      IsAtPlace truths (ready_at scanning last) now → HasInHand truths (returning_for scanning) turned now →
-      PutsBack place × (returning ≡ returning_of place) × IsAtPlace truths (returning_at place last) now × HasInHand truths returning turned now
-  put_scanned scanning last turned now place returning there for at hand = let puts = puts_for scanning last in
-      subst (λ (x : Walk C × Returning C). PutsBack x.0 × (x.1 ≡ returning_of x.0) × IsAtPlace truths (returning_at x.0 last) now × HasInHand truths x.1 turned now) (λ i. (sym there i, sym for i))
-      (puts.0, puts.1, subst (λ walk. IsAtPlace truths walk now) (sym puts.2) at, hand)
+  pub put_scanned : (scanning : Scanning C) (last : Word) (turned : Turned) (now : SeatOf C N) (returning : Returning C) → returning ≡ returning_for scanning → IsAtPlace truths (ready_at scanning last) now → HasInHand truths (returning_for scanning) turned now →
+      PutsBackAt truths returning last now × HasInHand truths returning turned now
+  put_scanned scanning last turned now returning for at hand = let puts = puts_for scanning last in
+      (record { walk = ready_at scanning last; puts = puts.0; is = for ∙ puts.1; at = subst (λ walk. IsAtPlace truths walk now) (sym puts.2) at }, subst (λ r. HasInHand truths r turned now) (sym for) hand)
 
   -- once they are back the call pays what its seat owes
   pays_next : (scanning : Scanning C) (last : Word) (me now : SeatOf C N) → OwesTheWoken truths (returning_for scanning) me (the now.0).at.owed →
@@ -167,17 +165,12 @@ module _ {C : Type 0} {N : ℕ} (truths : Truths C) where
   pays_next (ToRelease releasing) last me now owes back = subst (λ ns. HasReached truths (Release releasing) (pay_releasing releasing (has_some ns)) now) (sym owes) back
   pays_next (ToWait queuing) last me now owes back = subst (λ ns. HasReached truths (Await queuing.wait) (pay_waiting queuing.wait (has_some ns)) now) (sym owes) back
 
-  pub pay_scanned : (scanning : Scanning C) (last : Word) (me now : SeatOf C N) (place : Walk C) (returning : Returning C) → place ≡ ready_at scanning last → returning ≡ returning_for scanning →
-      OwesTheWoken truths returning me (the now.0).at.owed → HasReached truths (asked_of place) (got_of N place (found_back truths returning last me)) now →
+  pub pay_scanned : (scanning : Scanning C) (last : Word) (me now : SeatOf C N) (returning : Returning C) → returning ≡ returning_for scanning → IsAtPlace truths (ready_at scanning last) me → HasPutBack truths returning last me now →
       HasReached truths (asked_of (paying_at scanning)) (got_of N (paying_at scanning) (Paid (has_some (the now.0).at.owed))) now
-  pay_scanned scanning last me now place returning there for owes back =
-      pays_next scanning last me now (subst (λ r. OwesTheWoken truths r me (the now.0).at.owed) for owes)
-      (subst (λ (x : Walk C × Returning C). HasReached truths (asked_of x.0) (got_of N x.0 (found_back truths x.1 last me)) now) (λ i. (there i, for i)) back)
-
-  -- where its walk pays
-  pub pays_at : (scanning : Scanning C) (paying : Walk C) (now : SeatOf C N) → paying ≡ paying_at scanning → (owed : Bool) → HasReached truths (asked_of (paying_at scanning)) (got_of N (paying_at scanning) (Paid owed)) now →
-      Pays N paying × HasReached truths (asked_of paying) (got_of N paying (Paid owed)) now
-  pays_at scanning paying now is owed at = subst (λ walk. Pays N walk × HasReached truths (asked_of walk) (got_of N walk (Paid owed)) now) (sym is) (pays_for N scanning, at)
+  pay_scanned scanning last me now returning for at back = let puts = puts_for scanning last in
+      pays_next scanning last me now (subst (λ r. OwesTheWoken truths r me (the now.0).at.owed) for back.owes)
+      (subst (λ r. HasReached truths (asked_of (ready_at scanning last)) (got_of N (ready_at scanning last) (found_back truths r last me)) now) for
+      (back.returned (ready_at scanning last) puts.0 (for ∙ puts.1) (subst (λ walk. IsAtPlace truths walk me) (sym puts.2) at)))
 
   -- what is owed are the wakes of those whom the scan took
   owes_called : (scanning : Scanning C) (me : SeatOf C N) (owed : List Owed) → OwesTheWoken truths (returning_for scanning) me owed → owed ≡ called_of (woken_of (meets_at truths (row_in (the me.0).at.held)) (the me.0).stood.lock)

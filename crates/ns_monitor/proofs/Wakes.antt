@@ -107,10 +107,12 @@ module _ {C : Type 0} {N : ℕ} (truths : Truths C) where
 
   -- One alone was taken, and the queues are back. Where it wasn't moved, its wake is owed, and no other.
   pub owes_sole : (waking : Waking) (k : ℕ) (moved : Bool) (stood : Lists C) (w : Waiter C) (wake : Owed) (now : SeatOf C N) → taken_from waking k stood ≡ w ∷ [] → moved ≡ false → wake ≡ wake_by k w.seat → HasReturnedWoken truths waking k moved stood now
-      → ((the now.0).at.owed ≡ wake ∷ []) × HasReached truths (TheRequest.Wake waking k) (pay_woken waking k true) now
-  owes_sole waking k moved stood w wake now alone free is back =
-      let owed : owed_woken waking k moved stood ≡ wake ∷ [] = ap (λ b. owed_woken waking k b stood) free ∙ (ap (wakes_of k) alone ∙ ap (λ o. o ∷ []) (sym is)) in
-      (back.owed ∙ owed, subst (λ ns. HasReached truths (TheRequest.Wake waking k) (pay_woken waking k (has_some ns)) now) owed back.leads)
+      → (the now.0).at.owed ≡ wake ∷ []
+  owes_sole waking k moved stood w wake now alone free is back = back.owed ∙ (ap (λ b. owed_woken waking k b stood) free ∙ (ap (wakes_of k) alone ∙ ap (λ o. o ∷ []) (sym is)))
+
+  -- where it pays them
+  pub pays_woken : (waking : Waking) (k : ℕ) (moved : Bool) (stood : Lists C) (now : SeatOf C N) → HasReturnedWoken truths waking k moved stood now → HasReached truths (TheRequest.Wake waking k) (pay_woken waking k (has_some (the now.0).at.owed)) now
+  pays_woken waking k moved stood now back = subst (λ ns. HasReached truths (TheRequest.Wake waking k) (pay_woken waking k (has_some ns)) now) (sym back.owed) back.leads
 
   -- ---- what it tells
 

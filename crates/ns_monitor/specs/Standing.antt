@@ -3,7 +3,7 @@ use Rattle.std.specs.Prelude.{Bool, Err, List, None, Ok, Option, Result, Some, f
 use Rattle.ns_monitor.specs.Names.{Acquire, AcquireExchange, AcquireLoad, Acquiring, Act, Aim, Arm, ArmToWait, Arrival, AtLock, Changed, Changing, Done, Flag, Going, HasMadeBoth, HasReached, HasTurned, HasUnchangedQueues, Idle, InAcquire, InLeaving, InQueuing, InRelease, InShow, InSignal, Bounded, HasMadeSteps, found_back}
 use Rattle.ns_monitor.specs.Names.{InWait, IsAtPlace, IsOrderly, IsPackable, Leave, LeaveLoad, LeaveSelf, Leaving, Load, LoadFlag, LoadWord, Next, Nothing, On, Owed, Paid, PayWake, Performed, Queue, QueueSelf, QueueToWait, Release, ReleaseExchange, ReleaseLoad, ReleasePlace, Released, Releasing}
 use Rattle.ns_monitor.specs.Names.{Reply, ReturnShown, Returning, Saw, ScanAndRelease, SeatOf, SignalLoad, Succeeded, Take, TakeToLeave, TakeToQueue, TakeToScan, TakeToWake, Taking, ToChange, ToQueue, Truths, Turned, Waited, WakeAndReturn, Walk, Word, acquire_by, acquired_for, asked_of, bits_of}
-use Rattle.ns_monitor.specs.Names.{called_of, got_of, has_queues, home_of, may_acquire, meets_at, mode_for, needs_scan, release_by, request_for, row_in, scan_place, the, want_of, woken_of}
+use Rattle.ns_monitor.specs.Names.{called_of, got_of, has_queues, has_some, home_of, may_acquire, meets_at, mode_for, needs_scan, release_by, request_for, row_in, scan_place, the, want_of, woken_of}
 use Rattle.ns_word.specs.declared.request.Request.TheVariants as TheRequest
 use Rattle.ns_monitor.specs.Several.{HasSeenTrue}
 
@@ -35,9 +35,15 @@ pub record Pays {C : Type 0} (N : ℕ) (walk : Walk C) : Type 0 where
   pub free : has_queues (Some walk) ≡ false
   pub more : got_of N walk (Paid true) ≡ On walk
 
--- it has paid them all; where it had seen a true condition, it still has
-pub record HasPaid {C : Type 0} {N : ℕ} (truths : Truths C) (walk : Walk C) (me now : SeatOf C N) : Type 0 where
-  pub paid : HasReached truths (asked_of walk) (got_of N walk (Paid false)) now
+-- a call stands where it pays the wakes that it owes, if it owes any
+pub record PaysAt {C : Type 0} {N : ℕ} (truths : Truths C) (me : SeatOf C N) : Type 0 where
+  pub walk : Walk C
+  pub pays : Pays N walk
+  pub at : HasReached truths (asked_of walk) (got_of N walk (Paid (has_some (the me.0).at.owed))) me
+
+-- it has paid them all, and goes on as its place says; where it had seen a true condition, it still has
+pub record HasPaid {C : Type 0} {N : ℕ} (truths : Truths C) (me now : SeatOf C N) : Type 0 where
+  pub paid : (walk : Walk C) → Pays N walk → HasReached truths (asked_of walk) (got_of N walk (Paid (has_some (the me.0).at.owed))) me → HasReached truths (asked_of walk) (got_of N walk (Paid false)) now
   pub none : (the now.0).at.owed ≡ []
   pub true_to : HasSeenTrue truths me → HasSeenTrue truths now
 
@@ -183,9 +189,16 @@ abbrev pub OwesTheWoken : {C : Type 0} {N : ℕ} → Truths C → Returning C �
 OwesTheWoken truths (Changed change) me owed = Unit {0}
 OwesTheWoken truths returning me owed = owed ≡ called_of (woken_of (meets_at truths (row_in (the me.0).at.held)) (the me.0).stood.lock)
 
--- the queues are back, by a word that was as this one but for what others changed
-pub record HasPutBack {C : Type 0} {N : ℕ} (truths : Truths C) (returning : Returning C) (walk : Walk C) (first : Word) (me now : SeatOf C N) : Type 0 where
-  pub returned : HasReached truths (asked_of walk) (got_of N walk (found_back truths returning first me)) now
+-- a call puts the queues back for this at the place where it stands, by the word last seen
+pub record PutsBackAt {C : Type 0} {N : ℕ} (truths : Truths C) (returning : Returning C) (last : Word) (me : SeatOf C N) : Type 0 where
+  pub walk : Walk C
+  pub puts : PutsBack walk
+  pub is : returning ≡ returning_of walk
+  pub at : IsAtPlace truths (returning_at walk last) me
+
+-- The queues are back, by a word that was as this one but for what others changed: the call goes on as its place says, and owes the wakes that it does.
+pub record HasPutBack {C : Type 0} {N : ℕ} (truths : Truths C) (returning : Returning C) (first : Word) (me now : SeatOf C N) : Type 0 where
+  pub returned : (walk : Walk C) → PutsBack walk → returning ≡ returning_of walk → IsAtPlace truths (returning_at walk first) me → HasReached truths (asked_of walk) (got_of N walk (found_back truths returning first me)) now
   pub owes : OwesTheWoken truths returning me (the now.0).at.owed
   pub true_to : HasSeenTrue truths now
 

@@ -109,9 +109,8 @@ fn queue<R: Wait, C: Condition<N>, const N: usize>(
     seat.arm_flag();
     let bits = seat.queue_in_hand(mode, arrival);
     let returning = Returning::Changed(Change::QueueSelf(mode, arrival));
-    let place = Walk::InAcquire(aim, AcquirePlace::Queue(arrival, word.parts()));
     let turned = Turned { some: false, bits };
-    put_back(rt, seat, returning, place, word, turned);
+    put_back(rt, seat, returning, word, turned);
     let tries = arrival.tries();
     let place = Walk::InAcquire(aim, AcquirePlace::AwaitWake(tries));
     let flag = await_flag(rt, seat, place);

@@ -2,8 +2,8 @@
 //! which is for the proof alone: no code reads it.
 
 ghost use Rattle.std.specs.Prelude.{◌≡◌, ◌≢◌, ◌∷◌, None, Some, false, true, []};
-ghost use Rattle.ns_monitor.specs.Prelude.{Changing, Decides, HasInHand, HasMadeStepsTo, HasPaid, HasPutBack, HasReached, HasTakenAt, IsAtPlace, IsPackable, IsWoken, Pays, PutsBack, Sleeps, StandsAt, WentOrTook, asked_of, going_of, got_of, has_some, returning_at};
-ghost use Rattle.ns_monitor.specs.Prelude.{returning_of, the};
+ghost use Rattle.ns_monitor.specs.Prelude.{Changing, Decides, HasInHand, HasMadeStepsTo, HasPaid, HasPutBack, HasReached, HasTakenAt, IsAtPlace, IsPackable, IsWoken, Pays, PaysAt, PutsBackAt, Sleeps, StandsAt, WentOrTook, asked_of, going_of, got_of};
+ghost use Rattle.ns_monitor.specs.Prelude.{the};
 
 use crate::going::{Going, exchange_to_go};
 use arrayvec::ArrayVec;
@@ -83,16 +83,13 @@ pub(crate) fn put_back<R: Wait, C: Condition<N>, const N: usize>(
     rt: &R,
     seat: &mut Bound<'_, C, N>,
     returning: Returning<C>,
-    _walk: Walk<C>,
     first: LockWord,
     turned: Turned,
 )
-    requires puts { PutsBack _walk }
-    requires returning { returning ≡ returning_of _walk }
     requires word { IsPackable first }
-    requires at { IsAtPlace C.means (returning_at _walk first) seat.old.me }
+    requires at { PutsBackAt C.means returning first seat.old.me }
     requires hand { HasInHand C.means returning turned seat.old.me }
-    ensures { HasMadeStepsTo None (HasPutBack C.means returning _walk first seat.old.me) seat.old seat.new }
+    ensures { HasMadeStepsTo None (HasPutBack C.means returning first seat.old.me) seat.old seat.new }
 {
     let mut word = first;
     for _ in rt.forever() {
@@ -127,13 +124,11 @@ pub(crate) fn await_flag<R: Wait, C: Condition<N>, const N: usize>(
 /// Pays the wakes that the seat owes, in order.
 pub(crate) fn pay<C: Condition<N>, const N: usize>(
     seat: &mut Bound<'_, C, N>,
-    _walk: Walk<C>,
     owed: &ArrayVec<Owed, 64>,
 )
-    requires pays { Pays N _walk }
-    requires at { HasReached C.means (asked_of _walk) (got_of N _walk (Found.Paid (has_some (the seat.old.me.0).at.owed))) seat.old.me }
+    requires at { PaysAt C.means seat.old.me }
     requires owed { (the seat.old.me.0).at.owed ≡ owed.now.items }
-    ensures { HasMadeStepsTo None (HasPaid C.means _walk seat.old.me) seat.old seat.new }
+    ensures { HasMadeStepsTo None (HasPaid C.means seat.old.me) seat.old seat.new }
 {
     for &wake in owed.as_slice() {
         seat.pay_wake(wake);
@@ -143,13 +138,11 @@ pub(crate) fn pay<C: Condition<N>, const N: usize>(
 /// Pays the one wake that the seat owes.
 pub(crate) fn pay_one<C: Condition<N>, const N: usize>(
     seat: &mut Bound<'_, C, N>,
-    _walk: Walk<C>,
     wake: Owed,
 )
-    requires pays { Pays N _walk }
-    requires at { HasReached C.means (asked_of _walk) (got_of N _walk (Found.Paid true)) seat.old.me }
+    requires at { PaysAt C.means seat.old.me }
     requires owed { (the seat.old.me.0).at.owed ≡ wake ∷ [] }
-    ensures { HasMadeStepsTo None (HasPaid C.means _walk seat.old.me) seat.old seat.new }
+    ensures { HasMadeStepsTo None (HasPaid C.means seat.old.me) seat.old seat.new }
 {
     seat.pay_wake(wake);
 }

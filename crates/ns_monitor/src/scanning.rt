@@ -1,7 +1,7 @@
 //! The scan of the lock list by a release, or by a wait that leaves its section.
 
 ghost use Rattle.std.specs.Prelude.{◌≡◌, ⊤};
-ghost use Rattle.ns_monitor.specs.Prelude.{Carries, HasScanned, HasWorked, IsPackable, IsReady, MayEnter, MayScan, ToRelease, bits_of, entered, paying_at, ready_at, returning_for, sought_at, the};
+ghost use Rattle.ns_monitor.specs.Prelude.{Carries, HasScanned, HasWorked, IsPackable, IsReady, MayEnter, MayScan, ToRelease, bits_of, entered, ready_at, returning_for, sought_at, the};
 
 use crate::loops::{pay, pay_one, put_back};
 use ns_gate::bound::Bound;
@@ -10,10 +10,8 @@ use ns_model::condition::Condition;
 use ns_queue::scan::Sought;
 use ns_word::number::LockWord;
 use ns_word::owed::called;
-use ns_word::release_walk::ReleasePlace;
-use ns_word::wait::{QueuePlace, Wait as Waiting, WaitPlace};
-use ns_word::walk::Walk;
-use ns_word::word::{Releasing, Word};
+use ns_word::wait::Wait as Waiting;
+use ns_word::word::Releasing;
 use std::alloc::AllocError;
 use std::sync::Wait;
 
@@ -64,33 +62,6 @@ impl<C: Copy> Scanning<C> {
         match self {
             Scanning::ToRelease(releasing) => Returning::Released(releasing),
             Scanning::ToWait(queuing) => Returning::Waited(queuing.wait, queuing.again),
-        }
-    }
-
-    /// Where its call stands with a row ready for it. No code reads the place.
-    #[inline(always)]
-    fn place(self, parts: Word) -> Walk<C>
-        ensures { result ≡ ready_at self parts }
-    {
-        match self {
-            Scanning::ToRelease(releasing) => {
-                Walk::InRelease(releasing, ReleasePlace::ScanAndRelease(parts))
-            }
-            Scanning::ToWait(queuing) => Walk::InWait(
-                queuing.wait,
-                WaitPlace::InQueuing(queuing.again, QueuePlace::QueueToWait(parts)),
-            ),
-        }
-    }
-
-    /// Where its call pays the wakes. No code reads the place.
-    #[inline(always)]
-    fn paying(self) -> Walk<C>
-        ensures { result ≡ paying_at self }
-    {
-        match self {
-            Scanning::ToRelease(releasing) => Walk::InRelease(releasing, ReleasePlace::Pay),
-            Scanning::ToWait(queuing) => Walk::InWait(queuing.wait, WaitPlace::PayInWait),
         }
     }
 }
@@ -149,10 +120,9 @@ pub(crate) fn scan_and_return<R: Wait, C: Condition<N>, const N: usize>(
         }
     };
     let turned = enter(seat, scanning, left);
-    let place = scanning.place(word.parts());
-    put_back(rt, seat, scanning.returning(), place, word, turned);
+    put_back(rt, seat, scanning.returning(), word, turned);
     if let Some(wake) = wake {
-        pay_one(seat, scanning.paying(), wake);
+        pay_one(seat, wake);
     }
 }
 
@@ -196,8 +166,7 @@ fn scan_and_wake<R: Wait, C: Condition<N>, const N: usize>(
     let (scan, bits) = seat.scan_from_in_hand(row, sought);
     let some = !scan.woken.is_empty();
     let turned = enter(seat, scanning, Turned { some, bits });
-    let place = scanning.place(word.parts());
-    put_back(rt, seat, scanning.returning(), place, word, turned);
+    put_back(rt, seat, scanning.returning(), word, turned);
     let owed = called(scan.woken.as_slice(), scan.vias.as_slice());
-    pay(seat, scanning.paying(), &owed);
+    pay(seat, &owed);
 }

@@ -1,7 +1,7 @@
 //! How a monitor stands, for whoever looks for a fault: its lock word and its waiters.
 
 ghost use Rattle.std.specs.Prelude.{◌≡◌, None, Some};
-ghost use Rattle.ns_monitor.specs.Prelude.{HasSeenMore, HasStood, HasTakenToShow, InShow, IsAtRest, ReturnShown, ShowsState, ToChange, showing, the};
+ghost use Rattle.ns_monitor.specs.Prelude.{HasSeenMore, HasStood, HasTakenToShow, IsAtRest, ShowsState, ToChange, showing, the};
 
 use crate::caller::{Caller, Hand};
 use crate::loops::put_back;
@@ -15,7 +15,6 @@ use ns_model::condition::Condition;
 use ns_queue::waiter::Shown;
 use ns_word::act::Change;
 use ns_word::number::LockWord;
-use ns_word::show_walk::ShowPlace;
 use ns_word::walk::Walk;
 use ns_word::word::{Taking, Word};
 use std::sync::Wait;
@@ -79,10 +78,9 @@ impl<C: Condition<N>, const N: usize> Monitor<C, N> {
         let word = take_to_show(rt, &mut seat);
         let (lists, bits) = seat.show_in_hand();
         let taken = word.taken(Taking::ToChange);
-        let place = Walk::InShow(ShowPlace::ReturnShown(taken.parts()));
         let returning = Returning::Changed(Change::Nothing);
         let turned = Turned { some: false, bits };
-        put_back(rt, &mut seat, returning, place, taken, turned);
+        put_back(rt, &mut seat, returning, taken, turned);
         seat.end();
         let ShownLists { lock, cvs } = lists;
         let word = word.parts();

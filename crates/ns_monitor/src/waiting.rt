@@ -92,18 +92,8 @@ fn leave<R: Wait, C: Condition<N>, const N: usize>(
     let home = wait.on.home();
     let (stood, bits) = seat.leave_in_hand(home);
     let returning = Returning::Changed(Change::LeaveSelf(home));
-    let place = Walk::InWait(
-        wait,
-        WaitPlace::InLeaving(cause, LeavePlace::Leave(word.parts())),
-    );
-    put_back(
-        rt,
-        seat,
-        returning,
-        place,
-        word,
-        Turned { some: false, bits },
-    );
+    let turned = Turned { some: false, bits };
+    put_back(rt, seat, returning, word, turned);
     if stood {
         return (Arrival::AsFresh, Outcome::Ended(cause));
     }

@@ -101,8 +101,7 @@ fn wake_sole<R: Wait, C: Condition<N>, const N: usize>(
     let taken = [sole];
     let moved = return_woken(rt, seat, call, word, &taken, made);
     if !moved {
-        let place = Walk::InSignal(call.waking, call.k, SignalPlace::PayTheWoken);
-        pay_one(seat, place, wake_by(call.k, sole.seat));
+        pay_one(seat, wake_by(call.k, sole.seat));
     }
 }
 
@@ -129,8 +128,7 @@ fn wake_waiters<R: Wait, C: Condition<N>, const N: usize>(
     } else {
         wakes(call.k, taken.as_slice())
     };
-    let place = Walk::InSignal(call.waking, call.k, SignalPlace::PayTheWoken);
-    pay(seat, place, &owed);
+    pay(seat, &owed);
 }
 
 /// With the queues in hand, taken at this word: wakes those of the list of the variable whom the

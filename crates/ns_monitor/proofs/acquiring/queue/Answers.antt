@@ -18,7 +18,7 @@ pub put_back-requires : goal.put_back-requires
 put_back-requires g c = let t = g.C.Condition.means in let me1 = c.arm_flag.new.self.me in let queued = c.queue_in_hand-bits in let after = (goal.at.put_back-requires g c).After-arm_flag in let same = queued.ensures.worked.by in let mode = c.mode-mode.result in
     let hand = hand_by t (QueueSelf mode c.args.arrival) queued.result me1 queued.new.self.me same (λ last. refl) queued.ensures.lists queued.ensures.bits in
     let stands = works t (InAcquire c.args.aim (Queue c.args.arrival c.args.word)) me1 queued.new.self.me (armed g after).at refl same in
-    in_room (tt, (ap (λ m. Changed (QueueSelf m c.args.arrival)) c.mode-mode.ensures, (c.requires.word, (stands, hand))))
+    in_room (c.requires.word, (record { walk = InAcquire c.args.aim (Queue c.args.arrival c.args.word); puts = tt; is = ap (λ m. Changed (QueueSelf m c.args.arrival)) c.mode-mode.ensures; at = stands }, hand))
 
 pub returns : goal.returns
 returns g c = record {
@@ -30,10 +30,8 @@ pub arm_flag-requires : goal.arm_flag-requires
 arm_flag-requires g c = let arming = InAcquire c.args.aim (Arm c.args.arrival c.args.word) in
     in_room (can_go g.C.Condition.means arming ArmFlag c.args.seat.now.me refl c.requires.at)
 
-pub parts-requires : goal.parts-requires
-parts-requires g c = c.requires.word
-
 pub await_flag-flag-requires : goal.await_flag-flag-requires
 await_flag-flag-requires g c = let t = g.C.Condition.means in
-    let at = subst (λ n. IsAtPlace t (InAcquire c.args.aim (AwaitWake n)) c.put_back.new.seat.me) (sym c.tries-tries.ensures) c.put_back.ensures.so.returned in
+    let at = subst (λ n. IsAtPlace t (InAcquire c.args.aim (AwaitWake n)) c.put_back.new.seat.me) (sym c.tries-tries.ensures) (c.put_back.ensures.so.returned (InAcquire c.args.aim (Queue c.args.arrival c.args.word)) tt (ap (λ m. Changed (QueueSelf m c.args.arrival)) c.mode-mode.ensures)
+    (works t (InAcquire c.args.aim (Queue c.args.arrival c.args.word)) c.arm_flag.new.self.me c.queue_in_hand-bits.new.self.me (armed g (goal.at.await_flag-flag-requires g c).After-arm_flag).at refl c.queue_in_hand-bits.ensures.worked.by)) in
     in_room (record { loads = refl; free = refl; rests = refl }, at)

@@ -1,7 +1,7 @@
 use Rattle.std.proofs.Common.{List, None, ap, arith, false, subst, sym, true, ◌∙◌, ◌≡◌}
 use Rattle.ns_monitor.proofs.Prelude.{Carries, GateView, HasMadeSteps, HasReached, IsReady, Paid, asked_of, bits_of, got_of, has_some, in_room, lists_scanned, paying_at, ready_at, sought_at, the, works}
 use Rattle.ns_monitor.proofs.Bounds.{gone_behind, gone_then, worked_then}
-use Rattle.ns_monitor.proofs.Releases.{calls_few, found_first, hand_scanned, may_enter, may_still, owes_scanned, pay_scanned, pays_at, put_scanned, ready_still, scanned_still, scans_in_hand, told_list, turned_writer}
+use Rattle.ns_monitor.proofs.Releases.{calls_few, found_first, hand_scanned, may_enter, may_still, owes_scanned, pay_scanned, pays_for, put_scanned, ready_still, scanned_still, scans_in_hand, told_list, turned_writer}
 use Rattle.ns_monitor.specs.Scans.{entered as entered_by}
 use Rattle.ns_monitor.proofs.scanning.scan_and_return.Given.{Over}
 use Rattle.ns_monitor.proofs.scanning.scan_and_return.Goals.{After-put_back}
@@ -38,9 +38,8 @@ put_back-requires g c = let t = g.C.Condition.means in let look = c.scan_writer_
     let carries = subst (λ n. Carries (entered_by c.args.scanning n left) now) seat (entered.ensures.lists left c.in-Ok.ensures.lists) in
     let bits = entered.ensures.bits left c.in-Ok.ensures.lists turned.1 ∙ ap (λ n. bits_of (entered_by c.args.scanning n left).lock) seat in
     let hand = hand_scanned t c.args.scanning c.args.word c.args.row.now entered.result me now c.requires.ready same carries (entered.ensures.some ∙ turned.0) bits in
-    let put = put_scanned t c.args.scanning c.args.word entered.result now c.place-place.result c.returning.result (c.place-place.ensures ∙ ap (ready_at c.args.scanning) c.parts.ensures) c.returning.ensures
-    (works t (ready_at c.args.scanning c.args.word) me now c.requires.ready.at (scans_in_hand c.args.scanning c.args.word) same) hand in
-    in_room (put.0, (put.1, (c.requires.word, (put.2, put.3))))
+    let put = put_scanned t c.args.scanning c.args.word entered.result now c.returning.result c.returning.ensures (works t (ready_at c.args.scanning c.args.word) me now c.requires.ready.at (scans_in_hand c.args.scanning c.args.word) same) hand in
+    in_room (c.requires.word, (put.0, put.1))
 
 -- the wake that was told is all that is owed
 owed : (g : Over) (c : After-put_back g) → (the c.put_back.new.seat.me.0).at.owed ≡ told_list c.in-Ok.told.0
@@ -49,23 +48,21 @@ owed g c = let t = g.C.Condition.means in let look = c.scan_writer_in_hand in le
     (owes_scanned t c.args.scanning c.returning.result entered.new.seat.me (the c.put_back.new.seat.me.0).at.owed c.returning.ensures c.put_back.ensures.so.owes)
 
 -- and the call stands where it pays it, if there is one
-pays : (g : Over) (c : After-put_back g) → HasReached g.C.Condition.means (asked_of (paying_at c.args.scanning)) (got_of g.row.N (paying_at c.args.scanning) (Paid (has_some (told_list c.in-Ok.told.0)))) c.put_back.new.seat.me
-pays g c = let t = g.C.Condition.means in let now = c.put_back.new.seat.me in
-    subst (λ ns. HasReached t (asked_of (paying_at c.args.scanning)) (got_of g.row.N (paying_at c.args.scanning) (Paid (has_some ns))) now) (owed g c)
-    (pay_scanned t c.args.scanning c.args.word c.enter-turned.new.seat.me now c.place-place.result c.returning.result (c.place-place.ensures ∙ ap (ready_at c.args.scanning) c.parts.ensures) c.returning.ensures c.put_back.ensures.so.owes c.put_back.ensures.so.returned)
+pays : (g : Over) (c : After-put_back g) → HasReached g.C.Condition.means (asked_of (paying_at c.args.scanning)) (got_of g.row.N (paying_at c.args.scanning) (Paid (has_some (the c.put_back.new.seat.me.0).at.owed))) c.put_back.new.seat.me
+pays g c = let t = g.C.Condition.means in let me = c.args.seat.now.me in let now = c.enter-turned.new.seat.me in
+    pay_scanned t c.args.scanning c.args.word now c.put_back.new.seat.me c.returning.result c.returning.ensures (works t (ready_at c.args.scanning c.args.word) me now c.requires.ready.at (scans_in_hand c.args.scanning c.args.word) (c.enter-turned.ensures.worked.by ∙ c.scan_writer_in_hand.ensures.worked.by)) c.put_back.ensures.so
 
 gone : (g : Over) (c : After-put_back g) → HasMadeSteps None c.args.seat.now c.put_back.new.seat
 gone g c = gone_behind None _ _ _ (worked_then _ _ _ c.scan_writer_in_hand.ensures.worked c.enter-turned.ensures.worked) c.put_back.ensures.since
 
 pub pay_one-requires : goal.pay_one-requires
-pay_one-requires g c = let t = g.C.Condition.means in let put = (goal.at.pay_one-requires g c).After-put_back in let now = c.put_back.new.seat.me in let one = ap told_list c.in-Some.is in
-    let at = pays_at t c.args.scanning c.paying.result now c.paying.ensures true (subst (λ ns. HasReached t (asked_of (paying_at c.args.scanning)) (got_of g.row.N (paying_at c.args.scanning) (Paid (has_some ns))) now) one (pays g put)) in
-    in_room (at.0, (at.1, owed g put ∙ one))
+pay_one-requires g c = let put = (goal.at.pay_one-requires g c).After-put_back in
+    in_room (record { walk = paying_at c.args.scanning; pays = pays_for g.row.N c.args.scanning; at = pays g put }, owed g put ∙ ap told_list c.in-Some.is)
 
 pub returns-in-Some : goal.returns-in-Some
 returns-in-Some g c = let t = g.C.Condition.means in let e = c.pay_one.ensures in record {
   since = gone_then None _ _ _ (gone g (goal.at.returns-in-Some g c).After-put_back) e.since;
-  paid = subst (λ walk. HasReached t (asked_of walk) (got_of g.row.N walk (Paid false)) c.pay_one.new.seat.me) c.paying.ensures e.so.paid;
+  paid = e.so.paid (paying_at c.args.scanning) (pays_for g.row.N c.args.scanning) (pays g (goal.at.returns-in-Some g c).After-put_back);
   none = e.so.none;
   true_to = e.so.true_to c.put_back.ensures.so.true_to;
 }
@@ -73,7 +70,7 @@ returns-in-Some g c = let t = g.C.Condition.means in let e = c.pay_one.ensures i
 pub returns-in_default : goal.returns-in_default
 returns-in_default g c = let t = g.C.Condition.means in let put = (goal.at.returns-in_default g c).After-put_back in let none = ap told_list c.in_default.is in record {
   since = gone g put;
-  paid = subst (λ ns. HasReached t (asked_of (paying_at c.args.scanning)) (got_of g.row.N (paying_at c.args.scanning) (Paid (has_some ns))) c.put_back.new.seat.me) none (pays g put);
+  paid = subst (λ ns. HasReached t (asked_of (paying_at c.args.scanning)) (got_of g.row.N (paying_at c.args.scanning) (Paid (has_some ns))) c.put_back.new.seat.me) (owed g put ∙ none) (pays g put);
   none = owed g put ∙ none;
   true_to = c.put_back.ensures.so.true_to;
 }

@@ -1,5 +1,5 @@
 use Rattle.std.proofs.Common.{None, ap, false, refl, rules, subst, true}
-use Rattle.ns_monitor.proofs.Prelude.{HasMadeSteps, Await, AwaitWakeToLeave, Changed, HasReached, InLeaving, InWait, IsAtPlace, Leave, LeaveSelf, in_room, works}
+use Rattle.ns_monitor.proofs.Prelude.{HasMadeSteps, Await, AwaitWakeToLeave, Changed, HasReached, InLeaving, InWait, IsAtPlace, Leave, LeaveSelf, found_back, got_of, in_room, works}
 use Rattle.ns_monitor.proofs.Bounds.{gone_then, gone_working}
 use Rattle.ns_monitor.proofs.Standing.{hand_by}
 use Rattle.ns_monitor.proofs.Waits.{left_next, taken_ended, taken_next}
@@ -14,7 +14,12 @@ pub put_back-requires : goal.put_back-requires
 put_back-requires g c = let t = g.C.Condition.means in let took = c.take-word in let left = c.leave_in_hand-stood in let me1 = took.new.seat.me in let e = left.ensures in
     let hand = hand_by t (LeaveSelf c.home-home.result) left.result.1 me1 left.new.self.me e.worked.by (λ last. refl) e.lists e.bits in
     let stands = works t (InWait c.args.wait (InLeaving c.args.cause (Leave took.result))) me1 left.new.self.me took.ensures.so.at refl e.worked.by in
-    in_room (tt, (ap (λ w. Changed (LeaveSelf w)) c.home-home.ensures, (took.ensures.so.packs, (stands, hand))))
+    in_room (took.ensures.so.packs, (record { walk = InWait c.args.wait (InLeaving c.args.cause (Leave took.result)); puts = tt; is = ap (λ w. Changed (LeaveSelf w)) c.home-home.ensures; at = stands }, hand))
+
+-- the queues are back
+back : (g : Over) (c : After-put_back g) → HasReached g.C.Condition.means (Await c.args.wait) (got_of g.row.N (InWait c.args.wait (InLeaving c.args.cause (Leave c.take-word.result))) (found_back g.C.Condition.means (Changed (LeaveSelf c.home-home.result)) c.take-word.result c.leave_in_hand-stood.new.self.me)) c.put_back.new.seat.me
+back g c = let walk = InWait c.args.wait (InLeaving c.args.cause (Leave c.take-word.result)) in
+    c.put_back.ensures.so.returned walk tt (ap (λ w. Changed (LeaveSelf w)) c.home-home.ensures) (works g.C.Condition.means walk c.take-word.new.seat.me c.leave_in_hand-stood.new.self.me c.take-word.ensures.so.at refl c.leave_in_hand-stood.ensures.worked.by)
 
 -- it came so far, and stands where its list tells
 since_back : (g : Over) (c : After-put_back g) → HasMadeSteps None c.args.seat.now c.put_back.new.seat
@@ -28,7 +33,7 @@ returns-then-stood g c = record {
     so = let t = g.C.Condition.means in let took = c.take-word in let left = c.leave_in_hand-stood in
         subst (λ next. HasReached t (Await c.args.wait) next c.put_back.new.seat.me)
         (left_next t c.args.wait c.args.cause took.result c.home-home.result left.result.0 true took.new.seat.me left.new.self.me c.home-home.ensures
-        left.ensures.worked.by left.ensures.stood c.if-stood.true) c.put_back.ensures.so.returned;
+        left.ensures.worked.by left.ensures.stood c.if-stood.true) (back g (goal.at.returns-then-stood g c).After-put_back);
   };
 }
 
@@ -36,7 +41,7 @@ pub await_flag-flag-requires : goal.await_flag-flag-requires
 await_flag-flag-requires g c = let t = g.C.Condition.means in let took = c.take-word in let left = c.leave_in_hand-stood in
     let at : IsAtPlace t (InWait c.args.wait (InLeaving c.args.cause AwaitWakeToLeave)) c.put_back.new.seat.me = subst (λ next. HasReached t (Await c.args.wait) next c.put_back.new.seat.me)
     (left_next t c.args.wait c.args.cause took.result c.home-home.result left.result.0 false took.new.seat.me left.new.self.me c.home-home.ensures
-    left.ensures.worked.by left.ensures.stood c.if-stood.false) c.put_back.ensures.so.returned in
+    left.ensures.worked.by left.ensures.stood c.if-stood.false) (back g (goal.at.await_flag-flag-requires g c).After-put_back) in
     in_room (record { loads = refl; free = refl; rests = refl }, at)
 
 pub returns : goal.returns

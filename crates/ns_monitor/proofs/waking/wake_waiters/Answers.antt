@@ -1,10 +1,11 @@
 use Rattle.std.proofs.Common.{Bool, None, ap, refl, subst, sym, ◌∙◌, ◌≡◌}
-use Rattle.ns_monitor.proofs.Prelude.{HasReached, HasWokenInHand, InSignal, IsOrderly, WakeAndReturn, has_some, in_room, list_fits, list_small, number, owed_woken, pay_woken, taken_from, the, wakes_of, works}
+use Rattle.ns_monitor.proofs.Prelude.{HasWokenInHand, HasReached, InSignal, IsOrderly, WakeAndReturn, has_some, pay_woken, in_room, list_fits, list_small, number, owed_woken, taken_from, the, wakes_of, works}
 use Rattle.ns_monitor.proofs.Bounds.{gone_itself, gone_then, gone_working}
-use Rattle.ns_monitor.proofs.Wakes.{hand_made}
+use Rattle.ns_monitor.proofs.Wakes.{hand_made, pays_woken}
+use Rattle.ns_gate.specs.Prelude.{PayTheWoken}
+use Rattle.ns_word.specs.declared.request.Request.TheVariants as TheRequest
 use Rattle.ns_monitor.proofs.waking.wake_waiters.Given.{Over}
 use Rattle.ns_monitor.proofs.waking.wake_waiters.Goals.{Joined-moved, else-moved, then-moved}
-use Rattle.ns_word.specs.declared.request.Request.TheVariants as TheRequest
 use Rattle.ns_monitor.proofs.waking.wake_waiters.Goals as goal
 
 pub return_woken-moved-requires : goal.return_woken-moved-requires
@@ -20,15 +21,17 @@ paid g c = let made = c.wake_in_hand-taken in let waking = c.args.call.waking in
       | else-moved w ↦ (λ i. (w.owed-is i).items) ∙ (w.wakes-owed.ensures ∙ (ap (wakes_of k) (w.as_slice-else-moved.ensures.value ∙ taken) ∙ ap owed (sym w.if-moved.false)))
     ]
 
+-- it stands where it pays what it owes
+stands : (g : Over) (c : Joined-moved g) → HasReached g.C.Condition.means (TheRequest.Wake c.args.call.waking c.args.call.k) (pay_woken c.args.call.waking c.args.call.k (has_some (the c.return_woken-moved.new.seat.me.0).at.owed)) c.return_woken-moved.new.seat.me
+stands g c = pays_woken g.C.Condition.means c.args.call.waking c.args.call.k c.return_woken-moved.result (the c.wake_in_hand-taken.new.self.me.0).stood c.return_woken-moved.new.seat.me c.return_woken-moved.ensures.so
+
 pub pay-requires : goal.pay-requires
-pay-requires g c = let t = g.C.Condition.means in let back = c.return_woken-moved.ensures in let now = c.return_woken-moved.new.seat.me in
-    let by = subst (λ ns. HasReached t (TheRequest.Wake c.args.call.waking c.args.call.k) (pay_woken c.args.call.waking c.args.call.k (has_some ns)) now) (sym back.so.owed) back.so.leads in
-    in_room (record { pays = refl; free = refl; more = refl }, (by, back.so.owed ∙ sym (paid g (goal.at.pay-requires g c).Joined-moved)))
+pay-requires g c = let after = (goal.at.pay-requires g c).Joined-moved in in_room (record { walk = InSignal c.args.call.waking c.args.call.k PayTheWoken; pays = record { pays = refl; free = refl; more = refl }; at = stands g after }, c.return_woken-moved.ensures.so.owed ∙ sym (paid g after))
 
 pub returns : goal.returns
 returns g c = record {
   since = gone_then None _ _ _ (gone_then None _ _ _ (gone_working None _ _ _ (gone_itself c.args.seat.now) c.wake_in_hand-taken.ensures.worked) c.return_woken-moved.ensures.since) c.pay.ensures.since;
-  so = c.pay.ensures.so.paid;
+  so = c.pay.ensures.so.paid (InSignal c.args.call.waking c.args.call.k PayTheWoken) (record { pays = refl; free = refl; more = refl }) (stands g (goal.at.returns g c).Joined-moved);
 }
 
 pub wake_in_hand-taken-requires : goal.wake_in_hand-taken-requires
