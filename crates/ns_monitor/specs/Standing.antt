@@ -101,6 +101,13 @@ taking_at walk word = walk
 abbrev pub scanning_at : ℕ → Word → ReleasePlace
 scanning_at N word = if word.cond then scan_place N word 0 else ScanAndRelease word
 
+-- a call that decides so has seen this word last, and stands where it leads
+pub record GoesBy {C : Type 0} {N : ℕ} (truths : Truths C) (walk : Walk C) (going : Going C) (word : Word) (me : SeatOf C N) : Type 0 where
+  pub decides : Decides walk
+  pub is : going ≡ going_of walk
+  pub packs : IsPackable word
+  pub at : HasReached truths (asked_of walk) (got_of N walk (Saw word)) me
+
 -- where a call goes that has gone without the queues
 abbrev pub gone_to : {C : Type 0} → ℕ → Walk C → Next (Walk C) Reply
 gone_to N (InAcquire aim place) = acquired_for N aim
@@ -206,7 +213,7 @@ pub record HasPutBack {C : Type 0} {N : ℕ} (truths : Truths C) (returning : Re
 
 -- an acquire has seen this word, and stands where its decision leads
 abbrev pub AcquiresBy : {C : Type 0} {N : ℕ} → Truths C → Aim C → Arrival → Word → SeatOf C N → Type 0
-AcquiresBy truths aim arrival word me = HasReached truths (request_for aim) (acquire_by aim arrival word) me
+AcquiresBy truths aim arrival word me = IsPackable word × HasReached truths (request_for aim) (acquire_by aim arrival word) me
 
 -- an acquire was made: a call that locks is over, and a wait stands where it goes on
 abbrev pub HasAcquired : {C : Type 0} {N : ℕ} → Truths C → Aim C → SeatOf C N → Type 0
@@ -214,4 +221,4 @@ HasAcquired {C} {N} truths aim me = HasReached truths (request_for aim) (acquire
 
 -- a release has seen this word, and stands where its decision leads
 abbrev pub ReleasesBy : {C : Type 0} {N : ℕ} → Truths C → Releasing → Word → SeatOf C N → Type 0
-ReleasesBy truths releasing word me = HasReached truths (TheRequest.Release releasing) (release_by releasing word) me
+ReleasesBy truths releasing word me = IsPackable word × HasReached truths (TheRequest.Release releasing) (release_by releasing word) me

@@ -1,6 +1,6 @@
 -- What a call that wakes has in hand, and what it owes once the queues are back.
-use Rattle.std.specs.Prelude.{Bool, if◌then◌else◌, not, ℕ, ◌&&◌, ◌≡◌}
-use Rattle.ns_monitor.specs.Names.{Carries, HasReached, Lists, SeatOf, Truths, Turned, Waking, Word, bits_of, has_some, is_held, lists_woken, owed_woken, pay_woken, taken_from, the}
+use Rattle.std.specs.Prelude.{Bool, List, if◌then◌else◌, not, ℕ, ◌&&◌, ◌<◌, ◌≡◌}
+use Rattle.ns_monitor.specs.Names.{Carries, HasReached, InSignal, IsAtPlace, IsOrderly, IsPackable, Lists, SeatOf, Truths, Turned, Waiter, WakeAndReturn, Waking, Word, bits_of, has_some, is_held, lists_woken, owed_woken, pay_woken, taken_from, the}
 use Rattle.ns_word.specs.declared.request.Request.TheVariants as TheRequest
 
 -- the lock is held by one of two words and free by the other
@@ -12,6 +12,15 @@ pub record HasWokenInHand {C : Type 0} {N : ℕ} (waking : Waking) (k : ℕ) (he
   pub carries : Carries (lists_woken waking k held (the me.0).stood) me
   pub some : turned.some ≡ (held && has_some (taken_from waking k (the me.0).stood))
   pub bits : turned.bits ≡ bits_of (lists_woken waking k held (the me.0).stood).lock
+
+-- A call that wakes has the queues in hand, and is about to put them back by this word: it has taken these waiters, and this tells of what it has made of the lists, which stood orderly.
+pub record HasTakenToWake {C : Type 0} {N : ℕ} (truths : Truths C) (waking : Waking) (k : ℕ) (word : Word) (waiters : List (Waiter C)) (turned : Turned) (me : SeatOf C N) : Type 0 where
+  pub variable : k < 4
+  pub packs : IsPackable word
+  pub at : IsAtPlace truths (InSignal waking k (WakeAndReturn word)) me
+  pub orderly : IsOrderly (the me.0).stood
+  pub taken : waiters ≡ taken_from waking k (the me.0).stood
+  pub hand : HasWokenInHand waking k (is_held word) turned me
 
 -- The queues are back by a word that was held so, as the lists stood before: the call owes wakes to those whom it took and didn't move, and goes on to pay them, if there are any, or is over.
 pub record HasReturnedWoken {C : Type 0} {N : ℕ} (truths : Truths C) (waking : Waking) (k : ℕ) (held : Bool) (stood : Lists C) (now : SeatOf C N) : Type 0 where

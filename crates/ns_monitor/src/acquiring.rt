@@ -36,7 +36,6 @@ impl<C: Condition<N>, const N: usize> Monitor<C, N> {
     ) -> GateSeat<C, N>
         requires of { seat.table_id ≡ self.now }
         requires number { IsNumberOf number seat.me }
-        requires last { IsPackable last }
         requires at { AcquiresBy C.means (Aim.ForLock mode) Arrival.AsFresh last seat.me }
         ensures seat { result.table_id ≡ self.now }
         ensures since { HasSince None (the seat.me.0) (the result.me.0) }
@@ -73,8 +72,7 @@ fn acquire_on<R: Wait, C: Condition<N>, const N: usize>(
     first: Arrival,
     last: LockWord,
 )
-    requires last { IsPackable last }
-    requires at { AcquiresBy C.means aim first last seat.old.me }
+    requires { AcquiresBy C.means aim first last seat.old.me }
     ensures { HasMadeStepsTo None (HasAcquired C.means aim) seat.old seat.new }
 {
     let mut arrival = first;

@@ -1,7 +1,7 @@
 //! What a call does by the lock word that it has seen last, as long as it hasn't the waiter queues.
 
-ghost use Rattle.std.specs.Prelude.{◌≡◌, ⊤, None, Some, true, if◌then◌else◌};
-ghost use Rattle.ns_monitor.specs.Prelude.{Busy, CanStep, Decides, HasAnswered, HasBegunBy, HasComeBy, HasGuessedTo, HasMadeStepsTo, HasReached, HasTried, IsAtRest, IsFirst, IsPackable, MayGoAlone, PlaceFits, Saw, Succeeded, TryLock, WantsNext, WentAtOnce, Word, asked_of, going_act, going_of, got_of, may_go, taking_for, the, trying};
+ghost use Rattle.std.specs.Prelude.{◌≡◌, None, Some, true, if◌then◌else◌, ⊤};
+ghost use Rattle.ns_monitor.specs.Prelude.{Busy, CanStep, Decides, GoesBy, HasAnswered, HasBegunBy, HasComeBy, HasGuessedTo, HasMadeStepsTo, HasTried, IsAtRest, IsPackable, MayGoAlone, StandsAt, Succeeded, TryLock, WantsNext, WentAtOnce, Word, going_act, going_of, may_go, taking_for, the, trying};
 
 use ns_gate::bound::Bound;
 use ns_gate::gate::GateSeat;
@@ -228,10 +228,7 @@ fn go_by<C: Condition<N>, const N: usize>(
     _walk: Walk<C>,
     word: LockWord,
 ) -> Option<LockWord>
-    requires decides { Decides _walk }
-    requires going { going ≡ going_of _walk }
-    requires word { IsPackable word }
-    requires at { HasReached C.means (asked_of _walk) (got_of N _walk (Saw word)) seat.old.me }
+    requires { GoesBy C.means _walk going word seat.old.me }
     ensures { HasMadeStepsTo None (WentAtOnce C.means _walk result) seat.old seat.new }
 {
     if !going.may_go(word) {
@@ -253,10 +250,8 @@ pub(crate) fn go_at_once<C: Condition<N>, const N: usize>(
     walk: Walk<C>,
     alone: &mut bool,
 ) -> Option<LockWord>
-    requires rest { IsAtRest C.means seat.old.me }
     requires decides { Decides walk }
-    requires first { IsFirst N walk }
-    requires fits { PlaceFits C.means (Some walk) (the seat.old.me.0).at.held }
+    requires stands { StandsAt C.means (Some walk) walk seat.old.me }
     requires going { going ≡ going_of walk }
     requires alone { MayGoAlone going }
     ensures { HasMadeStepsTo (Some walk) (WentAtOnce C.means walk result) seat.old seat.new }

@@ -6,7 +6,7 @@
 //! that does. What locks and releases at once has its body here, and the monitor's calls make a handle for it: a
 //! call of a function that may wait takes instructions, which programs by handles are spared.
 
-ghost use Rattle.std.specs.Prelude.{◌≡◌, ◌<◌, ◌++◌, [], ◌∷◌, true, Some, All, IfErr, IfOk, length, slice_index, slice_set};
+ghost use Rattle.std.specs.Prelude.{◌≡◌, ◌<◌, ◌++◌, [], ◌∷◌, true, Some, IfErr, IfOk, length, slice_index, slice_set};
 ghost use Rattle.ns_model.specs.declared.event.Exit.TheVariants as TheExit;
 ghost use Rattle.ns_monitor.specs.Prelude.{AreOfOneHistory, Broadcasting, Grows, HasLearned, HasLocked, HasMode, HasSeenMore, HasWoken, InHand, QuietWriter, Read, Reader, ShowsState, Signaling, Write, Writer, getting, judging, locking, releasing_by, section_of, setting, showing, trying, waking_by};
 

@@ -1,8 +1,8 @@
 //! The loops that a call may go round in, each once. Each is told the place at which its call stands,
 //! which is for the proof alone: no code reads it.
 
-ghost use Rattle.std.specs.Prelude.{◌≡◌, ◌≢◌, ◌∷◌, None, Some, false, true, []};
-ghost use Rattle.ns_monitor.specs.Prelude.{Changing, Decides, HasInHand, HasMadeStepsTo, HasPaid, HasPutBack, HasReached, HasTakenAt, IsAtPlace, IsPackable, IsWoken, Pays, PaysAt, PutsBackAt, Sleeps, StandsAt, WentOrTook, asked_of, going_of, got_of};
+ghost use Rattle.std.specs.Prelude.{◌≡◌, ◌≢◌, ◌∷◌, None, Some, []};
+ghost use Rattle.ns_monitor.specs.Prelude.{Changing, Decides, GoesBy, HasInHand, HasMadeStepsTo, HasPaid, HasPutBack, HasTakenAt, IsAtPlace, IsPackable, IsWoken, Pays, PaysAt, PutsBackAt, Sleeps, StandsAt, WentOrTook, going_of};
 ghost use Rattle.ns_monitor.specs.Prelude.{the};
 
 use crate::going::{Going, exchange_to_go};
@@ -28,10 +28,7 @@ pub(crate) fn go_or_take<R: Wait, C: Condition<N>, const N: usize>(
     _walk: Walk<C>,
     first: LockWord,
 ) -> Option<LockWord>
-    requires decides { Decides _walk }
-    requires going { going ≡ going_of _walk }
-    requires word { IsPackable first }
-    requires at { HasReached C.means (asked_of _walk) (got_of N _walk (Found.Saw first)) seat.old.me }
+    requires { GoesBy C.means _walk going first seat.old.me }
     ensures { HasMadeStepsTo None (WentOrTook C.means _walk result seat.old.me) seat.old seat.new }
 {
     let taking = going.taking();

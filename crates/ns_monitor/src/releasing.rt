@@ -31,7 +31,6 @@ impl<C: Condition<N>, const N: usize> Monitor<C, N> {
     ) -> GateSeat<C, N>
         requires of { seat.table_id ≡ self.now }
         requires number { IsNumberOf number seat.me }
-        requires last { IsPackable last }
         requires at { ReleasesBy C.means releasing last seat.me }
         ensures seat { result.table_id ≡ self.now }
         ensures since { HasSince None (the seat.me.0) (the result.me.0) }
@@ -52,8 +51,7 @@ fn release_on<R: Wait, C: Condition<N>, const N: usize>(
     releasing: Releasing,
     last: LockWord,
 )
-    requires last { IsPackable last }
-    requires at { ReleasesBy C.means releasing last seat.old.me }
+    requires { ReleasesBy C.means releasing last seat.old.me }
     ensures { HasMadeStepsTo None (HasAnswered C.means (TheRequest.Release releasing) Succeeded) seat.old seat.new }
 {
     let going = Going::Leaving(releasing);

@@ -4,7 +4,7 @@
 //! So a caller may look at whatever else it waits for between two of them, as nsync's `nsync_wait_n` does
 //! inside.
 
-ghost use Rattle.std.specs.Prelude.{◌≡◌, Some, None, [], ℕ};
+ghost use Rattle.std.specs.Prelude.{◌≡◌, Some, None, []};
 ghost use Rattle.ns_monitor.specs.Prelude.{AreSome, ForWait, HasBegunToWait, HasComeBackFromAny, IfStill, IfWoken, IsNumberOf, IsWaitingForAny, WaitsStill, the, waits_for_any};
 
 use crate::acquiring::acquire;

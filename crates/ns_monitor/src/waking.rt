@@ -1,7 +1,7 @@
 //! Condition variables: signals and broadcasts.
 
 ghost use Rattle.std.specs.Prelude.{◌≡◌, ◌<◌, [], ◌∷◌, None, Some};
-ghost use Rattle.ns_monitor.specs.Prelude.{Broadcasting, Grows, HasAnswered, HasMadeStepsTo, HasReturnedWoken, HasTakenAt, HasWoken, HasWokenInHand, InSignal, IsAtPlace, IsAtRest, IsOrderly, IsPackable, SignalLoad, Signaling, Succeeded, WakeAndReturn, is_held, is_held_by_one, taken_from, the, waking_by};
+ghost use Rattle.ns_monitor.specs.Prelude.{Broadcasting, Grows, HasAnswered, HasMadeStepsTo, HasReturnedWoken, HasTakenAt, HasTakenToWake, HasWoken, InSignal, IsAtRest, SignalLoad, Signaling, Succeeded, is_held_by_one, the, waking_by};
 ghost use Rattle.ns_word.specs.declared.request.Request.TheVariants as TheRequest;
 
 use crate::caller::{Caller, Hand};
@@ -54,12 +54,7 @@ fn return_woken<R: Wait, C: Condition<N>, const N: usize>(
     taken: &[Waiter<C>],
     made: Turned,
 ) -> bool
-    requires variable { call.k < 4 }
-    requires word { IsPackable first }
-    requires at { IsAtPlace C.means (InSignal call.waking call.k (WakeAndReturn first)) seat.old.me }
-    requires orderly { IsOrderly (the seat.old.me.0).stood }
-    requires taken { taken.now ≡ taken_from call.waking call.k (the seat.old.me.0).stood }
-    requires hand { HasWokenInHand call.waking call.k (is_held first) made seat.old.me }
+    requires { HasTakenToWake C.means call.waking call.k first taken.now made seat.old.me }
     ensures { HasMadeStepsTo None (HasReturnedWoken C.means call.waking call.k result (the seat.old.me.0).stood) seat.old seat.new }
 {
     let returning = Returning::Changed(Change::WakeWaiters(call.waking, call.k));
@@ -90,12 +85,7 @@ fn wake_sole<R: Wait, C: Condition<N>, const N: usize>(
     sole: Waiter<C>,
     made: Turned,
 )
-    requires variable { call.k < 4 }
-    requires word { IsPackable word }
-    requires at { IsAtPlace C.means (InSignal call.waking call.k (WakeAndReturn word)) seat.old.me }
-    requires orderly { IsOrderly (the seat.old.me.0).stood }
-    requires alone { taken_from call.waking call.k (the seat.old.me.0).stood ≡ sole ∷ [] }
-    requires hand { HasWokenInHand call.waking call.k (is_held word) made seat.old.me }
+    requires { HasTakenToWake C.means call.waking call.k word (sole ∷ []) made seat.old.me }
     ensures { HasMadeStepsTo None (HasAnswered C.means (TheRequest.Wake call.waking call.k) Succeeded) seat.old seat.new }
 {
     let taken = [sole];

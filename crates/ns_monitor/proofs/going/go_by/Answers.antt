@@ -13,18 +13,18 @@ at g c may = decided g.C.Condition.means c.args._walk c.args.word true _ c.args.
 pub returns-then-not-may_go : goal.returns-then-not-may_go
 returns-then-not-may_go g c = record {
   since = gone_itself c.args.seat.now;
-  so = (c.requires.word, c.requires.at);
+  so = (c.requires.packs, c.requires.at);
 }
 
 pub exchange_to_go-requires : goal.exchange_to_go-requires
-exchange_to_go-requires g c = let t = g.C.Condition.means in let walk = c.args._walk in let word = c.args.word in let me = c.args.seat.now.me in let is = c.requires.going in
+exchange_to_go-requires g c = let t = g.C.Condition.means in let walk = c.args._walk in let word = c.args.word in let me = c.args.seat.now.me in let is = c.requires.is in
     let may = may_by c.args.going walk word c.may_go.result true is c.may_go.ensures c.if-not-may_go.false in
-    in_room (c.requires.word, (may.0, subst (λ x. CanStep t None (going_act x word) me) (sym is) (can_go_by t walk word me c.requires.decides may.1 (at g (goal.at.exchange_to_go-requires g c).After-may_go may.1))))
+    in_room (c.requires.packs, (may.0, subst (λ x. CanStep t None (going_act x word) me) (sym is) (can_go_by t walk word me c.requires.decides may.1 (at g (goal.at.exchange_to_go-requires g c).After-may_go may.1))))
 
 pub returns-in-Ok : goal.returns-in-Ok
 returns-in-Ok g c = record {
   since = gone_by c.in-Ok.ensures.did;
-  so = let t = g.C.Condition.means in let walk = c.args._walk in let word = c.args.word in let me = c.args.seat.now.me in let now = c.exchange_to_go.new.seat.me in let is = c.requires.going in
+  so = let t = g.C.Condition.means in let walk = c.args._walk in let word = c.args.word in let me = c.args.seat.now.me in let now = c.exchange_to_go.new.seat.me in let is = c.requires.is in
       let may = (may_by c.args.going walk word c.may_go.result true is c.may_go.ensures c.if-not-may_go.false).1 in
       (goes_alone _ word may, goes_by t walk word me now c.requires.decides may (at g (goal.at.returns-in-Ok g c).After-may_go may) (subst (λ x. Performed t None (going_act x word) Made me now) is c.in-Ok.ensures.did.by));
 }
@@ -33,7 +33,7 @@ returns-in-Ok g c = record {
 pub returns-in-Err : goal.returns-in-Err
 returns-in-Err g c = record {
   since = gone_by c.in-Err.ensures.did;
-  so = let t = g.C.Condition.means in let walk = c.args._walk in let word = c.args.word in let other = c.in-Err.other in let me = c.args.seat.now.me in let now = c.exchange_to_go.new.seat.me in let is = c.requires.going in
+  so = let t = g.C.Condition.means in let walk = c.args._walk in let word = c.args.word in let other = c.in-Err.other in let me = c.args.seat.now.me in let now = c.exchange_to_go.new.seat.me in let is = c.requires.is in
       let may = (may_by c.args.going walk word c.may_go.result true is c.may_go.ensures c.if-not-may_go.false).1 in
       (c.in-Err.ensures.word, misses t walk word other me now c.requires.decides may (at g (goal.at.returns-in-Err g c).After-may_go may) (subst (λ x. Performed t None (going_act x word) (Saw other) me now) is c.in-Err.ensures.did.by));
 }

@@ -14,7 +14,7 @@ loaded : (g : Over) (c : After-load-first g) → HasReached g.C.Condition.means 
 loaded g c = has_loaded g.C.Condition.means c.args.begins c.args._walk c.load-first.result c.args.seat.now.me c.load-first.new.self.me c.requires.decides c.requires.stands c.load-first.ensures.did.by
 
 pub go_or_take-requires : goal.go_or_take-requires
-go_or_take-requires g c = in_room (c.requires.decides, (sym c.requires.going, (c.load-first.ensures.word, (loaded g (goal.at.go_or_take-requires g c).After-load-first).0)))
+go_or_take-requires g c = in_room (record { decides = c.requires.decides; is = sym c.requires.going; packs = c.load-first.ensures.word; at = (loaded g (goal.at.go_or_take-requires g c).After-load-first).0 })
 
 pub unreachable-requires : goal.unreachable-requires
 unreachable-requires g c = subst MayGoAlone c.requires.going c.in-None.ensures.so.0

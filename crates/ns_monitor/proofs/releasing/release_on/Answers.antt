@@ -4,7 +4,7 @@ use Rattle.ns_monitor.proofs.Bounds.{gone_then}
 use Rattle.ns_monitor.proofs.releasing.release_on.Goals as goal
 
 pub go_or_take-requires : goal.go_or_take-requires
-go_or_take-requires g c = in_room (tt, (refl, (c.requires.last, c.requires.at)))
+go_or_take-requires g c = in_room (record { decides = tt; is = refl; packs = c.requires.0; at = c.requires.1 })
 
 pub scan_and_release-requires : goal.scan_and_release-requires
 scan_and_release-requires g c = let came = c.in-Some.ensures.so in in_room (came.packs, (came.at, (came.taken, came.tells)))

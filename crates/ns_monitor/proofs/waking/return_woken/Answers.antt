@@ -7,7 +7,7 @@ use Rattle.ns_monitor.proofs.waking.return_woken.Goals.{In-Err}
 use Rattle.ns_monitor.proofs.waking.return_woken.Goals as goal
 
 pub loop-init : goal.loop-init
-loop-init g c = (tt, tt, c.requires.word, gone_itself c.args.seat.now, refl, c.requires.at, c.requires.hand)
+loop-init g c = (tt, tt, c.requires.packs, gone_itself c.args.seat.now, refl, c.requires.at, c.requires.hand)
 
 pub exchange_to_return-requires : goal.exchange_to_return-requires
 exchange_to_return-requires g c = let t = g.C.Condition.means in let inv = c.loop.invariant in let hand = inv.6 in

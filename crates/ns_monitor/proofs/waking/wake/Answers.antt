@@ -15,7 +15,7 @@ return_woken-requires g c = let t = g.C.Condition.means in let took = c.take-wor
     let still = taken_still t c.args.call.waking c.args.call.k took.result c.args.seat.now.me me now took.ensures.so e.worked.by e.has in
     let none = (takes_nobody c.args.call.waking c.args.call.k (the me.0).stood (found_nobody c.args.call.k (the me.0).stood c.in-Some.made nobody).0).0 in
     let hand = hand_of_nobody c.args.call.waking c.args.call.k (is_held took.result) c.in-Some.made me now e.worked.by e.has nobody in
-    in_room (c.requires.variable, (still.packs, (still.at, (still.orderly, (sym none ∙ (λ i. taken_from c.args.call.waking c.args.call.k (the (sym e.worked.by i)).stood), hand)))))
+    in_room (record { variable = c.requires.variable; packs = still.packs; at = still.at; orderly = still.orderly; taken = sym none ∙ (λ i. taken_from c.args.call.waking c.args.call.k (the (sym e.worked.by i)).stood); hand = hand })
 
 pub returns-in-Some : goal.returns-in-Some
 returns-in-Some g c = record {

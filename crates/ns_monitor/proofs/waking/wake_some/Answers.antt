@@ -15,7 +15,7 @@ wake_sole-requires g c = let t = g.C.Condition.means in let waking = c.args.call
     let held = c.is_held-held.result in let found = found_sole waking k held (the me.0).stood c.in-Some.sole c.in-Some.made (sym e.sole) in
     let by = subst (λ b. HasWokenInHand waking k b c.in-Some.made now) c.is_held-held.ensures (hand_made waking k held c.in-Some.made me now same e.lists found.1 found.2) in
     let stands = works t (InSignal waking k (WakeAndReturn c.args.word)) me now taken.at refl same in
-    in_room (c.requires.variable, (taken.packs, (stands, (subst IsOrderly (λ i. (the (sym same i)).stood) e.orderly, ((λ i. taken_from waking k (the (same i)).stood) ∙ found.0, by)))))
+    in_room (record { variable = c.requires.variable; packs = taken.packs; at = stands; orderly = subst IsOrderly (λ i. (the (sym same i)).stood) e.orderly; taken = sym ((λ i. taken_from waking k (the (same i)).stood) ∙ found.0); hand = by })
 
 pub returns-in-Some : goal.returns-in-Some
 returns-in-Some g c = record {

@@ -9,7 +9,7 @@ use Rattle.ns_monitor.proofs.waking.wake_waiters.Goals.{Joined-moved, else-moved
 use Rattle.ns_monitor.proofs.waking.wake_waiters.Goals as goal
 
 pub return_woken-moved-requires : goal.return_woken-moved-requires
-return_woken-moved-requires g c = let t = g.C.Condition.means in let taken = c.requires.taken in let made = c.wake_in_hand-taken in let e = made.ensures in let me = c.args.seat.now.me in let now = made.new.self.me in let same = e.worked.by in in_room (c.requires.variable, (taken.packs, (works t (InSignal c.args.call.waking c.args.call.k (WakeAndReturn c.args.word)) me now taken.at refl same, (subst IsOrderly (λ i. (the (sym same i)).stood) e.orderly, (c.as_slice.ensures.value ∙ (e.taken ∙ (λ i. taken_from c.args.call.waking c.args.call.k (the (sym same i)).stood)), subst (λ held. HasWokenInHand c.args.call.waking c.args.call.k held made.result.1 now) c.is_held-held.ensures (hand_made c.args.call.waking c.args.call.k c.is_held-held.result made.result.1 me now same e.lists (λ i. (e.turned i).some) (λ i. (e.turned i).bits)))))))
+return_woken-moved-requires g c = let t = g.C.Condition.means in let taken = c.requires.taken in let made = c.wake_in_hand-taken in let e = made.ensures in let me = c.args.seat.now.me in let now = made.new.self.me in let same = e.worked.by in in_room (record { variable = c.requires.variable; packs = taken.packs; at = works t (InSignal c.args.call.waking c.args.call.k (WakeAndReturn c.args.word)) me now taken.at refl same; orderly = subst IsOrderly (λ i. (the (sym same i)).stood) e.orderly; taken = c.as_slice.ensures.value ∙ (e.taken ∙ (λ i. taken_from c.args.call.waking c.args.call.k (the (sym same i)).stood)); hand = subst (λ held. HasWokenInHand c.args.call.waking c.args.call.k held made.result.1 now) c.is_held-held.ensures (hand_made c.args.call.waking c.args.call.k c.is_held-held.result made.result.1 me now same e.lists (λ i. (e.turned i).some) (λ i. (e.turned i).bits)) })
 
 -- those to whom it pays are those to whom it owes a wake
 paid : (g : Over) (c : Joined-moved g) → c.if-moved.owed.items ≡ owed_woken c.args.call.waking c.args.call.k c.return_woken-moved.result (the c.wake_in_hand-taken.new.self.me.0).stood

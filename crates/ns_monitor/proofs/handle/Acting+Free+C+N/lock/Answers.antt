@@ -23,7 +23,7 @@ pub begin_lock-seat-requires : goal.begin_lock-seat-requires
 begin_lock-seat-requires g c = (omega arith, (omega arith, (omega arith, c.self.invariant)))
 
 pub lock_slow-seat-requires : goal.lock_slow-seat-requires
-lock_slow-seat-requires g c = let b = c.begin_lock-seat.ensures in let went = rw c.in-Some.is at b.went in (omega arith, (omega arith, (omega arith, (b.of, (b.begun.own, (went.0, went.1))))))
+lock_slow-seat-requires g c = let b = c.begin_lock-seat.ensures in let went = rw c.in-Some.is at b.went in (omega arith, (omega arith, (omega arith, (b.of, (b.begun.own, went)))))
 
 pub holding-caller-requires-room-H-Renewed : goal.holding-caller-requires-room-H-Renewed
 holding-caller-requires-room-H-Renewed g c = λ κs lives. omega (arith, g.met.C.Condition.has_cells)

@@ -23,7 +23,7 @@ pub begin_lock-seat-requires : goal.begin_lock-seat-requires
 begin_lock-seat-requires g c = (omega arith, (omega arith, (omega arith, c.self.invariant)))
 
 pub lock_slow-seat-requires : goal.lock_slow-seat-requires
-lock_slow-seat-requires g c = let b = c.begin_lock-seat.ensures in let went = rw c.in-Some.is at b.went in (omega arith, (omega arith, (omega arith, (b.of, (b.begun.own, (went.0, went.1))))))
+lock_slow-seat-requires g c = let b = c.begin_lock-seat.ensures in let went = rw c.in-Some.is at b.went in (omega arith, (omega arith, (omega arith, (b.of, (b.begun.own, went)))))
 
 pub invariant_of-result : goal.invariant_of-result
 invariant_of-result g c = ◌∙◌ {A = TableId} (subst (HasLocked g.C.Condition.means (locking Read) Read c.self.inside.caller) (sym c.holding-caller.ensures) (is_locked g (goal.at.invariant_of-result g c).Joined-last).2).grows.monitor c.self.invariant

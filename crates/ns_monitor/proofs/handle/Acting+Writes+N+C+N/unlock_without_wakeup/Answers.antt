@@ -23,7 +23,7 @@ pub begin_unlock-seat-requires : goal.begin_unlock-seat-requires
 begin_unlock-seat-requires g c = (omega arith, (omega (arith, g.met.C.Condition.has_cells), (omega (arith, g.met.C.Condition.has_cells), (c.self.invariant, (refl, rw c.self.view_is c.requires)))))
 
 pub unlock_slow-seat-requires : goal.unlock_slow-seat-requires
-unlock_slow-seat-requires g c = let b = c.begin_unlock-seat.ensures in let went = rw c.in-Some.is at b.went in (omega arith, (omega arith, (omega arith, (b.of, (b.begun.own, (went.0, went.1))))))
+unlock_slow-seat-requires g c = let b = c.begin_unlock-seat.ensures in let went = rw c.in-Some.is at b.went in (omega arith, (omega arith, (omega arith, (b.of, (b.begun.own, went)))))
 
 pub invariant_of-result : goal.invariant_of-result
 invariant_of-result g c = ◌∙◌ {A = TableId} (subst (HasUnlocked g.C.Condition.means QuietWriter c.self.inside.caller) (sym c.seated-caller.ensures) (is_released g (goal.at.invariant_of-result g c).Joined-last).1).grows.monitor c.self.invariant
