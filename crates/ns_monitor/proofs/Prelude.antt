@@ -10,7 +10,7 @@ pub use Rattle.ns_monitor.proofs.Room.{in_room}
 pub use Rattle.ns_monitor.specs.Names.{Bounded, HasComeBy, HasGuessedTo, HasMade, HasMadeSteps, HasTried, HasTurned, HasWorked, limits_by}
 pub use Rattle.ns_monitor.specs.Prelude.{Acquire, AcquireLoad, AcquiresBy, Acquiring, Act, Aim, Answer, Answered, AnyWait, AnyWaitMeans, AreNew, AreRead, AreSaved, AreSome, Arm, ArmFlag, ArmToWait, Arrival, AsFresh, Await, AwaitWake, AwaitWakeInWait, AwaitWakeToLeave, BeginsWith, Bits, Broadcasting}
 pub use Rattle.ns_monitor.specs.Prelude.{Busy, CameByGuess, CanLeave, CanStep, Canceled, Carries, Cause, Cell, CellFits, Change, Changed, Changing, CondWait, ConditionWaitMeans, Course, CvWait, Cvs, Decides, Done, Effect, Ended, EndedBy, EnvEvent, EnvKnown, Event, Expired, Flag, ForLock, ForWait}
-pub use Rattle.ns_monitor.specs.Prelude.{Found, GateView, Get, Going, Grows, HadLooked, HasAcquired, HasAnswered, HasBegun, HasBegunBy, HasBegunToWait, HasComeBack, HasComeBackFrom, HasComeBackFromAny, HasGone, HasGoneBehind, HasInHand, HasLearned, HasLeft, HasLoaded, HasLocked, HasLookedOn, GoesBy, HasPutBack, HasTakenToWake, PaysAt, PutsBackAt}
+pub use Rattle.ns_monitor.specs.Prelude.{Found, GateView, Get, Going, Grows, HadLooked, HasAcquired, HasAnswered, HasBegun, HasBegunBy, HasBegunToWait, HasComeBack, HasComeBackFrom, HasComeBackFromAny, HasGone, HasGoneBehind, HasInHand, HasLearned, HasLeft, HasLoaded, HasLocked, HasLookedOn, GoesBy, HasPutBack, HasSeenCleared, HasTakenToWake, SleepsAt, PaysAt, PutsBackAt}
 pub use Rattle.ns_monitor.specs.Prelude.{HasMode, HasReached, HasReturnedWoken, HasRow, HasSaved, HasScanned, HasSeenMore, HasSeenTrue, HasSince, HasStayed, HasStepped, HasStood, HasStoodUnwoken, HasTakenAt, HasTested, HasUnchangedQueues, HasUnlocked, HasWaited, HasWaitedFor, HasWaitedForVariable}
 pub use Rattle.ns_monitor.specs.Prelude.{HasWoken, HasWokenInHand, Held, Home, Idle, IfAnswered, IfEnded, InAcquire, InCells, InHand, InLeaving, InQueuing, InRelease, InShow, InSignal, InTry, InWait, Is, IsAtPlace, IsAtRest, IsByOneOf, IsFirst, IsForVariables, IsFresh, IsFreshIn, IsInRange}
 pub use Rattle.ns_monitor.specs.Prelude.{IsLawful, IsNumberOf, IsOrderly, IsOwedNext, IsPackable, IsQuiet, IsQuietFor, IsReady, IsSettled, IsTold, IsWaitingForAny, IsWide, JudgeMet, JudgeQuiet, Known, Leave, LeaveLoad, LeaveSelf, Leaving, Limits, Lists, Load, LoadCell, LoadFlag, LoadToScan}

@@ -21,7 +21,7 @@ pub use Rattle.ns_monitor.specs.Saved.{AreSaved, HasSaved, IsFresh, IsFreshIn, I
 pub use Rattle.ns_monitor.specs.Scans.{HasScanned, MayEnter, MayScan, entered, paying_at, ready_at, returning_for}
 pub use Rattle.ns_monitor.specs.Several.{AreSome, HasBegunToWait, HasComeBackFromAny, HasSeenTrue, HasStoodUnwoken, IsByOneOf, IsWaitingForAny, SaysWoken, WaitKnown, WaitsOn, WaitsStill, any_waiting, at_will, waits_for_any}
 pub use Rattle.ns_monitor.specs.Shows.{HasStood, HasTakenToShow, ShowsState}
-pub use Rattle.ns_monitor.specs.Standing.{AcquiresBy, Decides, GoesBy, HasMadeStepsTo, HasPaid, HasPutBack, IsWoken, PaysAt, PutsBackAt, HasAcquired, HasBegunBy, HasGoneBehind, HasInHand, HasTakenAt, IsNumberOf, MayGoAlone, OwesTheWoken, Pays, PutsBack, ReleasesBy, Sleeps, WentAtOnce, WentOrTook, going_act, going_at, going_of, gone_to, may_go, returning_at}
+pub use Rattle.ns_monitor.specs.Standing.{AcquiresBy, Decides, HasSeenCleared, SleepsAt, GoesBy, HasMadeStepsTo, HasPaid, HasPutBack, IsWoken, PaysAt, PutsBackAt, HasAcquired, HasBegunBy, HasGoneBehind, HasInHand, HasTakenAt, IsNumberOf, MayGoAlone, OwesTheWoken, Pays, PutsBack, ReleasesBy, Sleeps, WentAtOnce, WentOrTook, going_act, going_at, going_of, gone_to, may_go, returning_at}
 pub use Rattle.ns_monitor.specs.Standing.{returning_of, scanning_at, taken_at, taking_at, taking_for}
 pub use Rattle.ns_monitor.specs.Tests.{AreRead, HasGone, HasLoaded, HasMadeReady, HasRow, HasTested, IsReady, MayTest, ScansAs, StandsAt, lacks_row, loading, loading_at, tested_by}
 pub use Rattle.ns_monitor.specs.Variables.{HasComeBackFrom, HasWaitedForVariable, HasWoken, wake_event}

@@ -24,7 +24,18 @@ pub record Sleeps {C : Type 0} (N : ℕ) (walk : Walk C) : Type 0 where
   pub free : has_queues (Some walk) ≡ false
   pub rests : got_of N walk (Flag 1) ≡ Idle walk
 
--- it has found this value in its flag, which isn't set any more
+-- a call stands where it waits so
+pub record SleepsAt {C : Type 0} {N : ℕ} (truths : Truths C) (me : SeatOf C N) : Type 0 where
+  pub walk : Walk C
+  pub sleeps : Sleeps N walk
+  pub at : IsAtPlace truths walk me
+
+-- it has found this value in its flag, which isn't set any more, and goes on as its place says
+pub record HasSeenCleared {C : Type 0} {N : ℕ} (truths : Truths C) (flag : ℕ) (me now : SeatOf C N) : Type 0 where
+  pub cleared : flag ≢ 1
+  pub woken : (walk : Walk C) → Sleeps N walk → IsAtPlace truths walk me → HasReached truths (asked_of walk) (got_of N walk (Flag flag)) now
+
+-- the same of one place
 pub record IsWoken {C : Type 0} {N : ℕ} (truths : Truths C) (walk : Walk C) (flag : ℕ) (me : SeatOf C N) : Type 0 where
   pub cleared : flag ≢ 1
   pub woken : HasReached truths (asked_of walk) (got_of N walk (Flag flag)) me

@@ -110,7 +110,6 @@ fn queue<R: Wait, C: Condition<N>, const N: usize>(
     let turned = Turned { some: false, bits };
     put_back(rt, seat, returning, word, turned);
     let tries = arrival.tries();
-    let place = Walk::InAcquire(aim, AcquirePlace::AwaitWake(tries));
-    let flag = await_flag(rt, seat, place);
+    let flag = await_flag(rt, seat);
     arrival_of(tries, flag)
 }

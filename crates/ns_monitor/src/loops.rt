@@ -2,7 +2,7 @@
 //! which is for the proof alone: no code reads it.
 
 ghost use Rattle.std.specs.Prelude.{◌≡◌, ◌≢◌, ◌∷◌, None, Some, []};
-ghost use Rattle.ns_monitor.specs.Prelude.{Changing, Decides, GoesBy, HasInHand, HasMadeStepsTo, HasPaid, HasPutBack, HasTakenAt, IsAtPlace, IsPackable, IsWoken, Pays, PaysAt, PutsBackAt, Sleeps, StandsAt, WentOrTook, going_of};
+ghost use Rattle.ns_monitor.specs.Prelude.{Changing, Decides, GoesBy, HasInHand, HasMadeStepsTo, HasPaid, HasPutBack, HasSeenCleared, HasTakenAt, IsPackable, Pays, PaysAt, PutsBackAt, SleepsAt, StandsAt, WentOrTook, going_of};
 ghost use Rattle.ns_monitor.specs.Prelude.{the};
 
 use crate::going::{Going, exchange_to_go};
@@ -102,11 +102,9 @@ pub(crate) fn put_back<R: Wait, C: Condition<N>, const N: usize>(
 pub(crate) fn await_flag<R: Wait, C: Condition<N>, const N: usize>(
     rt: &R,
     seat: &mut Bound<'_, C, N>,
-    _walk: Walk<C>,
 ) -> u8
-    requires sleeps { Sleeps N _walk }
-    requires at { IsAtPlace C.means _walk seat.old.me }
-    ensures { HasMadeStepsTo None (IsWoken C.means _walk result) seat.old seat.new }
+    requires { SleepsAt C.means seat.old.me }
+    ensures { HasMadeStepsTo None (HasSeenCleared C.means result seat.old.me) seat.old seat.new }
 {
     for _ in rt.forever() {
         let flag = seat.load_flag();
@@ -133,10 +131,7 @@ pub(crate) fn pay<C: Condition<N>, const N: usize>(
 }
 
 /// Pays the one wake that the seat owes.
-pub(crate) fn pay_one<C: Condition<N>, const N: usize>(
-    seat: &mut Bound<'_, C, N>,
-    wake: Owed,
-)
+pub(crate) fn pay_one<C: Condition<N>, const N: usize>(seat: &mut Bound<'_, C, N>, wake: Owed)
     requires at { PaysAt C.means seat.old.me }
     requires owed { (the seat.old.me.0).at.owed ≡ wake ∷ [] }
     ensures { HasMadeStepsTo None (HasPaid C.means seat.old.me) seat.old seat.new }

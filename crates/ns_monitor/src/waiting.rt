@@ -97,11 +97,7 @@ fn leave<R: Wait, C: Condition<N>, const N: usize>(
     if stood {
         return (Arrival::AsFresh, Outcome::Ended(cause));
     }
-    let place = Walk::InWait(
-        wait,
-        WaitPlace::InLeaving(cause, LeavePlace::AwaitWakeToLeave),
-    );
-    let flag = await_flag(rt, seat, place);
+    let flag = await_flag(rt, seat);
     (arrival_of(0, flag), wait.on.outcome_taken(cause, flag))
 }
 
@@ -121,8 +117,7 @@ fn await_in<R: Wait, W: Watch, C: Condition<N>, const N: usize>(
     ensures ended { IfEnded result.1 (λ cause. (is_limited wait.limits ≡ true) × W.shows watch.old watch.new wait.limits (Some cause)) }
 {
     if !wait.limits.is_some() {
-        let place = Walk::InWait(wait, WaitPlace::AwaitWakeInWait);
-        let flag = await_flag(rt, seat, place);
+        let flag = await_flag(rt, seat);
         return (arrival_of(0, flag), wait.on.woken_by(flag));
     }
     match await_or_end(rt, seat, wait, watch) {

@@ -1,4 +1,4 @@
-use Rattle.std.proofs.Common.{None, [], subst, sym, ◌≡◌}
+use Rattle.std.proofs.Common.{None, [], ◌≡◌}
 use Rattle.ns_monitor.proofs.Prelude.{HasReached, Paid, PayWake, asked_of, can_go, got_of, has_some, in_room, Walk, Pays, the}
 use Rattle.ns_monitor.proofs.Bounds.{gone_by}
 use Rattle.ns_monitor.proofs.SeveralWaits.{true_now}

@@ -34,7 +34,7 @@ again g c walk puts is at = let t = g.C.Condition.means in let me = c.loop.seat.
     misses_back t walk c.loop.word c.in-Err.other me now puts (c.loop.invariant.5 walk puts is at) (subst (λ r. Performed t None (act_returning r c.loop.word) (Saw c.in-Err.other) me now) is c.in-Err.ensures.did.by)
 
 pub loop-preserved : goal.loop-preserved
-loop-preserved g c = let t = g.C.Condition.means in let inv = c.loop.invariant in let me = c.loop.seat.me in let now = c.exchange_to_return.new.self.me in 
+loop-preserved g c = let t = g.C.Condition.means in let inv = c.loop.invariant in let me = c.loop.seat.me in let now = c.exchange_to_return.new.self.me in
     let miss = (goal.at.loop-preserved g c).In-Err in let at = c.requires.at in (
       tt,
       tt,

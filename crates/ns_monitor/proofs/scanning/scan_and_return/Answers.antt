@@ -1,4 +1,4 @@
-use Rattle.std.proofs.Common.{List, None, ap, arith, false, subst, sym, true, ◌∙◌, ◌≡◌}
+use Rattle.std.proofs.Common.{List, None, ap, arith, subst, sym, ◌∙◌, ◌≡◌}
 use Rattle.ns_monitor.proofs.Prelude.{Carries, GateView, HasMadeSteps, HasReached, IsReady, Paid, asked_of, bits_of, got_of, has_some, in_room, lists_scanned, paying_at, ready_at, sought_at, the, works}
 use Rattle.ns_monitor.proofs.Bounds.{gone_behind, gone_then, worked_then}
 use Rattle.ns_monitor.proofs.Releases.{calls_few, found_first, hand_scanned, may_enter, may_still, owes_scanned, pay_scanned, pays_for, put_scanned, ready_still, scanned_still, scans_in_hand, told_list, turned_writer}

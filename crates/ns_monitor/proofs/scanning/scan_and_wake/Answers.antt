@@ -1,4 +1,4 @@
-use Rattle.std.proofs.Common.{List, None, ap, false, not, rules, subst, sym, ◌∙◌}
+use Rattle.std.proofs.Common.{List, None, ap, not, rules, subst, sym, ◌∙◌}
 use Rattle.ns_monitor.proofs.Prelude.{Carries, GateView, HasReached, Paid, as_many, asked_of, bits_of, called_by, got_of, has_some, in_room, lists_scanned, meets_at, paying_at, ready_at, the, woken_of, works}
 use Rattle.ns_monitor.proofs.Bounds.{gone_behind, gone_then, worked_then}
 use Rattle.ns_monitor.proofs.Releases.{calls_are, hand_scanned, may_enter, owes_scanned, pay_scanned, pays_for, put_scanned, scans_in_hand, took_some}

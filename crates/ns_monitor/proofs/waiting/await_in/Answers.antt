@@ -1,14 +1,19 @@
-use Rattle.std.proofs.Common.{Bool, None, Some, ap, cond, refl, rules, subst, sym, true, ◌∙◌, ◌≡◌}
-use Rattle.ns_monitor.proofs.Prelude.{AwaitWakeInWait, Cause, Ended, Idle, IfEnded, InWait, LookOut, On, Outcome, Woken, in_room, is_limited}
+use Rattle.std.proofs.Common.{false, Bool, None, Some, ap, cond, refl, rules, subst, sym, true, ◌∙◌, ◌≡◌}
+use Rattle.ns_monitor.proofs.Prelude.{AwaitWakeInWait, Cause, Sleeps, Wait, Ended, Idle, IfEnded, InWait, LookOut, On, Outcome, Woken, in_room, is_limited}
 use Rattle.ns_monitor.proofs.Bounds.{gone_then}
 use Rattle.ns_monitor.proofs.Waits.{woken_next}
+use Rattle.ns_monitor.proofs.waiting.await_in.Given.{Over}
 use Rattle.ns_monitor.proofs.waiting.await_in.Goals as goal
+
+-- a wait without limits sleeps at its flag
+sleeps : (g : Over) (wait : Wait g.row.C.Denot) → is_limited wait.limits ≡ false → Sleeps g.row.N (InWait wait AwaitWakeInWait)
+sleeps g wait none = record { loads = refl; free = refl; rests = ap (λ (b : Bool). cond b (On (InWait wait LookOut)) (Idle (InWait wait AwaitWakeInWait))) none }
 
 pub returns-then-not-is_some : goal.returns-then-not-is_some
 returns-then-not-is_some g c = record {
   looked = g.W.Watch.same c.args.watch.now;
   ended = search rules;
-  comes = record { since = c.await_flag-flag.ensures.since; so = woken_next g.C.Condition.means c.args.wait c.await_flag-flag.result c.woken_by.result c.arrival_of.result c.await_flag-flag.new.seat.me c.await_flag-flag.ensures.so.cleared c.woken_by.ensures c.arrival_of.ensures c.await_flag-flag.ensures.so.woken };
+  comes = record { since = c.await_flag-flag.ensures.since; so = woken_next g.C.Condition.means c.args.wait c.await_flag-flag.result c.woken_by.result c.arrival_of.result c.await_flag-flag.new.seat.me c.await_flag-flag.ensures.so.cleared c.woken_by.ensures c.arrival_of.ensures (c.await_flag-flag.ensures.so.woken (InWait c.args.wait AwaitWakeInWait) (sleeps g c.args.wait (sym c.is_some.ensures ∙ c.if-not-is_some.true)) c.requires.at) };
 }
 
 pub returns-in-Ok : goal.returns-in-Ok
@@ -39,6 +44,4 @@ returns-in-Err g c = record {
 }
 
 pub await_flag-flag-requires : goal.await_flag-flag-requires
-await_flag-flag-requires g c = let wait = c.args.wait in
-    let rests = ap (λ (b : Bool). cond b (On (InWait wait LookOut)) (Idle (InWait wait AwaitWakeInWait))) (sym c.is_some.ensures ∙ c.if-not-is_some.true) in
-    in_room (record { loads = refl; free = refl; rests = rests }, c.requires.at)
+await_flag-flag-requires g c = in_room (record { walk = InWait c.args.wait AwaitWakeInWait; sleeps = sleeps g c.args.wait (sym c.is_some.ensures ∙ c.if-not-is_some.true); at = c.requires.at })

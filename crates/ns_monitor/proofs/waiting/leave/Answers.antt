@@ -1,4 +1,4 @@
-use Rattle.std.proofs.Common.{None, ap, false, refl, rules, subst, true}
+use Rattle.std.proofs.Common.{◌≡◌, None, ap, false, refl, rules, subst, true}
 use Rattle.ns_monitor.proofs.Prelude.{HasMadeSteps, Await, AwaitWakeToLeave, Changed, HasReached, InLeaving, InWait, IsAtPlace, Leave, LeaveSelf, found_back, got_of, in_room, works}
 use Rattle.ns_monitor.proofs.Bounds.{gone_then, gone_working}
 use Rattle.ns_monitor.proofs.Standing.{hand_by}
@@ -37,12 +37,15 @@ returns-then-stood g c = record {
   };
 }
 
-pub await_flag-flag-requires : goal.await_flag-flag-requires
-await_flag-flag-requires g c = let t = g.C.Condition.means in let took = c.take-word in let left = c.leave_in_hand-stood in
-    let at : IsAtPlace t (InWait c.args.wait (InLeaving c.args.cause AwaitWakeToLeave)) c.put_back.new.seat.me = subst (λ next. HasReached t (Await c.args.wait) next c.put_back.new.seat.me)
+-- it was taken from its list before, and waits
+slept : (g : Over) (c : After-put_back g) → c.leave_in_hand-stood.result.0 ≡ false → IsAtPlace g.C.Condition.means (InWait c.args.wait (InLeaving c.args.cause AwaitWakeToLeave)) c.put_back.new.seat.me
+slept g c out = let t = g.C.Condition.means in let took = c.take-word in let left = c.leave_in_hand-stood in
+    subst (λ next. HasReached t (Await c.args.wait) next c.put_back.new.seat.me)
     (left_next t c.args.wait c.args.cause took.result c.home-home.result left.result.0 false took.new.seat.me left.new.self.me c.home-home.ensures
-    left.ensures.worked.by left.ensures.stood c.if-stood.false) (back g (goal.at.await_flag-flag-requires g c).After-put_back) in
-    in_room (record { loads = refl; free = refl; rests = refl }, at)
+    left.ensures.worked.by left.ensures.stood out) (back g c)
+
+pub await_flag-flag-requires : goal.await_flag-flag-requires
+await_flag-flag-requires g c = in_room (record { walk = InWait c.args.wait (InLeaving c.args.cause AwaitWakeToLeave); sleeps = record { loads = refl; free = refl; rests = refl }; at = slept g (goal.at.await_flag-flag-requires g c).After-put_back c.if-stood.false })
 
 pub returns : goal.returns
 returns g c = record {
@@ -50,7 +53,7 @@ returns g c = record {
   left = record {
     since = gone_then None _ _ _ (since_back g (goal.at.returns g c).After-put_back) c.await_flag-flag.ensures.since;
     so = let t = g.C.Condition.means in let flag = c.await_flag-flag.result in
-        taken_next t c.args.wait c.args.cause flag c.outcome_taken.result c.arrival_of.result c.await_flag-flag.new.seat.me c.await_flag-flag.ensures.so.cleared c.outcome_taken.ensures c.arrival_of.ensures c.await_flag-flag.ensures.so.woken;
+        taken_next t c.args.wait c.args.cause flag c.outcome_taken.result c.arrival_of.result c.await_flag-flag.new.seat.me c.await_flag-flag.ensures.so.cleared c.outcome_taken.ensures c.arrival_of.ensures (c.await_flag-flag.ensures.so.woken (InWait c.args.wait (InLeaving c.args.cause AwaitWakeToLeave)) (record { loads = refl; free = refl; rests = refl }) (slept g (goal.at.returns g c).After-put_back c.if-stood.false));
   };
 }
 

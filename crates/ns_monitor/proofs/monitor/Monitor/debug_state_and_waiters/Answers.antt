@@ -1,5 +1,5 @@
 use Rattle.std.proofs.Common.{Some, ap, refl, subst, sym, ◌∙◌}
-use Rattle.ns_monitor.proofs.Prelude.{HasAnswered, HasMadeSteps, HasSeenMore, InShow, IsAtPlace, IsAtRest, IsNumberOf, Known, SeatOf, ReturnShown, Succeeded, TableId, ToChange, in_room, rules, showing, the, word_taken, works}
+use Rattle.ns_monitor.proofs.Prelude.{HasAnswered, HasSeenMore, InShow, IsAtPlace, IsAtRest, IsNumberOf, Known, SeatOf, ReturnShown, Succeeded, TableId, ToChange, in_room, rules, showing, the, word_taken, works}
 use Rattle.ns_monitor.proofs.Bounds.{gone_then, gone_working}
 use Rattle.ns_monitor.proofs.Callers.{saw_more}
 use Rattle.ns_monitor.proofs.Standing.{same_number}
