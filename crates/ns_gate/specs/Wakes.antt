@@ -15,7 +15,7 @@ lists_left waking k lists = cvs_without (taken_set (taken_from waking k lists)) 
 abbrev pub lists_woken : {C : Type 0} → Waking → ℕ → Bool → Lists C → Lists C
 lists_woken waking k held lists = moved_to held (taken_from waking k lists) (lists_left waking k lists)
 
--- what the hand has made of the queues then: it takes somebody where it moves those it found
+-- what the hand has made of the queues then: it has moved somebody where the lock is held and it took anybody
 abbrev pub turned_woken : {C : Type 0} → Waking → ℕ → Bool → Lists C → Turned
 turned_woken waking k held lists = record { some = held && has_some (taken_from waking k lists); bits = bits_of (lists_woken waking k held lists).lock }
 

@@ -10,7 +10,7 @@ pub use Rattle.ns_monitor.proofs.Room.{in_room}
 pub use Rattle.ns_monitor.specs.Names.{Bounded, HasComeBy, HasGuessedTo, HasMade, HasMadeSteps, HasTried, HasTurned, HasWorked, limits_by}
 pub use Rattle.ns_monitor.specs.Prelude.{Acquire, AcquireLoad, AcquiresBy, Acquiring, Act, Aim, Answer, Answered, AnyWait, AnyWaitMeans, AreNew, AreRead, AreSaved, AreSome, Arm, ArmFlag, ArmToWait, Arrival, AsFresh, Await, AwaitWake, AwaitWakeInWait, AwaitWakeToLeave, BeginsWith, Bits, Broadcasting}
 pub use Rattle.ns_monitor.specs.Prelude.{Busy, CameByGuess, CanLeave, CanStep, Canceled, Carries, Cause, Cell, CellFits, Change, Changed, Changing, CondWait, ConditionWaitMeans, Course, CvWait, Cvs, Decides, Done, Effect, Ended, EndedBy, EnvEvent, EnvKnown, Event, Expired, Flag, ForLock, ForWait}
-pub use Rattle.ns_monitor.specs.Prelude.{Found, GateView, Get, Going, Grows, HadLooked, HasAcquired, HasAnswered, HasBegun, HasBegunBy, HasBegunToWait, HasComeBack, HasComeBackFrom, HasComeBackFromAny, HasGone, HasGoneBehind, HasInHand, HasLearned, HasLeft, HasLoaded, HasLocked, HasLookedOn, GoesBy, HasPutBack, HasSeenCleared, HasTakenToWake, SleepsAt, PaysAt, PutsBackAt}
+pub use Rattle.ns_monitor.specs.Prelude.{FindsReaders, Found, GateView, Get, Going, Grows, HadLooked, HasAcquired, HasAnswered, HasBegun, HasBegunBy, HasBegunToWait, HasComeBack, HasComeBackFrom, HasComeBackFromAny, HasGone, HasGoneBehind, HasInHand, HasLearned, HasLeft, HasLoaded, HasLocked, HasLookedOn, GoesBy, HasPutBack, HasSeenCleared, HasTakenToWake, SleepsAt, HasMadeStepsTo, PaysAt, PutsBackAt}
 pub use Rattle.ns_monitor.specs.Prelude.{HasMode, HasReached, HasReturnedWoken, HasRow, HasSaved, HasScanned, HasSeenMore, HasSeenTrue, HasSince, HasStayed, HasStepped, HasStood, HasStoodUnwoken, HasTakenAt, HasTested, HasUnchangedQueues, HasUnlocked, HasWaited, HasWaitedFor, HasWaitedForVariable}
 pub use Rattle.ns_monitor.specs.Prelude.{HasWoken, HasWokenInHand, Held, Home, Idle, IfAnswered, IfEnded, InAcquire, InCells, InHand, InLeaving, InQueuing, InRelease, InShow, InSignal, InTry, InWait, Is, IsAtPlace, IsAtRest, IsByOneOf, IsFirst, IsForVariables, IsFresh, IsFreshIn, IsInRange}
 pub use Rattle.ns_monitor.specs.Prelude.{IsLawful, IsNumberOf, IsOrderly, IsOwedNext, IsPackable, IsQuiet, IsQuietFor, IsReady, IsSettled, IsTold, IsWaitingForAny, IsWide, JudgeMet, JudgeQuiet, Known, Leave, LeaveLoad, LeaveSelf, Leaving, Limits, Lists, Load, LoadCell, LoadFlag, LoadToScan}
@@ -20,7 +20,7 @@ pub use Rattle.ns_monitor.specs.Prelude.{SaysWoken, ScanAndRelease, ScanCells, S
 pub use Rattle.ns_monitor.specs.Prelude.{TestCells, TestLast, Tested, Tests, TimedOut, ToChange, ToQueue, ToRelease, ToTell, ToWait, Told, Truths, TryAcquire, TryLock, Turned, Unchanged, VariableWaitMeans, Visit, Wait, WaitKnown, WaitMeans, WaitReturning, WaitTells, Waited, Waiter, WaitsOn}
 pub use Rattle.ns_monitor.specs.Prelude.{WaitsStill, WakeAndReturn, WakeWaiters, Waking, Walk, WantsNext, WentAtOnce, Woke, Woken, WokenBy, Word, Write, Writer, act_returning, answer_of, answer_of_wait, any_waiting, armed_place, arrival_of, asked_of, at_will, awaits, back_with, before_in}
 pub use Rattle.ns_monitor.specs.Prelude.{begins_with_reader, bits_of, called_by, called_of, carried_by, change_found, changed, entered, first_of, found_back, found_returned, fresh, fresh_seat, getting, going_act, going_at, going_of, gone_to, got_of, got_queuing, has_condition, has_queues, has_some}
-pub use Rattle.ns_monitor.specs.Prelude.{held_after, held_by, home_of, is_eligible, is_held, is_held_by_one, is_limited, is_met, is_satisfied, judge_of, judging, known_of, lacks_row, leave_any_told, leave_told, left_of, limits_of, lists_returned, lists_scanned, lists_woken, load_place, loading}
+pub use Rattle.ns_monitor.specs.Prelude.{held_after, held_by, home_of, is_eligible, is_held, is_limited, is_met, is_satisfied, judge_of, judging, known_of, lacks_row, leave_any_told, leave_told, left_of, limits_of, lists_returned, lists_scanned, lists_woken, load_place, loading}
 pub use Rattle.ns_monitor.specs.Prelude.{loading_at, locking, look_or_queue, may_acquire, may_go, meets_at, mode_released, moves, new_seat, new_section, outcome_taken, owed_woken, owes_more, own_of, part_of, pay_releasing, pay_waiting, pay_woken, paying_at, pays, place_after, queuing_first}
 pub use Rattle.ns_monitor.specs.Prelude.{quiet_place, reads, ready_at, release_has_queues, releasing_by, request_for, rest, rest_of, rest_or_look, returning_at, returning_for, returning_of, row_after, row_in, saved_after, scan_place, scanned_writer, scanning_at, seats_of, section_of, setting}
 pub use Rattle.ns_monitor.specs.Prelude.{show_by, showing, some_returned, sought_at, standing_after, stands_at, taken_at, taken_by, taken_from, taken_set, taking_at, taking_for, test_place, tested_by, the, times, tried, trying, unmet_by, value_before, variable_in, view_in, wait_first}

@@ -1,9 +1,9 @@
 -- A scan of the lock list with the queues in hand, by a release or by a wait: what it takes and leaves.
 use Rattle.std.proofs.Common.{Bool, Err, List, None, Ok, Option, Some, [], ap, arith, cond, false, filter, inl, inr, is_some, length, map, ne_eqb, not, refl, subst, sym, true, ℕ, ◌&&◌, ◌==◌, ◌||◌, ◌∙◌, ◌∷◌, ◌≡◌}
-use Rattle.ns_monitor.proofs.Prelude.{Await, Bits, Bounded, Carries, Changed, GateView, HasInHand, HasReached, HasRow, HasScanned, HasUnchangedQueues, HasWorked, IsAtPlace, IsInRange, IsReady, Lists, MayEnter, MayScan, OnCondition, OnVariables, Owed, OwesTheWoken, Paid, Pays, PutsBack, Release, Released, PutsBackAt, HasPutBack}
-use Rattle.ns_monitor.proofs.Prelude.{Returning, Scanning, ScansAs, SeatOf, Sought, Subject, ToRelease, ToWait, Truths, Turned, Waited, Waiter, Walk, Word, are_called, asked_of, begins_with_reader, bits_of, called_by, called_of, cases_Bool, entered, found_back, free_scanned, got_of, has_condition}
+use Rattle.ns_monitor.proofs.Prelude.{Await, Bits, Bounded, Carries, Changed, FindsReaders, GateView, HasInHand, HasReached, HasRow, HasScanned, HasUnchangedQueues, HasWorked, IsAtPlace, IsInRange, IsPackable, IsReady, Lists, MayEnter, MayScan, OnCondition, OnVariables, Owed, OwesTheWoken, Paid, Pays, PutsBack, Release, Released, PutsBackAt, HasPutBack}
+use Rattle.ns_monitor.proofs.Prelude.{Releasing, Returning, Scanning, ScansAs, SeatOf, Sought, Subject, ToRelease, ToWait, Truths, Turned, Waited, Waiter, Walk, Word, are_called, asked_of, begins_with_reader, bits_of, called_by, called_of, cases_Bool, entered, found_back, free_scanned, got_of, has_condition}
 use Rattle.ns_monitor.proofs.Prelude.{has_queues, has_some, is_eligible, is_satisfied, lacks_row, left_of, list_any, lists_returned, lists_scanned, meets_at, pay_releasing, pay_waiting, paying_at, reads, ready_at, returning_at, returning_for, returning_of, row_in, scanned_writer, seats_of}
-use Rattle.ns_monitor.proofs.Prelude.{some_returned, the, times, waits_at, wake_told, with_lock, woken_of, works, writes}
+use Rattle.ns_monitor.proofs.Prelude.{some_returned, sought_at, the, times, waits_at, wake_told, with_lock, woken_of, works, writes}
 use Rattle.ns_monitor.proofs.Bounds.{gone_behind}
 
 -- ---- the scan
@@ -67,7 +67,7 @@ called_alone meets (w ∷ ws) none = elim (cases_Bool (is_eligible meets w)) [
 ]
 
 -- what was told of a scan that begins with a reader: what its search finds
-pub found_first : (b : Bool) (made : Option Owed × Turned) (sought found : Sought) → cond b (Err sought) (Ok made) ≡ Err found → found ≡ sought
+found_first : (b : Bool) (made : Option Owed × Turned) (sought found : Sought) → cond b (Err sought) (Ok made) ≡ Err found → found ≡ sought
 found_first true made sought found e = cc
 found_first false made sought found e = absurd (cc)
 
@@ -132,7 +132,7 @@ module _ {C : Type 0} {N : ℕ} (truths : Truths C) where
       hand_at (Waited queuing.wait queuing.again) (ready_at (ToWait queuing) last) row turned.some turned.bits me now ready same (λ _. carries) (λ _. took) (λ _. tells)
 
   -- what a call may scan for it still may where only the lists in hand have changed
-  pub may_still : (scanning : Scanning C) (me now : SeatOf C N) → MayScan scanning me → now.0 ≡ me.0 → MayScan scanning now
+  may_still : (scanning : Scanning C) (me now : SeatOf C N) → MayScan scanning me → now.0 ≡ me.0 → MayScan scanning now
   may_still (ToRelease releasing) me now may same = tt
   may_still (ToWait queuing) me now may same = subst (λ (vs : List (GateView C N)). IsInRange queuing.wait.on × (times (the vs).at.seat (the vs).stood ≡ 0)) (sym same) may
 
@@ -196,9 +196,35 @@ module _ {C : Type 0} {N : ℕ} (truths : Truths C) where
       owes ∙ sym (ap called_of ready.scans.woken ∙ (λ i. called_of (woken_of (meets_at truths (row_in (the (sym same i)).at.held)) (the (sym same i)).stood.lock))) ∙ called_alone (meets_at truths row) lock few.0 ∙ ap told_list few.1
 
   -- a row stays ready as the queues are looked at
-  pub ready_still : (walk : Walk C) (row : List ℕ) (me now : SeatOf C N) → has_queues (Some walk) ≡ true → IsReady truths walk row me → now.0 ≡ me.0 → HasUnchangedQueues now → IsReady truths walk row now
+  ready_still : (walk : Walk C) (row : List ℕ) (me now : SeatOf C N) → has_queues (Some walk) ≡ true → IsReady truths walk row me → now.0 ≡ me.0 → HasUnchangedQueues now → IsReady truths walk row now
   ready_still walk row me now in_hand ready same has = record {
     at = works truths walk me now ready.at in_hand same;
     taken = has;
     scans = subst (λ (vs : List (GateView C N)). ScansAs truths row (row_in (the vs).at.held) (the vs).stood.lock) (sym same) ready.scans;
   }
+
+  -- so the readers whom the search has found may be woken
+  pub finds_readers : (scanning : Scanning C) (word : Word) (row : List ℕ) (sought : Sought) (me now : SeatOf C N) → IsPackable word → MayScan scanning me → IsReady truths (ready_at scanning word) row me → now.0 ≡ me.0 → HasUnchangedQueues now
+      → scanned_writer truths row (the me.0).stood ≡ Err sought → FindsReaders truths scanning word row sought now
+  finds_readers scanning word row sought me now packs may ready same has told = record {
+    packs = packs;
+    may = may_still scanning me now may same;
+    ready = ready_still (ready_at scanning word) row me now (scans_in_hand scanning word) ready same has;
+    found = found_first _ _ (sought_at truths row (the me.0).stood) sought told ∙ ap (λ (vs : List (GateView C N)). sought_at truths row (the vs).stood) (sym same);
+  }
+
+  -- a release may put the queues back, out of which its scan has taken this writer, or nobody
+  pub puts_writer : (releasing : Releasing) (word : Word) (row : List ℕ) (wake : Option Owed) (left : Turned) (me now : SeatOf C N) → IsReady truths (ready_at (ToRelease releasing) word) row me → now.0 ≡ me.0
+      → Carries (lists_scanned truths row (the me.0).stood) now → scanned_writer truths row (the me.0).stood ≡ Ok (wake, left) → PutsBackAt truths (Released releasing) word now × HasInHand truths (Released releasing) left now
+  puts_writer releasing word row wake left me now ready same lists told =
+      let turned = turned_writer truths row wake left (the me.0).stood told in
+      put_scanned (ToRelease releasing) word left now (Released releasing) refl (works truths (ready_at (ToRelease releasing) word) me now ready.at refl same) (hand_scanned (ToRelease releasing) word row left me now ready same lists turned.0 turned.1)
+
+  -- and then owes that one's wake alone, and stands where it pays it, if there is one
+  pub pays_writer : (releasing : Releasing) (word : Word) (row : List ℕ) (wake : Option Owed) (left : Turned) (me now new : SeatOf C N) → IsReady truths (ready_at (ToRelease releasing) word) row me → now.0 ≡ me.0
+      → scanned_writer truths row (the me.0).stood ≡ Ok (wake, left) → HasPutBack truths (Released releasing) word now new
+      → ((the new.0).at.owed ≡ told_list wake) × HasReached truths (Release releasing) (pay_releasing releasing (has_some (told_list wake))) new
+  pays_writer releasing word row wake left me now new ready same told back =
+      let owed = calls_few (ready_at (ToRelease releasing) word) row wake left _ me now ready same told (owes_scanned (ToRelease releasing) (Released releasing) now (the new.0).at.owed refl back.owes) in
+      let at = pay_scanned (ToRelease releasing) word now new (Released releasing) refl (works truths (ready_at (ToRelease releasing) word) me now ready.at refl same) back in
+      (owed, subst (λ ns. HasReached truths (Release releasing) (pay_releasing releasing (has_some ns)) new) owed at)

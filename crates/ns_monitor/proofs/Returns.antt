@@ -1,9 +1,9 @@
 -- The rounds of a wait for a condition: where it goes by what it tests and sees.
-use Rattle.std.proofs.Common.{Bool, List, None, Option, Some, [], ap, append-nil, cond, false, inl, inr, is_some, option_map, refl, subst, sym, true, ℕ, ⊎_elim, ◌++◌, ◌-◌, ◌||◌, ◌∙◌, ◌∷◌, ◌≡◌, ◌⊎◌}
-use Rattle.ns_monitor.proofs.Prelude.{Answer, Answered, Await, Canceled, Cause, CondWait, ConditionWaitMeans, Course, EnvEvent, EnvKnown, Event, Expired, ForWait, HadLooked, HasAcquired, HasAnswered, HasComeBack, HasLooked, HasMode, HasReached, HasRow, HasSince, HasStayed, HasTested, HasWaited}
-use Rattle.ns_monitor.proofs.Prelude.{HasWaitedFor, Held, IfAnswered, InHand, InQueuing, InWait, IsAtPlace, IsFresh, IsFreshIn, IsInRange, IsWide, Known, Limits, Load, Look, LookIn, LookShows, Looked, Met, Mode, Note, Notified, On, OnCondition, OnReturn, Outcome, Part, Performed, PlaceFits}
-use Rattle.ns_monitor.proofs.Prelude.{QueuesOrEnds, SeatOf, SeatView, Subject, TableId, TestCells, TestLast, Tests, TimedOut, Truths, Unchanged, Visit, Wait, WaitMeans, WaitTells, Walk, answer_of, back_with, does, goes, got_queuing, hand_of, held_after, held_by, is_limited, known_of, limits_of}
-use Rattle.ns_monitor.proofs.Prelude.{look_or_queue, row_after, section_of, test_place, tested_by, the}
+use Rattle.std.proofs.Common.{Bool, List, None, Option, Some, ap, cond, false, inl, inr, is_some, option_map, refl, subst, sym, true, ℕ, ⊎_elim, ◌-◌, ◌||◌, ◌∙◌, ◌≡◌, ◌⊎◌}
+use Rattle.ns_monitor.proofs.Prelude.{Answer, Await, Canceled, Cause, EnvEvent, EnvKnown, Expired, ForWait, HadLooked, HasAcquired, HasLooked, HasReached, HasRow, HasTested}
+use Rattle.ns_monitor.proofs.Prelude.{Held, IfAnswered, InQueuing, InWait, IsAtPlace, IsFresh, IsFreshIn, IsInRange, IsWide, Limits, Load, Look, LookIn, LookShows, Looked, Met, Mode, Note, Notified, On, OnCondition, OnReturn, Outcome, Part, Performed, PlaceFits}
+use Rattle.ns_monitor.proofs.Prelude.{QueuesOrEnds, SeatOf, SeatView, Subject, TestCells, TestLast, Tests, TimedOut, Truths, Visit, Wait, answer_of, back_with, does, goes, got_queuing, hand_of, held_after, held_by, is_limited, limits_of}
+use Rattle.ns_monitor.proofs.Prelude.{look_or_queue, test_place, tested_by, the}
 
 -- a wait for a condition is for something that there is
 pub in_range : {C : Type 0} (on : Subject C) (c : C) → on ≡ OnCondition c → IsInRange on
@@ -73,34 +73,6 @@ module _ {C : Type 0} {N : ℕ} (truths : Truths C) where
 
   pub look_fresh : (wait : Wait C) (again : Bool) (shown : Option Cause) (me now : SeatOf C N) → Performed truths None (Look wait.limits again) (Looked shown) me now → IsFreshIn N wait.mode (the me.0).at.held → IsFreshIn N wait.mode (the now.0).at.held
   look_fresh wait again shown me now p is = subst (IsFreshIn N wait.mode) (sym (held_looked wait.limits again shown me now p)) (still_fresh wait.mode again shown (the me.0).at.held is)
-
-  -- ---- what it tells
-
-  tells_by : (wait : Wait C) (c : C) (answer : Answer) (old new : Known C N) (was back : Held C N) (course : Course C N) (commits : List (Event C N)) → old.held ≡ Some was → new.held ≡ Some back → was.mode ≡ wait.mode →
-      course.began ≡ old.held → course.committed ≡ commits → new.mine ≡ old.mine ++ commits → new.seat ≡ old.seat
-      → ConditionWaitMeans truths new.seat (row_after new.seen) wait.mode c wait.limits course answer back → WaitTells truths c answer was back old new
-  tells_by wait c answer old new was back course commits has has' mode began committed mine seat m = record { mode = m.mode ∙ sym mode; met = m.met; how = how m.how } where
-    how : Unchanged course (Some back) ⊎ HasWaited truths new.seat (row_after new.seen) wait.mode c course answer back → HasStayed old new ⊎ HasComeBack truths c answer was back old new
-    how (inl u) = inl (record { mine = mine ∙ (ap (λ es. old.mine ++ es) (sym committed ∙ u.silent) ∙ append-nil old.mine); held = has' ∙ (u.same ∙ began) })
-    how (inr h) =
-        let same : h.was ≡ was = let e : Some h.was ≡ Some was = sym h.began ∙ (began ∙ has) in cc e in
-        inr (record {
-          unmet = subst (λ (x : Held C N). truths.holds c x.row ≡ false) same h.unmet;
-          mine = mine ∙ ap (λ es. old.mine ++ es) (sym committed ∙ (h.committed ∙ λ i. section_of truths.holds (seat i) (same i) (CondWait c) ∷ []));
-          begins = record { mode = h.begins.mode ∙ sym mode; before = h.begins.before; cells = h.begins.cells };
-          entry = h.entry;
-        })
-
-  -- A wait for a condition that is over has told what its caller sees.
-  pub wait_tells : (first : Walk C) (wait : Wait C) (c : C) (answer : Answer) (old : Known C N) (was_table is : TableId) (me now : SeatOf C N) → known_of was_table me ≡ old → wait.on ≡ OnCondition c →
-      HasMode wait.mode (the me.0).at.held → HasSince (Some first) (the me.0) (the now.0) → HasAnswered truths (Await wait) (Answered answer) now → HasWaitedFor truths c answer old (known_of is now)
-  wait_tells first wait c answer old was_table is me now view on mode s a = subst (λ (k : Known C N). HasWaitedFor truths c answer k (known_of is now)) view (
-      let v = the me.0 in let w = the now.0 in
-      let before = hand_of (λ (o : Option (Held C N)). HasMode wait.mode o) v.at.held (λ e. e) mode in
-      let back = hand_of (λ (o : Option (Held C N)). InHand o (λ back. WaitMeans truths w.at.seat (row_after w.told.seen) wait.mode wait.on wait.limits w.course answer back)) w.at.held (λ e. e) a.means in
-      let means = subst (λ on. WaitMeans truths w.at.seat (row_after w.told.seen) wait.mode on wait.limits w.course answer back.0) on back.2 in
-      let tells = tells_by wait c answer (known_of was_table me) (known_of is now) before.0 back.0 w.course s.commits before.1 back.1 before.2 s.began s.committed s.mine s.seat means in
-      subst (λ (x : Option (Held C N) × Option (Held C N)). InHand x.0 (λ was. InHand x.1 (λ back. WaitTells truths c answer was back (known_of was_table me) (known_of is now)))) (λ i. (sym before.1 i, sym back.1 i)) tells)
 
 -- what is so of each section that has just begun is so of the one in hand
 pub fits_fresh : {C : Type 0} (N : ℕ) (mode : Mode) (held : Option (Held C N)) (fits : Option (Held C N) → Type 0) → ((section : Held C N) → IsFresh N mode section → fits (Some section)) → IsFreshIn N mode held → fits held

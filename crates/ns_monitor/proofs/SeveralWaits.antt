@@ -1,7 +1,7 @@
 -- Waits for any of several condition variables: where they stand, and what they tell once they are over.
 use Rattle.std.proofs.Common.{List, None, Option, Some, [], ap, append-nil, false, refl, subst, sym, true, ℕ, ◌++◌, ◌∙◌, ◌∷◌, ◌≡◌}
-use Rattle.ns_monitor.proofs.Prelude.{Act, AnyWait, AnyWaitMeans, AreSome, Await, AwaitWakeInWait, BeginsWith, Cause, Course, Cvs, Flag, Found, HasAnswered, HasBegunToWait, HasComeBackFromAny, HasLeft, HasMode, HasSeenTrue, HasSince, HasStoodUnwoken, Held, InHand, InQueuing, InWait, IsByOneOf}
-use Rattle.ns_monitor.proofs.Prelude.{IsFreshIn, IsSettled, IsTold, IsWaitingForAny, IsWide, Known, Load, LoadFlag, LockState, Look, Looked, MayEnd, Mode, Owed, Performed, PlaceFits, SaysWoken, SeatOf, TableId, Told, Truths, WaitKnown, WaitsOn, WaitsStill, Walk, WokenBy, any_waiting, at_will}
+use Rattle.ns_monitor.proofs.Prelude.{Act, AnyWait, AnyWaitMeans, Await, AwaitWakeInWait, BeginsWith, Cause, Course, Cvs, Flag, Found, HasAnswered, HasComeBackFromAny, HasLeft, HasSeenTrue, HasSince, HasStoodUnwoken, Held, InHand, InWait, IsByOneOf}
+use Rattle.ns_monitor.proofs.Prelude.{IsTold, IsWaitingForAny, LoadFlag, LockState, Look, Looked, MayEnd, Mode, Owed, Performed, SaysWoken, SeatOf, TableId, Told, Truths, WaitKnown, WaitsOn, WaitsStill, Walk, WokenBy, at_will}
 use Rattle.ns_monitor.proofs.Prelude.{effect_of, has_some, known_of, leave_any_told, pays, row_after, section_of, since, since_then, the, waits_for_any}
 use Rattle.ns_monitor.proofs.Waits.{looks_out, waits_on}
 
@@ -25,38 +25,11 @@ module _ {C : Type 0} {N : ℕ} (truths : Truths C) where
       let told = subst (λ n. IsTold truths.holds n (d.history ++ d.commits) w.at.seat w.at.walk w.told) (sym d.seat_count) d.told_now in
       record { legal = told.legal; by_seats = told.by_seats; own = sym told.own_seen }
 
-  -- a seat at rest with a section in hand may begin to wait for variables that there are
-  pub may_wait_for_any : (mode : Mode) (cvs : Cvs) (held : Option (Held C N)) → AreSome cvs → HasMode mode held → IsSettled truths held → PlaceFits truths (Some (InWait (waits_for_any mode cvs) (InQueuing false Load))) held
-  may_wait_for_any mode cvs None are in_mode settled = absurd in_mode
-  may_wait_for_any mode cvs (Some held) are in_mode settled = ((record { mode = in_mode; unmet = are; settled = λ _. settled; back = λ e. absurd (let f : false ≡ true = e in cc) }, tt), tt)
-
   -- behind a step that leads to a place where it pays none, a seat owes none
   pub owes_none : (act : Act C) (found : Found) (walk : Walk C) (me now : SeatOf C N) → Performed truths None act found me now → (the now.0).at.walk ≡ Some walk → pays (Some walk) ≡ false → (the now.0).at.owed ≡ []
   owes_none act found walk me now p at free = none_in (the now.0).at.owed (p.did.fits.owes.0 ∙ (ap pays at ∙ free))
 
   module _ (mode : Mode) (cvs : Cvs) where
-    -- ---- it has begun
-
-    pub has_begun_to_wait : (old : Known C N) (was is : TableId) (me now : SeatOf C N) → known_of was me ≡ old → is ≡ old.monitor → HasSince (Some (any_waiting N mode cvs)) (the me.0) (the now.0) → IsWaitingForAny truths mode cvs now
-        → HasBegunToWait truths mode cvs old (record { known = known_of is now; cvs = cvs })
-    has_begun_to_wait old was is me now view same s w = subst (λ (k : Known C N). is ≡ k.monitor → HasBegunToWait truths mode cvs k (record { known = known_of is now; cvs = cvs })) view (λ same.
-        let left : HasLeft truths (the now.0).at.seat (waits_for_any mode cvs) None (the now.0).course = w.at.so_far in
-        let before : (the me.0).at.held ≡ Some left.was = sym s.began ∙ left.began in record {
-          variables = refl;
-          monitor = same;
-          seat_count = s.seat_count;
-          seat = s.seat;
-          begins = s.begins;
-          begun = s.calls;
-          mine = subst (λ (o : Option (Held C N)). InHand o (λ held. (the now.0).told.mine ≡ (the me.0).told.mine ++ section_of truths.holds (the me.0).at.seat held (AnyWait cvs) ∷ [])) (sym before)
-              (s.mine ∙ ap (λ es. (the me.0).told.mine ++ es) (sym s.committed ∙ (left.committed ∙ (λ i. section_of truths.holds (s.seat i) left.was (AnyWait cvs) ∷ []))));
-          true_to = w.true_to;
-          call = w.at.walks;
-          held = w.at.fits.0.0;
-          owes = w.owes;
-          empty = w.at.empty refl;
-        }) same
-
     -- ---- it waits still
 
     -- it has found its flag set, and shown nothing to end it
@@ -135,14 +108,6 @@ module _ {C : Type 0} {N : ℕ} (truths : Truths C) where
       told : (held : Option (Held C N)) → InHand held Over → (was : Held C N) × (course.committed ≡ section_of truths.holds seat was (AnyWait cvs) ∷ leave_any_told seat cvs by) × IsByOneOf cvs by
       told None m = absurd m
       told (Some back) m = (m.was, m.committed, by_one cvs course.looked by m.may)
-
-      fresh : (held : Option (Held C N)) → InHand held Over → IsWide held → IsFreshIn N mode held
-      fresh None m wide = absurd m
-      fresh (Some back) m wide = record { mode_is = m.begins.mode; width = wide.0; row_is = m.begins.cells ∙ sym m.begins.before }
-
-    -- the section that it came back with has just begun
-    pub any_back_fresh : (by : Option ℕ) (now : SeatOf C N) → HasAnswered truths (Await (waits_for_any mode cvs)) (WokenBy by) now → IsFreshIn N mode (the now.0).at.held
-    any_back_fresh by now a = fresh by (the now.0).at.seat (row_after (the now.0).told.seen) (the now.0).course (the now.0).at.held a.means a.rest.wide
 
     pub has_come_back : (by : Option ℕ) (old : WaitKnown C N) (was is : TableId) (me now : SeatOf C N) → record { known = known_of was me; cvs = cvs } ≡ old → is ≡ old.known.monitor →
         IsWaitingForAny truths mode cvs me → HasSince None (the me.0) (the now.0) → HasAnswered truths (Await (waits_for_any mode cvs)) (WokenBy by) now

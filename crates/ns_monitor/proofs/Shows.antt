@@ -1,6 +1,6 @@
 -- A call that shows, step by step, and the state that it shows.
 use Rattle.std.proofs.Common.{Bool, None, Some, ap, append-nil, cond, false, refl, subst, sym, true, ℕ, ◌++◌, ◌∙◌, ◌∷◌, ◌≡◌}
-use Rattle.ns_monitor.proofs.Prelude.{BeginsWith, HasReached, HasSince, HasStood, HasUnchangedQueues, Idle, InShow, IsAtPlace, IsLawful, Known, Lists, LoadWord, LockState, Made, On, Part, Performed, ReturnShown, Saw, SeatOf, ShowLoad, TableId, TakeQueues, TakeToShow, ToChange, Told, Truths, Word}
+use Rattle.ns_monitor.proofs.Prelude.{BeginsWith, HasReached, HasSince, HasStood, HasUnchangedQueues, Idle, InShow, IsAtPlace, IsLawful, LoadWord, LockState, Made, On, Part, Performed, ReturnShown, Saw, SeatOf, ShowLoad, TableId, TakeQueues, TakeToShow, ToChange, Told, Truths, Word}
 use Rattle.ns_monitor.proofs.Prelude.{begins_itself, begins_through, effect_of, goes, goes_on, known_of, own_of, show_by, showing, the, word_taken}
 use Rattle.ns_word.specs.declared.request.Request.TheVariants as TheRequest
 
@@ -51,23 +51,3 @@ module _ {C : Type 0} {N : ℕ} (truths : Truths C) where
         seat = s.seat;
         held = at.so_far.same ∙ s.began;
       }
-
--- later the caller has seen more
-pub stood_since : {C : Type 0} {N : ℕ} (truths : Truths C) (word : Word) (lists : Lists C) (old now later : Known C N) → HasStood truths word lists old now → BeginsWith later.seen now.seen → HasStood truths word lists old later
-stood_since truths word lists old now later h more = record {
-  history = h.history;
-  state = h.state;
-  lawful = h.lawful;
-  word_is = h.word_is;
-  clear = h.clear;
-  lists_are = h.lists_are;
-  after = h.after;
-  before = begins_through later.seen now.seen h.history more h.before;
-  own = h.own;
-  front = h.front;
-  view = h.view;
-  back = h.back;
-  there = h.there;
-  seat = h.seat;
-  held = h.held;
-}

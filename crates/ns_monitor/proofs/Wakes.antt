@@ -1,27 +1,24 @@
 -- A call that wakes, step by step: what it has in hand, and what it owes once the queues are back.
-use Rattle.std.proofs.Common.{Bool, List, None, Some, [], ap, cond, false, if◌then◌else◌, not, refl, subst, sym, true, ℕ, ◌&&◌, ◌++◌, ◌∙◌, ◌∷◌, ◌≡◌}
+use Rattle.std.proofs.Common.{Bool, List, None, Some, [], ap, false, if◌then◌else◌, not, refl, subst, sym, true, ℕ, ◌&&◌, ◌++◌, ◌∙◌, ◌∷◌, ◌≡◌}
+use mathlib.Core.Bool.{beq}
 use Rattle.ns_monitor.proofs.Prelude.{Broadcasting, CanStep, Carries, Event, HasAnswered, HasKeptItsQueues, HasReached, HasReturnedWoken, HasSince, HasTakenAt, HasUnchangedQueues, HasWoken, HasWokenInHand, InSignal, IsAtPlace, IsOrderly, Known, Lists, LockState, On, Owed, Part, Performed}
-use Rattle.ns_monitor.proofs.Prelude.{ReturnQueues, Saw, SeatOf, SignalLoad, Signaling, Succeeded, TableId, Truths, Turned, Waiter, WakeAndReturn, WakeWaiters, Waking, Walk, Woke, Word, bits_of, can_go, change_found, does, found_nobody, goes_on, has_queues, has_some, is_held, is_held_by_one}
+use Rattle.ns_monitor.proofs.Prelude.{ReturnQueues, Saw, SeatOf, SignalLoad, Signaling, Succeeded, TableId, Truths, Turned, Waiter, WakeAndReturn, WakeWaiters, Waking, Walk, Woke, Word, bits_of, can_go, change_found, does, found_nobody, goes_on, has_queues, has_some, is_held}
 use Rattle.ns_monitor.proofs.Prelude.{known_of, lists_woken, moves_nobody, owed_woken, owes_the_woken, part_of, pay_woken, rest, stays_by, still_woken, taken_by, taken_from, taken_set, takes_nobody, the, wake_by, wake_event, wake_of, wakes_of, woken_found, woken_nobody, works}
 use Rattle.ns_monitor.proofs.Standing.{saw_keeps}
 use Rattle.ns_word.specs.declared.request.Request.TheVariants as TheRequest
 
--- two words of which one is held, or of which both are or neither
-pub by_one : (word other : Word) → is_held_by_one word other ≡ true → not (is_held other) ≡ is_held word
-by_one word other = by (is_held word) (is_held other) where
-  by : (a b : Bool) → cond b (not a) a ≡ true → not b ≡ a
-  by true true e = absurd (cc)
-  by false true e = refl
-  by true false e = refl
-  by false false e = absurd (cc)
+-- the lock is held by one of two words and free by the other, or it is not
+pub by_one : (a b : Bool) → not (beq a b) ≡ true → not b ≡ a
+by_one true true e = absurd (cc)
+by_one false true e = refl
+by_one true false e = refl
+by_one false false e = absurd (cc)
 
-pub by_both : (word other : Word) → is_held_by_one word other ≡ false → is_held word ≡ is_held other
-by_both word other = by (is_held word) (is_held other) where
-  by : (a b : Bool) → cond b (not a) a ≡ false → a ≡ b
-  by true true e = refl
-  by false true e = absurd (cc)
-  by true false e = absurd (cc)
-  by false false e = refl
+pub by_both : (a b : Bool) → not (beq a b) ≡ false → a ≡ b
+by_both true true e = refl
+by_both false true e = absurd (cc)
+by_both true false e = absurd (cc)
+by_both false false e = refl
 
 module _ {C : Type 0} {N : ℕ} where
   -- ---- what is in hand

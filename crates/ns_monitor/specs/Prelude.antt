@@ -18,7 +18,7 @@ pub use Rattle.ns_monitor.specs.Names.{place_after, quiet_place, reads, release_
 pub use Rattle.ns_monitor.specs.Names.{test_place, the, times, tried, unmet_by, variable_in, view_in, wait_first, wait_has_queues, waits_at, wake_by, wake_of, wake_told, wakes_of, want_of, with_lock, woken_by, woken_nobody, woken_of, word_taken, writes}
 pub use Rattle.ns_monitor.specs.Polls.{IfStill, IfWoken}
 pub use Rattle.ns_monitor.specs.Saved.{AreSaved, HasSaved, IsFresh, IsFreshIn, IsQuietFor, saved_after, value_before}
-pub use Rattle.ns_monitor.specs.Scans.{HasScanned, MayEnter, MayScan, entered, paying_at, ready_at, returning_for}
+pub use Rattle.ns_monitor.specs.Scans.{FindsReaders, HasScanned, MayEnter, MayScan, entered, paying_at, ready_at, returning_for}
 pub use Rattle.ns_monitor.specs.Several.{AreSome, HasBegunToWait, HasComeBackFromAny, HasSeenTrue, HasStoodUnwoken, IsByOneOf, IsWaitingForAny, SaysWoken, WaitKnown, WaitsOn, WaitsStill, any_waiting, at_will, waits_for_any}
 pub use Rattle.ns_monitor.specs.Shows.{HasStood, HasTakenToShow, ShowsState}
 pub use Rattle.ns_monitor.specs.Standing.{AcquiresBy, Decides, HasSeenCleared, SleepsAt, GoesBy, HasMadeStepsTo, HasPaid, HasPutBack, IsWoken, PaysAt, PutsBackAt, HasAcquired, HasBegunBy, HasGoneBehind, HasInHand, HasTakenAt, IsNumberOf, MayGoAlone, OwesTheWoken, Pays, PutsBack, ReleasesBy, Sleeps, WentAtOnce, WentOrTook, going_act, going_at, going_of, gone_to, may_go, returning_at}
@@ -26,6 +26,6 @@ pub use Rattle.ns_monitor.specs.Standing.{returning_of, scanning_at, taken_at, t
 pub use Rattle.ns_monitor.specs.Tests.{AreRead, HasGone, HasLoaded, HasMadeReady, HasRow, HasTested, IsReady, MayTest, ScansAs, StandsAt, lacks_row, loading, loading_at, tested_by}
 pub use Rattle.ns_monitor.specs.Variables.{HasComeBackFrom, HasWaitedForVariable, HasWoken, wake_event}
 pub use Rattle.ns_monitor.specs.Waits.{EndedBy, HadLooked, HasComeBack, HasLeftToWait, HasStayed, HasWaitedFor, IfAnswered, IfEnded, QueuesOrEnds, WaitTells, WokenOrEnded}
-pub use Rattle.ns_monitor.specs.Wakes.{HasReturnedWoken, HasTakenToWake, HasWokenInHand, is_held_by_one}
+pub use Rattle.ns_monitor.specs.Wakes.{HasReturnedWoken, HasTakenToWake, HasWokenInHand}
 pub use Rattle.ns_monitor.specs.Walks.{getting, judging, limits_of, locking, queuing_first, releasing_by, setting, showing, trying, variable_waiting, waiting, waits_by, waits_for_variable, waking_by}
 pub use Rattle.ns_word.specs.Prelude.{IsForCondition}

@@ -1,7 +1,8 @@
 -- A scan of the lock list by a release, or by a wait that leaves its section: it takes waiters out of the list, the wait puts itself into its own, the queues go back, and those who were taken are paid their wakes.
-use Rattle.std.specs.Prelude.{None, [], false, ℕ, ◌≡◌}
-use Rattle.ns_monitor.specs.Names.{Bounded, HasMadeSteps, HasReached, InQueuing, InRelease, InWait, IsInRange, Lists, Paid, Pay, PayInWait, QueueToWait, Released, Returning, ScanAndRelease, Scanning, SeatOf, StandsNowhere, ToRelease, ToWait, Truths, Waited, Walk, Word, asked_of, got_of, the, times, waits_at}
+use Rattle.std.specs.Prelude.{List, None, [], false, ℕ, ◌≡◌}
+use Rattle.ns_monitor.specs.Names.{Bounded, HasMadeSteps, HasReached, InQueuing, InRelease, InWait, IsInRange, IsPackable, Lists, Paid, Pay, PayInWait, QueueToWait, Released, Returning, ScanAndRelease, Scanning, SeatOf, Sought, StandsNowhere, ToRelease, ToWait, Truths, Waited, Walk, Word, asked_of, got_of, sought_at, the, times, waits_at}
 use Rattle.ns_monitor.specs.Several.{HasSeenTrue}
+use Rattle.ns_monitor.specs.Tests.{IsReady}
 
 -- what the queues are put back for after it
 abbrev pub returning_for : {C : Type 0} → Scanning C → Returning C
@@ -32,6 +33,13 @@ MayScan (ToWait queuing) me = IsInRange queuing.wait.on × (times (the me.0).at.
 abbrev pub MayEnter : {C : Type 0} {N : ℕ} → Scanning C → SeatOf C N → Type 0
 MayEnter (ToRelease releasing) me = Unit {0}
 MayEnter (ToWait queuing) me = IsInRange queuing.wait.on × StandsNowhere (the me.0).at.seat me
+
+-- A call has the queues in hand as they stood, taken at this word, and a row ready for its scan. At this row the scan takes readers, and this is what the search of the lock list finds, which ends at the first of them.
+pub record FindsReaders {C : Type 0} {N : ℕ} (truths : Truths C) (scanning : Scanning C) (word : Word) (row : List ℕ) (sought : Sought) (me : SeatOf C N) : Type 0 where
+  pub packs : IsPackable word
+  pub may : MayScan scanning me
+  pub ready : IsReady truths (ready_at scanning word) row me
+  pub found : sought ≡ sought_at truths row (the me.0).stood
 
 -- The queues are back, the section is released or left, and each wake that was owed is paid.
 pub record HasScanned {C : Type 0} {N : ℕ} (truths : Truths C) (scanning : Scanning C) (old new : Bounded C N) : Type 0 where

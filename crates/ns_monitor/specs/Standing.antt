@@ -52,7 +52,7 @@ pub record PaysAt {C : Type 0} {N : ℕ} (truths : Truths C) (me : SeatOf C N) :
   pub pays : Pays N walk
   pub at : HasReached truths (asked_of walk) (got_of N walk (Paid (has_some (the me.0).at.owed))) me
 
--- it has paid them all, and goes on as its place says; where it had seen a true condition, it still has
+-- it has paid them all, and goes on as its place says; where it had seen a legal history in which its own events are just its own, it still has
 pub record HasPaid {C : Type 0} {N : ℕ} (truths : Truths C) (me now : SeatOf C N) : Type 0 where
   pub paid : (walk : Walk C) → Pays N walk → HasReached truths (asked_of walk) (got_of N walk (Paid (has_some (the me.0).at.owed))) me → HasReached truths (asked_of walk) (got_of N walk (Paid false)) now
   pub none : (the now.0).at.owed ≡ []
@@ -214,7 +214,7 @@ pub record PutsBackAt {C : Type 0} {N : ℕ} (truths : Truths C) (returning : Re
   pub is : returning ≡ returning_of walk
   pub at : IsAtPlace truths (returning_at walk last) me
 
--- The queues are back, by a word that was as this one but for what others changed: the call goes on as its place says, and owes the wakes that it does.
+-- The queues are back, by a word that was as this one but for what others changed: the call goes on as its place says; where it has scanned, it owes the wakes of those whom the scan took; and it has seen a legal history in which its own events are just its own.
 pub record HasPutBack {C : Type 0} {N : ℕ} (truths : Truths C) (returning : Returning C) (first : Word) (me now : SeatOf C N) : Type 0 where
   pub returned : (walk : Walk C) → PutsBack walk → returning ≡ returning_of walk → IsAtPlace truths (returning_at walk first) me → HasReached truths (asked_of walk) (got_of N walk (found_back truths returning first me)) now
   pub owes : OwesTheWoken truths returning me (the now.0).at.owed

@@ -1,11 +1,7 @@
 -- What a call that wakes has in hand, and what it owes once the queues are back.
-use Rattle.std.specs.Prelude.{Bool, List, if◌then◌else◌, not, ℕ, ◌&&◌, ◌<◌, ◌≡◌}
+use Rattle.std.specs.Prelude.{Bool, List, ℕ, ◌&&◌, ◌<◌, ◌≡◌}
 use Rattle.ns_monitor.specs.Names.{Carries, HasReached, InSignal, IsAtPlace, IsOrderly, IsPackable, Lists, SeatOf, Truths, Turned, Waiter, WakeAndReturn, Waking, Word, bits_of, has_some, is_held, lists_woken, owed_woken, pay_woken, taken_from, the}
 use Rattle.ns_word.specs.declared.request.Request.TheVariants as TheRequest
-
--- the lock is held by one of two words and free by the other
-abbrev pub is_held_by_one : Word → Word → Bool
-is_held_by_one word other = if is_held other then not (is_held word) else is_held word
 
 -- the seat has in hand what is put back where the lock is held so; this tells of it
 pub record HasWokenInHand {C : Type 0} {N : ℕ} (waking : Waking) (k : ℕ) (held : Bool) (turned : Turned) (me : SeatOf C N) : Type 0 where
@@ -13,7 +9,7 @@ pub record HasWokenInHand {C : Type 0} {N : ℕ} (waking : Waking) (k : ℕ) (he
   pub some : turned.some ≡ (held && has_some (taken_from waking k (the me.0).stood))
   pub bits : turned.bits ≡ bits_of (lists_woken waking k held (the me.0).stood).lock
 
--- A call that wakes has the queues in hand, and is about to put them back by this word: it has taken these waiters, and this tells of what it has made of the lists, which stood orderly.
+-- A call that wakes, of a variable that there is, has the queues in hand, and is about to put them back by this word, which has a number: it has taken these waiters, and this tells of what it has made of the lists, which stood orderly.
 pub record HasTakenToWake {C : Type 0} {N : ℕ} (truths : Truths C) (waking : Waking) (k : ℕ) (word : Word) (waiters : List (Waiter C)) (turned : Turned) (me : SeatOf C N) : Type 0 where
   pub variable : k < 4
   pub packs : IsPackable word

@@ -163,20 +163,11 @@ impl<'m, C: Condition<N>, const N: usize> Acting<'m, Free, C, N> {
         ensures after { result.1.seen ≡ result.0.seen }
     {
         let Acting { monitor, caller } = self;
-        let Acting {
-            monitor: _,
-            caller: second,
-        } = other;
-        let (first, second) = monitor.meet(caller, second);
-        let first = Acting {
-            monitor,
-            caller: first,
-        };
-        let second = Acting {
-            monitor,
-            caller: second,
-        };
-        (first, second)
+        let Acting { caller: second, .. } = other;
+        let (caller, second) = monitor.meet(caller, second);
+        let first = Acting { monitor, caller };
+        let caller = second;
+        (first, Acting { monitor, caller })
     }
 }
 
@@ -208,20 +199,11 @@ impl<'m, H: Section<C, N>, C: Condition<N>, const N: usize> Acting<'m, H, C, N> 
         ensures after { result.1.seen ≡ result.0.seen }
     {
         let Acting { monitor, caller } = self;
-        let Acting {
-            monitor: _,
-            caller: second,
-        } = other;
-        let (first, second) = monitor.both_read(caller, second);
-        let first = Acting {
-            monitor,
-            caller: first,
-        };
-        let second = Acting {
-            monitor,
-            caller: second,
-        };
-        (first, second)
+        let Acting { caller: second, .. } = other;
+        let (caller, second) = monitor.both_read(caller, second);
+        let first = Acting { monitor, caller };
+        let caller = second;
+        (first, Acting { monitor, caller })
     }
 }
 

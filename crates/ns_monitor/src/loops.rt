@@ -1,5 +1,5 @@
-//! The loops that a call may go round in, each once. Each is told the place at which its call stands,
-//! which is for the proof alone: no code reads it.
+//! The loops that a call may go round in, each once. `go_or_take` and `take` are told the place at which their call
+//! stands, for the proof alone. The clauses of the others speak of each place that fits.
 
 ghost use Rattle.std.specs.Prelude.{◌≡◌, ◌≢◌, ◌∷◌, None, Some, []};
 ghost use Rattle.ns_monitor.specs.Prelude.{Changing, Decides, GoesBy, HasInHand, HasMadeStepsTo, HasPaid, HasPutBack, HasSeenCleared, HasTakenAt, IsPackable, Pays, PaysAt, PutsBackAt, SleepsAt, StandsAt, WentOrTook, going_of};
@@ -55,6 +55,7 @@ pub(crate) fn go_or_take<R: Wait, C: Condition<N>, const N: usize>(
 
 /// Takes the queues, for a call that has to change the lists and stands at this place, or begins there. Answers
 /// the word then.
+#[inline(always)]
 pub(crate) fn take<R: Wait, C: Condition<N>, const N: usize>(
     rt: &R,
     seat: &mut Bound<'_, C, N>,

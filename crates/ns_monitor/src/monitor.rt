@@ -118,11 +118,11 @@ impl<C: Condition<N>, const N: usize> Monitor<C, N> {
             mut alone,
         } = seat;
         let mut bound = Bound::new(&self.gate, &mut seat, number);
-        let went = try_acquire(&mut bound, H::mode(), &mut alone);
-        bound.end();
-        if went {
+        if try_acquire(&mut bound, H::mode(), &mut alone) {
+            bound.end();
             Ok(holding(seat, number, alone))
         } else {
+            bound.end();
             Err(Caller {
                 seat,
                 number,
@@ -416,12 +416,7 @@ impl<C: Condition<N>, const N: usize> Monitor<C, N> {
         ensures { EndsAs C.means seat result.row result.free }
     {
         let Monitor { gate } = self;
-        let Caller {
-            seat,
-            number: _,
-            hand: _,
-            alone: _,
-        } = seat;
+        let Caller { seat, .. } = seat;
         gate.close(seat)
     }
 }

@@ -1,8 +1,7 @@
-//! The waits for a condition, and their rounds: one looks, queues, is woken or ended, comes back and
-//! tests.
+//! The waits for a condition: each round looks, queues, is woken or ended, comes back and tests.
 
 ghost use Rattle.std.specs.Prelude.{◌≡◌, ◌⊎◌, ◌||◌, is_some, None, Some, IfSome, false, true};
-ghost use Rattle.ns_monitor.specs.Prelude.{Answered, Await, EndedBy, Grows, HadLooked, HasAnswered, HasMadeStepsTo, HasReached, HasWaitedFor, IfAnswered, InQueuing, InWait, IsAtPlace, IsForCondition, IsFreshIn, IsMade, Load, OnCondition, QueuesOrEnds, is_limited, look_or_queue, row_in, the};
+ghost use Rattle.ns_monitor.specs.Prelude.{Answered, Await, EndedBy, Grows, HadLooked, HasAnswered, HasMadeStepsTo, HasReached, HasSince, HasWaitedFor, IfAnswered, InQueuing, InWait, IsAtPlace, IsForCondition, IsFreshIn, IsMade, IsNumberOf, Load, OnCondition, QueuesOrEnds, is_limited, look_or_queue, row_in, the};
 ghost use Rattle.ns_monitor.specs.Prelude.{wait_first, waiting, waits_by};
 ghost use Rattle.ns_note.specs.Known.{Grows as EnvGrows};
 
@@ -14,6 +13,7 @@ use crate::waiting::{come_back, queue_to_wait};
 use crate::watching::{Looker, NoWatch, Watch, watched};
 use ns_env::limits::{Cause, Limits};
 use ns_gate::bound::Bound;
+use ns_gate::gate::GateSeat;
 use ns_model::condition::Condition;
 use ns_model::event::Answer;
 use ns_note::env::Env;
@@ -141,9 +141,38 @@ impl<C: Condition<N>, const N: usize> Monitor<C, N> {
             };
             return (back, answer_of(cause));
         }
-        let answer = wait_on(rt, &mut bound, wait, &mut row, watch);
-        bound.end();
+        let answer = self.wait_slow(rt, bound.end(), number, wait, &mut row, watch);
         (holding(seat, number, false), answer)
+    }
+
+    /// Goes on to wait, in a section of this row, of which the condition is false. It binds the seat anew, so that the
+    /// caller's [`Bound`] stays in registers where nothing is waited for.
+    fn wait_slow<R: Wait, W: Watch>(
+        &self,
+        rt: &R,
+        seat: &mut GateSeat<C, N>,
+        number: u8,
+        wait: Waiting<C>,
+        row: &mut [u64; N],
+        watch: &mut W,
+    ) -> Answer
+        requires of { seat.old.table_id ≡ self.now }
+        requires number { IsNumberOf number seat.old.me }
+        requires on { IsForCondition wait.on }
+        requires watches { W.watches watch.old wait.limits }
+        requires row { row.old ≡ row_in (the seat.old.me.0).at.held }
+        requires at { IsAtPlace C.means (InWait wait (InQueuing false Load)) seat.old.me }
+        ensures seat { seat.new.table_id ≡ self.now }
+        ensures since { HasSince None (the seat.old.me.0) (the seat.new.me.0) }
+        ensures answered { HasAnswered C.means (Await wait) (Answered result) seat.new.me }
+        ensures looked { W.since watch.old watch.new }
+        ensures ended { IfAnswered result (λ cause. (is_limited wait.limits ≡ true) × W.shows watch.old watch.new wait.limits (Some cause)) }
+        ensures fresh { IsFreshIn N wait.mode (the seat.new.me.0).at.held }
+    {
+        let mut bound = Bound::new(&self.gate, seat, number);
+        let answer = wait_on(rt, &mut bound, wait, row, watch);
+        bound.end();
+        answer
     }
 
     /// Waits until the condition is true of the row, in a section in the same mode. Where it is true of

@@ -1,7 +1,7 @@
 //! The scan of the lock list by a release, or by a wait that leaves its section.
 
 ghost use Rattle.std.specs.Prelude.{◌≡◌, ⊤};
-ghost use Rattle.ns_monitor.specs.Prelude.{Carries, HasScanned, HasWorked, IsPackable, IsReady, MayEnter, MayScan, ToRelease, bits_of, entered, ready_at, returning_for, sought_at, the};
+ghost use Rattle.ns_monitor.specs.Prelude.{Carries, FindsReaders, HasScanned, HasWorked, IsPackable, IsReady, MayEnter, MayScan, ToWait, bits_of, entered, ready_at, returning_for, the};
 
 use crate::loops::{pay, pay_one, put_back};
 use ns_gate::bound::Bound;
@@ -89,7 +89,7 @@ fn enter<C: Condition<N>, const N: usize>(
     }
 }
 
-/// With the queues in hand and a row ready: scans the lock list, lets a wait queue, puts the queues back,
+/// With the queues in hand and a row ready: scans the lock list for a wait, which then queues, puts the queues back,
 /// and pays the wakes of those whom the scan took.
 ///
 /// Where that is nobody, or a writer alone, no list of them is made: a function pays for its lists
@@ -98,24 +98,20 @@ fn enter<C: Condition<N>, const N: usize>(
 pub(crate) fn scan_and_return<R: Wait, C: Condition<N>, const N: usize>(
     rt: &R,
     seat: &mut Bound<'_, C, N>,
-    scanning: Scanning<C>,
+    queuing: Queuing<C>,
     word: LockWord,
     row: &[u64; N],
 )
     requires word { IsPackable word }
-    requires may { MayScan scanning seat.old.me }
-    requires ready { IsReady C.means (ready_at scanning word) row.now seat.old.me }
-    ensures { HasScanned C.means scanning seat.old seat.new }
+    requires may { MayScan (ToWait queuing) seat.old.me }
+    requires ready { IsReady C.means (ready_at (ToWait queuing) word) row.now seat.old.me }
+    ensures { HasScanned C.means (ToWait queuing) seat.old seat.new }
 {
+    let scanning = Scanning::ToWait(queuing);
     let (wake, left) = match seat.scan_writer_in_hand(row) {
         Ok(told) => told,
         Err(sought) => {
-            match scanning {
-                Scanning::ToRelease(releasing) => {
-                    wake_released(rt, seat, releasing, word, row, sought)
-                }
-                Scanning::ToWait(_) => scan_and_wake(rt, seat, scanning, word, row, sought),
-            }
+            scan_and_wake(rt, seat, scanning, word, row, sought);
             return;
         }
     };
@@ -126,30 +122,10 @@ pub(crate) fn scan_and_return<R: Wait, C: Condition<N>, const N: usize>(
     }
 }
 
-/// The same where a release's scan takes readers, of whom this is the first. What a call takes is zeroed in
-/// memory before it is written, unless the call is inlined. So what is scanned for is made here, and a release
-/// that wakes no readers pays nothing for it.
+/// With the queues in hand and a row ready, at which a scan takes readers, of whom this is the first: scans on from
+/// there, with lists of those whom it takes, lets a wait queue, puts the queues back, and pays the wakes.
 #[cold]
-fn wake_released<R: Wait, C: Condition<N>, const N: usize>(
-    rt: &R,
-    seat: &mut Bound<'_, C, N>,
-    releasing: Releasing,
-    word: LockWord,
-    row: &[u64; N],
-    sought: Sought,
-)
-    requires word { IsPackable word }
-    requires ready { IsReady C.means (ready_at (ToRelease releasing) word) row.now seat.old.me }
-    requires found { sought ≡ sought_at C.means row.now (the seat.old.me.0).stood }
-    ensures { HasScanned C.means (ToRelease releasing) seat.old seat.new }
-{
-    scan_and_wake(rt, seat, Scanning::ToRelease(releasing), word, row, sought)
-}
-
-/// The same where a scan takes readers, of whom this is the first: goes on from there, with lists of those
-/// whom it takes.
-#[cold]
-fn scan_and_wake<R: Wait, C: Condition<N>, const N: usize>(
+pub(crate) fn scan_and_wake<R: Wait, C: Condition<N>, const N: usize>(
     rt: &R,
     seat: &mut Bound<'_, C, N>,
     scanning: Scanning<C>,
@@ -157,10 +133,7 @@ fn scan_and_wake<R: Wait, C: Condition<N>, const N: usize>(
     row: &[u64; N],
     sought: Sought,
 )
-    requires word { IsPackable word }
-    requires may { MayScan scanning seat.old.me }
-    requires ready { IsReady C.means (ready_at scanning word) row.now seat.old.me }
-    requires found { sought ≡ sought_at C.means row.now (the seat.old.me.0).stood }
+    requires { FindsReaders C.means scanning word row.now sought seat.old.me }
     ensures { HasScanned C.means scanning seat.old seat.new }
 {
     let (scan, bits) = seat.scan_from_in_hand(row, sought);

@@ -97,12 +97,8 @@ impl<C: Condition<N>, const N: usize> Monitor<C, N> {
         requires variables { AreSome cvs }
         ensures { HasBegunToWait C.means H.mode cvs held result }
     {
-        let Caller {
-            mut seat,
-            number,
-            hand: _,
-            alone: _,
-        } = held;
+        let Caller { seat, number, .. } = held;
+        let mut seat = seat;
         let mode = H::mode();
         let wait = for_any(mode, cvs);
         let mut bound = Bound::new(&self.gate, &mut seat, number);

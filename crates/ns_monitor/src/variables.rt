@@ -80,12 +80,8 @@ impl<C: Condition<N>, const N: usize> Monitor<C, N> {
         ensures looked { W.since watch.old watch.new }
         ensures ended { IfAnswered result.1 (λ cause. W.shows watch.old watch.new limits (Some cause)) }
     {
-        let Caller {
-            mut seat,
-            number,
-            hand: _,
-            alone: _,
-        } = held;
+        let Caller { seat, number, .. } = held;
+        let mut seat = seat;
         let mode = H::mode();
         let on = Subject::OnVariables(Variables::Only(k));
         let wait = Waiting { mode, on, limits };

@@ -6,7 +6,7 @@ ghost use Rattle.ns_monitor.specs.Prelude.{AcquireLoad, AwaitWakeInWait, ForWait
 use crate::acquiring::acquire;
 use crate::cells::load_to_scan;
 use crate::loops::{await_flag, put_back, take};
-use crate::scanning::{Queuing, Scanning, scan_and_return};
+use crate::scanning::{Queuing, scan_and_return};
 use crate::watching::Watch;
 use ns_env::limits::Cause;
 use ns_gate::bound::Bound;
@@ -71,7 +71,7 @@ pub(crate) fn leave_section<R: Wait, C: Condition<N>, const N: usize>(
     let loads = QueuePlace::LoadToScan(parts, 0);
     let place = Walk::InWait(wait, WaitPlace::InQueuing(again, loads));
     load_to_scan(seat, lacks_row(wait.on, parts), place, row);
-    scan_and_return(rt, seat, Scanning::ToWait(queuing), word, row);
+    scan_and_return(rt, seat, queuing, word, row);
 }
 
 /// Takes a wait out of its list that is ended early. Where it was taken from there before, waits

@@ -1,7 +1,7 @@
 //! Condition variables: signals and broadcasts.
 
 ghost use Rattle.std.specs.Prelude.{◌≡◌, ◌<◌, [], ◌∷◌, None, Some};
-ghost use Rattle.ns_monitor.specs.Prelude.{Broadcasting, Grows, HasAnswered, HasMadeStepsTo, HasReturnedWoken, HasTakenAt, HasTakenToWake, HasWoken, InSignal, IsAtRest, SignalLoad, Signaling, Succeeded, is_held_by_one, the, waking_by};
+ghost use Rattle.ns_monitor.specs.Prelude.{Broadcasting, Grows, HasAnswered, HasMadeStepsTo, HasReturnedWoken, HasTakenAt, HasTakenToWake, HasWoken, InSignal, IsAtRest, SignalLoad, Signaling, Succeeded, the, waking_by};
 ghost use Rattle.ns_word.specs.declared.request.Request.TheVariants as TheRequest;
 
 use crate::caller::{Caller, Hand};
@@ -18,17 +18,6 @@ use ns_word::owed::{wake_by, wakes};
 use ns_word::signal_walk::SignalPlace;
 use ns_word::walk::Walk;
 use std::sync::Wait;
-
-/// Whether the lock is held by one of two words and free by the other.
-fn is_held_by_one(word: LockWord, other: LockWord) -> bool
-    ensures { result ≡ is_held_by_one word other }
-{
-    if other.is_held() {
-        !word.is_held()
-    } else {
-        word.is_held()
-    }
-}
 
 /// A call that wakes: a signal or a broadcast, of this variable.
 #[derive(Clone, Copy)]
@@ -65,7 +54,7 @@ fn return_woken<R: Wait, C: Condition<N>, const N: usize>(
             Ok(()) => return word.is_held(),
             Err(other) => {
                 let held = other.is_held();
-                if is_held_by_one(word, other) {
+                if word.is_held() != held {
                     turned = seat.turn_in_hand(taken, call.waking, call.k, held);
                 }
                 word = other;

@@ -20,7 +20,7 @@ put_back-requires g c = let t = g.C.Condition.means in let scan = c.scan_from_in
     let bits = entered.ensures.bits left e.lists e.bits ∙ ap (λ n. bits_of (entered_by c.args.scanning n left).lock) seat in
     let hand = hand_scanned t c.args.scanning c.args.word c.args.row.now entered.result me now c.requires.ready same carries some bits in
     let put = put_scanned t c.args.scanning c.args.word entered.result now c.returning.result c.returning.ensures (works t (ready_at c.args.scanning c.args.word) me now c.requires.ready.at (scans_in_hand c.args.scanning c.args.word) same) hand in
-    in_room (c.requires.word, (put.0, put.1))
+    in_room (c.requires.packs, (put.0, put.1))
 
 -- it stands where it pays what it owes
 pays : (g : Over) (c : After-put_back g) → HasReached g.C.Condition.means (asked_of (paying_at c.args.scanning)) (got_of g.row.N (paying_at c.args.scanning) (Paid (has_some (the c.put_back.new.seat.me.0).at.owed))) c.put_back.new.seat.me

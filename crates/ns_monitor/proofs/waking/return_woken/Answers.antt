@@ -36,11 +36,10 @@ kept g c = hand_kept c.args.call.waking c.args.call.k (is_held c.loop.word) c.lo
 pub turn_in_hand-turned-requires : goal.turn_in_hand-turned-requires
 turn_in_hand-turned-requires g c = let after = (goal.at.turn_in_hand-turned-requires g c).In-Err in let now = c.exchange_to_return.new.self.me in let held = c.is_held-held.result in
     let stood = sym ((missed g after).1.stood ∙ c.loop.invariant.4) in
-    let differs = by_one c.loop.word c.in-Err.other (sym c.is_held_by_one.ensures ∙ c.if-is_held_by_one.true) in
-    let other : is_held c.loop.word ≡ not held = sym (ap not c.is_held-held.ensures ∙ differs) in in_room (c.requires.variable, (subst IsOrderly stood c.requires.orderly, (c.requires.taken ∙ ap (taken_from c.args.call.waking c.args.call.k) stood, subst (λ b. Carries (lists_woken c.args.call.waking c.args.call.k b (the now.0).stood) now) other (kept g after).carries)))
+    let other : is_held c.loop.word ≡ not held = sym c.is_held-in-Err.ensures ∙ sym (by_one c.is_held-in-Err.result held c.if-is_held-held.true) in in_room (c.requires.variable, (subst IsOrderly stood c.requires.orderly, (c.requires.taken ∙ ap (taken_from c.args.call.waking c.args.call.k) stood, subst (λ b. Carries (lists_woken c.args.call.waking c.args.call.k b (the now.0).stood) now) other (kept g after).carries)))
 
-pub loop-preserved-then-is_held_by_one : goal.loop-preserved-then-is_held_by_one
-loop-preserved-then-is_held_by_one g c = let t = g.C.Condition.means in let after = (goal.at.loop-preserved-then-is_held_by_one g c).In-Err in let me = c.exchange_to_return.new.self.me in let turn = c.turn_in_hand-turned in let now = turn.new.self.me in let same = turn.ensures.worked.by in (
+pub loop-preserved-then-is_held-held : goal.loop-preserved-then-is_held-held
+loop-preserved-then-is_held-held g c = let t = g.C.Condition.means in let after = (goal.at.loop-preserved-then-is_held-held g c).In-Err in let me = c.exchange_to_return.new.self.me in let turn = c.turn_in_hand-turned in let now = turn.new.self.me in let same = turn.ensures.worked.by in (
   tt,
   tt,
   c.in-Err.ensures.word,
@@ -58,5 +57,5 @@ loop-preserved g c = let after = (goal.at.loop-preserved g c).In-Err in let now 
   gone g after,
   (missed g after).1.stood ∙ c.loop.invariant.4,
   (missed g after).0,
-  subst (λ held. HasWokenInHand c.args.call.waking c.args.call.k held c.loop.turned now) (by_both c.loop.word c.in-Err.other (sym c.is_held_by_one.ensures ∙ c.if-is_held_by_one.false)) (kept g after),
+  subst (λ held. HasWokenInHand c.args.call.waking c.args.call.k held c.loop.turned now) (sym c.is_held-in-Err.ensures ∙ by_both c.is_held-in-Err.result c.is_held-held.result c.if-is_held-held.false ∙ c.is_held-held.ensures) (kept g after),
 )

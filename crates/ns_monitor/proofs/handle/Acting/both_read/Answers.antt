@@ -3,14 +3,14 @@ use Rattle.ns_monitor.proofs.Prelude.{TableId}
 use Rattle.ns_monitor.proofs.Callers.{of_one}
 use Rattle.ns_monitor.proofs.handle.Acting.both_read.Goals as goal
 
-pub both_read-first-requires : goal.both_read-first-requires
-both_read-first-requires g c = (omega arith, (omega arith, (omega arith, (c.self.invariant, of_one c.self.inside.caller _ c.other.inside.caller _ c.self.inside.monitor.now c.self.view_is c.other.view_is c.requires c.self.invariant))))
+pub both_read-caller-requires : goal.both_read-caller-requires
+both_read-caller-requires g c = (omega arith, (omega arith, (omega arith, (c.self.invariant, of_one c.self.inside.caller _ c.other.inside.caller _ c.self.inside.monitor.now c.self.view_is c.other.view_is c.requires c.self.invariant))))
 
 pub invariant_of-first : goal.invariant_of-first
-invariant_of-first g c = ◌∙◌ {A = TableId} c.both_read-first.ensures.learned.0.monitor c.self.invariant
+invariant_of-first g c = ◌∙◌ {A = TableId} c.both_read-caller.ensures.learned.0.monitor c.self.invariant
 
-pub invariant_of-second : goal.invariant_of-second
-invariant_of-second g c = ◌∙◌ {A = TableId} c.both_read-first.ensures.learned.1.monitor (of_one c.self.inside.caller _ c.other.inside.caller _ c.self.inside.monitor.now c.self.view_is c.other.view_is c.requires c.self.invariant)
+pub invariant_of-result : goal.invariant_of-result
+invariant_of-result g c = ◌∙◌ {A = TableId} c.both_read-caller.ensures.learned.1.monitor (of_one c.self.inside.caller _ c.other.inside.caller _ c.self.inside.monitor.now c.self.view_is c.other.view_is c.requires c.self.invariant)
 
 pub returns : goal.returns
-returns g c = let e = c.both_read-first.ensures in rw (← c.self.view_is, ← c.other.view_is) record { read = e.read; learned = e.learned; before = e.before; after = e.after }
+returns g c = let e = c.both_read-caller.ensures in rw (← c.self.view_is, ← c.other.view_is) record { read = e.read; learned = e.learned; before = e.before; after = e.after }

@@ -1,5 +1,5 @@
-use Rattle.std.proofs.Common.{Some, ap, false, subst, true, ◌∙◌, ◌≡◌}
-use Rattle.ns_monitor.proofs.Prelude.{Answered, Await, Bounded, Grows, HasAnswered, HasMadeSteps, IsAtRest, Known, Met, OnEntry, QueuesOrEnds, TableId, is_limited, known_of, rules, wait_first, waits_by}
+use Rattle.std.proofs.Common.{None, Some, ap, arith, false, subst, sym, true, ◌∙◌, ◌≡◌}
+use Rattle.ns_monitor.proofs.Prelude.{Answered, Await, Bounded, Grows, HasAnswered, HasMadeSteps, HasSince, IsAtRest, IsNumberOf, Known, Met, OnEntry, QueuesOrEnds, SeatOf, TableId, is_limited, known_of, rules, since_then, the, wait_first, waits_by}
 use Rattle.ns_monitor.proofs.Bounds.{gone_then}
 use Rattle.ns_monitor.proofs.Callers.{grew}
 use Rattle.ns_monitor.proofs.Returns.{ended_since, tested_so}
@@ -37,12 +37,24 @@ returns-in-Some-clause-grows g c = let at = goal.at.returns-in-Some-clause-grows
     subst (λ (k : Known g.row.C.Denot g.row.N). Grows g.C.Condition.means (wait_first g.row.N (waits_by g.H.Section.mode c.args.condition c.args.limits)) c.args.held k) (search rules)
     (grown g at.After-test c.look_before.new.seat led.0.rest (looked g at.After-look_before at.After-test))
 
+-- the number is the seat's still
+numbered : (g : Over) (c : After-look_before g) (test : After-test g) → IsNumberOf c.held.inside.number c.look_before.new.seat.me
+numbered g c test = let s = (looked g c test).by in (c.held.invariant.1.0 ∙ (ap (λ (b : Bounded g.row.C.Denot g.row.N). (the b.me.0).at.seat) (sym c.new-bound.ensures) ∙ sym s.seat), c.held.invariant.1.1)
+
+pub wait_slow-answer-requires : goal.wait_slow-answer-requires
+wait_slow-answer-requires g c = let at = goal.at.wait_slow-answer-requires g c in
+    (omega arith, (omega arith, (omega arith, (search rules, (search rules, (subst (IsNumberOf c.held.inside.number) (sym c.end-2.ensures.me) (numbered g at.After-look_before at.After-test), search rules))))))
+
 pub returns-clause-grows : goal.returns-clause-grows
-returns-clause-grows g c = let at = goal.at.returns-clause-grows g c in let wait = waits_by c.mode-mode.result c.args.condition c.args.limits in
-    rw c.holding.ensures (subst (λ (k : Known g.row.C.Denot g.row.N). Grows g.C.Condition.means (wait_first g.row.N (waits_by g.H.Section.mode c.args.condition c.args.limits)) c.args.held k) (search rules)
-    (grown g at.After-test c.wait_on-answer.new.seat c.wait_on-answer.ensures.answered.so.rest (gone_then (Some (wait_first g.row.N wait)) _ _ _ (looked g at.After-look_before at.After-test) c.wait_on-answer.ensures.answered.since)))
+returns-clause-grows g c = let at = goal.at.returns-clause-grows g c in let t = g.C.Condition.means in let s0 = c.held.inside.seat in let slow = c.wait_slow-answer in
+    let first = wait_first g.row.N (waits_by c.mode-mode.result c.args.condition c.args.limits) in
+    let before = rw c.new-bound.ensures at (looked g at.After-look_before at.After-test) in
+    let behind = subst (λ (me : SeatOf g.row.C.Denot g.row.N). HasSince None (the me.0) (the slow.new.seat.me.0)) c.end-2.ensures.me slow.ensures.since in
+    rw c.holding.ensures (subst (λ (k : Known g.row.C.Denot g.row.N). Grows t (wait_first g.row.N (waits_by g.H.Section.mode c.args.condition c.args.limits)) c.args.held k) (search rules)
+    (subst (λ m. Grows t (wait_first g.row.N (waits_by m c.args.condition c.args.limits)) c.args.held (known_of slow.new.seat.table_id slow.new.seat.me)) c.mode-mode.ensures
+    (grew t first c.args.held s0.table_id slow.new.seat.table_id s0.me slow.new.seat.me c.held.view_is (slow.ensures.seat ∙ sym c.requires.of) slow.ensures.answered.rest (since_then (Some first) _ _ _ before.by behind))))
 
 pub returns-clause-ended : goal.returns-clause-ended
-returns-clause-ended g c =
-    ended_since (λ cause. (is_limited c.args.limits ≡ true) × g.W.Watch.shows c.look_before.new.watch c.wait_on-answer.new.watch c.args.limits (Some cause)) (λ cause. g.W.Watch.shows c.args.watch.now c.wait_on-answer.new.watch c.args.limits (Some cause)) c.wait_on-answer.result
-    (λ cause shown. g.W.Watch.later c.args.watch.now c.look_before.new.watch c.wait_on-answer.new.watch c.args.limits (Some cause) c.look_before.ensures.looked shown.1) c.wait_on-answer.ensures.ended
+returns-clause-ended g c = let slow = c.wait_slow-answer in
+    ended_since (λ cause. (is_limited c.args.limits ≡ true) × g.W.Watch.shows c.look_before.new.watch slow.new.watch c.args.limits (Some cause)) (λ cause. g.W.Watch.shows c.args.watch.now slow.new.watch c.args.limits (Some cause)) slow.result
+    (λ cause shown. g.W.Watch.later c.args.watch.now c.look_before.new.watch slow.new.watch c.args.limits (Some cause) c.look_before.ensures.looked shown.1) slow.ensures.ended
