@@ -17,7 +17,8 @@ use ns_replay::{Fault, Script, ScriptCondition};
 use ns_word::word::Word;
 use ns_world::call::Call;
 use ns_world::fault::Fault as Refused;
-use ns_world::run::{Tally, counted_turn, follow, next_call};
+use ns_world::observer::Nobody;
+use ns_world::run::{Tally, next_call};
 use ns_world::schedule::Turn;
 use ns_world::step::Step;
 use ns_world::world::World;
@@ -96,7 +97,7 @@ fn begin(alloc: Global, script: &Script, limit: u32) -> Result<Drawing, Fault>
         script.onces as usize,
     )?;
     let mut tally = Tally::new(alloc);
-    if let Err(refused) = follow(&mut world, threads, &mut tally, &script.schedule, limit) {
+    if let Err(refused) = world.follow(threads, &mut tally, &script.schedule, limit, &mut Nobody) {
         return Err(fault_of(refused));
     }
     let standings = first_standings(alloc, &world, threads, &tally)?;
@@ -135,13 +136,9 @@ fn make_turn(
     ensures err { IfErr result (λ fault. Stops (map (λ calls. calls.items) threads.now) limit (stage_of drawing.old).progress drawing.old.tally.turns (record { seat = thread; whole = false } ∷ []) (stage_of drawing.new).progress drawing.new.tally.turns fault) }
 {
     let word = drawing.world.word();
-    let step = counted_turn(
-        &mut drawing.world,
-        threads,
-        &mut drawing.tally,
-        thread,
-        limit,
-    )?;
+    let step = drawing
+        .world
+        .counted_turn(threads, &mut drawing.tally, thread, limit, &mut Nobody)?;
     let made = Made {
         step,
         changed: differ(word, drawing.world.word()),

@@ -11,6 +11,7 @@ use crate::seeds::Seeds;
 use crate::tallying::Found;
 use crate::watch::Watch;
 use ns_replay::{Fault, Sink, Source, collect_bytes, run_bytes, write_all};
+use ns_world::observer::Nobody;
 use std::alloc::{AllocError, Global};
 
 /// The first line of an outcome's block.
@@ -87,7 +88,7 @@ fn report_for<P: Watch>(
     ensures ok { IfOk result (λ text. IsReport seeds bytes.now (string_bytes text)) }
     ensures err { IfErr result (IsUndrawn seeds (P.last watch.old) (P.last watch.new) bytes.now) }
 {
-    let (script, _) = run_bytes(alloc, bytes, seeds.limit)?;
+    let (script, _) = run_bytes(alloc, bytes, seeds.limit, &mut Nobody)?;
     let counted = count_outcomes(alloc, &script, seeds, watch)?;
     Ok(report(alloc, &counted, seeds)?)
 }

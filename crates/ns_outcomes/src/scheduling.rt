@@ -11,6 +11,7 @@ ghost use Rattle.ns_outcomes.specs.Texts.{AreMembers, IsMember, IsScriptText, li
 
 use crate::outcome::{outcome_of, run_seed};
 use ns_replay::{Fault, Script, ScriptPath, Sink, Source, collect_bytes, run_bytes, write_all};
+use ns_world::observer::Nobody;
 use ns_world::schedule::Turn;
 use serde_json::Value;
 use std::alloc::{AllocError, Global};
@@ -156,7 +157,7 @@ fn comes_to(
     ensures comes { IfOk result (λ same. same ≡ true → ComesTo limit text.now (plan_of wanted.now) outcome.now) }
     ensures other { IfOk result (λ same. same ≡ false → ComesElsewhere limit text.now (plan_of wanted.now) outcome.now) }
 {
-    let (script, run) = match run_bytes(alloc, text.as_bytes(), limit) {
+    let (script, run) = match run_bytes(alloc, text.as_bytes(), limit, &mut Nobody) {
         Ok(ran) => ran,
         Err(Fault::OutOfMemory) => return Err(AllocError),
         Err(_) => return Ok(false),
@@ -175,7 +176,7 @@ fn script_for(alloc: Global, bytes: &[u8], seed: u64, limit: u32) -> Result<Stri
     ensures ok { IfOk result (λ text. IsScheduled limit seed bytes.now (string_bytes text)) }
     ensures err { IfErr result (λ fault. IsUnscheduled limit seed bytes.now fault) }
 {
-    let (script, _) = run_bytes(alloc, bytes, limit)?;
+    let (script, _) = run_bytes(alloc, bytes, limit, &mut Nobody)?;
     let run = run_seed(alloc, &script, seed, limit)?;
     let schedule = joined(alloc, &script, &run.words)?;
     if schedule.len() > MAX_WORDS {

@@ -2,7 +2,11 @@
 use Rattle.std.proofs.Common.{All, Bool, List, None, Option, Some, [], ap, arith, cond, false, inl, inr, length, map, replicate, subst, sym, true, ℕ, ◌<◌, ◌==◌, ◌∙◌, ◌∷◌, ◌≡◌, ◌≤◌, ◌⊎◌}
 use Rattle.ns_replay.proofs.Prelude.{All-append, All-from_recursion, All-nil, All-replicate, AllByRecursion, Call, IsRunFault, IsRunnable, IsShort, Line, ListFits, Plan, RunFault, Runs, RunsTo, Script, ScriptCondition, StopsFor, Turn, Turned, Vec, Whole, WorldFault, fault_of_world, fresh_whole}
 use Rattle.ns_replay.proofs.Prelude.{is_end, length-map, length_seats, none_busy, plan_of, recursion_from_All, rest_of, script_truths, start, turns_stay, whole_busy, world_for}
-use Rattle.ns_world.specs.Runs.{Item, Progress, items_of}
+use Rattle.ns_world.proofs.Schedules.{run_stopped}
+use Rattle.ns_world.specs.Runs.{Item, Progress, RunHalts, RunsSeen, Sees, items_of, lists_of}
+use Rattle.ns_world.specs.Whole.{whole_of}
+use Rattle.ns_world.specs.World.{Kept}
+use Rattle.ns_replay.specs.Replaying.{IsToldTo}
 use Rattle.ns_world.specs.declared.fault.Fault.TheVariants as world
 
 -- ---- the items that are left are the schedule's
@@ -45,18 +49,24 @@ seat_there limit plan now runnable fault =
     no_seat limit stops.end fault.leaves fault.after (length plan.threads) stops.advances.turns stops.left (kept ∙ first) (rest_each _ (items_of plan.schedule) stops.advances.turns stops.left stops.advances.rest (recursion_from_All _ _ items)) stops.why
 
 -- A run of a script that was read fails by want of memory, or by the limit.
-pub run_fails : (limit : ℕ) (plan : Plan) (now : Whole ScriptCondition 8) (fault : WorldFault) → IsRunnable plan → RunFault plan.threads plan.schedule limit (world_for plan) now fault → IsRunFault limit plan (fault_of_world fault)
-run_fails limit plan now world.OutOfMemory runnable why = tt
-run_fails limit plan now world.StepLimit runnable why = (now, why)
-run_fails limit plan now world.NoSuchSeat runnable why = absurd (seat_there limit plan now runnable why)
-run_fails limit plan now world.TooManySeats runnable why =
-    let stops = why.stops in
-    absurd (no_room limit stops.end why.leaves why.after stops.advances.turns stops.left stops.why)
+pub run_fails : (refuses : Bool) (limit : ℕ) (plan : Plan) (now : Whole ScriptCondition 8) (fault : WorldFault) → IsRunnable plan → RunHalts refuses plan.threads plan.schedule limit (world_for plan) now fault → IsRunFault limit plan (fault_of_world fault)
+run_fails refuses limit plan now world.OutOfMemory runnable why = tt
+run_fails refuses limit plan now world.StepLimit runnable why = (now, run_stopped refuses plan.threads plan.schedule limit (world_for plan) now world.StepLimit (λ e. cc) why)
+run_fails refuses limit plan now world.NoSuchSeat runnable why = absurd (seat_there limit plan now runnable (run_stopped refuses plan.threads plan.schedule limit (world_for plan) now world.NoSuchSeat (λ e. cc) why))
+run_fails refuses limit plan now world.TooManySeats runnable why =
+    let stopped = run_stopped refuses plan.threads plan.schedule limit (world_for plan) now world.TooManySeats (λ e. cc) why in
+    let stops = stopped.stops in
+    absurd (no_room limit stops.end stopped.leaves stopped.after stops.advances.turns stops.left stops.why)
 
 -- the same, as a run over the lists of a script gives it
-pub script_fails : (limit : ℕ) (script : Script) (old now : Whole ScriptCondition 8) (fault : WorldFault) → IsRunnable (plan_of script) → old ≡ world_for (plan_of script) →
-    RunFault (map (λ calls. calls.items) script.threads.items) script.schedule.items limit old now fault → IsRunFault limit (plan_of script) (fault_of_world fault)
-script_fails limit script old now fault runnable first stops = run_fails limit (plan_of script) now fault runnable (rw first at stops)
+pub script_fails : (refuses : Bool) (limit : ℕ) (script : Script) (old now : Whole ScriptCondition 8) (fault : WorldFault) → IsRunnable (plan_of script) → old ≡ world_for (plan_of script) →
+    RunHalts refuses (lists_of script.threads.items) script.schedule.items limit old now fault → IsRunFault limit (plan_of script) (fault_of_world fault)
+script_fails refuses limit script old now fault runnable first stops = run_fails refuses limit (plan_of script) now fault runnable (rw first at stops)
+
+-- An observer of such a run is told of the script's.
+pub script_told : {O : Type 0} (sees : Sees ScriptCondition 8 O) (limit : ℕ) (script : Script) (old now : Kept ScriptCondition 8) (before after : O) → whole_of script_truths old ≡ world_for (plan_of script) →
+    RunsSeen script_truths sees (lists_of script.threads.items) script.schedule.items limit old before now after → IsToldTo sees limit (plan_of script) before now after
+script_told sees limit script old now before after first told = record { old = old; is = first; runs = told }
 
 -- A run of a script that was read, as a run over its lists gives it.
 pub script_runs : (limit : ℕ) (script : Script) (old now : Whole ScriptCondition 8) (lines : List Line) → old ≡ world_for (plan_of script) →

@@ -20,7 +20,8 @@ pub use Rattle.ns_replay.specs.declared.streams.Got.TheVariants.{Bytes, Failed, 
 pub use Rattle.ns_word.specs.Names.{AfterAny, AfterCv, AnyWait, Canceled, CondWait, Entry, Exit, LeaveAny, Met, Seats, Section, TimedOut, Waited}
 pub use Rattle.ns_world.specs.Calls.{IsMoment, IsNoteNumber, IsVariable}
 pub use Rattle.ns_world.specs.Prelude.{Answer, CallInRange, Cvs, Event, Item, Items, Limits, ListFits, Mode, OnVariable, StopsFor, Truths, Turned, Whole, Word, fresh_whole, is_end, is_in, lists_shown, rest_of, shown_of, wakes_owed, whole_busy, whole_of}
-pub use Rattle.ns_world.specs.Runs.{RunFault, Runs, start}
+pub use Rattle.ns_world.specs.Runs.{RunFault, Runs, RunsSeen, Sees, start}
+pub use Rattle.ns_world.specs.World.{Kept}
 pub use Rattle.ns_world.specs.declared.call.Call.{Call}
 pub use Rattle.ns_world.specs.declared.call.Call.TheVariants.{Add, Advance, Broadcast, CounterWait, CvWait, Done, Expiry, Get, IsNotified, Lock, NewNote, NoteWait, Notify, Once, RLock, RUnlock, Set, Signal, TryLock, TryRLock, Unlock, UnlockQuiet, Value, Wait, WaitAny}
 pub use Rattle.ns_world.specs.declared.fault.Fault.{Fault as WorldFault}

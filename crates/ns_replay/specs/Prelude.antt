@@ -6,7 +6,7 @@ pub use Rattle.ns_replay.specs.Names.{Add, Advance, BadScript, Broadcast, Call, 
 pub use Rattle.ns_replay.specs.Names.{RunFault, Runs, Script, ScriptCondition, ScriptPath, Seats, Set, Signal, StepLimit, StopsFor, TooMany, Turn, Turned, Value, Wait, WaitAny, Whole, WorldFault, as_array, as_number, as_str, as_u64, fresh_whole, get, is_end, is_in, items_of, lists_shown}
 pub use Rattle.ns_replay.specs.Names.{members_view, no_items, read, rest_of, shown_of, start, view, wakes_owed, whole_busy, whole_of, with_item}
 pub use Rattle.ns_replay.specs.Objects.{items_behind, items_in, one_more}
-pub use Rattle.ns_replay.specs.Replaying.{Answers, Ended, HasRun, IsRefused, IsRunFault, IsText, RunsTo, WasRead, world_for}
+pub use Rattle.ns_replay.specs.Replaying.{Answers, Ended, HasRun, IsRefused, IsRunFault, IsToldTo, IsText, RunsTo, WasRead, world_for}
 pub use Rattle.ns_replay.specs.Runnable.{IsRunnable, IsShort}
 pub use Rattle.ns_replay.specs.Script.{Plan, any_variables, are_known, at_most, is_known, json_read, list_of, plan_of, words_of}
 pub use Rattle.ns_replay.specs.Streams.{Counts, stuck_by}

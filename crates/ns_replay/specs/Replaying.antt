@@ -1,7 +1,8 @@
 -- What a replay answers and writes.
 use Rattle.std.specs.Io.KnownBytes.{Appends, IsAtEnd, Keeps}
 use Rattle.std.specs.Prelude.{Err, List, Ok, Option, Result, if◌then◌else◌, length, nat_lt, ℕ, ⊤, ◌++◌, ◌<◌, ◌≡◌, ◌≤◌, ◌⊎◌}
-use Rattle.ns_replay.specs.Names.{Fault, Line, Options, OutOfMemory, Read, RunFault, Runs, ScriptCondition, StepLimit, TooMany, Whole, Write, fresh_whole}
+use Rattle.ns_replay.specs.Names.{Fault, Line, Options, OutOfMemory, Read, Kept, RunFault, Runs, RunsSeen, ScriptCondition, Sees, StepLimit, TooMany, Whole, Write, fresh_whole}
+use Rattle.ns_world.specs.Whole.{whole_of}
 use Rattle.ns_replay.specs.Condition.{script_truths}
 use Rattle.ns_replay.specs.Runnable.{IsRunnable}
 use Rattle.ns_replay.specs.Script.{Plan, script_of}
@@ -20,6 +21,12 @@ world_for plan = fresh_whole script_truths (length plan.threads) plan.counters p
 -- A run of the script in at most so many turns ends in this world, and gives these lines.
 abbrev pub RunsTo : ℕ → Plan → Whole ScriptCondition 8 → List Line → Type 0
 RunsTo limit plan world lines = Runs plan.threads plan.schedule limit (world_for plan) world lines
+
+-- An observer is told of each turn of a run of the script, in at most so many turns, which ends in this world: it was the one, and has become the other.
+pub record IsToldTo {O : Type 0} (sees : Sees ScriptCondition 8 O) (limit : ℕ) (plan : Plan) (first : O) (world : Kept ScriptCondition 8) (last : O) : Type 0 where
+  pub old : Kept ScriptCondition 8
+  pub is : whole_of script_truths old ≡ world_for plan
+  pub runs : RunsSeen script_truths sees plan.threads plan.schedule limit old first world last
 
 -- A run of the script has made as many turns as it may, and its schedule needs one more.
 abbrev pub NeedsMore : ℕ → Plan → Type 0

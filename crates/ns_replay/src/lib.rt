@@ -48,7 +48,7 @@ pub use fault::Fault;
 pub use options::Options;
 pub use path::ScriptPath;
 pub use replaying::{replay, run_bytes};
-pub use running::Run;
+pub use running::{Run, run_script};
 pub use script::Script;
 pub use streams::{Got, Sink, Source};
 pub use text::push_reply;

@@ -4,17 +4,21 @@
 //! written. Nothing else here takes memory.
 
 ghost use Rattle.std.specs.Prelude.{◌≡◌, ◌≢◌, ◌≤◌, length, IfOk, IfErr, IsErrOf, OnOk, true, false, string_bytes};
-ghost use Rattle.ns_replay.specs.Prelude.{Answers, Ended, Gave, HasRun, IsAskedEnough, IsEnough, IsFine, IsReadFault, IsRefused, IsText, IsWriteFault, WasRead, plan_of, script_truths, whole_of};
+ghost use Rattle.ns_replay.specs.Prelude.{Answers, Ended, Gave, HasRun, IsAskedEnough, IsEnough, IsFine, IsReadFault, IsRefused, IsText, IsToldTo, IsWriteFault, WasRead, plan_of, script_truths, whole_of};
 
+use crate::condition::ScriptCondition;
 use crate::fault::Fault;
 use crate::options::Options;
 use crate::running::{Run, run_script, run_text};
 use crate::script::{Script, read_script};
 use crate::streams::{Sink, Source};
 use crate::transfer::{collect_bytes, write_all};
+use ns_world::call::Call;
+use ns_world::observer::{Nobody, Observer};
+use ns_world::world::World;
 use std::alloc::Global;
 
-/// Reads the script that the bytes give, and runs it in a new world.
+/// Reads the script that the bytes give, runs it in a new world, and tells the observer of each turn.
 ///
 /// Refuses bytes that are no JSON (`NotJson`); the first place of the script that is missing or of the
 /// wrong kind (`BadScript`) or that holds too much (`TooMany`), member by member; and a schedule that
@@ -22,13 +26,19 @@ use std::alloc::Global;
 /// (`OutOfMemory`).
 ///
 /// Needs at most 1 MiB.
-pub fn run_bytes(alloc: Global, bytes: &[u8], limit: u32) -> Result<(Script, Run), Fault>
+pub fn run_bytes<O: Observer<World<ScriptCondition, 8>, Call<ScriptCondition>>>(
+    alloc: Global,
+    bytes: &[u8],
+    limit: u32,
+    observer: &mut O,
+) -> Result<(Script, Run), Fault>
     requires { length bytes.now ≤ 1048576 }
     ensures ok { IfOk result (λ ran. HasRun limit bytes.now (plan_of ran.0) (whole_of script_truths ran.1.world) ran.1.lines.items) }
+    ensures told { IfOk result (λ ran. IsToldTo O.sees limit (plan_of ran.0) observer.old ran.1.world observer.new) }
     ensures err { IfErr result (λ fault. IsRefused limit bytes.now fault) }
 {
     let script = read_script(alloc, bytes)?;
-    let run = run_script(alloc, &script, limit)?;
+    let run = run_script(alloc, &script, limit, observer)?;
     Ok((script, run))
 }
 
@@ -38,7 +48,7 @@ fn text_for(alloc: Global, bytes: &[u8], options: Options) -> Result<String, Fau
     ensures ok { IfOk result (λ text. IsText options bytes.now (string_bytes text)) }
     ensures err { IfErr result (λ fault. IsRefused options.limit bytes.now fault) }
 {
-    let (script, run) = run_bytes(alloc, bytes, options.limit)?;
+    let (script, run) = run_bytes(alloc, bytes, options.limit, &mut Nobody)?;
     Ok(run_text(alloc, &script, &run, options)?)
 }
 

@@ -1,13 +1,15 @@
 //! The run of a script in a new world, and its text.
 
 ghost use Rattle.std.specs.Prelude.{◌≡◌, ◌≤◌, length, string_bytes, IfOk, IfErr};
-ghost use Rattle.ns_replay.specs.Prelude.{IsRunFault, IsRunnable, RunsTo, plan_of, script_truths, text_of, whole_of};
+ghost use Rattle.ns_replay.specs.Prelude.{IsRunFault, IsRunnable, IsToldTo, RunsTo, plan_of, script_truths, text_of, whole_of};
 
 use crate::condition::ScriptCondition;
 use crate::fault::Fault;
 use crate::options::Options;
 use crate::script::Script;
 use crate::text::{push_history, push_lefts, push_lines, push_row, push_state};
+use ns_world::call::Call;
+use ns_world::observer::Observer;
 use ns_world::schedule::Line;
 use ns_world::world::World;
 use std::alloc::{AllocError, Global};
@@ -21,10 +23,19 @@ pub struct Run {
     pub lines: Vec<Line>,
 }
 
-/// Runs a script in a new world, which has a seat for each thread.
-pub fn run_script(alloc: Global, script: &Script, limit: u32) -> Result<Run, Fault>
+/// Runs a script in a new world, which has a seat for each thread, and tells the observer of each turn.
+///
+/// Needs a script that was read. Refuses a schedule that needs more turns than `limit` (`StepLimit`), and want of
+/// memory (`OutOfMemory`).
+pub fn run_script<O: Observer<World<ScriptCondition, 8>, Call<ScriptCondition>>>(
+    alloc: Global,
+    script: &Script,
+    limit: u32,
+    observer: &mut O,
+) -> Result<Run, Fault>
     requires { IsRunnable (plan_of script.now) }
     ensures ok { IfOk result (λ run. RunsTo limit (plan_of script.now) (whole_of script_truths run.world) run.lines.items) }
+    ensures told { IfOk result (λ run. IsToldTo O.sees limit (plan_of script.now) observer.old run.world observer.new) }
     ensures err { IfErr result (λ fault. IsRunFault limit (plan_of script.now) fault) }
 {
     let mut world = World::new(
@@ -33,7 +44,7 @@ pub fn run_script(alloc: Global, script: &Script, limit: u32) -> Result<Run, Fau
         &script.counters,
         script.onces as usize,
     )?;
-    let lines = world.run(alloc, &script.threads, &script.schedule, limit)?;
+    let lines = world.run(alloc, &script.threads, &script.schedule, limit, observer)?;
     Ok(Run { world, lines })
 }
 

@@ -131,7 +131,7 @@ fn bar_in(
     last: Option<Bar>,
 ) -> Option<Bar> {
     match layer {
-        Layer::Sections if sight.writer == Some(thread) => Some(Bar::Write),
+        Layer::Sections if has(sight.writers, thread) => Some(Bar::Write),
         Layer::Sections if has(sight.readers, thread) => Some(Bar::Read),
         Layer::Waits => wait(sight, thread, call, last),
         Layer::Queues if sight.queues == Some(thread) => Some(Bar::Queues),

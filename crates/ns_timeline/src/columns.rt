@@ -42,7 +42,7 @@ pub fn busiest(calls: &[usize; 64], threads: u8) -> Seats
 
 /// The bar of a section: `#` for one that writes, `:` for one that reads.
 fn bar(sight: &Sight, thread: u8) -> char {
-    if sight.writer == Some(thread) {
+    if has(sight.writers, thread) {
         '#'
     } else if has(sight.readers, thread) {
         ':'

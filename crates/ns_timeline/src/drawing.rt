@@ -10,15 +10,16 @@ ghost use Rattle.ns_timeline.specs.Pictures.{IsDrawing, IsPicture, RunsIn};
 use crate::columns::busiest;
 use crate::document::document_of;
 use crate::line::Lines;
-use crate::paper::Paper;
 use crate::record::Record;
 use crate::sight::has;
-use crate::stepping::{Drawing, draw_schedule};
+use crate::stepping::Drawing;
 use ns_model::seats::Seats;
-use ns_replay::{Fault, Run, Script, Sink, Source, collect_bytes, run_bytes, write_all};
+use ns_replay::{
+    Fault, Run, Script, Sink, Source, collect_bytes, run_bytes, run_script, write_all,
+};
+use ns_world::observer::Nobody;
 use ns_world::schedule::Line;
-use ns_world::world::World;
-use std::alloc::{AllocError, Global};
+use std::alloc::Global;
 
 /// How many calls of a thread are over.
 fn finished(lines: &[Line], thread: u8) -> usize {
@@ -43,39 +44,18 @@ fn shown_in(script: &Script, run: &Run) -> Seats
     busiest(&begun(run), script.threads.len() as u8)
 }
 
-/// The paper on which the run of a script is drawn.
-fn drawn_on<P: Paper + Drop>(
-    alloc: Global,
-    script: &Script,
-    paper: P,
-    limit: u32,
-) -> Result<P, AllocError>
-    requires { IsRunnable (plan_of script.now) }
-{
-    let threads = script.threads.as_slice();
-    // There are no more threads than seats, so that only memory can be refused.
-    let Ok(mut world) = World::new(
-        alloc,
-        threads.len(),
-        &script.counters,
-        script.onces as usize,
-    ) else {
-        return Err(AllocError);
-    };
-    let mut drawing = Drawing::new(paper);
-    draw_schedule(&mut drawing, &mut world, threads, &script.schedule, limit)?;
-    Ok(drawing.paper)
-}
-
-/// The picture of a run of the script that the bytes give.
+/// The picture of a run of the script that the bytes give. Which threads have a column, the run is to tell; so it is
+/// made once more, to be drawn.
 fn picture_for(alloc: Global, bytes: &[u8], limit: u32) -> Result<Vec<u8>, Fault>
     requires { length bytes.now ≤ 1048576 }
     ensures ok { IfOk result (λ picture. RunsIn limit bytes.now) }
     ensures err { IfErr result (λ fault. IsRefused limit bytes.now fault) }
 {
-    let (script, run) = run_bytes(alloc, bytes, limit)?;
+    let (script, run) = run_bytes(alloc, bytes, limit, &mut Nobody)?;
     let paper = Lines::headed(alloc, shown_in(&script, &run), script.threads.len() <= 16)?;
-    Ok(drawn_on(alloc, &script, paper, limit)?.picture)
+    let mut drawing = Drawing::new(paper);
+    run_script(alloc, &script, limit, &mut drawing)?;
+    Ok(drawing.paper.picture)
 }
 
 /// The drawing of a run of the script that the bytes give.
@@ -84,10 +64,10 @@ fn drawing_for(alloc: Global, bytes: &[u8], limit: u32) -> Result<Vec<u8>, Fault
     ensures ok { IfOk result (λ document. IsDrawing limit bytes.now document.items) }
     ensures err { IfErr result (λ fault. IsRefused limit bytes.now fault) }
 {
-    let (script, run) = run_bytes(alloc, bytes, limit)?;
-    let record = drawn_on(alloc, &script, Record::new(alloc), limit)?;
+    let mut drawing = Drawing::new(Record::new(alloc));
+    let (script, run) = run_bytes(alloc, bytes, limit, &mut drawing)?;
     let is_all = script.threads.len() <= 16;
-    Ok(document_of(alloc, &record, shown_in(&script, &run), is_all)?)
+    Ok(document_of(alloc, &drawing.paper, shown_in(&script, &run), is_all)?)
 }
 
 /// Reads a script to its end, runs it in a new world, and then writes a picture of the run.

@@ -5,18 +5,15 @@ ghost use Rattle.ns_model.specs.Seats.{is_in};
 
 use ns_model::seats::Seats;
 use ns_queue::waiter::Shown;
-use ns_word::word::Word;
 use ns_world::state::State;
 
 /// What can be seen of a world between two turns. The threads are its seats.
 #[derive(Clone, Copy, PartialEq, Eq)]
 pub struct Sight {
     /// Who has a write section in hand.
-    pub writer: Option<u8>,
+    pub writers: Seats,
     /// Who has a read section in hand.
     pub readers: Seats,
-    /// How many these are.
-    pub reading: u8,
     /// Who has the waiter queues in hand.
     pub queues: Option<u8>,
     /// Who waits in the list of the lock.
@@ -76,37 +73,18 @@ fn owed(wakes: &[(u8, u8)]) -> Seats {
     seats
 }
 
-/// Who holds what only one can hold, after a turn of the thread: who has held it before, else who has made
-/// the turn.
-///
-/// A world shows no section by its seat, so it is drawn by the lock word: whose turn sets the writer's bit,
-/// or counts one reader more, has begun a section, and whose turn takes it back has ended it.
-fn holder(before: Option<u8>, is_held: bool, thread: u8) -> Option<u8> {
-    if is_held {
-        before.or(Some(thread))
-    } else {
-        None
-    }
-}
-
-/// Who has a read section in hand, after a turn of the thread that left so many.
-fn readers(before: &Sight, reading: u8, thread: u8) -> Seats {
-    if before.reading < reading {
-        either(before.readers, only(thread))
-    } else if reading < before.reading {
-        without(before.readers, only(thread))
-    } else {
-        before.readers
-    }
+/// Who has the waiter queues in hand, after a turn of the thread: who has had them before, else who has made the
+/// turn. A world shows only that somebody has them, by the lock word.
+fn queues(before: Option<u8>, spin: bool, thread: u8) -> Option<u8> {
+    if spin { before.or(Some(thread)) } else { None }
 }
 
 impl Sight {
     /// What is seen before the first turn.
     pub fn new() -> Sight {
         Sight {
-            writer: None,
+            writers: Seats::none(),
             readers: Seats::none(),
-            reading: 0,
             queues: None,
             lock: Seats::none(),
             variables: [Seats::none(); 4],
@@ -118,18 +96,11 @@ impl Sight {
 
     /// What is seen of the world's state after a turn of the thread, where this was seen before it.
     pub fn after(&self, state: &State<8>, thread: u8) -> Sight {
-        let Word {
-            write,
-            spin,
-            readers: reading,
-            ..
-        } = state.word;
         let [first, second, third, fourth] = &state.cvs;
         Sight {
-            writer: holder(self.writer, write, thread),
-            readers: readers(self, reading, thread),
-            reading,
-            queues: holder(self.queues, spin, thread),
+            writers: state.writers,
+            readers: state.readers,
+            queues: queues(self.queues, state.word.spin, thread),
             lock: standing(state.lock.as_slice()),
             variables: [
                 standing(first.as_slice()),
@@ -175,9 +146,6 @@ impl Sight {
 
     /// Who has a section in hand.
     pub fn holding(&self) -> Seats {
-        match self.writer {
-            Some(writer) => either(self.readers, only(writer)),
-            None => self.readers,
-        }
+        either(self.readers, self.writers)
     }
 }

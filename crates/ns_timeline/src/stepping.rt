@@ -1,7 +1,6 @@
-//! The run once more, turn by turn, in which each turn that changed something is drawn.
+//! What of a run is drawn: each turn that changed something, or ended a call.
 
-ghost use Rattle.std.specs.Prelude.{◌≡◌, ◌≤◌, ◌<◌, All};
-ghost use Rattle.ns_world.specs.Runs.{ListFits};
+ghost use Rattle.std.specs.Prelude.{IsTrue, OnErr, OnOk, ⊤, true};
 
 use crate::paper::{Drawn, Paper};
 use crate::sight::{Sight, both, only};
@@ -9,13 +8,12 @@ use ns_model::seats::Seats;
 use ns_replay::ScriptCondition;
 use ns_word::word::Word;
 use ns_world::call::Call;
-use ns_world::run::{is_end, next_call, turn};
-use ns_world::schedule::Turn;
+use ns_world::observer::Observer;
 use ns_world::step::Step;
 use ns_world::world::World;
 use std::alloc::AllocError;
 
-/// How far the drawing has come.
+/// A drawing of a run, as far as that has come.
 #[derive(Drop)]
 pub struct Drawing<P> {
     /// Where it is drawn.
@@ -24,10 +22,6 @@ pub struct Drawing<P> {
     pub sight: Sight,
     /// The lock word when that was seen.
     pub word: Word,
-    /// How many calls of each thread are over.
-    pub over: [u16; 64],
-    /// How many turns were made.
-    pub turns: u32,
 }
 
 impl<P> Drawing<P> {
@@ -37,8 +31,6 @@ impl<P> Drawing<P> {
             paper,
             sight: Sight::new(),
             word: Word::FREE,
-            over: [0; 64],
-            turns: 0,
         }
     }
 }
@@ -67,6 +59,7 @@ fn is_as_seen<P>(drawing: &Drawing<P>, word: Word, thread: u8, step: Step) -> bo
 fn draw<P: Paper>(
     drawing: &mut Drawing<P>,
     world: &World<ScriptCondition, 8>,
+    turn: u32,
     thread: u8,
     call: Call<ScriptCondition>,
     step: Step,
@@ -85,7 +78,7 @@ fn draw<P: Paper>(
     if after != drawing.sight || reply.is_some() {
         let before = drawing.sight;
         let drawn = Drawn {
-            turn: drawing.turns,
+            turn,
             thread,
             call,
             before: &before,
@@ -99,85 +92,26 @@ fn draw<P: Paper>(
     Ok(())
 }
 
-/// Makes a turn of the thread, and draws it.
-fn drawn_turn<P: Paper>(
-    drawing: &mut Drawing<P>,
-    world: &mut World<ScriptCondition, 8>,
-    threads: &[Vec<Call<ScriptCondition>>],
-    thread: u8,
-) -> Result<Step, AllocError>
-    requires lists { All (λ calls. ListFits 8 calls.items) threads.now }
-    requires thread { thread < 64 }
-{
-    let over = drawing.over[thread as usize];
-    let next = next_call(threads, thread, over);
-    // Every thread has a seat, so that only memory can be refused.
-    let Ok(step) = turn(world, next, thread) else {
-        return Err(AllocError);
-    };
-    drawing.turns = drawing.turns.saturating_add(1);
-    if let Some(call) = next {
-        draw(drawing, world, thread, call, step)?;
-    }
-    if let Step::Finished(_) = step {
-        drawing.over[thread as usize] = over.saturating_add(1);
-    }
-    Ok(step)
-}
+impl<P: Paper> Observer<World<ScriptCondition, 8>, Call<ScriptCondition>> for Drawing<P> {
+    ghost can_refuse = { true };
 
-/// Draws an item of the thread. No run has more turns than the limit.
-fn draw_item<P: Paper>(
-    drawing: &mut Drawing<P>,
-    world: &mut World<ScriptCondition, 8>,
-    threads: &[Vec<Call<ScriptCondition>>],
-    thread: u8,
-    whole: bool,
-    limit: u32,
-) -> Result<(), AllocError>
-    requires lists { All (λ calls. ListFits 8 calls.items) threads.now }
-    requires thread { thread < 64 }
-{
-    for _ in drawing.turns..limit {
-        let step = drawn_turn(drawing, world, threads, thread)?;
-        if is_end(whole, step) {
-            break;
+    ghost sees = { λ old turn new. ⊤ };
+
+    fn see(
+        &mut self,
+        world: &World<ScriptCondition, 8>,
+        turn: u32,
+        seat: u8,
+        call: Option<Call<ScriptCondition>>,
+        step: Step,
+    ) -> Result<(), AllocError>
+        ensures ok { OnOk result ⊤ }
+        ensures err { OnErr result (IsTrue true) }
+    {
+        // A thread with no call left changes nothing.
+        match call {
+            Some(call) => draw(self, world, turn, seat, call, step),
+            None => Ok(()),
         }
     }
-    Ok(())
-}
-
-/// Draws the items of a word of the schedule.
-fn draw_word<P: Paper>(
-    drawing: &mut Drawing<P>,
-    world: &mut World<ScriptCondition, 8>,
-    threads: &[Vec<Call<ScriptCondition>>],
-    word: &Turn,
-    limit: u32,
-) -> Result<(), AllocError>
-    requires { All (λ calls. ListFits 8 calls.items) threads.now }
-{
-    // No script has more than 64 threads.
-    if 64 <= word.thread {
-        return Ok(());
-    }
-    for _ in 0..word.times {
-        draw_item(drawing, world, threads, word.thread, word.whole, limit)?;
-    }
-    Ok(())
-}
-
-/// Draws the run of the schedule in a new world.
-pub fn draw_schedule<P: Paper>(
-    drawing: &mut Drawing<P>,
-    world: &mut World<ScriptCondition, 8>,
-    threads: &[Vec<Call<ScriptCondition>>],
-    schedule: &[Turn],
-    limit: u32,
-) -> Result<(), AllocError>
-    requires { All (λ calls. ListFits 8 calls.items) threads.now }
-{
-    for word in schedule {
-        draw_word(drawing, world, threads, word, limit)?;
-    }
-    Ok(())
 }

@@ -1,14 +1,12 @@
 -- What laws say in words of their own, by which the program isn't proved: of rounds and of replies.
-use Rattle.std.proofs.Common.{Bool, IsSome, List, None, Option, Some, [], ap, arith, cond, drop, false, if◌then◌else◌, refl, slice_index, subst, suc, sym, true, ℕ, ◌==◌, ◌∙◌, ◌∷◌, ◌≡◌, ◌≤◌}
-use Rattle.ns_world.proofs.Prelude.{Answer, AnswersOfLock, Any, AnyMeans, Await, EnvEvent, GoesRound, HasMode, Held, InHand, InRound, Mode, Next, Number, ObjectLeads, ObjectWalk, OnObjects, OnVariables, Releasing, Reply, Round, RoundLeads, RoundPlace, Seat, Step, WaitMeans}
+use Rattle.std.proofs.Common.{Bool, IsSome, List, None, Option, Some, [], ap, arith, cond, drop, false, if◌then◌else◌, refl, subst, suc, sym, true, ℕ, ◌==◌, ◌∙◌, ◌∷◌, ◌≡◌, ◌≤◌}
+use Rattle.ns_world.proofs.Prelude.{AnswersOfLock, Any, AnyMeans, Await, EnvEvent, GoesRound, HasMode, Held, InHand, InRound, Mode, Next, ObjectLeads, ObjectWalk, OnObjects, OnVariables, Releasing, Reply, Round, RoundLeads, RoundPlace, Seat, Step}
 use Rattle.ns_world.proofs.Prelude.{Subject, Wait, WalkReply, Whole, have_variable, held_at, is_among, items_of, none_among, reply_of_lock, row_after, waits_then}
 use Rattle.ns_world.specs.Among.{LooksOn, is_for_any, object_at}
-use Rattle.ns_world.specs.Looks.{came_back, doing_after}
-use Rattle.ns_world.specs.Meanings.{SaysOfRelease, SaysOfTry}
+use Rattle.ns_world.specs.Meanings.{GoesOnBy, GoesOnInRound, SaysOfRead, SaysOfRelease, SaysOfTry, SaysOfWait}
 use Rattle.ns_world.specs.Moves.{ObjectsSteps}
-use Rattle.ns_world.specs.Performs.{step_of}
 use Rattle.ns_word.specs.Meanings.{Means}
-use Rattle.ns_world.specs.Names.{Answered, AnyWait, Cause, Looked, QuietWriter, got_of, held_after, want_of}
+use Rattle.ns_world.specs.Names.{Cause, QuietWriter}
 use Rattle.ns_counters.specs.Asks.{ObjectEffect}
 use Rattle.ns_counters.specs.Names.{Clock, EnvEnd, EnvPlain, EnvWalk, NoteLoad, Over, env_got_of, is_due}
 use Rattle.ns_counters.specs.declared.items.Item.TheVariants.{OnCounter, OnNote, OnVariable}
@@ -81,8 +79,8 @@ module _ {C : Type 0} {N : ℕ} where
       let e = sym (ap (λ (s : Seat C N). s.doing) waits) ∙ stands in
       absurd (cc)
 
-  pub one_round_only : (old new : Whole C N) (here next : Seat C N) (step : Step) (steps : ObjectsSteps old new here next step) (round again : Round) (place behind : RoundPlace) (k : ℕ) → steps.walk ≡ InRound round place → is_among k (items_of round.items) ≡ true → next.doing ≡ OnObjects (InRound again behind) → (again ≡ round) × LooksOn place behind
-  one_round_only old new here next step steps round again place behind k is among stands = by (round_got round place found) refl goes where
+  pub one_round_only : (old new : Whole C N) (here next : Seat C N) (step : Step) (steps : ObjectsSteps old new here next step) (round again : Round) (place behind : RoundPlace) (k : ℕ) → GoesOnInRound steps round place again behind → is_among k (items_of round.items) ≡ true → (again ≡ round) × LooksOn place behind
+  one_round_only old new here next step steps round again place behind k (is, stands) among = by (round_got round place found) refl goes where
     found : ObjectFound
     found = steps.operates.found
 
@@ -104,16 +102,12 @@ module _ {C : Type 0} {N : ℕ} where
     by (RoundOver (Some at)) e g = let d = sym (ap (λ (s : Seat C N). s.doing) g.0) ∙ stands in absurd (cc)
     by (RoundOver None) e g = absurd (waits_behind here next step round again place behind (have_variable round.items) refl k among g stands)
 
-  pub shown_ends : (old new : Whole C N) (here next : Seat C N) (step : Step) (round : GoesRound old new here next step) (place : ℕ) → round.leads ≡ TheNext.Done (TheObject.Number place) →
-      let after : Option AnyWait = Some (record { round = round.wait.round; shown = Some place }) in
-      (cause : Cause) × (next.doing ≡ doing_after after (got_of N round.walk (Looked (Some cause)))) × (next.held ≡ held_after (came_back (want_of round.walk)) (Some cause) here.held) × (step ≡ step_of after (got_of N round.walk (Looked (Some cause))))
+  pub shown_ends : (old new : Whole C N) (here next : Seat C N) (step : Step) (round : GoesRound old new here next step) (place : ℕ) → round.leads ≡ TheNext.Done (TheObject.Number place) → (cause : Cause) × GoesOnBy round (Some place) (Some cause)
   shown_ends old new here next step round place is =
       let goes : RoundLeads (TheNext.Done (TheObject.Number place)) here round.walk round.wait next step = subst (λ n. RoundLeads n here round.walk round.wait next step) is round.goes in
-      (_, ap (λ (s : Seat C N). s.doing) goes.goes, ap (λ (s : Seat C N). s.held) goes.goes, goes.answers)
+      (_, (ap (λ (s : Seat C N). s.doing) goes.goes, ap (λ (s : Seat C N). s.held) goes.goes, goes.answers))
 
-  pub nothing_shown : (old new : Whole C N) (here next : Seat C N) (step : Step) (round : GoesRound old new here next step) (walk : ObjectWalk) → round.leads ≡ TheNext.Idle walk →
-      let after : Option AnyWait = Some (record { round = round.wait.round; shown = None }) in
-      (next.doing ≡ doing_after after (got_of N round.walk (Looked None))) × (next.held ≡ here.held) × (step ≡ step_of after (got_of N round.walk (Looked None)))
+  pub nothing_shown : (old new : Whole C N) (here next : Seat C N) (step : Step) (round : GoesRound old new here next step) (walk : ObjectWalk) → round.leads ≡ TheNext.Idle walk → GoesOnBy round None None
   nothing_shown old new here next step round walk is =
       let goes : RoundLeads (TheNext.Idle walk) here round.walk round.wait next step = subst (λ n. RoundLeads n here round.walk round.wait next step) is round.goes in
       (ap (λ (s : Seat C N). s.doing) goes.goes, ap (λ (s : Seat C N). s.held) goes.goes, goes.answers)
@@ -142,9 +136,9 @@ module _ {C : Type 0} {N : ℕ} where
       by QuietWriter TheWalk.Noisy means = let same = means.0.same ∙ a.began in (same, subst IsSome same (quiet_some (held_at after seat) means.1))
       by releasing other means = absurd means
 
-    pub of_read : (i : ℕ) → AnswersOfLock before earlier seat (TheRequest.Get i) reply after later → (value : ℕ) × (reply ≡ Number value) × InHand (held_at after seat) (λ section. value ≡ slice_index section.row i)
+    pub of_read : (i : ℕ) → AnswersOfLock before earlier seat (TheRequest.Get i) reply after later → SaysOfRead i reply (held_at after seat)
     of_read i a = by a.answer a.tells a.means where
-      by : (answer : WalkReply) → reply ≡ reply_of_lock answer → Means after.truths seat (row_after after.history) (TheRequest.Get i) a.course answer (held_at after seat) → (value : ℕ) × (reply ≡ Number value) × InHand (held_at after seat) (λ section. value ≡ slice_index section.row i)
+      by : (answer : WalkReply) → reply ≡ reply_of_lock answer → Means after.truths seat (row_after after.history) (TheRequest.Get i) a.course answer (held_at after seat) → SaysOfRead i reply (held_at after seat)
       by (TheWalk.Number value) tells means = (value, tells, means.1)
       by other tells means = absurd means
 
@@ -156,11 +150,9 @@ module _ {C : Type 0} {N : ℕ} where
       on (OnVariables (Any cvs)) alone means = absurd (cc)
       on other alone means = means
 
-    pub of_wait : (wait : Wait C) → is_for_any wait.on ≡ false → (a : AnswersOfLock before earlier seat (Await wait) reply after later) →
-        (answer : Answer) × (reply ≡ Answered answer) × InHand (held_at after seat) (λ back. WaitMeans after.truths seat (row_after after.history) wait.mode wait.on wait.limits a.course answer back)
+    pub of_wait : (wait : Wait C) → is_for_any wait.on ≡ false → (a : AnswersOfLock before earlier seat (Await wait) reply after later) → SaysOfWait seat wait a.course reply after
     of_wait wait alone a = by a.answer a.tells a.means where
-      by : (answer : WalkReply) → reply ≡ reply_of_lock answer → Means after.truths seat (row_after after.history) (Await wait) a.course answer (held_at after seat) →
-          (said : Answer) × (reply ≡ Answered said) × InHand (held_at after seat) (λ back. WaitMeans after.truths seat (row_after after.history) wait.mode wait.on wait.limits a.course said back)
+      by : (answer : WalkReply) → reply ≡ reply_of_lock answer → Means after.truths seat (row_after after.history) (Await wait) a.course answer (held_at after seat) → SaysOfWait seat wait a.course reply after
       by (TheWalk.Answered said) tells means = (said, tells, means)
       by (TheWalk.WokenBy woken) tells means = absurd (no_any wait woken (held_at after seat) a alone means)
       by other tells means = absurd means

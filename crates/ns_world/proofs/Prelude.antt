@@ -57,7 +57,7 @@ pub use Rattle.ns_world.specs.Prelude.{section_of, shown_by, shown_of, standing_
 pub use Rattle.ns_world.specs.Prelude.{waits_for_any, waits_then, wakes_by, wakes_of, wakes_owed, walk_at, walk_in, walk_of, want_of, whole_busy, whole_of, with_waiters, woken_by, woken_of, word_at, word_items, word_released, word_released_returning, word_returned}
 pub use Rattle.ns_world.specs.Prelude.{EnvSays, GoesInCall, IsNoLook}
 pub use Rattle.ns_world.specs.Replies.{env_told}
-pub use Rattle.ns_world.specs.Runs.{Item, item_of, so_far, tests_told}
+pub use Rattle.ns_world.specs.Runs.{AdvancesBy, AdvancesSeen, Halts, HaltsFor, Item, TurnsBy, Watched, item_of, lists_of, so_far, tests_told, watched}
 pub use Rattle.ns_world.specs.contracts.world.World.{the_row as world_row}
 pub use Rattle.ns_world.specs.declared.world.World.TheInside.{Inside}
 pub use Rattle.std.proofs.Common.{[], ap, arith, false, map, refl, replicate, slice_get, sym, take}

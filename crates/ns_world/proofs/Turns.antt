@@ -1,12 +1,13 @@
 -- A turn of a run, by what beginning a call and a step promise.
-use Rattle.std.proofs.Common.{Bool, Err, IfErr, IfOk, List, None, Ok, Option, Result, Some, [], ap, arith, cond, false, inl, inr, length, length-set, nat_lt, not, refl, slice_get, subst, sym, true, ℕ, ◌-◌, ◌∙◌, ◌∷◌, ◌≡◌, ◌≢◌}
-use Rattle.ns_world.proofs.Prelude.{AnyWait, Call, Commits, EnvEnd, EnvSays, EnvWalk, Fault, GoesOnOrBegins, InCells, Lists, LookOver, Mode, Next, NoSuchSeat, ObjectLeads, ObjectReply, ObjectWalk, On, OutOfMemory, Over, Progress, Round, RoundLeads, Seat, SeatLooks, SeatMakes, Sees, Step, TurnOf, Turned}
-use Rattle.ns_world.proofs.Prelude.{TurnsOf, TurnsWith, UnlockQuiet, Walk, Went, Whole, WholeFault, WholeIsBusy, WholeIsIdle, WholeMoves, WholeStarts, WholeStep, Word, env_got_of, got_of, in_call, is_call, mode_of, option_map_or, placed, progress, progressed, same_Some, set_here}
-use Rattle.ns_world.proofs.Prelude.{slice_get_within, start_of, step_after, waits_then, walk_of, want_of, whole_busy}
-use Rattle.ns_world.specs.Prelude.{Nothing, Wait}
+use Rattle.std.proofs.Common.{Bool, Err, IfErr, IfOk, List, None, Ok, Option, Result, Some, [], ap, arith, cond, false, inl, inr, length, length-set, nat_lt, refl, slice_get, subst, sym, true, ℕ, ◌-◌, ◌<◌, ◌∙◌, ◌∷◌, ◌≡◌}
+use Rattle.ns_world.proofs.Prelude.{Call, Commits, Fault, Finished, GoesOnOrBegins, InCells, Lists, Mode, NoSuchSeat, OutOfMemory, Progress, Seat, Step, TurnFault, TurnOf, Turned}
+use Rattle.ns_world.proofs.Prelude.{TurnsOf, TurnsWith, UnlockQuiet, Walk, Went, Whole, WholeBegins, WholeFault, WholeIsBusy, WholeIsIdle, WholeStarts, WholeStep, Word, in_call, is_call, mode_of, option_map_or, placed, progress, progressed, same_Some, set_here}
+use Rattle.ns_world.proofs.Prelude.{slice_get_within, start_of, walk_of, want_of, whole_busy}
+use Rattle.ns_world.specs.Names.{Misuse}
+use Rattle.ns_world.specs.Prelude.{BeginFault, Nothing, Wait}
+use Rattle.ns_world.specs.declared.reply.Reply.TheVariants as TheReply
+use Rattle.std.proofs.lemmas.Option.{slice_get_cases}
 use Rattle.ns_world.proofs.SeatSet.{as_many}
-use Rattle.ns_word.specs.declared.act.Found.TheVariants as TheFound
-use Rattle.ns_env.specs.declared.next.Next.TheVariants as TheNext
 
 -- a step at this place may commit an event
 abbrev CommitsAt : {C : Type 0} → ℕ → Option (Walk C) → Word → Lists C → Type 0
@@ -32,65 +33,13 @@ pub map_err : {X E : Type 0} {P Q : E → Type 0} (r : Result X E) → ((e : E) 
 map_err (Ok x) f p = tt
 map_err (Err e) f p = f e p
 
--- ---- a step that was made answers that it was
-
-abbrev IsMade : Step → Type 0
-IsMade Nothing = ⊥
-IsMade step = Unit {0}
-
-step_made : {W R : Type 0} (ends : R → Step) (next : Next W R) → ((reply : R) → IsMade (ends reply)) → IsMade (step_after ends next)
-step_made ends (On walk) made = tt
-step_made ends (TheNext.Idle walk) made = tt
-step_made ends (TheNext.Done reply) made = made reply
-
-asks_made : (next : Next EnvWalk EnvEnd) (step : Step) → EnvSays next step → IsMade step
-asks_made (On walk) step says = subst IsMade (sym says) tt
-asks_made (TheNext.Idle walk) step says = subst IsMade (sym says) tt
-asks_made (TheNext.Done (Over reply)) step says = subst IsMade (sym says) tt
-asks_made (TheNext.Done (LookOver cause)) step says = absurd says
-
 -- every call's first place is one
 starts_call : {C : Type 0} (N : ℕ) (mode : Option Mode) (call : Call C) → is_call (start_of N mode call) ≡ true
 starts_call N mode UnlockQuiet = refl
 starts_call N mode other = refl
 
 module _ {C : Type 0} {N : ℕ} where
-  sees_made : (seat next : Seat C N) (walk : Walk C) (wait : Option AnyWait) (cause : _) (step : Step) → Sees seat walk wait cause next step → IsMade step
-  sees_made seat next walk wait cause step q = subst IsMade (sym q.answers) (step_made _ (got_of N walk (TheFound.Looked cause)) (λ _. tt))
-
-  makes_made : (old new : Whole C N) (here next : Seat C N) (step : Step) → SeatMakes old new here next step → IsMade step
-  makes_made old new here next step (inl p) = subst IsMade (sym p.performs.answers) (step_made _ (got_of N p.walk p.found) (λ _. tt))
-  makes_made old new here next step (inr (inl p)) = by (env_got_of p.place p.looks.found) p.looks.goes where
-    by : (n : Next EnvWalk EnvEnd) → SeatLooks n here p.walk next step → IsMade step
-    by (On place) g = subst IsMade (sym g.1) tt
-    by (TheNext.Done (LookOver cause)) g = sees_made here next p.walk None cause step g
-    by n g = absurd g
-  makes_made old new here next step (inr (inr (inl p))) = by p.leads p.goes where
-    by : (n : Next ObjectWalk ObjectReply) → RoundLeads n here p.walk p.wait next step → IsMade step
-    by (On round) g = subst IsMade (sym g.1) tt
-    by n g = sees_made here next p.walk _ _ step g
-  makes_made old new here next step (inr (inr (inr (inl p)))) = asks_made (env_got_of p.walk p.asks.found) step p.asks.answers
-  makes_made old new here next step (inr (inr (inr (inr p)))) = by (waits_then p.walk p.leads) p.goes where
-    by : (round : Option Round) → ObjectLeads round p.leads here next step → IsMade step
-    by (Some round) g = subst IsMade (sym g.answers) tt
-    by None g = subst IsMade (sym g.1) (step_made _ p.leads (λ _. tt))
-
-  pub whole_some : (old new : Whole C N) (seat : ℕ) (step : Step) → WholeMoves old new seat step → step ≢ Nothing
-  whole_some old new seat step p = λ e. subst IsMade e (makes_made old new p.here p.next step p.makes)
-
-  -- where no step was made, the world is as it was
-  pub nothing_moved : (old new : Whole C N) (seat : ℕ) → WholeStep old new seat Nothing → new ≡ old
-  nothing_moved old new seat (inl p) = p.1
-  nothing_moved old new seat (inr p) = absurd (whole_some old new seat Nothing p refl)
-
   -- ---- who is busy
-
-  makes_busy : (old new : Whole C N) (here next : Seat C N) (step : Step) → SeatMakes old new here next step → in_call here ≡ true
-  makes_busy old new here next step (inl p) = ap is_call p.stands
-  makes_busy old new here next step (inr (inl p)) = ap is_call p.stands
-  makes_busy old new here next step (inr (inr (inl p))) = ap is_call p.stands
-  makes_busy old new here next step (inr (inr (inr (inl p)))) = ap is_call p.stands
-  makes_busy old new here next step (inr (inr (inr (inr p)))) = ap is_call p.stands
 
   -- what is so of a seat's calls is so of its number
   pub busy_at : (world : Whole C N) (i : ℕ) (seat : Seat C N) (b : Bool) → slice_get world.seats i ≡ Some seat → in_call seat ≡ b → whole_busy world i ≡ b
@@ -108,17 +57,20 @@ module _ {C : Type 0} {N : ℕ} where
 
   -- ---- turns
 
-  -- a step of the call in progress, whatever would have come next
-  pub turns_going : (next : Option (Call C)) (old new : Whole C N) (seat : ℕ) (step : Step) → step ≢ Nothing → WholeStep old new seat step → TurnsWith next old seat step new
-  turns_going next old new seat step not (inl p) = absurd (not p.0)
-  turns_going next old new seat step not (inr p) = λ lists over lines e.
-      inl (record { begun = old; leads = inl ((p.here, p.at, makes_busy old new p.here p.next step p.makes), refl); world = new; moves = p; after = refl })
+  -- a call is in progress, and makes a step, whatever would have come next
+  pub turns_on : (next : Option (Call C)) (old new : Whole C N) (seat : ℕ) (step : Step) → whole_busy old seat ≡ true → WholeStep old new seat step → TurnsWith next old seat step new
+  turns_on next old new seat step busy (inl p) = idle_clash old seat busy p.2
+  turns_on next old new seat step busy (inr p) = λ lists over lines e.
+      inl (record { begun = old; leads = inl ((p.here, p.at, sym (busy_at old seat p.here (in_call p.here) p.at refl) ∙ busy), refl); world = new; moves = p; after = refl })
 
-  -- no call is left: the step of the call in progress, or none
-  pub turns_without : (old new : Whole C N) (seat : ℕ) (step : Step) → WholeStep old new seat step → TurnsWith None old seat step new
-  turns_without old new seat step (inl p) = λ lists over lines e.
-      inr (inr (record { idle = p.2; none = e; answer = p.0; after = ap (λ s. progressed (progress old over lines) seat s new) p.0 ∙ ap (λ world. progress world over lines) p.1 }))
-  turns_without old new seat step (inr p) = turns_going None old new seat step (whole_some old new seat step p) (inr p)
+  -- none is, and none is left
+  pub turns_idle : (old : Whole C N) (seat : ℕ) → seat < length old.seats → whole_busy old seat ≡ false → TurnsWith None old seat Nothing old
+  turns_idle old seat within idle = λ lists over lines e. inr (inr (record { idle = here; none = e; answer = refl; after = refl })) where
+    here : WholeIsIdle old seat
+    here = elim (slice_get_cases old.seats seat).1 [
+      | inl p ↦ (p.0, p.2, sym (busy_at old seat p.0 (in_call p.0) p.2 refl) ∙ idle)
+      | inr p ↦ absurd (omega (arith, within, p.0))
+    ]
 
   -- the call began, and made its first step
   pub turns_started : (old begun new : Whole C N) (seat : ℕ) (call : Call C) (step : Step) → WholeStarts old begun seat call → WholeStep begun new seat step → TurnsWith (Some call) old seat step new
@@ -127,8 +79,17 @@ module _ {C : Type 0} {N : ℕ} where
 
   -- a call was in progress, and made a step
   pub turns_busy : (old begun new : Whole C N) (seat : ℕ) (call : Call C) (step : Step) → (begun ≡ old) × WholeIsBusy old seat → WholeStep begun new seat step → TurnsWith (Some call) old seat step new
-  turns_busy old begun new seat call step s (inl p) = idle_clash begun seat (ap (λ (world : Whole C N). whole_busy world seat) s.0 ∙ busy_at old seat s.1.0 true s.1.1 s.1.2) p.2
-  turns_busy old begun new seat call step s (inr p) = λ lists over lines e. inl (record { begun = begun; leads = inl (s.1, s.0); world = new; moves = p; after = refl })
+  turns_busy old begun new seat call step s made = turns_on (Some call) old new seat step (busy_at old seat s.1.0 true s.1.1 s.1.2) (subst (λ world. WholeStep world new seat step) s.0 made)
+
+  -- the call's need isn't met
+  pub turns_misused : (old new : Whole C N) (seat : ℕ) (call : Call C) → WholeBegins old new seat call Misuse → TurnsWith (Some call) old seat (Finished TheReply.Misuse) new
+  turns_misused old new seat call m = λ lists over lines e.
+      inr (inl (record { call = call; next = e; refused = (refl, m.1); answer = refl; after = ap (progressed (progress old over lines) seat (Finished TheReply.Misuse)) m.0 }))
+
+  -- it is refused as a turn is
+  pub begin_refused : (old : Whole C N) (seat : ℕ) (fault : Fault) → BeginFault old seat fault → TurnFault old seat fault
+  begin_refused old seat NoSuchSeat p = p
+  begin_refused old seat other p = absurd p
 
   -- a call's first step is never refused
   pub started_steps : (old begun : Whole C N) (seat : ℕ) (call : Call C) (fault : Fault) → WholeStarts old begun seat call → WholeFault begun seat fault → ⊥

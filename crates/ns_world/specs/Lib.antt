@@ -14,6 +14,7 @@ pub mod Prelude
 pub mod Replies
 pub mod Room
 pub mod Runs
+pub mod Seen
 pub mod Shows
 pub mod Whole
 pub mod World

@@ -1,16 +1,18 @@
 -- What the answer of a call in a world means, whatever others do while it is in progress.
 use Rattle.std.proofs.Common.{inl, inr}
 use Rattle.std.specs.Option.{option_map_or}
-use Rattle.std.specs.Prelude.{IsSome, List, None, Option, Some, [], slice_get, suc, true, zero, ℕ, ◌++◌, ◌<◌, ◌≡◌, ◌⊎◌}
+use Rattle.std.specs.Prelude.{IsSome, List, None, Option, Some, [], slice_get, slice_index, suc, true, zero, ℕ, ◌++◌, ◌<◌, ◌≡◌, ◌⊎◌}
 use Rattle.ns_world.specs.Names.{Add, AddLoad, Advance, Any, AnyAnswers, AreAmong, Asked, AtSomePoint, Broadcast, Broadcasting, Call, Cause, CounterWait, Course, CvWait, Cvs, Done, DoneLoad, EnvCourse, EnvEvent, EnvMeans, EnvReply, EnvRequest, Expiry, Finished, FirstClock, Get, HasMode, Held, InRound}
 use Rattle.ns_world.specs.Names.{IsLater, IsNotified, IsReady, Limits, Lock, Means, Mode, NewNote, NoteWait, Notify, Number, ObjectEvent, ObjectMeans, ObjectReply, ObjectWalk, OfLock, OfNotes, OfObjects, OnCondition, OnVariable, OnVariables, Once, OnceLoad, Only, Past, QuietWriter, RLock, RUnlock}
 use Rattle.ns_world.specs.Names.{Read, Reader, Reply, Request, Round, RoundShows, Set, Setup, Shows, Signal, Signaling, Started, Step, Subject, TryLock, TryRLock, Unlock, UnlockQuiet, Value, ValueLoad, Wait, WaitAny, WaitMark, WalkReply, WokenBy, Write, Writer, env_own, is_among, item_at, items_of}
-use Rattle.ns_world.specs.Names.{Releasing, objects_own, own, past_and, row_after}
+use Rattle.ns_world.specs.Names.{Answer, Answered, AnyWait, Await, InHand, Looked, OnObjects, Releasing, RoundPlace, Seat, WaitFor, WaitMeans, got_of, held_after, objects_own, own, past_and, row_after, want_of}
 use Rattle.ns_world.specs.Calls.{mode_of, mode_waited}
 use Rattle.ns_world.specs.Among.{waits_for_any}
 use Rattle.ns_world.specs.Replies.{told, env_told, object_told}
-use Rattle.ns_world.specs.Moves.{WholeBegins, WholeStep, notes_by, objects_by}
-use Rattle.ns_world.specs.Whole.{Whole, IsLawfulWhole}
+use Rattle.ns_world.specs.Looks.{came_back, doing_after}
+use Rattle.ns_world.specs.Moves.{AreEnvBy, AreObjectsBy, GoesRound, ObjectsSteps, WholeBegins, WholeStep, notes_by, objects_by}
+use Rattle.ns_world.specs.Performs.{step_of}
+use Rattle.ns_world.specs.Whole.{HasLedTo, IsLawfulWhole, Whole}
 use Rattle.ns_env.specs.declared.request.EnvRequest.TheVariants as TheEnvRequest
 use Rattle.ns_word.specs.declared.request.Request.TheVariants as TheRequest
 use Rattle.ns_world.specs.declared.reply.Reply.TheVariants.{Busy, Noisy, Succeeded}
@@ -91,6 +93,14 @@ SaysOfRelease releasing Succeeded was held = (held ≡ None) × IsSome was
 SaysOfRelease QuietWriter Noisy was held = (held ≡ was) × IsSome was
 SaysOfRelease releasing reply was held = ⊥
 
+-- What a read says, with the section in hand after it: a number, which is the section's cell.
+abbrev pub SaysOfRead : {C : Type 0} {N : ℕ} → ℕ → Reply → Option (Held C N) → Type 0
+SaysOfRead i reply held = (value : ℕ) × (reply ≡ Number value) × InHand held (λ section. value ≡ slice_index section.row i)
+
+-- What a wait for a condition or for one variable says, which has gone so: an answer, which means what it says of the section that is back in hand.
+abbrev pub SaysOfWait : {C : Type 0} {N : ℕ} → ℕ → WaitFor C → Course C N → Reply → Whole C N → Type 0
+SaysOfWait seat wait course reply after = (answer : Answer) × (reply ≡ Answered answer) × InHand (held_at after seat) (λ back. WaitMeans after.truths seat (row_after after.history) wait.mode wait.on wait.limits course answer back)
+
 -- A call on the clock and the notes has this answer: it means what it says of what happened to them since the call began; what the call has done to them is just what the seat has; and the section in hand and the history of the row are as they were.
 pub record AnswersOfNotes {C : Type 0} {N : ℕ} (before : Whole C N) (earlier : List EnvEvent) (seat : ℕ) (request : EnvRequest) (reply : Reply) (after : Whole C N) (later : List EnvEvent) : Type 0 where
   pub course : EnvCourse
@@ -160,6 +170,14 @@ abbrev pub done_in : {C : Type 0} {N : ℕ} (old new : Whole C N) (seat : ℕ) (
 done_in old new seat step (inl rests) = nothing_done
 done_in old new seat step (inr moves) = record { notes = notes_by seat moves.makes; objects = objects_by moves.makes }
 
+-- What the seat's step is to these is the seat's; and with it behind what has led to the old world, all that has led to the new one.
+abbrev pub LeadsOn : {C : Type 0} {N : ℕ} → Past → (old new : Whole C N) (seat : ℕ) (step : Step) → WholeStep old new seat step → Type 0
+LeadsOn past old new seat step made = AreEnvBy seat (done_in old new seat step made).notes × AreObjectsBy seat (done_in old new seat step made).objects × HasLedTo (past_and past (done_in old new seat step made)) new
+
+-- Nothing has happened to the world's row and its variables, its clock and notes, its counters and once cells.
+abbrev pub IsUntouched : {C : Type 0} {N : ℕ} → Whole C N → Type 0
+IsUntouched world = (world.history ≡ []) × HasLedTo nothing_done world
+
 -- the step finished no call
 abbrev pub IsUnfinished : Step → Type 0
 IsUnfinished (Finished reply) = ⊥
@@ -185,3 +203,29 @@ Meanwhile {C} {N} seat (suc n) old new = (next : Whole C N) × Happens seat old 
 abbrev pub happened : {C : Type 0} {N : ℕ} (seat n : ℕ) (old new : Whole C N) → Meanwhile seat n old new → Past
 happened seat zero old new same = nothing_done
 happened seat (suc n) old new meanwhile = past_and (done_by seat meanwhile.1.who old meanwhile.0 meanwhile.1.what) (happened seat n meanwhile.0 new meanwhile.2)
+
+-- A call that the seat begins in a lawful world, to which this has led; so many things that happen while it is in progress; and the step that finishes it with this answer.
+pub record RunsCall {C : Type 0} {N : ℕ} (n seat : ℕ) (before begun last after : Whole C N) (earlier : Past) (call : Call C) (reply : Reply) : Type 0 where
+  pub lawful : IsLawfulWhole before
+  pub led : HasLedTo earlier before
+  pub begins : WholeBegins before begun seat call Started
+  pub begun_lawful : IsLawfulWhole begun
+  pub meanwhile : Meanwhile seat n begun last
+  pub finish : WholeStep last after seat (Finished reply)
+
+-- what has led to the world after it: what had led to the one before, what has happened meanwhile, and what its last step is
+abbrev pub led_by : {C : Type 0} {N n seat : ℕ} {before begun last after : Whole C N} {earlier : Past} {call : Call C} {reply : Reply} → RunsCall n seat before begun last after earlier call reply → Past
+led_by {n = n} {seat = seat} {begun = begun} {last = last} {after = after} {earlier = earlier} {reply = reply} run =
+    past_and earlier (past_and (happened seat n begun last run.meanwhile) (done_in last after seat (Finished reply) run.finish))
+
+-- ---- rounds
+
+-- The step is one at this place of a round, and its call goes on at that place of that round.
+abbrev pub GoesOnInRound : {C : Type 0} {N : ℕ} {old new : Whole C N} {here next : Seat C N} {step : Step} → ObjectsSteps old new here next step → Round → RoundPlace → Round → RoundPlace → Type 0
+GoesOnInRound {next = next} steps round place again behind = (steps.walk ≡ InRound round place) × (next.doing ≡ OnObjects (InRound again behind))
+
+-- The wait keeps what its round has shown, and goes on as one whose look has shown this.
+abbrev pub GoesOnBy : {C : Type 0} {N : ℕ} {old new : Whole C N} {here next : Seat C N} {step : Step} → GoesRound old new here next step → Option ℕ → Option Cause → Type 0
+GoesOnBy {N = N} {here = here} {next = next} {step = step} round shown cause =
+    let after : Option AnyWait = Some (record { round = round.wait.round; shown = shown }) in
+    (next.doing ≡ doing_after after (got_of N round.walk (Looked cause))) × (next.held ≡ held_after (came_back (want_of round.walk)) cause here.held) × (step ≡ step_of after (got_of N round.walk (Looked cause)))

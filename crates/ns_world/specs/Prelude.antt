@@ -27,7 +27,7 @@ pub use Rattle.ns_world.specs.Names.{walk_at, walk_in, want_of, with_waiters, wo
 pub use Rattle.ns_world.specs.Objects.{ObjectLeads, Operates, fresh_words, object_step_of}
 pub use Rattle.ns_world.specs.Performs.{Acts, Leaves, MakesAct, MayMake, Performs, RefusesAct, StaysThere, flag_at, leaves_by, lock_part, step_of, tests_after, view_of}
 pub use Rattle.ns_world.specs.Replies.{step_after, told as reply_of_lock}
-pub use Rattle.ns_world.specs.Runs.{Advances, Counts, EndUntold, GoesOnOrBegins, IsCounted, IsFinished, ListFits, Progress, Stops, StopsFor, TurnFault, TurnOf, Turned, TurnsOf, TurnsWith, calls_of, is_end, item_of, progress, progressed, rest_of, so_far, tests_at, word_items}
+pub use Rattle.ns_world.specs.Runs.{Advances, AdvancesBy, AdvancesSeen, Counts, EndUntold, GoesOnOrBegins, Halts, HaltsFor, IsCounted, IsFinished, ListFits, Progress, Stops, StopsFor, TurnFault, TurnOf, Turned, TurnsBy, TurnsOf, TurnsWith, Watched, calls_of, is_end, item_of, lists_of, progress, progressed, rest_of, so_far, tests_at, word_items}
 pub use Rattle.ns_world.specs.Shows.{hand_of, lists_by, lists_shown, wakes_by, wakes_owed}
 pub use Rattle.ns_world.specs.Whole.{DoingFits, HasLedTo, HaveLedTo, IsLawfulWhole, LedTo, NeedsSection, WaitsFor, Whole, WholeIsBusy, WholeIsIdle, fresh_seat, fresh_seats, fresh_whole, holds, in_call, is_of, lock_of, notes_of, objects_of, part_in, whole_busy, whole_of}
 pub use Rattle.ns_world.specs.World.{RefusesWorld, kept}

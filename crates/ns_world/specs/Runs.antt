@@ -1,10 +1,12 @@
 -- A run of a schedule, turn by turn.
 use Rattle.std.specs.List.{flat_map}
 use Rattle.std.specs.Option.{option_map_or}
-use Rattle.std.specs.Prelude.{All, Bool, List, None, Option, Some, [], false, if◌then◌else◌, length, not, replicate, slice_get, slice_index, slice_set, true, unwrap_or, ℕ, ◌++◌, ◌+◌, ◌<◌, ◌==◌, ◌∷◌, ◌≡◌, ◌≤◌, ◌⊎◌}
+use Rattle.std.specs.Global.{Vec}
+use Rattle.std.specs.Prelude.{All, Bool, List, None, Option, Some, [], false, if◌then◌else◌, length, map, not, replicate, slice_get, slice_index, slice_set, true, unwrap_or, ℕ, ◌++◌, ◌+◌, ◌<◌, ◌==◌, ◌∷◌, ◌≡◌, ◌≤◌, ◌⊎◌}
 use Rattle.ns_world.specs.Names.{Call, Fault, Finished, Idle, Line, Misuse, NoSuchSeat, Nothing, OutOfMemory, Reply, Seat, Started, Step, StepLimit, Truths, Turn, Went}
 use Rattle.ns_world.specs.Calls.{CallInRange}
 use Rattle.ns_world.specs.Moves.{WholeBegins, WholeCommits, WholeMoves}
+use Rattle.ns_world.specs.Seen.{Seen, seen_as}
 use Rattle.ns_world.specs.Whole.{Whole, WholeIsIdle, WholeIsBusy, whole_busy, whole_of}
 use Rattle.ns_world.specs.World.{Kept}
 use Rattle.ns_world.specs.declared.run.Tally.{Tally}
@@ -29,6 +31,10 @@ so_far truths world tally = progress (whole_of truths world) tally.over tally.li
 -- before the first turn
 abbrev pub start : {C : Type 0} {N : ℕ} → Whole C N → Progress C N
 start world = progress world (replicate 64 0) []
+
+-- the calls of each list
+abbrev pub lists_of : {C : Type 0} → List (Vec (Call C)) → List (List (Call C))
+lists_of lists = map (λ calls. calls.items) lists
 
 -- The calls of a seat. A seat without a list has none.
 abbrev pub calls_of : {C : Type 0} → List (List (Call C)) → ℕ → List (Call C)
@@ -120,10 +126,54 @@ pub record Turned : Type 0 where
   pub seat : ℕ
   pub step : Step
 
--- These turns, one after another, take the progress p to q
+-- These turns, one after another, each of which takes something on by this, take s to t.
+abbrev pub TurnsBy : {S : Type 0} → (S → Turned → S → Type 0) → S → List Turned → S → Type 0
+TurnsBy By s [] t = t ≡ s
+TurnsBy {S} By s (turned ∷ turns) t = (r : S) × By s turned r × TurnsBy By r turns t
+
+-- a turn takes the progress p to q
+abbrev pub Takes : {C : Type 0} {N : ℕ} → List (List (Call C)) → Progress C N → Turned → Progress C N → Type 0
+Takes lists p turned q = TurnOf lists p turned.seat turned.step q
+
+-- These turns, one after another, take the progress p to q.
 abbrev pub TurnsOf : {C : Type 0} {N : ℕ} → List (List (Call C)) → Progress C N → List Turned → Progress C N → Type 0
-TurnsOf lists p [] q = q ≡ p
-TurnsOf {C} {N} lists p (turned ∷ turns) q = (r : Progress C N) × TurnOf lists p turned.seat turned.step r × TurnsOf lists r turns q
+TurnsOf lists = TurnsBy (Takes lists)
+
+-- ---- who observes them
+
+-- who is told of the turns of a run in such a world: what it is, is told and becomes
+abbrev pub Sees : Type 0 → ℕ → Type 0 → Type 1
+Sees C N O = O → Seen (Kept C N) (Call C) → O → Type 0
+
+-- how far a run has come, and what that has made of its observer
+pub record Watched (C : Type 0) (N : ℕ) (O : Type 0) : Type 0 where
+  pub world : Kept C N
+  pub over : List ℕ
+  pub lines : List Line
+  pub turns : ℕ
+  pub observer : O
+
+-- the same of a run whose world and tally are these
+abbrev pub watched : {C : Type 0} {N : ℕ} {O : Type 0} → Kept C N → Tally → O → Watched C N O
+watched world tally observer = record { world = world; over = tally.over; lines = tally.lines.items; turns = tally.turns; observer = observer }
+
+-- before the first turn
+abbrev pub unwatched : {C : Type 0} {N : ℕ} {O : Type 0} → Kept C N → O → Watched C N O
+unwatched world observer = record { world = world; over = replicate 64 0; lines = []; turns = 0; observer = observer }
+
+-- how far it has come
+abbrev pub reached : {C : Type 0} {N : ℕ} {O : Type 0} → Truths C → Watched C N O → Progress C N
+reached truths run = progress (whole_of truths run.world) run.over run.lines
+
+-- the turn with this number, of the seat, of whose calls so many were over, which takes one world to the other
+abbrev pub seen : {C : Type 0} {N : ℕ} → List (List (Call C)) → List ℕ → ℕ → ℕ → Step → Kept C N → Kept C N → Seen (Kept C N) (Call C)
+seen lists over turn seat step before after = seen_as turn seat (slice_get (calls_of lists seat) (slice_index over seat)) before after step
+
+-- A turn takes the run on, and its observer is told of it.
+pub record IsSeen {C : Type 0} {N : ℕ} {O : Type 0} (truths : Truths C) (sees : Sees C N O) (lists : List (List (Call C))) (p : Watched C N O) (turned : Turned) (q : Watched C N O) : Type 0 where
+  pub turn : TurnOf lists (reached truths p) turned.seat turned.step (reached truths q)
+  pub one : q.turns ≡ p.turns + 1
+  pub told : sees p.observer (seen lists p.over q.turns turned.seat turned.step p.world q.world) q.observer
 
 -- ---- the schedule
 
@@ -131,6 +181,10 @@ TurnsOf {C} {N} lists p (turned ∷ turns) q = (r : Progress C N) × TurnOf list
 pub record Item : Type 0 where
   pub seat : ℕ
   pub whole : Bool
+
+-- an item, part by part
+abbrev pub item_for : ℕ → Bool → Item
+item_for seat whole = record { seat = seat; whole = whole }
 
 -- an item of a word of a schedule
 abbrev pub item_of : Turn → Item
@@ -165,13 +219,21 @@ rest_of (item ∷ items) (turned ∷ turns) =
 
 -- ---- a run
 
--- Turns that follow the items and leave some of them take the progress p to q, and their number from `before` to `after`, at most the limit.
-pub record Advances {C : Type 0} {N : ℕ} (lists : List (List (Call C))) (limit : ℕ) (p : Progress C N) (before : ℕ) (items left : List Item) (q : Progress C N) (after : ℕ) : Type 0 where
+-- Turns that follow the items and leave some of them take s to t by this, and their number from `before` to `after`, at most the limit.
+pub record AdvancesBy {S : Type 0} (By : S → Turned → S → Type 0) (limit : ℕ) (s : S) (before : ℕ) (items left : List Item) (t : S) (after : ℕ) : Type 0 where
   pub turns : List Turned
-  pub made : TurnsOf lists p turns q
+  pub made : TurnsBy By s turns t
   pub rest : rest_of items turns ≡ Some left
   pub count : after ≡ before + length turns
   pub within : after ≤ limit
+
+-- such turns take the progress p to q
+abbrev pub Advances : {C : Type 0} {N : ℕ} → List (List (Call C)) → ℕ → Progress C N → ℕ → List Item → List Item → Progress C N → ℕ → Type 0
+Advances lists = AdvancesBy (Takes lists)
+
+-- such turns take a run from p to q, and its observer is told of each
+abbrev pub AdvancesSeen : {C : Type 0} {N : ℕ} {O : Type 0} → Truths C → Sees C N O → List (List (Call C)) → ℕ → Watched C N O → List Item → List Item → Watched C N O → Type 0
+AdvancesSeen truths sees lists limit p items left q = AdvancesBy (IsSeen truths sees lists) limit p p.turns items left q q.turns
 
 -- The call that the last of these turns finished isn't told: the progress q is the end but for that call's line and count.
 pub record EndUntold {C : Type 0} {N : ℕ} (turns : List Turned) (end q : Progress C N) : Type 0 where
@@ -194,12 +256,21 @@ StopsFor limit end made turns (item ∷ left) q StepLimit = (q ≡ end) × (made
 StopsFor limit end made turns (item ∷ left) q NoSuchSeat = (q ≡ end) × (length end.world.seats ≤ item.seat)
 StopsFor limit end made turns left q fault = ⊥
 
+-- The same, where the run has an observer that may refuse memory: it may have refused it for the last turn, which is made and counted.
+abbrev pub HaltsFor : {C : Type 0} {N : ℕ} → Bool → ℕ → Progress C N → ℕ → List Turned → List Item → Progress C N → Fault → Type 0
+HaltsFor false limit end made turns left q fault = StopsFor limit end made turns left q fault
+HaltsFor true limit end made turns left q fault = StopsFor limit end made turns left q fault ⊎ ((q ≡ end) × (fault ≡ OutOfMemory))
+
 -- Turns that follow a front of the items lead from the progress p to an end, and take their number from `before` to `after`; and there the run stops, and leaves the progress q.
-pub record Stops {C : Type 0} {N : ℕ} (lists : List (List (Call C))) (limit : ℕ) (p : Progress C N) (before : ℕ) (items : List Item) (q : Progress C N) (after : ℕ) (fault : Fault) : Type 0 where
+pub record Halts {C : Type 0} {N : ℕ} (refuses : Bool) (lists : List (List (Call C))) (limit : ℕ) (p : Progress C N) (before : ℕ) (items : List Item) (q : Progress C N) (after : ℕ) (fault : Fault) : Type 0 where
   pub left : List Item
   pub end : Progress C N
   pub advances : Advances lists limit p before items left end after
-  pub why : StopsFor limit end after advances.turns left q fault
+  pub why : HaltsFor refuses limit end after advances.turns left q fault
+
+-- the same of a run whose observer refuses nothing
+abbrev pub Stops : {C : Type 0} {N : ℕ} → List (List (Call C)) → ℕ → Progress C N → ℕ → List Item → Progress C N → ℕ → Fault → Type 0
+Stops = Halts false
 
 -- A whole run takes the world old to the world new, and gives these lines: turns from the start that follow the schedule to its end, no more than the limit.
 pub record Runs {C : Type 0} {N : ℕ} (lists : List (List (Call C))) (schedule : List Turn) (limit : ℕ) (old new : Whole C N) (lines : List Line) : Type 0 where
@@ -209,12 +280,23 @@ pub record Runs {C : Type 0} {N : ℕ} (lists : List (List (Call C))) (schedule 
   pub here : end.world ≡ new
   pub tells : end.lines ≡ lines
 
+-- A whole run takes the world old to the world new, and the observer who is told of its turns from one to the other.
+pub record RunsSeen {C : Type 0} {N : ℕ} {O : Type 0} (truths : Truths C) (sees : Sees C N O) (lists : List (List (Call C))) (schedule : List Turn) (limit : ℕ) (old : Kept C N) (first : O) (new : Kept C N) (last : O) : Type 0 where
+  pub end : Watched C N O
+  pub advances : AdvancesSeen truths sees lists limit (unwatched old first) (items_of schedule) [] end
+  pub here : end.world ≡ new
+  pub observer : end.observer ≡ last
+
 -- A refused run takes the world old to the world new: from the start it stops on its way, and the progress that it leaves has the new world.
-pub record RunFault {C : Type 0} {N : ℕ} (lists : List (List (Call C))) (schedule : List Turn) (limit : ℕ) (old new : Whole C N) (fault : Fault) : Type 0 where
+pub record RunHalts {C : Type 0} {N : ℕ} (refuses : Bool) (lists : List (List (Call C))) (schedule : List Turn) (limit : ℕ) (old new : Whole C N) (fault : Fault) : Type 0 where
   pub leaves : Progress C N
   pub after : ℕ
-  pub stops : Stops lists limit (start old) 0 (items_of schedule) leaves after fault
+  pub stops : Halts refuses lists limit (start old) 0 (items_of schedule) leaves after fault
   pub here : leaves.world ≡ new
+
+-- the same of a run whose observer refuses nothing
+abbrev pub RunFault : {C : Type 0} {N : ℕ} → List (List (Call C)) → List Turn → ℕ → Whole C N → Whole C N → Fault → Type 0
+RunFault = RunHalts false
 
 -- ---- what a run needs
 

@@ -30,6 +30,7 @@ pub mod law;
 mod lock;
 mod looks;
 mod objects;
+pub mod observer;
 mod operate;
 pub mod reply;
 mod room;

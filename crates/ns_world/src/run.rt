@@ -1,12 +1,13 @@
 //! A run of a schedule: items of its words one after another, each of one turn or of as many as
 //! its call takes.
 
-ghost use Rattle.std.specs.Prelude.{◌≡◌, ◌≤◌, ◌<◌, ◌+◌, ◌∷◌, [], Some, IfSome, IfOk, IfErr, OnOk, OnErr, All, map, replicate, slice_get, slice_index, MatchResult, ◌^◌, ◌++◌};
+ghost use Rattle.std.specs.Prelude.{◌≡◌, ◌≤◌, ◌<◌, ◌+◌, ◌∷◌, [], Some, IfOk, IfErr, OnOk, OnErr, All, length, replicate, slice_get, slice_index, MatchResult, ◌^◌, ◌++◌};
 ghost use Rattle.ns_world.specs.Prelude.{CallInRange, whole_of};
-ghost use Rattle.ns_world.specs.Runs.{calls_of, Counts, CountsTurn, progress, is_end, TurnsWith, tests_told, TurnFault, Advances, IsFinished, Stops, Runs, RunFault, AllIdle, IsCounted, ListFits, item_of, items_of, so_far};
+ghost use Rattle.ns_world.specs.Runs.{calls_of, Counts, CountsTurn, is_end, TurnsWith, tests_told, TurnFault, Advances, AdvancesSeen, IsFinished, Halts, Runs, RunHalts, RunsSeen, AllIdle, IsCounted, ListFits, item_for, item_of, items_of, lists_of, seen, so_far, watched};
 
 use crate::call::Call;
 use crate::fault::Fault;
+use crate::observer::Observer;
 use crate::reply::Reply;
 use crate::room::Seated;
 use crate::schedule::{Line, Turn};
@@ -42,7 +43,7 @@ impl Tally {
 
 /// The seat's call after so many. A seat without a list has none.
 pub fn next_call<C: Copy>(lists: &[Vec<Call<C>>], seat: u8, over: u16) -> Option<Call<C>>
-    ensures { result ≡ slice_get (calls_of (map (λ calls. calls.items) lists.now) seat) over }
+    ensures { result ≡ slice_get (calls_of (lists_of lists.now) seat) over }
 {
     match lists.get(seat as usize) {
         Some(calls) => calls.get(over as usize).copied(),
@@ -50,33 +51,9 @@ pub fn next_call<C: Copy>(lists: &[Vec<Call<C>>], seat: u8, over: u16) -> Option
     }
 }
 
-/// A turn of the seat: starts its next call, where one is given and the seat is idle, and makes one step.
-///
-/// Needs a call whose cell is below `N`, whose condition variable is below 4, whose notes are below 64, whose
-/// moments are below 2^54, and whose objects are at most 16. Refuses a number that is no seat's
-/// (`NoSuchSeat`), and want of memory (`OutOfMemory`); then nothing has changed.
-pub fn turn<C: Seated<N>, const N: usize>(
-    world: &mut World<C, N>,
-    next: Option<Call<C>>,
-    seat: u8,
-) -> Result<Step, Fault>
-    requires { IfSome next (CallInRange N) }
-    ensures ok { IfOk result (λ step. TurnsWith next (whole_of C.means world.old) seat step (whole_of C.means world.new)) }
-    ensures err { IfErr result (λ fault. ((whole_of C.means world.new) ≡ (whole_of C.means world.old)) × TurnFault (whole_of C.means world.old) seat fault) }
-{
-    let Some(call) = next else {
-        return world.step(seat);
-    };
-    match world.begin(seat, call)? {
-        Begun::Misuse => Ok(Step::Finished(Reply::Misuse)),
-        Begun::Started => world.step(seat),
-        Begun::Busy => world.step(seat),
-    }
-}
-
 /// Whether an item ends with this turn of its seat: after one turn, or, for a `whole` item, once its call has
 /// returned or has to wait.
-pub fn is_end(whole: bool, step: Step) -> bool
+fn is_end(whole: bool, step: Step) -> bool
     ensures { result ≡ is_end whole step }
 {
     match step {
@@ -121,160 +98,172 @@ fn count(tally: &mut Tally, seat: u8, step: Step, tests: u32) -> Result<(), Allo
     Ok(())
 }
 
-/// A turn of the seat, of whose calls so many are over: a step of the call that is in progress, or else of
-/// its next one. Only where none is in progress is the next one looked for.
-fn next_turn<C: Seated<N>, const N: usize>(
-    world: &mut World<C, N>,
-    lists: &[Vec<Call<C>>],
-    seat: u8,
-    over: u16,
-) -> Result<Step, Fault>
-    requires lists { All (λ calls. ListFits N calls.items) lists.now }
-    ensures ok { IfOk result (λ step. TurnsWith (slice_get (calls_of (map (λ calls. calls.items) lists.now) seat) over) (whole_of C.means world.old) seat step (whole_of C.means world.new)) }
-    ensures err { IfErr result (λ fault. ((whole_of C.means world.new) ≡ (whole_of C.means world.old)) × TurnFault (whole_of C.means world.old) seat fault) }
-{
-    match world.step(seat)? {
-        Step::Nothing => match next_call(lists, seat, over) {
-            Some(call) => turn(world, Some(call), seat),
-            None => Ok(Step::Nothing),
-        },
-        step => Ok(step),
-    }
-}
-
-/// One turn of the seat, counted: its step, where the run goes on.
-///
-/// Needs a tally that counts the calls of this world, and lists as [`World::run`]. Refuses what that refuses of a
-/// schedule's next item. World and tally are then as before, but where the line of the call that this turn finished
-/// finds no memory (`OutOfMemory`): the turn is made and counted, and the call is neither told nor counted.
-pub fn counted_turn<C: Seated<N>, const N: usize>(
-    world: &mut World<C, N>,
-    lists: &[Vec<Call<C>>],
-    tally: &mut Tally,
-    seat: u8,
-    limit: u32,
-) -> Result<Step, Fault>
-    requires lists { All (λ calls. ListFits N calls.items) lists.now }
-    requires counted { IsCounted (whole_of C.means world.old) tally.old.over }
-    requires turns { tally.old.turns ≤ limit }
-    ensures ok { IfOk result (λ step. let calls = map (λ calls. calls.items) lists.now in
-        CountsTurn calls limit (progress (whole_of C.means world.old) tally.old.over tally.old.lines.items) tally.old.turns seat step (progress (whole_of C.means world.new) tally.new.over tally.new.lines.items) tally.new.turns) }
-    ensures err { IfErr result (λ fault. let calls = map (λ calls. calls.items) lists.now in
-        (whole : _) → Stops calls limit (progress (whole_of C.means world.old) tally.old.over tally.old.lines.items) tally.old.turns (record { seat = seat; whole = whole } ∷ []) (progress (whole_of C.means world.new) tally.new.over tally.new.lines.items) tally.new.turns fault) }
-{
-    if seat as usize >= world.seats() {
-        return Err(Fault::NoSuchSeat);
-    }
-    if tally.turns == limit {
-        return Err(Fault::StepLimit);
-    }
-    let step = next_turn(world, lists, seat, tally.over[seat as usize])?;
-    count(tally, seat, step, world.tests(seat))?;
-    Ok(step)
-}
-
-/// An item of a word of the schedule: a turn, and for a `whole` one further turns until its call returns or is idle.
-fn item<C: Seated<N>, const N: usize>(
-    world: &mut World<C, N>,
-    lists: &[Vec<Call<C>>],
-    tally: &mut Tally,
-    word: &Turn,
-    limit: u32,
-) -> Result<(), Fault>
-    requires lists { All (λ calls. ListFits N calls.items) lists.now }
-    requires counted { IsCounted (whole_of C.means world.old) tally.old.over }
-    requires turns { tally.old.turns ≤ limit }
-    ensures ok { OnOk result (let calls = map (λ calls. calls.items) lists.now in
-        Advances calls limit (so_far C.means world.old tally.old) tally.old.turns (item_of word.now ∷ []) [] (so_far C.means world.new tally.new) tally.new.turns) }
-    ensures counted { OnOk result (IsCounted (whole_of C.means world.new) tally.new.over) }
-    ensures err { IfErr result (λ fault. let calls = map (λ calls. calls.items) lists.now in
-        Stops calls limit (so_far C.means world.old tally.old) tally.old.turns (item_of word.now ∷ []) (so_far C.means world.new tally.new) tally.new.turns fault) }
-{
-    loop {
-        let step = counted_turn(world, lists, tally, word.thread, limit)?;
-        if is_end(word.whole, step) {
-            return Ok(());
+impl<C: Seated<N>, const N: usize> World<C, N> {
+    /// The first turn of a call of the seat: it begins, and makes a step.
+    fn first_turn(&mut self, seat: u8, call: Call<C>) -> Result<Step, Fault>
+        requires { CallInRange N call }
+        ensures ok { IfOk result (λ step. TurnsWith (Some call) (whole_of C.means self.old) seat step (whole_of C.means self.new)) }
+        ensures err { IfErr result (λ fault. (whole_of C.means self.new ≡ whole_of C.means self.old) × TurnFault (whole_of C.means self.old) seat fault) }
+    {
+        match self.begin(seat, call)? {
+            Begun::Misuse => Ok(Step::Finished(Reply::Misuse)),
+            Begun::Started => self.step(seat),
+            Begun::Busy => self.step(seat),
         }
     }
-}
 
-/// The items of a word of the schedule.
-fn schedule_word<C: Seated<N>, const N: usize>(
-    world: &mut World<C, N>,
-    lists: &[Vec<Call<C>>],
-    tally: &mut Tally,
-    word: &Turn,
-    limit: u32,
-) -> Result<(), Fault>
-    requires lists { All (λ calls. ListFits N calls.items) lists.now }
-    requires counted { IsCounted (whole_of C.means world.old) tally.old.over }
-    requires turns { tally.old.turns ≤ limit }
-    ensures ok { OnOk result (let calls = map (λ calls. calls.items) lists.now in
-        Advances calls limit (so_far C.means world.old tally.old) tally.old.turns (items_of (word.now ∷ [])) [] (so_far C.means world.new tally.new) tally.new.turns) }
-    ensures counted { OnOk result (IsCounted (whole_of C.means world.new) tally.new.over) }
-    ensures err { IfErr result (λ fault. let calls = map (λ calls. calls.items) lists.now in
-        Stops calls limit (so_far C.means world.old tally.old) tally.old.turns (items_of (word.now ∷ [])) (so_far C.means world.new tally.new) tally.new.turns fault) }
-{
-    for _ in 0..word.times {
-        item(world, lists, tally, word, limit)?;
+    /// A turn of the seat, of whose calls so many are over: a step of the call that is in progress, or else the
+    /// first turn of its next one.
+    fn turn(&mut self, lists: &[Vec<Call<C>>], seat: u8, over: u16) -> Result<Step, Fault>
+        requires lists { All (λ calls. ListFits N calls.items) lists.now }
+        requires seat { seat < length self.old.seats }
+        ensures ok { IfOk result (λ step. TurnsWith (slice_get (calls_of (lists_of lists.now) seat) over) (whole_of C.means self.old) seat step (whole_of C.means self.new)) }
+        ensures err { IfErr result (λ fault. (whole_of C.means self.new ≡ whole_of C.means self.old) × TurnFault (whole_of C.means self.old) seat fault) }
+    {
+        if self.is_busy(seat) {
+            return self.step(seat);
+        }
+        match next_call(lists, seat, over) {
+            Some(call) => self.first_turn(seat, call),
+            None => Ok(Step::Nothing),
+        }
     }
-    Ok(())
-}
 
-/// The items of the words of a schedule, in the world as it stands.
-///
-/// Needs what [`counted_turn`] needs, and refuses what [`World::run`] refuses. World and tally are then as the last
-/// turn left them, but for a line without memory, as there.
-pub fn follow<C: Seated<N>, const N: usize>(
-    world: &mut World<C, N>,
-    lists: &[Vec<Call<C>>],
-    tally: &mut Tally,
-    schedule: &[Turn],
-    limit: u32,
-) -> Result<(), Fault>
-    requires lists { All (λ calls. ListFits N calls.items) lists.now }
-    requires counted { IsCounted (whole_of C.means world.old) tally.old.over }
-    requires turns { tally.old.turns ≤ limit }
-    ensures ok { OnOk result (let calls = map (λ calls. calls.items) lists.now in
-        Advances calls limit (progress (whole_of C.means world.old) tally.old.over tally.old.lines.items) tally.old.turns (items_of schedule.now) [] (progress (whole_of C.means world.new) tally.new.over tally.new.lines.items) tally.new.turns) }
-    ensures counted { OnOk result (IsCounted (whole_of C.means world.new) tally.new.over) }
-    ensures err { IfErr result (λ fault. let calls = map (λ calls. calls.items) lists.now in
-        Stops calls limit (progress (whole_of C.means world.old) tally.old.over tally.old.lines.items) tally.old.turns (items_of schedule.now) (progress (whole_of C.means world.new) tally.new.over tally.new.lines.items) tally.new.turns fault) }
-{
-    for word in schedule {
-        schedule_word(world, lists, tally, word, limit)?;
+    /// One turn of the seat, counted, and then told to the observer: its step, where the run goes on.
+    ///
+    /// Needs a tally that counts the calls of this world, and lists as [`World::run`]. Refuses what that refuses of a
+    /// schedule's next item. World and tally are then as before, but in two cases of `OutOfMemory`. Where the line of
+    /// the call that this turn finished finds no memory, the turn is made and counted, and the call is neither told
+    /// nor counted. Where the observer refuses memory, turn and call are made and counted.
+    pub fn counted_turn<O: Observer<World<C, N>, Call<C>>>(
+        &mut self,
+        lists: &[Vec<Call<C>>],
+        tally: &mut Tally,
+        seat: u8,
+        limit: u32,
+        observer: &mut O,
+    ) -> Result<Step, Fault>
+        requires lists { All (λ calls. ListFits N calls.items) lists.now }
+        requires counted { IsCounted (whole_of C.means self.old) tally.old.over }
+        requires turns { tally.old.turns ≤ limit }
+        ensures ok { IfOk result (λ step. CountsTurn (lists_of lists.now) limit (so_far C.means self.old tally.old) tally.old.turns seat step (so_far C.means self.new tally.new) tally.new.turns) }
+        ensures told { IfOk result (λ step. O.sees observer.old (seen (lists_of lists.now) tally.old.over tally.new.turns seat step self.old self.new) observer.new) }
+        ensures err { IfErr result (λ fault. (whole : _) → Halts O.can_refuse (lists_of lists.now) limit (so_far C.means self.old tally.old) tally.old.turns (item_for seat whole ∷ []) (so_far C.means self.new tally.new) tally.new.turns fault) }
+    {
+        if seat as usize >= self.seats() {
+            return Err(Fault::NoSuchSeat);
+        }
+        if tally.turns == limit {
+            return Err(Fault::StepLimit);
+        }
+        let over = tally.over[seat as usize];
+        let step = self.turn(lists, seat, over)?;
+        count(tally, seat, step, self.tests(seat))?;
+        observer.see(self, tally.turns, seat, next_call(lists, seat, over), step)?;
+        Ok(step)
     }
-    Ok(())
-}
 
-impl<C: Seated<N>, const N: usize> World<C, N> {
+    /// An item of a word of the schedule: a turn, and for a `whole` one further turns until its call returns or is idle.
+    fn item<O: Observer<World<C, N>, Call<C>>>(
+        &mut self,
+        lists: &[Vec<Call<C>>],
+        tally: &mut Tally,
+        word: &Turn,
+        limit: u32,
+        observer: &mut O,
+    ) -> Result<(), Fault>
+        requires lists { All (λ calls. ListFits N calls.items) lists.now }
+        requires counted { IsCounted (whole_of C.means self.old) tally.old.over }
+        requires turns { tally.old.turns ≤ limit }
+        ensures ok { OnOk result (AdvancesSeen C.means O.sees (lists_of lists.now) limit (watched self.old tally.old observer.old) (item_of word.now ∷ []) [] (watched self.new tally.new observer.new)) }
+        ensures counted { OnOk result (IsCounted (whole_of C.means self.new) tally.new.over) }
+        ensures err { IfErr result (λ fault. Halts O.can_refuse (lists_of lists.now) limit (so_far C.means self.old tally.old) tally.old.turns (item_of word.now ∷ []) (so_far C.means self.new tally.new) tally.new.turns fault) }
+    {
+        loop {
+            let step = self.counted_turn(lists, tally, word.thread, limit, observer)?;
+            if is_end(word.whole, step) {
+                return Ok(());
+            }
+        }
+    }
+
+    /// The items of a word of the schedule.
+    fn schedule_word<O: Observer<World<C, N>, Call<C>>>(
+        &mut self,
+        lists: &[Vec<Call<C>>],
+        tally: &mut Tally,
+        word: &Turn,
+        limit: u32,
+        observer: &mut O,
+    ) -> Result<(), Fault>
+        requires lists { All (λ calls. ListFits N calls.items) lists.now }
+        requires counted { IsCounted (whole_of C.means self.old) tally.old.over }
+        requires turns { tally.old.turns ≤ limit }
+        ensures ok { OnOk result (AdvancesSeen C.means O.sees (lists_of lists.now) limit (watched self.old tally.old observer.old) (items_of (word.now ∷ [])) [] (watched self.new tally.new observer.new)) }
+        ensures counted { OnOk result (IsCounted (whole_of C.means self.new) tally.new.over) }
+        ensures err { IfErr result (λ fault. Halts O.can_refuse (lists_of lists.now) limit (so_far C.means self.old tally.old) tally.old.turns (items_of (word.now ∷ [])) (so_far C.means self.new tally.new) tally.new.turns fault) }
+    {
+        for _ in 0..word.times {
+            self.item(lists, tally, word, limit, observer)?;
+        }
+        Ok(())
+    }
+
+    /// The items of the words of a schedule, in the world as it stands. The observer is told of each turn.
+    ///
+    /// Needs what [`World::counted_turn`] needs, and refuses what [`World::run`] refuses. World and tally are then as
+    /// the last turn left them, but for a line without memory, as there.
+    pub fn follow<O: Observer<World<C, N>, Call<C>>>(
+        &mut self,
+        lists: &[Vec<Call<C>>],
+        tally: &mut Tally,
+        schedule: &[Turn],
+        limit: u32,
+        observer: &mut O,
+    ) -> Result<(), Fault>
+        requires lists { All (λ calls. ListFits N calls.items) lists.now }
+        requires counted { IsCounted (whole_of C.means self.old) tally.old.over }
+        requires turns { tally.old.turns ≤ limit }
+        ensures ok { OnOk result (Advances (lists_of lists.now) limit (so_far C.means self.old tally.old) tally.old.turns (items_of schedule.now) [] (so_far C.means self.new tally.new) tally.new.turns) }
+        ensures told { OnOk result (AdvancesSeen C.means O.sees (lists_of lists.now) limit (watched self.old tally.old observer.old) (items_of schedule.now) [] (watched self.new tally.new observer.new)) }
+        ensures counted { OnOk result (IsCounted (whole_of C.means self.new) tally.new.over) }
+        ensures err { IfErr result (λ fault. Halts O.can_refuse (lists_of lists.now) limit (so_far C.means self.old tally.old) tally.old.turns (items_of schedule.now) (so_far C.means self.new tally.new) tally.new.turns fault) }
+    {
+        for word in schedule {
+            self.schedule_word(lists, tally, word, limit, observer)?;
+        }
+        Ok(())
+    }
+
     /// Runs the schedule, where thread `t` makes the calls of the list `t` from seat `t`, in
-    /// order. Answers the calls that finished, in the order of finishing. A call may be left in
-    /// progress.
+    /// order, and tells the observer of each turn. Answers the calls that finished, in the order of finishing. A
+    /// call may be left in progress.
     ///
     /// Needs a world with no call in progress, lists of at most 256 calls, and calls whose cells
     /// are below `N`, whose condition variables are below 4, whose notes are below 64, whose moments are
     /// below 2^54, and whose objects are at most 16. Refuses an item whose thread is no seat
     /// (`NoSuchSeat`), the turn after `limit` turns (`StepLimit`), and want of memory (`OutOfMemory`), for the
-    /// event of the next turn or for the line of the call that the last turn finished; the world is then as
-    /// the last turn left it.
+    /// event of the next turn, for the line of the call that the last turn finished, or for what the observer keeps
+    /// of the last turn; the world is then as the last turn left it.
     ///
     /// An item whose thread is no seat is refused before the limit is asked. A misused call counts one turn,
     /// and so does an item of a thread with no call left.
-    pub fn run(
+    pub fn run<O: Observer<World<C, N>, Call<C>>>(
         &mut self,
         alloc: Global,
         lists: &[Vec<Call<C>>],
         schedule: &[Turn],
         limit: u32,
+        observer: &mut O,
     ) -> Result<Vec<Line>, Fault>
         requires idle { AllIdle (whole_of C.means self.old) }
         requires lists { All (λ calls. ListFits N calls.items) lists.now }
-        ensures { MatchResult result (λ lines. Runs (map (λ calls. calls.items) lists.now) schedule.now limit (whole_of C.means self.old) (whole_of C.means self.new) lines.items)
-            (RunFault (map (λ calls. calls.items) lists.now) schedule.now limit (whole_of C.means self.old) (whole_of C.means self.new)) }
+        ensures ran { MatchResult result (λ lines. Runs (lists_of lists.now) schedule.now limit (whole_of C.means self.old) (whole_of C.means self.new) lines.items)
+            (RunHalts O.can_refuse (lists_of lists.now) schedule.now limit (whole_of C.means self.old) (whole_of C.means self.new)) }
+        ensures told { OnOk result (RunsSeen C.means O.sees (lists_of lists.now) schedule.now limit self.old observer.old self.new observer.new) }
     {
         let mut tally = Tally::new(alloc);
-        follow(self, lists, &mut tally, schedule, limit)?;
+        self.follow(lists, &mut tally, schedule, limit, observer)?;
         Ok(tally.lines)
     }
 }

@@ -197,6 +197,16 @@ impl<C: Seated<N>, const N: usize> World<C, N> {
         }
     }
 
+    /// Whether a call of the seat is in progress. None is of a number that is no seat's.
+    pub(crate) fn is_busy(&self, seat: u8) -> bool
+        ensures { result ≡ whole_busy (whole_of C.means self.now) seat }
+    {
+        match self.seats.get(seat as usize) {
+            Some(here) => is_call(&here.doing),
+            None => false,
+        }
+    }
+
     /// How many seats there are.
     pub(crate) fn seats(&self) -> usize
         ensures count { result ≡ length self.now.seats }

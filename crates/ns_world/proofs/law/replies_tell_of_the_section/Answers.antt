@@ -5,7 +5,7 @@ pub returns-clause-tried : goal.returns-clause-tried
 returns-clause-tried g c = λ before after earlier later seat mode reply. of_try before after earlier later seat reply mode
 
 pub returns-clause-released : goal.returns-clause-released
-returns-clause-released g c = λ before after earlier later seat releasing reply. of_release before after earlier later seat reply releasing
+returns-clause-released g c = λ before after earlier later seat kind reply. of_release before after earlier later seat reply kind
 
 pub returns-clause-read : goal.returns-clause-read
 returns-clause-read g c = λ before after earlier later seat i reply. of_read before after earlier later seat reply i
