@@ -1,3 +1,4 @@
 pub mod Elements
 pub mod Escapes
 pub mod Pictures
+pub mod Records

@@ -3,7 +3,7 @@
 use crate::call::push_call;
 use crate::layout::{DOT, Layout, WAITS};
 use crate::page::{Page, Shape};
-use crate::record::Change;
+use crate::paper::Change;
 use crate::sight::{both, either, has, only, without};
 use ns_model::seats::Seats;
 use ns_world::call::Call;

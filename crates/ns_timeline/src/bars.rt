@@ -3,7 +3,7 @@
 use crate::call::push_call;
 use crate::layout::{Layout, WAITS};
 use crate::page::{Page, Shape};
-use crate::record::Change;
+use crate::paper::Change;
 use crate::sight::{Sight, has};
 use ns_replay::{ScriptCondition, push_reply};
 use ns_world::call::Call;

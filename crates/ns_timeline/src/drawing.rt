@@ -2,10 +2,13 @@
 
 ghost use Rattle.std.specs.Prelude.{◌≡◌, ◌≢◌, ◌≤◌, length, IfOk, IfErr, IsErrOf, OnOk, true, false};
 ghost use Rattle.ns_replay.specs.Transfer.{Gave, IsAskedEnough, IsEnough, IsFine, IsReadFault, IsWriteFault};
-ghost use Rattle.ns_replay.specs.Replaying.{Answers, Ended, IsRefused, WasRead};
+ghost use Rattle.ns_replay.specs.Condition.{script_truths};
+ghost use Rattle.ns_replay.specs.Replaying.{Answers, Ended, HasRun, IsRefused, WasRead};
 ghost use Rattle.ns_replay.specs.Runnable.{IsRunnable};
 ghost use Rattle.ns_replay.specs.Script.{plan_of};
 ghost use Rattle.ns_timeline.specs.Pictures.{IsDrawing, IsPicture, RunsIn};
+ghost use Rattle.ns_timeline.specs.Records.{IsRecordOf};
+ghost use Rattle.ns_world.specs.Whole.{whole_of};
 
 use crate::columns::busiest;
 use crate::document::document_of;
@@ -58,16 +61,27 @@ fn picture_for(alloc: Global, bytes: &[u8], limit: u32) -> Result<Vec<u8>, Fault
     Ok(drawing.paper.picture)
 }
 
+/// The run of the script that the bytes give, and what is kept of its turns.
+fn recorded(alloc: Global, bytes: &[u8], limit: u32) -> Result<(Script, Run, Record), Fault>
+    requires { length bytes.now ≤ 1048576 }
+    ensures ok { IfOk result (λ made. HasRun limit bytes.now (plan_of made.0) (whole_of script_truths made.1.world) made.1.lines.items) }
+    ensures told { IfOk result (λ made. IsRecordOf limit (plan_of made.0) made.1.world made.2) }
+    ensures err { IfErr result (λ fault. IsRefused limit bytes.now fault) }
+{
+    let mut drawing = Drawing::new(Record::new(alloc));
+    let (script, run) = run_bytes(alloc, bytes, limit, &mut drawing)?;
+    Ok((script, run, drawing.paper))
+}
+
 /// The drawing of a run of the script that the bytes give.
 fn drawing_for(alloc: Global, bytes: &[u8], limit: u32) -> Result<Vec<u8>, Fault>
     requires { length bytes.now ≤ 1048576 }
     ensures ok { IfOk result (λ document. IsDrawing limit bytes.now document.items) }
     ensures err { IfErr result (λ fault. IsRefused limit bytes.now fault) }
 {
-    let mut drawing = Drawing::new(Record::new(alloc));
-    let (script, run) = run_bytes(alloc, bytes, limit, &mut drawing)?;
+    let (script, run, record) = recorded(alloc, bytes, limit)?;
     let is_all = script.threads.len() <= 16;
-    Ok(document_of(alloc, &drawing.paper, shown_in(&script, &run), is_all)?)
+    Ok(document_of(alloc, &record, shown_in(&script, &run), is_all)?)
 }
 
 /// Reads a script to its end, runs it in a new world, and then writes a picture of the run.

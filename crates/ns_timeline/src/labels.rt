@@ -4,7 +4,7 @@ use crate::call::push_call;
 use crate::changes::push_changes;
 use crate::layout::{DOT, LABEL, Layout, TURNS};
 use crate::page::{Page, Shape};
-use crate::record::Change;
+use crate::paper::Change;
 use crate::sight::has;
 use ns_model::event::Answer;
 use ns_replay::push_reply;

@@ -1,9 +1,11 @@
 //! The picture as lines of text.
 
+ghost use Rattle.std.specs.Prelude.{⊤};
+
 use crate::call::{name, push_call};
 use crate::changes::push_changes;
 use crate::columns::{push_columns, push_numbers};
-use crate::paper::{Drawn, Paper};
+use crate::paper::{Change, Paper};
 use crate::sight::{both, only};
 use ns_model::seats::Seats;
 use ns_replay::push_reply;
@@ -60,21 +62,21 @@ fn push_head(
 fn set_turn(
     line: &mut String,
     shown: Seats,
-    drawn: &Drawn<'_>,
+    change: &Change,
     is_whole: bool,
 ) -> Result<(), AllocError> {
-    let Drawn { turn, thread, .. } = *drawn;
+    let Change { turn, thread, .. } = *change;
     line.clear();
     write!(line, "{turn:>8}  ")?;
-    push_columns(line, shown, drawn.after)?;
+    push_columns(line, shown, &change.after)?;
     write!(line, " {thread} ")?;
     if is_whole {
-        push_call(line, drawn.call)?;
+        push_call(line, change.call)?;
     } else {
-        line.push_str(name(drawn.call))?;
+        line.push_str(name(change.call))?;
     }
-    push_changes(line, thread, drawn.before, drawn.after)?;
-    if let Some(reply) = drawn.reply {
+    push_changes(line, thread, &change.before, &change.after)?;
+    if let Some(reply) = change.reply {
         line.push_str(" -> ")?;
         push_reply(line, reply)?;
     }
@@ -87,11 +89,11 @@ fn push_turn(
     picture: &mut Vec<u8>,
     line: &mut String,
     shown: Seats,
-    drawn: &Drawn<'_>,
+    change: &Change,
 ) -> Result<(), AllocError> {
-    set_turn(line, shown, drawn, true)?;
-    if WIDTH < line.len() && both(drawn.before.busy, only(drawn.thread)) != Seats::none() {
-        set_turn(line, shown, drawn, false)?;
+    set_turn(line, shown, change, true)?;
+    if WIDTH < line.len() && both(change.before.busy, only(change.thread)) != Seats::none() {
+        set_turn(line, shown, change, false)?;
     }
     push_cut(picture, line)
 }
@@ -122,7 +124,9 @@ impl Lines {
 }
 
 impl Paper for Lines {
-    fn take(&mut self, drawn: &Drawn<'_>) -> Result<(), AllocError> {
-        push_turn(&mut self.picture, &mut self.line, self.shown, drawn)
+    ghost keeps = { λ old change new. ⊤ };
+
+    fn take(&mut self, change: &Change) -> Result<(), AllocError> {
+        push_turn(&mut self.picture, &mut self.line, self.shown, change)
     }
 }

@@ -95,7 +95,11 @@ impl Sight {
     }
 
     /// What is seen of the world's state after a turn of the thread, where this was seen before it.
-    pub fn after(&self, state: &State<8>, thread: u8) -> Sight {
+    pub fn after(&self, state: &State<8>, thread: u8) -> Sight
+        ensures writers { result.writers ≡ state.now.writers }
+        ensures readers { result.readers ≡ state.now.readers }
+        ensures busy { result.busy ≡ state.now.busy }
+    {
         let [first, second, third, fourth] = &state.cvs;
         Sight {
             writers: state.writers,
@@ -117,7 +121,11 @@ impl Sight {
 
     /// The same, with those whom the one with the queues in hand has taken, by this turn or before it: who
     /// has stood in a list before, and stands in none now.
-    fn with_taken(self, before: &Sight) -> Sight {
+    fn with_taken(self, before: &Sight) -> Sight
+        ensures writers { result.writers ≡ self.writers }
+        ensures readers { result.readers ≡ self.readers }
+        ensures busy { result.busy ≡ self.busy }
+    {
         if self.queues.is_none() {
             return self;
         }

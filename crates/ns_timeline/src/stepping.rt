@@ -1,14 +1,19 @@
 //! What of a run is drawn: each turn that changed something, or ended a call.
 
-ghost use Rattle.std.specs.Prelude.{IsTrue, OnErr, OnOk, ⊤, true};
+ghost use Rattle.std.specs.Prelude.{◌≡◌, IsTrue, OnErr, OnOk, Some, true};
+ghost use Rattle.ns_replay.specs.declared.condition.ScriptCondition.{ScriptCondition};
+ghost use Rattle.ns_world.specs.Seen.{seen_as};
+ghost use Rattle.ns_world.specs.World.{Kept};
+ghost use Rattle.ns_timeline.specs.Records.{Draws, reply_in};
 
-use crate::paper::{Drawn, Paper};
+use crate::paper::{Change, Paper};
 use crate::sight::{Sight, both, only};
 use ns_model::seats::Seats;
 use ns_replay::ScriptCondition;
 use ns_word::word::Word;
 use ns_world::call::Call;
 use ns_world::observer::Observer;
+use ns_world::reply::Reply;
 use ns_world::step::Step;
 use ns_world::world::World;
 use std::alloc::AllocError;
@@ -26,7 +31,9 @@ pub struct Drawing<P> {
 
 impl<P> Drawing<P> {
     /// A drawing on this paper, of which no turn is made.
-    pub fn new(paper: P) -> Drawing<P> {
+    pub fn new(paper: P) -> Drawing<P>
+        ensures { result.paper ≡ paper }
+    {
         Drawing {
             paper,
             sight: Sight::new(),
@@ -55,7 +62,17 @@ fn is_as_seen<P>(drawing: &Drawing<P>, word: Word, thread: u8, step: Step) -> bo
         && word == drawing.word
 }
 
-/// Draws a step of the thread's call, if it changed something, or the call is over.
+/// The answer by which a step has ended its call.
+fn reply_in(step: Step) -> Option<Reply>
+    ensures { result ≡ reply_in step }
+{
+    match step {
+        Step::Finished(reply) => Some(reply),
+        Step::Went | Step::Idle | Step::Nothing => None,
+    }
+}
+
+/// Draws a turn of the thread's call, if it changed something, or the call is over.
 fn draw<P: Paper>(
     drawing: &mut Drawing<P>,
     world: &World<ScriptCondition, 8>,
@@ -63,39 +80,38 @@ fn draw<P: Paper>(
     thread: u8,
     call: Call<ScriptCondition>,
     step: Step,
-) -> Result<(), AllocError> {
+) -> Result<(), AllocError>
+    ensures { OnOk result ((before : Kept ScriptCondition 8) → Draws P.keeps drawing.old (seen_as turn thread (Some call) before world.now step) drawing.new) }
+{
     let word = world.word();
     if is_waiting(&drawing.sight, thread, step) || is_as_seen(drawing, word, thread, step) {
         return Ok(());
     }
-    drawing.word = word;
     let state = world.state();
-    let after = drawing.sight.after(&state, thread);
-    let reply = match step {
-        Step::Finished(reply) => Some(reply),
-        Step::Went | Step::Idle | Step::Nothing => None,
-    };
-    if after != drawing.sight || reply.is_some() {
-        let before = drawing.sight;
-        let drawn = Drawn {
-            turn,
-            thread,
-            call,
-            before: &before,
-            after: &after,
-            row: state.row,
-            reply,
-        };
-        drawing.paper.take(&drawn)?;
-    }
+    let before = drawing.sight;
+    let after = before.after(&state, thread);
+    let reply = reply_in(step);
+    drawing.word = word;
     drawing.sight = after;
+    if after == before && reply.is_none() {
+        return Ok(());
+    }
+    drawing.paper.take(&Change {
+        turn,
+        thread,
+        call,
+        before,
+        after,
+        row: state.row,
+        reply,
+    })?;
     Ok(())
 }
 
 impl<P: Paper> Observer<World<ScriptCondition, 8>, Call<ScriptCondition>> for Drawing<P> {
     ghost can_refuse = { true };
 
-    ghost sees = { λ old turn new. ⊤ };
+    ghost sees = { Draws P.keeps };
 
     fn see(
         &mut self,
@@ -105,7 +121,7 @@ impl<P: Paper> Observer<World<ScriptCondition, 8>, Call<ScriptCondition>> for Dr
         call: Option<Call<ScriptCondition>>,
         step: Step,
     ) -> Result<(), AllocError>
-        ensures ok { OnOk result ⊤ }
+        ensures ok { OnOk result ((before : Kept ScriptCondition 8) → Draws P.keeps self.old (seen_as turn seat call before world.now step) self.new) }
         ensures err { OnErr result (IsTrue true) }
     {
         // A thread with no call left changes nothing.
