@@ -49,7 +49,7 @@ pub use options::Options;
 pub use path::ScriptPath;
 pub use replaying::{replay, run_bytes};
 pub use running::{Run, run_script};
-pub use script::Script;
+pub use script::{Script, read_script};
 pub use streams::{Got, Sink, Source};
 pub use text::push_reply;
 pub use transfer::{collect_bytes, write_all};

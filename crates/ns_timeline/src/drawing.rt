@@ -3,7 +3,7 @@
 ghost use Rattle.std.specs.Prelude.{◌≡◌, ◌≢◌, ◌≤◌, length, IfOk, IfErr, IsErrOf, OnOk, true, false};
 ghost use Rattle.ns_replay.specs.Transfer.{Gave, IsAskedEnough, IsEnough, IsFine, IsReadFault, IsWriteFault};
 ghost use Rattle.ns_replay.specs.Condition.{script_truths};
-ghost use Rattle.ns_replay.specs.Replaying.{Answers, Ended, HasRun, IsRefused, WasRead};
+ghost use Rattle.ns_replay.specs.Replaying.{Answers, Ended, HasRun, IsRefused, IsRunFault, WasRead};
 ghost use Rattle.ns_replay.specs.Runnable.{IsRunnable};
 ghost use Rattle.ns_replay.specs.Script.{plan_of};
 ghost use Rattle.ns_timeline.specs.Pictures.{IsDrawing, IsPicture, RunsIn};
@@ -18,7 +18,7 @@ use crate::sight::has;
 use crate::stepping::Drawing;
 use ns_model::seats::Seats;
 use ns_replay::{
-    Fault, Run, Script, Sink, Source, collect_bytes, run_bytes, run_script, write_all,
+    Fault, Run, Script, Sink, Source, collect_bytes, read_script, run_bytes, run_script, write_all,
 };
 use ns_world::observer::Nobody;
 use ns_world::schedule::Line;
@@ -47,15 +47,27 @@ fn shown_in(script: &Script, run: &Run) -> Seats
     busiest(&begun(run), script.threads.len() as u8)
 }
 
-/// The picture of a run of the script that the bytes give. Which threads have a column, the run is to tell; so it is
-/// made once more, to be drawn.
+/// The threads of the script that have a column: all, or where these are too many those that a run of it tells.
+fn columns_for(alloc: Global, script: &Script, limit: u32) -> Result<Seats, Fault>
+    requires { IsRunnable (plan_of script.now) }
+    ensures { IfErr result (λ fault. IsRunFault limit (plan_of script.now) fault) }
+{
+    if script.threads.len() <= 16 {
+        return Ok(busiest(&[0; 64], script.threads.len() as u8));
+    }
+    let run = run_script(alloc, script, limit, &mut Nobody)?;
+    Ok(shown_in(script, &run))
+}
+
+/// The picture of a run of the script that the bytes give.
 fn picture_for(alloc: Global, bytes: &[u8], limit: u32) -> Result<Vec<u8>, Fault>
     requires { length bytes.now ≤ 1048576 }
     ensures ok { IfOk result (λ picture. RunsIn limit bytes.now) }
     ensures err { IfErr result (λ fault. IsRefused limit bytes.now fault) }
 {
-    let (script, run) = run_bytes(alloc, bytes, limit, &mut Nobody)?;
-    let paper = Lines::headed(alloc, shown_in(&script, &run), script.threads.len() <= 16)?;
+    let script = read_script(alloc, bytes)?;
+    let shown = columns_for(alloc, &script, limit)?;
+    let paper = Lines::headed(alloc, shown, script.threads.len() <= 16)?;
     let mut drawing = Drawing::new(paper);
     run_script(alloc, &script, limit, &mut drawing)?;
     Ok(drawing.paper.picture)
