@@ -44,7 +44,7 @@ pub fn run_script<O: Observer<World<ScriptCondition, 8>, Call<ScriptCondition>>>
         &script.counters,
         script.onces as usize,
     )?;
-    let lines = world.run(alloc, &script.threads, &script.schedule, limit, observer)?;
+    let lines = world.run_observed(alloc, &script.threads, &script.schedule, limit, observer)?;
     Ok(Run { world, lines })
 }
 

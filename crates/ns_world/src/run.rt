@@ -3,11 +3,11 @@
 
 ghost use Rattle.std.specs.Prelude.{◌≡◌, ◌≤◌, ◌<◌, ◌+◌, ◌∷◌, [], Some, IfOk, IfErr, OnOk, OnErr, All, length, replicate, slice_get, slice_index, MatchResult, ◌^◌, ◌++◌};
 ghost use Rattle.ns_world.specs.Prelude.{CallInRange, whole_of};
-ghost use Rattle.ns_world.specs.Runs.{calls_of, Counts, CountsTurn, is_end, TurnsWith, tests_told, TurnFault, Advances, AdvancesSeen, IsFinished, Halts, Runs, RunHalts, RunsSeen, AllIdle, IsCounted, ListFits, item_for, item_of, items_of, lists_of, seen, so_far, watched};
+ghost use Rattle.ns_world.specs.Runs.{calls_of, Counts, CountsTurn, is_end, TurnsWith, tests_told, TurnFault, Advances, AdvancesSeen, IsFinished, Halts, Runs, RunFault, RunHalts, RunsSeen, AllIdle, IsCounted, ListFits, item_for, item_of, items_of, lists_of, seen, so_far, watched};
 
 use crate::call::Call;
 use crate::fault::Fault;
-use crate::observer::Observer;
+use crate::observer::{Nobody, Observer};
 use crate::reply::Reply;
 use crate::room::Seated;
 use crate::schedule::{Line, Turn};
@@ -236,19 +236,38 @@ impl<C: Seated<N>, const N: usize> World<C, N> {
     }
 
     /// Runs the schedule, where thread `t` makes the calls of the list `t` from seat `t`, in
-    /// order, and tells the observer of each turn. Answers the calls that finished, in the order of finishing. A
-    /// call may be left in progress.
+    /// order. Answers the calls that finished, in the order of finishing. A call may be left in
+    /// progress.
     ///
     /// Needs a world with no call in progress, lists of at most 256 calls, and calls whose cells
     /// are below `N`, whose condition variables are below 4, whose notes are below 64, whose moments are
     /// below 2^54, and whose objects are at most 16. Refuses an item whose thread is no seat
     /// (`NoSuchSeat`), the turn after `limit` turns (`StepLimit`), and want of memory (`OutOfMemory`), for the
-    /// event of the next turn, for the line of the call that the last turn finished, or for what the observer keeps
-    /// of the last turn; the world is then as the last turn left it.
+    /// event of the next turn or for the line of the call that the last turn finished; the world is then as
+    /// the last turn left it.
     ///
     /// An item whose thread is no seat is refused before the limit is asked. A misused call counts one turn,
     /// and so does an item of a thread with no call left.
-    pub fn run<O: Observer<World<C, N>, Call<C>>>(
+    pub fn run(
+        &mut self,
+        alloc: Global,
+        lists: &[Vec<Call<C>>],
+        schedule: &[Turn],
+        limit: u32,
+    ) -> Result<Vec<Line>, Fault>
+        requires idle { AllIdle (whole_of C.means self.old) }
+        requires lists { All (λ calls. ListFits N calls.items) lists.now }
+        ensures { MatchResult result (λ lines. Runs (lists_of lists.now) schedule.now limit (whole_of C.means self.old) (whole_of C.means self.new) lines.items)
+            (RunFault (lists_of lists.now) schedule.now limit (whole_of C.means self.old) (whole_of C.means self.new)) }
+    {
+        self.run_observed(alloc, lists, schedule, limit, &mut Nobody)
+    }
+
+    /// Runs the schedule as [`World::run`] does, and tells the observer of each turn.
+    ///
+    /// Needs what that needs. Refuses what that refuses, and want of memory (`OutOfMemory`) also for what the observer
+    /// keeps of the last turn.
+    pub fn run_observed<O: Observer<World<C, N>, Call<C>>>(
         &mut self,
         alloc: Global,
         lists: &[Vec<Call<C>>],

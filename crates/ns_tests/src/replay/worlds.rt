@@ -13,7 +13,6 @@ use ns_model::event::{Entry, Event, Exit};
 use ns_model::history::{legal, row_after};
 use ns_world::call::Call;
 use ns_world::fault::Fault;
-use ns_world::observer::Nobody;
 use ns_world::reply::Reply;
 use ns_world::schedule::Turn;
 use ns_world::step::Step;
@@ -114,7 +113,7 @@ fn a_run_refused_memory_is_as_its_last_turn_left_it(rt: HostRuntime) -> Result<(
         whole: true,
         times: 4,
     }];
-    match world.run(rt.alloc(), &[calls], &schedule, 7, &mut Nobody) {
+    match world.run(rt.alloc(), &[calls], &schedule, 7) {
         Ok(lines) => assert!(rt; lines.len() == 4),
         Err(fault) => assert!(rt; fault == Fault::OutOfMemory),
     }

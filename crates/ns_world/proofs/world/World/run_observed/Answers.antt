@@ -1,7 +1,7 @@
 use Rattle.ns_world.proofs.Prelude.{arith, err_from_is_err_and, number, refl, so_far, watched, whole_of}
 use Rattle.ns_world.proofs.Sizes.{world_fits}
 use Rattle.ns_world.proofs.Counted.{start_counted}
-use Rattle.ns_world.proofs.world.World.run.Goals as goal
+use Rattle.ns_world.proofs.world.World.run_observed.Goals as goal
 
 pub follow-requires : goal.follow-requires
 follow-requires g c = (world_fits g.row.C (number g.row.N) g.met.C.Condition.has_room g.C.Condition, (c.requires.lists, (rw c.new-tally.ensures.over (start_counted (whole_of g.C.Condition.means c.args.self.now) c.requires.idle), omega arith)))
